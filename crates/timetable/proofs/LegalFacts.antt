@@ -1,0 +1,74 @@
+-- What a legal timetable within the limits gives to those who read it by place.
+use Rattle.std.proofs.Common.{◌≡◌, ℕ, zero, suc, ◌+◌, ◌<◌, ◌≤◌, List, length, Contains, Option, Some, None, get_or, slice_get, refl, sym, ap, subst, ◌∙◌, arith, inl, inr}
+use Rattle.std.proofs.lemmas.Bool.{cases_eq}
+use Rattle.std.proofs.lemmas.Option.{slice_get-get_or, get_or_from_slice_get, slice_get_within, same_Some}
+use Rattle.timetable.specs.declared.network.Connection.{Connection}
+use Rattle.timetable.specs.declared.network.Footpath.{Footpath}
+use Rattle.timetable.specs.declared.limits.TheConstants.{MAX_WALK_SECS, TIME_END}
+use Rattle.timetable.specs.TimetableValue.{TimetableValue}
+use Rattle.timetable.specs.Legal.{At, HasFootpath, IsLegal}
+use Rattle.timetable.specs.LegalProp.{same_place}
+use Rattle.timetable.specs.Limits.{IsWithinLimits}
+use Rattle.timetable.specs.Journeys.{connection_at, no_connection}
+
+-- what stands at a place is in the list
+pub Contains-At : {X : Type 0} (xs : List X) (i : ℕ) (x : X) → At xs i x → Contains xs x
+Contains-At xs i x at = (i, slice_get_within xs i x at, get_or_from_slice_get xs i x x at)
+
+-- what is in the list stands at some place
+pub At-Contains : {X : Type 0} (xs : List X) (x : X) → Contains xs x → (i : ℕ) × At xs i x
+At-Contains xs x (i, lt, is) = (i, slice_get-get_or xs i x lt ∙ ap Some is)
+
+-- the connection at a place stands there
+pub connection_at-stands : (t : TimetableValue) (i : ℕ) → i < length t.connections → At t.connections i (connection_at t i)
+connection_at-stands t i lt = slice_get-get_or t.connections i no_connection lt
+
+-- and what stands at a place is the connection there
+pub connection_at-is : (t : TimetableValue) (i : ℕ) (c : Connection) → At t.connections i c → connection_at t i ≡ c
+connection_at-is t i c at = get_or_from_slice_get t.connections i c no_connection at
+
+pub hop_takes_time : (t : TimetableValue) → IsLegal t → (i : ℕ) → i < length t.connections → (connection_at t i).dep < (connection_at t i).arr
+hop_takes_time t legal i lt = legal.takes_time i (connection_at t i) (connection_at-stands t i lt)
+
+-- departures never fall from one place to a later one
+pub departures_rise : (t : TimetableValue) → IsLegal t → (j i : ℕ) → i ≤ j → j < length t.connections → (connection_at t i).dep ≤ (connection_at t j).dep
+departures_rise t legal zero i le lt =
+    let same : i ≡ zero = omega arith in
+    subst (λ (k : ℕ). (connection_at t i).dep ≤ (connection_at t k).dep) same (omega arith)
+departures_rise t legal (suc j) i le lt =
+    let next : suc j ≡ j + 1 = omega arith in
+    elim (cases_eq i (suc j)) [
+      | inl same ↦ subst (λ (k : ℕ). (connection_at t i).dep ≤ (connection_at t k).dep) same (omega arith)
+      | inr other ↦
+          let near : (connection_at t i).dep ≤ (connection_at t j).dep = departures_rise t legal j i (omega arith) (omega arith) in
+          let at_next : At t.connections (j + 1) (connection_at t (suc j)) = subst (λ (k : ℕ). At t.connections k (connection_at t (suc j))) next (connection_at-stands t (suc j) lt) in
+          let step : (connection_at t j).dep ≤ (connection_at t (suc j)).dep = legal.departures_never_fall j (connection_at t j) (connection_at t (suc j)) (connection_at-stands t j (omega arith)) at_next in
+          omega (arith, near, step)
+    ]
+
+-- two footpaths end to end have one instead that is no longer
+pub closed_footpath : (t : TimetableValue) → IsLegal t → (f g : Footpath) → Contains t.footpaths f → Contains t.footpaths g → f.to ≡ g.from → (h : Footpath) × Contains t.footpaths h × (h.from ≡ f.from) × (h.to ≡ g.to) × (h.secs ≤ f.secs + g.secs)
+closed_footpath t legal f g in_f in_g meet =
+    let at_f = At-Contains t.footpaths f in_f in
+    let at_g = At-Contains t.footpaths g in_g in
+    let second : HasFootpath t.footpaths f.to g.to g.secs = (at_g.0, at_g.1 ∙ ap (λ (s : ℕ). Some (record { from = s; to = g.to; secs = g.secs })) (sym meet)) in
+    let direct = legal.closed f.from f.to g.to f.secs g.secs at_f second in
+    let h : Footpath = record { from = f.from; to = g.to; secs = direct.0 } in
+    (h, Contains-At t.footpaths direct.1.0 h direct.1.1, refl, refl, direct.2)
+
+-- an ordered pair of stops has one footpath at most
+pub one_footpath : (t : TimetableValue) → IsLegal t → (f g : Footpath) → Contains t.footpaths f → Contains t.footpaths g → f.from ≡ g.from → f.to ≡ g.to → f ≡ g
+one_footpath t legal f g in_f in_g same_from same_to =
+    let at_f = At-Contains t.footpaths f in_f in
+    let at_g = At-Contains t.footpaths g in_g in
+    let again : Some g ≡ Some (record { from = f.from; to = f.to; secs = g.secs }) = λ i. Some (record { from = sym same_from i; to = sym same_to i; secs = g.secs }) in
+    let place = same_place t.footpaths legal.in_order f.from f.to f.secs g.secs at_f (at_g.0, at_g.1 ∙ again) in
+    same_Some f g (sym at_f.1 ∙ ap (λ (i : ℕ). slice_get t.footpaths i) place ∙ at_g.1)
+
+pub arrival_limit : (t : TimetableValue) → IsWithinLimits t → (i : ℕ) → i < length t.connections → (connection_at t i).arr < TIME_END
+arrival_limit t limits i lt = limits.times i (connection_at t i) (connection_at-stands t i lt)
+
+pub walk_limit : (t : TimetableValue) → IsWithinLimits t → (f : Footpath) → Contains t.footpaths f → f.secs ≤ MAX_WALK_SECS
+walk_limit t limits f in_f =
+    let at_f = At-Contains t.footpaths f in_f in
+    limits.walks at_f.0 f at_f.1

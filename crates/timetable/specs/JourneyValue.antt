@@ -1,0 +1,14 @@
+-- A journey as lists, without where they lie in memory.
+use Rattle.std.specs.Prelude.{List, Option}
+use Rattle.timetable.specs.declared.network.Footpath.{Footpath}
+use Rattle.timetable.specs.declared.journey.Leg.{Leg}
+
+-- a leg, and the walk after it
+pub record RideValue : Type 0 where
+  pub leg : Leg
+  pub walk : List Footpath
+
+-- a start on foot, or none, and then rides
+pub record JourneyValue : Type 0 where
+  pub start : Option Footpath
+  pub rides : List RideValue

@@ -1,0 +1,13 @@
+//! Timetables, journeys and queries: the words in which every other crate makes its promises.
+#![tactic(auto)]
+
+pub mod journey;
+pub mod limits;
+pub mod names;
+pub mod network;
+pub mod query;
+
+pub use journey::{Journey, Leg, Ride, Times};
+pub use names::{Names, TripName};
+pub use network::{Connection, Footpath, Timetable};
+pub use query::Query;
