@@ -1,0 +1,9 @@
+pub mod Bytes
+pub mod Sections
+pub mod Feet
+pub mod Names
+pub mod Whole
+pub mod Found
+pub mod Spelled
+pub mod Back
+pub mod BackNames

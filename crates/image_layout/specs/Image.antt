@@ -1,0 +1,39 @@
+-- Which words are the image of which timetable and names.
+use Rattle.std.specs.Prelude.{FitsSigned, ◌≡◌, ℕ, ◌<◌, ◌≤◌, ◌^◌, List, length}
+use Rattle.std.specs.Int.{w64}
+use Rattle.std.specs.Str.{IsUtf8}
+use Rattle.timetable.specs.declared.limits.TheConstants.{MAX_NAME_BYTES}
+use Rattle.timetable.specs.TimetableValue.{TimetableValue}
+use Rattle.timetable.specs.NamesValue.{NamesValue, TripNameValue}
+use Rattle.timetable.specs.Legal.{At, IsLegal}
+use Rattle.timetable.specs.Limits.{IsWithinLimits}
+use Rattle.image_layout.specs.Spelling.{name_list, text, image}
+
+-- names that an image of the timetable can hold
+pub record NamesFit (t : TimetableValue) (n : NamesValue) : Type 0 where
+  -- one for each stop and each trip
+  pub stop_names : length n.stops ≡ t.stops
+  pub trip_names : length n.trips ≡ t.trips
+  -- each is UTF-8
+  pub utf8 : (i : ℕ) (name : List ℕ) → At (name_list n) i name → IsUtf8 name
+  -- they aren't too long together
+  pub bytes : length (text n) ≤ MAX_NAME_BYTES
+  -- a service day is a word, and the base two words
+  pub days : (i : ℕ) (trip : TripNameValue) → At n.trips i trip → trip.day < 2 ^ 32
+  pub base : FitsSigned w64 n.base
+
+-- a legal timetable and its names, within the limits
+pub record HasImage (t : TimetableValue) (n : NamesValue) : Type 0 where
+  pub legal : IsLegal t
+  pub limits : IsWithinLimits t
+  pub names : NamesFit t n
+
+-- the words are the sections of the timetable and the names, set end to end
+pub record IsImage (w : List ℕ) (t : TimetableValue) (n : NamesValue) : Type 0 where
+  pub can_be : HasImage t n
+  pub spelled : w ≡ image t n
+
+-- what an image holds
+pub record ImageValue : Type 0 where
+  pub timetable : TimetableValue
+  pub names : NamesValue

@@ -1,0 +1,63 @@
+-- The words of a timetable and its names: the sections, spelled and set end to end.
+use Rattle.std.specs.Prelude.{ℕ, ◌+◌, ◌/◌, ◌%◌, nat_lt, List, [], ◌∷◌, ◌++◌, length, take, map, count_by, if◌then◌else◌}
+use Rattle.std.specs.List.{flat_map, concat, range_with_len}
+use Rattle.std.specs.Int.{w32, w64, from_le_bytes, cast_unsigned}
+use Rattle.timetable.specs.declared.network.Connection.{Connection}
+use Rattle.timetable.specs.declared.network.Footpath.{Footpath}
+use Rattle.timetable.specs.TimetableValue.{TimetableValue}
+use Rattle.image_layout.specs.declared.layout.TheConstants.{MAGIC, LAYOUT}
+use Rattle.timetable.specs.NamesValue.{NamesValue, TripNameValue}
+
+-- boarding counts one, alighting two
+abbrev pub flags : Connection → ℕ
+flags c = (if c.board then 1 else 0) + (if c.alight then 2 else 0)
+
+abbrev pub connection_words : Connection → List ℕ
+connection_words c = c.from ∷ c.to ∷ c.dep ∷ c.arr ∷ c.trip ∷ flags c ∷ []
+
+-- how many footpaths lead into stops below s
+abbrev pub footpath_count_below : List Footpath → ℕ → ℕ
+footpath_count_below paths s = count_by (λ f. nat_lt f.to s) paths
+
+abbrev pub foot_index : TimetableValue → List ℕ
+foot_index p = map (footpath_count_below p.footpaths) (range_with_len 0 (p.stops + 1))
+
+abbrev pub footpath_words : Footpath → List ℕ
+footpath_words f = f.from ∷ f.secs ∷ []
+
+-- the stops' names, and then the trips'
+abbrev pub name_list : NamesValue → List (List ℕ)
+name_list n = n.stops ++ map (λ (t : TripNameValue). t.name) n.trips
+
+-- how many bytes stand before name i
+abbrev pub byte_count_before : List (List ℕ) → ℕ → ℕ
+byte_count_before ns i = length (concat (take i ns))
+
+abbrev pub name_index : NamesValue → List ℕ
+name_index n = map (byte_count_before (name_list n)) (range_with_len 0 (length (name_list n) + 1))
+
+abbrev pub text : NamesValue → List ℕ
+text n = concat (name_list n)
+
+-- four bytes a word, least first; the spare bytes of the last word are 0
+unfoldable pub text_words : List ℕ → List ℕ
+text_words [] = []
+text_words (a ∷ []) = from_le_bytes w32 (a ∷ 0 ∷ 0 ∷ 0 ∷ []) ∷ []
+text_words (a ∷ b ∷ []) = from_le_bytes w32 (a ∷ b ∷ 0 ∷ 0 ∷ []) ∷ []
+text_words (a ∷ b ∷ c ∷ []) = from_le_bytes w32 (a ∷ b ∷ c ∷ 0 ∷ []) ∷ []
+text_words (a ∷ b ∷ c ∷ d ∷ rest) = from_le_bytes w32 (a ∷ b ∷ c ∷ d ∷ []) ∷ text_words rest
+
+abbrev pub header : TimetableValue → NamesValue → List ℕ
+header p n =
+    MAGIC ∷ LAYOUT ∷ p.stops ∷ p.trips ∷ length p.connections ∷ length p.footpaths ∷ length (text n)
+    ∷ cast_unsigned w64 n.base % 4294967296 ∷ cast_unsigned w64 n.base / 4294967296 ∷ []
+
+unfoldable pub image : TimetableValue → NamesValue → List ℕ
+image p n =
+    header p n
+    ++ (flat_map connection_words p.connections
+    ++ (foot_index p
+    ++ (flat_map footpath_words p.footpaths
+    ++ (name_index n
+    ++ (map (λ (t : TripNameValue). t.day) n.trips
+    ++ text_words (text n))))))
