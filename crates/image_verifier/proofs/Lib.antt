@@ -1,0 +1,9 @@
+pub mod ConnectionLemmas
+pub mod NameLemmas
+pub mod FootLemmas
+pub mod AcceptedLemmas
+pub mod LegalLemmas
+pub mod ImageLemmas
+pub mod FaultlessLemmas
+pub mod OnlyLemmas
+pub mod ShownLemmas

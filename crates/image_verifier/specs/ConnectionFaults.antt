@@ -1,0 +1,47 @@
+-- What can be wrong with a connection, in the order in which it is told.
+use Rattle.std.specs.Prelude.{◌≡◌, ◌<◌, length, get_or, ℕ, ◌-◌, Bool, false, not, ◌||◌, ◌==◌, nat_lt, nat_le, List, Option, Some, None, if◌then◌else◌}
+use Rattle.timetable.specs.declared.limits.TheConstants.{TIME_END}
+use Rattle.image_layout.specs.Places.{header_of}
+use Rattle.image_layout.specs.Fields.{from_of, to_of, dep_of, arr_of, trip_of, flags_of}
+use Rattle.image_verifier.specs.declared.fault.ImageFault.{ImageFault}
+use Rattle.image_verifier.specs.declared.fault.ImageFault.TheVariants.{StopRange, TripRange, TimeRange, HopWithoutDuration, BadFlags, Unsorted, TripBroken}
+use Rattle.timetable.specs.First.{or_else, first_below, last_below}
+
+-- the last connection of a trip before place i
+abbrev pub last_of_trip : List ℕ → ℕ → ℕ → Option ℕ
+last_of_trip w trip i = last_below (λ j. trip_of w j == trip) i
+
+-- connection i doesn't go on from where and when connection j ended
+abbrev pub is_break : List ℕ → ℕ → Option ℕ → Bool
+is_break w i None = false
+is_break w i (Some j) = not (to_of w j == from_of w i) || nat_lt (dep_of w i) (arr_of w j)
+
+-- the fault of connection i by itself
+abbrev pub own_fault : List ℕ → ℕ → Option ImageFault
+own_fault w i =
+    if nat_le (header_of w).stops (from_of w i) || nat_le (header_of w).stops (to_of w i) then Some (StopRange i)
+    else (if nat_le (header_of w).trips (trip_of w i) then Some (TripRange i)
+    else (if nat_le TIME_END (dep_of w i) || nat_le TIME_END (arr_of w i) then Some (TimeRange i)
+    else (if nat_le (arr_of w i) (dep_of w i) then Some (HopWithoutDuration i)
+    else (if nat_lt 3 (flags_of w i) then Some (BadFlags i)
+    else None))))
+
+-- the fault of connection i beside those before it; the first one is beside itself
+abbrev pub place_fault : List ℕ → ℕ → Option ℕ → Option ImageFault
+place_fault w i last =
+    if nat_lt (dep_of w i) (dep_of w (i - 1)) then Some (Unsorted i)
+    else (if is_break w i last then Some (TripBroken i)
+    else None)
+
+-- the fault of connection i
+unfoldable pub connection_fault : List ℕ → ℕ → Option ImageFault
+connection_fault w i = or_else (own_fault w i) (place_fault w i (last_of_trip w (trip_of w i) i))
+
+-- the first fault of the connections, one by one
+abbrev pub connections_fault : List ℕ → Option ImageFault
+connections_fault w = first_below (connection_fault w) (header_of w).connections
+
+-- at each trip, its last connection before place i
+pub record IsLastTable (w : List ℕ) (i : ℕ) (last : List (Option ℕ)) : Type 0 where
+  pub size : length last ≡ (header_of w).trips
+  pub entry : (t : ℕ) → t < (header_of w).trips → get_or last t None ≡ last_of_trip w t i

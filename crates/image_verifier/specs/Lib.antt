@@ -1,0 +1,5 @@
+pub mod ConnectionFaults
+pub mod FootFaults
+pub mod NameFaults
+pub mod FirstFault
+pub mod Accepted

@@ -1,0 +1,36 @@
+-- What can be wrong with the names, in the order in which it is told.
+use Rattle.std.specs.Prelude.{ℕ, ◌+◌, Bool, not, ◌||◌, ◌&&◌, ◌==◌, nat_lt, List, drop, slice_range, Option, Some, None, if◌then◌else◌}
+use Rattle.std.specs.List.{list_all}
+use Rattle.std.specs.Str.{is_utf8}
+use Rattle.image_layout.specs.Places.{header_of}
+use Rattle.image_layout.specs.Fields.{name_index_of}
+use Rattle.image_layout.specs.Text.{padded_text_of}
+use Rattle.image_verifier.specs.declared.fault.ImageFault.{ImageFault}
+use Rattle.image_verifier.specs.declared.fault.ImageFault.TheVariants.{BadNames}
+use Rattle.timetable.specs.First.{or_else, first_below}
+
+-- how many names there are
+abbrev pub name_count : List ℕ → ℕ
+name_count w = (header_of w).stops + (header_of w).trips
+
+-- the bytes of name i
+abbrev pub name_of : List ℕ → ℕ → List ℕ
+name_of w i = slice_range (padded_text_of w) (name_index_of w i) (name_index_of w (i + 1))
+
+-- the bytes of name i are no range of bytes
+abbrev pub is_bad_name_range : List ℕ → ℕ → Bool
+is_bad_name_range w i = (i == 0 && not (name_index_of w 0 == 0)) || nat_lt (name_index_of w (i + 1)) (name_index_of w i) || nat_lt (header_of w).name_bytes (name_index_of w (i + 1))
+
+-- the fault of name i
+unfoldable pub name_fault : List ℕ → ℕ → Option ImageFault
+name_fault w i = if is_bad_name_range w i || not (is_utf8 (name_of w i)) then Some (BadNames i) else None
+
+-- the names end with the text, begin with 0 also where there is no name, and the spare bytes are 0
+unfoldable pub names_end_fault : List ℕ → Option ImageFault
+names_end_fault w =
+    if not (name_index_of w (name_count w) == (header_of w).name_bytes) || not (name_index_of w 0 == 0) || not (list_all (λ b. b == 0) (drop (header_of w).name_bytes (padded_text_of w)))
+    then Some (BadNames (name_count w)) else None
+
+-- the first fault of the names, one by one
+abbrev pub names_fault : List ℕ → Option ImageFault
+names_fault w = or_else (first_below (name_fault w) (name_count w)) (names_end_fault w)

@@ -1,0 +1,177 @@
+//! Words that were found to be an image.
+
+ghost use Rattle.std.specs.Prelude.{◌≡◌, ◌<◌, ◌≤◌, ◌+◌, length, slice_get, Some, ℕ, ◌↔◌, IfOk, IfErr, MatchResult};
+ghost use Rattle.timetable.specs.TimetableValue.{TimetableValue};
+ghost use Rattle.timetable.specs.Legal.{At};
+ghost use Rattle.timetable.specs.declared.network.Connection.{Connection};
+ghost use Rattle.timetable.specs.declared.network.Footpath.{Footpath};
+ghost use Rattle.image_layout.specs.Places.{IsWhole, header_of};
+ghost use Rattle.image_layout.specs.Fields.{dep_of, foot_index_of};
+ghost use Rattle.image_layout.specs.Shown.{footpaths_of};
+ghost use Rattle.image_verifier.specs.Accepted.{IsAccepted};
+ghost use Rattle.timetable.specs.NamesValue.{NamesValue};
+ghost use Rattle.image_layout.specs.Image.{HasImage, IsImage};
+ghost use Rattle.image_verifier.specs.declared.fault.ImageFault.TheVariants.{OutOfMemory};
+ghost use Rattle.image_verifier.specs.FirstFault.{Tells};
+
+use crate::fault::ImageFault;
+use crate::judge::judge;
+use image_layout::{
+    Header, base_at, connection_at, dep_at, foot_from_at, foot_index_at, foot_secs_at,
+};
+use std::alloc::Global;
+use std::marker::Model;
+use timetable::{Connection, Footpath};
+
+/// An image: contracts see the timetable and the names that it holds.
+#[derive(Drop)]
+pub struct Verified {
+    words: Vec<u32>,
+}
+
+impl Model for Verified {
+    ghost use Rattle.image_layout.specs.Image.{ImageValue};
+
+    ghost Value = { ImageValue };
+
+    ghost use Rattle.image_layout.specs.Shown.{timetable_of, names_of};
+    ghost use Rattle.image_verifier.specs.Accepted.{IsAccepted};
+
+    ghost view = { λ v. record { timetable = timetable_of v.words.items; names = names_of v.words.items } };
+
+    ghost invariant = { λ v. IsAccepted v.words.items };
+}
+
+/// The words as an image, or the words again with their first fault.
+pub fn verify(alloc: Global, words: Vec<u32>) -> Result<Verified, (Vec<u32>, ImageFault)>
+    ensures shown { IfOk result (λ v. IsImage words.items v.timetable v.names) }
+    // What is an image is accepted, unless memory runs out.
+    ensures only { (p : TimetableValue) (n : NamesValue) → IsImage words.items p n → MatchResult result (λ v. (v.timetable ≡ p) × (v.names ≡ n)) (λ e. e.1 ≡ OutOfMemory) }
+    ensures same_words { IfErr result (λ e. e.0.items ≡ words.items) }
+    ensures fault { IfErr result (λ e. Tells words.items e.1) }
+{
+    match judge(alloc, &words) {
+        Ok(()) => Ok(Verified { words }),
+        Err(fault) => Err((words, fault)),
+    }
+}
+
+/// The first place from which on connections depart at the time or later.
+fn first_departure(words: &[u32], time: u32) -> usize
+    requires whole { IsWhole words.now }
+    ensures within { result ≤ (header_of words.now).connections }
+    ensures before { (k : ℕ) → k < result → dep_of words.now k < time }
+    ensures here { result < (header_of words.now).connections → time ≤ dep_of words.now result }
+{
+    let count = Header::of(words).connections as usize;
+    for i in 0..count {
+        if dep_at(words, i) >= time {
+            return i;
+        }
+    }
+    count
+}
+
+/// The stop whose footpaths have the place among them.
+fn stop_of(words: &[u32], place: usize) -> usize
+    requires whole { IsWhole words.now }
+    requires start { foot_index_of words.now 0 ≤ place }
+    requires end { place < foot_index_of words.now (header_of words.now).stops }
+    ensures stop { result < (header_of words.now).stops }
+    ensures start { foot_index_of words.now result ≤ place }
+    ensures end { place < foot_index_of words.now (result + 1) }
+{
+    let mut low = 0;
+    let mut high = Header::of(words).stops as usize;
+    'halve: while high - low > 1 {
+        let middle = low + (high - low) / 2;
+        if foot_index_at(words, middle) as usize <= place {
+            low = middle;
+        } else {
+            high = middle;
+        }
+    }
+    low
+}
+
+/// The footpath at a place.
+fn footpath_at(words: &[u32], place: usize) -> Footpath
+    requires accepted { IsAccepted words.now }
+    requires within { place < (header_of words.now).footpaths }
+    ensures { slice_get (footpaths_of words.now) place ≡ Some result }
+{
+    let to = stop_of(words, place);
+    Footpath {
+        from: foot_from_at(words, place),
+        to: to as u32,
+        secs: foot_secs_at(words, place),
+    }
+}
+
+impl Verified {
+    /// How many stops there are; and what each image keeps: a legal timetable and names, within the limits.
+    pub fn stops(&self) -> u32
+        ensures stops { result ≡ self.now.timetable.stops }
+        ensures kept { HasImage self.now.timetable self.now.names }
+    {
+        Header::of(&self.words).stops
+    }
+
+    pub fn trips(&self) -> u32
+        ensures { result ≡ self.now.timetable.trips }
+    {
+        Header::of(&self.words).trips
+    }
+
+    /// How many connections there are.
+    pub fn len(&self) -> usize
+        ensures { result ≡ length self.now.timetable.connections }
+    {
+        Header::of(&self.words).connections as usize
+    }
+
+    pub fn connection(&self, i: usize) -> Connection
+        requires { i < length self.now.timetable.connections }
+        ensures { slice_get self.now.timetable.connections i ≡ Some result }
+    {
+        connection_at(&self.words, i)
+    }
+
+    /// The instant from which times count, in seconds.
+    pub fn base(&self) -> i64
+        ensures { result ≡ self.now.names.base }
+    {
+        base_at(&self.words)
+    }
+
+    /// The places of the footpaths into a stop: from the first up to before the second.
+    pub fn walks_into(&self, stop: usize) -> (usize, usize)
+        requires { stop < self.now.timetable.stops }
+        ensures order { result.0 ≤ result.1 }
+        ensures within { result.1 ≤ length self.now.timetable.footpaths }
+        ensures exact { (k : ℕ) (f : Footpath) → At self.now.timetable.footpaths k f → (f.to ≡ stop) ↔ ((result.0 ≤ k) × (k < result.1)) }
+    {
+        let words: &[u32] = &self.words;
+        (
+            foot_index_at(words, stop) as usize,
+            foot_index_at(words, stop + 1) as usize,
+        )
+    }
+
+    /// The first place from which on connections depart at the time or later, else the number of connections.
+    pub fn first_at(&self, time: u32) -> usize
+        ensures within { result ≤ length self.now.timetable.connections }
+        ensures before { (k : ℕ) (c : Connection) → k < result → At self.now.timetable.connections k c → c.dep < time }
+        ensures from { (k : ℕ) (c : Connection) → result ≤ k → At self.now.timetable.connections k c → time ≤ c.dep }
+    {
+        first_departure(&self.words, time)
+    }
+
+    /// The footpath at a place.
+    pub fn footpath(&self, place: usize) -> Footpath
+        requires { place < length self.now.timetable.footpaths }
+        ensures { slice_get self.now.timetable.footpaths place ≡ Some result }
+    {
+        footpath_at(&self.words, place)
+    }
+}
