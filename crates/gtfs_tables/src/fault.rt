@@ -1,0 +1,72 @@
+// What can be wrong with a feed.
+
+use thiserror::Error;
+
+/// The files of a feed that are read, in the order of reading.
+#[derive(Clone, Copy, Debug, PartialEq, Eq, Error)]
+pub enum Table {
+    #[error("agency.txt")]
+    Agency,
+    #[error("stops.txt")]
+    Stops,
+    #[error("trips.txt")]
+    Trips,
+    #[error("stop_times.txt")]
+    StopTimes,
+    #[error("calendar.txt")]
+    Calendar,
+    #[error("calendar_dates.txt")]
+    CalendarDates,
+    #[error("transfers.txt")]
+    Transfers,
+    #[error("frequencies.txt")]
+    Frequencies,
+}
+
+/// What is wrong with a table.
+#[derive(Clone, Copy, Debug, PartialEq, Eq, Error)]
+pub enum FaultKind {
+    #[error("the file is missing")]
+    MissingFile,
+    #[error("a required column is missing")]
+    MissingColumn,
+    #[error("the file is not UTF-8")]
+    BadUtf8,
+    #[error("the record has another number of fields than the header")]
+    RowLength,
+    #[error("a field is no time")]
+    BadTime,
+    #[error("a field is no date")]
+    BadDate,
+    #[error("a field is no number, or none that is allowed")]
+    BadNumber,
+    #[error("an earlier record has the id")]
+    IdTwice,
+    #[error("no record has the id")]
+    UnknownId,
+    #[error("the time zone differs from that of the first agency")]
+    ZonesDiffer,
+    #[error("the trip has the stop_sequence twice")]
+    SequenceTwice,
+    #[error("the trip begins or ends without a time")]
+    EndWithoutTime,
+    #[error("the times of the trip go back")]
+    TimeGoesBack,
+    #[error("an arrival is not after the departure before it")]
+    HopWithoutDuration,
+    #[error("the place is no stop")]
+    NotAStop,
+    #[error("there are too many")]
+    TooMany,
+    #[error("out of memory")]
+    OutOfMemory,
+}
+
+/// A fault of a feed: the file, the record's number (from 1 after the header; 0 is the file) and what is wrong.
+#[derive(Clone, Copy, Debug, PartialEq, Eq, Error)]
+#[error("{table}, record {row}: {kind}")]
+pub struct TableFault {
+    pub table: Table,
+    pub row: u64,
+    pub kind: FaultKind,
+}

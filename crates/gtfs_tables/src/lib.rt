@@ -1,0 +1,12 @@
+//! The tables of a GTFS feed: the rows of each file, or the first thing that is wrong with it.
+//!
+//! The files and their columns are those of the GTFS Schedule Reference.
+#![tactic(auto)]
+
+pub mod fault;
+pub mod rows;
+pub mod values;
+
+pub use fault::{FaultKind, Table, TableFault};
+pub use rows::{CalendarDateRow, CalendarRow, Exception};
+pub use values::{DateFault, Day, Time, TimeFault};
