@@ -6,3 +6,4 @@ pub mod LegalProp
 pub mod Limits
 pub mod First
 pub mod Journeys
+pub mod Queries

@@ -10,4 +10,4 @@ pub mod query;
 pub use journey::{Journey, Leg, Ride, Times};
 pub use names::{Names, TripName};
 pub use network::{Connection, Footpath, Timetable};
-pub use query::Query;
+pub use query::{Query, QueryFault};

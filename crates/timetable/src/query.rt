@@ -1,3 +1,6 @@
+use crate::limits::TIME_END;
+use thiserror::Error;
+
 /// What a client asks: from a stop to a stop, departing in a window, arriving by a time. Times are seconds after the base.
 #[derive(Clone, Copy, Debug, PartialEq, Eq)]
 pub struct Query {
@@ -9,4 +12,41 @@ pub struct Query {
     pub until: u32,
     /// The latest arrival.
     pub by: u32,
+}
+
+/// Why a query can't be asked of a timetable.
+#[derive(Clone, Copy, Debug, PartialEq, Eq, Error)]
+pub enum QueryFault {
+    /// The timetable doesn't have the source, or the target.
+    #[error("the timetable doesn't have the stop")]
+    UnknownStop,
+    /// The source is the target.
+    #[error("source and target are one stop")]
+    SameStop,
+    /// The window ends before it begins, or the latest arrival is before it, or a time is past those of every timetable.
+    #[error("the window can't be")]
+    BadWindow,
+}
+
+impl Query {
+    ghost use Rattle.std.specs.Prelude.{◌↔◌, IsOk, IfErr};
+    ghost use Rattle.timetable.specs.Queries.{IsAskable, IsFirstFault};
+
+    /// Ok where the query can be asked of a timetable with so many stops, else the first fault.
+    pub fn check(&self, stops: u32) -> Result<(), QueryFault>
+        ensures askable { IsOk result ↔ IsAskable stops self.now }
+        ensures fault { IfErr result (IsFirstFault stops self.now) }
+    {
+        if self.source >= stops || self.target >= stops {
+            return Err(QueryFault::UnknownStop);
+        }
+        if self.source == self.target {
+            return Err(QueryFault::SameStop);
+        }
+        let latest = self.until.max(self.by);
+        if self.from > self.until || self.from > self.by || latest >= TIME_END {
+            return Err(QueryFault::BadWindow);
+        }
+        Ok(())
+    }
 }
