@@ -1,0 +1,20 @@
+//! The program `csa`: it hands its words and streams to the library.
+#![tactic(auto)]
+
+use csa_program::run;
+use std::env;
+use std::process::ExitCode;
+
+fn main(rt: HostRuntime) -> ExitCode {
+    let Ok(arguments) = env::args(&rt) else {
+        return ExitCode::from(64);
+    };
+    let words: Vec<String> = match arguments.collect(rt.alloc()) {
+        Ok(words) => words,
+        Err(_) => return ExitCode::from(4),
+    };
+    let mut input = rt.stdin();
+    let mut output = rt.stdout();
+    let mut errors = rt.stderr();
+    ExitCode::from(run(&rt, words.as_slice(), &mut input, &mut output, &mut errors))
+}

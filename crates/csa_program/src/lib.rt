@@ -1,0 +1,35 @@
+//! The body of the program `csa`: words, a reader and two writers in, an exit status out.
+#![tactic(auto)]
+
+mod command_line;
+mod image_file;
+mod refusal;
+mod status;
+#[cfg(test)]
+mod tests;
+mod verify;
+
+use crate::command_line::{Request, Unread, read};
+use std::convert::AsStr;
+use std::io::{Read, Write};
+use std::rt::Files;
+
+/// Runs the command that the words ask for; the first word is the program's name.
+///
+/// What a command finds goes to `output`, what is wrong with the command line or with a file to `errors`. The status is 0 for an
+/// accepted request, 2 for a refused one, 3 where a file can't be read or a line can't be written, 4 for want of memory, and 64
+/// for a command line that asks for nothing.
+pub fn run<H: Files + AllocGlobal, S: AsStr, I: Read, O: Write, E: Write>(
+    rt: &H,
+    words: &[S],
+    input: &mut I,
+    output: &mut O,
+    errors: &mut E,
+) -> u8 {
+    match read(rt.alloc(), words) {
+        Ok(Request::Verify(image)) => verify::verify(rt, image, input, output, errors),
+        Err(Unread::Help(text)) => status::written(output, text.as_str(), status::ACCEPTED),
+        Err(Unread::Mistake(text)) => status::written(errors, text.as_str(), status::COMMAND_LINE),
+        Err(Unread::OutOfMemory) => status::OUT_OF_MEMORY,
+    }
+}

@@ -1,0 +1,192 @@
+//! The commands as a user runs them: words and input in, lines and a status out.
+
+use crate::run;
+use image_layout::{Words, sample_words};
+use std::process::Abort;
+use std::rt::Files;
+use std::test::Fail;
+
+/// What a command wrote, and its status.
+#[derive(Drop)]
+struct Outcome {
+    status: u8,
+    output: Vec<u8>,
+    errors: Vec<u8>,
+}
+
+fn outcome_of<R: Files + AllocGlobal>(rt: &R, words: &[&str], bytes: &[u8]) -> Outcome {
+    let mut input: &[u8] = bytes;
+    let mut output = Vec::new(rt.alloc());
+    let mut errors = Vec::new(rt.alloc());
+    let status = run(rt, words, &mut input, &mut output, &mut errors);
+    Outcome {
+        status,
+        output,
+        errors,
+    }
+}
+
+/// The command prints this line alone, and ends with the status.
+fn expect_line<R: Files + AllocGlobal + Abort>(
+    rt: &R,
+    words: &[&str],
+    bytes: &[u8],
+    status: u8,
+    line: &str,
+) {
+    let outcome = outcome_of(rt, words, bytes);
+    assert_eq!(rt; outcome.status, status);
+    assert!(rt; outcome.output.as_slice() == line.as_bytes(), "not {line}");
+    assert!(rt; outcome.errors.is_empty());
+}
+
+/// The command prints nothing but a message to the errors, and ends with the status.
+fn expect_message<R: Files + AllocGlobal + Abort>(
+    rt: &R,
+    words: &[&str],
+    bytes: &[u8],
+    status: u8,
+) {
+    let outcome = outcome_of(rt, words, bytes);
+    assert_eq!(rt; outcome.status, status);
+    assert!(rt; outcome.output.is_empty());
+    assert!(rt; !outcome.errors.is_empty());
+}
+
+const VERIFY: [&str; 3] = ["csa", "verify", "-"];
+
+fn verify_words<R: Files + AllocGlobal + Abort>(
+    rt: &R,
+    image: &[u32],
+    status: u8,
+    line: &str,
+) -> Result<(), Fail> {
+    let bytes = Words::to_bytes(rt.alloc(), image)?;
+    expect_line(rt, &VERIFY, &bytes, status, line);
+    Ok(())
+}
+
+#[test]
+fn the_sample_is_accepted(rt: HostRuntime) -> Result<(), Fail> {
+    let sample = sample_words();
+    verify_words(
+        &rt,
+        &sample,
+        0,
+        "ok stops 3 trips 2 connections 3 footpaths 3\n",
+    )
+}
+
+#[test]
+fn an_image_without_trips_is_accepted(rt: HostRuntime) -> Result<(), Fail> {
+    let image = [
+        0x50415343u32,
+        1,
+        3,
+        0,
+        0,
+        3,
+        3,
+        1705276800,
+        0,
+        0,
+        1,
+        2,
+        3,
+        0,
+        0,
+        1,
+        0,
+        2,
+        0,
+        0,
+        1,
+        2,
+        3,
+        0x00434241,
+    ];
+    verify_words(
+        &rt,
+        &image,
+        0,
+        "ok stops 3 trips 0 connections 0 footpaths 3\n",
+    )
+}
+
+#[test]
+fn connections_out_of_order_are_refused(rt: HostRuntime) -> Result<(), Fail> {
+    let mut image = sample_words();
+    for i in 15..21 {
+        image.swap(i, i + 6);
+    }
+    verify_words(&rt, &image, 2, "refused 67 Unsorted 2\n")
+}
+
+#[test]
+fn a_hop_without_duration_is_refused(rt: HostRuntime) -> Result<(), Fail> {
+    let mut image = sample_words();
+    image[24] = 29520;
+    verify_words(&rt, &image, 2, "refused 66 HopWithoutDuration 2\n")
+}
+
+/// The sample with footpaths A to B and B to C of 60 s, and A to C of these seconds.
+fn walks(direct: u32) -> [u32; 53] {
+    [
+        0x50415343, 1, 3, 2, 3, 6, 7, 1705276800, 0, 0, 1, 28800, 29400, 0, 3, 1, 2, 29400, 30600,
+        0, 3, 1, 2, 29520, 30000, 1, 3, 0, 1, 3, 6, 0, 0, 0, 60, 1, 0, 0, direct, 1, 60, 2, 0, 0,
+        1, 2, 3, 5, 7, 20240115, 20240115, 0x54434241, 0x00325431,
+    ]
+}
+
+/// The sample with footpaths A to B and B to C of 60 s, and none from A to C.
+fn unclosed() -> [u32; 51] {
+    [
+        0x50415343, 1, 3, 2, 3, 5, 7, 1705276800, 0, 0, 1, 28800, 29400, 0, 3, 1, 2, 29400, 30600,
+        0, 3, 1, 2, 29520, 30000, 1, 3, 0, 1, 3, 5, 0, 0, 0, 60, 1, 0, 1, 60, 2, 0, 0, 1, 2, 3, 5,
+        7, 20240115, 20240115, 0x54434241, 0x00325431,
+    ]
+}
+
+#[test]
+fn footpaths_must_be_closed(rt: HostRuntime) -> Result<(), Fail> {
+    verify_words(&rt, &unclosed(), 2, "refused 74 NotClosed 0 1 2\n")?;
+    verify_words(&rt, &walks(121), 2, "refused 74 NotClosed 0 1 2\n")?;
+    verify_words(
+        &rt,
+        &walks(120),
+        0,
+        "ok stops 3 trips 2 connections 3 footpaths 6\n",
+    )
+}
+
+#[test]
+fn bytes_that_are_cut_are_refused(rt: HostRuntime) -> Result<(), Fail> {
+    let bytes = Words::to_bytes(rt.alloc(), &sample_words())?;
+    assert_eq!(rt; bytes.len(), 188);
+    expect_line(&rt, &VERIFY, &bytes[..187], 2, "refused 51 OddLength\n");
+    expect_line(&rt, &VERIFY, &bytes[..184], 2, "refused 63 BadLength\n");
+    expect_line(&rt, &VERIFY, &bytes[..0], 2, "refused 63 BadLength\n");
+    Ok(())
+}
+
+#[test]
+fn wrong_command_lines_are_told(rt: HostRuntime) {
+    expect_message(&rt, &["csa"], b"", 64);
+    expect_message(&rt, &["csa", "verify"], b"", 64);
+    expect_message(&rt, &["csa", "verify", "-", "more"], b"", 64);
+    expect_message(&rt, &["csa", "fly", "-"], b"", 64);
+    expect_message(&rt, &["csa", "verify", "no/such/file"], b"", 3);
+}
+
+#[test]
+fn help_is_printed(rt: HostRuntime) {
+    for words in [
+        ["csa", "--help"].as_slice(),
+        ["csa", "verify", "--help"].as_slice(),
+    ] {
+        let outcome = outcome_of(&rt, words, b"");
+        assert_eq!(rt; outcome.status, 0);
+        assert!(rt; !outcome.output.is_empty());
+        assert!(rt; outcome.errors.is_empty());
+    }
+}
