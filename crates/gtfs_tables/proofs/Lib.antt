@@ -1,1 +1,4 @@
+pub mod CellFacts
+pub mod SourceFacts
+pub mod TextFacts
 pub mod ValueFacts

@@ -3,8 +3,10 @@
 //! The files and their columns are those of the GTFS Schedule Reference.
 #![tactic(auto)]
 
+mod cells;
 pub mod fault;
 pub mod rows;
+mod source;
 pub mod values;
 
 pub use fault::{FaultKind, Table, TableFault};
