@@ -1,6 +1,7 @@
 -- What the calls of an accepted image say of the timetable that it shows.
-use Rattle.std.proofs.Common.{◌≡◌, ◌↔◌, ℕ, zero, suc, ◌+◌, ◌-◌, ◌<◌, ◌≤◌, List, length, sym, ap, subst, ◌∙◌, arith, inl, inr}
+use Rattle.std.proofs.Common.{◌≡◌, ◌↔◌, ℕ, zero, suc, ◌+◌, ◌-◌, ◌<◌, ◌≤◌, List, length, get_or, sym, ap, subst, ◌∙◌, arith, inl, inr}
 use Rattle.std.proofs.lemmas.Bool.{cases_order}
+use Rattle.std.proofs.lemmas.Option.{slice_get-get_or}
 use Rattle.timetable.specs.declared.network.Connection.{Connection}
 use Rattle.timetable.specs.declared.network.Footpath.{Footpath}
 use Rattle.timetable.specs.Legal.{At}
@@ -21,6 +22,13 @@ departures_up w good (suc d) i lt =
     let rest = departures_up w good d i (omega arith) in
     let step = (placed_at w good ((i + d) + 1) (omega arith)).sorted in
     rw e (omega (arith, rest, step, ap (λ (x : ℕ). dep_of w x) back))
+
+-- what stands before a connection departs no later
+pub departures_before : (w : List ℕ) (k middle time : ℕ) → IsAccepted w → k ≤ middle → middle < (header_of w).connections → dep_of w middle < time → dep_of w k < time
+departures_before w k middle time accepted le lt early =
+    let e : k + (middle - k) ≡ middle = omega arith in
+    let up = departures_up w (AreFaultless-from w accepted.faultless) (middle - k) k (omega arith) in
+    omega (arith, up, early, ap (λ (x : ℕ). dep_of w x) e)
 
 pub first_within : (w : List ℕ) (r : ℕ) → r ≤ (header_of w).connections → r ≤ length (connections_of w)
 first_within w r le = omega (arith, le, length-connections_of w)
@@ -59,3 +67,14 @@ walks_exact w stop accepted lt k f at =
 
 pub walks_count : (w : List ℕ) → IsAccepted w → length (footpaths_of w) ≡ (header_of w).footpaths
 walks_count w accepted = length-footpaths_of w accepted.whole (IsFootIndex-from w (AreFaultless-from w accepted.faultless))
+
+-- footpaths stand at the places of the index
+pub foot_index_within : (w : List ℕ) (stop place : ℕ) → IsAccepted w → stop < (header_of w).stops → place < foot_index_of w (stop + 1) → place < (header_of w).footpaths
+foot_index_within w stop place accepted lt at = omega (arith, walks_within w stop accepted lt, walks_count w accepted)
+
+-- the place of a footpath that leads into a stop is among those into it
+pub is_among : (w : List ℕ) (stop place : ℕ) → IsAccepted w → stop < (header_of w).stops → place < length (footpaths_of w) → ((f : Footpath) → At (footpaths_of w) place f → f.to ≡ stop) → (foot_index_of w stop ≤ place) × (place < foot_index_of w (stop + 1))
+is_among w stop place accepted lt within into =
+    let no_path : Footpath = record { from = 0; to = 0; secs = 0 } in
+    let at = slice_get-get_or (footpaths_of w) place no_path within in
+    (walks_exact w stop accepted lt place (get_or (footpaths_of w) place no_path) at).0 (into (get_or (footpaths_of w) place no_path) at)

@@ -57,19 +57,24 @@ pub fn verify(alloc: Global, words: Vec<u32>) -> Result<Verified, (Vec<u32>, Ima
 }
 
 /// The first place from which on connections depart at the time or later.
+#[tactic(auto, using(crate::proofs::ShownLemmas::departures_before))]
 fn first_departure(words: &[u32], time: u32) -> usize
-    requires whole { IsWhole words.now }
+    requires { IsAccepted words.now }
     ensures within { result ≤ (header_of words.now).connections }
     ensures before { (k : ℕ) → k < result → dep_of words.now k < time }
     ensures here { result < (header_of words.now).connections → time ≤ dep_of words.now result }
 {
-    let count = Header::of(words).connections as usize;
-    for i in 0..count {
-        if dep_at(words, i) >= time {
-            return i;
+    let mut low = 0;
+    let mut high = Header::of(words).connections as usize;
+    'halve: while low < high {
+        let middle = low + (high - low) / 2;
+        if dep_at(words, middle) < time {
+            low = middle + 1;
+        } else {
+            high = middle;
         }
     }
-    count
+    low
 }
 
 /// The stop whose footpaths have the place among them.
@@ -94,18 +99,28 @@ fn stop_of(words: &[u32], place: usize) -> usize
     low
 }
 
+/// The footpath at a place among those into a stop.
+fn footpath_of_stop(words: &[u32], stop: usize, place: usize) -> Footpath
+    requires accepted { IsAccepted words.now }
+    requires stop { stop < (header_of words.now).stops }
+    requires start { foot_index_of words.now stop ≤ place }
+    requires end { place < foot_index_of words.now (stop + 1) }
+    ensures { slice_get (footpaths_of words.now) place ≡ Some result }
+{
+    Footpath {
+        from: foot_from_at(words, place),
+        to: stop as u32,
+        secs: foot_secs_at(words, place),
+    }
+}
+
 /// The footpath at a place.
 fn footpath_at(words: &[u32], place: usize) -> Footpath
     requires accepted { IsAccepted words.now }
     requires within { place < (header_of words.now).footpaths }
     ensures { slice_get (footpaths_of words.now) place ≡ Some result }
 {
-    let to = stop_of(words, place);
-    Footpath {
-        from: foot_from_at(words, place),
-        to: to as u32,
-        secs: foot_secs_at(words, place),
-    }
+    footpath_of_stop(words, stop_of(words, place), place)
 }
 
 impl Verified {
@@ -135,6 +150,13 @@ impl Verified {
         ensures { slice_get self.now.timetable.connections i ≡ Some result }
     {
         connection_at(&self.words, i)
+    }
+
+    /// The words, which are the image of the timetable and the names.
+    pub fn words(&self) -> &[u32]
+        ensures { IsImage result.now self.now.timetable self.now.names }
+    {
+        &self.words
     }
 
     /// The instant from which times count, in seconds.
@@ -167,7 +189,24 @@ impl Verified {
         first_departure(&self.words, time)
     }
 
-    /// The footpath at a place.
+    /// How many footpaths there are.
+    pub fn footpath_count(&self) -> usize
+        ensures { result ≡ length self.now.timetable.footpaths }
+    {
+        Header::of(&self.words).footpaths as usize
+    }
+
+    /// The footpath at a place among those into a stop, as `walks_into` tells them: two words are read, nothing is searched.
+    pub fn footpath_into(&self, stop: usize, place: usize) -> Footpath
+        requires stop { stop < self.now.timetable.stops }
+        requires place { place < length self.now.timetable.footpaths }
+        requires into { (f : Footpath) → At self.now.timetable.footpaths place f → f.to ≡ stop }
+        ensures { slice_get self.now.timetable.footpaths place ≡ Some result }
+    {
+        footpath_of_stop(&self.words, stop, place)
+    }
+
+    /// The footpath at a place. Its stop is searched for: see `footpath_into`.
     pub fn footpath(&self, place: usize) -> Footpath
         requires { place < length self.now.timetable.footpaths }
         ensures { slice_get self.now.timetable.footpaths place ≡ Some result }
