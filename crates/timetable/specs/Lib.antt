@@ -7,3 +7,4 @@ pub mod Limits
 pub mod First
 pub mod Journeys
 pub mod Queries
+pub mod Clocks

@@ -1,0 +1,27 @@
+-- Times as clock texts: hours, minutes and seconds in decimal digits, with colons between them.
+use Rattle.std.specs.Prelude.{◌≡◌, ℕ, ◌+◌, ◌*◌, ◌/◌, ◌%◌, ◌<◌, ◌≤◌, List, ◌∷◌, ◌++◌, length, nat_lt, if◌then◌else◌}
+use Rattle.std.specs.Str.Parse.{IsNumeral, digits_value}
+use Rattle.std.specs.Fmt.{decimal}
+
+-- ':'
+abbrev pub colon : ℕ
+colon = 58
+
+-- hours of one to six digits, minutes and seconds of two, and how many seconds they are together
+pub record SpellsClock (text : List ℕ) (time : ℕ) : Type 0 where
+  pub hours : List ℕ
+  pub minutes : List ℕ
+  pub seconds : List ℕ
+  pub parts : text ≡ hours ++ colon ∷ minutes ++ colon ∷ seconds
+  pub numerals : IsNumeral 10 hours × IsNumeral 10 minutes × IsNumeral 10 seconds
+  pub lengths : (length hours ≤ 6) × (length minutes ≡ 2) × (length seconds ≡ 2)
+  pub small : (digits_value 10 minutes < 60) × (digits_value 10 seconds < 60)
+  pub sum : time ≡ digits_value 10 hours * 3600 + digits_value 10 minutes * 60 + digits_value 10 seconds
+
+-- a number in decimal digits, of which there are two at least
+abbrev pub two_digits : ℕ → List ℕ
+two_digits n = if nat_lt n 10 then 48 ∷ decimal n else decimal n
+
+-- the text of a time: its hours in two digits or as many as they need, its minutes and its seconds in two
+abbrev pub clock_bytes : ℕ → List ℕ
+clock_bytes time = two_digits (time / 3600) ++ colon ∷ two_digits (time / 60 % 60) ++ colon ∷ two_digits (time % 60)
