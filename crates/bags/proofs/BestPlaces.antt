@@ -1,0 +1,57 @@
+-- The places of the best points, one place on.
+use Rattle.std.proofs.Common.{◌≡◌, ℕ, zero, suc, ◌+◌, ◌<◌, ◌≤◌, ◌⊎◌, Bool, true, false, if◌then◌else◌, List, [], ◌∷◌, length, drop, slice_get, Some, Contains, inl, inr, arith, refl, sym, ◌∙◌, ap, subst, add-zero}
+use Rattle.std.proofs.lemmas.List.{drop_more, drop_all}
+use Rattle.std.proofs.lemmas.Option.{get_or_from_slice_get, slice_get_within, slice_get_cases}
+use Rattle.std.proofs.lemmas.List.Elements.{Contains-append_left, Contains-append_right, Contains-append_cases, Contains-push, Contains-push_cases}
+use Rattle.bags.specs.Best.{places_from}
+use Rattle.bags.proofs.Lists.{not_in_nil}
+
+-- at a place inside the list
+places_from-drop : {X : Type 0} (test : X → Bool) (xs : List X) (n : ℕ) (x : X) (b : Bool) → slice_get xs n ≡ Some x → test x ≡ b → places_from test n (drop n xs) ≡ (if b then n ∷ places_from test (n + 1) (drop (n + 1) xs) else places_from test (n + 1) (drop (n + 1) xs))
+places_from-drop test xs n x b is told =
+    let here : drop n xs ≡ x ∷ drop (n + 1) xs = drop_more xs n x (slice_get_within xs n x is) ∙ ap (λ y. y ∷ drop (n + 1) xs) (get_or_from_slice_get xs n x x is) in
+    ap (places_from test n) here ∙ ap (λ (c : Bool). if c then n ∷ places_from test (n + 1) (drop (n + 1) xs) else places_from test (n + 1) (drop (n + 1) xs)) told
+
+-- where b is what the test tells of the element there
+pub places_from-told : {X : Type 0} (test : X → Bool) (xs : List X) (n : ℕ) (r b : Bool) → n < length xs → ((x : X) → slice_get xs n ≡ Some x → r ≡ test x) → r ≡ b → places_from test n (drop n xs) ≡ (if b then n ∷ places_from test (n + 1) (drop (n + 1) xs) else places_from test (n + 1) (drop (n + 1) xs))
+places_from-told test xs n r b lt tells is =
+    elim ((slice_get_cases xs n).1) [
+      | inl at ↦ places_from-drop test xs n at.0 b at.2 (sym (tells at.0 at.2) ∙ is)
+      | inr past ↦ let over = past.0 in absurd (omega arith)
+    ]
+
+pub places_from-drop_all : {X : Type 0} (test : X → Bool) (xs : List X) (n : ℕ) → length xs ≤ n → places_from test n (drop n xs) ≡ []
+places_from-drop_all test xs n past = ap (places_from test n) (drop_all n xs past)
+
+-- what the first of two parts of a list is
+first_or_later : (b : Bool) (n : ℕ) (rest : List ℕ) (k : ℕ) → Contains (if b then n ∷ rest else rest) k → ((b ≡ true) × (n ≡ k)) ⊎ Contains rest k
+first_or_later true n rest k h =
+    elim (Contains-append_cases (n ∷ []) rest k h) [
+      | inl a ↦ elim (Contains-push_cases [] n k a) [ inl none ↦ absurd (not_in_nil k none) | inr e ↦ inl (refl, e) ]
+      | inr later ↦ inr later
+    ]
+first_or_later false n rest k h = inr h
+
+-- what stands at a place that is given passes
+pub places_from-passes : {X : Type 0} (test : X → Bool) (n : ℕ) (xs : List X) (k : ℕ) → Contains (places_from test n xs) k → (i : ℕ) × (x : X) × (k ≡ n + i) × (slice_get xs i ≡ Some x) × (test x ≡ true)
+places_from-passes test n [] k h = absurd (not_in_nil k h)
+places_from-passes test n (x ∷ xs) k h =
+    elim (first_or_later (test x) n (places_from test (n + 1) xs) k h) [
+      | inl here ↦ (0, x, sym here.1 ∙ sym (add-zero n), refl, here.0)
+      | inr later ↦
+          let rest = places_from-passes test (n + 1) xs k later in
+          let shift : n + 1 + rest.0 ≡ n + suc rest.0 = omega arith in
+          (suc rest.0, rest.1, rest.2 ∙ shift, rest.3, rest.4)
+    ]
+
+-- the place of what passes is given
+pub places_from-gives : {X : Type 0} (test : X → Bool) (n : ℕ) (xs : List X) (i : ℕ) (x : X) → slice_get xs i ≡ Some x → test x ≡ true → Contains (places_from test n xs) (n + i)
+places_from-gives test n [] i x is passes = absurd (cc)
+places_from-gives test n (y ∷ xs) zero x is passes =
+    let same : y ≡ x = cc in
+    subst (λ (b : Bool). Contains (if b then n ∷ places_from test (n + 1) xs else places_from test (n + 1) xs) (n + 0)) (sym (ap test same ∙ passes))
+    (subst (Contains (n ∷ places_from test (n + 1) xs)) (sym (add-zero n)) (Contains-append_left (n ∷ []) (places_from test (n + 1) xs) n (Contains-push [] n)))
+places_from-gives test n (y ∷ xs) (suc i) x is passes =
+    let shift : n + 1 + i ≡ n + suc i = omega arith in
+    let later = subst (Contains (places_from test (n + 1) xs)) shift (places_from-gives test (n + 1) xs i x is passes) in
+    elim (test y) as (λ b. Contains (if b then n ∷ places_from test (n + 1) xs else places_from test (n + 1) xs) (n + suc i)) [ true ↦ Contains-append_right (n ∷ []) (places_from test (n + 1) xs) (n + suc i) later | false ↦ later ]

@@ -1,0 +1,4 @@
+pub mod BestPlaces
+pub mod BestPoints
+pub mod Insertions
+pub mod Lists

@@ -1,0 +1,4 @@
+pub mod Dominance
+pub mod Best
+pub mod Bag
+pub mod BestFrom
