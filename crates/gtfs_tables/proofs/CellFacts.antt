@@ -1,12 +1,12 @@
 -- Facts on cells and columns.
-use Rattle.std.proofs.Common.{◌≡◌, ◌≢◌, ◌+◌, ◌-◌, ◌<◌, ◌≤◌, ◌==◌, ◌&&◌, ◌∷◌, ◌++◌, ◌∙◌, ℕ, zero, suc, List, [], length, take, drop, Option, Some, None, Bool, true, false, refl, sym, ap, arith, slice_index_or, unwrap_or}
+use Rattle.std.proofs.Common.{◌≡◌, ◌≢◌, ◌+◌, ◌-◌, ◌<◌, ◌≤◌, ◌==◌, ◌&&◌, ◌∷◌, ◌++◌, ◌∙◌, ℕ, zero, suc, List, [], length, take, drop, Option, Some, None, Bool, true, false, refl, sym, ap, arith, slice_index_or, unwrap_or, map, Bor}
 use Rattle.std.specs.List.{position_from}
 use Rattle.std.specs.Str.{IsCharBoundary, IsUtf8, bytes_eq}
 use Rattle.std.proofs.lemmas.Str.{IsCharBoundary-after_ascii, IsUtf8-drop, IsUtf8-nil, IsUtf8-take}
 use Rattle.std.proofs.lemmas.Bool.{eqb-true, ne_eqb, false≢true}
 use Rattle.csv.specs.Records.{AllText, field_at}
 use Rattle.gtfs_tables.specs.Source.{AllRecordsText, Record}
-use Rattle.gtfs_tables.specs.Cells.{cell, kept_len, trim_front, trim_spaces}
+use Rattle.gtfs_tables.specs.Cells.{cell, column, kept_len, places_of, trim_front, trim_spaces}
 
 -- a space at the end is not kept
 pub kept-space : (xs : List ℕ) → kept_len (xs ++ 32 ∷ []) ≡ kept_len xs
@@ -85,3 +85,8 @@ column-here name header i f e h = rw (e, h) refl
 pub column-later : (name : List ℕ) (header : Record) (i : ℕ) (f : List ℕ) → drop i header ≡ f ∷ drop (i + 1) header → bytes_eq name (trim_spaces f) ≡ false
     → position_from (λ field. bytes_eq name (trim_spaces field)) i (drop i header) ≡ position_from (λ field. bytes_eq name (trim_spaces field)) (i + 1) (drop (i + 1) header)
 column-later name header i f e h = rw (e, h) refl
+
+-- the columns of lent names
+pub places_names : (names : List (Bor (List ℕ))) (header : Record) → map (λ name. column name.now header) names ≡ places_of (map (λ name. name.now) names) header
+places_names [] header = refl
+places_names (n ∷ names) header = ap (λ places. column n.now header ∷ places) (places_names names header)

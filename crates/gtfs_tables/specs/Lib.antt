@@ -1,3 +1,4 @@
 pub mod Cells
+pub mod Faults
 pub mod Source
 pub mod Values

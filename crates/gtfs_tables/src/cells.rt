@@ -1,9 +1,9 @@
 // The columns of a table and what a record has in them.
 
-ghost use Rattle.std.specs.Prelude.{◌≡◌, map, IfOk, IsUtf8};
+ghost use Rattle.std.specs.Prelude.{◌≡◌, ◌≤◌, length, map, IfOk, IsUtf8, true, false};
 ghost use Rattle.std.specs.String.{string_bytes};
 ghost use Rattle.csv.specs.Records.{AllText, fields_of};
-ghost use Rattle.gtfs_tables.specs.Cells.{cell as cell_of, column as column_of, trim_front, trim_spaces};
+ghost use Rattle.gtfs_tables.specs.Cells.{cell as cell_of, column as column_of, has_required as are_there, places_of, trim_front, trim_spaces};
 
 use csv::ByteRecord;
 use std::alloc::{AllocError, Global};
@@ -58,13 +58,32 @@ fn column(header: &ByteRecord, name: &[u8]) -> Option<usize>
 
 // Where the header has each column.
 pub(crate) fn places(alloc: Global, header: &ByteRecord, names: &[&str]) -> Result<Vec<Option<usize>>, AllocError>
-    ensures { IfOk result (λ v. v.items ≡ map (λ name. column_of name.now (fields_of header.now)) names.now) }
+    ensures { IfOk result (λ v. v.items ≡ places_of (map (λ name. name.now) names.now) (fields_of header.now)) }
 {
     let mut places = Vec::with_capacity(alloc, names.len())?;
     for name in names {
         places.push(column(header, name.as_bytes()))?;
     }
     Ok(places)
+}
+
+// Whether the required columns, which are the first ones, are all there.
+pub(crate) fn has_required(places: &[Option<usize>], required: usize) -> bool
+    requires { required ≤ length places.now }
+    ensures { result ≡ are_there required places.now }
+{
+    places[..required].iter().all(|place| place.is_some())
+}
+
+// Whether the bytes are UTF-8.
+pub(crate) fn is_text(bytes: &[u8]) -> bool
+    ensures yes { result ≡ true → IsUtf8 bytes.now }
+    ensures no { result ≡ false → ¬ (IsUtf8 bytes.now) }
+{
+    match str::from_utf8(bytes) {
+        Ok(_) => true,
+        Err(_) => false,
+    }
 }
 
 // A text that is known to be UTF-8.

@@ -1,5 +1,7 @@
 // What can be wrong with a feed.
 
+ghost use Rattle.std.specs.Prelude.{◌≡◌};
+
 use thiserror::Error;
 
 /// The files of a feed that are read, in the order of reading.
@@ -69,4 +71,27 @@ pub struct TableFault {
     pub table: Table,
     pub row: u64,
     pub kind: FaultKind,
+}
+
+impl Table {
+    // The fault of a record of this table.
+    pub(crate) fn fault(self, row: u64, kind: FaultKind) -> TableFault
+        ensures table { result.table ≡ self }
+        ensures row { result.row ≡ row }
+        ensures kind { result.kind ≡ kind }
+    {
+        TableFault {
+            table: self,
+            row,
+            kind,
+        }
+    }
+
+    // The want of memory at this table.
+    pub(crate) fn out_of_memory(self) -> TableFault
+        ensures table { result.table ≡ self }
+        ensures kind { result.kind ≡ FaultKind.OutOfMemory }
+    {
+        self.fault(0, FaultKind::OutOfMemory)
+    }
 }

@@ -5,6 +5,9 @@
 
 mod cells;
 pub mod fault;
+mod ids;
+mod keyed;
+mod reader;
 pub mod rows;
 mod source;
 pub mod values;

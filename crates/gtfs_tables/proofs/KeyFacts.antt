@@ -1,0 +1,53 @@
+-- Keys, and one record more.
+use Rattle.std.proofs.Common.{◌≡◌, ◌∷◌, ◌++◌, ◌∙◌, ℕ, List, [], map, Option, Some, None, Bool, true, false, refl, sym, ap, append_assoc, String, Global, string_bytes, option_map}
+use Rattle.std.specs.List.{AllZip, list_any}
+use Rattle.std.specs.Option.{option_to_list}
+use Rattle.std.specs.Str.{bytes_eq}
+use Rattle.gtfs_tables.specs.Source.{Record}
+use Rattle.gtfs_tables.specs.Faults.{KeysOf, fault_if, is_among, keys_of, or_fault, values_then_key}
+use Rattle.gtfs_tables.specs.declared.fault.FaultKind.{FaultKind}
+use Rattle.gtfs_tables.specs.declared.fault.FaultKind.TheVariants as kinds
+
+pub any-map : {A B : Type 0} (p : B → Bool) (f : A → B) (xs : List A) → list_any p (map f xs) ≡ list_any (λ x. p (f x)) xs
+any-map p f [] = refl
+any-map p f (x ∷ xs) = rw (any-map p f xs) refl
+
+pub keys_more : (key : Record → Option (List ℕ)) (before : List Record) (r : Record) → keys_of key (before ++ r ∷ []) ≡ keys_of key before ++ option_to_list (key r)
+keys_more key [] r = by (key r)
+  where
+    by : (o : Option (List ℕ)) → option_to_list o ++ [] ≡ option_to_list o
+    by None = refl
+    by (Some x) = refl
+keys_more key (b ∷ bs) r = rw (keys_more key bs r) (sym (append_assoc (option_to_list (key b)) (keys_of key bs) (option_to_list (key r))))
+
+-- a record without a fault
+pub no_fault : (values : Record → Option FaultKind) (key : Record → Option (List ℕ)) (before : List Record) (r : Record) (keys : List (String Global)) (k : Option (String Global))
+    → values r ≡ None → KeysOf key before keys → option_map string_bytes k ≡ key r → is_among (option_map string_bytes k) (map string_bytes keys) ≡ false
+    → values_then_key values key before r ≡ None
+no_fault values key before r keys k good same is new =
+    let e : is_among (key r) (keys_of key before) ≡ false = rw (is, same) at new in
+    rw (good, e) refl
+
+pub twice : (values : Record → Option FaultKind) (key : Record → Option (List ℕ)) (before : List Record) (r : Record) (keys : List (String Global)) (k : Option (String Global))
+    → values r ≡ None → KeysOf key before keys → option_map string_bytes k ≡ key r → is_among (option_map string_bytes k) (map string_bytes keys) ≡ true
+    → values_then_key values key before r ≡ Some kinds.IdTwice
+twice values key before r keys k good same is old =
+    let e : is_among (key r) (keys_of key before) ≡ true = rw (is, same) at old in
+    rw (good, e) refl
+
+pub bad_value : (values : Record → Option FaultKind) (key : Record → Option (List ℕ)) (before : List Record) (r : Record) (kind : FaultKind)
+    → values r ≡ Some kind → values_then_key values key before r ≡ Some kind
+bad_value values key before r kind e = rw e refl
+
+pub keys_hold : (key : Record → Option (List ℕ)) (before : List Record) (r : Record) (keys new : List (String Global)) (k : Option (String Global))
+    → KeysOf key before keys → option_map string_bytes k ≡ key r → map string_bytes new ≡ map string_bytes keys ++ option_to_list (option_map string_bytes k)
+    → KeysOf key (before ++ r ∷ []) new
+keys_hold key before r keys new k same is last =
+    last ∙ ap (λ (xs : List (List ℕ)). xs ++ option_to_list (option_map string_bytes k)) same
+    ∙ ap (λ (o : Option (List ℕ)). keys_of key before ++ option_to_list o) is ∙ sym (keys_more key before r)
+
+pub all_zip_more : {A B : Type 0} (R : A → B → Type 0) (xs : List A) (ys : List B) (x : A) (y : B) → AllZip R xs ys → R x y → AllZip R (xs ++ x ∷ []) (ys ++ y ∷ [])
+all_zip_more R [] [] x y a h = (h, tt)
+all_zip_more R [] (b ∷ ys) x y a h = absurd a
+all_zip_more R (b ∷ xs) [] x y a h = absurd a
+all_zip_more R (b ∷ xs) (d ∷ ys) x y a h = (a.0, all_zip_more R xs ys x y a.1 h)
