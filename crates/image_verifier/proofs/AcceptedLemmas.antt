@@ -7,13 +7,15 @@ use Rattle.std.proofs.lemmas.Bool.{or_parts, ltb-false, eqb-true}
 use Rattle.image_layout.specs.Places.{header_of, word_count, IsWhole}
 use Rattle.image_layout.specs.Fields.{trip_of, foot_index_of, name_index_of}
 use Rattle.image_layout.specs.Text.{padded_text_of}
+use Rattle.image_layout.specs.Shown.{name_of}
 use Rattle.image_layout.proofs.Feet.{IsFootIndex}
 use Rattle.image_layout.proofs.Whole.{IsWellFormed}
 use Rattle.image_verifier.specs.declared.fault.ImageFault.TheVariants.{BadMagic, BadLayout, BadLength, FootRange, BadNames}
 use Rattle.timetable.specs.First.{or_else, first_below}
 use Rattle.image_verifier.specs.ConnectionFaults.{own_fault, place_fault, connection_fault, connections_fault, last_of_trip}
-use Rattle.image_verifier.specs.FootFaults.{foot_fault, foot_end_fault, footpaths_fault, into_fault, closure_fault}
-use Rattle.image_verifier.specs.NameFaults.{name_count, name_of, is_bad_name_range, name_fault, names_end_fault, names_fault}
+use Rattle.image_verifier.specs.FootFaults.{foot_fault, foot_end_fault, footpaths_fault}
+use Rattle.image_verifier.specs.ClosureFaults.{into_fault, closure_fault}
+use Rattle.image_verifier.specs.NameFaults.{name_count, is_bad_name_range, name_fault, names_end_fault, names_fault}
 use Rattle.image_verifier.specs.FirstFault.{is_too_large, header_fault, section_fault, first_fault}
 use Rattle.timetable.proofs.FirstLemmas.{or_else_parts, no_fault, first_below-none}
 use Rattle.image_verifier.proofs.ConnectionLemmas.{IsSound-from}
@@ -84,6 +86,7 @@ IsFootIndex-from w good =
 -- name i is a range of bytes, and UTF-8
 pub record IsName (w : List ℕ) (i : ℕ) : Type 0 where
   pub rises : name_index_of w i ≤ name_index_of w (i + 1)
+  pub within : name_index_of w (i + 1) ≤ (header_of w).name_bytes
   pub utf8 : is_utf8 (name_of w i) ≡ true
 
 pub IsName-from : (w : List ℕ) (i : ℕ) → name_fault w i ≡ None → IsName w i
@@ -93,7 +96,7 @@ IsName-from w i e =
     let parts = or_parts (is_bad_name_range w i) _ f.0 in
     let outer = or_parts _ _ parts.0 in
     let inner = or_parts _ _ outer.0 in
-    record { rises = ltb-false _ _ inner.1; utf8 = not-false _ parts.1 }
+    record { rises = ltb-false _ _ inner.1; within = ltb-false _ _ outer.1; utf8 = not-false _ parts.1 }
 
 record IsNamesEnd (w : List ℕ) : Type 0 where
   start : name_index_of w 0 ≡ 0

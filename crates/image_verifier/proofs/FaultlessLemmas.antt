@@ -1,5 +1,5 @@
 -- Words of a legal timetable and names within the limits have no fault.
-use Rattle.std.proofs.Common.{◌≡◌, ℕ, zero, suc, ◌+◌, ◌-◌, ◌<◌, ◌≤◌, Bool, true, false, not, ◌&&◌, eqb, ltb, cond, List, Option, Some, None, refl, sym, ap, subst, ◌∙◌, arith}
+use Rattle.std.proofs.Common.{◌≡◌, ℕ, zero, suc, ◌+◌, ◌-◌, ◌<◌, ◌≤◌, Bool, true, false, not, ◌&&◌, eqb, ltb, cond, List, Option, Some, None, refl, sym, ap, subst, ◌∙◌, arith, inl, inr}
 use Rattle.std.specs.Prelude.{slice_get}
 use Rattle.std.proofs.lemmas.Bool.{or_from, and_from, and_right, le-ltb, le-leb, lt-leb, eq-eqb, eqb-true}
 use Rattle.timetable.specs.declared.network.Connection.{Connection}
@@ -12,12 +12,15 @@ use Rattle.image_layout.specs.Image.{HasImage}
 use Rattle.image_layout.proofs.Feet.{index_rises}
 use Rattle.image_layout.proofs.Whole.{IsWellFormed, connection_is}
 use Rattle.image_layout.proofs.Found.{connection_shown, footpath_is, IsStopOf, footpath_shown}
-use Rattle.image_verifier.specs.declared.fault.ImageFault.TheVariants.{StopRange, TripRange, TimeRange, HopWithoutDuration, BadFlags, Unsorted, TripBroken, FootRange, FootUnsorted, NoLoop, NotClosed}
+use Rattle.image_verifier.specs.declared.fault.ImageFault.TheVariants.{StopRange, TripRange, TimeRange, HopWithoutDuration, BadFlags, Unsorted, TripBroken, FootRange, FootUnsorted, NoLoop}
 use Rattle.timetable.specs.First.{any_between}
 use Rattle.image_verifier.specs.ConnectionFaults.{own_fault, place_fault, is_break, connection_fault, last_of_trip}
-use Rattle.image_verifier.specs.FootFaults.{is_bad_footpath, is_bad_index, is_fall, is_from, is_direct, has_direct, foot_fault, pair_fault, onward_fault, into_fault}
-use Rattle.timetable.proofs.FirstLemmas.{or_else-none, passes, first_between-all, any_between-all, any_between-found, last_below-some}
+use Rattle.image_verifier.specs.FootFaults.{is_bad_footpath, is_bad_index, is_fall, is_from, foot_fault, HasFootRange}
+use Rattle.image_verifier.specs.ClosureFaults.{secs_between, open_fault, way_fault, into_fault}
+use Rattle.timetable.proofs.FirstLemmas.{or_else-none, passes, first_below-all, any_between-all, any_between-found, last_below-some}
 use Rattle.image_verifier.proofs.ConnectionLemmas.{IsSound}
+use Rattle.image_verifier.proofs.FootLemmas.{HasFootRange-from}
+use Rattle.image_verifier.proofs.ClosureLemmas.{option_cases, secs_between-at, secs_between-some, open_fault-closed, open_fault-no_first, open_fault-no_second}
 
 -- the shown connection of a place
 shown_at : (w : List ℕ) (i : ℕ) → i < (header_of w).connections → At (connections_of w) i (connection_of w i)
@@ -115,18 +118,32 @@ foot_faultless w form can s lt =
     (passes _ (FootUnsorted s) _ rising
     (passes _ (NoLoop s) None (ap not found) refl))
 
+-- no going by way of a stop is shorter than the direct footpath
+open_faultless : (w : List ℕ) → IsWellFormed w → HasImage (timetable_of w) (names_of w) → ((s : ℕ) → s < (header_of w).stops → HasFootRange w s) → (a b c : ℕ) → b < (header_of w).stops → c < (header_of w).stops → open_fault w a b c ≡ None
+open_faultless w form can ranges a b c b_lt c_lt =
+    elim (option_cases (secs_between w a b)) [
+      | inl none ↦ open_fault-no_first w a b c none
+      | inr first ↦ elim (option_cases (secs_between w b c)) [
+        | inl none ↦ open_fault-no_second w a b c none
+        | inr second ↦
+            let direct = can.legal.closed a b c first.0 second.0 (has_footpath a b first.0 b_lt first.1) (has_footpath b c second.0 c_lt second.1) in
+            let place = place_of w form a c direct.0 direct.1 in
+            let there : secs_between w a c ≡ Some (foot_secs_of w direct.1.0) = secs_between-at w a c direct.1.0 (ranges c c_lt) place.0.start place.0.end place.1 in
+            open_fault-closed w a b c first.0 second.0 (foot_secs_of w direct.1.0) first.1 second.1 there (omega (arith, place.2, direct.2))
+      ]
+    ]
+  where
+    has_footpath : (x y secs : ℕ) → y < (header_of w).stops → secs_between w x y ≡ Some secs → HasFootpath (footpaths_of w) x y secs
+    has_footpath x y secs lt e =
+        let k = secs_between-some w x y secs e in
+        let is : footpath_of w y k.0 ≡ record { from = x; to = y; secs = secs } =
+        ap (λ (z : ℕ). record { from = z; to = y; secs = foot_secs_of w k.0 }) k.1.from ∙ ap (λ (z : ℕ). record { from = x; to = y; secs = z }) k.1.secs in
+        (k.0, walk_at w form y k.0 lt k.1.low k.1.high ∙ ap Some is)
+
 pub into_faultless : (w : List ℕ) → IsWellFormed w → HasImage (timetable_of w) (names_of w) → (c : ℕ) → c < (header_of w).stops → into_fault w c ≡ None
-unfolding into_fault onward_fault
-into_faultless w form can c lt =
-    first_between-all (onward_fault w c) (foot_index_of w c) (foot_index_of w (c + 1)) (λ j low high.
-    let second = walk_at w form c j lt low high in
-    let middle = foot_from_of w j in
-    let in_range : middle < (header_of w).stops = (can.legal.ends_in_range j (footpath_of w c j) second).0 in
-    first_between-all (pair_fault w c j) (foot_index_of w middle) (foot_index_of w (middle + 1)) (λ i ilow ihigh.
-    let first = walk_at w form middle i in_range ilow ihigh in
-    let direct = can.legal.closed (foot_from_of w i) middle c (foot_secs_of w i) (foot_secs_of w j) (i, first) (j, second) in
-    let place = place_of w form (foot_from_of w i) c direct.0 direct.1 in
-    let yes : has_direct w (foot_from_of w i) c (foot_secs_of w i + foot_secs_of w j) ≡ true =
-    any_between-found (is_direct w (foot_from_of w i) (foot_secs_of w i + foot_secs_of w j)) (foot_index_of w c) (foot_index_of w (c + 1)) direct.1.0 place.0.start place.0.end
-    (and_from _ _ (eq-eqb _ _ place.1) (le-leb _ _ (omega (arith, place.2, direct.2)))) in
-    ap (λ (b : Bool). cond b None (Some (NotClosed (foot_from_of w i) (foot_from_of w j) c))) yes))
+unfolding into_fault way_fault
+into_faultless w form can c c_lt =
+    let stops = (header_of w).stops in
+    let ranges = λ (s : ℕ) (lt : s < stops). HasFootRange-from w s (foot_faultless w form can s lt) in
+    first_below-all (λ b. way_fault w b c) stops (λ b b_lt.
+    first_below-all (λ a. open_fault w a b c) stops (λ a a_lt. open_faultless w form can ranges a b c b_lt c_lt))

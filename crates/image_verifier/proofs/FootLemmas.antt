@@ -1,8 +1,8 @@
 -- What the footpaths into a stop keep where they have no fault.
-use Rattle.std.proofs.Common.{◌≡◌, ℕ, ◌+◌, ◌<◌, ◌≤◌, Bool, true, false, not, ◌||◌, List, None, refl}
+use Rattle.std.proofs.Common.{◌≡◌, ℕ, ◌+◌, ◌-◌, ◌<◌, ◌≤◌, Bool, true, false, not, ◌||◌, List, None, refl, ap, arith}
 use Rattle.std.proofs.lemmas.Bool.{or_parts, leb-false, ltb-false}
 use Rattle.image_layout.specs.Places.{header_of}
-use Rattle.image_layout.specs.Fields.{foot_index_of}
+use Rattle.image_layout.specs.Fields.{foot_index_of, foot_from_of}
 use Rattle.image_verifier.specs.declared.fault.ImageFault.TheVariants.{FootRange, FootUnsorted, NoLoop}
 use Rattle.timetable.specs.First.{first_below, any_between}
 use Rattle.image_verifier.specs.FootFaults.{is_bad_footpath, is_fall, is_from, is_bad_index, foot_fault, foot_end_fault, footpaths_fault, HasFootRange, HasFootRanges}
@@ -38,6 +38,11 @@ HasFootRange-from w s e =
       rises = ltb-false _ _ inner.1;
       within = ltb-false _ _ outer.1;
       from = λ k le lt. leb-false _ _ (or_parts _ _ (good k le lt)).0;
+      rising = λ k le lt. (
+          let up : is_fall w (k + 1) ≡ false = any_between-none (is_fall w) (foot_index_of w s + 1) (foot_index_of w (s + 1)) (k + 1) (omega arith) lt tests.rising in
+          let back : (k + 1) - 1 ≡ k = omega arith in
+          let more = leb-false _ _ up in
+          omega (arith, more, ap (λ (x : ℕ). foot_from_of w x) back));
       secs = λ k le lt. ltb-false _ _ (or_parts _ _ (good k le lt)).1;
     }
 

@@ -13,10 +13,12 @@ use Rattle.image_layout.proofs.Found.{connection_shown, footpath_is, footpath_sh
 use Rattle.image_verifier.specs.declared.fault.ImageFault.{ImageFault}
 use Rattle.image_verifier.specs.declared.fault.ImageFault.TheVariants.{NotClosed, Unsorted, TripBroken}
 use Rattle.image_verifier.specs.ConnectionFaults.{is_break, last_of_trip}
-use Rattle.image_verifier.specs.FootFaults.{is_fall, is_from, is_direct, has_direct, pair_fault, onward_fault, into_fault}
-use Rattle.timetable.proofs.FirstLemmas.{no_fault, first_between-none, any_between-none, any_between-some, last_below-is}
+use Rattle.image_verifier.specs.FootFaults.{is_fall, is_from}
+use Rattle.image_verifier.specs.ClosureFaults.{secs_between, open_fault, way_fault, into_fault}
+use Rattle.timetable.proofs.FirstLemmas.{no_fault, first_below-none, any_between-none, any_between-some, last_below-is}
 use Rattle.image_verifier.proofs.ConnectionLemmas.{IsSound, IsSound-from}
 use Rattle.image_verifier.proofs.FootLemmas.{AreFootTests-from, HasFootRange-from}
+use Rattle.image_verifier.proofs.ClosureLemmas.{secs_between-at, secs_between-some, open_fault-none}
 use Rattle.image_verifier.proofs.AcceptedLemmas.{not-false, AreFaultless, IsFootIndex-from, own-none}
 
 pub sound_at : (w : List ℕ) → AreFaultless w → (i : ℕ) → i < (header_of w).connections → IsSound w i
@@ -98,43 +100,31 @@ has_loop w whole good s lt =
     let e : footpath_of w s k.0 ≡ record { from = s; to = s; secs = foot_secs_of w k.0 } = ap (λ (x : ℕ). record { from = x; to = s; secs = foot_secs_of w k.0 }) from in
     (foot_secs_of w k.0, (k.0, footpath_is w s k.0 whole feet lt k.1 k.2 ∙ ap Some e))
 
--- a direct footpath for the one at place i into where j begins, and then j into c
-direct_for : (w : List ℕ) → AreFaultless w → (c j i : ℕ) → c < (header_of w).stops → foot_index_of w c ≤ j → j < foot_index_of w (c + 1) → foot_index_of w (foot_from_of w j) ≤ i → i < foot_index_of w (foot_from_of w j + 1)
-    → has_direct w (foot_from_of w i) c (foot_secs_of w i + foot_secs_of w j) ≡ true
-unfolding into_fault onward_fault
-direct_for w good c j i lt jl jh il ih =
-    let a = first_between-none (onward_fault w c) (foot_index_of w c) (foot_index_of w (c + 1)) j jl jh (good.closure c lt) in
-    let b = first_between-none (pair_fault w c j) (foot_index_of w (foot_from_of w j)) (foot_index_of w (foot_from_of w j + 1)) i il ih a in
-    some_fault (has_direct w (foot_from_of w i) c (foot_secs_of w i + foot_secs_of w j)) (NotClosed (foot_from_of w i) (foot_from_of w j) c) b
-  where
-    some_fault : (b : Bool) (f : ImageFault) → cond b None (Some f) ≡ None → b ≡ true
-    some_fault true f e = refl
-    some_fault false f e = absurd cc
+-- the footpath of a pair of stops tells the seconds between them
+secs_of : (w : List ℕ) → IsWhole w → AreFaultless w → (a c secs : ℕ) → HasFootpath (footpaths_of w) a c secs → (c < (header_of w).stops) × (secs_between w a c ≡ Some secs)
+secs_of w whole good a c secs has =
+    let s = footpath_shown w has.0 (record { from = a; to = c; secs = secs }) whole (IsFootIndex-from w good) has.1 in
+    let to : s.0 ≡ c = sym (ap (λ (x : Footpath). x.to) s.2) in
+    let from : foot_from_of w has.0 ≡ a = sym (ap (λ (x : Footpath). x.from) s.2) in
+    let at = secs_between-at w a s.0 has.0 (HasFootRange-from w s.0 (good.feet s.0 s.1.stop)) s.1.start s.1.end from in
+    (omega (arith, to, s.1.stop), ap (λ (x : ℕ). secs_between w a x) (sym to) ∙ at ∙ ap Some (sym (ap (λ (x : Footpath). x.secs) s.2)))
 
 is_closed : (w : List ℕ) → IsWhole w → AreFaultless w → (a b c d1 d2 : ℕ) → HasFootpath (footpaths_of w) a b d1 → HasFootpath (footpaths_of w) b c d2 → (d : ℕ) × HasFootpath (footpaths_of w) a c d × (d ≤ d1 + d2)
+unfolding into_fault way_fault
 is_closed w whole good a b c d1 d2 first second =
-    let feet = IsFootIndex-from w good in
-    let i = first.0 in
-    let j = second.0 in
-    let one = footpath_shown w i (record { from = a; to = b; secs = d1 }) whole feet first.1 in
-    let two = footpath_shown w j (record { from = b; to = c; secs = d2 }) whole feet second.1 in
-    let ea : a ≡ foot_from_of w i = ap (λ (x : Footpath). x.from) one.2 in
-    let eb : b ≡ one.0 = ap (λ (x : Footpath). x.to) one.2 in
-    let e1 : d1 ≡ foot_secs_of w i = ap (λ (x : Footpath). x.secs) one.2 in
-    let em : b ≡ foot_from_of w j = ap (λ (x : Footpath). x.from) two.2 in
-    let ec : c ≡ two.0 = ap (λ (x : Footpath). x.to) two.2 in
-    let e2 : d2 ≡ foot_secs_of w j = ap (λ (x : Footpath). x.secs) two.2 in
-    let middle : one.0 ≡ foot_from_of w j = sym eb ∙ em in
-    let il : foot_index_of w (foot_from_of w j) ≤ i = subst (λ (x : ℕ). foot_index_of w x ≤ i) middle one.1.start in
-    let ih : i < foot_index_of w (foot_from_of w j + 1) = subst (λ (x : ℕ). i < foot_index_of w (x + 1)) middle one.1.end in
-    let yes = direct_for w good two.0 j i two.1.stop two.1.start two.1.end il ih in
-    let k = any_between-some (is_direct w (foot_from_of w i) (foot_secs_of w i + foot_secs_of w j)) (foot_index_of w two.0) (foot_index_of w (two.0 + 1)) yes in
-    let parts = and_parts _ _ k.3 in
-    let from : foot_from_of w k.0 ≡ a = eqb-true _ _ parts.0 ∙ sym ea in
-    let short : foot_secs_of w k.0 ≤ foot_secs_of w i + foot_secs_of w j = leb-true _ _ parts.1 in
-    let e : footpath_of w two.0 k.0 ≡ record { from = a; to = c; secs = foot_secs_of w k.0 } =
-    ap (λ (x : ℕ). record { from = x; to = two.0; secs = foot_secs_of w k.0 }) from ∙ ap (λ (x : ℕ). record { from = a; to = x; secs = foot_secs_of w k.0 }) (sym ec) in
-    (foot_secs_of w k.0, (k.0, footpath_is w two.0 k.0 whole feet two.1.stop k.1 k.2 ∙ ap Some e), omega (arith, short, e1, e2))
+    let stops = (header_of w).stops in
+    let one = secs_of w whole good a b d1 first in
+    let two = secs_of w whole good b c d2 second in
+    let start = secs_between-some w a b d1 one.1 in
+    let range = HasFootRange-from w b (good.feet b one.0) in
+    let a_lt : a < stops = omega (arith, range.from start.0 start.1.low start.1.high, start.1.from) in
+    let by_middle = first_below-none (λ m. way_fault w m c) stops b one.0 (good.closure c two.0) in
+    let none = first_below-none (λ x. open_fault w x b c) stops a a_lt by_middle in
+    let direct = open_fault-none w a b c d1 d2 one.1 two.1 none in
+    let k = secs_between-some w a c direct.0 direct.1 in
+    let e : footpath_of w c k.0 ≡ record { from = a; to = c; secs = direct.0 } =
+    ap (λ (x : ℕ). record { from = x; to = c; secs = foot_secs_of w k.0 }) k.1.from ∙ ap (λ (x : ℕ). record { from = a; to = c; secs = x }) k.1.secs in
+    (direct.0, (k.0, footpath_is w c k.0 whole (IsFootIndex-from w good) two.0 k.1.low k.1.high ∙ ap Some e), direct.2)
 
 pub IsLegal-from : (w : List ℕ) → IsWhole w → AreFaultless w → IsLegal (timetable_of w)
 IsLegal-from w whole good =

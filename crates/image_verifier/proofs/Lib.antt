@@ -1,9 +1,11 @@
 pub mod ConnectionLemmas
 pub mod NameLemmas
 pub mod FootLemmas
+pub mod ClosureLemmas
 pub mod AcceptedLemmas
 pub mod LegalLemmas
 pub mod ImageLemmas
 pub mod FaultlessLemmas
 pub mod OnlyLemmas
 pub mod ShownLemmas
+pub mod NameReads

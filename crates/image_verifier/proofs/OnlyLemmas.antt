@@ -22,7 +22,8 @@ use Rattle.image_layout.proofs.BackNames.{names_back, well_formed_back}
 use Rattle.image_verifier.specs.declared.fault.ImageFault.TheVariants.{BadMagic, BadLayout, BadLength, FootRange, BadNames}
 use Rattle.timetable.specs.First.{or_else, first_below}
 use Rattle.image_verifier.specs.ConnectionFaults.{connection_fault, connections_fault}
-use Rattle.image_verifier.specs.FootFaults.{foot_fault, foot_end_fault, footpaths_fault, into_fault, closure_fault}
+use Rattle.image_verifier.specs.FootFaults.{foot_fault, foot_end_fault, footpaths_fault}
+use Rattle.image_verifier.specs.ClosureFaults.{into_fault, closure_fault}
 use Rattle.image_verifier.specs.NameFaults.{is_bad_name_range, name_fault, names_end_fault, names_fault}
 use Rattle.image_verifier.specs.FirstFault.{is_too_large, header_fault, section_fault, first_fault}
 use Rattle.timetable.proofs.FirstLemmas.{or_else-none, passes, first_below-all}

@@ -8,7 +8,8 @@ use Rattle.timetable.specs.declared.limits.TheConstants.{MAX_STOPS, MAX_TRIPS, M
 use Rattle.image_layout.specs.declared.layout.TheConstants.{MAGIC, LAYOUT, HEADER_WORDS}
 use Rattle.timetable.specs.First.{or_else}
 use Rattle.image_verifier.specs.ConnectionFaults.{connections_fault}
-use Rattle.image_verifier.specs.FootFaults.{footpaths_fault, closure_fault}
+use Rattle.image_verifier.specs.FootFaults.{footpaths_fault}
+use Rattle.image_verifier.specs.ClosureFaults.{closure_fault}
 use Rattle.image_verifier.specs.NameFaults.{names_fault}
 
 -- a count is past its limit

@@ -4,8 +4,8 @@ use Rattle.timetable.specs.declared.limits.TheConstants.{MAX_WALK_SECS}
 use Rattle.image_layout.specs.Places.{header_of}
 use Rattle.image_layout.specs.Fields.{foot_index_of, foot_from_of, foot_secs_of}
 use Rattle.image_verifier.specs.declared.fault.ImageFault.{ImageFault}
-use Rattle.image_verifier.specs.declared.fault.ImageFault.TheVariants.{FootRange, FootUnsorted, NoLoop, NotClosed}
-use Rattle.timetable.specs.First.{or_else, first_below, first_between, any_between}
+use Rattle.image_verifier.specs.declared.fault.ImageFault.TheVariants.{FootRange, FootUnsorted, NoLoop}
+use Rattle.timetable.specs.First.{or_else, first_below, any_between}
 
 -- the footpath at place k leaves no stop of the image, or takes too long
 abbrev pub is_bad_footpath : List ℕ → ℕ → Bool
@@ -42,37 +42,12 @@ foot_end_fault w =
 abbrev pub footpaths_fault : List ℕ → Option ImageFault
 footpaths_fault w = or_else (first_below (foot_fault w) (header_of w).stops) (foot_end_fault w)
 
--- the footpath at place k leaves stop a, and takes at most so many seconds
-abbrev pub is_direct : List ℕ → ℕ → ℕ → ℕ → Bool
-is_direct w a most k = foot_from_of w k == a && nat_le (foot_secs_of w k) most
-
--- some footpath from a into c takes at most so many seconds
-abbrev pub has_direct : List ℕ → ℕ → ℕ → ℕ → Bool
-has_direct w a c most = any_between (is_direct w a most) (foot_index_of w c) (foot_index_of w (c + 1))
-
--- the footpath at place i, and then the one at place j into c, are shorter than each direct one
-abbrev pub pair_fault : List ℕ → ℕ → ℕ → ℕ → Option ImageFault
-pair_fault w c j i =
-    if has_direct w (foot_from_of w i) c (foot_secs_of w i + foot_secs_of w j) then None
-    else Some (NotClosed (foot_from_of w i) (foot_from_of w j) c)
-
--- the first fault of the footpaths into where footpath j begins
-unfoldable pub onward_fault : List ℕ → ℕ → ℕ → Option ImageFault
-onward_fault w c j = first_between (pair_fault w c j) (foot_index_of w (foot_from_of w j)) (foot_index_of w (foot_from_of w j + 1))
-
--- the first fault of the footpaths into stop c
-unfoldable pub into_fault : List ℕ → ℕ → Option ImageFault
-into_fault w c = first_between (onward_fault w c) (foot_index_of w c) (foot_index_of w (c + 1))
-
--- the first two footpaths end to end that no direct one replaces: by the last stop, the middle one, the first one
-abbrev pub closure_fault : List ℕ → Option ImageFault
-closure_fault w = first_below (into_fault w) (header_of w).stops
-
 -- the places of the footpaths into stop s, without fault
 pub record HasFootRange (w : List ℕ) (s : ℕ) : Type 0 where
   pub rises : foot_index_of w s ≤ foot_index_of w (s + 1)
   pub within : foot_index_of w (s + 1) ≤ (header_of w).footpaths
   pub from : (k : ℕ) → foot_index_of w s ≤ k → k < foot_index_of w (s + 1) → foot_from_of w k < (header_of w).stops
+  pub rising : (k : ℕ) → foot_index_of w s ≤ k → k + 1 < foot_index_of w (s + 1) → foot_from_of w k < foot_from_of w (k + 1)
   pub secs : (k : ℕ) → foot_index_of w s ≤ k → k < foot_index_of w (s + 1) → foot_secs_of w k ≤ MAX_WALK_SECS
 
 abbrev pub HasFootRanges : List ℕ → Type 0

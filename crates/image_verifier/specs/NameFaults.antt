@@ -1,10 +1,11 @@
 -- What can be wrong with the names, in the order in which it is told.
-use Rattle.std.specs.Prelude.{ℕ, ◌+◌, Bool, not, ◌||◌, ◌&&◌, ◌==◌, nat_lt, List, drop, slice_range, Option, Some, None, if◌then◌else◌}
+use Rattle.std.specs.Prelude.{ℕ, ◌+◌, Bool, not, ◌||◌, ◌&&◌, ◌==◌, nat_lt, List, drop, Option, Some, None, if◌then◌else◌}
 use Rattle.std.specs.List.{list_all}
 use Rattle.std.specs.Str.{is_utf8}
 use Rattle.image_layout.specs.Places.{header_of}
 use Rattle.image_layout.specs.Fields.{name_index_of}
 use Rattle.image_layout.specs.Text.{padded_text_of}
+use Rattle.image_layout.specs.Shown.{name_of}
 use Rattle.image_verifier.specs.declared.fault.ImageFault.{ImageFault}
 use Rattle.image_verifier.specs.declared.fault.ImageFault.TheVariants.{BadNames}
 use Rattle.timetable.specs.First.{or_else, first_below}
@@ -12,10 +13,6 @@ use Rattle.timetable.specs.First.{or_else, first_below}
 -- how many names there are
 abbrev pub name_count : List ℕ → ℕ
 name_count w = (header_of w).stops + (header_of w).trips
-
--- the bytes of name i
-abbrev pub name_of : List ℕ → ℕ → List ℕ
-name_of w i = slice_range (padded_text_of w) (name_index_of w i) (name_index_of w (i + 1))
 
 -- the bytes of name i are no range of bytes
 abbrev pub is_bad_name_range : List ℕ → ℕ → Bool

@@ -1,72 +1,91 @@
 //! Judges whether two footpaths end to end are ever shorter than the direct one.
+//!
+//! For each footpath from b into c the footpaths into b and those into c are gone through side by side, both by the stop
+//! that they leave. So the whole takes time in the sum, over all footpaths from b into c, of the number of footpaths into b and
+//! the number into c, and no memory.
 
-ghost use Rattle.std.specs.Prelude.{◌≡◌, ◌<◌, ◌≤◌, ◌+◌};
+ghost use Rattle.std.specs.Prelude.{◌≡◌, ◌<◌, ◌≤◌, ◌+◌, ℕ};
 ghost use Rattle.image_layout.specs.Places.{IsWhole, header_of};
-ghost use Rattle.image_layout.specs.Fields.{foot_from_of, foot_index_of, foot_secs_of};
-ghost use Rattle.image_verifier.specs.FootFaults.{is_direct, has_direct, pair_fault, onward_fault, into_fault, closure_fault, HasFootRanges, IsInto};
+ghost use Rattle.image_layout.specs.Fields.{foot_from_of, foot_index_of};
+ghost use Rattle.image_verifier.specs.FootFaults.{HasFootRanges, IsInto};
+ghost use Rattle.image_verifier.specs.ClosureFaults.{open_fault, way_fault, into_fault, closure_fault, is_direct, IsFirstFrom};
 
 use crate::fault::ImageFault;
 use image_layout::{Header, foot_from_at, foot_index_at, foot_secs_at};
 
-fn is_direct(words: &[u32], from: u32, most: u32, place: usize) -> bool
-    requires whole { IsWhole words.now }
-    requires within { place < (header_of words.now).footpaths }
-    ensures { result ≡ is_direct words.now from most place }
-{
-    foot_from_at(words, place) == from && foot_secs_at(words, place) <= most
-}
-
-#[tactic(auto, using(timetable::proofs::FirstLemmas::searches), unfolding(crate::specs::FootFaults::has_direct))]
-fn has_direct(words: &[u32], from: u32, into: usize, most: u32) -> bool
+/// The first place, of those into a stop and from a place on, whose footpath leaves `from` or a stop above it.
+fn first_from(words: &[u32], from: u32, into: usize, place: usize) -> usize
     requires whole { IsWhole words.now }
     requires ranges { HasFootRanges words.now }
     requires into { into < (header_of words.now).stops }
-    ensures { result ≡ has_direct words.now from into most }
+    requires start { foot_index_of words.now into ≤ place }
+    requires end { place ≤ foot_index_of words.now (into + 1) }
+    requires before { (k : ℕ) → foot_index_of words.now into ≤ k → k < place → foot_from_of words.now k < from }
+    ensures { IsFirstFrom words.now from into result }
 {
-    for k in foot_index_at(words, into) as usize..foot_index_at(words, into + 1) as usize {
-        if is_direct(words, from, most, k) {
-            return true;
+    let end = foot_index_at(words, into + 1) as usize;
+    for k in place..end {
+        if foot_from_at(words, k) >= from {
+            return k;
         }
     }
-    false
+    end
 }
 
-fn pair_fault(words: &[u32], into: usize, second: usize, first: usize) -> Option<ImageFault>
+fn is_direct(words: &[u32], from: u32, into: usize, most: u32, place: usize) -> bool
+    requires whole { IsWhole words.now }
+    requires ranges { HasFootRanges words.now }
+    requires into { into < (header_of words.now).stops }
+    ensures { result ≡ is_direct words.now from into most place }
+{
+    place < foot_index_at(words, into + 1) as usize
+        && foot_from_at(words, place) == from
+        && foot_secs_at(words, place) <= most
+}
+
+/// The fault of a first footpath and a second one, which leads into a stop, where a direct one can stand at one place alone.
+fn pair_fault(
+    words: &[u32],
+    first: usize,
+    second: usize,
+    into: usize,
+    direct: usize,
+) -> Option<ImageFault>
     requires whole { IsWhole words.now }
     requires ranges { HasFootRanges words.now }
     requires second { IsInto words.now into second }
     requires first { IsInto words.now (foot_from_of words.now second) first }
-    ensures { result ≡ pair_fault words.now into second first }
+    requires direct { IsFirstFrom words.now (foot_from_of words.now first) into direct }
+    ensures { result ≡ open_fault words.now (foot_from_of words.now first) (foot_from_of words.now second) into }
 {
     let from = foot_from_at(words, first);
-    if has_direct(
-        words,
-        from,
-        into,
-        foot_secs_at(words, first) + foot_secs_at(words, second),
-    ) {
+    let most = foot_secs_at(words, first) + foot_secs_at(words, second);
+    if is_direct(words, from, into, most, direct) {
         return None;
     }
     Some(ImageFault::NotClosed(from as usize, foot_from_at(words, second) as usize, into))
 }
 
-#[tactic(auto, using(timetable::proofs::FirstLemmas::searches), unfolding(crate::specs::FootFaults::onward_fault))]
-fn onward_fault(words: &[u32], into: usize, second: usize) -> Option<ImageFault>
+/// The first fault from any stop by way of where a second footpath begins.
+fn way_fault(words: &[u32], into: usize, second: usize) -> Option<ImageFault>
     requires whole { IsWhole words.now }
     requires ranges { HasFootRanges words.now }
     requires second { IsInto words.now into second }
-    ensures { result ≡ onward_fault words.now into second }
+    ensures { result ≡ way_fault words.now (foot_from_of words.now second) into }
 {
     let middle = foot_from_at(words, second) as usize;
+    let mut direct = foot_index_at(words, into) as usize;
     for first in foot_index_at(words, middle) as usize..foot_index_at(words, middle + 1) as usize {
-        if let Some(fault) = pair_fault(words, into, second, first) {
+        direct = first_from(words, foot_from_at(words, first), into, direct);
+        if let Some(fault) = pair_fault(words, first, second, into, direct) {
             return Some(fault);
         }
     }
     None
 }
 
-#[tactic(auto, using(timetable::proofs::FirstLemmas::searches), unfolding(crate::specs::FootFaults::into_fault))]
+/// The first fault from any stop by way of any stop into a stop.
+#[tactic(auto, using(timetable::proofs::FirstLemmas::searches))]
 fn into_fault(words: &[u32], into: usize) -> Option<ImageFault>
     requires whole { IsWhole words.now }
     requires ranges { HasFootRanges words.now }
@@ -74,14 +93,14 @@ fn into_fault(words: &[u32], into: usize) -> Option<ImageFault>
     ensures { result ≡ into_fault words.now into }
 {
     for second in foot_index_at(words, into) as usize..foot_index_at(words, into + 1) as usize {
-        if let Some(fault) = onward_fault(words, into, second) {
+        if let Some(fault) = way_fault(words, into, second) {
             return Some(fault);
         }
     }
     None
 }
 
-/// The first two footpaths end to end that are shorter than each direct one.
+/// The first two footpaths end to end that are shorter than the direct one.
 #[tactic(auto, using(timetable::proofs::FirstLemmas::searches))]
 pub fn closure_fault(words: &[u32]) -> Option<ImageFault>
     requires whole { IsWhole words.now }

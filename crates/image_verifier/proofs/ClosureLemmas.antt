@@ -1,0 +1,287 @@
+-- The footpath from a stop into a stop by its place, and first faults by stops as first faults by places.
+use Rattle.std.proofs.Common.{◌≡◌, ◌≢◌, ℕ, zero, suc, ◌+◌, ◌-◌, ◌<◌, ◌≤◌, Bool, true, false, ◌&&◌, eqb, ltb, leb, cond, List, Option, Some, None, refl, sym, ap, subst, ◌∙◌, arith, inl, inr, ◌⊎◌}
+use Rattle.std.proofs.lemmas.Bool.{cases_Bool, cases_order, cases_lt, and_parts, ltb-true, leb-true, leb-false, eqb-true, eqb-false, eq-eqb, ne_eqb, le-ltb, lt-ltb}
+use Rattle.std.proofs.lemmas.Option.{same_Some}
+use Rattle.image_layout.specs.Places.{header_of}
+use Rattle.image_layout.specs.Fields.{foot_index_of, foot_from_of, foot_secs_of}
+use Rattle.image_verifier.specs.declared.fault.ImageFault.{ImageFault}
+use Rattle.image_verifier.specs.declared.fault.ImageFault.TheVariants.{NotClosed}
+use Rattle.timetable.specs.First.{first_below, first_between, any_between}
+use Rattle.image_verifier.specs.FootFaults.{HasFootRange, HasFootRanges, IsInto}
+use Rattle.image_verifier.specs.ClosureFaults.{secs_between, is_open, open_fault, way_fault, into_fault, is_direct, IsFirstFrom}
+use Rattle.timetable.proofs.FirstLemmas.{or_else-none, or_else-some, first_between-found, first_between-none, first_between-all, first_below-found, first_below-all, any_between-some, any_between-none}
+
+pub option_cases : {X : Type 0} (o : Option X) → (o ≡ None) ⊎ ((x : X) × (o ≡ Some x))
+option_cases None = inl refl
+option_cases (Some x) = inr (x, refl)
+
+-- at i, below n, f gives x, and it gives nothing before
+pub record IsFirstBelow {X : Type 0} (f : ℕ → Option X) (n i : ℕ) (x : X) : Type 0 where
+  pub below : i < n
+  pub none_before : first_below f i ≡ None
+  pub here : f i ≡ Some x
+
+first_below-some : {X : Type 0} (f : ℕ → Option X) (n : ℕ) (x : X) → first_below f n ≡ Some x → (i : ℕ) × IsFirstBelow f n i x
+unfolding first_below
+first_below-some f zero x e = absurd cc
+first_below-some f (suc n) x e =
+    elim (option_cases (first_below f n)) [
+      | inl none ↦ (n, record { below = omega arith; none_before = none; here = sym (or_else-none (first_below f n) (f n) none) ∙ e })
+      | inr some ↦
+          let same : some.0 ≡ x = same_Some some.0 x (sym (or_else-some (first_below f n) (f n) some.0 some.1) ∙ e) in
+          let h = first_below-some f n some.0 some.1 in
+          (h.0, record { below = omega (arith, h.1.below); none_before = h.1.none_before; here = h.1.here ∙ ap Some same })
+    ]
+
+-- at i, from a up to before b, f gives x, and it gives nothing before
+pub record IsFirstBetween {X : Type 0} (f : ℕ → Option X) (a b i : ℕ) (x : X) : Type 0 where
+  pub low : a ≤ i
+  pub high : i < b
+  pub none_before : first_between f a i ≡ None
+  pub here : f i ≡ Some x
+
+pub first_between-some : {X : Type 0} (f : ℕ → Option X) (a b : ℕ) (x : X) → first_between f a b ≡ Some x → (i : ℕ) × IsFirstBetween f a b i x
+unfolding first_between
+first_between-some f a b x e =
+    let h = first_below-some (λ k. f (a + k)) (b - a) x e in
+    let at : (a + h.0) - a ≡ h.0 = omega arith in
+    (a + h.0, record { low = omega arith; high = omega (arith, h.1.below); none_before = rw at h.1.none_before; here = h.1.here })
+
+-- numbers that rise with their place, from place low up to before place high, and stay below n
+pub record IsRising (at : ℕ → ℕ) (low high n : ℕ) : Type 0 where
+  pub rises : (j k : ℕ) → low ≤ j → j < k → k < high → at j < at k
+  pub below : (k : ℕ) → low ≤ k → k < high → at k < n
+
+-- f by places gives what g gives by numbers, and g gives nothing at other numbers
+pub record IsByPlace {X : Type 0} (at : ℕ → ℕ) (f g : ℕ → Option X) (low high n : ℕ) : Type 0 where
+  pub same : (k : ℕ) → low ≤ k → k < high → f k ≡ g (at k)
+  pub none_else : (a : ℕ) → a < n → ((k : ℕ) → low ≤ k → k < high → at k ≢ a) → g a ≡ None
+
+-- where f gives nothing from low up to before i, g gives nothing at a number that has no place from i on
+none_by_number : {X : Type 0} (at : ℕ → ℕ) (f g : ℕ → Option X) (low high n i a : ℕ) → IsByPlace at f g low high n → a < n → i ≤ high → first_between f low i ≡ None → ((k : ℕ) → i ≤ k → k < high → at k ≢ a) → g a ≡ None
+none_by_number at f g low high n i a by lt le none later =
+    elim (cases_Bool (any_between (λ k. eqb (at k) a) low high)) [
+      | inl a_place ↦
+          let place = any_between-some (λ k. eqb (at k) a) low high a_place in
+          let here : at place.0 ≡ a = eqb-true _ _ place.3 in
+          let early : place.0 < i = early_place place.0 place.2 here in
+          ap g (sym here) ∙ sym (by.same place.0 place.1 place.2) ∙ first_between-none f low i place.0 place.1 early none
+      | inr no_place ↦ by.none_else a lt (λ k kl kh. eqb-false _ _ (any_between-none (λ j. eqb (at j) a) low high k kl kh no_place))
+    ]
+  where
+    early_place : (k : ℕ) → k < high → at k ≡ a → k < i
+    early_place k kh here =
+        elim (cases_order k i) [
+          | inl same ↦ absurd (later k (omega (arith, same)) kh here)
+          | inr (inl below) ↦ below
+          | inr (inr above) ↦ absurd (later k (omega (arith, above)) kh here)
+        ]
+
+-- to search by rising numbers, place by place, is to search by all numbers
+pub first_by_place : {X : Type 0} (at : ℕ → ℕ) (f g : ℕ → Option X) (low high n : ℕ) → IsRising at low high n → IsByPlace at f g low high n → first_below g n ≡ first_between f low high
+first_by_place at f g low high n rising by =
+    elim (option_cases (first_between f low high)) [
+      | inl none ↦ first_below-all g n (λ a lt. none_by_number at f g low high n high a by lt (omega arith) none (λ k hl hh. absurd (omega arith))) ∙ sym none
+      | inr some ↦
+          let h = first_between-some f low high some.0 some.1 in
+          let i = h.0 in
+          let lt : at i < n = rising.below i h.1.low h.1.high in
+          let before : first_below g (at i) ≡ None =
+          first_below-all g (at i) (λ a below. none_by_number at f g low high n i a by (omega (arith, lt, below)) (omega (arith, h.1.high)) h.1.none_before (λ k kl kh same.
+          (elim (cases_order k i) [
+            | inl here ↦ omega (arith, ap at here, below, same)
+            | inr (inl early) ↦ omega (arith, early, kl)
+            | inr (inr late) ↦ omega (arith, rising.rises i k h.1.low late kh, below, same)
+          ]))) in
+          first_below-found g n (at i) some.0 lt before (sym (by.same i h.1.low h.1.high) ∙ h.1.here) ∙ sym some.1
+    ]
+
+-- the stops left rise along the footpaths into a stop
+pub rising_far : (w : List ℕ) (c : ℕ) → HasFootRange w c → (d j : ℕ) → foot_index_of w c ≤ j → j + suc d < foot_index_of w (c + 1) → foot_from_of w j < foot_from_of w (j + suc d)
+rising_far w c range zero j low high =
+    let e : j + 1 ≡ j + suc zero = omega arith in
+    subst (λ (k : ℕ). foot_from_of w j < foot_from_of w k) e (range.rising j low (omega arith))
+rising_far w c range (suc d) j low high =
+    let e : (j + suc d) + 1 ≡ j + suc (suc d) = omega arith in
+    let before = rising_far w c range d j low (omega arith) in
+    let step = range.rising (j + suc d) (omega arith) (omega arith) in
+    subst (λ (k : ℕ). foot_from_of w j < foot_from_of w k) e (omega (arith, before, step))
+
+pub rises_later : (w : List ℕ) (c j k : ℕ) → HasFootRange w c → foot_index_of w c ≤ j → j < k → k < foot_index_of w (c + 1) → foot_from_of w j < foot_from_of w k
+rises_later w c j k range low lt high =
+    let e : j + suc (k - (j + 1)) ≡ k = omega arith in
+    subst (λ (x : ℕ). foot_from_of w j < foot_from_of w x) e (rising_far w c range (k - (j + 1)) j low (omega arith))
+
+pub IsRising-from : (w : List ℕ) (c : ℕ) → HasFootRange w c → IsRising (foot_from_of w) (foot_index_of w c) (foot_index_of w (c + 1)) (header_of w).stops
+IsRising-from w c range = record { rises = λ j k. rises_later w c j k range; below = range.from }
+
+secs_here : (w : List ℕ) (a k : ℕ) → foot_from_of w k ≡ a → cond (eqb (foot_from_of w k) a) (Some (foot_secs_of w k)) None ≡ Some (foot_secs_of w k)
+secs_here w a k e = rw (eq-eqb _ _ e) refl
+
+secs_elsewhere : (w : List ℕ) (a k : ℕ) → foot_from_of w k ≢ a → cond (eqb (foot_from_of w k) a) (Some (foot_secs_of w k)) None ≡ None
+secs_elsewhere w a k ne = rw (ne_eqb _ _ ne) refl
+
+-- the footpath at place k into stop c is the one from the stop that it leaves
+pub secs_between-at : (w : List ℕ) (a c k : ℕ) → HasFootRange w c → foot_index_of w c ≤ k → k < foot_index_of w (c + 1) → foot_from_of w k ≡ a → secs_between w a c ≡ Some (foot_secs_of w k)
+unfolding secs_between
+secs_between-at w a c k range low high here =
+    first_between-found _ (foot_index_of w c) (foot_index_of w (c + 1)) k (foot_secs_of w k) low high
+    (first_between-all _ (foot_index_of w c) k (λ j jl jh. secs_elsewhere w a j (λ e. omega (arith, rises_later w c j k range jl jh high, e, here))))
+    (secs_here w a k here)
+
+-- where none leaves a stop, there is no footpath from it
+pub secs_between-none : (w : List ℕ) (a c : ℕ) → ((k : ℕ) → foot_index_of w c ≤ k → k < foot_index_of w (c + 1) → foot_from_of w k ≢ a) → secs_between w a c ≡ None
+unfolding secs_between
+secs_between-none w a c none = first_between-all _ (foot_index_of w c) (foot_index_of w (c + 1)) (λ k low high. secs_elsewhere w a k (none k low high))
+
+-- a place of the footpath from stop a into stop c
+pub record IsPlaceOf (w : List ℕ) (a c time k : ℕ) : Type 0 where
+  pub low : foot_index_of w c ≤ k
+  pub high : k < foot_index_of w (c + 1)
+  pub from : foot_from_of w k ≡ a
+  pub secs : foot_secs_of w k ≡ time
+
+pub secs_between-some : (w : List ℕ) (a c secs : ℕ) → secs_between w a c ≡ Some secs → (k : ℕ) × IsPlaceOf w a c secs k
+unfolding secs_between
+secs_between-some w a c secs e =
+    let h = first_between-some (λ k. cond (eqb (foot_from_of w k) a) (Some (foot_secs_of w k)) None) (foot_index_of w c) (foot_index_of w (c + 1)) secs e in
+    elim (cases_Bool (eqb (foot_from_of w h.0) a)) [
+      | inl same ↦
+          let from : foot_from_of w h.0 ≡ a = eqb-true _ _ same in
+          (h.0, record { low = h.1.low; high = h.1.high; from = from; secs = same_Some _ _ (sym (secs_here w a h.0 from) ∙ h.1.here) })
+      | inr other ↦ absurd (some_none secs (sym h.1.here ∙ secs_elsewhere w a h.0 (eqb-false _ _ other)))
+    ]
+  where
+    some_none : (x : ℕ) → Some x ≡ None → ⊥
+    some_none x e = absurd cc
+
+-- where the first footpath from stop a or one above it leaves another stop, there is none from a
+pub secs_between-missed : (w : List ℕ) (a c place : ℕ) → HasFootRange w c → IsFirstFrom w a c place → (place < foot_index_of w (c + 1) → foot_from_of w place ≢ a) → secs_between w a c ≡ None
+secs_between-missed w a c place range first other =
+    secs_between-none w a c (λ k low high same.
+    (elim (cases_order k place) [
+      | inl here ↦ other (omega (arith, here, high)) (ap (foot_from_of w) (sym here) ∙ same)
+      | inr (inl before) ↦ omega (arith, first.before k low before, same)
+      | inr (inr after) ↦ omega (arith, rises_later w c place k range first.start after high, first.here (omega (arith, after, high)), same)
+    ]))
+
+-- the fault of three stops, by the seconds between them
+pub open_fault-by : (w : List ℕ) (a b c : ℕ) (first second direct : Option ℕ) → secs_between w a b ≡ first → secs_between w b c ≡ second → secs_between w a c ≡ direct → open_fault w a b c ≡ cond (is_open first second direct) (Some (NotClosed a b c)) None
+unfolding open_fault
+open_fault-by w a b c first second direct e1 e2 e3 =
+    ap (λ (o : Option ℕ). cond (is_open o (secs_between w b c) (secs_between w a c)) (Some (NotClosed a b c)) None) e1
+    ∙ ap (λ (o : Option ℕ). cond (is_open first o (secs_between w a c)) (Some (NotClosed a b c)) None) e2
+    ∙ ap (λ (o : Option ℕ). cond (is_open first second o) (Some (NotClosed a b c)) None) e3
+
+-- a first and a second footpath with a direct one that is as short
+pub open_fault-closed : (w : List ℕ) (a b c first second direct : ℕ) → secs_between w a b ≡ Some first → secs_between w b c ≡ Some second → secs_between w a c ≡ Some direct → direct ≤ first + second → open_fault w a b c ≡ None
+open_fault-closed w a b c first second direct e1 e2 e3 le = open_fault-by w a b c (Some first) (Some second) (Some direct) e1 e2 e3 ∙ rw (le-ltb _ _ le) refl
+
+-- .. with a direct one that is longer
+pub open_fault-longer : (w : List ℕ) (a b c first second direct : ℕ) → secs_between w a b ≡ Some first → secs_between w b c ≡ Some second → secs_between w a c ≡ Some direct → first + second < direct → open_fault w a b c ≡ Some (NotClosed a b c)
+open_fault-longer w a b c first second direct e1 e2 e3 lt = open_fault-by w a b c (Some first) (Some second) (Some direct) e1 e2 e3 ∙ rw (lt-ltb _ _ lt) refl
+
+-- .. with no direct one
+pub open_fault-missing : (w : List ℕ) (a b c first second : ℕ) → secs_between w a b ≡ Some first → secs_between w b c ≡ Some second → secs_between w a c ≡ None → open_fault w a b c ≡ Some (NotClosed a b c)
+open_fault-missing w a b c first second e1 e2 e3 = open_fault-by w a b c (Some first) (Some second) None e1 e2 e3
+
+pub open_fault-no_first : (w : List ℕ) (a b c : ℕ) → secs_between w a b ≡ None → open_fault w a b c ≡ None
+open_fault-no_first w a b c e1 = open_fault-by w a b c None (secs_between w b c) (secs_between w a c) e1 refl refl
+
+pub open_fault-no_second : (w : List ℕ) (a b c : ℕ) → secs_between w b c ≡ None → open_fault w a b c ≡ None
+open_fault-no_second w a b c e2 = open_fault-by w a b c (secs_between w a b) None (secs_between w a c) refl e2 refl ∙ never (secs_between w a b)
+  where
+    never : (o : Option ℕ) → cond (is_open o None (secs_between w a c)) (Some (NotClosed a b c)) None ≡ None
+    never None = refl
+    never (Some x) = refl
+
+-- without fault there is a direct one that is as short
+pub open_fault-none : (w : List ℕ) (a b c first second : ℕ) → secs_between w a b ≡ Some first → secs_between w b c ≡ Some second → open_fault w a b c ≡ None → (direct : ℕ) × (secs_between w a c ≡ Some direct) × (direct ≤ first + second)
+open_fault-none w a b c first second e1 e2 none =
+    elim (option_cases (secs_between w a c)) [
+      | inl e3 ↦ absurd (some_none (NotClosed a b c) (sym (open_fault-missing w a b c first second e1 e2 e3) ∙ none))
+      | inr some ↦ (
+        some.0,
+        some.1,
+        elim (cases_lt (first + second) some.0) [
+          | inl lt ↦ absurd (some_none (NotClosed a b c) (sym (open_fault-longer w a b c first second some.0 e1 e2 some.1 lt) ∙ none))
+          | inr le ↦ le
+        ],
+      )
+    ]
+  where
+    some_none : (f : ImageFault) → Some f ≡ None → ⊥
+    some_none f e = absurd cc
+
+first_secs : (w : List ℕ) (first second : ℕ) → HasFootRanges w → IsInto w (foot_from_of w second) first → secs_between w (foot_from_of w first) (foot_from_of w second) ≡ Some (foot_secs_of w first)
+first_secs w first second ranges into = secs_between-at w (foot_from_of w first) (foot_from_of w second) first (ranges (foot_from_of w second) into.stop) into.start into.end refl
+
+second_secs : (w : List ℕ) (second c : ℕ) → HasFootRanges w → IsInto w c second → secs_between w (foot_from_of w second) c ≡ Some (foot_secs_of w second)
+second_secs w second c ranges into = secs_between-at w (foot_from_of w second) c second (ranges c into.stop) into.start into.end refl
+
+-- two footpaths end to end, and a direct one that is as short at the one place where it can stand
+pub pair_closed : (w : List ℕ) (first second c direct : ℕ) → HasFootRanges w → IsInto w (foot_from_of w second) first → IsInto w c second → IsFirstFrom w (foot_from_of w first) c direct
+    → is_direct w (foot_from_of w first) c (foot_secs_of w first + foot_secs_of w second) direct ≡ true → open_fault w (foot_from_of w first) (foot_from_of w second) c ≡ None
+pair_closed w first second c direct ranges into_first into_second place direct_is =
+    let a = foot_from_of w first in
+    let parts = and_parts _ _ direct_is in
+    let front = and_parts _ _ parts.0 in
+    open_fault-closed w a (foot_from_of w second) c (foot_secs_of w first) (foot_secs_of w second) (foot_secs_of w direct)
+    (first_secs w first second ranges into_first) (second_secs w second c ranges into_second)
+    (secs_between-at w a c direct (ranges c into_second.stop) place.start (ltb-true _ _ front.0) (eqb-true _ _ front.1)) (leb-true _ _ parts.1)
+
+-- .. and none that is as short there
+pub pair_open : (w : List ℕ) (first second c direct : ℕ) → HasFootRanges w → IsInto w (foot_from_of w second) first → IsInto w c second → IsFirstFrom w (foot_from_of w first) c direct
+    → is_direct w (foot_from_of w first) c (foot_secs_of w first + foot_secs_of w second) direct ≡ false → open_fault w (foot_from_of w first) (foot_from_of w second) c ≡ Some (NotClosed (foot_from_of w first) (foot_from_of w second) c)
+pair_open w first second c direct ranges into_first into_second place not_direct =
+    let a = foot_from_of w first in
+    let s1 = first_secs w first second ranges into_first in
+    let s2 = second_secs w second c ranges into_second in
+    elim (cases_Bool (ltb direct (foot_index_of w (c + 1)) && eqb (foot_from_of w direct) a)) [
+      | inl there ↦
+          let front = and_parts _ _ there in
+          let long : leb (foot_secs_of w direct) (foot_secs_of w first + foot_secs_of w second) ≡ false = and_rest _ _ there not_direct in
+          open_fault-longer w a (foot_from_of w second) c (foot_secs_of w first) (foot_secs_of w second) (foot_secs_of w direct) s1 s2
+          (secs_between-at w a c direct (ranges c into_second.stop) place.start (ltb-true _ _ front.0) (eqb-true _ _ front.1)) (leb-false _ _ long)
+      | inr not_there ↦ open_fault-missing w a (foot_from_of w second) c (foot_secs_of w first) (foot_secs_of w second) s1 s2
+          (secs_between-missed w a c direct (ranges c into_second.stop) place (λ lt e. both_tests _ _ (lt-ltb _ _ lt) (eq-eqb _ _ e) not_there))
+    ]
+  where
+    and_rest : (x y : Bool) → x ≡ true → (x && y) ≡ false → y ≡ false
+    and_rest true y e f = f
+    and_rest false y e f = absurd cc
+
+    both_tests : (x y : Bool) → x ≡ true → y ≡ true → (x && y) ≡ false → ⊥
+    both_tests true true e f g = absurd cc
+    both_tests true false e f g = absurd cc
+    both_tests false y e f g = absurd cc
+
+-- the fault by way of stop b to stop c from where the footpath at place i begins
+abbrev pub open_at : List ℕ → ℕ → ℕ → ℕ → Option ImageFault
+open_at w b c i = open_fault w (foot_from_of w i) b c
+
+-- the first fault to stop c by way of where the footpath at place j begins
+abbrev pub way_at : List ℕ → ℕ → ℕ → Option ImageFault
+way_at w c j = way_fault w (foot_from_of w j) c
+
+-- a fault by way of stop b begins where a footpath into b begins
+pub way_by_place : (w : List ℕ) (b c : ℕ) → HasFootRange w b → way_fault w b c ≡ first_between (open_at w b c) (foot_index_of w b) (foot_index_of w (b + 1))
+unfolding way_fault
+way_by_place w b c range =
+    first_by_place (foot_from_of w) (open_at w b c) (λ a. open_fault w a b c) (foot_index_of w b) (foot_index_of w (b + 1)) (header_of w).stops (IsRising-from w b range)
+    (record { same = λ k low high. refl; none_else = λ a lt none. open_fault-no_first w a b c (secs_between-none w a b none) })
+
+no_way : (w : List ℕ) (b c : ℕ) → secs_between w b c ≡ None → way_fault w b c ≡ None
+unfolding way_fault
+no_way w b c none = first_below-all (λ a. open_fault w a b c) (header_of w).stops (λ a lt. open_fault-no_second w a b c none)
+
+-- a fault to stop c goes by way of where a footpath into c begins
+pub into_by_place : (w : List ℕ) (c : ℕ) → HasFootRange w c → into_fault w c ≡ first_between (way_at w c) (foot_index_of w c) (foot_index_of w (c + 1))
+unfolding into_fault
+into_by_place w c range =
+    first_by_place (foot_from_of w) (way_at w c) (λ b. way_fault w b c) (foot_index_of w c) (foot_index_of w (c + 1)) (header_of w).stops (IsRising-from w c range)
+    (record { same = λ k low high. refl; none_else = λ b lt none. no_way w b c (secs_between-none w b c none) })
+
+-- a search that found nothing up to its end
+pub none_to_end : {X : Type 0} (f : ℕ → Option X) (a b i : ℕ) → b ≤ i → first_between f a i ≡ None → first_between f a b ≡ None
+none_to_end f a b i le none = first_between-all f a b (λ k low high. first_between-none f a i k low (omega arith) none)
