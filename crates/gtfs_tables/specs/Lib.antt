@@ -1,4 +1,5 @@
 pub mod Cells
 pub mod Faults
+pub mod Rows
 pub mod Source
 pub mod Values

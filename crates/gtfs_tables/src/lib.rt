@@ -4,14 +4,20 @@
 #![tactic(auto)]
 
 mod cells;
+mod changes;
 pub mod fault;
 mod ids;
 mod keyed;
 mod reader;
 pub mod rows;
+mod services;
 mod source;
+mod stops;
 pub mod values;
 
 pub use fault::{FaultKind, Table, TableFault};
-pub use rows::{CalendarDateRow, CalendarRow, Exception};
+pub use rows::{
+    AgencyRow, CalendarDateRow, CalendarRow, Exception, FrequencyRow, Location, StopRow,
+    StopTimeRow, TransferKind, TransferRow, TripRow,
+};
 pub use values::{DateFault, Day, Time, TimeFault};
