@@ -1,0 +1,197 @@
+-- Each step keeps what holds in every state.
+use Rattle.std.proofs.Common.{◌≡◌, ◌≢◌, ℕ, ◌+◌, ◌<◌, ◌≤◌, ◌==◌, Bool, true, false, MatchBool, length, ◌++◌, ◌∷◌, [], get_or, Some, slice_get, refl, ap, sym, ◌∙◌, subst, arith, rules, inl, inr, length-append}
+use Rattle.std.proofs.lemmas.Bool.Decides.{nat_tests}
+use Rattle.std.proofs.lemmas.Option.{slice_get_within}
+use Rattle.version_core.specs.declared.state.Shelf.{Shelf}
+use Rattle.version_core.specs.declared.state.Worker.{Worker}
+use Rattle.version_core.specs.declared.event.Event.{Event}
+use Rattle.version_core.specs.declared.event.Reply.{Reply}
+use Rattle.version_core.specs.State.{State, start, newest, looked, arrived, departed, opened, published, shelved}
+use Rattle.version_core.specs.Steps.{IsIdle, HasLooked, Holds, StaysAt, IsFree, IsOpen, IsClosing, IsUnpublished, IsOutdated, MayOpen, Step, LookStep, TakeStep, DropStep, OpenStep, PublishStep, CloseStep, CollectStep, AskStep}
+use Rattle.version_core.specs.Kept.{Kept, Fits, is_at, version_on}
+use Rattle.version_core.proofs.Shelves.{version_at, shelves_open, opening_stays, shelves_publish, shelves_close, closing_stays, shelves_free, none_unpublished}
+use Rattle.version_core.proofs.Counts.{counts_stay, counts_rise, counts_fall, counted_at, no_one_at}
+use Rattle.version_core.proofs.Workers.{workers_go_on, workers_look, workers_stay, workers_later, workers_away}
+
+pub start_kept : Kept start
+start_kept = search rules
+
+pub look_kept : (s : State) (w : ℕ) → Kept s → IsIdle s w → Kept (looked s w)
+look_kept s w kept idle =
+    let within = slice_get_within s.shelves s.current_shelf _ kept.shelves.current_open in let l = kept.shelves.eight in
+    record {
+      room = kept.room;
+      shelves = kept.shelves;
+      counts = counts_stay s.counts s.workers w Worker.Idle (Worker.Looked s.current s.current_shelf) kept.counts idle (λ i. refl) (λ i. refl);
+      workers = workers_look s.current s.current_shelf s.shelves s.workers s.seen w kept.workers idle (omega arith);
+    }
+
+-- what is known of a worker that has looked
+pub looked_fits : (s : State) (w v k : ℕ) → Kept s → HasLooked s w v k → (w < 16) × (k < 8) × (get_or s.seen w 0 ≡ v) × (v ≤ s.current) × (v ≡ s.current → k ≡ s.current_shelf)
+looked_fits s w v k kept has =
+    let f = kept.workers.each w (Worker.Looked v k) has in let l = slice_get_within s.workers w _ has in let e = kept.workers.sixteen in
+    (omega arith, f.0, f.1, f.2, f.3)
+
+arrived_kept : (s : State) (w v k : ℕ) (now : Worker) → Kept s → HasLooked s w v k → ((i : ℕ) → is_at i now ≡ (k == i)) → Fits s.current s.current_shelf s.shelves now (get_or s.seen w 0) → Kept (arrived s w k now)
+arrived_kept s w v k now kept has there fits = record {
+  room = kept.room;
+  shelves = kept.shelves;
+  counts = counts_rise s.counts s.workers w k (Worker.Looked v k) now kept.counts (looked_fits s w v k kept has).1 has (λ i. refl) there;
+  workers = workers_go_on s.current s.current_shelf s.shelves s.workers s.seen w (Worker.Looked v k) now kept.workers has fits;
+}
+
+pub arrive_in_time_kept : (s : State) (w v k : ℕ) → Kept s → HasLooked s w v k → IsOpen s k v → Kept (arrived s w k (Worker.Holding k v))
+arrive_in_time_kept s w v k kept has stands =
+    let f = looked_fits s w v k kept has in let a = f.2 in let b = f.3 in
+    arrived_kept s w v k (Worker.Holding k v) kept has (λ i. refl) (f.1, version_at s.shelves k (Shelf.Open v) stands, (omega arith), (omega arith))
+
+-- the current version is always there, so that who is late has seen an older one
+pub arrive_late_kept : (s : State) (w v k : ℕ) → Kept s → HasLooked s w v k → ¬ (IsOpen s k v) → Kept (arrived s w k (Worker.Late k))
+arrive_late_kept s w v k kept has gone =
+    let f = looked_fits s w v k kept has in let a = f.2 in let b = f.3 in
+    let never : v ≢ s.current = λ e. gone (ap (λ n. slice_get s.shelves n) (f.4 e) ∙ (kept.shelves.current_open ∙ ap (λ n. Some (Shelf.Open n)) (sym e))) in
+    arrived_kept s w v k (Worker.Late k) kept has (λ i. refl) (f.1, (omega arith))
+
+at_itself : (k : ℕ) → (k == k) ≡ true
+at_itself k = grind (arith, nat_tests)
+
+-- what is known of a worker that is at a shelf
+pub stays_fits : (s : State) (w k : ℕ) → Kept s → StaysAt s w k → (w < 16) × (k < 8) × (1 ≤ get_or s.counts k 0)
+stays_fits s w k kept stays =
+    let e = kept.workers.sixteen in
+    elim stays [
+      | inl a ↦ (let l = slice_get_within s.workers w _ a in let f = kept.workers.each w (Worker.Late k) a in (omega arith, f.0, counted_at s.counts s.workers w k (Worker.Late k) kept.counts f.0 a (at_itself k)))
+      | inr b ↦ (let v = b.0 in let l = slice_get_within s.workers w _ b.1 in let f = kept.workers.each w (Worker.Holding k v) b.1 in (omega arith, f.0, counted_at s.counts s.workers w k (Worker.Holding k v) kept.counts f.0 b.1 (at_itself k)))
+    ]
+
+departed_kept : (s : State) (w k : ℕ) (was : Worker) → Kept s → k < 8 → slice_get s.workers w ≡ Some was → ((i : ℕ) → is_at i was ≡ (k == i)) → get_or s.seen w 0 ≤ s.current → Kept (departed s w k)
+departed_kept s w k was kept small here there seen = record {
+  room = kept.room;
+  shelves = kept.shelves;
+  counts = counts_fall s.counts s.workers w k was kept.counts small here there;
+  workers = workers_go_on s.current s.current_shelf s.shelves s.workers s.seen w was Worker.Idle kept.workers here seen;
+}
+
+pub depart_kept : (s : State) (w k : ℕ) → Kept s → StaysAt s w k → Kept (departed s w k)
+depart_kept s w k kept stays =
+    elim stays [
+      | inl a ↦ (let f = kept.workers.each w (Worker.Late k) a in let q = f.1 in departed_kept s w k (Worker.Late k) kept f.0 a (λ i. refl) (omega arith))
+      | inr b ↦ (let f = kept.workers.each w (Worker.Holding k b.0) b.1 in departed_kept s w k (Worker.Holding k b.0) kept f.0 b.1 (λ i. refl) f.3)
+    ]
+
+-- nothing waits to be published exactly where the newest version is current
+at_rest : (s : State) → Kept s → newest s ≡ s.current → (k v : ℕ) → ¬ (IsUnpublished s k v)
+at_rest s kept rest k v new = none_unpublished s.current s.current_shelf (newest s) s.shelves kept.shelves rest k v new.0 new.1
+
+pub newest_is_current : (s : State) → Kept s → ((k v : ℕ) → ¬ (IsUnpublished s k v)) → newest s ≡ s.current
+newest_is_current s kept none = elim kept.shelves.newest_open [ inl a ↦ a | inr b ↦ absurd (none b.1.0 (newest s) (b.1.1, (let q = b.0 in omega arith))) ]
+
+pub may_open_where : (s : State) (few : Bool) → Kept s → newest s ≡ s.current → (few ≡ true → newest s < 1000000000) → (few ≡ false → ¬ (newest s < 1000000000)) → MatchBool few (MayOpen s) (¬ (MayOpen s))
+may_open_where s true kept rest fewer more = (at_rest s kept rest, fewer refl)
+may_open_where s false kept rest fewer more = λ may. more refl may.1
+
+pub open_kept : (s : State) (k e : ℕ) → Kept s → MayOpen s → IsFree s k → Kept (opened s k e)
+open_kept s k e kept may free =
+    let few = may.1 in
+    let longer : length (s.editions ++ e ∷ []) ≡ newest s + 1 = omega (arith, length-append s.editions (e ∷ [])) in
+    record {
+      room = omega arith;
+      shelves = rw longer (shelves_open s.current s.current_shelf (newest s) k s.shelves kept.shelves (newest_is_current s kept may.0) free);
+      counts = kept.counts;
+      workers = workers_stay s.current s.current_shelf s.shelves _ s.workers s.seen (λ j v has. opening_stays s.shelves k (newest s + 1) j v free has) kept.workers;
+    }
+
+pub publish_kept : (s : State) (k v : ℕ) → Kept s → IsUnpublished s k v → Kept (published s k v)
+publish_kept s k v kept new = record {
+  room = kept.room;
+  shelves = shelves_publish s.current s.current_shelf (newest s) k v s.shelves kept.shelves new.0 new.1;
+  counts = kept.counts;
+  workers = workers_later s.current s.current_shelf v k s.shelves s.workers s.seen new.1 kept.workers;
+}
+
+below : (v n : ℕ) → v ≢ n → ¬ (n < v) → v < n
+below v n other not = omega arith
+
+pub close_kept : (s : State) (k v : ℕ) → Kept s → IsOutdated s k v → Kept (shelved s k (Shelf.Closing v))
+close_kept s k v kept outdated =
+    let not = outdated.1 in
+    let old : v < s.current = below v s.current not (λ later. outdated.2 (outdated.0, later)) in
+    record {
+      room = kept.room;
+      shelves = shelves_close s.current s.current_shelf (newest s) k v s.shelves kept.shelves outdated.0 old;
+      counts = kept.counts;
+      workers = workers_stay s.current s.current_shelf s.shelves _ s.workers s.seen (λ j x has. closing_stays s.shelves k v j x outdated.0 has) kept.workers;
+    }
+
+pub free_kept : (s : State) (k v : ℕ) → Kept s → IsClosing s k v → get_or s.counts k 0 ≡ 0 → Kept (shelved s k Shelf.Free)
+free_kept s k v kept closing none =
+    let within = slice_get_within s.shelves k _ closing in let l = kept.shelves.eight in
+    record {
+      room = kept.room;
+      shelves = shelves_free s.current s.current_shelf (newest s) k v s.shelves kept.shelves closing;
+      counts = kept.counts;
+      workers = workers_away s.current s.current_shelf k s.shelves Shelf.Free s.workers s.seen (no_one_at s.counts s.workers k kept.counts (omega arith) none) kept.workers;
+    }
+
+look_step_kept : (s : State) (w : ℕ) (r : Reply) (t : State) → Kept s → LookStep s w r t → Kept t
+look_step_kept s w (Reply.Looked v k) t kept h = subst Kept (sym h.3) (look_kept s w kept h.0)
+look_step_kept s w Reply.NotNow t kept h = subst Kept (sym h.1) kept
+look_step_kept s w _ t kept h = absurd h
+
+take_step_kept : (s : State) (w : ℕ) (r : Reply) (t : State) → Kept s → TakeStep s w r t → Kept t
+take_step_kept s w (Reply.Holds v) t kept h = subst Kept (sym h.3) (arrive_in_time_kept s w v h.0 kept h.1 h.2)
+take_step_kept s w Reply.Late t kept h = subst Kept (sym h.4) (arrive_late_kept s w h.0 h.1 kept h.2 h.3)
+take_step_kept s w Reply.NotNow t kept h = subst Kept (sym h.1) kept
+take_step_kept s w _ t kept h = absurd h
+
+drop_step_kept : (s : State) (w : ℕ) (r : Reply) (t : State) → Kept s → DropStep s w r t → Kept t
+drop_step_kept s w Reply.Dropped t kept h = subst Kept (sym h.2) (depart_kept s w h.0 kept h.1)
+drop_step_kept s w Reply.NotNow t kept h = subst Kept (sym h.1) kept
+drop_step_kept s w _ t kept h = absurd h
+
+open_step_kept : (s : State) (e : ℕ) (r : Reply) (t : State) → Kept s → OpenStep s e r t → Kept t
+open_step_kept s e (Reply.Opened v k) t kept h = subst Kept (sym h.3) (open_kept s k e kept h.0 h.1)
+open_step_kept s e (Reply.NoRoom counts) t kept h = subst Kept (sym h.3) kept
+open_step_kept s e Reply.NotNow t kept h = subst Kept (sym h.1) kept
+open_step_kept s e _ t kept h = absurd h
+
+publish_step_kept : (s : State) (r : Reply) (t : State) → Kept s → PublishStep s r t → Kept t
+publish_step_kept s (Reply.Published v) t kept h = subst Kept (sym h.2) (publish_kept s h.0 v kept h.1)
+publish_step_kept s Reply.NotNow t kept h = subst Kept (sym h.1) kept
+publish_step_kept s _ t kept h = absurd h
+
+close_step_kept : (s : State) (k : ℕ) (r : Reply) (t : State) → Kept s → CloseStep s k r t → Kept t
+close_step_kept s k Reply.Closing t kept h = subst Kept (sym h.2) (close_kept s k h.0 kept h.1)
+close_step_kept s k Reply.NotNow t kept h = subst Kept (sym h.1) kept
+close_step_kept s k _ t kept h = absurd h
+
+collect_step_kept : (s : State) (k : ℕ) (r : Reply) (t : State) → Kept s → CollectStep s k r t → Kept t
+collect_step_kept s k Reply.Freed t kept h = subst Kept (sym h.3) (free_kept s k h.0 kept h.1 h.2)
+collect_step_kept s k (Reply.Busy count) t kept h = subst Kept (sym h.4) kept
+collect_step_kept s k Reply.NotNow t kept h = subst Kept (sym h.1) kept
+collect_step_kept s k _ t kept h = absurd h
+
+ask_step_kept : (s : State) (w : ℕ) (r : Reply) (t : State) → Kept s → AskStep s w r t → Kept t
+ask_step_kept s w (Reply.From v e) t kept h = subst Kept (sym h.3) kept
+ask_step_kept s w Reply.NotNow t kept h = subst Kept (sym h.1) kept
+ask_step_kept s w _ t kept h = absurd h
+
+pub step_kept : (s : State) (e : Event) (r : Reply) (t : State) → Kept s → Step s e r t → Kept t
+step_kept s (Event.Look w) r t kept h = look_step_kept s w r t kept h
+step_kept s (Event.Take w) r t kept h = take_step_kept s w r t kept h
+step_kept s (Event.Drop w) r t kept h = drop_step_kept s w r t kept h
+step_kept s (Event.Open e) r t kept h = open_step_kept s e r t kept h
+step_kept s Event.Publish r t kept h = publish_step_kept s r t kept h
+step_kept s (Event.Close k) r t kept h = close_step_kept s k r t kept h
+step_kept s (Event.Collect k) r t kept h = collect_step_kept s k r t kept h
+step_kept s (Event.Ask w) r t kept h = ask_step_kept s w r t kept h
+
+-- the version that a worker holds is one that was opened
+pub held_known : (s : State) (w k v : ℕ) → Kept s → Holds s w k v → (version_on s.shelves k ≡ Some v) × (0 < v) × (v ≤ newest s)
+held_known s w k v kept holds =
+    let f = kept.workers.each w (Worker.Holding k v) holds in let q = kept.shelves.known k v f.1 in
+    (f.1, q.0, q.1)
+
+-- what no shelf below eight is, none is
+pub on_none : (s : State) (x : Shelf) → Kept s → ((j : ℕ) → j < 8 → slice_get s.shelves j ≢ Some x) → (j : ℕ) → slice_get s.shelves j ≢ Some x
+on_none s x kept none j is = let l = slice_get_within s.shelves j x is in let e = kept.shelves.eight in none j (omega arith) is

@@ -1,0 +1,56 @@
+-- What holds in every state of every run, part by part.
+use Rattle.std.specs.Prelude.{◌≡◌, ℕ, ◌+◌, ◌<◌, ◌≤◌, Bool, false, ◌==◌, List, length, count_by, slice_get, slice_index, Option, Some, None, ◌⊎◌}
+use Rattle.std.specs.Option.{option_and_then}
+use Rattle.version_core.specs.declared.state.Shelf.{Shelf}
+use Rattle.version_core.specs.declared.state.Worker.{Worker}
+use Rattle.version_core.specs.State.{State, newest}
+
+-- the version of a shelf, open or closing
+abbrev pub version_of : Shelf → Option ℕ
+version_of Shelf.Free = None
+version_of (Shelf.Open v) = Some v
+version_of (Shelf.Closing v) = Some v
+
+abbrev pub version_on : List Shelf → ℕ → Option ℕ
+version_on shelves k = option_and_then version_of (slice_get shelves k)
+
+-- the worker is late at the shelf or holds it
+abbrev pub is_at : ℕ → Worker → Bool
+is_at k (Worker.Late j) = j == k
+is_at k (Worker.Holding j v) = j == k
+is_at k _ = false
+
+-- the newest version stands open: it is current, or the next to be published
+abbrev pub NewestIsOpen : ℕ → ℕ → List Shelf → Type 0
+NewestIsOpen current newest shelves =
+    (newest ≡ current) ⊎ ((newest ≡ current + 1) × ((k : ℕ) × (slice_get shelves k ≡ Some (Shelf.Open newest))))
+
+pub record ShelvesFit (current current_shelf newest : ℕ) (shelves : List Shelf) : Type 0 where
+  pub eight : length shelves ≡ 8
+  pub current_open : slice_get shelves current_shelf ≡ Some (Shelf.Open current)
+  pub newest_open : NewestIsOpen current newest shelves
+  pub known : (k v : ℕ) → version_on shelves k ≡ Some v → (0 < v) × (v ≤ newest)
+  pub apart : (j k v : ℕ) → version_on shelves j ≡ Some v → version_on shelves k ≡ Some v → j ≡ k
+  pub closing_old : (k v : ℕ) → slice_get shelves k ≡ Some (Shelf.Closing v) → v < current
+
+pub record CountsFit (counts : List ℕ) (workers : List Worker) : Type 0 where
+  pub eight : length counts ≡ 8
+  pub each : (k : ℕ) → k < 8 → slice_index counts k ≡ count_by (is_at k) workers
+
+-- a worker with the greatest version that it has seen. Who is late has seen a version that is current no longer
+abbrev pub Fits : ℕ → ℕ → List Shelf → Worker → ℕ → Type 0
+Fits current current_shelf shelves Worker.Idle seen = seen ≤ current
+Fits current current_shelf shelves (Worker.Looked v k) seen = (k < 8) × (seen ≡ v) × (v ≤ current) × (v ≡ current → k ≡ current_shelf)
+Fits current current_shelf shelves (Worker.Late k) seen = (k < 8) × (seen < current)
+Fits current current_shelf shelves (Worker.Holding k v) seen = (k < 8) × (version_on shelves k ≡ Some v) × (v ≤ seen) × (seen ≤ current)
+
+pub record WorkersFit (current current_shelf : ℕ) (shelves : List Shelf) (workers : List Worker) (seen : List ℕ) : Type 0 where
+  pub sixteen : length workers ≡ 16
+  pub sixteen_seen : length seen ≡ 16
+  pub each : (w : ℕ) (worker : Worker) → slice_get workers w ≡ Some worker → Fits current current_shelf shelves worker (slice_index seen w)
+
+pub record Kept (s : State) : Type 0 where
+  pub room : newest s ≤ 1000000000
+  pub shelves : ShelvesFit s.current s.current_shelf (newest s) s.shelves
+  pub counts : CountsFit s.counts s.workers
+  pub workers : WorkersFit s.current s.current_shelf s.shelves s.workers s.seen

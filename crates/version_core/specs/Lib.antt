@@ -1,0 +1,5 @@
+pub mod State
+pub mod Steps
+pub mod Runs
+pub mod Kept
+pub mod Laws

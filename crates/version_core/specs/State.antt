@@ -1,0 +1,59 @@
+-- The table of versions as plain data.
+use Rattle.std.specs.Prelude.{ℕ, zero, suc, ◌+◌, ◌-◌, List, [], ◌∷◌, ◌++◌, Option, None, length, replicate, slice_get, slice_index, slice_set}
+use Rattle.version_core.specs.declared.state.Shelf.{Shelf}
+use Rattle.version_core.specs.declared.state.Worker.{Worker}
+
+pub record State : Type 0 where
+  pub current : ℕ  -- the current version
+  pub current_shelf : ℕ  -- and its shelf
+  pub shelves : List Shelf  -- eight
+  pub counts : List ℕ  -- of each shelf: how many workers are late at it or hold it
+  pub workers : List Worker  -- sixteen
+  pub seen : List ℕ  -- of each worker: the greatest version that it has seen
+  pub editions : List ℕ  -- the edition of version 1, then that of version 2, and so on
+
+-- version 1 has edition 0, stands open on shelf 0 and is current. All workers are idle and have seen nothing
+abbrev pub start : State
+start =
+    record {
+      current = 1;
+      current_shelf = 0;
+      shelves = Shelf.Open 1 ∷ replicate 7 Shelf.Free;
+      counts = replicate 8 0;
+      workers = replicate 16 Worker.Idle;
+      seen = replicate 16 0;
+      editions = 0 ∷ [];
+    }
+
+-- the version that was opened last
+abbrev pub newest : State → ℕ
+newest s = length s.editions
+
+-- the edition of a version. Versions count from 1
+abbrev pub edition_of : List ℕ → ℕ → Option ℕ
+edition_of editions zero = None
+edition_of editions (suc n) = slice_get editions n
+
+-- the worker has looked at the current version
+abbrev pub looked : State → ℕ → State
+looked s w = record s { workers = slice_set s.workers w (Worker.Looked s.current s.current_shelf); seen = slice_set s.seen w s.current }
+
+-- the worker is counted at the shelf, late or holding
+abbrev pub arrived : State → ℕ → ℕ → Worker → State
+arrived s w k worker = record s { counts = slice_set s.counts k (slice_index s.counts k + 1); workers = slice_set s.workers w worker }
+
+-- the worker is counted at the shelf no longer
+abbrev pub departed : State → ℕ → ℕ → State
+departed s w k = record s { counts = slice_set s.counts k (slice_index s.counts k - 1); workers = slice_set s.workers w Worker.Idle }
+
+-- the shelf is open with the next version, which has this edition
+abbrev pub opened : State → ℕ → ℕ → State
+opened s k edition = record s { shelves = slice_set s.shelves k (Shelf.Open (newest s + 1)); editions = s.editions ++ edition ∷ [] }
+
+-- the version on the shelf is current
+abbrev pub published : State → ℕ → ℕ → State
+published s k version = record s { current = version; current_shelf = k }
+
+-- the shelf has become this, and its count stays
+abbrev pub shelved : State → ℕ → Shelf → State
+shelved s k shelf = record s { shelves = slice_set s.shelves k shelf }

@@ -1,0 +1,22 @@
+//! The table of timetable versions as a state machine: which version is current, which worker holds which, and when a
+//! shelf may be used again.
+//!
+//! A loader opens a free shelf with an edition, publishes it, closes the shelf of the version before and collects that
+//! shelf once no worker is there. A worker looks at the current version, takes its shelf, and drops it. Between the look
+//! and the take the version may be gone: then the worker is late, and looks again.
+#![tactic(auto)]
+
+mod event;
+mod laws;
+mod machine;
+mod sequence;
+mod state;
+
+pub use event::{Event, Reply};
+pub use laws::{every_run, runs_in_parts};
+pub use machine::Core;
+pub use sequence::run;
+pub use state::{MOST_VERSIONS, Shelf, Worker};
+
+#[cfg(test)]
+mod tests;

@@ -1,0 +1,396 @@
+ghost use Rattle.std.specs.Prelude.{◌≡◌, ℕ, ◌<◌, ◌≤◌, IfOk, OnErr, MatchBool, MatchOption, slice_get, slice_index, Some};
+ghost use Rattle.version_core.specs.State.{start, edition_of, looked, arrived, departed};
+ghost use Rattle.version_core.specs.Steps.{IsIdle, HasLooked, Holds, StaysAt, IsFree, IsOpen, IsClosing, IsUnpublished, IsOutdated, MayOpen, Opens, OpensLeast, Step, LookStep, TakeStep, DropStep, OpenStep, PublishStep, CloseStep, CollectStep, AskStep};
+ghost use Rattle.version_core.specs.Kept.{Kept};
+ghost use Rattle.version_core.specs.declared.event.Event.{Event};
+ghost use Rattle.version_core.specs.declared.event.Reply.{Reply};
+ghost use Rattle.version_core.specs.declared.state.Worker.{Worker};
+
+use crate::event::{Event, Reply};
+use crate::state::{MOST_VERSIONS, Shelf, Worker};
+use std::alloc::{AllocError, Global};
+use std::marker::Model;
+
+/// The table: eight shelves, sixteen workers, and the edition of each version.
+///
+/// Each event is a method of its own as well as a case of `step`.
+#[derive(Drop)]
+pub struct Core {
+    current: u64,
+    current_shelf: usize,
+    shelves: [Shelf; 8],
+    counts: [u8; 8],
+    workers: [Worker; 16],
+    seen: [u64; 16],
+    editions: Vec<u64>,
+}
+
+impl Model for Core {
+    ghost use Rattle.version_core.specs.State.{State};
+    ghost use Rattle.version_core.specs.Kept.{Kept};
+
+    ghost Value = { State };
+
+    ghost view = { λ c. record { current = c.current; current_shelf = c.current_shelf; shelves = c.shelves; counts = c.counts; workers = c.workers; seen = c.seen; editions = c.editions.items } };
+
+    ghost invariant = { λ c. Kept (record { current = c.current; current_shelf = c.current_shelf; shelves = c.shelves; counts = c.counts; workers = c.workers; seen = c.seen; editions = c.editions.items }) };
+}
+
+impl Core {
+    /// Version 1, with edition 0, is current on shelf 0. All workers are idle.
+    pub fn new(alloc: Global) -> Result<Core, AllocError>
+        ensures { IfOk result (λ core. core ≡ start) }
+    {
+        let mut editions = Vec::new(alloc);
+        editions.push(0)?;
+        let mut shelves = [Shelf::Free; 8];
+        shelves[0] = Shelf::Open { version: 1 };
+        Ok(Core {
+            current: 1,
+            current_shelf: 0,
+            shelves,
+            counts: [0; 8],
+            workers: [Worker::Idle; 16],
+            seen: [0; 16],
+            editions,
+        })
+    }
+
+    /// One event. Only the opening of a version takes memory.
+    pub fn step(&mut self, event: Event) -> Result<Reply, AllocError>
+        ensures step { IfOk result (λ reply. Step self.old event reply self.new) }
+        ensures least { IfOk result (OpensLeast self.old event) }
+        ensures memory { OnErr result (Opens self.old event) }
+        ensures same { OnErr result (self.new ≡ self.old) }
+    {
+        match event {
+            Event::Look { worker } => Ok(self.look(worker)),
+            Event::Take { worker } => Ok(self.take(worker)),
+            Event::Drop { worker } => Ok(self.leave(worker)),
+            Event::Open { edition } => self.open(edition),
+            Event::Publish => Ok(self.publish()),
+            Event::Close { shelf } => Ok(self.close(shelf)),
+            Event::Collect { shelf } => Ok(self.collect(shelf)),
+            Event::Ask { worker } => Ok(self.ask(worker)),
+        }
+    }
+
+    /// The current version and its shelf.
+    pub fn current(&self) -> (u64, usize)
+        ensures version { result.0 ≡ self.now.current }
+        ensures shelf { result.1 ≡ self.now.current_shelf }
+        ensures kept { Kept self.now }
+    {
+        (self.current, self.current_shelf)
+    }
+
+    /// The greatest version that the worker has seen: 0 before its first look.
+    pub fn seen(&self, worker: usize) -> Option<u64>
+        ensures { result ≡ slice_get self.now.seen worker }
+    {
+        self.seen.get(worker).copied()
+    }
+
+    pub fn worker(&self, worker: usize) -> Option<Worker>
+        ensures { result ≡ slice_get self.now.workers worker }
+    {
+        self.workers.get(worker).copied()
+    }
+
+    pub fn shelf(&self, shelf: usize) -> Option<Shelf>
+        ensures { result ≡ slice_get self.now.shelves shelf }
+    {
+        self.shelves.get(shelf).copied()
+    }
+
+    /// An idle worker looks at the current version.
+    pub fn look(&mut self, worker: usize) -> Reply
+        ensures { LookStep self.old worker result self.new }
+    {
+        if self.is_idle(worker) {
+            self.mark_looked(worker)
+        } else {
+            Reply::NotNow
+        }
+    }
+
+    fn is_idle(&self, worker: usize) -> bool
+        ensures { MatchBool result (IsIdle self.now worker) (¬ (IsIdle self.now worker)) }
+    {
+        match self.worker(worker) {
+            Some(Worker::Idle) => true,
+            Some(Worker::Looked { .. } | Worker::Late { .. } | Worker::Holding { .. }) | None => {
+                false
+            }
+        }
+    }
+
+    fn mark_looked(&mut self, worker: usize) -> Reply
+        requires { IsIdle self.old worker }
+        ensures reply { result ≡ Reply.Looked self.old.current self.old.current_shelf }
+        ensures state { self.new ≡ looked self.old worker }
+    {
+        let (version, shelf) = (self.current, self.current_shelf);
+        self.workers[worker] = Worker::Looked { version, shelf };
+        self.seen[worker] = version;
+        Reply::Looked { version, shelf }
+    }
+
+    /// A worker that has looked goes to its shelf. It holds the version, if that is open there still, and else is late.
+    pub fn take(&mut self, worker: usize) -> Reply
+        ensures { TakeStep self.old worker result self.new }
+    {
+        let Some((version, shelf)) = self.looked_at(worker) else {
+            return Reply::NotNow;
+        };
+        if self.is_open_with(shelf, version) {
+            self.arrive_in_time(worker, version, shelf);
+            Reply::Holds { version }
+        } else {
+            self.arrive_late(worker, shelf);
+            Reply::Late
+        }
+    }
+
+    // The version that the worker looked at, and its shelf.
+    fn looked_at(&self, worker: usize) -> Option<(u64, usize)>
+        ensures { MatchOption result ((v k : ℕ) → ¬ (HasLooked self.now worker v k)) (λ at. HasLooked self.now worker at.0 at.1) }
+    {
+        match self.worker(worker) {
+            Some(Worker::Looked { version, shelf }) => Some((version, shelf)),
+            Some(Worker::Idle | Worker::Late { .. } | Worker::Holding { .. }) | None => None,
+        }
+    }
+
+    fn is_open_with(&self, shelf: usize, version: u64) -> bool
+        ensures { MatchBool result (IsOpen self.now shelf version) (¬ (IsOpen self.now shelf version)) }
+    {
+        match self.shelf(shelf) {
+            Some(Shelf::Open { version: open }) => open == version,
+            Some(Shelf::Free | Shelf::Closing { .. }) | None => false,
+        }
+    }
+
+    fn arrive_in_time(&mut self, worker: usize, version: u64, shelf: usize)
+        requires looked { HasLooked self.old worker version shelf }
+        requires open { IsOpen self.old shelf version }
+        ensures { self.new ≡ arrived self.old worker shelf (Worker.Holding shelf version) }
+    {
+        self.counts[shelf] += 1;
+        self.workers[worker] = Worker::Holding { shelf, version };
+    }
+
+    fn arrive_late(&mut self, worker: usize, shelf: usize)
+        requires { (v : ℕ) × HasLooked self.old worker v shelf × (¬ (IsOpen self.old shelf v)) }
+        ensures { self.new ≡ arrived self.old worker shelf (Worker.Late shelf) }
+    {
+        self.counts[shelf] += 1;
+        self.workers[worker] = Worker::Late { shelf };
+    }
+
+    /// A worker leaves the shelf that it holds, or at which it is late: the event `Drop`.
+    pub fn leave(&mut self, worker: usize) -> Reply
+        ensures { DropStep self.old worker result self.new }
+    {
+        let Some(shelf) = self.shelf_of(worker) else {
+            return Reply::NotNow;
+        };
+        self.depart(worker, shelf);
+        Reply::Dropped
+    }
+
+    // The shelf that the worker holds, or at which it is late.
+    fn shelf_of(&self, worker: usize) -> Option<usize>
+        ensures { MatchOption result ((k : ℕ) → ¬ (StaysAt self.now worker k)) (λ k. StaysAt self.now worker k) }
+    {
+        match self.worker(worker) {
+            Some(Worker::Late { shelf }) => Some(shelf),
+            Some(Worker::Holding { shelf, version: _ }) => Some(shelf),
+            Some(Worker::Idle | Worker::Looked { .. }) | None => None,
+        }
+    }
+
+    fn depart(&mut self, worker: usize, shelf: usize)
+        requires { StaysAt self.old worker shelf }
+        ensures { self.new ≡ departed self.old worker shelf }
+    {
+        self.counts[shelf] -= 1;
+        self.workers[worker] = Worker::Idle;
+    }
+
+    /// Opens the least free shelf with an edition, as the next version. A refusal changes nothing.
+    pub fn open(&mut self, edition: u64) -> Result<Reply, AllocError>
+        ensures step { IfOk result (λ reply. OpenStep self.old edition reply self.new) }
+        ensures least { IfOk result (OpensLeast self.old (Event.Open edition)) }
+        ensures memory { OnErr result (Opens self.old (Event.Open edition)) }
+        ensures same { OnErr result (self.new ≡ self.old) }
+    {
+        if !self.may_open() {
+            return Ok(Reply::NotNow);
+        }
+        let Some(shelf) = self.free_shelf() else {
+            return Ok(Reply::NoRoom {
+                counts: self.counts,
+            });
+        };
+        let version = self.editions.len() as u64 + 1;
+        self.editions.push(edition)?;
+        self.shelves[shelf] = Shelf::Open { version };
+        Ok(Reply::Opened { version, shelf })
+    }
+
+    // Where nothing waits to be published, the newest version is the current one.
+    fn may_open(&self) -> bool
+        ensures { MatchBool result (MayOpen self.now) (¬ (MayOpen self.now)) }
+    {
+        let newest = self.editions.len() as u64;
+        newest == self.current && newest < MOST_VERSIONS
+    }
+
+    // The least free shelf.
+    fn free_shelf(&self) -> Option<usize>
+        ensures { MatchOption result ((k : ℕ) → ¬ (IsFree self.now k)) (λ k. IsFree self.now k × ((j : ℕ) → j < k → ¬ (IsFree self.now j))) }
+    {
+        let _ = &self.current;
+        for k in 0..8 {
+            if self.is_free(k) {
+                return Some(k);
+            }
+        }
+        None
+    }
+
+    fn is_free(&self, shelf: usize) -> bool
+        ensures { MatchBool result (IsFree self.now shelf) (¬ (IsFree self.now shelf)) }
+    {
+        match self.shelf(shelf) {
+            Some(Shelf::Free) => true,
+            Some(Shelf::Open { .. } | Shelf::Closing { .. }) | None => false,
+        }
+    }
+
+    /// The version that is open and unpublished becomes the current one.
+    pub fn publish(&mut self) -> Reply
+        ensures { PublishStep self.old result self.new }
+    {
+        let Some((shelf, version)) = self.unpublished() else {
+            return Reply::NotNow;
+        };
+        self.current = version;
+        self.current_shelf = shelf;
+        Reply::Published { version }
+    }
+
+    // The shelf with the unpublished version, and that version.
+    fn unpublished(&self) -> Option<(usize, u64)>
+        ensures { MatchOption result ((k v : ℕ) → ¬ (IsUnpublished self.now k v)) (λ at. IsUnpublished self.now at.0 at.1) }
+    {
+        let _ = &self.current;
+        for k in 0..8 {
+            if let Some(version) = self.unpublished_on(k) {
+                return Some((k, version));
+            }
+        }
+        None
+    }
+
+    fn unpublished_on(&self, shelf: usize) -> Option<u64>
+        ensures { MatchOption result ((v : ℕ) → ¬ (IsUnpublished self.now shelf v)) (λ v. IsUnpublished self.now shelf v) }
+    {
+        match self.shelf(shelf) {
+            Some(Shelf::Open { version }) => {
+                if version > self.current {
+                    Some(version)
+                } else {
+                    None
+                }
+            }
+            Some(Shelf::Free | Shelf::Closing { .. }) | None => None,
+        }
+    }
+
+    /// Closes an open shelf whose version is neither current nor unpublished.
+    pub fn close(&mut self, shelf: usize) -> Reply
+        ensures { CloseStep self.old shelf result self.new }
+    {
+        let Some(version) = self.outdated_on(shelf) else {
+            return Reply::NotNow;
+        };
+        self.shelves[shelf] = Shelf::Closing { version };
+        Reply::Closing
+    }
+
+    fn outdated_on(&self, shelf: usize) -> Option<u64>
+        ensures { MatchOption result ((v : ℕ) → ¬ (IsOutdated self.now shelf v)) (λ v. IsOutdated self.now shelf v) }
+    {
+        match self.shelf(shelf) {
+            Some(Shelf::Open { version }) => {
+                if version < self.current {
+                    Some(version)
+                } else {
+                    None
+                }
+            }
+            Some(Shelf::Free | Shelf::Closing { .. }) | None => None,
+        }
+    }
+
+    /// Frees a closing shelf, if no worker is there.
+    pub fn collect(&mut self, shelf: usize) -> Reply
+        ensures { CollectStep self.old shelf result self.new }
+    {
+        if self.is_closing(shelf) {
+            self.free_if_left(shelf)
+        } else {
+            Reply::NotNow
+        }
+    }
+
+    fn free_if_left(&mut self, shelf: usize) -> Reply
+        requires { (v : ℕ) × IsClosing self.old shelf v }
+        ensures { CollectStep self.old shelf result self.new }
+    {
+        let count = self.counts[shelf];
+        if count > 0 {
+            return Reply::Busy { count };
+        }
+        self.shelves[shelf] = Shelf::Free;
+        Reply::Freed
+    }
+
+    fn is_closing(&self, shelf: usize) -> bool
+        ensures { MatchBool result ((v : ℕ) × IsClosing self.now shelf v) ((v : ℕ) → ¬ (IsClosing self.now shelf v)) }
+    {
+        match self.shelf(shelf) {
+            Some(Shelf::Closing { version: _ }) => true,
+            Some(Shelf::Free | Shelf::Open { .. }) | None => false,
+        }
+    }
+
+    /// The version and the edition that the worker holds.
+    pub fn ask(&self, worker: usize) -> Reply
+        ensures { AskStep self.now worker result self.now }
+    {
+        let Some(version) = self.held_by(worker) else {
+            return Reply::NotNow;
+        };
+        let edition = self.edition(version);
+        Reply::From { version, edition }
+    }
+
+    fn held_by(&self, worker: usize) -> Option<u64>
+        ensures { MatchOption result ((k v : ℕ) → ¬ (Holds self.now worker k v)) (λ v. (k : ℕ) × Holds self.now worker k v) }
+    {
+        match self.worker(worker) {
+            Some(Worker::Holding { shelf: _, version }) => Some(version),
+            Some(Worker::Idle | Worker::Looked { .. } | Worker::Late { .. }) | None => None,
+        }
+    }
+
+    fn edition(&self, version: u64) -> u64
+        requires { (w k : ℕ) × Holds self.now w k version }
+        ensures { edition_of self.now.editions version ≡ Some result }
+    {
+        self.editions[version as usize - 1]
+    }
+}

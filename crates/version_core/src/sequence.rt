@@ -1,0 +1,19 @@
+ghost use Rattle.std.specs.Prelude.{IfOk, OnErr};
+ghost use Rattle.version_core.specs.Runs.{Run, IsStopped};
+
+use crate::event::{Event, Reply};
+use crate::machine::Core;
+use std::alloc::{AllocError, Global};
+
+/// Takes the events one after another. Refused for want of memory, it leaves the core after a beginning of them.
+pub fn run(alloc: Global, core: &mut Core, events: &[Event]) -> Result<Vec<Reply>, AllocError>
+    ensures run { IfOk result (λ replies. Run core.old events.now replies.items core.new) }
+    ensures stopped { OnErr result (IsStopped core.old events.now core.new) }
+{
+    let mut replies = Vec::with_capacity(alloc, events.len())?;
+    for event in events {
+        let reply = core.step(*event)?;
+        replies.push_reserved(reply);
+    }
+    Ok(replies)
+}

@@ -1,0 +1,26 @@
+/// The greatest version.
+pub const MOST_VERSIONS: u64 = 1_000_000_000;
+
+/// What a shelf is for.
+#[derive(Clone, Copy, PartialEq, Eq, Debug)]
+pub enum Shelf {
+    /// Nothing stands here, though workers may still be late.
+    Free,
+    /// Workers that have looked at this version may take it.
+    Open { version: u64 },
+    /// The version stays until the last worker has left.
+    Closing { version: u64 },
+}
+
+/// What a worker is doing.
+#[derive(Clone, Copy, PartialEq, Eq, Debug)]
+pub enum Worker {
+    /// It is at no shelf.
+    Idle,
+    /// It saw this version as the current one, on this shelf.
+    Looked { version: u64, shelf: usize },
+    /// It came to this shelf and the version was gone. It is counted there all the same.
+    Late { shelf: usize },
+    /// It holds the version on this shelf.
+    Holding { shelf: usize, version: u64 },
+}
