@@ -1,15 +1,17 @@
 -- Numerals of clock texts, and the parts of a clock text.
-use Rattle.std.proofs.Common.{◌≡◌, ℕ, ◌+◌, ◌-◌, ◌*◌, ◌/◌, ◌%◌, ◌^◌, ◌<◌, ◌≤◌, List, [], ◌∷◌, ◌++◌, length, take, drop, get_or, false, refl, sym, ap, ◌∙◌, arith, inl, inr, lit<, append_assoc}
+use Rattle.std.proofs.Common.{◌≡◌, ◌≢◌, ℕ, ◌+◌, ◌-◌, ◌*◌, ◌/◌, ◌%◌, ◌^◌, ◌<◌, ◌≤◌, List, [], ◌∷◌, ◌++◌, length, take, drop, get_or, false, refl, sym, ap, ◌∙◌, arith, inl, inr, lit<, append_assoc}
 use mathlib.Core.List.{append-nil}
 use Rattle.std.proofs.Math.Nat.{pow-le-pow_right}
 use Rattle.std.proofs.Math.Seq.{take-append_seam, drop-append_seam, take-length}
-use Rattle.std.proofs.lemmas.List.{length-append, length-take, length-drop}
-use Rattle.std.proofs.lemmas.Bool.{cases_lt, lt-ltb, le-ltb}
+use Rattle.std.proofs.lemmas.List.{get_or_append_left, length-append, length-take, length-drop, take-append-drop}
+use Rattle.std.proofs.lemmas.Bool.{cases_eq, cases_lt, lt-ltb, le-ltb}
 use Rattle.std.proofs.lemmas.Int.Digits.{digits_value-lt}
-use Rattle.std.specs.Str.Parse.{IsNumeral, digits_value}
+use Rattle.std.specs.Char.{digit_value}
+use Rattle.std.specs.Str.Parse.{AllDigits, IsNumeral, digits_value}
 use Rattle.std.specs.Fmt.{decimal, padded_integral, format_spec, char_count}
-use Rattle.std.proofs.lemmas.Fmt.{decimal_digit, decimal_step, decimal_nonempty}
-use Rattle.timetable.specs.Clocks.{SpellsClock, two_digits, colon}
+use Rattle.std.proofs.lemmas.Fmt.{decimal_digit, decimal_step, decimal_nonempty, decimal_is_IsNumeral, length-decimal-le, decimal-digits_value}
+use Rattle.std.proofs.lemmas.Str.Parse.{numerals_by_value, tells_digits, digit_from_value}
+use Rattle.timetable.specs.Clocks.{SpellsClock, HasNoSpareZero, two_digits, clock_bytes, colon}
 
 -- up to eight digits spell less than 100,000,000
 pub few_digits : (number digits : ℕ) → digits < 9 → number < 10 ^ digits → number < 10 ^ 8
@@ -118,3 +120,123 @@ pub hours_small : (front : List ℕ) (h : ℕ) → length front ≤ 6 → IsNume
 hours_small front h few numeral is =
     let more : 10 ^ length front ≤ 10 ^ 6 = pow-le-pow_right {n = 10} (lit< tt) {i = length front} {j = 6} few in
     omega (arith, digits_value-lt 10 front numeral.1)
+
+-- the lengths of what stands in front of the six bytes
+pub front_length : (text : List ℕ) (time : ℕ) → SpellsClock text time → (0 < length text - 6) × (length text - 6 ≤ 6) × ((length text - 6) + 6 ≡ length text)
+front_length text time s =
+    let rest : List ℕ = colon ∷ s.minutes ++ colon ∷ s.seconds in
+    let whole : text ≡ s.hours ++ rest = s.parts ∙ append_assoc s.hours (colon ∷ s.minutes) (colon ∷ s.seconds) in
+    let len : length text ≡ length s.hours + 6 = omega (arith, ap length whole, length-append s.hours rest, length-append (colon ∷ s.minutes) (colon ∷ s.seconds), s.lengths.1, s.lengths.2) in
+    (omega (arith, s.numerals.0.0), omega (arith, s.lengths.0), omega arith)
+
+-- what a text spells, by its places
+pub text_parts : (text : List ℕ) (time n : ℕ) → n + 6 ≡ length text → SpellsClock text time
+    → HasParts (take n text) (take 2 (drop 1 (drop n text))) (take 2 (drop 4 (drop n text))) time
+text_parts text time n six s =
+    spelled_parts text (take n text) (drop n text) time (sym (take-append-drop n text)) (omega (arith, length-drop n text)) s
+
+pub one_time_lem : (text : List ℕ) (time other : ℕ) → SpellsClock text time → SpellsClock text other → time ≡ other
+one_time_lem text time other s t =
+    let six = (front_length text time s).2 in
+    (text_parts text time (length text - 6) six s).sum ∙ sym (text_parts text other (length text - 6) six t).sum
+
+pub time_below_end : (text : List ℕ) (time : ℕ) → SpellsClock text time → time < 3600000000
+time_below_end text time s =
+    let hours : digits_value 10 s.hours < 1000000 = hours_small s.hours (digits_value 10 s.hours) s.lengths.0 s.numerals.0 refl in
+    omega (arith, s.sum, s.small.0, s.small.1)
+
+-- two digits or more write a number, and its value is that number
+pub two_digits_value : (n : ℕ) → n < 2 ^ 64 → IsNumeral 10 (two_digits n) × (digits_value 10 (two_digits n) ≡ n)
+two_digits_value n fits =
+    let plain = decimal_is_IsNumeral n fits in
+    elim (cases_lt n 10) [
+      | inl small ↦ rw (lt-ltb n 10 small) ((omega arith, (lit< tt, plain.0.1)), plain.1)
+      | inr ten ↦ rw (le-ltb n 10 ten) plain
+    ]
+
+-- how many digits there are
+pub two_digits_length : (k n : ℕ) → 2 ≤ k → n < 10 ^ k → n < 2 ^ 64 → (2 ≤ length (two_digits n)) × (length (two_digits n) ≤ k)
+two_digits_length k n two small fits =
+    elim (cases_lt n 10) [
+      | inl less ↦
+          let one = decimal_digit n less in
+          rw (lt-ltb n 10 less, one) (omega arith, omega arith)
+      | inr ten ↦ rw (le-ltb n 10 ten) (decimal_long n ten fits, length-decimal-le k n (omega arith) small fits)
+    ]
+
+pub written_is_read_lem : (time : ℕ) → time < 3600000000 → SpellsClock (clock_bytes time) time
+written_is_read_lem time below =
+    let h : ℕ = time / 3600 in
+    let m : ℕ = time / 60 % 60 in
+    let s : ℕ = time % 60 in
+    let hours = two_digits_value h (omega arith) in
+    let minutes = two_digits_value m (omega arith) in
+    let seconds = two_digits_value s (omega arith) in
+    let long_h = two_digits_length 6 h (omega arith) (omega arith) (omega arith) in
+    let long_m = two_digits_length 2 m (omega arith) (omega arith) (omega arith) in
+    let long_s = two_digits_length 2 s (omega arith) (omega arith) (omega arith) in
+    record {
+      hours = two_digits h;
+      minutes = two_digits m;
+      seconds = two_digits s;
+      parts = refl;
+      numerals = (hours.0, minutes.0, seconds.0);
+      lengths = (long_h.1, omega (arith, long_m), omega (arith, long_s));
+      small = (omega (arith, minutes.1), omega (arith, seconds.1));
+      sum = omega (arith, hours.1, minutes.1, seconds.1);
+    }
+
+-- digits that don't begin with '0' are what is written of their number
+decimal_again : (ds : List ℕ) → IsNumeral 10 ds → 2 ≤ length ds → get_or ds 0 0 ≢ 48 → digits_value 10 ds < 2 ^ 64 → two_digits (digits_value 10 ds) ≡ ds
+decimal_again ds numeral long first fits =
+    let again : decimal (digits_value 10 ds) ≡ ds = decimal-digits_value (numerals_by_value (AllDigits 10) tells_digits) ds numeral.1 numeral.0 (λ zero. absurd (first zero)) fits in
+    elim (cases_lt (digits_value 10 ds) 10) [
+      | inl small ↦
+          let one = decimal_digit (digits_value 10 ds) small in
+          absurd (omega (arith, ap length again, ap length one))
+      | inr ten ↦ rw (le-ltb (digits_value 10 ds) 10 ten) again
+    ]
+
+zero_again : (ds : List ℕ) → IsNumeral 10 ds → length ds ≡ 2 → get_or ds 0 0 ≡ 48 → two_digits (digits_value 10 ds) ≡ ds
+zero_again [] numeral two zero = absurd (omega arith)
+zero_again (a ∷ []) numeral two zero = absurd (omega arith)
+zero_again (a ∷ b ∷ []) numeral two zero =
+    let range = digit_from_value b numeral.1.1.0 in
+    let digit : digit_value b ≡ b - 48 = rw (le-ltb b 48 range.0, lt-ltb b 58 (omega arith)) refl in
+    let value : digits_value 10 (a ∷ b ∷ []) ≡ b - 48 = rw zero (omega (arith, digit)) in
+    let small : b - 48 < 10 = omega arith in
+    let back : 48 + (b - 48) ≡ b = omega arith in
+    rw (value, lt-ltb (b - 48) 10 small, decimal_digit (b - 48) small, back, zero) refl
+zero_again (a ∷ b ∷ c ∷ ds) numeral two zero = absurd (omega arith)
+
+two_again : (ds : List ℕ) → IsNumeral 10 ds → length ds ≡ 2 → two_digits (digits_value 10 ds) ≡ ds
+two_again ds numeral two =
+    elim (cases_eq (get_or ds 0 0) 48) [
+      | inl zero ↦ zero_again ds numeral two zero
+      | inr other ↦
+          let small = hours_small ds (digits_value 10 ds) (omega arith) numeral refl in
+          decimal_again ds numeral (omega arith) other (omega (arith, small))
+    ]
+
+hours_again : (text : List ℕ) (time : ℕ) (s : SpellsClock text time) → HasNoSpareZero text → two_digits (digits_value 10 s.hours) ≡ s.hours
+hours_again text time s none =
+    let rest : List ℕ = colon ∷ s.minutes ++ colon ∷ s.seconds in
+    let whole : text ≡ s.hours ++ rest = s.parts ∙ append_assoc s.hours (colon ∷ s.minutes) (colon ∷ s.seconds) in
+    let len : length text ≡ length s.hours + 6 = omega (arith, ap length whole, length-append s.hours rest, length-append (colon ∷ s.minutes) (colon ∷ s.seconds), s.lengths.1, s.lengths.2) in
+    let small = hours_small s.hours (digits_value 10 s.hours) s.lengths.0 s.numerals.0 refl in
+    elim none [
+      | inl two ↦ two_again s.hours s.numerals.0 (omega arith)
+      | inr more ↦
+          let same : get_or text 0 0 ≡ get_or s.hours 0 0 = ap (λ t. get_or t 0 0) whole ∙ get_or_append_left s.hours rest 0 0 (omega (arith, more.0)) in
+          decimal_again s.hours s.numerals.0 (omega (arith, more.0)) (λ zero. more.1 (same ∙ zero)) (omega (arith, small))
+    ]
+
+pub read_is_written_lem : (text : List ℕ) (time : ℕ) → SpellsClock text time → HasNoSpareZero text → clock_bytes time ≡ text
+read_is_written_lem text time s none =
+    let h : time / 3600 ≡ digits_value 10 s.hours = omega (arith, s.sum, s.small.0, s.small.1) in
+    let m : time / 60 % 60 ≡ digits_value 10 s.minutes = omega (arith, s.sum, s.small.0, s.small.1) in
+    let sec : time % 60 ≡ digits_value 10 s.seconds = omega (arith, s.sum, s.small.0, s.small.1) in
+    let hours = hours_again text time s none in
+    let minutes = two_again s.minutes s.numerals.1 s.lengths.1 in
+    let seconds = two_again s.seconds s.numerals.2 s.lengths.2 in
+    rw (h, m, sec, hours, minutes, seconds) (sym s.parts)

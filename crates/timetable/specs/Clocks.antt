@@ -1,5 +1,5 @@
 -- Times as clock texts: hours, minutes and seconds in decimal digits, with colons between them.
-use Rattle.std.specs.Prelude.{◌≡◌, ℕ, ◌+◌, ◌*◌, ◌/◌, ◌%◌, ◌<◌, ◌≤◌, List, ◌∷◌, ◌++◌, length, nat_lt, if◌then◌else◌}
+use Rattle.std.specs.Prelude.{◌≡◌, ◌≢◌, ℕ, ◌+◌, ◌*◌, ◌/◌, ◌%◌, ◌<◌, ◌≤◌, ◌⊎◌, List, ◌∷◌, ◌++◌, length, slice_index, nat_lt, if◌then◌else◌}
 use Rattle.std.specs.Str.Parse.{IsNumeral, digits_value}
 use Rattle.std.specs.Fmt.{decimal}
 
@@ -25,3 +25,7 @@ two_digits n = if nat_lt n 10 then 48 ∷ decimal n else decimal n
 -- the text of a time: its hours in two digits or as many as they need, its minutes and its seconds in two
 abbrev pub clock_bytes : ℕ → List ℕ
 clock_bytes time = two_digits (time / 3600) ++ colon ∷ two_digits (time / 60 % 60) ++ colon ∷ two_digits (time % 60)
+
+-- a clock text whose hours have two digits, or more of which the first isn't '0'
+abbrev pub HasNoSpareZero : List ℕ → Type 0
+HasNoSpareZero text = (length text ≡ 8) ⊎ ((8 < length text) × (slice_index text 0 ≢ 48))

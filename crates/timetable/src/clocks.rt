@@ -8,6 +8,9 @@ ghost use Rattle.timetable.specs.Clocks.{SpellsClock, clock_bytes};
 use std::alloc::{AllocError, Global};
 use std::fmt;
 
+/// Clock texts spell times below it, in seconds: hours have six digits at most.
+pub const CLOCK_END: u32 = 3_600_000_000;
+
 /// A time in seconds, which is shown as a clock text.
 #[derive(Clone, Copy, Debug, PartialEq, Eq)]
 pub struct Clock(pub u32);
