@@ -7,3 +7,6 @@ pub mod Found
 pub mod Spelled
 pub mod Back
 pub mod BackNames
+pub mod NameByte
+pub mod WordList
+pub mod SampleImage

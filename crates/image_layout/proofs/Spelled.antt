@@ -39,7 +39,7 @@ pub word_in : (w s rest : List ℕ) (p i : ℕ) → drop p w ≡ s ++ rest → i
 word_in w s rest p i e lt = sym (get_or-drop p w i 0) ∙ ap (λ (x : List ℕ). get_or x i 0) e ∙ get_or_append_left s rest 0 i lt
 
 -- a word of a piece, where all pieces are as long
-piece_word : {X : Type 0} (f : X → List ℕ) (k : ℕ) → ((x : X) → length (f x) ≡ k) → (xs : List X) (i r : ℕ) (x : X) → slice_get xs i ≡ Some x → r < k → get_or (flat_map f xs) (k * i + r) 0 ≡ get_or (f x) r 0
+pub piece_word : {X : Type 0} (f : X → List ℕ) (k : ℕ) → ((x : X) → length (f x) ≡ k) → (xs : List X) (i r : ℕ) (x : X) → slice_get xs i ≡ Some x → r < k → get_or (flat_map f xs) (k * i + r) 0 ≡ get_or (f x) r 0
 piece_word f k size [] i r x e lt = absurd cc
 piece_word f k size (y ∷ ys) zero r x e lt =
     let z : k * zero + r ≡ r = omega arith in

@@ -2,6 +2,12 @@
 use Rattle.std.specs.Prelude.{ℕ, ◌+◌, ◌*◌, List, slice_index}
 use Rattle.image_layout.specs.Places.{header_of, foot_index_place, footpath_place, name_index_place, day_place}
 
+abbrev pub magic_of : List ℕ → ℕ
+magic_of w = slice_index w 0
+
+abbrev pub layout_of : List ℕ → ℕ
+layout_of w = slice_index w 1
+
 -- where the six words of a connection begin
 abbrev pub connection_place : ℕ → ℕ
 connection_place i = 9 + 6 * i

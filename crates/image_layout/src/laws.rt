@@ -1,12 +1,33 @@
-//! Laws of the image alone. The functions do nothing.
+//! Laws of images. The functions do nothing: their contracts are the laws.
 
-ghost use Rattle.std.specs.Prelude.{◌≡◌};
+ghost use Rattle.std.specs.Prelude.{◌≡◌, ℕ, ◌<◌, ◌^◌, List, All};
 ghost use Rattle.timetable.specs.TimetableValue.{TimetableValue};
 ghost use Rattle.timetable.specs.NamesValue.{NamesValue};
+ghost use Rattle.image_layout.specs.Text.{bytes_of};
 ghost use Rattle.image_layout.specs.Spelling.{image};
-ghost use Rattle.image_layout.specs.Image.{HasImage};
+ghost use Rattle.image_layout.specs.Shown.{timetable_of, names_of};
+ghost use Rattle.image_layout.specs.Image.{IsImage};
+ghost use Rattle.image_layout.specs.Sample.{early_timetable, early_names, early_words};
 
-/// A timetable and its names have one image, and an image has one timetable and names.
+/// Words are the image of one timetable and its names at most.
+pub fn one_timetable()
+    ensures { (w : List ℕ) (t u : TimetableValue) (n m : NamesValue) → IsImage w t n → IsImage w u m → (t ≡ u) × (n ≡ m) }
+{}
+
+/// A timetable and its names have one image at most.
 pub fn one_image()
-    ensures { (p q : TimetableValue) (n m : NamesValue) → HasImage p n → HasImage q m → image p n ≡ image q m → (p ≡ q) × (n ≡ m) }
+    ensures { (v w : List ℕ) (t : TimetableValue) (n : NamesValue) → IsImage v t n → IsImage w t n → v ≡ w }
+{}
+
+/// Bytes are those of one word list at most: so the words read from the bytes of words are these words again.
+pub fn one_word_list()
+    ensures { (v w : List ℕ) → All (λ x. x < 2 ^ 32) v → All (λ x. x < 2 ^ 32) w → bytes_of v ≡ bytes_of w → v ≡ w }
+{}
+
+/// A small image, computed from both ends: its connections are flagged 1, 2 and 3, its base is before 1970, and one of its
+/// names is empty.
+pub fn early_image()
+    ensures spelled { image early_timetable early_names ≡ early_words }
+    ensures timetable { timetable_of early_words ≡ early_timetable }
+    ensures names { names_of early_words ≡ early_names }
 {}

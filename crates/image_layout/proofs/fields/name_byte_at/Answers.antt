@@ -1,0 +1,11 @@
+use Rattle.std.proofs.Common.{ℕ, ◌+◌, ◌/◌, ◌%◌, get_or, ap, ◌∙◌, arith}
+use Rattle.std.specs.Int.{w32, to_le_bytes}
+use Rattle.image_layout.specs.Places.{header_of, text_place}
+use Rattle.image_layout.proofs.NameByte.{name_byte_within, name_byte}
+use Rattle.image_layout.proofs.fields.name_byte_at.Goals as goal
+
+pub bounds-words-text_place : goal.bounds-words-text_place
+bounds-words-text_place c = rw (c.text_place.ensures, c.of.ensures, c.name_index_at.ensures) (name_byte_within c.args.words.now c.args.name c.args.byte c.requires.inside)
+
+pub returns : goal.returns
+returns c = rw (c.to_le_bytes.ensures, c.text_place.ensures, c.of.ensures, c.name_index_at.ensures) (name_byte c.args.words.now c.args.name c.args.byte c.requires.inside)

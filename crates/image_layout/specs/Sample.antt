@@ -1,0 +1,59 @@
+-- Two small timetables with their names, and the words of the second.
+use Rattle.std.specs.Prelude.{ℕ, List, [], ◌∷◌, true, false, pos, negsuc, codes}
+use Rattle.timetable.specs.TimetableValue.{TimetableValue}
+use Rattle.timetable.specs.NamesValue.{NamesValue}
+
+-- three stops, two trips of two connections and of one, and the loops
+abbrev pub sample_timetable : TimetableValue
+sample_timetable = record {
+  stops = 3;
+  trips = 2;
+  connections =
+      record { from = 0; to = 1; dep = 28800; arr = 29400; trip = 0; board = true; alight = true }
+      ∷ record { from = 1; to = 2; dep = 29400; arr = 30600; trip = 0; board = true; alight = true }
+      ∷ record { from = 1; to = 2; dep = 29520; arr = 30000; trip = 1; board = true; alight = true } ∷ [];
+  footpaths = record { from = 0; to = 0; secs = 0 } ∷ record { from = 1; to = 1; secs = 0 } ∷ record { from = 2; to = 2; secs = 0 } ∷ [];
+}
+
+-- its times count from 2024-01-15T00:00:00Z
+abbrev pub sample_names : NamesValue
+sample_names = record {
+  base = pos 1705276800;
+  stops = codes "A" ∷ codes "B" ∷ codes "C" ∷ [];
+  trips = record { name = codes "T1"; day = 20240115 } ∷ record { name = codes "T2"; day = 20240115 } ∷ [];
+}
+
+-- connections for boarding alone, for alighting alone and for both, and walks between the two stops
+abbrev pub early_timetable : TimetableValue
+early_timetable = record {
+  stops = 2;
+  trips = 2;
+  connections =
+      record { from = 0; to = 1; dep = 10; arr = 20; trip = 1; board = true; alight = false }
+      ∷ record { from = 1; to = 0; dep = 30; arr = 50; trip = 1; board = false; alight = true }
+      ∷ record { from = 1; to = 0; dep = 40; arr = 60; trip = 0; board = true; alight = true } ∷ [];
+  footpaths =
+      record { from = 0; to = 0; secs = 120 }
+      ∷ record { from = 1; to = 0; secs = 300 }
+      ∷ record { from = 0; to = 1; secs = 240 }
+      ∷ record { from = 1; to = 1; secs = 90 } ∷ [];
+}
+
+-- its times count from 1969-12-31T00:00:00Z; a stop has no name
+abbrev pub early_names : NamesValue
+early_names = record {
+  base = negsuc 86399;
+  stops = [] ∷ codes "Port" ∷ [];
+  trips = record { name = codes "12"; day = 19691231 } ∷ record { name = codes "ABC"; day = 19700101 } ∷ [];
+}
+
+-- worked out by hand, a section a line
+abbrev pub early_words : List ℕ
+early_words =
+    1346458435 ∷ 1 ∷ 2 ∷ 2 ∷ 3 ∷ 4 ∷ 9 ∷ 4294880896 ∷ 4294967295
+    ∷ 0 ∷ 1 ∷ 10 ∷ 20 ∷ 1 ∷ 1 ∷ 1 ∷ 0 ∷ 30 ∷ 50 ∷ 1 ∷ 2 ∷ 1 ∷ 0 ∷ 40 ∷ 60 ∷ 0 ∷ 3
+    ∷ 0 ∷ 2 ∷ 4
+    ∷ 0 ∷ 120 ∷ 1 ∷ 300 ∷ 0 ∷ 240 ∷ 1 ∷ 90
+    ∷ 0 ∷ 0 ∷ 4 ∷ 6 ∷ 9
+    ∷ 19691231 ∷ 19700101
+    ∷ 0x7472_6f50 ∷ 0x4241_3231 ∷ 0x43 ∷ []
