@@ -1,0 +1,204 @@
+-- What a connection adds covers every way to go on that begins with it.
+use Rattle.std.proofs.Common.{◌≡◌, ℕ, ◌+◌, ◌-◌, ◌<◌, ◌≤◌, true, List, [], ◌∷◌, length, Contains, Option, arith, refl, sym, ◌∙◌, ap, subst, inl, inr, add-zero}
+use Rattle.std.proofs.lemmas.Bool.{cases_eq, cases_lt}
+use Rattle.criteria.specs.Laws.{Rules, Laws, Admits, NoWorse}
+use Rattle.bags.specs.declared.point.Point.{Point}
+use Rattle.timetable.specs.declared.network.Footpath.{Footpath}
+use Rattle.timetable.specs.TimetableValue.{TimetableValue}
+use Rattle.timetable.specs.JourneyValue.{RideValue, JourneyValue}
+use Rattle.timetable.specs.Journeys.{connection_at, IsWalk, walk_end, walk_secs, Leads, final_time, start_end, start_secs}
+use Rattle.timetable.specs.declared.query.Query.{Query}
+use Rattle.profile_scan.specs.Values.{walked, ridden, started, journey_value}
+use Rattle.profile_scan.specs.Points.{Covers}
+use Rattle.profile_scan.specs.Continuations.{Onward, Aboard, IsOnward, IsAboard, CountsFrom, onward_value, aboard_value}
+use Rattle.profile_scan.specs.Steps.{Leaving, ends, ends_after, changes, MayLeave, leaving_value, Boarding, MayBoard, SettingOut, MaySetOut}
+use Rattle.profile_scan.specs.LawStatements.{CanScan}
+use Rattle.profile_scan.proofs.Chains.{step_admits, step_monotone, walked_admits, walked_worsens, started_admits, started_monotone, chain_gives_way}
+use Rattle.profile_scan.proofs.Times.{boards_later}
+use Rattle.profile_scan.proofs.Admitted.{AreAdmitted, aboard_admits, covers_weaker}
+
+module _ {V : Type 0} (rules : Rules V) (laws : Laws rules) (t : TimetableValue) (q : Query) (can : CanScan t q) (i : ℕ) where
+  -- leaving the trip at place i and ending after a walk of any length
+  ending_covered : (bag labels : List (Point V)) (admitted : AreAdmitted rules labels)
+      (open_covered : (way : Leaving V) → MayLeave t q i bag way → Covers rules labels 0 (leaving_value rules t i way))
+      (walk : List Footpath) → IsWalk t (connection_at t i).to walk → walk_end (connection_at t i).to walk ≡ q.target → (connection_at t i).arr + walk_secs walk ≤ q.by → Covers rules labels 0 (walked rules walk (rules.arrive ((connection_at t i).arr + walk_secs walk)))
+  ending_covered bag labels admitted open_covered [] is at le =
+      subst (λ (n : ℕ). Covers rules labels 0 (rules.arrive n)) (sym (add-zero (connection_at t i).arr)) (open_covered ends (at, omega arith))
+  ending_covered bag labels admitted open_covered (f ∷ fs) is at le =
+      let c = connection_at t i in
+      let small = can.in_time in
+      let final : ℕ = c.arr + walk_secs (f ∷ fs) in
+      let there = laws.arrive_admits final (omega arith) in
+      let v = walked rules (f ∷ fs) (rules.arrive final) in
+      let v_admitted : Admits rules v = walked_admits rules laws t can.limits c.to (f ∷ fs) (rules.arrive final) is there in
+      elim (cases_eq c.to q.target) [
+        | inl e ↦
+            let here = laws.arrive_admits c.arr (omega arith) in
+            covers_weaker rules laws labels admitted 0 0 (rules.arrive c.arr) v here v_admitted (omega arith)
+            (laws.transitive (rules.arrive c.arr) (rules.arrive final) v here there v_admitted
+            (laws.arrive_monotone c.arr final (omega arith) (omega arith) (omega arith))
+            (walked_worsens rules laws t can.limits c.to (f ∷ fs) (rules.arrive final) is there))
+            (open_covered ends (e, omega arith))
+        | inr other ↦
+            let way = chain_gives_way rules laws t can.limits can.legal c.to f fs is in
+            let h = way.0 in
+            let instead = way.1 in
+            let shorter = instead.no_longer in
+            let soon : ℕ = c.arr + h.secs in
+            let soon_there = laws.arrive_admits soon (omega arith) in
+            let w = rules.walk h.secs (rules.arrive soon) in
+            let w_admitted : Admits rules w = step_admits rules laws t can.limits h (rules.arrive soon) instead.is_footpath soon_there in
+            covers_weaker rules laws labels admitted 0 0 w v w_admitted v_admitted (omega arith)
+            (laws.transitive w (rules.walk h.secs (rules.arrive final)) v w_admitted (step_admits rules laws t can.limits h (rules.arrive final) instead.is_footpath there) v_admitted
+            (step_monotone rules laws t can.limits h (rules.arrive soon) (rules.arrive final) instead.is_footpath soon_there there (laws.arrive_monotone soon final (omega arith) (omega arith) (omega arith)))
+            (instead.no_worse (rules.arrive final) there))
+            (open_covered (ends_after h) (instead.is_footpath, instead.leaves, instead.leads ∙ at, other, omega arith))
+      ]
+
+  -- leaving it there and riding on later
+  changing_onward : (x : Aboard) (ride : RideValue) (rides : List RideValue) → i < length t.connections → IsAboard t q i (connection_at t i).trip (record { last = i; walk = x.walk; rides = ride ∷ rides }) → IsOnward t q (i + 1) (connection_at t i).to (connection_at t i).arr (record { walk = x.walk; rides = ride ∷ rides })
+  changing_onward x ride rides in_i a =
+      let c = connection_at t i in
+      let walks = a.walks (λ e. cc) in
+      record {
+        walks = walks;
+        is_walk = a.is_walk;
+        boards = boards_later t can.legal q.target (walk_end c.to x.walk) (c.arr + walk_secs x.walk) i (ride ∷ rides) in_i (omega arith) (λ e. cc) a.leads;
+        leads = a.leads;
+        arrives = a.arrives;
+      }
+
+  -- leaving it there, in whatever way
+  leaving_covered : (bag labels : List (Point V)) (admitted : AreAdmitted rules labels) (bag_admitted : AreAdmitted rules bag)
+      (open_covered : (way : Leaving V) → MayLeave t q i bag way → Covers rules labels 0 (leaving_value rules t i way))
+      (onward : (time : ℕ) (x : Onward) → IsOnward t q (i + 1) (connection_at t i).to time x → Covers rules bag time (onward_value rules t x))
+      (walk : List Footpath) (rides : List RideValue) → i < length t.connections → IsAboard t q i (connection_at t i).trip (record { last = i; walk = walk; rides = rides }) → Covers rules labels 0 (aboard_value rules t (record { last = i; walk = walk; rides = rides }))
+  leaving_covered bag labels admitted bag_admitted open_covered onward walk [] in_i a = ending_covered bag labels admitted open_covered walk a.is_walk a.leads a.arrives
+  leaving_covered bag labels admitted bag_admitted open_covered onward walk (ride ∷ rides) in_i a =
+      let x : Aboard = record { last = i; walk = walk; rides = ride ∷ rides } in
+      let value_admitted = aboard_admits rules laws t q can i (connection_at t i).trip x a in
+      let p = onward (connection_at t i).arr (record { walk = walk; rides = ride ∷ rides }) (changing_onward x ride rides in_i a) in
+      covers_weaker rules laws labels admitted 0 0 p.0.value (aboard_value rules t x) (bag_admitted p.0 p.1) value_admitted (omega arith) p.3 (open_covered (changes p.0) (p.1, p.2))
+
+  -- labels that cover what follows in the trip later, and each open way to leave it at place i, cover all that follows from place i on
+  pub labels_cover : (bag labels : List (Point V)) (admitted : AreAdmitted rules labels) (bag_admitted : AreAdmitted rules bag)
+      (later : (x : Aboard) → IsAboard t q (i + 1) (connection_at t i).trip x → Covers rules labels 0 (aboard_value rules t x))
+      (open_covered : (way : Leaving V) → (connection_at t i).alight ≡ true → MayLeave t q i bag way → Covers rules labels 0 (leaving_value rules t i way))
+      (onward : (time : ℕ) (x : Onward) → IsOnward t q (i + 1) (connection_at t i).to time x → Covers rules bag time (onward_value rules t x))
+      (x : Aboard) → i < length t.connections → IsAboard t q i (connection_at t i).trip x → Covers rules labels 0 (aboard_value rules t x)
+  labels_cover bag labels admitted bag_admitted later open_covered onward x in_i a =
+      elim (cases_lt i x.last) [
+        | inl lt ↦ later x (record { later = omega arith; in_range = a.in_range; on_trip = a.on_trip; alights = a.alights; is_walk = a.is_walk; walks = a.walks; leads = a.leads; arrives = a.arrives })
+        | inr ge ↦
+            let same : i ≡ x.last = let later_is = a.later in omega arith in
+            let P : ℕ → Type 0 = λ n. IsAboard t q i (connection_at t i).trip (record { last = n; walk = x.walk; rides = x.rides }) → Covers rules labels 0 (aboard_value rules t (record { last = n; walk = x.walk; rides = x.rides })) in
+            let here : P i = λ at_i. leaving_covered bag labels admitted bag_admitted (λ way may. open_covered way at_i.alights may) onward x.walk x.rides in_i at_i in
+            subst P same here a
+      ]
+
+  -- a label for rides that are boarded at place i
+  record IsLabelFor (stop time : ℕ) (labels : List (Point V)) (v : V) (l : Point V) : Type 0 where
+    pub is_label : Contains labels l
+    pub no_worse : NoWorse rules l.value v
+    pub admits : Admits rules v
+    pub boards : (connection_at t i).board ≡ true
+    pub stands : (connection_at t i).from ≡ stop
+    pub waits : time ≤ (connection_at t i).dep
+
+  label_for : (stop time : ℕ) (labels : List (Point V)) (aboard : (x : Aboard) → IsAboard t q i (connection_at t i).trip x → Covers rules labels 0 (aboard_value rules t x)) (ride : RideValue) (rides : List RideValue) → Leads t q.target stop time (ride ∷ rides) → final_time t 0 (ride ∷ rides) ≤ q.by → i ≡ ride.leg.first
+      → (l : Point V) × IsLabelFor stop time labels (walked rules ride.walk (ridden rules (final_time t 0 (ride ∷ rides)) rides)) l
+  label_for stop time labels aboard ride rides leads le e =
+      let x : Aboard = record { last = ride.leg.last; walk = ride.walk; rides = rides } in
+      let on : IsAboard t q i (connection_at t i).trip x = record {
+        later = let rising = leads.0.rising in omega arith;
+        in_range = leads.0.in_range;
+        on_trip = sym (ap (λ (n : ℕ). (connection_at t n).trip) e ∙ leads.0.one_trip);
+        alights = leads.0.alights;
+        is_walk = leads.3;
+        walks = leads.4;
+        leads = leads.5;
+        arrives = le;
+      } in
+      let covered = aboard x on in (
+        covered.0,
+        record {
+          is_label = covered.1;
+          no_worse = covered.3;
+          admits = aboard_admits rules laws t q can i (connection_at t i).trip x on;
+          boards = ap (λ (n : ℕ). (connection_at t n).board) e ∙ leads.0.boards;
+          stands = ap (λ (n : ℕ). (connection_at t n).from) e ∙ leads.1;
+          waits = subst (λ (n : ℕ). time ≤ (connection_at t n).dep) (sym e) leads.2;
+        },
+      )
+
+  -- rides that are boarded at place i after a chain
+  boarding_covered : (stop : ℕ) (labels new : List (Point V)) (labels_admitted : AreAdmitted rules labels) (admitted : AreAdmitted rules new)
+      (aboard : (x : Aboard) → IsAboard t q i (connection_at t i).trip x → Covers rules labels 0 (aboard_value rules t x))
+      (open_covered : (way : Boarding V) → MayBoard t i stop labels way → Covers rules new ((connection_at t i).dep - way.walk.secs) (rules.walk way.walk.secs (rules.ride way.label.value)))
+      (time : ℕ) (walk : List Footpath) (ride : RideValue) (rides : List RideValue) → IsOnward t q i stop time (record { walk = walk; rides = ride ∷ rides }) → i ≡ ride.leg.first
+      → Covers rules new time (onward_value rules t (record { walk = walk; rides = ride ∷ rides }))
+  boarding_covered stop labels new labels_admitted admitted aboard open_covered time [] ride rides on e = absurd (on.walks refl)
+  boarding_covered stop labels new labels_admitted admitted aboard open_covered time (f ∷ fs) ride rides on e =
+      let got = label_for (walk_end stop (f ∷ fs)) (time + walk_secs (f ∷ fs)) labels aboard ride rides on.leads on.arrives e in
+      let l = got.0 in
+      let label = got.1 in
+      let way = chain_gives_way rules laws t can.limits can.legal stop f fs on.is_walk in
+      let h = way.0 in
+      let instead = way.1 in
+      let shorter = instead.no_longer in
+      let waits = label.waits in
+      let v : V = walked rules ride.walk (ridden rules (final_time t 0 (ride ∷ rides)) rides) in
+      let l_admitted = labels_admitted l label.is_label in
+      let ride_l = laws.ride_admits l.value l_admitted in
+      let ride_v = laws.ride_admits v label.admits in
+      let candidate = step_admits rules laws t can.limits h (rules.ride l.value) instead.is_footpath ride_l in
+      let whole = walked_admits rules laws t can.limits stop (f ∷ fs) (rules.ride v) on.is_walk ride_v in
+      covers_weaker rules laws new admitted ((connection_at t i).dep - h.secs) time (rules.walk h.secs (rules.ride l.value)) (walked rules (f ∷ fs) (rules.ride v)) candidate whole (omega arith)
+      (laws.transitive (rules.walk h.secs (rules.ride l.value)) (rules.walk h.secs (rules.ride v)) (walked rules (f ∷ fs) (rules.ride v)) candidate (step_admits rules laws t can.limits h (rules.ride v) instead.is_footpath ride_v) whole
+      (step_monotone rules laws t can.limits h (rules.ride l.value) (rules.ride v) instead.is_footpath ride_l ride_v (laws.ride_monotone l.value v l_admitted label.admits label.no_worse))
+      (instead.no_worse (rules.ride v) ride_v))
+      (open_covered (record { walk = h; label = l }) (record { boards = label.boards; is_footpath = instead.is_footpath; leaves = instead.leaves; leads = instead.leads ∙ sym label.stands; fits = omega arith; is_label = label.is_label }))
+
+  -- a bag that covers what follows later, and each boarding of place i, covers all that follows from place i on
+  pub bag_covers : (stop : ℕ) (labels new : List (Point V)) (labels_admitted : AreAdmitted rules labels) (admitted : AreAdmitted rules new)
+      (aboard : (x : Aboard) → IsAboard t q i (connection_at t i).trip x → Covers rules labels 0 (aboard_value rules t x))
+      (later : (time : ℕ) (x : Onward) → IsOnward t q (i + 1) stop time x → Covers rules new time (onward_value rules t x))
+      (open_covered : (way : Boarding V) → MayBoard t i stop labels way → Covers rules new ((connection_at t i).dep - way.walk.secs) (rules.walk way.walk.secs (rules.ride way.label.value)))
+      (time : ℕ) (walk : List Footpath) (rides : List RideValue) → IsOnward t q i stop time (record { walk = walk; rides = rides }) → Covers rules new time (onward_value rules t (record { walk = walk; rides = rides }))
+  bag_covers stop labels new labels_admitted admitted aboard later open_covered time walk [] on = absurd on.boards
+  bag_covers stop labels new labels_admitted admitted aboard later open_covered time walk (ride ∷ rides) on =
+      elim (cases_lt i ride.leg.first) [
+        | inl lt ↦ later time (record { walk = walk; rides = ride ∷ rides }) (record { walks = on.walks; is_walk = on.is_walk; boards = omega arith; leads = on.leads; arrives = on.arrives })
+        | inr ge ↦ boarding_covered stop labels new labels_admitted admitted aboard open_covered time walk ride rides on (let from = on.boards in omega arith)
+      ]
+
+  -- points found that cover the journeys boarded later, and each way to set out at place i, cover all journeys boarded from place i on
+  pub found_covers : (labels new : List (Point V)) (labels_admitted : AreAdmitted rules labels) (admitted : AreAdmitted rules new)
+      (aboard : (x : Aboard) → IsAboard t q i (connection_at t i).trip x → Covers rules labels 0 (aboard_value rules t x))
+      (later : (departure : ℕ) (j : JourneyValue) → CountsFrom t q (i + 1) departure j → Covers rules new departure (journey_value rules t j))
+      (open_covered : (way : SettingOut V) → MaySetOut t q i labels way → Covers rules new ((connection_at t i).dep - start_secs way.start) (started rules way.start (rules.ride way.label.value)))
+      (departure : ℕ) (start : Option Footpath) (rides : List RideValue) → CountsFrom t q i departure (record { start = start; rides = rides }) → Covers rules new departure (journey_value rules t (record { start = start; rides = rides }))
+  found_covers labels new labels_admitted admitted aboard later open_covered departure start [] c = absurd c.boards
+  found_covers labels new labels_admitted admitted aboard later open_covered departure start (ride ∷ rides) c =
+      elim (cases_lt i ride.leg.first) [
+        | inl lt ↦ later departure (record { start = start; rides = ride ∷ rides }) (record { counts = c.counts; boards = omega arith })
+        | inr ge ↦
+            let e : i ≡ ride.leg.first = let from = c.boards in omega arith in
+            let counts = c.counts in
+            let got = label_for (start_end q.source start) 0 labels aboard ride rides counts.journey.leads counts.arrives e in
+            let l = got.0 in
+            let label = got.1 in
+            let departs : departure + start_secs start ≡ (connection_at t i).dep = counts.departs ∙ ap (λ (n : ℕ). (connection_at t n).dep) (sym e) in
+            let early = counts.not_early in
+            let late = counts.not_late in
+            let v : V = walked rules ride.walk (ridden rules (final_time t 0 (ride ∷ rides)) rides) in
+            let l_admitted = labels_admitted l label.is_label in
+            let ride_l = laws.ride_admits l.value l_admitted in
+            let ride_v = laws.ride_admits v label.admits in
+            covers_weaker rules laws new admitted ((connection_at t i).dep - start_secs start) departure (started rules start (rules.ride l.value)) (started rules start (rules.ride v))
+            (started_admits rules laws t can.limits q.source start (rules.ride l.value) counts.journey.starts ride_l)
+            (started_admits rules laws t can.limits q.source start (rules.ride v) counts.journey.starts ride_v)
+            (omega arith)
+            (started_monotone rules laws t can.limits q.source start (rules.ride l.value) (rules.ride v) counts.journey.starts ride_l ride_v (laws.ride_monotone l.value v l_admitted label.admits label.no_worse))
+            (open_covered (record { start = start; label = l }) (record { boards = label.boards; is_start = counts.journey.starts; leads = sym label.stands; fits = omega arith; not_early = omega arith; not_late = omega arith; is_label = label.is_label }))
+      ]

@@ -1,0 +1,9 @@
+pub mod Chains
+pub mod Times
+pub mod Admitted
+pub mod Sound
+pub mod Complete
+pub mod StepLemmas
+pub mod Ends
+pub mod Answer
+pub mod Windows

@@ -1,0 +1,63 @@
+-- How one may go on to the target over the later connections: from a stop, in a trip, or with a whole journey.
+use Rattle.std.specs.Prelude.{◌≡◌, ◌≢◌, ℕ, ◌+◌, ◌<◌, ◌≤◌, true, List, [], ◌∷◌, length}
+use Rattle.criteria.specs.Laws.{Rules}
+use Rattle.timetable.specs.declared.network.Footpath.{Footpath}
+use Rattle.timetable.specs.TimetableValue.{TimetableValue}
+use Rattle.timetable.specs.JourneyValue.{RideValue, JourneyValue}
+use Rattle.timetable.specs.Journeys.{connection_at, IsWalk, walk_end, walk_secs, Leads, final_time, Counts}
+use Rattle.timetable.specs.declared.query.Query.{Query}
+use Rattle.profile_scan.specs.Values.{walked, ridden}
+
+-- from a stop: a walk, and rides after it
+pub record Onward : Type 0 where
+  pub walk : List Footpath
+  pub rides : List RideValue
+
+-- in a trip: the last connection on board, a walk, and rides after it
+pub record Aboard : Type 0 where
+  pub last : ℕ
+  pub walk : List Footpath
+  pub rides : List RideValue
+
+-- there is a first leg, and it is boarded at place i or later
+abbrev pub BoardsFrom : ℕ → List RideValue → Type 0
+BoardsFrom i [] = ⊥
+BoardsFrom i (ride ∷ rides) = i ≤ ride.leg.first
+
+-- who may leave the stop at the time walks on, by a chain of any length but not by none, boards at place i or later, and is at the target by the query's latest arrival
+pub record IsOnward (t : TimetableValue) (q : Query) (i stop time : ℕ) (x : Onward) : Type 0 where
+  pub walks : x.walk ≢ []
+  pub is_walk : IsWalk t stop x.walk
+  pub boards : BoardsFrom i x.rides
+  pub leads : Leads t q.target (walk_end stop x.walk) (time + walk_secs x.walk) x.rides
+  pub arrives : final_time t 0 x.rides ≤ q.by
+
+-- when the walk after the trip is over, and when the rides after it are
+abbrev pub time_off : TimetableValue → Aboard → ℕ
+time_off t x = (connection_at t x.last).arr + walk_secs x.walk
+
+abbrev pub time_there : TimetableValue → Aboard → ℕ
+time_there t x = final_time t (time_off t x) x.rides
+
+-- who sits in the trip stays up to a connection at place i or later, leaves it there, and is at the target by the query's latest arrival; who rides on after that walks first
+pub record IsAboard (t : TimetableValue) (q : Query) (i trip : ℕ) (x : Aboard) : Type 0 where
+  pub later : i ≤ x.last
+  pub in_range : x.last < length t.connections
+  pub on_trip : (connection_at t x.last).trip ≡ trip
+  pub alights : (connection_at t x.last).alight ≡ true
+  pub is_walk : IsWalk t (connection_at t x.last).to x.walk
+  pub walks : x.rides ≢ [] → x.walk ≢ []
+  pub leads : Leads t q.target (walk_end (connection_at t x.last).to x.walk) (time_off t x) x.rides
+  pub arrives : time_there t x ≤ q.by
+
+-- a journey that counts, and is boarded at place i or later
+pub record CountsFrom (t : TimetableValue) (q : Query) (i departure : ℕ) (j : JourneyValue) : Type 0 where
+  pub counts : Counts t q departure j
+  pub boards : BoardsFrom i j.rides
+
+-- what they are worth; of the trip that one sits in, the ride itself comes before
+abbrev pub onward_value : {V : Type 0} → Rules V → TimetableValue → Onward → V
+onward_value rules t x = walked rules x.walk (ridden rules (final_time t 0 x.rides) x.rides)
+
+abbrev pub aboard_value : {V : Type 0} → Rules V → TimetableValue → Aboard → V
+aboard_value rules t x = walked rules x.walk (ridden rules (time_there t x) x.rides)

@@ -1,0 +1,75 @@
+-- The laws that exactness rests on, as statements over the definitions alone.
+use Rattle.std.specs.Prelude.{◌≡◌, ◌≢◌, ℕ, ◌+◌, ◌-◌, ◌<◌, ◌≤◌, List, [], ◌∷◌, length, Contains, AllPairs, All, map, reverse}
+use Rattle.criteria.specs.Laws.{Rules, Admits, NoWorse}
+use Rattle.bags.specs.Dominance.{IsBag}
+use Rattle.bags.specs.declared.point.Point.{Point}
+use Rattle.timetable.specs.declared.network.Footpath.{Footpath}
+use Rattle.timetable.specs.declared.limits.TheConstants.{TIME_END}
+use Rattle.timetable.specs.TimetableValue.{TimetableValue}
+use Rattle.timetable.specs.JourneyValue.{RideValue, JourneyValue}
+use Rattle.timetable.specs.Legal.{IsLegal}
+use Rattle.timetable.specs.Limits.{IsWithinLimits}
+use Rattle.timetable.specs.Journeys.{connection_at, IsWalk, walk_end, walk_secs, Leads}
+use Rattle.timetable.specs.declared.query.Query.{Query}
+use Rattle.profile_scan.specs.Values.{walked, journey_value}
+use Rattle.profile_scan.specs.Points.{IsAnswer, Before, untagged}
+use Rattle.profile_scan.specs.Window.{window, IsFirstAt, falling}
+use Rattle.profile_scan.specs.Continuations.{Onward, Aboard, IsOnward, IsAboard, CountsFrom}
+use Rattle.profile_scan.specs.Matching.{Spelling, Matches, ScanValue, MatchesFrom}
+
+-- a legal timetable within the limits, and a query whose latest arrival is a time
+pub record CanScan (t : TimetableValue) (q : Query) : Type 0 where
+  pub legal : IsLegal t
+  pub limits : IsWithinLimits t
+  pub in_time : q.by < TIME_END
+
+-- a footpath in place of a chain: it leads from the same stop to the same stop, takes no longer, and is never worse
+pub record IsInstead {V : Type 0} (rules : Rules V) (t : TimetableValue) (stop : ℕ) (chain : List Footpath) (f : Footpath) : Type 0 where
+  pub is_footpath : Contains t.footpaths f
+  pub leaves : f.from ≡ stop
+  pub leads : f.to ≡ walk_end stop chain
+  pub no_longer : f.secs ≤ walk_secs chain
+  pub no_worse : (v : V) → Admits rules v → NoWorse rules (rules.walk f.secs v) (walked rules chain v)
+
+-- a chain of footpaths gives way to one closed footpath
+abbrev pub ChainsGiveWay : {V : Type 0} → Rules V → Type 0
+ChainsGiveWay rules = (t : TimetableValue) → IsLegal t → IsWithinLimits t → (stop : ℕ) (chain : List Footpath) → chain ≢ [] → IsWalk t stop chain → (f : Footpath) × IsInstead rules t stop chain f
+
+-- connections that depart together can't continue one another: a trip's connections depart one after the other, and each leg departs later than the one before it was left
+pub record DeparturesRise (t : TimetableValue) : Type 0 where
+  pub in_trips : (i j : ℕ) → i < j → j < length t.connections → (connection_at t i).trip ≡ (connection_at t j).trip → (connection_at t i).dep < (connection_at t j).dep
+  pub in_rides : (goal stop time : ℕ) (ride next : RideValue) (rides : List RideValue) → Leads t goal stop time (ride ∷ next ∷ rides) → (connection_at t ride.leg.last).dep < (connection_at t next.leg.first).dep
+
+abbrev pub TogetherNeverContinue : Type 0
+TogetherNeverContinue = (t : TimetableValue) → IsLegal t → DeparturesRise t
+
+-- what is kept of the later connections and matches all ways to go on over them still does after the step of one connection
+abbrev pub OneIndexDown : {V : Type 0} → Rules V → (TimetableValue → Query → Spelling → ℕ → ScanValue V → ScanValue V → Type 0) → Type 0
+OneIndexDown {V} rules Step = (t : TimetableValue) (q : Query) → CanScan t q → (tags : Spelling) (i : ℕ) → i < length t.connections → (old new : ScanValue V) → MatchesFrom rules t q tags (i + 1) old → Step t q tags i old new → MatchesFrom rules t q tags i new
+
+-- the cut at the latest departure is the source's alone: what follows a stop or in a trip doesn't know it, and of a journey only its own departure is asked, however early the cut
+pub record CutIsTheSources (JourneyCounts : TimetableValue → Query → ℕ → JourneyValue → Type 0) : Type 0 where
+  pub onward : (t : TimetableValue) (q : Query) (until i stop time : ℕ) (x : Onward) → IsOnward t q i stop time x → IsOnward t (record q { until = until }) i stop time x
+  pub aboard : (t : TimetableValue) (q : Query) (until i trip : ℕ) (x : Aboard) → IsAboard t q i trip x → IsAboard t (record q { until = until }) i trip x
+  pub at_source : (t : TimetableValue) (q : Query) (until departure : ℕ) (j : JourneyValue) → departure ≤ until → JourneyCounts t q departure j → JourneyCounts t (record q { until = until }) departure j
+
+-- points found that match at the window's start, none of which dominates another, in order, are the answer
+abbrev pub MatchIsTheAnswer : {V : Type 0} → Rules V → Type 0
+MatchIsTheAnswer {V} rules = (t : TimetableValue) (q : Query) → CanScan t q → (start : ℕ) → IsFirstAt t q.from start → (tags : Spelling) (found : List (Point V)) → Matches rules tags.journey (CountsFrom t q start) (journey_value rules t) found → IsBag rules found → AllPairs (Before rules) found → IsAnswer rules t q found
+
+-- nothing follows past the window's end, so nothing kept matches
+abbrev pub NothingFollows : {V : Type 0} → Rules V → Type 0
+NothingFollows {V} rules = (t : TimetableValue) (q : Query) → CanScan t q → (end : ℕ) → IsFirstAt t q.by end → (tags : Spelling) → MatchesFrom rules t q tags end (record { bag = λ _. []; labels = λ _. []; found = [] })
+
+-- there is one answer only, tags aside
+abbrev pub OneAnswer : {V : Type 0} → Rules V → Type 0
+OneAnswer {V} rules = (t : TimetableValue) (q : Query) → CanScan t q → (a b : List (Point V)) → IsAnswer rules t q a → IsAnswer rules t q b → map untagged a ≡ map untagged b
+
+-- a window read backward: its places stand between the first ones at two times, each is a place of a connection, and departures never rise
+pub record IsReadBackward (t : TimetableValue) (q : Query) : Type 0 where
+  pub falls : (start end : ℕ) → IsFirstAt t q.from start → IsFirstAt t q.by end → reverse (window t q) ≡ falling start (end - start)
+  pub in_range : All (λ (i : ℕ). i < length t.connections) (reverse (window t q))
+  pub never_rises : AllPairs (λ (i j : ℕ). (connection_at t j).dep ≤ (connection_at t i).dep) (reverse (window t q))
+
+abbrev pub WindowIsReadBackward : Type 0
+WindowIsReadBackward = (t : TimetableValue) → IsLegal t → (q : Query) → IsReadBackward t q

@@ -1,0 +1,124 @@
+-- What one connection adds to what a scan keeps.
+use Rattle.std.specs.Prelude.{◌≡◌, ◌≢◌, ◌⊎◌, ℕ, ◌+◌, ◌-◌, ◌<◌, ◌≤◌, true, List, [], ◌∷◌, Contains, Option}
+use Rattle.criteria.specs.Laws.{Rules, Admits}
+use Rattle.bags.specs.declared.point.Point.{Point}
+use Rattle.timetable.specs.declared.network.Footpath.{Footpath}
+use Rattle.timetable.specs.TimetableValue.{TimetableValue}
+use Rattle.timetable.specs.JourneyValue.{RideValue}
+use Rattle.timetable.specs.Journeys.{connection_at, IsStart, start_end, start_secs}
+use Rattle.timetable.specs.declared.query.Query.{Query}
+use Rattle.profile_scan.specs.Values.{started}
+use Rattle.profile_scan.specs.Points.{Covers}
+use Rattle.profile_scan.specs.Continuations.{Onward, Aboard}
+use Rattle.profile_scan.specs.Matching.{Spelling, StandsFor, ScanValue}
+
+-- what is offered to a list of points: for each way A that is open, a departure, a value, and the tags that fit
+pub record Offer (A V : Type 0) : Type 1 where
+  pub is_open : A → Type 0
+  pub departure : A → ℕ
+  pub value : A → V
+  pub FitsTag : A → ℕ → Type 0
+
+-- a point is one of the offer
+pub record IsOffered {A V : Type 0} (offer : Offer A V) (p : Point V) : Type 0 where
+  pub way : A
+  pub is_open : offer.is_open way
+  pub departs : p.departure ≡ offer.departure way
+  pub worth : p.value ≡ offer.value way
+  pub fits : offer.FitsTag way p.tag
+
+-- a list takes an offer in: each point stood before or is offered, what was covered stays so, and all that is offered is covered
+pub record TakesIn {A V : Type 0} (rules : Rules V) (offer : Offer A V) (old new : List (Point V)) : Type 0 where
+  pub only : (p : Point V) → Contains new p → Contains old p ⊎ IsOffered offer p
+  pub kept : (departure : ℕ) (v : V) → Admits rules v → Covers rules old departure v → Covers rules new departure v
+  pub covered : (way : A) → offer.is_open way → Covers rules new (offer.departure way) (offer.value way)
+
+-- how one who sits in a trip may leave it where a connection ends: at the target; one footpath before the target; or to change, as a point of that stop's bag does
+pub data Leaving (V : Type 0) : Type 0 where
+  ends : Leaving V
+  ends_after : Footpath → Leaving V
+  changes : Point V → Leaving V
+
+-- whether that way is open, given the stop's bag
+abbrev pub MayLeave : {V : Type 0} → TimetableValue → Query → ℕ → List (Point V) → Leaving V → Type 0
+MayLeave t q i bag ends = ((connection_at t i).to ≡ q.target) × ((connection_at t i).arr ≤ q.by)
+MayLeave t q i bag (ends_after f) = Contains t.footpaths f × (f.from ≡ (connection_at t i).to) × (f.to ≡ q.target) × ((connection_at t i).to ≢ q.target) × ((connection_at t i).arr + f.secs ≤ q.by)
+MayLeave t q i bag (changes p) = Contains bag p × ((connection_at t i).arr ≤ p.departure)
+
+-- its value
+abbrev pub leaving_value : {V : Type 0} → Rules V → TimetableValue → ℕ → Leaving V → V
+leaving_value rules t i ends = rules.arrive (connection_at t i).arr
+leaving_value rules t i (ends_after f) = rules.walk f.secs (rules.arrive ((connection_at t i).arr + f.secs))
+leaving_value rules t i (changes p) = p.value
+
+-- what its tag may spell
+abbrev pub LeavingTag : {V : Type 0} → Spelling → ℕ → Leaving V → ℕ → Type 0
+LeavingTag tags i ends tag = StandsFor (tags.aboard tag) (record { last = i; walk = []; rides = [] })
+LeavingTag tags i (ends_after f) tag = StandsFor (tags.aboard tag) (record { last = i; walk = f ∷ []; rides = [] })
+LeavingTag tags i (changes p) tag = (x : Onward) → StandsFor (tags.onward p.tag) x → StandsFor (tags.aboard tag) (record { last = i; walk = x.walk; rides = x.rides })
+
+-- the labels of the connection's trip are offered each way to leave it, where passengers may get off
+abbrev pub leavings : {V : Type 0} → Rules V → TimetableValue → Query → Spelling → ℕ → List (Point V) → Offer (Leaving V) V
+leavings rules t q tags i bag = record {
+  is_open = λ way. ((connection_at t i).alight ≡ true) × MayLeave t q i bag way;
+  departure = λ _. 0;
+  value = leaving_value rules t i;
+  FitsTag = LeavingTag tags i;
+}
+
+-- a ride from the connection on, as a label goes on, with the rides after it
+abbrev pub boarded : ℕ → Aboard → List RideValue
+boarded i x = record { leg = record { first = i; last = x.last }; walk = x.walk } ∷ x.rides
+
+-- boarding a connection: a footpath to it, and a label of its trip
+pub record Boarding (V : Type 0) : Type 0 where
+  pub walk : Footpath
+  pub label : Point V
+
+pub record MayBoard {V : Type 0} (t : TimetableValue) (i stop : ℕ) (labels : List (Point V)) (way : Boarding V) : Type 0 where
+  pub boards : (connection_at t i).board ≡ true
+  pub is_footpath : Contains t.footpaths way.walk
+  pub leaves : way.walk.from ≡ stop
+  pub leads : way.walk.to ≡ (connection_at t i).from
+  pub fits : way.walk.secs ≤ (connection_at t i).dep
+  pub is_label : Contains labels way.label
+
+-- the bag of a stop is offered each label after each footpath from the stop to the connection
+abbrev pub boardings : {V : Type 0} → Rules V → TimetableValue → Spelling → ℕ → ℕ → List (Point V) → Offer (Boarding V) V
+boardings rules t tags i stop labels = record {
+  is_open = MayBoard t i stop labels;
+  departure = λ way. (connection_at t i).dep - way.walk.secs;
+  value = λ way. rules.walk way.walk.secs (rules.ride way.label.value);
+  FitsTag = λ way tag. (x : Aboard) → StandsFor (tags.aboard way.label.tag) x → StandsFor (tags.onward tag) (record { walk = way.walk ∷ []; rides = boarded i x });
+}
+
+-- setting out from the source to board a connection: a start, and a label of its trip
+pub record SettingOut (V : Type 0) : Type 0 where
+  pub start : Option Footpath
+  pub label : Point V
+
+-- the start is none or one footpath to another stop, never a loop; and here alone the window of departures is asked for
+pub record MaySetOut {V : Type 0} (t : TimetableValue) (q : Query) (i : ℕ) (labels : List (Point V)) (way : SettingOut V) : Type 0 where
+  pub boards : (connection_at t i).board ≡ true
+  pub is_start : IsStart t q.source way.start
+  pub leads : start_end q.source way.start ≡ (connection_at t i).from
+  pub fits : start_secs way.start ≤ (connection_at t i).dep
+  pub not_early : q.from ≤ (connection_at t i).dep - start_secs way.start
+  pub not_late : (connection_at t i).dep - start_secs way.start ≤ q.until
+  pub is_label : Contains labels way.label
+
+-- the points found are offered each label after each start
+abbrev pub settings_out : {V : Type 0} → Rules V → TimetableValue → Query → Spelling → ℕ → List (Point V) → Offer (SettingOut V) V
+settings_out rules t q tags i labels = record {
+  is_open = MaySetOut t q i labels;
+  departure = λ way. (connection_at t i).dep - start_secs way.start;
+  value = λ way. started rules way.start (rules.ride way.label.value);
+  FitsTag = λ way tag. (x : Aboard) → StandsFor (tags.aboard way.label.tag) x → StandsFor (tags.journey tag) (record { start = way.start; rides = boarded i x });
+}
+
+-- one connection, from what a scan keeps of the later ones: first the labels of its trip, by the bag of the stop where it ends; then, by these labels, every bag and the points found
+pub record IsStep {V : Type 0} (rules : Rules V) (t : TimetableValue) (q : Query) (tags : Spelling) (i : ℕ) (old new : ScanValue V) : Type 0 where
+  pub leaves : TakesIn rules (leavings rules t q tags i (old.bag (connection_at t i).to)) (old.labels (connection_at t i).trip) (new.labels (connection_at t i).trip)
+  pub other_trips : (trip : ℕ) → trip ≢ (connection_at t i).trip → new.labels trip ≡ old.labels trip
+  pub boards : (stop : ℕ) → stop < t.stops → TakesIn rules (boardings rules t tags i stop (new.labels (connection_at t i).trip)) (old.bag stop) (new.bag stop)
+  pub sets_out : TakesIn rules (settings_out rules t q tags i (new.labels (connection_at t i).trip)) old.found new.found

@@ -1,0 +1,6 @@
+//! The answer of a profile query, and the laws by which one backward scan finds it.
+#![tactic(auto)]
+
+pub mod laws;
+#[cfg(test)]
+mod rows;
