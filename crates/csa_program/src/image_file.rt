@@ -1,5 +1,9 @@
 //! The words of an image, from a file or a reader.
 
+ghost use Rattle.std.specs.Prelude.{◌≡◌, ◌≢◌, ◌<◌, ◌≤◌, ◌%◌, ◌*◌, ◌^◌, length, take, ◌++◌, IfOk, OnOk, IfSome};
+ghost use Rattle.std.specs.Io.KnownBytes.{Consumes, IsAtEnd};
+ghost use Rattle.image_layout.specs.Text.{bytes_of};
+
 use std::alloc::{AllocError, Global};
 use std::fs::OpenFile;
 use std::io::Read;
@@ -17,12 +21,22 @@ pub enum WordsFault {
 }
 
 impl From<AllocError> for WordsFault {
+    ghost use Rattle.std.specs.Prelude.{◌≡◌};
+    ghost use Rattle.csa_program.specs.declared.image_file.WordsFault.TheVariants.{OutOfMemory};
+
+    ghost from_gives = { λ _ fault. fault ≡ OutOfMemory };
+
     fn from(_error: AllocError) -> WordsFault {
         WordsFault::OutOfMemory
     }
 }
 
 impl From<io::Error> for WordsFault {
+    ghost use Rattle.std.specs.Prelude.{◌≢◌};
+    ghost use Rattle.csa_program.specs.declared.image_file.WordsFault.TheVariants.{OddLength};
+
+    ghost from_gives = { λ _ fault. fault ≢ OddLength };
+
     fn from(error: io::Error) -> WordsFault {
         match error.kind() {
             io::ErrorKind::OutOfMemory => WordsFault::OutOfMemory,
@@ -31,8 +45,8 @@ impl From<io::Error> for WordsFault {
     }
 }
 
-/// How many bytes are read before they become words: so an image is held once, and not as bytes beside words.
-const PIECE: usize = 1 << 16;
+/// How many words are read at once: so an image is held once, and not as bytes beside words.
+const PIECE_WORDS: usize = 16_384;
 
 /// The words of the file at the path, or of the input for `-`.
 pub fn image_words<H: Files + AllocGlobal, I: Read>(
@@ -40,33 +54,92 @@ pub fn image_words<H: Files + AllocGlobal, I: Read>(
     path: &str,
     input: &mut I,
 ) -> Result<Vec<u32>, WordsFault> {
+    let mut piece = new_piece(rt.alloc(), PIECE_WORDS)?;
     if path == "-" {
-        return words_of(rt.alloc(), input, 0);
+        return words_of(rt.alloc(), input, &mut piece, 0);
     }
     let mut file = fs::File::open(rt, path)?;
     let bytes = file.metadata()?.len();
-    words_of(rt.alloc(), &mut file, (bytes / 4) as usize)
+    words_of(rt.alloc(), &mut file, &mut piece, (bytes / 4) as usize)
 }
 
-/// The words that a reader's bytes spell, least byte first; `ahead` is how many are expected.
-fn words_of<R: Read>(alloc: Global, reader: &mut R, ahead: usize) -> Result<Vec<u32>, WordsFault> {
-    let mut words = Vec::with_capacity(alloc, ahead)?;
-    let mut piece = Vec::with_capacity(alloc, PIECE)?;
+/// Reads once, and again where the read was interrupted; how many bytes came.
+fn read_some<R: Read>(reader: &mut R, piece: &mut [u8]) -> io::Result<usize>
+    ensures within { IfOk result (λ n. n ≤ length piece.new) }
+    ensures bytes { IfOk result (λ n. Consumes (R.remaining reader.old) (R.remaining reader.new) (take n piece.new)) }
+    ensures end { IfOk result (λ n. n ≡ 0 → 0 < length piece.new → IsAtEnd (R.remaining reader.new)) }
+{
     for _ in 0..u64::MAX {
-        piece.clear();
-        reader.by_ref().take(PIECE as u64).read_to_end(&mut piece)?;
-        if piece.len() % 4 != 0 {
+        match reader.read(piece) {
+            Ok(n) => return Ok(n),
+            Err(error) => {
+                if error.kind() != io::ErrorKind::Interrupted {
+                    return Err(error);
+                }
+            }
+        }
+    }
+    Err(io::Error::from(io::ErrorKind::TimedOut))
+}
+
+/// Reads until the piece is full or the reader ends; how many bytes came.
+fn fill<R: Read>(reader: &mut R, piece: &mut [u8]) -> io::Result<usize>
+    ensures within { IfOk result (λ n. n ≤ length piece.new) }
+    ensures bytes { IfOk result (λ n. Consumes (R.remaining reader.old) (R.remaining reader.new) (take n piece.new)) }
+    ensures end { IfOk result (λ n. n < length piece.new → IsAtEnd (R.remaining reader.new)) }
+{
+    let mut at = 0;
+    'pieces: for _ in 0..u64::MAX {
+        if at == piece.len() {
+            return Ok(at);
+        }
+        let count = read_some(reader, &mut piece[at..])?;
+        if count == 0 {
+            return Ok(at);
+        }
+        at += count;
+    }
+    Err(io::Error::from(io::ErrorKind::TimedOut))
+}
+
+/// The words that a reader's bytes spell, least byte first; they come by pieces, and `ahead` is how many are expected.
+fn words_of<R: Read>(
+    alloc: Global,
+    reader: &mut R,
+    piece: &mut [u8],
+    ahead: usize,
+) -> Result<Vec<u32>, WordsFault>
+    requires { length piece.old % 4 ≡ 0 }
+    ensures spelled { IfOk result (λ words. IfSome (R.remaining reader.old) (λ bytes. bytes_of words.items ≡ bytes)) }
+    ensures odd { result ≡ Err WordsFault.OddLength → IfSome (R.remaining reader.old) (λ bytes. length bytes % 4 ≢ 0) }
+{
+    let mut words = Vec::with_capacity(alloc, ahead)?;
+    'pieces: for _ in 0..u64::MAX {
+        let count = fill(reader, piece)?;
+        if count % 4 != 0 {
             return Err(WordsFault::OddLength);
         }
-        append_words(&mut words, &piece)?;
-        if piece.len() < PIECE {
+        append_words(&mut words, &piece[..count])?;
+        if count < piece.len() {
             return Ok(words);
         }
     }
-    Ok(words)
+    Err(WordsFault::Unreadable)
 }
 
-fn append_words(words: &mut Vec<u32>, bytes: &[u8]) -> Result<(), AllocError> {
+/// Room for so many words, as bytes.
+fn new_piece(alloc: Global, words: usize) -> Result<Vec<u8>, AllocError>
+    requires { 4 * words < 2 ^ 64 }
+    ensures { IfOk result (λ piece. length piece.items ≡ 4 * words) }
+{
+    Ok(vec![in alloc; 0u8; 4 * words]?)
+}
+
+/// Puts the words that the bytes spell at the end.
+fn append_words(words: &mut Vec<u32>, bytes: &[u8]) -> Result<(), AllocError>
+    requires { length bytes.now % 4 ≡ 0 }
+    ensures { OnOk result (bytes_of words.new.items ≡ bytes_of words.old.items ++ bytes.now) }
+{
     for i in 0..bytes.len() / 4 {
         words.push(u32::from_le_bytes([
             bytes[4 * i],

@@ -2,6 +2,7 @@
 
 use crate::run;
 use image_layout::{Words, sample_words};
+use std::fs;
 use std::process::Abort;
 use std::rt::Files;
 use std::test::Fail;
@@ -166,6 +167,31 @@ fn bytes_that_are_cut_are_refused(rt: HostRuntime) -> Result<(), Fail> {
     expect_line(&rt, &VERIFY, &bytes[..187], 2, "refused 51 OddLength\n");
     expect_line(&rt, &VERIFY, &bytes[..184], 2, "refused 63 BadLength\n");
     expect_line(&rt, &VERIFY, &bytes[..0], 2, "refused 63 BadLength\n");
+    Ok(())
+}
+
+#[test]
+fn an_image_file_is_verified_by_its_path(rt: HostRuntime) -> Result<(), Fail> {
+    let bytes = Words::to_bytes(rt.alloc(), &sample_words())?;
+    fs::write(&rt, "sample.csa", bytes.as_slice())?;
+    let words = ["csa", "verify", "sample.csa"];
+    expect_line(
+        &rt,
+        &words,
+        b"",
+        0,
+        "ok stops 3 trips 2 connections 3 footpaths 3\n",
+    );
+    fs::remove_file(&rt, "sample.csa")?;
+    Ok(())
+}
+
+/// A reader of many words: more than one piece.
+#[test]
+fn long_inputs_are_read_whole(rt: HostRuntime) -> Result<(), Fail> {
+    let zeros = vec![in rt.alloc(); 0u8; 200_003]?;
+    expect_line(&rt, &VERIFY, &zeros, 2, "refused 51 OddLength\n");
+    expect_line(&rt, &VERIFY, &zeros[..200_000], 2, "refused 61 BadMagic\n");
     Ok(())
 }
 

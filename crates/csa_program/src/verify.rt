@@ -52,7 +52,7 @@ fn counts(alloc: Global, image: &Verified) -> Result<String, AllocError> {
         image.stops(),
         image.trips(),
         image.len(),
-        0
+        image.footpath_count()
     )
 }
 

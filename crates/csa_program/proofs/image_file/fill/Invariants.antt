@@ -1,0 +1,10 @@
+use Rattle.std.proofs.Common.{◌≡◌, ◌≤◌, length, take}
+use Rattle.std.specs.Io.KnownBytes.{Consumes}
+use Rattle.csa_program.proofs.image_file.fill.Given as goal
+
+abbrev pub invariant-pieces : goal.invariant-pieces
+invariant-pieces g l = record {
+  whole : length l.piece ≡ length l.initial.piece;
+  within : l.at ≤ length l.piece;
+  filled : Consumes (g.R.Read.remaining l.initial.reader) (g.R.Read.remaining l.reader) (take l.at l.piece);
+}
