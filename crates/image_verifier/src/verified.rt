@@ -1,6 +1,6 @@
 //! Words that were found to be an image.
 
-ghost use Rattle.std.specs.Prelude.{◌≡◌, ◌<◌, ◌≤◌, ◌+◌, length, slice_get, Some, ℕ, ◌↔◌, IfOk, IfErr, MatchResult};
+ghost use Rattle.std.specs.Prelude.{◌≡◌, ◌<◌, ◌≤◌, ◌+◌, length, slice_get, Some, ℕ, ◌↔◌, List, IfOk, IfErr, IfSome, IfNone, MatchResult};
 ghost use Rattle.timetable.specs.TimetableValue.{TimetableValue};
 ghost use Rattle.timetable.specs.Legal.{At};
 ghost use Rattle.timetable.specs.declared.network.Connection.{Connection};
@@ -10,14 +10,16 @@ ghost use Rattle.image_layout.specs.Fields.{dep_of, foot_index_of};
 ghost use Rattle.image_layout.specs.Shown.{footpaths_of};
 ghost use Rattle.image_verifier.specs.Accepted.{IsAccepted};
 ghost use Rattle.timetable.specs.NamesValue.{NamesValue};
+ghost use Rattle.image_layout.specs.Spelling.{name_list};
 ghost use Rattle.image_layout.specs.Image.{HasImage, IsImage};
 ghost use Rattle.image_verifier.specs.declared.fault.ImageFault.TheVariants.{OutOfMemory};
 ghost use Rattle.image_verifier.specs.FirstFault.{Tells};
 
 use crate::fault::ImageFault;
+use crate::find::{name_len_at, stop_named};
 use crate::judge::judge;
 use image_layout::{
-    Header, base_at, connection_at, dep_at, foot_from_at, foot_index_at, foot_secs_at,
+    Header, base_at, connection_at, dep_at, foot_from_at, foot_index_at, foot_secs_at, name_byte_at,
 };
 use std::alloc::Global;
 use std::marker::Model;
@@ -212,5 +214,31 @@ impl Verified {
         ensures { slice_get self.now.timetable.footpaths place ≡ Some result }
     {
         footpath_at(&self.words, place)
+    }
+
+    /// The least stop of a name.
+    pub fn find(&self, name: &[u8]) -> Option<u32>
+        ensures found { IfSome result (λ s. At self.now.names.stops s name.now) }
+        ensures least { IfSome result (λ s. (k : ℕ) → k < s → ¬ At self.now.names.stops k name.now) }
+        ensures none { IfNone result ((k : ℕ) → ¬ At self.now.names.stops k name.now) }
+    {
+        stop_named(&self.words, name)
+    }
+
+    /// How many bytes a name has. Names are numbered: those of the stops, and then those of the trips.
+    pub fn name_len(&self, i: usize) -> usize
+        requires { i < length (name_list self.now.names) }
+        ensures { (name : List ℕ) → At (name_list self.now.names) i name → result ≡ length name }
+    {
+        name_len_at(&self.words, i)
+    }
+
+    /// A byte of a name.
+    pub fn name_byte(&self, i: usize, j: usize) -> u8
+        requires name { i < length (name_list self.now.names) }
+        requires byte { (name : List ℕ) → At (name_list self.now.names) i name → j < length name }
+        ensures { (name : List ℕ) → At (name_list self.now.names) i name → At name j result }
+    {
+        name_byte_at(&self.words, i, j)
     }
 }
