@@ -1,5 +1,6 @@
 -- What the records of each file spell, and what can be wrong with their values.
-use Rattle.std.specs.Prelude.{◌≡◌, ◌≢◌, ◌<◌, ◌==◌, ◌&&◌, ◌||◌, not, if◌then◌else◌, ℕ, List, [], ◌∷◌, ◌++◌, length, map, slice_index_or, option_map, Option, Some, None, Bool, true, false}
+use Rattle.std.specs.Prelude.{◌≡◌, ◌≢◌, ◌==◌, ◌&&◌, ◌||◌, not, if◌then◌else◌, ℕ, List, [], ◌∷◌, ◌++◌, length, map, slice_index_or, option_map, Option, Some, None, Bool, true, false}
+use Rattle.std.specs.List.{slice_get}
 use Rattle.std.specs.Str.{bytes_eq}
 use Rattle.std.specs.String.{string_bytes}
 use Rattle.gtfs_tables.specs.Source.{Record}
@@ -35,6 +36,11 @@ pub record SpellsAgency (places : Places) (r : Record) (row : AgencyRow) : Type 
 abbrev pub judge_agency : Places → Judge
 judge_agency places [] r = None
 judge_agency places (first ∷ rest) r = fault_if (not (bytes_eq (value places 0 first) (value places 0 r))) kinds.ZonesDiffer
+
+-- the zone is that of the first of the rows, if there is one
+abbrev pub is_first_zone : List AgencyRow → List ℕ → Bool
+is_first_zone [] zone = true
+is_first_zone (row ∷ rest) zone = bytes_eq (string_bytes row.zone) zone
 
 -- ---- stops.txt: id, location_type, parent_station
 
@@ -82,7 +88,7 @@ is_available (Some n) = not (n == 1)
 
 -- the text stands at the place
 abbrev pub StandsAt : List (List ℕ) → ℕ → List ℕ → Type 0
-StandsAt texts k text = (k < length texts) × (slice_index_or texts k [] ≡ text)
+StandsAt texts k text = slice_get texts k ≡ Some text
 
 -- a stop_id, which is none where it is blank
 abbrev pub IsStopId : List (List ℕ) → Option ℕ → List ℕ → Type 0

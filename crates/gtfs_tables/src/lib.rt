@@ -3,21 +3,26 @@
 //! The files and their columns are those of the GTFS Schedule Reference.
 #![tactic(auto)]
 
+mod agencies;
 mod cells;
 mod changes;
 pub mod fault;
 mod ids;
 mod keyed;
+pub mod read;
 mod reader;
 pub mod rows;
 mod services;
 mod source;
+mod stop_times;
 mod stops;
 pub mod values;
 
 pub use fault::{FaultKind, Table, TableFault};
+pub use read::read_agency;
 pub use rows::{
     AgencyRow, CalendarDateRow, CalendarRow, Exception, FrequencyRow, Location, StopRow,
     StopTimeRow, TransferKind, TransferRow, TripRow,
 };
+pub use stop_times::StopTimes;
 pub use values::{DateFault, Day, Time, TimeFault};
