@@ -59,6 +59,7 @@ pub record IsHeader (w : List ℕ) : Type 0 where
   pub magic : slice_index w 0 ≡ 1346458435
   pub layout : slice_index w 1 ≡ 1
   pub limits : is_too_large (header_of w) ≡ false
+  pub whole : IsWhole w
 
 pub IsHeader-from : (w : List ℕ) → header_fault w ≡ None → IsHeader w
 unfolding header_fault
@@ -71,6 +72,7 @@ IsHeader-from w e =
       magic = eqb-true _ _ (not-false _ b.0);
       layout = eqb-true _ _ (not-false _ d.0);
       limits = (or_parts (is_too_large (header_of w)) _ f.0).0;
+      whole = record { has_header = ltb-false _ _ a.0; all_there = eqb-true _ _ (not-false _ (or_parts (is_too_large (header_of w)) _ f.0).1) };
     }
 
 pub IsFootIndex-from : (w : List ℕ) → AreFaultless w → IsFootIndex w

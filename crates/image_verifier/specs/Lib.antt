@@ -4,3 +4,4 @@ pub mod ClosureFaults
 pub mod NameFaults
 pub mod FirstFault
 pub mod Accepted
+pub mod FaultNumber
