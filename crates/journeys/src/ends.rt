@@ -1,0 +1,1 @@
+//! Judges when legs depart, and where and when a journey begins and ends.

@@ -1,0 +1,46 @@
+ghost use Rattle.std.specs.Prelude.{◌≡◌};
+ghost use Rattle.journeys.specs.Numbers.{number_of};
+
+/// Why a journey doesn't count for a query, with the number of the leg or walk.
+///
+/// Legs count from 0. Walk i is before leg i, the start being walk 0; the last walk, after all legs, has the number of legs.
+#[derive(Clone, Copy, Debug, PartialEq, Eq)]
+pub enum JourneyFault {
+    /// A leg's first connection is after its last one, or the image hasn't got them; or there is no leg at all.
+    LegRange(usize),
+    /// A leg's first and last connection are of two trips.
+    TwoTrips(usize),
+    /// Nobody gets on where the leg departs.
+    NoBoarding(usize),
+    /// Nobody gets off where the leg ends.
+    NoAlighting(usize),
+    /// The image hasn't got a footpath of the walk with its seconds.
+    NoFootpath(usize),
+    /// Footpaths don't join, or the walk doesn't lead from leg to leg, or is empty between two, or is a start to the stop itself.
+    WalkBroken(usize),
+    /// The leg departs before the leg and walk before it are over.
+    TooEarly(usize),
+    /// The journey doesn't begin at the source, or doesn't end at the target.
+    WrongEnds,
+    /// The journey departs outside the window, or before second 0, or is over too late.
+    OutsideWindow,
+}
+
+impl JourneyFault {
+    /// The number by which a refusal is told.
+    pub fn number(&self) -> u8
+        ensures { result ≡ number_of self.now }
+    {
+        match self {
+            JourneyFault::LegRange(_) => 81,
+            JourneyFault::TwoTrips(_) => 82,
+            JourneyFault::NoBoarding(_) => 83,
+            JourneyFault::NoAlighting(_) => 84,
+            JourneyFault::WalkBroken(_) => 85,
+            JourneyFault::TooEarly(_) => 86,
+            JourneyFault::WrongEnds => 87,
+            JourneyFault::OutsideWindow => 88,
+            JourneyFault::NoFootpath(_) => 89,
+        }
+    }
+}
