@@ -1,5 +1,5 @@
 -- The first fault of a journey beside a query: leg by leg, then walk by walk, then when legs depart, where the journey begins and ends, and at last when.
-use Rattle.std.specs.Prelude.{ℕ, ◌+◌, ◌-◌, Bool, true, false, not, ◌||◌, ◌&&◌, ◌==◌, nat_lt, nat_le, List, [], ◌∷◌, length, slice_index_or, Option, Some, None, if◌then◌else◌}
+use Rattle.std.specs.Prelude.{ℕ, ◌+◌, ◌-◌, ◌<◌, Bool, true, false, not, ◌||◌, ◌&&◌, ◌==◌, nat_lt, nat_le, List, [], ◌∷◌, length, slice_index_or, Option, Some, None, if◌then◌else◌}
 use Rattle.std.specs.List.{list_any, list_all}
 use Rattle.timetable.specs.declared.network.Footpath.{Footpath}
 use Rattle.timetable.specs.declared.journey.Leg.{Leg}
@@ -7,7 +7,7 @@ use Rattle.timetable.specs.declared.query.Query.{Query}
 use Rattle.timetable.specs.TimetableValue.{TimetableValue}
 use Rattle.timetable.specs.JourneyValue.{RideValue, JourneyValue}
 use Rattle.timetable.specs.First.{or_else, first_below, first_between}
-use Rattle.timetable.specs.Journeys.{connection_at, start_secs, stop_after, time_after}
+use Rattle.timetable.specs.Journeys.{IsLeg, connection_at, start_secs, stop_after, time_after}
 use Rattle.journeys.specs.declared.fault.JourneyFault.{JourneyFault}
 use Rattle.journeys.specs.declared.fault.JourneyFault.TheVariants.{LegRange, TwoTrips, NoBoarding, NoAlighting, NoFootpath, WalkBroken, TooEarly, WrongEnds, OutsideWindow}
 
@@ -45,12 +45,16 @@ legs_fault t rides =
     if length rides == 0 then Some (LegRange 0)
     else first_below (λ i. leg_fault t i (ride_at rides i).leg) (length rides)
 
+-- each leg is one of the timetable
+abbrev pub AreLegs : TimetableValue → List RideValue → Type 0
+AreLegs t rides = (i : ℕ) → i < length rides → IsLeg t (ride_at rides i).leg
+
 abbrev pub is_same : Footpath → Footpath → Bool
-is_same f g = f.from == g.from && f.to == g.to && f.secs == g.secs
+is_same f g = f.from == g.from && (f.to == g.to && f.secs == g.secs)
 
 -- the timetable has the footpath, with these seconds
 unfoldable pub has_footpath : TimetableValue → Footpath → Bool
-has_footpath t f = list_any (is_same f) t.footpaths
+has_footpath t f = list_any (λ g. is_same g f) t.footpaths
 
 -- where footpaths end to end lead to from a stop; None where they don't join
 abbrev pub led_to : ℕ → List Footpath → Option ℕ
@@ -87,8 +91,8 @@ unfoldable pub walk_after_fault : TimetableValue → List RideValue → ℕ → 
 walk_after_fault t rides i = walk_fault t (i + 1) (ride_at rides i).walk (is_broken t rides i)
 
 -- the first fault of the walks
-unfoldable pub walks_fault : TimetableValue → JourneyValue → Option JourneyFault
-walks_fault t j = or_else (start_fault t j.start (leg_stop t j.rides 0)) (first_below (walk_after_fault t j.rides) (length j.rides))
+unfoldable pub walks_fault : TimetableValue → Option Footpath → List RideValue → Option JourneyFault
+walks_fault t start rides = or_else (start_fault t start (leg_stop t rides 0)) (first_below (walk_after_fault t rides) (length rides))
 
 -- leg i departs before the ride before it is over
 unfoldable pub early_fault : TimetableValue → List RideValue → ℕ → Option JourneyFault
@@ -113,22 +117,25 @@ abbrev pub over_at : TimetableValue → List RideValue → ℕ
 over_at t rides = time_after t (ride_at rides (length rides - 1))
 
 -- it begins or ends elsewhere
-unfoldable pub ends_fault : TimetableValue → Query → JourneyValue → Option JourneyFault
-ends_fault t q j =
-    if not (begin_of j.start (leg_stop t j.rides 0) == q.source) || not (end_of t j.rides == q.target) then Some WrongEnds
+unfoldable pub ends_fault : TimetableValue → Query → Option Footpath → List RideValue → Option JourneyFault
+ends_fault t q start rides =
+    if not (begin_of start (leg_stop t rides 0) == q.source) || not (end_of t rides == q.target) then Some WrongEnds
     else None
 
 -- it departs before the window or after it (sums, since a departure before second 0 is before each window), or is over too late
-unfoldable pub window_fault : TimetableValue → Query → JourneyValue → Option JourneyFault
-window_fault t q j =
-    if nat_lt (leg_time t j.rides 0) (q.from + start_secs j.start) || nat_lt (q.until + start_secs j.start) (leg_time t j.rides 0) || nat_lt q.by (over_at t j.rides) then Some OutsideWindow
+unfoldable pub window_fault : TimetableValue → Query → Option Footpath → List RideValue → Option JourneyFault
+window_fault t q start rides =
+    if nat_lt (leg_time t rides 0) (q.from + start_secs start) || nat_lt (q.until + start_secs start) (leg_time t rides 0) || nat_lt q.by (over_at t rides) then Some OutsideWindow
     else None
+
+-- the first fault of the journey itself, and of where it leads
+unfoldable pub path_fault : TimetableValue → Query → Option Footpath → List RideValue → Option JourneyFault
+path_fault t q start rides =
+    or_else (legs_fault t rides)
+    (or_else (walks_fault t start rides)
+    (or_else (times_fault t rides)
+    (ends_fault t q start rides)))
 
 -- the first fault of all
 unfoldable pub first_fault : TimetableValue → Query → JourneyValue → Option JourneyFault
-first_fault t q j =
-    or_else (legs_fault t j.rides)
-    (or_else (walks_fault t j)
-    (or_else (times_fault t j.rides)
-    (or_else (ends_fault t q j)
-    (window_fault t q j))))
+first_fault t q j = or_else (path_fault t q j.start j.rides) (window_fault t q j.start j.rides)

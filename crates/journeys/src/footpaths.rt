@@ -1,7 +1,7 @@
 //! Whether an image has a footpath.
 
 ghost use Rattle.std.specs.Prelude.{◌≡◌, ◌<◌, ◌≤◌, ℕ, length};
-ghost use Rattle.timetable.specs.Legal.{At};
+ghost use Rattle.timetable.specs.Legal.{At, IsLegal};
 ghost use Rattle.timetable.specs.declared.network.Footpath.{Footpath};
 ghost use Rattle.journeys.specs.Faults.{has_footpath};
 
@@ -14,6 +14,7 @@ fn first_leaving(image: &Verified, stop: u32, start: usize, end: usize, from: u3
     requires stop { stop < image.now.timetable.stops }
     requires order { start ≤ end }
     requires within { end ≤ length image.now.timetable.footpaths }
+    requires legal { IsLegal image.now.timetable }
     requires into { (k : ℕ) (f : Footpath) → At image.now.timetable.footpaths k f → start ≤ k → k < end → f.to ≡ stop }
     ensures low { start ≤ result }
     ensures high { result ≤ end }

@@ -2,7 +2,7 @@
 
 ghost use Rattle.std.specs.Prelude.{◌≡◌, ◌<◌, length};
 ghost use Rattle.timetable.specs.Journeys.{connection_at};
-ghost use Rattle.journeys.specs.Faults.{leg_fault, legs_fault};
+ghost use Rattle.journeys.specs.Faults.{leg_fault, legs_fault, ride_at};
 
 use crate::fault::JourneyFault;
 use image_verifier::Verified;
@@ -36,6 +36,15 @@ fn leg_fault(image: &Verified, i: usize, leg: Leg) -> Option<JourneyFault>
     }
 }
 
+/// Leg i of a journey.
+pub fn leg_at(rides: &[Ride], i: usize) -> Leg
+    requires { i < length rides.now }
+    ensures { result ≡ (ride_at rides.now i).leg }
+{
+    let ride = &rides[i];
+    ride.leg
+}
+
 /// The first fault of the legs.
 #[tactic(auto, using(timetable::proofs::FirstLemmas::searches), unfolding(crate::specs::Faults::legs_fault))]
 pub fn legs_fault(image: &Verified, rides: &[Ride]) -> Option<JourneyFault>
@@ -45,7 +54,7 @@ pub fn legs_fault(image: &Verified, rides: &[Ride]) -> Option<JourneyFault>
         return Some(JourneyFault::LegRange(0));
     }
     for i in 0..rides.len() {
-        if let Some(fault) = leg_fault(image, i, rides[i].leg) {
+        if let Some(fault) = leg_fault(image, i, leg_at(rides, i)) {
             return Some(fault);
         }
     }

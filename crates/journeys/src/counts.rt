@@ -1,0 +1,72 @@
+//! Whether a journey holds in an image and counts for a query.
+
+ghost use Rattle.std.specs.Prelude.{◌≡◌, ◌↔◌, ℕ, None, Some, Ok, IfOk, IfErr};
+ghost use Rattle.timetable.specs.TimetableValue.{TimetableValue};
+ghost use Rattle.timetable.specs.JourneyValue.{JourneyValue};
+ghost use Rattle.timetable.specs.declared.query.Query.{Query};
+ghost use Rattle.timetable.specs.Journeys.{Counts, arrival};
+ghost use Rattle.journeys.specs.Judged.{IsJudged};
+ghost use Rattle.journeys.specs.Faults.{path_fault, first_fault};
+
+use crate::ends::{ends_fault, times_fault, times_inside};
+use crate::fault::JourneyFault;
+use crate::legs::legs_fault;
+use crate::walks::walks_fault;
+use image_verifier::Verified;
+use timetable::{Footpath, Journey, Query, Ride, Times};
+
+/// The first fault of the journey itself, and of where it leads.
+#[tactic(auto, unfolding(crate::specs::Faults::path_fault))]
+fn path_fault(
+    image: &Verified,
+    query: &Query,
+    start: Option<Footpath>,
+    rides: &[Ride],
+) -> Option<JourneyFault>
+    ensures { result ≡ path_fault image.now.timetable query.now start rides.now }
+{
+    if let Some(fault) = legs_fault(image, rides) {
+        return Some(fault);
+    }
+    if let Some(fault) = walks_fault(image, start, rides) {
+        return Some(fault);
+    }
+    if let Some(fault) = times_fault(image, rides) {
+        return Some(fault);
+    }
+    ends_fault(image, query, start, rides)
+}
+
+fn judge(
+    image: &Verified,
+    query: &Query,
+    start: Option<Footpath>,
+    rides: &[Ride],
+) -> Result<Times, JourneyFault>
+    ensures { IsJudged image.now.timetable query.now (record { start = start; rides = rides.now }) result }
+{
+    if let Some(fault) = path_fault(image, query, start, rides) {
+        return Err(fault);
+    }
+    times_inside(image, query, start, rides)
+}
+
+/// The departure and final time of a journey that holds in the image and counts for the query; else its first fault.
+///
+/// No memory is taken. A query may be any: one whose source or target is no stop, or whose window is empty, has no journey that
+/// counts; one from a stop to itself has journeys that lead back.
+pub fn check(image: &Verified, query: &Query, journey: &Journey) -> Result<Times, JourneyFault>
+    // It counts, departs then and is over then.
+    ensures counts { IfOk result (λ times. Counts image.now.timetable query.now times.dep journey.now × (times.arr ≡ arrival image.now.timetable journey.now)) }
+    // What counts is accepted.
+    ensures only { (departure : ℕ) → Counts image.now.timetable query.now departure journey.now → result ≡ Ok (record { dep = departure; arr = arrival image.now.timetable journey.now }) }
+    // Which fault it is.
+    ensures fault { IfErr result (λ e. first_fault image.now.timetable query.now journey.now ≡ Some e) }
+{
+    judge(image, query, journey.start, &journey.rides)
+}
+
+/// A journey has no fault just where it counts, at some departure.
+pub fn faultless_counts()
+    ensures { (t : TimetableValue) (q : Query) (j : JourneyValue) → (first_fault t q j ≡ None) ↔ ((departure : ℕ) × Counts t q departure j) }
+{}
