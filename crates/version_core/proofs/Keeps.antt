@@ -80,14 +80,14 @@ depart_kept s w k kept stays =
     ]
 
 -- nothing waits to be published exactly where the newest version is current
-at_rest : (s : State) → Kept s → newest s ≡ s.current → (k v : ℕ) → ¬ (IsUnpublished s k v)
-at_rest s kept rest k v new = none_unpublished s.current s.current_shelf (newest s) s.shelves kept.shelves rest k v new.0 new.1
+pub none_waits : (s : State) → Kept s → newest s ≡ s.current → (k v : ℕ) → ¬ (IsUnpublished s k v)
+none_waits s kept rest k v new = none_unpublished s.current s.current_shelf (newest s) s.shelves kept.shelves rest k v new.0 new.1
 
 pub newest_is_current : (s : State) → Kept s → ((k v : ℕ) → ¬ (IsUnpublished s k v)) → newest s ≡ s.current
 newest_is_current s kept none = elim kept.shelves.newest_open [ inl a ↦ a | inr b ↦ absurd (none b.1.0 (newest s) (b.1.1, (let q = b.0 in omega arith))) ]
 
 pub may_open_where : (s : State) (few : Bool) → Kept s → newest s ≡ s.current → (few ≡ true → newest s < 1000000000) → (few ≡ false → ¬ (newest s < 1000000000)) → MatchBool few (MayOpen s) (¬ (MayOpen s))
-may_open_where s true kept rest fewer more = (at_rest s kept rest, fewer refl)
+may_open_where s true kept rest fewer more = (none_waits s kept rest, fewer refl)
 may_open_where s false kept rest fewer more = λ may. more refl may.1
 
 pub open_kept : (s : State) (k e : ℕ) → Kept s → MayOpen s → IsFree s k → Kept (opened s k e)

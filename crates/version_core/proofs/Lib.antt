@@ -4,3 +4,4 @@ pub mod Counts
 pub mod Workers
 pub mod Keeps
 pub mod Runs
+pub mod Rests

@@ -3,3 +3,4 @@ pub mod Steps
 pub mod Runs
 pub mod Kept
 pub mod Laws
+pub mod Rest

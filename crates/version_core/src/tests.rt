@@ -273,6 +273,7 @@ fn what_stands_where(rt: HostRuntime) -> Result<(), Fail> {
     assert_eq!(&rt; core.seen(1), Some(1));
     assert_eq!(&rt; core.seen(15), Some(2));
     assert_eq!(&rt; core.seen(16), None);
+    at_rest();
     every_run();
     runs_in_parts();
     Ok(())
