@@ -4,7 +4,7 @@ use Rattle.std.specs.Str.{IsUtf8}
 use borrow.Author.Count.{below_more}
 use Rattle.gtfs_tables.specs.Source.{Record, table_records}
 use Rattle.gtfs_tables.specs.Cells.{Places, has_required, places_of}
-use Rattle.gtfs_tables.specs.Faults.{IsFaultOf, IsFirstFault, Judge, Shape, fault_at, judge_under, length_first}
+use Rattle.gtfs_tables.specs.Faults.{HoldsFile, HoldsRecords, IsFaultOf, IsFirstFault, Judge, Shape, fault_at, judge_under, length_first}
 use Rattle.gtfs_tables.specs.declared.fault.FaultKind.{FaultKind}
 
 -- what is left begins with the element at the place
@@ -47,3 +47,12 @@ fault_under s bytes header records places width is wide text e there n kind f =
     let all = rw is at there in
     let found = rw (is, wide) at f in
     (λ _. rw (e, all) found, λ none. absurd (none text))
+
+-- what holds of a file's records
+pub holds_weaker : {T U : Type 0} (s : Shape) (bytes : List ℕ) (holds : Places → List Record → T → Type 0) (other : Places → List Record → U → Type 0) (t : T) (u : U)
+    → ((places : Places) (records : List Record) → holds places records t → other places records u) → HoldsFile s holds bytes t → HoldsFile s other bytes u
+holds_weaker s bytes holds other t u go h = (h.0, by (table_records bytes) h.1)
+  where
+    by : (records : List Record) → HoldsRecords s holds records t → HoldsRecords s other records u
+    by [] h = h
+    by (header ∷ records) h = (h.0, h.1, go (places_of s.names header) records h.2)

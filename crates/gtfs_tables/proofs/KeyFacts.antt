@@ -115,6 +115,7 @@ spells_more trips stops new_trips new_stops places [] (row ∷ rows) t s h = abs
 spells_more trips stops new_trips new_stops places (r ∷ records) [] t s h = absurd h
 spells_more trips stops new_trips new_stops places (r ∷ records) (row ∷ rows) t s h =
     let trip : StandsAt (map string_bytes new_trips) row.trip (value places 0 r) = rw t.1 (stands_more (map string_bytes trips) t.0 row.trip (value places 0 r) h.0.trip) in
-    let stop : IsStopId (map string_bytes new_stops) row.stop (value places 3 r) = rw s.1 (stop_id_more (map string_bytes stops) s.0 row.stop (value places 3 r) h.0.stop) in
-    (record { trip = trip; arrival = h.0.arrival; departure = h.0.departure; stop = stop; sequence = h.0.sequence; board = h.0.board; alight = h.0.alight },
-      spells_more trips stops new_trips new_stops places records rows t s h.1)
+    let stop : IsStopId (map string_bytes new_stops) row.stop (value places 3 r) = rw s.1 (stop_id_more (map string_bytes stops) s.0 row.stop (value places 3 r) h.0.stop) in (
+      record { trip = trip; arrival = h.0.arrival; departure = h.0.departure; stop = stop; sequence = h.0.sequence; board = h.0.board; alight = h.0.alight },
+      spells_more trips stops new_trips new_stops places records rows t s h.1,
+    )

@@ -1,7 +1,7 @@
 -- The first fault of a table.
 use Rattle.std.specs.Prelude.{◌≡◌, ◌+◌, ◌<◌, ◌==◌, if◌then◌else◌, ℕ, List, [], ◌∷◌, ◌++◌, length, take, slice_index_or, map, Option, Some, None, Bool, true, false, String, IsUtf8}
 use Rattle.std.specs.Bool.{MatchBool}
-use Rattle.std.specs.List.{list_any}
+use Rattle.std.specs.List.{AllZip, list_any}
 use Rattle.std.specs.Option.{option_to_list}
 use Rattle.std.specs.Str.{bytes_eq}
 use Rattle.std.specs.String.{string_bytes}
@@ -47,8 +47,8 @@ judge_under s header = length_first (length header) (s.judge (places_of s.names 
 abbrev pub IsFaultUnder : Shape → Record → List Record → ℕ → FaultKind → Type 0
 IsFaultUnder s header records n kind =
     MatchBool (has_required s.required (places_of s.names header))
-        ((k : ℕ) × (n ≡ k + 1) × IsFirstFault (judge_under s header) records k kind)
-        ((n ≡ 0) × (kind ≡ kinds.MissingColumn))
+    ((k : ℕ) × (n ≡ k + 1) × IsFirstFault (judge_under s header) records k kind)
+    ((n ≡ 0) × (kind ≡ kinds.MissingColumn))
 
 abbrev pub IsFaultOfRecords : Shape → List Record → ℕ → FaultKind → Type 0
 IsFaultOfRecords s [] n kind = (n ≡ 0) × (kind ≡ kinds.MissingColumn)
@@ -72,6 +72,10 @@ HoldsRecords s holds (header ∷ records) table = HoldsUnder s holds header reco
 
 abbrev pub HoldsFile : {T : Type 0} → Shape → (Places → List Record → T → Type 0) → List ℕ → T → Type 0
 HoldsFile s holds bytes table = IsUtf8 bytes × HoldsRecords s holds (table_records bytes) table
+
+-- each record spells the row at its place
+abbrev pub HoldsRows : {R : Type 0} → Shape → (Places → Record → R → Type 0) → List ℕ → List R → Type 0
+HoldsRows s spells bytes rows = HoldsFile s (λ places records table. AllZip (spells places) records table) bytes rows
 
 -- the first of two faults that stands
 abbrev pub or_fault : Option FaultKind → Option FaultKind → Option FaultKind

@@ -28,6 +28,13 @@ use Rattle.gtfs_tables.specs.declared.rows.TripRow.{TripRow}
 abbrev pub value : Places → ℕ → Record → List ℕ
 value places k r = cell (slice_index_or places k None) r
 
+-- a table whose values are always fine, and one without a key
+abbrev pub no_fault : Places → Record → Option FaultKind
+no_fault places r = None
+
+abbrev pub no_key : Places → Record → Option (List ℕ)
+no_key places r = None
+
 -- ---- agency.txt: the time zone, which all records share
 
 pub record SpellsAgency (places : Places) (r : Record) (row : AgencyRow) : Type 0 where
@@ -127,7 +134,7 @@ weekdays_of places r = all_some (map (weekday places r) (1 ∷ 2 ∷ 3 ∷ 4 ∷
 abbrev pub calendar_fault : Places → Record → Option FaultKind
 calendar_fault places r =
     or_fault (fault_unless (weekdays_of places r) kinds.BadNumber)
-        (or_fault (fault_unless (day_of (value places 8 r)) kinds.BadDate) (fault_unless (day_of (value places 9 r)) kinds.BadDate))
+    (or_fault (fault_unless (day_of (value places 8 r)) kinds.BadDate) (fault_unless (day_of (value places 9 r)) kinds.BadDate))
 
 pub record SpellsCalendar (places : Places) (r : Record) (row : CalendarRow) : Type 0 where
   pub service : string_bytes row.service ≡ value places 0 r

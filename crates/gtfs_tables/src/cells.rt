@@ -57,7 +57,11 @@ fn column(header: &ByteRecord, name: &[u8]) -> Option<usize>
 }
 
 // Where the header has each column.
-pub(crate) fn places(alloc: Global, header: &ByteRecord, names: &[&str]) -> Result<Vec<Option<usize>>, AllocError>
+pub(crate) fn places(
+    alloc: Global,
+    header: &ByteRecord,
+    names: &[&str],
+) -> Result<Vec<Option<usize>>, AllocError>
     ensures { IfOk result (λ v. v.items ≡ places_of (map (λ name. name.now) names.now) (fields_of header.now)) }
 {
     let mut places = Vec::with_capacity(alloc, names.len())?;
@@ -98,7 +102,11 @@ pub(crate) fn text_of(alloc: Global, bytes: &[u8]) -> Result<String, AllocError>
 }
 
 // What a record has in a column, as a text of its own.
-pub(crate) fn text_in(alloc: Global, fields: &ByteRecord, place: Option<usize>) -> Result<String, AllocError>
+pub(crate) fn text_in(
+    alloc: Global,
+    fields: &ByteRecord,
+    place: Option<usize>,
+) -> Result<String, AllocError>
     requires { AllText (fields_of fields.now) }
     ensures { IfOk result (λ s. string_bytes s ≡ cell_of place (fields_of fields.now)) }
 {

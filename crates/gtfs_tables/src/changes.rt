@@ -2,7 +2,7 @@
 
 ghost use Rattle.std.specs.Prelude.{◌≡◌, ◌<◌, length, None, Some};
 ghost use Rattle.csv.specs.Records.{fields_of};
-ghost use Rattle.gtfs_tables.specs.Rows.{SpellsFrequency, SpellsTransfer, transfer_of, typed_transfer};
+ghost use Rattle.gtfs_tables.specs.Rows.{SpellsFrequency, SpellsTransfer, no_fault, no_key, transfer_of, typed_transfer};
 
 use crate::cells::{cell, text_in};
 use crate::fault::FaultKind;
@@ -47,9 +47,9 @@ fn transfer_kind(fields: &ByteRecord, places: &[Option<usize>]) -> TransferKind
 impl Row for TransferRow {
     ghost columns = { 8 };
 
-    ghost values = { λ places r. None };
+    ghost values = { no_fault };
 
-    ghost key = { λ places r. None };
+    ghost key = { no_key };
 
     ghost spells = { SpellsTransfer };
 
@@ -84,9 +84,9 @@ impl Row for TransferRow {
 impl Row for FrequencyRow {
     ghost columns = { 1 };
 
-    ghost values = { λ places r. None };
+    ghost values = { no_fault };
 
-    ghost key = { λ places r. None };
+    ghost key = { no_key };
 
     ghost spells = { SpellsFrequency };
 

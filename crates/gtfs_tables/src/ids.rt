@@ -32,7 +32,11 @@ pub(crate) fn add_key(keys: &mut IndexSet<String>, key: Option<String>) -> Resul
 }
 
 // The place of an id, which is added where it isn't there yet.
-pub(crate) fn place_of(alloc: Global, ids: &mut IndexSet<String>, id: &[u8]) -> Result<u32, FaultKind>
+pub(crate) fn place_of(
+    alloc: Global,
+    ids: &mut IndexSet<String>,
+    id: &[u8],
+) -> Result<u32, FaultKind>
     requires { IsUtf8 id.now }
     ensures more { OnOk result (Extends ids.old.keys ids.new.keys) }
     ensures ok { IfOk result (λ place. StandsAt (map string_bytes ids.new.keys) place id.now) }

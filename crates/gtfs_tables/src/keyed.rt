@@ -1,17 +1,17 @@
 // Rows that each stand for one record, some of which have a key of their own.
 
-ghost use Rattle.std.specs.Prelude.{◌≡◌, ◌≢◌, ℕ, List, [], Option, None, Some, length, option_map, IfOk, IfErr};
+ghost use Rattle.std.specs.Prelude.{◌≡◌, ◌≢◌, ◌≤◌, ℕ, List, [], map, Option, None, Some, length, option_map, IfOk, IfErr};
 ghost use Rattle.std.specs.String.{string_bytes};
 ghost use Rattle.std.specs.List.{AllZip};
 ghost use Rattle.csv.specs.Records.{AllText, fields_of};
 ghost use Rattle.gtfs_tables.specs.Source.{Record};
 ghost use Rattle.gtfs_tables.specs.Cells.{Places};
-ghost use Rattle.gtfs_tables.specs.Faults.{KeysOf, values_then_key};
+ghost use Rattle.gtfs_tables.specs.Faults.{HoldsRows, IsFaultOf, KeysOf, values_then_key};
 ghost use Rattle.gtfs_tables.specs.declared.fault.FaultKind.{FaultKind as Kind};
 
-use crate::fault::FaultKind;
+use crate::fault::{FaultKind, Table, TableFault};
 use crate::ids::add_key;
-use crate::reader::TableRows;
+use crate::reader::{TableRows, read_table};
 use csv::ByteRecord;
 use indexmap::IndexSet;
 use std::alloc::{AllocError, Global};
@@ -28,11 +28,7 @@ pub(crate) trait Row: Sized + Drop {
     ghost spells: { Places → Record → Self → Type 0 };
 
     // The row of a record of text, or what is wrong with it.
-    fn read(
-        alloc: Global,
-        places: &[Option<usize>],
-        fields: &ByteRecord,
-    ) -> Result<Self, FaultKind>
+    fn read(alloc: Global, places: &[Option<usize>], fields: &ByteRecord) -> Result<Self, FaultKind>
         requires text { AllText (fields_of fields.now) }
         requires wide { length places.now ≡ columns }
         ensures ok { IfOk result (λ row. (values places.now (fields_of fields.now) ≡ None) × spells places.now (fields_of fields.now) row) }
@@ -90,5 +86,27 @@ impl<R: Row> TableRows for Keyed<R> {
             return Err(FaultKind::OutOfMemory);
         }
         Ok(())
+    }
+}
+
+// The rows of a file whose rows each stand for one record.
+pub(crate) fn read_rows<R: Row>(
+    alloc: Global,
+    table: Table,
+    bytes: &[u8],
+    names: &[&str],
+    required: usize,
+) -> Result<Vec<R>, TableFault>
+    requires wide { length names.now ≡ R.columns }
+    requires required { required ≤ length names.now }
+    ensures ok { IfOk result (λ rows. HoldsRows (record { names = map (λ name. name.now) names.now; required = required; judge = λ places. values_then_key (R.values places) (R.key places) }) R.spells bytes.now rows.items) }
+    ensures file { IfErr result (λ fault. fault.table ≡ table) }
+    ensures err { IfErr result (λ fault. fault.kind ≢ FaultKind.OutOfMemory
+        → IsFaultOf (record { names = map (λ name. name.now) names.now; required = required; judge = λ places. values_then_key (R.values places) (R.key places) }) bytes.now fault.row fault.kind) }
+{
+    let keyed: Keyed<R> = Keyed::new(alloc);
+    match read_table(keyed, alloc, table, bytes, names, required) {
+        Ok(keyed) => Ok(keyed.rows),
+        Err(fault) => Err(fault),
     }
 }

@@ -19,7 +19,10 @@ mod stops;
 pub mod values;
 
 pub use fault::{FaultKind, Table, TableFault};
-pub use read::read_agency;
+pub use read::{
+    MAX_STOPS, MAX_TRIPS, read_agency, read_calendar, read_calendar_dates, read_frequencies,
+    read_stop_times, read_stops, read_transfers, read_trips,
+};
 pub use rows::{
     AgencyRow, CalendarDateRow, CalendarRow, Exception, FrequencyRow, Location, StopRow,
     StopTimeRow, TransferKind, TransferRow, TripRow,

@@ -63,7 +63,11 @@ fn available(text: &[u8]) -> bool
 }
 
 // The place of a stop_id among the ids, unless it is blank.
-fn stop_place(alloc: Global, stops: &mut IndexSet<String>, text: &[u8]) -> Result<Option<u32>, FaultKind>
+fn stop_place(
+    alloc: Global,
+    stops: &mut IndexSet<String>,
+    text: &[u8],
+) -> Result<Option<u32>, FaultKind>
     requires { IsUtf8 text.now }
     ensures more { OnOk result (Extends stops.old.keys stops.new.keys) }
     ensures ok { IfOk result (λ place. IsStopId (map string_bytes stops.new.keys) place text.now) }

@@ -1,7 +1,7 @@
 // stops.txt and trips.txt, whose records have ids.
 
 ghost use Rattle.std.specs.Prelude.{◌≡◌, None, Some};
-ghost use Rattle.gtfs_tables.specs.Rows.{SpellsStop, SpellsTrip, location_of, stop_key, trip_key};
+ghost use Rattle.gtfs_tables.specs.Rows.{SpellsStop, SpellsTrip, location_of, no_fault, stop_key, trip_key};
 ghost use Rattle.gtfs_tables.specs.Values.{number_of};
 
 use crate::cells::{cell, text_in};
@@ -28,7 +28,7 @@ fn location(text: &[u8]) -> Location
 impl Row for StopRow {
     ghost columns = { 3 };
 
-    ghost values = { λ places r. None };
+    ghost values = { no_fault };
 
     ghost key = { stop_key };
 
@@ -65,7 +65,7 @@ impl Row for StopRow {
 impl Row for TripRow {
     ghost columns = { 2 };
 
-    ghost values = { λ places r. None };
+    ghost values = { no_fault };
 
     ghost key = { trip_key };
 

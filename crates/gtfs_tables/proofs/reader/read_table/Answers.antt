@@ -16,8 +16,8 @@ pub returns-clause-err : goal.returns-clause-err
 returns-clause-err g c =
     let e : table_records c.args.bytes.now ≡ fields_of c.take_record.new.fields ∷ left_of c.take_record.new.reader = sym c.open_table-reader.ensures.left ∙ (rw c.in-Ok-true.field-0-test at c.in-Ok-true.ensures.reads) in
     IfErr-weaker c.add_records.result _ _ (λ fault found other. fault_under
-      (record { names = map (λ (name : Bor (List ℕ)). name.now) c.args.names.now; required = c.args.required; judge = g.T.TableRows.judge })
-      c.args.bytes.now (fields_of c.take_record.new.fields) (left_of c.take_record.new.reader) c.deref-2.result.now c.len.result
-      (c.deref-2.ensures.value ∙ c.in-Ok.ensures) c.len.ensures (c.is_text.ensures.yes c.if-not-is_text.false) e
-      (rw (c.deref.ensures.value, sym c.deref-2.ensures.value) at (sym c.has_required.ensures ∙ c.if-not-has_required.false))
-      fault.row fault.kind (found other)) c.add_records.ensures.err
+    (record { names = map (λ (name : Bor (List ℕ)). name.now) c.args.names.now; required = c.args.required; judge = g.T.TableRows.judge })
+    c.args.bytes.now (fields_of c.take_record.new.fields) (left_of c.take_record.new.reader) c.deref-2.result.now c.len.result
+    (c.deref-2.ensures.value ∙ c.in-Ok.ensures) c.len.ensures (c.is_text.ensures.yes c.if-not-is_text.false) e
+    (rw (c.deref.ensures.value, sym c.deref-2.ensures.value) at (sym c.has_required.ensures ∙ c.if-not-has_required.false))
+    fault.row fault.kind (found other)) c.add_records.ensures.err

@@ -12,8 +12,7 @@ returns-clause-ok c = λ before held.
     let good : is_ok c.push.result ≡ true = search rules in
     let items = rw good at c.push.ensures.items in
     let zone : is_first_zone c.args.self.now.rows.items (value c.args.places.now 0 (fields_of c.args.fields.now)) ≡ true =
-        rw (c.deref.ensures.value, c.cell.ensures) at (sym c.has_zone.ensures ∙ c.if-not-has_zone.false) in
-    (
+    rw (c.deref.ensures.value, c.cell.ensures) at (sym c.has_zone.ensures ∙ c.if-not-has_zone.false) in (
       zones_judged c.args.places.now before c.args.self.now.rows.items (fields_of c.args.fields.now) held ∙ ap (λ (b : Bool). fault_if (not b) kinds.ZonesDiffer) zone,
       rw items (all_zip_more (SpellsAgency c.args.places.now) before c.args.self.now.rows.items (fields_of c.args.fields.now) (record { zone = c.in-Ok.zone }) held (record { zone = c.in-Ok.ensures })),
     )

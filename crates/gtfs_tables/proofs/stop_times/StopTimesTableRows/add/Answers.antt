@@ -24,8 +24,14 @@ returns-clause-ok c = λ before held.
     let good : is_ok c.push.result ≡ true = search rules in
     let items = rw good at c.push.ensures.items in
     let row : StopTimeRow = record {
-      trip = c.in_ok-trip.trip; arrival = c.in_ok-arrival.arrival; departure = c.in_ok-departure.departure; stop = c.in_ok-stop.stop;
-      sequence = c.in_ok-sequence.sequence; board = c.available.result; alight = c.available-2.result } in
+      trip = c.in_ok-trip.trip;
+      arrival = c.in_ok-arrival.arrival;
+      departure = c.in_ok-departure.departure;
+      stop = c.in_ok-stop.stop;
+      sequence = c.in_ok-sequence.sequence;
+      board = c.available.result;
+      alight = c.available-2.result;
+    } in
     let spelled : SpellsStopTime (map string_bytes c.place_of.new.ids.keys) (map string_bytes c.stop_place.new.stops.keys) c.args.places.now (fields_of c.args.fields.now) row = record {
       trip = rw c.cell.ensures at c.in_ok-trip.ensures.ok;
       arrival = c.in_ok-arrival.ensures.ok;
@@ -34,10 +40,9 @@ returns-clause-ok c = λ before held.
       sequence = c.in_ok-sequence.ensures.ok;
       board = rw c.cell-3.ensures at c.available.ensures;
       alight = rw c.cell-4.ensures at c.available-2.ensures;
-    } in
-    (
+    } in (
       no_stop_time_fault c.args.places.now (fields_of c.args.fields.now) c.in_ok-sequence.sequence c.in_ok-arrival.ensures.fine c.in_ok-departure.ensures.fine c.in_ok-sequence.ensures.ok,
       rw items (all_zip_more (SpellsStopTime (map string_bytes c.place_of.new.ids.keys) (map string_bytes c.stop_place.new.stops.keys) c.args.places.now) before c.args.self.now.rows.items (fields_of c.args.fields.now) row
-        (spells_more c.args.self.now.trips.keys c.args.self.now.stops.keys c.place_of.new.ids.keys c.stop_place.new.stops.keys c.args.places.now before c.args.self.now.rows.items c.in_ok-trip.ensures.more c.in_ok-stop.ensures.more held)
-        spelled),
+          (spells_more c.args.self.now.trips.keys c.args.self.now.stops.keys c.place_of.new.ids.keys c.stop_place.new.stops.keys c.args.places.now before c.args.self.now.rows.items c.in_ok-trip.ensures.more c.in_ok-stop.ensures.more held)
+          spelled),
     )
