@@ -62,13 +62,13 @@ unbroken_from_legal w can i lt (Some j) e =
     both_tests true e f = absurd cc
     both_tests false e f = absurd cc
 
-sorted_from_legal : (w : List ℕ) → HasImage (timetable_of w) (names_of w) → (i : ℕ) → i < (header_of w).connections → ltb (dep_of w i) (dep_of w (i - 1)) ≡ false
-sorted_from_legal w can zero lt = le-ltb _ _ (omega arith)
+sorted_from_legal : (w : List ℕ) → HasImage (timetable_of w) (names_of w) → (i : ℕ) → i < (header_of w).connections → (ltb 0 i && ltb (dep_of w i) (dep_of w (i - 1))) ≡ false
+sorted_from_legal w can zero lt = refl
 sorted_from_legal w can (suc i) lt =
     let k : i + 1 ≡ suc i = omega arith in
     let back : suc i - 1 ≡ i = omega arith in
     let up = can.legal.departures_never_fall i (connection_of w i) (connection_of w (suc i)) (shown_at w i (omega arith)) (ap (λ (x : ℕ). slice_get (connections_of w) x) k ∙ shown_at w (suc i) lt) in
-    le-ltb _ _ (omega (arith, up, ap (λ (x : ℕ). dep_of w x) back))
+    and_right _ _ (le-ltb (dep_of w (suc i)) (dep_of w (suc i - 1)) (omega (arith, up, ap (λ (x : ℕ). dep_of w x) back)))
 
 pub connection_faultless : (w : List ℕ) → IsWellFormed w → HasImage (timetable_of w) (names_of w) → (i : ℕ) → i < (header_of w).connections → connection_fault w i ≡ None
 unfolding connection_fault

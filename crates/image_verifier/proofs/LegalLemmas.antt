@@ -1,6 +1,6 @@
 -- The timetable that accepted words show is legal.
-use Rattle.std.proofs.Common.{◌≡◌, ℕ, ◌+◌, ◌-◌, ◌<◌, ◌≤◌, Bool, true, false, not, eqb, ltb, cond, List, Option, Some, None, refl, sym, ap, subst, ◌∙◌, arith, inl, inr}
-use Rattle.std.proofs.lemmas.Bool.{cases_order, or_parts, and_parts, leb-false, leb-true, ltb-false, eqb-true, eq-eqb, ne_eqb}
+use Rattle.std.proofs.Common.{◌≡◌, ℕ, zero, suc, ◌+◌, ◌-◌, ◌<◌, ◌≤◌, Bool, true, false, not, ◌&&◌, eqb, ltb, cond, List, Option, Some, None, refl, sym, ap, subst, ◌∙◌, arith, inl, inr}
+use Rattle.std.proofs.lemmas.Bool.{cases_order, or_parts, and_parts, leb-false, leb-true, ltb-false, lt-ltb, eqb-true, eq-eqb, ne_eqb}
 use Rattle.timetable.specs.declared.network.Connection.{Connection}
 use Rattle.timetable.specs.declared.network.Footpath.{Footpath}
 use Rattle.timetable.specs.Legal.{At, HasFootpath, IsJustBefore, IsOrderedBefore, IsLegal}
@@ -29,12 +29,18 @@ pub record IsPlaced (w : List ℕ) (i : ℕ) : Type 0 where
   pub sorted : dep_of w (i - 1) ≤ dep_of w i
   pub unbroken : is_break w i (last_of_trip w (trip_of w i) i) ≡ false
 
+never_falls : (w : List ℕ) (i : ℕ) → (ltb 0 i && ltb (dep_of w i) (dep_of w (i - 1))) ≡ false → dep_of w (i - 1) ≤ dep_of w i
+never_falls w zero e = omega arith
+never_falls w (suc i) e =
+    let rest = rw (lt-ltb 0 (suc i) (omega arith)) at e in
+    ltb-false _ _ rest
+
 pub placed_at : (w : List ℕ) → AreFaultless w → (i : ℕ) → i < (header_of w).connections → IsPlaced w i
 placed_at w good i lt =
     let e = (own-none w i (good.connections i lt)).1 in
-    let a = no_fault (ltb (dep_of w i) (dep_of w (i - 1))) (Unsorted i) _ e in
+    let a = no_fault (ltb 0 i && ltb (dep_of w i) (dep_of w (i - 1))) (Unsorted i) _ e in
     let b = no_fault (is_break w i (last_of_trip w (trip_of w i) i)) (TripBroken i) None a.1 in
-    record { sorted = ltb-false _ _ a.0; unbroken = b.0 }
+    record { sorted = never_falls w i a.0; unbroken = b.0 }
 
 departures : (w : List ℕ) → AreFaultless w → (i : ℕ) (c d : Connection) → At (connections_of w) i c → At (connections_of w) (i + 1) d → c.dep ≤ d.dep
 departures w good i c d ec ed =

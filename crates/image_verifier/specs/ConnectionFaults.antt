@@ -1,5 +1,5 @@
 -- What can be wrong with a connection, in the order in which it is told.
-use Rattle.std.specs.Prelude.{◌≡◌, ◌<◌, length, get_or, ℕ, ◌-◌, Bool, false, not, ◌||◌, ◌==◌, nat_lt, nat_le, List, Option, Some, None, if◌then◌else◌}
+use Rattle.std.specs.Prelude.{◌≡◌, ◌<◌, length, slice_index, ℕ, ◌+◌, ◌-◌, Bool, false, not, ◌||◌, ◌&&◌, ◌==◌, nat_lt, nat_le, List, Option, Some, None, if◌then◌else◌}
 use Rattle.timetable.specs.declared.limits.TheConstants.{TIME_END}
 use Rattle.image_layout.specs.Places.{header_of}
 use Rattle.image_layout.specs.Fields.{from_of, to_of, dep_of, arr_of, trip_of, flags_of}
@@ -26,10 +26,10 @@ own_fault w i =
     else (if nat_lt 3 (flags_of w i) then Some (BadFlags i)
     else None))))
 
--- the fault of connection i beside those before it; the first one is beside itself
+-- the fault of connection i beside those before it, the last one of its trip being given
 abbrev pub place_fault : List ℕ → ℕ → Option ℕ → Option ImageFault
 place_fault w i last =
-    if nat_lt (dep_of w i) (dep_of w (i - 1)) then Some (Unsorted i)
+    if nat_lt 0 i && nat_lt (dep_of w i) (dep_of w (i - 1)) then Some (Unsorted i)
     else (if is_break w i last then Some (TripBroken i)
     else None)
 
@@ -41,7 +41,12 @@ connection_fault w i = or_else (own_fault w i) (place_fault w i (last_of_trip w 
 abbrev pub connections_fault : List ℕ → Option ImageFault
 connections_fault w = first_below (connection_fault w) (header_of w).connections
 
--- at each trip, its last connection before place i
-pub record IsLastTable (w : List ℕ) (i : ℕ) (last : List (Option ℕ)) : Type 0 where
+-- the place after a place, or 0 where there is none
+abbrev pub place_after : Option ℕ → ℕ
+place_after None = 0
+place_after (Some j) = j + 1
+
+-- at each trip, the place after its last connection before place i
+pub record IsLastTable (w : List ℕ) (i : ℕ) (last : List ℕ) : Type 0 where
   pub size : length last ≡ (header_of w).trips
-  pub entry : (t : ℕ) → t < (header_of w).trips → get_or last t None ≡ last_of_trip w t i
+  pub entry : (t : ℕ) → t < (header_of w).trips → slice_index last t ≡ place_after (last_of_trip w t i)

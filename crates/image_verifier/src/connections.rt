@@ -9,8 +9,7 @@ use crate::fault::ImageFault;
 use image_layout::{Header, arr_at, dep_at, flags_at, from_at, to_at, trip_at};
 use timetable::limits::TIME_END;
 
-/// Image times are below this.
-
+/// The fault of connection i by itself.
 fn own_fault(words: &[u32], i: usize) -> Option<ImageFault>
     requires whole { IsWhole words.now }
     requires within { i < (header_of words.now).connections }
@@ -46,6 +45,7 @@ fn is_break(words: &[u32], i: usize, last: Option<u32>) -> bool
     }
 }
 
+/// The fault of connection i beside the one before it and its trip's connection before it.
 fn place_fault(words: &[u32], i: usize, last: Option<u32>) -> Option<ImageFault>
     requires whole { IsWhole words.now }
     requires within { i < (header_of words.now).connections }
@@ -61,9 +61,9 @@ fn place_fault(words: &[u32], i: usize, last: Option<u32>) -> Option<ImageFault>
     }
 }
 
-/// Connection i's fault, beside the trip's connection before it.
+/// The fault of connection i. The table has a place for each trip: the one after the trip's last connection before i, or 0.
 #[tactic(auto, unfolding(crate::specs::ConnectionFaults::connection_fault))]
-fn connection_fault(words: &[u32], i: usize, last: &[Option<u32>]) -> Option<ImageFault>
+fn connection_fault(words: &[u32], i: usize, last: &[u32]) -> Option<ImageFault>
     requires whole { IsWhole words.now }
     requires within { i < (header_of words.now).connections }
     requires table { IsLastTable words.now i last.now }
@@ -71,14 +71,14 @@ fn connection_fault(words: &[u32], i: usize, last: &[Option<u32>]) -> Option<Ima
 {
     match own_fault(words, i) {
         Some(fault) => Some(fault),
-        None => place_fault(words, i, last[trip_at(words, i) as usize]),
+        None => place_fault(words, i, last[trip_at(words, i) as usize].checked_sub(1)),
     }
 }
 
-/// The first fault of the connections, over a table with a place for each trip.
-pub fn connections_fault(words: &[u32], last: &mut [Option<u32>]) -> Option<ImageFault>
+/// The first fault of the connections, over a table with a 0 for each trip.
+pub fn connections_fault(words: &[u32], last: &mut [u32]) -> Option<ImageFault>
     requires whole { IsWhole words.now }
-    requires table { last.old ≡ replicate (header_of words.now).trips None }
+    requires table { last.old ≡ replicate (header_of words.now).trips 0 }
     ensures { result ≡ connections_fault words.now }
 {
     for i in 0..Header::of(words).connections {
@@ -86,7 +86,7 @@ pub fn connections_fault(words: &[u32], last: &mut [Option<u32>]) -> Option<Imag
         if let Some(fault) = connection_fault(words, place, last) {
             return Some(fault);
         }
-        last[trip_at(words, place) as usize] = Some(i);
+        last[trip_at(words, place) as usize] = i + 1;
     }
     None
 }

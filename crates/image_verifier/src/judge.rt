@@ -1,6 +1,6 @@
 //! Judges words, step by step.
 
-ghost use Rattle.std.specs.Prelude.{◌≡◌, None, MatchResult, replicate, IfNone, ℕ, ◌<◌, ◌^◌, slice_index};
+ghost use Rattle.std.specs.Prelude.{◌≡◌, MatchResult, replicate, IfNone, ℕ, ◌<◌, ◌^◌, slice_index};
 ghost use Rattle.image_layout.specs.Places.{IsWhole, header_of};
 ghost use Rattle.image_layout.specs.Text.{padded_text_of};
 ghost use Rattle.image_verifier.specs.Accepted.{IsAccepted};
@@ -47,11 +47,11 @@ fn header_fault(words: &[u32]) -> Option<ImageFault>
     None
 }
 
-/// What is judged after all memory was taken: a table with a place for each trip, and the text of the names.
+/// What is judged after all memory was taken: a table with a 0 for each trip, and the text of the names.
 #[tactic(auto, unfolding(crate::specs::FirstFault::section_fault))]
-fn section_fault(words: &[u32], last: &mut [Option<u32>], text: &[u8]) -> Option<ImageFault>
+fn section_fault(words: &[u32], last: &mut [u32], text: &[u8]) -> Option<ImageFault>
     requires whole { IsWhole words.now }
-    requires table { last.old ≡ replicate (header_of words.now).trips None }
+    requires table { last.old ≡ replicate (header_of words.now).trips 0 }
     requires text { text.now ≡ padded_text_of words.now }
     ensures { result ≡ section_fault words.now }
 {
@@ -77,7 +77,7 @@ pub fn judge(alloc: Global, words: &[u32]) -> Result<(), ImageFault>
         return Err(fault);
     }
     let header = Header::of(words);
-    let mut last = vec![in alloc; None; header.trips as usize]?;
+    let mut last = vec![in alloc; 0; header.trips as usize]?;
     let text = Words::to_bytes(alloc, &words[header.text_place()..])?;
     match section_fault(words, &mut last, &text) {
         Some(fault) => Err(fault),

@@ -1,6 +1,6 @@
 //! Words that were found to be an image.
 
-ghost use Rattle.std.specs.Prelude.{◌≡◌, ◌<◌, ◌≤◌, ◌+◌, length, slice_get, Some, ℕ, ◌↔◌, List, IfOk, IfErr, IfSome, IfNone, MatchResult};
+ghost use Rattle.std.specs.Prelude.{◌≡◌, ◌<◌, ◌≤◌, ◌+◌, length, slice_get, Some, ℕ, ◌↔◌, List, IfOk, IfErr, IfSome, IfNone};
 ghost use Rattle.timetable.specs.TimetableValue.{TimetableValue};
 ghost use Rattle.timetable.specs.Legal.{At};
 ghost use Rattle.timetable.specs.declared.network.Connection.{Connection};
@@ -44,11 +44,11 @@ impl Model for Verified {
     ghost invariant = { λ v. IsAccepted v.words.items };
 }
 
-/// The words as an image, or the words again with their first fault.
+/// The words as an image, or the words again with their first fault. Every image is accepted, unless memory runs out: all
+/// that is wanted is taken after the header was judged and before anything else is.
 pub fn verify(alloc: Global, words: Vec<u32>) -> Result<Verified, (Vec<u32>, ImageFault)>
     ensures shown { IfOk result (λ v. IsImage words.items v.timetable v.names) }
-    // What is an image is accepted, unless memory runs out.
-    ensures only { (p : TimetableValue) (n : NamesValue) → IsImage words.items p n → MatchResult result (λ v. (v.timetable ≡ p) × (v.names ≡ n)) (λ e. e.1 ≡ OutOfMemory) }
+    ensures every_image { (t : TimetableValue) (n : NamesValue) → IsImage words.items t n → IfErr result (λ e. e.1 ≡ OutOfMemory) }
     ensures same_words { IfErr result (λ e. e.0.items ≡ words.items) }
     ensures fault { IfErr result (λ e. Tells words.items e.1) }
 {

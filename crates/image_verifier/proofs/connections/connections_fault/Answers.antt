@@ -1,4 +1,4 @@
-use Rattle.std.proofs.Common.{◌≡◌, ◌<◌, ◌+◌, None, arith, sym, ◌∙◌, refl, subst, ℕ, Some}
+use Rattle.std.proofs.Common.{◌≡◌, ◌<◌, ◌+◌, None, arith, sym, ◌∙◌, refl, subst, ℕ}
 use Rattle.std.proofs.Math.ListN.{set}
 use Rattle.image_layout.specs.Places.{header_of}
 use Rattle.image_layout.specs.declared.header.Header.{Header}
@@ -26,5 +26,5 @@ loop-i-preserved c =
     let sound = IsSound-from c.args.words.now c.loop-i.i (own_fault-none c.args.words.now c.loop-i.i none) in
     record {
       none_before = first_below-more (connection_fault c.args.words.now) c.loop-i.i c.loop-i.invariant.none_before none;
-      table = subst (λ (t : ℕ). IsLastTable c.args.words.now (c.loop-i.i + 1) (set c.loop-i.last t (Some c.loop-i.i))) (sym c.trip_at.ensures) (IsLastTable-more c.args.words.now c.loop-i.i c.loop-i.last sound.trip c.loop-i.invariant.table);
+      table = subst (λ (t : ℕ). IsLastTable c.args.words.now (c.loop-i.i + 1) (set c.loop-i.last t (c.loop-i.i + 1))) (sym c.trip_at.ensures) (IsLastTable-more c.args.words.now c.loop-i.i c.loop-i.last sound.trip c.loop-i.invariant.table);
     }

@@ -1,8 +1,5 @@
 use Rattle.std.proofs.Common.{◌≡◌, ℕ, ◌<◌, ◌^◌, List, None, Some, sym, subst, ap, ◌∙◌, inl, inr}
 use Rattle.std.specs.Prelude.{slice_index}
-use Rattle.image_layout.specs.Shown.{timetable_of, names_of}
-use Rattle.image_layout.proofs.Back.{timetable_back}
-use Rattle.image_layout.proofs.BackNames.{names_back}
 use Rattle.image_verifier.specs.declared.fault.ImageFault.{ImageFault}
 use Rattle.image_verifier.specs.declared.fault.ImageFault.TheVariants.{OutOfMemory}
 use Rattle.image_verifier.specs.FirstFault.{first_fault, Tells}
@@ -14,11 +11,6 @@ use Rattle.image_verifier.proofs.verified.verify.Goals as goal
 pub returns-in-Ok-clause-shown : goal.returns-in-Ok-clause-shown
 returns-in-Ok-clause-shown c = IsImage-from c.args.words.items (subst (λ (w : List ℕ). IsAccepted w) c.deref.ensures.value c.in-Ok.ensures.judged)
 
--- the image of a timetable and names shows these
-pub returns-in-Ok-clause-only : goal.returns-in-Ok-clause-only
-returns-in-Ok-clause-only c = λ p n is_image.
-    (ap (λ (w : List ℕ). timetable_of w) is_image.spelled ∙ timetable_back p n is_image.can_be, ap (λ (w : List ℕ). names_of w) is_image.spelled ∙ names_back p n is_image.can_be)
-
 -- where nothing is first, what is told is want of memory
 tells_memory : (w : List ℕ) (f : ImageFault) → Tells w f → first_fault w ≡ None → f ≡ OutOfMemory
 tells_memory w f told none = elim told [ inl first ↦ absurd (some_none f (sym first ∙ none)) | inr memory ↦ memory.0 ]
@@ -26,8 +18,8 @@ tells_memory w f told none = elim told [ inl first ↦ absurd (some_none f (sym 
     some_none : (f : ImageFault) → Some f ≡ None → ⊥
     some_none f e = absurd cc
 
-pub returns-in-Err-clause-only : goal.returns-in-Err-clause-only
-returns-in-Err-clause-only c = λ p n is_image.
+pub returns-in-Err-clause-every_image : goal.returns-in-Err-clause-every_image
+returns-in-Err-clause-every_image c = λ p n is_image.
     let w = c.args.words.items in
     let fits : (i : ℕ) → slice_index w i < 2 ^ 32 = subst (λ (x : List ℕ). (i : ℕ) → slice_index x i < 2 ^ 32) c.deref.ensures.value c.in-Err.ensures.fits in
     let told : Tells w c.in-Err.fault = subst (λ (x : List ℕ). Tells x c.in-Err.fault) c.deref.ensures.value c.in-Err.ensures.judged in
