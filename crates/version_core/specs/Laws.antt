@@ -24,13 +24,16 @@ NothingFalls = (s t : State) (events : List Event) (replies : List Reply) → Is
 
 -- a version has one edition for good
 abbrev pub EditionsStay : Type 0
-EditionsStay = (s t : State) (events : List Event) (replies : List Reply) (v e : ℕ) → IsReached s → Run s events replies t → edition_of s.editions v ≡ Some e → edition_of t.editions v ≡ Some e
+EditionsStay =
+    (s t : State) (events : List Event) (replies : List Reply) (v e : ℕ) → IsReached s → Run s events replies t
+    → edition_of s.editions v ≡ Some e → edition_of t.editions v ≡ Some e
 
 -- a version that is held has an edition, and who holds it and asks is told both
 abbrev pub AsksAreAnswered : Type 0
 AsksAreAnswered =
     (s : State) (w k v : ℕ) → IsReached s → Holds s w k v
-    → (e : ℕ) × (edition_of s.editions v ≡ Some e) × ((reply : Reply) (t : State) → Step s (Event.Ask w) reply t → (reply ≡ Reply.From v e) × (t ≡ s))
+    → (e : ℕ) × (edition_of s.editions v ≡ Some e)
+        × ((reply : Reply) (t : State) → Step s (Event.Ask w) reply t → (reply ≡ Reply.From v e) × (t ≡ s))
 
 -- one run after another is a run
 abbrev pub RunsJoin : Type 0
