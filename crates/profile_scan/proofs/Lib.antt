@@ -7,3 +7,4 @@ pub mod StepLemmas
 pub mod Ends
 pub mod Answer
 pub mod Windows
+pub mod Refutations

@@ -1,5 +1,5 @@
 -- One index down: a step keeps the match.
-use Rattle.std.proofs.Common.{◌≢◌, ℕ, ◌+◌, ◌<◌, List, length, Contains, Option, arith, refl, sym, ◌∙◌, ap, subst, inl, inr}
+use Rattle.std.proofs.Common.{◌≡◌, ◌≢◌, ℕ, ◌+◌, ◌<◌, List, length, Contains, Option, arith, refl, sym, ◌∙◌, ap, subst, inl, inr}
 use Rattle.std.proofs.lemmas.Bool.{cases_eq}
 use Rattle.criteria.specs.Laws.{Rules, Laws}
 use Rattle.bags.specs.declared.point.Point.{Point}
@@ -10,9 +10,9 @@ use Rattle.timetable.proofs.LegalFacts.{connection_at-stands}
 use Rattle.profile_scan.specs.Values.{journey_value}
 use Rattle.profile_scan.specs.Points.{Covers}
 use Rattle.profile_scan.specs.Continuations.{IsOnward, CountsFrom, onward_value, aboard_value}
-use Rattle.profile_scan.specs.Matching.{Spelling, IsAttained, IsLabelled, Matches}
+use Rattle.profile_scan.specs.Matching.{Spelling, StandsFor, IsAttained, IsLabelled, Matches}
 use Rattle.profile_scan.specs.Steps.{TakesIn, leavings, boardings, settings_out, IsStep}
-use Rattle.profile_scan.specs.LawStatements.{CanScan, OneIndexDown}
+use Rattle.profile_scan.specs.LawStatements.{CanScan, OneIndexDown, TagsMayCome}
 use Rattle.profile_scan.proofs.Admitted.{AreAdmitted, attained_admits, onward_admits, aboard_admits, journey_admits}
 use Rattle.profile_scan.proofs.Sound.{onward_more, aboard_more, counts_more, leaving_attained, boarding_attained, setting_out_attained}
 use Rattle.profile_scan.proofs.Complete.{labels_cover, bag_covers, found_covers}
@@ -123,3 +123,19 @@ one_index_down rules laws t q can tags i in_i old new matched step =
       ];
       at_source = found_down rules laws t q can tags i (new.labels c.trip) old.found new.found labels matched.at_source step.sets_out;
     }
+
+-- points match under each spelling that agrees on their tags
+respelled : {V X : Type 0} (rules : Rules V) (a b : ℕ → Option X) (IsThere : ℕ → X → Type 0) (value : X → V) (points : List (Point V)) → ((p : Point V) → Contains points p → a p.tag ≡ b p.tag) → Matches rules a IsThere value points → Matches rules b IsThere value points
+respelled rules a b IsThere value points alike is = record {
+  sound = λ p in_points.
+      let at = is.sound p in_points in
+      record { way = at.way; spells = subst (λ o. StandsFor o at.way) (alike p in_points) at.spells; there = at.there; worth = at.worth };
+  complete = is.complete;
+}
+
+pub tags_may_come : {V : Type 0} (rules : Rules V) → TagsMayCome rules
+tags_may_come rules t q a b i scan alike is = record {
+  at_stops = λ stop in_stops. respelled rules a.onward b.onward (IsOnward t q i stop) (onward_value rules t) (scan.bag stop) (alike.at_stops stop) (is.at_stops stop in_stops);
+  in_trips = λ trip in_trips. respelled rules a.aboard b.aboard (IsLabelled t q i trip) (aboard_value rules t) (scan.labels trip) (alike.in_trips trip) (is.in_trips trip in_trips);
+  at_source = respelled rules a.journey b.journey (CountsFrom t q i) (journey_value rules t) scan.found alike.at_source is.at_source;
+}

@@ -47,6 +47,16 @@ TogetherNeverContinue = (t : TimetableValue) → IsLegal t → DeparturesRise t
 abbrev pub OneIndexDown : {V : Type 0} → Rules V → (TimetableValue → Query → Spelling → ℕ → ScanValue V → ScanValue V → Type 0) → Type 0
 OneIndexDown {V} rules Step = (t : TimetableValue) (q : Query) → CanScan t q → (tags : Spelling) (i : ℕ) → i < length t.connections → (old new : ScanValue V) → MatchesFrom rules t q tags (i + 1) old → Step t q tags i old new → MatchesFrom rules t q tags i new
 
+-- two spellings agree on the tags in use
+pub record SpellAlike {V : Type 0} (a b : Spelling) (scan : ScanValue V) : Type 0 where
+  pub at_stops : (stop : ℕ) (p : Point V) → Contains (scan.bag stop) p → a.onward p.tag ≡ b.onward p.tag
+  pub in_trips : (trip : ℕ) (p : Point V) → Contains (scan.labels trip) p → a.aboard p.tag ≡ b.aboard p.tag
+  pub at_source : (p : Point V) → Contains scan.found p → a.journey p.tag ≡ b.journey p.tag
+
+-- what matches still does where further tags come to spell something
+abbrev pub TagsMayCome : {V : Type 0} → Rules V → Type 0
+TagsMayCome {V} rules = (t : TimetableValue) (q : Query) (a b : Spelling) (i : ℕ) (scan : ScanValue V) → SpellAlike a b scan → MatchesFrom rules t q a i scan → MatchesFrom rules t q b i scan
+
 -- the cut at the latest departure is the source's alone: what follows a stop or in a trip doesn't know it, and of a journey only its own departure is asked, however early the cut
 pub record CutIsTheSources (JourneyCounts : TimetableValue → Query → ℕ → JourneyValue → Type 0) : Type 0 where
   pub onward : (t : TimetableValue) (q : Query) (until i stop time : ℕ) (x : Onward) → IsOnward t q i stop time x → IsOnward t (record q { until = until }) i stop time x

@@ -6,3 +6,4 @@ pub mod Matching
 pub mod Steps
 pub mod LawStatements
 pub mod Rows
+pub mod WrongSteps

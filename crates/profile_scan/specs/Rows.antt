@@ -55,3 +55,11 @@ by_change secs = from_start None (ride 0 0 (footpath 1 1 secs ∷ []) ∷ ride 2
 -- on foot to B, and a connection from there
 abbrev pub on_foot : ℕ → ℕ → JourneyValue
 on_foot secs connection = from_start (Some (footpath 0 1 secs)) (ride connection connection [] ∷ [])
+
+-- one connection, from a stop whose loop takes a minute
+abbrev pub one_hop : TimetableValue
+one_hop = record { stops = 2; trips = 1; connections = hop 0 1 100 200 0 ∷ []; footpaths = footpath 0 0 60 ∷ footpath 1 1 0 ∷ [] }
+
+-- over it, departing until a time
+abbrev pub over_one_hop : ℕ → Query
+over_one_hop until = record { source = 0; target = 1; from = 0; until = until; by = 1000 }

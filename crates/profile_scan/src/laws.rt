@@ -4,7 +4,7 @@
 
 ghost use Rattle.timetable.specs.Journeys.{Counts};
 ghost use Rattle.profile_scan.specs.Steps.{IsStep};
-ghost use Rattle.profile_scan.specs.LawStatements.{ChainsGiveWay, TogetherNeverContinue, NothingFollows, OneIndexDown, CutIsTheSources, MatchIsTheAnswer, OneAnswer, WindowIsReadBackward};
+ghost use Rattle.profile_scan.specs.LawStatements.{ChainsGiveWay, TogetherNeverContinue, NothingFollows, OneIndexDown, TagsMayCome, CutIsTheSources, MatchIsTheAnswer, OneAnswer, WindowIsReadBackward};
 
 use criteria::Criterion;
 
@@ -26,6 +26,11 @@ pub fn nothing_follows<C: Criterion>(_criterion: &C)
 /// Bags, labels and points found that match every way to go on over the later connections still do one index down.
 pub fn one_index_down<C: Criterion>(_criterion: &C)
     ensures { OneIndexDown (C.rules _criterion.now) (IsStep (C.rules _criterion.now)) }
+{}
+
+/// What matches still does where further tags come to spell something.
+pub fn tags_may_come<C: Criterion>(_criterion: &C)
+    ensures { TagsMayCome (C.rules _criterion.now) }
 {}
 
 /// The cut at the latest departure is the source's alone: no way to go on knows it, and of a journey it asks the departure only.

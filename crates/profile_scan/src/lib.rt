@@ -4,3 +4,5 @@
 pub mod laws;
 #[cfg(test)]
 mod rows;
+#[cfg(test)]
+mod wrong_steps;

@@ -1,0 +1,81 @@
+-- Definitions that are close to the right ones, and wrong: the laws tell them apart.
+use Rattle.std.specs.Prelude.{◌≡◌, ◌≢◌, ℕ, ◌-◌, ◌<◌, ◌≤◌, true, List, [], ◌∷◌, Contains, Option, Some, None, All}
+use Rattle.criteria.specs.Laws.{Rules}
+use Rattle.bags.specs.declared.point.Point.{Point}
+use Rattle.timetable.specs.declared.network.Footpath.{Footpath}
+use Rattle.timetable.specs.declared.query.Query.{Query}
+use Rattle.timetable.specs.JourneyValue.{RideValue, JourneyValue}
+use Rattle.timetable.specs.Journeys.{connection_at, start_end, start_secs, Counts}
+use Rattle.timetable.specs.TimetableValue.{TimetableValue}
+use Rattle.profile_scan.specs.Continuations.{Aboard}
+use Rattle.profile_scan.specs.Matching.{Spelling, StandsFor, ScanValue}
+use Rattle.profile_scan.specs.Steps.{Offer, TakesIn, leavings, boarded, Boarding, MayBoard, boardings, SettingOut, settings_out}
+
+-- a step that offers something else to the bags, or to the points found
+pub record IsStepWith {V A B : Type 0} (rules : Rules V) (t : TimetableValue) (q : Query) (tags : Spelling) (i : ℕ) (to_bag : ℕ → List (Point V) → Offer A V) (to_found : List (Point V) → Offer B V) (old new : ScanValue V) : Type 0 where
+  pub leaves : TakesIn rules (leavings rules t q tags i (old.bag (connection_at t i).to)) (old.labels (connection_at t i).trip) (new.labels (connection_at t i).trip)
+  pub other_trips : (trip : ℕ) → trip ≢ (connection_at t i).trip → new.labels trip ≡ old.labels trip
+  pub boards : (stop : ℕ) → stop < t.stops → TakesIn rules (to_bag stop (new.labels (connection_at t i).trip)) (old.bag stop) (new.bag stop)
+  pub sets_out : TakesIn rules (to_found (new.labels (connection_at t i).trip)) old.found new.found
+
+-- the source's bag is cut at the latest departure: who comes back to the source later can't leave it again
+abbrev pub cut_boardings : {V : Type 0} → Rules V → TimetableValue → Query → Spelling → ℕ → ℕ → List (Point V) → Offer (Boarding V) V
+cut_boardings rules t q tags i stop labels = record (boardings rules t tags i stop labels) {
+  is_open = λ way. MayBoard t i stop labels way × (stop ≡ q.source → (connection_at t i).dep - way.walk.secs ≤ q.until);
+}
+
+abbrev pub IsStepWithBagCut : {V : Type 0} → Rules V → TimetableValue → Query → Spelling → ℕ → ScanValue V → ScanValue V → Type 0
+IsStepWithBagCut rules t q tags i = IsStepWith rules t q tags i (cut_boardings rules t q tags i) (settings_out rules t q tags i)
+
+-- any footpath from the source is taken as a start, its loop too
+abbrev pub LeavesSource : TimetableValue → ℕ → Option Footpath → Type 0
+LeavesSource t source None = Unit {0}
+LeavesSource t source (Some f) = Contains t.footpaths f × (f.from ≡ source)
+
+pub record MaySetOutByLoop {V : Type 0} (t : TimetableValue) (q : Query) (i : ℕ) (labels : List (Point V)) (way : SettingOut V) : Type 0 where
+  pub boards : (connection_at t i).board ≡ true
+  pub leaves : LeavesSource t q.source way.start
+  pub leads : start_end q.source way.start ≡ (connection_at t i).from
+  pub fits : start_secs way.start ≤ (connection_at t i).dep
+  pub not_early : q.from ≤ (connection_at t i).dep - start_secs way.start
+  pub not_late : (connection_at t i).dep - start_secs way.start ≤ q.until
+  pub is_label : Contains labels way.label
+
+abbrev pub loop_starts : {V : Type 0} → Rules V → TimetableValue → Query → Spelling → ℕ → List (Point V) → Offer (SettingOut V) V
+loop_starts rules t q tags i labels = record (settings_out rules t q tags i labels) { is_open = MaySetOutByLoop t q i labels }
+
+abbrev pub IsStepWithLoopStart : {V : Type 0} → Rules V → TimetableValue → Query → Spelling → ℕ → ScanValue V → ScanValue V → Type 0
+IsStepWithLoopStart rules t q tags i = IsStepWith rules t q tags i (boardings rules t tags i) (loop_starts rules t q tags i)
+
+-- who leaves a trip at a stop boards the next one there at once, without the change time: a bag is offered a label after no footpath too
+pub data Unchanged (V : Type 0) : Type 0 where
+  on_foot : Boarding V → Unchanged V
+  at_once : Point V → Unchanged V
+
+module _ {V : Type 0} (rules : Rules V) (t : TimetableValue) (tags : Spelling) (i stop : ℕ) (labels : List (Point V)) where
+  abbrev pub MayBoardAtOnce : Unchanged V → Type 0
+  MayBoardAtOnce (on_foot way) = MayBoard t i stop labels way
+  MayBoardAtOnce (at_once label) = ((connection_at t i).board ≡ true) × (stop ≡ (connection_at t i).from) × Contains labels label
+
+  abbrev pub at_once_departure : Unchanged V → ℕ
+  at_once_departure (on_foot way) = (connection_at t i).dep - way.walk.secs
+  at_once_departure (at_once label) = (connection_at t i).dep
+
+  abbrev pub at_once_value : Unchanged V → V
+  at_once_value (on_foot way) = rules.walk way.walk.secs (rules.ride way.label.value)
+  at_once_value (at_once label) = rules.ride label.value
+
+  abbrev pub AtOnceTag : Unchanged V → ℕ → Type 0
+  AtOnceTag (on_foot way) tag = (x : Aboard) → StandsFor (tags.aboard way.label.tag) x → StandsFor (tags.onward tag) (record { walk = way.walk ∷ []; rides = boarded i x })
+  AtOnceTag (at_once label) tag = (x : Aboard) → StandsFor (tags.aboard label.tag) x → StandsFor (tags.onward tag) (record { walk = []; rides = boarded i x })
+
+  abbrev pub at_once_boardings : Offer (Unchanged V) V
+  at_once_boardings = record { is_open = MayBoardAtOnce; departure = at_once_departure; value = at_once_value; FitsTag = AtOnceTag }
+
+abbrev pub IsStepWithoutChange : {V : Type 0} → Rules V → TimetableValue → Query → Spelling → ℕ → ScanValue V → ScanValue V → Type 0
+IsStepWithoutChange rules t q tags i = IsStepWith rules t q tags i (at_once_boardings rules t tags i) (settings_out rules t q tags i)
+
+-- each leg, and not the journey alone, has to depart by the latest departure
+pub record CountsLegByLeg (t : TimetableValue) (q : Query) (departure : ℕ) (j : JourneyValue) : Type 0 where
+  pub counts : Counts t q departure j
+  pub legs : All (λ (ride : RideValue). (connection_at t ride.leg.first).dep ≤ q.until) j.rides
