@@ -87,6 +87,15 @@ impl Table {
         }
     }
 
+    /// The fault of a file that is missing.
+    pub fn missing(self) -> TableFault
+        ensures table { result.table ≡ self }
+        ensures row { result.row ≡ 0 }
+        ensures kind { result.kind ≡ FaultKind.MissingFile }
+    {
+        self.fault(0, FaultKind::MissingFile)
+    }
+
     // The want of memory at this table.
     pub(crate) fn out_of_memory(self) -> TableFault
         ensures table { result.table ≡ self }

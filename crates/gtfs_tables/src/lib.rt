@@ -29,3 +29,6 @@ pub use rows::{
 };
 pub use stop_times::StopTimes;
 pub use values::{DateFault, Day, Time, TimeFault};
+
+#[cfg(test)]
+mod tests;

@@ -1,0 +1,298 @@
+// The files of a small feed, and what each fault looks like.
+
+use crate::fault::{FaultKind, Table, TableFault};
+use crate::read::{
+    read_agency, read_calendar, read_calendar_dates, read_frequencies, read_stop_times, read_stops,
+    read_transfers, read_trips,
+};
+use crate::rows::{Exception, Location, TransferKind};
+use crate::values::Day;
+use std::test::Fail;
+
+// Whether the answer is this fault of the table.
+fn tells<T: Drop>(answer: Result<T, TableFault>, table: Table, row: u64, kind: FaultKind) -> bool {
+    match answer {
+        Ok(_) => false,
+        Err(fault) => fault.table == table && fault.row == row && fault.kind == kind,
+    }
+}
+
+#[test]
+fn agencies(rt: HostRuntime) -> Result<(), Fail> {
+    let alloc = rt.alloc();
+    let rows = read_agency(
+        alloc,
+        b"agency_id,agency_name,agency_url,agency_timezone\n1,Base,http://base.example,Etc/UTC\n",
+    )?;
+    assert_eq!(rt; rows.len(), 1);
+    assert_eq!(rt; rows[0].zone.as_str(), "Etc/UTC");
+    let bad: [(&[u8], u64, FaultKind); 8] = [
+        (b"", 0, FaultKind::MissingColumn),
+        (b"\xEF\xBB\xBF\n\n", 0, FaultKind::MissingColumn),
+        (b"agency_id\n1\n", 0, FaultKind::MissingColumn),
+        (b"agency_id\n\xFF\n", 0, FaultKind::BadUtf8),
+        (b"agency_timezone\nA\n\xC3\n", 0, FaultKind::BadUtf8),
+        (b"agency_timezone\nA\nB\nA,A\n", 2, FaultKind::ZonesDiffer),
+        (
+            b"x,agency_timezone\n1,A\n2,A\n3, A \n4,a\n",
+            4,
+            FaultKind::ZonesDiffer,
+        ),
+        (b"agency_timezone\nA\nA,A\nB\n", 2, FaultKind::RowLength),
+    ];
+    for (bytes, row, kind) in bad {
+        assert!(rt; tells(read_agency(alloc, bytes), Table::Agency, row, kind));
+    }
+    Ok(())
+}
+
+#[test]
+fn stops(rt: HostRuntime) -> Result<(), Fail> {
+    let alloc = rt.alloc();
+    let rows = read_stops(
+        alloc,
+        b"\xEF\xBB\xBFstop_name, stop_id ,location_type,parent_station,stop_id\r\n\r\n\"A, \"\"x\"\"\n\", A ,0.0,S,x\rB,B,9,,x\nS,S,1,,x\nE,\"\", 2 ,,\nN,N,3,,\nP,P,04,,",
+    )?;
+    let locations = [
+        Location::Stop,
+        Location::Stop,
+        Location::Station,
+        Location::Entrance,
+        Location::Node,
+        Location::BoardingArea,
+    ];
+    assert_eq!(rt; rows.len(), 6);
+    for (row, location) in rows.iter().zip(locations) {
+        assert!(rt; row.location == location);
+    }
+    assert_eq!(rt; rows[0].id.as_str(), "A");
+    assert_eq!(rt; rows[0].parent.as_str(), "S");
+    assert_eq!(rt; rows[3].id.as_str(), "");
+    assert!(rt; read_stops(alloc, b"stop_id\n")?.is_empty());
+    let bad: [(&[u8], u64, FaultKind); 5] = [
+        (b"stop_name\nA\n", 0, FaultKind::MissingColumn),
+        (b"stop_id,x\nA,1\nB\n", 2, FaultKind::RowLength),
+        (b"stop_id,x\nA,1\nB,2\nA,3\n", 3, FaultKind::IdTwice),
+        (b"stop_id,x\nA,1\n A ,2,3\n", 2, FaultKind::RowLength),
+        (b"stop_id,x\n,1\n\"\",2\n", 2, FaultKind::IdTwice),
+    ];
+    for (bytes, row, kind) in bad {
+        assert!(rt; tells(read_stops(alloc, bytes), Table::Stops, row, kind));
+    }
+    Ok(())
+}
+
+#[test]
+fn trips(rt: HostRuntime) -> Result<(), Fail> {
+    let alloc = rt.alloc();
+    let rows = read_trips(alloc, b"route_id,service_id,trip_id\nR,S,T1\nR,S,T2\n")?;
+    assert_eq!(rt; rows.len(), 2);
+    assert_eq!(rt; rows[1].service.as_str(), "S");
+    assert_eq!(rt; rows[1].id.as_str(), "T2");
+    let bad: [(&[u8], u64, FaultKind); 3] = [
+        (b"trip_id\nT\n", 0, FaultKind::MissingColumn),
+        (b"trip_id,service_id\nT,S\nT,R\n", 2, FaultKind::IdTwice),
+        (b"service_id,trip_id\nS\n", 1, FaultKind::RowLength),
+    ];
+    for (bytes, row, kind) in bad {
+        assert!(rt; tells(read_trips(alloc, bytes), Table::Trips, row, kind));
+    }
+    Ok(())
+}
+
+#[test]
+fn stop_times(rt: HostRuntime) -> Result<(), Fail> {
+    let alloc = rt.alloc();
+    let table = read_stop_times(
+        alloc,
+        b"trip_id,arrival_time,departure_time,stop_id,stop_sequence,pickup_type,drop_off_type\nT1,08:00:00,,A,1.0,1,0\nT1,,,,2,3,9\nT2,8:10:00,08:11:00,A,03,,1.0\n",
+    )?;
+    assert_eq!(rt; table.rows.len(), 3);
+    let [first, second, third] = [table.rows[0], table.rows[1], table.rows[2]];
+    assert!(rt; first.arrival == Some(28_800) && first.departure == None);
+    assert!(rt; first.stop == Some(0) && second.stop == None && third.stop == Some(0));
+    assert!(rt; first.trip == 0 && second.trip == 0 && third.trip == 1);
+    assert!(rt; first.sequence == 1 && second.sequence == 2 && third.sequence == 3);
+    assert!(rt; !first.board && second.board && third.board);
+    assert!(rt; first.alight && second.alight && !third.alight);
+    assert!(rt; third.arrival == Some(29_400) && third.departure == Some(29_460));
+    assert_eq!(rt; table.trips.len(), 2);
+    assert_eq!(rt; table.stops.len(), 1);
+    let bad: [(&[u8], u64, FaultKind); 8] = [
+        (
+            b"trip_id,arrival_time,departure_time,stop_id\n",
+            0,
+            FaultKind::MissingColumn,
+        ),
+        (
+            b"trip_id,arrival_time,departure_time,stop_id,stop_sequence\nT,08:60:00,,A,1\n",
+            1,
+            FaultKind::BadTime,
+        ),
+        (
+            b"trip_id,arrival_time,departure_time,stop_id,stop_sequence\nT,,,A,1\nT,,100:00:00,A,x\n",
+            2,
+            FaultKind::BadTime,
+        ),
+        (
+            b"trip_id,arrival_time,departure_time,stop_id,stop_sequence\nT,,,A,2.5\n",
+            1,
+            FaultKind::BadNumber,
+        ),
+        (
+            b"trip_id,arrival_time,departure_time,stop_id,stop_sequence\nT,,,A,\n",
+            1,
+            FaultKind::BadNumber,
+        ),
+        (
+            b"trip_id,arrival_time,departure_time,stop_id,stop_sequence\nT,,,A,1234567890\n",
+            1,
+            FaultKind::BadNumber,
+        ),
+        (
+            b"stop_sequence,trip_id,arrival_time,departure_time,stop_id\nx,T,8:5:9,,A\n",
+            1,
+            FaultKind::BadTime,
+        ),
+        (
+            b"trip_id,arrival_time,departure_time,stop_id,stop_sequence\rT,,,A,1\rT,,,A\r",
+            2,
+            FaultKind::RowLength,
+        ),
+    ];
+    for (bytes, row, kind) in bad {
+        assert!(rt; tells(read_stop_times(alloc, bytes), Table::StopTimes, row, kind));
+    }
+    Ok(())
+}
+
+#[test]
+fn services(rt: HostRuntime) -> Result<(), Fail> {
+    let alloc = rt.alloc();
+    let rows = read_calendar(
+        alloc,
+        b"service_id,monday,tuesday,wednesday,thursday,friday,saturday,sunday,start_date,end_date\nS,1,0,1.0,0,1,0,01,20240115,20240116\n",
+    )?;
+    assert_eq!(rt; rows.len(), 1);
+    assert!(rt; rows[0].weekdays == [true, false, true, false, true, false, true]);
+    let (start, end) = (rows[0].start, rows[0].end);
+    assert!(rt;
+        start
+            == Day {
+                year: 2024,
+                month: 1,
+                day: 15
+            }
+    );
+    assert!(rt;
+        end == Day {
+            year: 2024,
+            month: 1,
+            day: 16
+        }
+    );
+    let bad: [(&[u8], u64, FaultKind); 4] = [
+        (
+            b"service_id,monday,tuesday,wednesday,thursday,friday,saturday,sunday,start_date,end_date\nS,1,1,1,1,1,1,2,x,x\n",
+            1,
+            FaultKind::BadNumber,
+        ),
+        (
+            b"service_id,monday,tuesday,wednesday,thursday,friday,saturday,sunday,start_date,end_date\nS,1,1,1,1,1,1,1,20240230,20240301\n",
+            1,
+            FaultKind::BadDate,
+        ),
+        (
+            b"service_id,monday,tuesday,wednesday,thursday,friday,saturday,sunday,start_date,end_date\nS,1,1,1,1,1,1,1,20240115,\n",
+            1,
+            FaultKind::BadDate,
+        ),
+        (
+            b"service_id,monday,tuesday,wednesday,thursday,friday,saturday,sunday,start_date,end_date\nS,1,1,1,1,1,1,1,20240115,20240115\nS,0,0,0,0,0,0,0,20240115,20240115\n",
+            2,
+            FaultKind::IdTwice,
+        ),
+    ];
+    for (bytes, row, kind) in bad {
+        assert!(rt; tells(read_calendar(alloc, bytes), Table::Calendar, row, kind));
+    }
+    let rows = read_calendar_dates(
+        alloc,
+        b"service_id,date,exception_type\nX,20240115,1\nX,20240116,2\n",
+    )?;
+    assert_eq!(rt; rows.len(), 2);
+    assert!(rt; rows[0].exception == Exception::Added && rows[1].exception == Exception::Removed);
+    let bad: [(&[u8], u64, FaultKind); 3] = [
+        (
+            b"service_id,date,exception_type\nX,00000101,1\n",
+            1,
+            FaultKind::BadDate,
+        ),
+        (
+            b"service_id,date,exception_type\nX,20240115,3\n",
+            1,
+            FaultKind::BadNumber,
+        ),
+        (
+            b"service_id,date,exception_type\nX,20240115,1\nX,20240115,2\nX\n",
+            2,
+            FaultKind::IdTwice,
+        ),
+    ];
+    for (bytes, row, kind) in bad {
+        assert!(rt;
+            tells(
+                read_calendar_dates(alloc, bytes),
+                Table::CalendarDates,
+                row,
+                kind
+            )
+        );
+    }
+    Ok(())
+}
+
+#[test]
+fn transfers(rt: HostRuntime) -> Result<(), Fail> {
+    let alloc = rt.alloc();
+    let rows = read_transfers(
+        alloc,
+        b"from_stop_id,to_stop_id,transfer_type,min_transfer_time,from_trip_id\nA,B,,120,\nA,B,1,1.5,\nA,B,02,-5,\nA,B,3,,\nA,B,4,86401,\nA,B,0,,T\n",
+    )?;
+    let kinds = [
+        TransferKind::Recommended,
+        TransferKind::Timed,
+        TransferKind::Minimum,
+        TransferKind::Impossible,
+        TransferKind::Skipped,
+        TransferKind::Skipped,
+    ];
+    assert_eq!(rt; rows.len(), 6);
+    for (row, kind) in rows.iter().zip(kinds) {
+        assert!(rt; row.kind == kind);
+    }
+    assert!(rt; rows[0].seconds == Some(120) && rows[1].seconds == None);
+    assert!(rt; rows[4].seconds == Some(86_401));
+    assert_eq!(rt; rows[0].from.as_str(), "A");
+    assert_eq!(rt; rows[0].to.as_str(), "B");
+    assert!(rt;
+        tells(
+            read_transfers(alloc, b"from_stop_id\nA\n"),
+            Table::Transfers,
+            0,
+            FaultKind::MissingColumn
+        )
+    );
+    let rows = read_frequencies(alloc, b"headway_secs,trip_id\nx,T1\n,T1\n")?;
+    assert_eq!(rt; rows.len(), 2);
+    assert_eq!(rt; rows[1].trip.as_str(), "T1");
+    assert!(rt;
+        tells(
+            read_frequencies(alloc, b"trip\nT\n"),
+            Table::Frequencies,
+            0,
+            FaultKind::MissingColumn
+        )
+    );
+    Ok(())
+}
