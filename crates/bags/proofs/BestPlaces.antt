@@ -55,3 +55,10 @@ places_from-gives test n (y ∷ xs) (suc i) x is passes =
     let shift : n + 1 + i ≡ n + suc i = omega arith in
     let later = subst (Contains (places_from test (n + 1) xs)) shift (places_from-gives test (n + 1) xs i x is passes) in
     elim (test y) as (λ b. Contains (if b then n ∷ places_from test (n + 1) xs else places_from test (n + 1) xs) (n + suc i)) [ true ↦ Contains-append_right (n ∷ []) (places_from test (n + 1) xs) (n + suc i) later | false ↦ later ]
+
+-- where nothing passes
+pub places_from-none : {X : Type 0} (test : X → Bool) (n : ℕ) (xs : List X) → ((x : X) → Contains xs x → test x ≡ false) → places_from test n xs ≡ []
+places_from-none test n [] none = refl
+places_from-none test n (x ∷ xs) none =
+    ap (λ (b : Bool). if b then n ∷ places_from test (n + 1) xs else places_from test (n + 1) xs) (none x (Contains-append_left (x ∷ []) xs x (Contains-push [] x)))
+    ∙ places_from-none test (n + 1) xs (λ y h. none y (Contains-append_right (x ∷ []) xs y h))

@@ -1,14 +1,19 @@
 -- Each point has a best one that is no worse.
-use Rattle.std.proofs.Common.{◌≡◌, true, false, not, List, [], ◌∷◌, Contains, inl, inr, refl, sym, ◌∙◌, ap, subst, nat_le, ◌≤◌, ◌&&◌, ℕ, ◌⊎◌, slice_get, Some, zero-add}
+use Rattle.std.proofs.Common.{◌≡◌, true, false, not, Bool, List, [], ◌∷◌, Contains, inl, inr, refl, sym, ◌∙◌, ap, subst, nat_le, ◌≤◌, ◌&&◌, ℕ, ◌⊎◌, slice_get, Some, zero-add, ◌<◌, ◌+◌, ◌-◌, length, get_or, drop, arith}
 use Rattle.std.specs.List.{list_any}
 use Rattle.std.proofs.lemmas.Bool.{cases_Bool, true≢false, not-true, and_parts, and_from, leb-true, le-leb}
 use Rattle.std.proofs.lemmas.List.Elements.{Contains-append_left, Contains-append_right, Contains-append_cases, Contains-push, Contains-push_cases}
+use Rattle.std.proofs.lemmas.Bool.Decides.{nat_tests}
 use Rattle.criteria.specs.Laws.{Rules, Laws, Admits, NoWorse}
-use Rattle.std.proofs.lemmas.Option.{slice_get-get_or}
-use Rattle.bags.specs.Best.{is_bettered_by, is_best, best_places, IsBestPlace, SomeNoWorse}
-use Rattle.bags.specs.Dominance.{IsBag}
+use Rattle.std.proofs.lemmas.Bool.{cases_order}
+use Rattle.std.proofs.lemmas.List.{get_or-drop, length-drop}
+use Rattle.std.proofs.lemmas.List.Folds.{list_any-from_Any}
+use Rattle.std.proofs.lemmas.Option.{slice_get-get_or, slice_get_within, get_or_from_slice_get}
+use Rattle.bags.specs.Best.{is_bettered_by, is_best, best_places, best_places_from, IsBestPlace, SomeNoWorse}
+use Rattle.bags.specs.Dominance.{IsBag, IsFalling, Dominates}
 use Rattle.bags.specs.declared.point.Point.{Point}
-use Rattle.bags.proofs.BestPlaces.{places_from-passes, places_from-gives}
+use Rattle.bags.proofs.BestPlaces.{places_from-passes, places_from-gives, places_from-none}
+use Rattle.bags.proofs.Order.{falling_from}
 use Rattle.bags.proofs.Lists.{not_in_nil, one_passes}
 
 -- what a strictly better point is
@@ -84,3 +89,78 @@ best_places_cover rules laws points bag time p is late =
     let at = best.1 in
     let stands : slice_get points at.0 ≡ Some best.0 = slice_get-get_or points at.0 best.0 at.1 ∙ ap Some at.2 in
     (at.0, best.0, subst (Contains (best_places rules points time)) (zero-add at.0) (places_from-gives (is_best rules points time) 0 points at.0 best.0 stands best.2), stands, best.3)
+
+too_early : (time departure : ℕ) (b : Bool) → departure < time → (nat_le time departure && b) ≡ false
+too_early time departure b early = grind (arith, nat_tests)
+
+-- behind a point that departs earlier none is best
+pub none_best : {V : Type 0} (rules : Rules V) (points : List (Point V)) → IsFalling points → (time n : ℕ) (x : Point V) → slice_get points n ≡ Some x → x.departure < time → best_places_from rules points time n ≡ []
+none_best rules points falling time n x is early =
+    places_from-none (is_best rules points time) n (drop n points) (λ q h.
+    let low = falling_from points falling n x is q h in
+    too_early time q.departure (not (list_any (is_bettered_by rules time q) points)) (omega arith))
+
+same_answer : (s t : Bool) → (s ≡ true → t ≡ true) → (t ≡ true → s ≡ true) → s ≡ t
+same_answer true t f g = sym (f refl)
+same_answer false true f g = g refl
+same_answer false false f g = refl
+
+-- only a point behind another has a strictly better value
+pub bettered_behind : {V : Type 0} (rules : Rules V) (points : List (Point V)) → IsBag rules points → IsFalling points → (time n : ℕ) (x : Point V) → slice_get points n ≡ Some x → list_any (is_bettered_by rules time x) (drop (n + 1) points) ≡ list_any (is_bettered_by rules time x) points
+bettered_behind {V} rules points bag falling time n x is =
+    same_answer (list_any better (drop (n + 1) points)) (list_any better points)
+    (λ some. let q = one_passes better (drop (n + 1) points) some in
+    let inside = q.1 in
+    let more = inside.1 in
+    list_any-from_Any better points (n + 1 + inside.0, q.0, omega (arith, len), sym (get_or-drop (n + 1) points inside.0 q.0) ∙ inside.2, q.2))
+    (λ some. behind (one_passes better points some))
+  where
+    better : Point V → Bool
+    better = is_bettered_by rules time x
+
+    len : length (drop (n + 1) points) ≡ length points - (n + 1)
+    len = length-drop (n + 1) points
+
+    inside_n : n < length points
+    inside_n = slice_get_within points n x is
+
+    here : (d : Point V) → get_or points n d ≡ x
+    here d = get_or_from_slice_get points n x d is
+
+    behind : (q : Point V) × Contains points q × (better q ≡ true) → list_any better (drop (n + 1) points) ≡ true
+    behind q = elim (cases_order q.1.0 n) [
+      | inl e ↦
+          let same : q.0 ≡ x = sym q.1.2 ∙ (ap (λ m. get_or points m q.0) e ∙ here q.0) in
+          let parts = better_parts rules time x q.0 q.2 in
+          absurd (parts.2 (subst (λ (y : Point V). NoWorse rules x.value y.value) (sym same) (subst (λ (y : Point V). NoWorse rules y.value x.value) same parts.1)))
+      | inr o ↦ elim o [
+        | inl low ↦
+            let parts = better_parts rules time x q.0 q.2 in
+            let apart = bag.undominated q.1.0 n q.0 low inside_n in
+            let late : x.departure ≤ q.0.departure = subst (λ (y : Point V). y.departure ≤ q.0.departure) (here q.0) (subst (λ (y : Point V). (get_or points n q.0).departure ≤ y.departure) q.1.2 (falling q.1.0 n q.0 low inside_n)) in
+            let above : Dominates rules q.0 x = and_from (nat_le x.departure q.0.departure) (rules.no_worse q.0.value x.value) (le-leb x.departure q.0.departure late) parts.1 in
+            absurd (apart.0 (subst (λ (y : Point V). Dominates rules y (get_or points n q.0)) (sym q.1.2) (subst (Dominates rules q.0) (sym (here q.0)) above)))
+        | inr high ↦
+            let in_q = q.1.1 in
+            let at : n + 1 + (q.1.0 - (n + 1)) ≡ q.1.0 = omega arith in
+            list_any-from_Any better (drop (n + 1) points) (q.1.0 - (n + 1), q.0, omega (arith, len), get_or-drop (n + 1) points (q.1.0 - (n + 1)) q.0 ∙ (ap (λ m. get_or points m q.0) at ∙ q.1.2), q.2)
+      ]
+    ]
+
+never_late : (time departure : ℕ) → departure < time → nat_le time departure ≡ false
+never_late time departure early = grind (arith, nat_tests)
+
+-- what the points behind a point tell of it
+pub best_told : {V : Type 0} (rules : Rules V) (points : List (Point V)) → IsBag rules points → IsFalling points → (time n : ℕ) (x : Point V) (r : Bool) → x ≡ get_or points n x → time ≤ x.departure → r ≡ list_any (is_bettered_by rules time x) (drop (n + 1) points) → (p : Point V) → slice_get points n ≡ Some p → not r ≡ is_best rules points time p
+best_told {V} rules points bag falling time n x r read late told p is =
+    let same : p ≡ x = sym (read ∙ get_or_from_slice_get points n p x is) in
+    let here : slice_get points n ≡ Some x = is ∙ ap Some same in
+    subst (λ (y : Point V). not r ≡ is_best rules points time y) (sym same)
+    (ap not (told ∙ bettered_behind rules points bag falling time n x here)
+    ∙ sym (ap (λ (b : Bool). b && not (list_any (is_bettered_by rules time x) points)) (le-leb time x.departure late)))
+
+pub early_told : {V : Type 0} (rules : Rules V) (points : List (Point V)) (time n : ℕ) (x : Point V) → x ≡ get_or points n x → x.departure < time → (p : Point V) → slice_get points n ≡ Some p → nat_le time x.departure ≡ is_best rules points time p
+early_told {V} rules points time n x read early p is =
+    let same : p ≡ x = sym (read ∙ get_or_from_slice_get points n p x is) in
+    subst (λ (y : Point V). nat_le time x.departure ≡ is_best rules points time y) (sym same)
+    (never_late time x.departure early ∙ sym (too_early time x.departure (not (list_any (is_bettered_by rules time x) points)) early))

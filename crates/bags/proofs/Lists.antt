@@ -1,6 +1,9 @@
 -- Membership in lists, filtered ones and ones that a loop filters in place.
-use Rattle.std.proofs.Common.{◌≡◌, ℕ, ◌<◌, Bool, true, false, cond, List, [], ◌∷◌, length, get_or, drop, filter, Contains, inl, inr, arith, sym, ◌∙◌, ap, subst, add-zero}
-use Rattle.std.specs.List.{list_any}
+use Rattle.std.proofs.Common.{◌≡◌, ℕ, ◌+◌, ◌-◌, ◌<◌, ◌≤◌, ◌⊎◌, Bool, true, false, cond, List, [], ◌∷◌, ◌++◌, length, get_or, drop, filter, Contains, AllPairs, inl, inr, arith, refl, sym, ◌∙◌, ap, subst, add-zero}
+use Rattle.std.specs.List.{list_any, insert}
+use Rattle.std.proofs.lemmas.Bool.{cases_order}
+use Rattle.std.proofs.lemmas.List.Edits.{length-insert, get_or-insert_below, get_or-insert_at, get_or-insert_above}
+use Rattle.std.proofs.lemmas.List.Sorted.{IsPermutation-insert, IsPermutation-sym, Contains-permutation}
 use Rattle.std.proofs.lemmas.Bool.{true≢false}
 use Rattle.std.proofs.lemmas.List.{get_or-drop}
 use Rattle.std.proofs.lemmas.List.Elements.{All-contains, All-filter, All-contains_itself, filter_passes, Contains-append_left, Contains-append_right, Contains-append_cases, Contains-push, Contains-push_cases}
@@ -40,3 +43,54 @@ is_left {X} {p} {xs} {ys} {k} {i} f x lt is =
     let long = f.long in
     let at : (zs : List X) → get_or (drop i zs) 0 x ≡ get_or zs i x = λ zs. get_or-drop i zs 0 x ∙ ap (λ n. get_or zs n x) (add-zero i) in
     (i, omega arith, sym (is ∙ (sym (at ys) ∙ (ap (λ zs. get_or zs 0 x) f.rest ∙ at xs))))
+
+-- where all pass
+pub filter_all : {X : Type 0} (p : X → Bool) (xs : List X) → ((x : X) → Contains xs x → p x ≡ true) → filter p xs ≡ xs
+filter_all p [] all = refl
+filter_all p (x ∷ xs) all =
+    ap (λ (b : Bool). cond b (x ∷ filter p xs) (filter p xs)) (all x (Contains-append_left (x ∷ []) xs x (Contains-push [] x)))
+    ∙ ap (λ ys. x ∷ ys) (filter_all p xs (λ y h. all y (Contains-append_right (x ∷ []) xs y h)))
+
+-- what stands in a list with an element put in
+pub from_insert : {X : Type 0} (xs : List X) (n : ℕ) (y x : X) → Contains (insert xs n y) x → (y ≡ x) ⊎ Contains xs x
+from_insert xs n y x h =
+    elim (Contains-append_cases (y ∷ []) xs x (Contains-permutation (insert xs n y) (y ∷ xs) x (IsPermutation-sym (y ∷ xs) (insert xs n y) (IsPermutation-insert xs n y)) h)) [
+      | inl a ↦ elim (Contains-push_cases [] y x a) [ inl none ↦ absurd (not_in_nil x none) | inr e ↦ inl e ]
+      | inr later ↦ inr later
+    ]
+
+pub into_insert : {X : Type 0} (xs : List X) (n : ℕ) (y x : X) → (y ≡ x) ⊎ Contains xs x → Contains (insert xs n y) x
+into_insert xs n y x h =
+    Contains-permutation (y ∷ xs) (insert xs n y) x (IsPermutation-insert xs n y) (elim h [
+      | inl e ↦ subst (Contains (y ∷ xs)) e (Contains-append_left (y ∷ []) xs y (Contains-push [] y))
+      | inr later ↦ Contains-append_right (y ∷ []) xs x later
+    ])
+
+-- what holds of each pair still does, where it holds of the element that is put in and of each other
+pub all_pairs_insert : {X : Type 0} (R : X → X → Type 0) (xs : List X) (n : ℕ) (y : X) → n ≤ length xs → AllPairs R xs → ((k : ℕ) (d : X) → k < n → R (get_or xs k d) y) → ((k : ℕ) (d : X) → n ≤ k → k < length xs → R y (get_or xs k d)) → AllPairs R (insert xs n y)
+all_pairs_insert {X} R xs n y within pairs front back i j d lt inside =
+    let len = length-insert xs n y within in
+    let at = get_or-insert_at xs n y d within in
+    let below : (k : ℕ) → k < n → get_or (insert xs n y) k d ≡ get_or xs k d = λ k low. get_or-insert_below xs n y d k low within in
+    let above : (k : ℕ) → n < k → get_or (insert xs n y) k d ≡ get_or xs (k - 1) d = λ k high.
+    let back_one : k - 1 + 1 ≡ k = omega arith in
+    ap (λ m. get_or (insert xs n y) m d) (sym back_one) ∙ get_or-insert_above xs n y d (k - 1) (omega arith) within in
+    elim (cases_order i n) [
+      | inl ei ↦
+          subst (λ z. R z (get_or (insert xs n y) j d)) (sym (ap (λ m. get_or (insert xs n y) m d) ei ∙ at))
+          (subst (R y) (sym (above j (omega arith))) (back (j - 1) d (omega arith) (omega arith)))
+      | inr oi ↦ elim oi [
+        | inl low ↦
+            subst (λ z. R z (get_or (insert xs n y) j d)) (sym (below i low))
+            (elim (cases_order j n) [
+              | inl ej ↦ subst (R (get_or xs i d)) (sym (ap (λ m. get_or (insert xs n y) m d) ej ∙ at)) (front i d low)
+              | inr oj ↦ elim oj [
+                | inl j_low ↦ subst (R (get_or xs i d)) (sym (below j j_low)) (pairs i j d lt (omega arith))
+                | inr j_high ↦ subst (R (get_or xs i d)) (sym (above j j_high)) (pairs i (j - 1) d (omega arith) (omega arith))
+              ]
+            ])
+        | inr high ↦
+            subst (λ z. R z (get_or (insert xs n y) j d)) (sym (above i high))
+            (subst (R (get_or xs (i - 1) d)) (sym (above j (omega arith))) (pairs (i - 1) (j - 1) d (omega arith) (omega arith)))
+      ]
+    ]

@@ -1,7 +1,7 @@
 ghost use Rattle.std.specs.Prelude.{◌≡◌, Contains};
 ghost use Rattle.std.specs.List.{list_any};
 ghost use Rattle.criteria.specs.Laws.{Admits};
-ghost use Rattle.bags.specs.Dominance.{IsBag};
+ghost use Rattle.bags.specs.Dominance.{IsBag, IsFalling};
 ghost use Rattle.bags.specs.Best.{is_bettered_by};
 
 use crate::Point;
@@ -15,6 +15,7 @@ pub struct Bag<C: Criterion> {
     criterion: C,
     points: Vec<Point<C::V>>,
     pub ghost kept: { IsBag (C.rules criterion) points.items },
+    ghost falling: { IsFalling points.items },
 }
 
 impl<C: Criterion> Bag<C> {
@@ -70,13 +71,14 @@ impl<C: Criterion> Bag<C> {
         insert_point(&self.criterion, &mut self.points, point)
     }
 
-    // Whether the point at a place is a best one from a time on.
+    // Whether the point at a place is a best one from a time on. Only one behind it can be better.
     pub(crate) fn is_best_at(&self, place: usize, time: u32) -> bool
         requires { place < length (points_of self.now) }
         ensures { (p : _) → slice_get (points_of self.now) place ≡ Some p → result ≡ is_best (C.rules (criterion_of self.now)) (points_of self.now) time p }
     {
         let point = self.points[place];
-        time <= point.departure && !is_bettered(&self.criterion, &self.points, time, &point)
+        time <= point.departure
+            && !is_bettered(&self.criterion, &self.points[place + 1..], time, &point)
     }
 }
 

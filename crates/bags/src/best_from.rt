@@ -46,12 +46,15 @@ impl<'a, C: Criterion> Iterator for BestFrom<'a, C> {
     }
 }
 
-// The least place of a best point, from a place on.
+// The least place of a best point, from a place on. Behind a point that departs earlier all do.
 fn next_best<C: Criterion>(bag: &Bag<C>, time: u32, from: usize) -> Option<usize>
     ensures within { IfSome result (λ place. place < length (points_of bag.now)) }
     ensures first { MatchOption result (best_places_from (C.rules (criterion_of bag.now)) (points_of bag.now) time from ≡ []) (λ place. best_places_from (C.rules (criterion_of bag.now)) (points_of bag.now) time from ≡ place ∷ best_places_from (C.rules (criterion_of bag.now)) (points_of bag.now) time (place + 1)) }
 {
     for place in from..bag.len() {
+        if bag.point(place).departure < time {
+            return None;
+        }
         if bag.is_best_at(place, time) {
             return Some(place);
         }

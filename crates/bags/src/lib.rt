@@ -9,3 +9,6 @@ pub mod point;
 pub use bag::Bag;
 pub use best_from::BestFrom;
 pub use point::Point;
+
+#[cfg(test)]
+mod tests;
