@@ -112,6 +112,19 @@ fn assert_best(rt: &impl Abort, bag: &Bag<ArrivalTrips>, time: u32) {
     }
 }
 
+// A bag's points stand by falling departure, and of equal departures by arrival and number of trips.
+fn assert_order(rt: &impl Abort, bag: &Bag<ArrivalTrips>) {
+    for place in 1..bag.len() {
+        let before = bag.point(place - 1);
+        let point = bag.point(place);
+        let falls = before.departure > point.departure;
+        let together = before.departure == point.departure;
+        let rises = before.value.time < point.value.time
+            || (before.value.time == point.value.time && before.value.trips < point.value.trips);
+        assert!(rt; falls || (together && rises), "at {place}");
+    }
+}
+
 fn check_run(rt: &impl Abort, alloc: Global, seed: u32) -> Result<(), AllocError> {
     let mut state = seed;
     let mut history = Vec::new(alloc);
@@ -128,6 +141,7 @@ fn check_run(rt: &impl Abort, alloc: Global, seed: u32) -> Result<(), AllocError
             }
         }
         assert_stands(rt, &bag, &history);
+        assert_order(rt, &bag);
         for time in 0..10 {
             assert_best(rt, &bag, time);
         }
