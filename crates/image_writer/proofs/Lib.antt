@@ -1,0 +1,4 @@
+pub mod NameCounts
+pub mod Fours
+pub mod Sections
+pub mod Days

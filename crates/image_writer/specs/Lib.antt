@@ -1,0 +1,3 @@
+pub mod Writable
+pub mod Header
+pub mod Packing

@@ -1,0 +1,70 @@
+//! Names, and where each begins.
+
+ghost use Rattle.std.specs.Prelude.{◌≡◌, ◌+◌, ◌<◌, ◌≤◌, ◌^◌, ◌++◌, ℕ, List, length, map, slice_get, slice_index, OnOk, Some};
+ghost use Rattle.std.specs.Str.{IsUtf8};
+ghost use Rattle.timetable.specs.declared.limits.TheConstants.{MAX_NAME_BYTES};
+ghost use Rattle.timetable.specs.NamesValue.{TripNameValue};
+ghost use Rattle.timetable.specs.Legal.{At};
+ghost use Rattle.image_layout.specs.Spelling.{name_list, name_index, text};
+
+use std::alloc::AllocError;
+use timetable::{Names, TripName};
+
+/// How many names there are, of stops and of trips.
+pub fn name_count(names: &Names) -> usize
+    ensures { result ≡ length (name_list names.now) }
+{
+    names.stops.len() + names.trips.len()
+}
+
+/// The bytes of name `i`. Those of stops come first.
+pub fn name_at(names: &Names, i: usize) -> &[u8]
+    requires { i < length (name_list names.now) }
+    ensures name { At (name_list names.now) i result.now }
+    ensures utf8 { IsUtf8 result.now }
+{
+    let stops = names.stops.len();
+    if i < stops {
+        let name = &names.stops[i];
+        return name.as_bytes();
+    }
+    let trip = &names.trips[i - stops];
+    trip.name.as_bytes()
+}
+
+/// How many bytes all names have.
+pub fn text_len(names: &Names) -> usize
+    requires { length (text names.now) ≤ MAX_NAME_BYTES }
+    ensures { result ≡ length (text names.now) }
+{
+    let mut bytes = 0;
+    for i in 0..name_count(names) {
+        bytes += name_at(names, i).len();
+    }
+    bytes
+}
+
+/// How many bytes stand before each name, and how many there are.
+pub fn write_name_index(words: &mut Vec<u32>, names: &Names) -> Result<(), AllocError>
+    requires { length (text names.now) ≤ MAX_NAME_BYTES }
+    ensures { OnOk result (words.new.items ≡ words.old.items ++ name_index names.now) }
+{
+    let mut bytes = 0;
+    for i in 0..name_count(names) {
+        words.push(bytes as u32)?;
+        bytes += name_at(names, i).len();
+    }
+    words.push(bytes as u32)?;
+    Ok(())
+}
+
+/// The service day of each trip.
+pub fn write_days(words: &mut Vec<u32>, trips: &[TripName]) -> Result<(), AllocError>
+    ensures written { OnOk result (words.new.items ≡ words.old.items ++ map (λ (t : TripNameValue). t.day) trips.now) }
+    ensures fits { OnOk result ((i : ℕ) → slice_index words.new.items i < 2 ^ 32) }
+{
+    for trip in trips {
+        words.push(trip.day)?;
+    }
+    Ok(())
+}

@@ -1,0 +1,77 @@
+//! The text of the names, four bytes a word.
+
+ghost use Rattle.std.specs.Prelude.{◌≡◌, ◌++◌, ◌∷◌, [], ℕ, List, IfOk, OnOk};
+ghost use Rattle.std.specs.Str.{IsUtf8};
+ghost use Rattle.timetable.specs.Legal.{At};
+ghost use Rattle.image_layout.specs.Spelling.{name_list, text, text_words};
+ghost use Rattle.image_writer.specs.Packing.{full_words, rest_of, waiting_bytes};
+
+use crate::names::{name_at, name_count};
+use std::alloc::AllocError;
+use timetable::Names;
+
+/// Bytes of the text that don't fill a word yet.
+#[derive(Clone, Copy)]
+enum Waiting {
+    Empty,
+    One(u8),
+    Two(u8, u8),
+    Three(u8, u8, u8),
+}
+
+impl Waiting {
+    /// One byte more. The fourth fills a word.
+    fn push(self, words: &mut Vec<u32>, byte: u8) -> Result<Waiting, AllocError>
+        ensures written { OnOk result (words.new.items ≡ words.old.items ++ full_words (waiting_bytes self ++ byte ∷ [])) }
+        ensures rest { IfOk result (λ waiting. waiting_bytes waiting ≡ rest_of (waiting_bytes self ++ byte ∷ [])) }
+    {
+        match self {
+            Waiting::Empty => Ok(Waiting::One(byte)),
+            Waiting::One(a) => Ok(Waiting::Two(a, byte)),
+            Waiting::Two(a, b) => Ok(Waiting::Three(a, b, byte)),
+            Waiting::Three(a, b, c) => {
+                words.push(u32::from_le_bytes([a, b, c, byte]))?;
+                Ok(Waiting::Empty)
+            }
+        }
+    }
+
+    /// Those that wait at the end of the text fill a word with bytes of 0.
+    fn finish(self, words: &mut Vec<u32>) -> Result<(), AllocError>
+        ensures { OnOk result (words.new.items ≡ words.old.items ++ text_words (waiting_bytes self)) }
+    {
+        let last = match self {
+            Waiting::Empty => return Ok(()),
+            Waiting::One(a) => [a, 0, 0, 0],
+            Waiting::Two(a, b) => [a, b, 0, 0],
+            Waiting::Three(a, b, c) => [a, b, c, 0],
+        };
+        words.push(u32::from_le_bytes(last))?;
+        Ok(())
+    }
+}
+
+/// The bytes of a name, behind those that wait.
+fn write_name(words: &mut Vec<u32>, waiting: Waiting, name: &[u8]) -> Result<Waiting, AllocError>
+    ensures written { OnOk result (words.new.items ≡ words.old.items ++ full_words (waiting_bytes waiting ++ name.now)) }
+    ensures rest { IfOk result (λ after. waiting_bytes after ≡ rest_of (waiting_bytes waiting ++ name.now)) }
+{
+    let mut waiting = waiting;
+    for byte in name {
+        waiting = waiting.push(words, *byte)?;
+    }
+    Ok(waiting)
+}
+
+/// The bytes of all names, one after the other.
+pub fn write_text(words: &mut Vec<u32>, names: &Names) -> Result<(), AllocError>
+    ensures written { OnOk result (words.new.items ≡ words.old.items ++ text_words (text names.now)) }
+    ensures utf8 { OnOk result ((i : ℕ) (name : List ℕ) → At (name_list names.now) i name → IsUtf8 name) }
+{
+    let mut waiting = Waiting::Empty;
+    for i in 0..name_count(names) {
+        waiting = write_name(words, waiting, name_at(names, i))?;
+    }
+    waiting.finish(words)?;
+    Ok(())
+}
