@@ -142,7 +142,7 @@ stop_named n k d lt =
     let all = length-append n.stops (map (λ (t : TripNameValue). t.name) n.trips) in
     slice_get-get_or (name_list n) k d (omega (arith, all)) ∙ ap Some (get_or_append_left n.stops (map (λ (t : TripNameValue). t.name) n.trips) d k lt)
 
-trip_named : (n : NamesValue) (k : ℕ) (d : TripNameValue) → k < length n.trips → slice_get (name_list n) (length n.stops + k) ≡ Some (get_or n.trips k d).name
+pub trip_named : (n : NamesValue) (k : ℕ) (d : TripNameValue) → k < length n.trips → slice_get (name_list n) (length n.stops + k) ≡ Some (get_or n.trips k d).name
 trip_named n k d lt =
     let all = length-append n.stops (map (λ (t : TripNameValue). t.name) n.trips) in
     let many = length-map n.trips (λ (t : TripNameValue). t.name) in
