@@ -3,5 +3,6 @@ pub mod Faults
 pub mod Ids
 pub mod Rows
 pub mod Source
+pub mod Spread
 pub mod Tables
 pub mod Values

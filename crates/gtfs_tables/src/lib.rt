@@ -14,6 +14,7 @@ mod reader;
 pub mod rows;
 mod services;
 mod source;
+pub mod spread;
 mod stop_times;
 mod stops;
 pub mod values;
