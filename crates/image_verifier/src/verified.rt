@@ -227,7 +227,7 @@ impl Verified {
 
     /// How many bytes a name has. Names are numbered: those of the stops, and then those of the trips.
     pub fn name_len(&self, i: usize) -> usize
-        requires { i < length (name_list self.now.names) }
+        requires { i < self.now.timetable.stops + self.now.timetable.trips }
         ensures { (name : List ℕ) → At (name_list self.now.names) i name → result ≡ length name }
     {
         name_len_at(&self.words, i)
@@ -235,7 +235,7 @@ impl Verified {
 
     /// A byte of a name.
     pub fn name_byte(&self, i: usize, j: usize) -> u8
-        requires name { i < length (name_list self.now.names) }
+        requires name { i < self.now.timetable.stops + self.now.timetable.trips }
         requires byte { (name : List ℕ) → At (name_list self.now.names) i name → j < length name }
         ensures { (name : List ℕ) → At (name_list self.now.names) i name → At name j result }
     {

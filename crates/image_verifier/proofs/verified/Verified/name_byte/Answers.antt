@@ -1,18 +1,16 @@
-use Rattle.std.proofs.Common.{◌≡◌, ◌<◌, ℕ, List, length, sym, subst, ap, ◌∙◌, arith}
+use Rattle.std.proofs.Common.{◌≡◌, ◌+◌, ◌<◌, ℕ, List, length, sym, subst, ap, ◌∙◌, arith}
 use Rattle.std.specs.Prelude.{slice_get}
 use Rattle.timetable.specs.Legal.{At}
 use Rattle.image_layout.specs.Spelling.{name_list}
 use Rattle.image_layout.specs.Shown.{name_of}
 use Rattle.image_layout.specs.Image.{ImageValue}
 use Rattle.image_verifier.specs.NameFaults.{name_count}
-use Rattle.image_verifier.proofs.NameReads.{length-name_list, name_is, name_shown}
+use Rattle.image_verifier.proofs.NameReads.{name_is, name_shown}
 use Rattle.image_verifier.proofs.verified.Verified.name_byte.Goals as goal
 
 -- the number of a name is below how many there are
 within : (c : goal.After-deref) → c.args.i < name_count c.self.inside.words.items
-within c =
-    let lt = subst (λ (v : ImageValue). c.args.i < length (name_list v.names)) (sym c.self.view_is) c.requires.name in
-    omega (arith, lt, length-name_list c.self.inside.words.items)
+within c = subst (λ (v : ImageValue). c.args.i < v.timetable.stops + v.timetable.trips) (sym c.self.view_is) c.requires.name
 
 pub name_byte_at-requires-clause-within : goal.name_byte_at-requires-clause-within
 name_byte_at-requires-clause-within c = subst (λ (x : List ℕ). c.args.i < name_count x) (sym c.deref.ensures.value) (within c)

@@ -1,17 +1,16 @@
-use Rattle.std.proofs.Common.{◌≡◌, ◌<◌, ℕ, List, length, sym, subst, ap, ◌∙◌, arith}
+use Rattle.std.proofs.Common.{◌≡◌, ◌+◌, ◌<◌, ℕ, List, length, sym, subst, ap, ◌∙◌, arith}
 use Rattle.timetable.specs.Legal.{At}
 use Rattle.image_layout.specs.Spelling.{name_list}
 use Rattle.image_layout.specs.Shown.{name_of}
 use Rattle.image_layout.specs.Image.{ImageValue}
 use Rattle.image_verifier.specs.NameFaults.{name_count}
-use Rattle.image_verifier.proofs.NameReads.{length-name_list, name_shown}
+use Rattle.image_verifier.proofs.NameReads.{name_shown}
 use Rattle.image_verifier.proofs.verified.Verified.name_len.Goals as goal
 
 pub name_len_at-requires-clause-within : goal.name_len_at-requires-clause-within
 name_len_at-requires-clause-within c =
-    let w = c.self.inside.words.items in
-    let lt = subst (λ (v : ImageValue). c.args.i < length (name_list v.names)) (sym c.self.view_is) c.requires in
-    subst (λ (x : List ℕ). c.args.i < name_count x) (sym c.deref.ensures.value) (omega (arith, lt, length-name_list w))
+    let lt = subst (λ (v : ImageValue). c.args.i < v.timetable.stops + v.timetable.trips) (sym c.self.view_is) c.requires in
+    subst (λ (x : List ℕ). c.args.i < name_count x) (sym c.deref.ensures.value) lt
 
 pub returns : goal.returns
 returns c = λ name at.
