@@ -8,3 +8,4 @@ pub mod Ends
 pub mod Answer
 pub mod Windows
 pub mod Refutations
+pub mod ExampleAnswers

@@ -67,7 +67,7 @@ pub record CutIsTheSources (JourneyCounts : TimetableValue → Query → ℕ →
 abbrev pub MatchIsTheAnswer : {V : Type 0} → Rules V → Type 0
 MatchIsTheAnswer {V} rules = (t : TimetableValue) (q : Query) → CanScan t q → (start : ℕ) → IsFirstAt t q.from start → (tags : Spelling) (found : List (Point V)) → Matches rules tags.journey (CountsFrom t q start) (journey_value rules t) found → IsBag rules found → AllPairs (Before rules) found → IsAnswer rules t q found
 
--- nothing follows past the window's end, so nothing kept matches
+-- past the window's end nothing follows, so empty lists match
 abbrev pub NothingFollows : {V : Type 0} → Rules V → Type 0
 NothingFollows {V} rules = (t : TimetableValue) (q : Query) → CanScan t q → (end : ℕ) → IsFirstAt t q.by end → (tags : Spelling) → MatchesFrom rules t q tags end (record { bag = λ _. []; labels = λ _. []; found = [] })
 

@@ -5,5 +5,5 @@ pub mod Continuations
 pub mod Matching
 pub mod Steps
 pub mod LawStatements
-pub mod Rows
+pub mod Examples
 pub mod WrongSteps

@@ -12,12 +12,12 @@ use Rattle.profile_scan.specs.Points.{Covers}
 use Rattle.profile_scan.specs.Continuations.{Onward, Aboard}
 use Rattle.profile_scan.specs.Matching.{Spelling, StandsFor, ScanValue}
 
--- what is offered to a list of points: for each way A that is open, a departure, a value, and the tags that fit
+-- what is offered to a list of points: of the ways A those that are open, and for each a departure, a value, and the tags that fit
 pub record Offer (A V : Type 0) : Type 1 where
   pub is_open : A → Type 0
   pub departure : A → ℕ
   pub value : A → V
-  pub FitsTag : A → ℕ → Type 0
+  pub fits_tag : A → ℕ → Type 0
 
 -- a point is one of the offer
 pub record IsOffered {A V : Type 0} (offer : Offer A V) (p : Point V) : Type 0 where
@@ -25,7 +25,7 @@ pub record IsOffered {A V : Type 0} (offer : Offer A V) (p : Point V) : Type 0 w
   pub is_open : offer.is_open way
   pub departs : p.departure ≡ offer.departure way
   pub worth : p.value ≡ offer.value way
-  pub fits : offer.FitsTag way p.tag
+  pub fits : offer.fits_tag way p.tag
 
 -- a list takes an offer in: each point stood before or is offered, what was covered stays so, and all that is offered is covered
 pub record TakesIn {A V : Type 0} (rules : Rules V) (offer : Offer A V) (old new : List (Point V)) : Type 0 where
@@ -63,7 +63,7 @@ leavings rules t q tags i bag = record {
   is_open = λ way. ((connection_at t i).alight ≡ true) × MayLeave t q i bag way;
   departure = λ _. 0;
   value = leaving_value rules t i;
-  FitsTag = LeavingTag tags i;
+  fits_tag = LeavingTag tags i;
 }
 
 -- a ride from the connection on, as a label goes on, with the rides after it
@@ -89,7 +89,7 @@ boardings rules t tags i stop labels = record {
   is_open = MayBoard t i stop labels;
   departure = λ way. (connection_at t i).dep - way.walk.secs;
   value = λ way. rules.walk way.walk.secs (rules.ride way.label.value);
-  FitsTag = λ way tag. (x : Aboard) → StandsFor (tags.aboard way.label.tag) x → StandsFor (tags.onward tag) (record { walk = way.walk ∷ []; rides = boarded i x });
+  fits_tag = λ way tag. (x : Aboard) → StandsFor (tags.aboard way.label.tag) x → StandsFor (tags.onward tag) (record { walk = way.walk ∷ []; rides = boarded i x });
 }
 
 -- setting out from the source to board a connection: a start, and a label of its trip
@@ -113,7 +113,7 @@ settings_out rules t q tags i labels = record {
   is_open = MaySetOut t q i labels;
   departure = λ way. (connection_at t i).dep - start_secs way.start;
   value = λ way. started rules way.start (rules.ride way.label.value);
-  FitsTag = λ way tag. (x : Aboard) → StandsFor (tags.aboard way.label.tag) x → StandsFor (tags.journey tag) (record { start = way.start; rides = boarded i x });
+  fits_tag = λ way tag. (x : Aboard) → StandsFor (tags.aboard way.label.tag) x → StandsFor (tags.journey tag) (record { start = way.start; rides = boarded i x });
 }
 
 -- one connection, from what a scan keeps of the later ones: first the labels of its trip, by the bag of the stop where it ends; then, by these labels, every bag and the points found

@@ -70,7 +70,7 @@ module _ {V : Type 0} (rules : Rules V) (t : TimetableValue) (tags : Spelling) (
   AtOnceTag (at_once label) tag = (x : Aboard) → StandsFor (tags.aboard label.tag) x → StandsFor (tags.onward tag) (record { walk = []; rides = boarded i x })
 
   abbrev pub at_once_boardings : Offer (Unchanged V) V
-  at_once_boardings = record { is_open = MayBoardAtOnce; departure = at_once_departure; value = at_once_value; FitsTag = AtOnceTag }
+  at_once_boardings = record { is_open = MayBoardAtOnce; departure = at_once_departure; value = at_once_value; fits_tag = AtOnceTag }
 
 abbrev pub IsStepWithoutChange : {V : Type 0} → Rules V → TimetableValue → Query → Spelling → ℕ → ScanValue V → ScanValue V → Type 0
 IsStepWithoutChange rules t q tags i = IsStepWith rules t q tags i (at_once_boardings rules t tags i) (settings_out rules t q tags i)

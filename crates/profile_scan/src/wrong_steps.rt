@@ -5,7 +5,7 @@ ghost use Rattle.timetable.specs.Journeys.{Counts};
 ghost use Rattle.profile_scan.specs.Points.{IsAnswer};
 ghost use Rattle.profile_scan.specs.WrongSteps.{CountsLegByLeg, IsStepWithBagCut, IsStepWithLoopStart, IsStepWithoutChange};
 ghost use Rattle.profile_scan.specs.LawStatements.{CutIsTheSources, OneIndexDown};
-ghost use Rattle.profile_scan.specs.Rows.{one_hop, over_one_hop};
+ghost use Rattle.profile_scan.specs.Examples.{one_hop, over_one_hop};
 
 use criteria::{Arrival, Criterion};
 

@@ -1,10 +1,12 @@
 //! The definitions at worked examples.
 
 ghost use Rattle.std.specs.Prelude.{◌≡◌, ℕ, [], ◌∷◌, None, Some, reverse};
+ghost use Rattle.bags.specs.Dominance.{Apart, Dominates};
 ghost use Rattle.timetable.specs.Journeys.{Counts, IsJourney};
+ghost use Rattle.profile_scan.specs.Points.{IsAnswer};
 ghost use Rattle.profile_scan.specs.Values.{journey_value};
 ghost use Rattle.profile_scan.specs.Window.{window, falling};
-ghost use Rattle.profile_scan.specs.Rows.{asked, by_change, direct, footpath, from_start, on_foot, ride, with_chain, with_loops, with_walk};
+ghost use Rattle.profile_scan.specs.Examples.{asked, by_change, direct, footpath, from_start, on_foot, ride, with_chain, with_loops, with_walk};
 
 use criteria::{Arrival, ArrivalTrips, Criterion};
 
@@ -62,8 +64,20 @@ fn windows_are_computed()
     ensures backward { reverse (window (with_loops 0 0) (asked 32400 36000)) ≡ falling 0 3 }
 {}
 
+// with two criteria: the same two points, one of them dominated or none
+fn one_dominates_by_arrival_alone(arrival: &Arrival, trips: &ArrivalTrips)
+    ensures arrival { Dominates (⟦<Arrival as Criterion>⟧.rules arrival.now) (record { departure = 28800; value = 30000; tag = 0 }) (record { departure = 28800; value = 30600; tag = 0 }) }
+    ensures trips { Apart (⟦<ArrivalTrips as Criterion>⟧.rules trips.now) (record { departure = 28800; value = record { time = 30000; trips = 2 }; tag = 0 }) (record { departure = 28800; value = record { time = 30600; trips = 1 }; tag = 0 }) }
+{}
+
+// over all journeys, chains of any length included
+fn answers_are_computed(arrival: &Arrival)
+    ensures one { (tag : ℕ) → IsAnswer (⟦<Arrival as Criterion>⟧.rules arrival.now) (with_loops 0 0) (asked 32400 36000) (record { departure = 28800; value = 30000; tag = tag } ∷ []) }
+    ensures none { IsAnswer (⟦<Arrival as Criterion>⟧.rules arrival.now) (with_loops 60 0) (asked 28799 36000) [] }
+{}
+
 #[test]
-fn worked_examples_hold() {
+fn they_hold() {
     both_ways_count();
     they_are_worth(&Arrival, &ArrivalTrips);
     a_slow_change_misses_the_trip();
@@ -72,4 +86,6 @@ fn worked_examples_hold() {
     a_start_on_foot_counts(&Arrival);
     walks_count();
     windows_are_computed();
+    one_dominates_by_arrival_alone(&Arrival, &ArrivalTrips);
+    answers_are_computed(&Arrival);
 }
