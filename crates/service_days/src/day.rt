@@ -1,0 +1,37 @@
+// The start of a day.
+
+ghost use Rattle.std.specs.Prelude.{◌≡◌, IfSome, IfNone, IfOk, IfErr, false, true};
+ghost use Rattle.gtfs_tables.specs.Values.{is_civil};
+ghost use Rattle.service_days.specs.Zones.{HasNoStart, IsDate, IsDayStart};
+
+use crate::fault::DayFault;
+use crate::zone::Zone;
+use gtfs_tables::Day;
+use jiff::civil::Date;
+
+/// The instant at which a day starts in a zone, in seconds after 1970-01-01T00:00:00Z: 43,200 seconds before the instant
+/// of the day's noon. Where the zone's clocks show noon twice or never, that is the noon by the offset before the change.
+/// `DayOutOfRange` where there is no such day, or no instant for its noon.
+pub fn day_start(zone: &Zone, day: Day) -> Result<i64, DayFault>
+    ensures ok { IfOk result (IsDayStart zone.now day) }
+    ensures err { IfErr result (λ fault. (fault ≡ DayFault.DayOutOfRange) × HasNoStart zone.now day) }
+{
+    let Some(date) = civil_date(day) else {
+        return Err(DayFault::DayOutOfRange);
+    };
+    match zone.time_zone().to_timestamp(date.at(12, 0, 0, 0)) {
+        Ok(noon) => Ok(noon.as_second() - 43_200),
+        Err(_) => Err(DayFault::DayOutOfRange),
+    }
+}
+
+// The day as jiff has it, if it is a civil date of the years 1 to 9999.
+pub(crate) fn civil_date(day: Day) -> Option<Date>
+    ensures some { IfSome result (λ date. (is_civil day ≡ true) × IsDate day date) }
+    ensures none { IfNone result (is_civil day ≡ false) }
+{
+    if day.year == 0 || day.year > 9999 || day.month > 12 || day.day > 31 {
+        return None;
+    }
+    Date::new(day.year as i16, day.month as i8, day.day as i8).ok()
+}

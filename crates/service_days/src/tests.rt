@@ -1,0 +1,142 @@
+// Day starts by other calendars, and what is refused.
+
+use crate::day::day_start;
+use crate::fault::DayFault;
+use crate::zone::Zone;
+use gtfs_tables::Day;
+use std::test::Fail;
+
+// A zone file: Central European Time until 2024-03-31T01:00:00Z, then Central European Summer Time, and from there on
+// the rule.
+const CENTRAL_EUROPE: &[u8] = b"TZif2\0\0\0\0\0\0\0\0\0\0\0\0\0\0\0\
+\0\0\0\0\0\0\0\0\0\0\0\0\0\0\0\0\0\0\0\x01\0\0\0\x01\0\0\0\0\0\0\0\
+TZif2\0\0\0\0\0\0\0\0\0\0\0\0\0\0\0\
+\0\0\0\0\0\0\0\0\0\0\0\0\0\0\0\x01\0\0\0\x02\0\0\0\x09\
+\0\0\0\0\x66\x08\xB5\x90\x01\0\0\x0E\x10\0\0\0\0\x1C\x20\x01\x04CET\0CEST\0\
+\nCET-1CEST,M3.5.0,M10.5.0/3\n";
+
+fn day(text: &str) -> Result<Day, Fail> {
+    Ok(Day::parse(text.as_bytes())?)
+}
+
+// Whether each day starts at its second.
+fn starts(zone: &Zone, days: &[(&str, i64)]) -> Result<bool, Fail> {
+    for (text, start) in days {
+        if day_start(zone, day(text)?)? != *start {
+            return Ok(false);
+        }
+    }
+    Ok(true)
+}
+
+#[test]
+fn clocks_change_twice_a_year(rt: HostRuntime) -> Result<(), Fail> {
+    let zone = Zone::posix("CET-1CEST,M3.5.0,M10.5.0/3")?;
+    assert!(rt;
+        starts(
+            &zone,
+            &[
+                ("20240330", 1_711_753_200),
+                ("20240331", 1_711_836_000),
+                ("20240401", 1_711_922_400),
+                ("20241026", 1_729_893_600),
+                ("20241027", 1_729_983_600),
+                ("20241028", 1_730_070_000),
+            ]
+        )?
+    );
+    // 08:00:00 of the first day of summer time
+    let second = day_start(&zone, day("20240331")?)?;
+    assert_eq!(rt; second + 8 * 3600, 1_711_864_800);
+    Ok(())
+}
+
+#[test]
+fn clocks_change_at_noon(rt: HostRuntime) -> Result<(), Fail> {
+    // in March the clocks skip noon, in October they show it twice
+    let zone = Zone::posix("AAA-1BBB,M3.5.0/11:30,M10.5.0/12:30")?;
+    assert!(rt;
+        starts(
+            &zone,
+            &[("20240331", 1_711_839_600), ("20241027", 1_729_980_000),]
+        )?
+    );
+    Ok(())
+}
+
+#[test]
+fn fixed_zones(rt: HostRuntime) -> Result<(), Fail> {
+    assert!(rt;
+        starts(
+            &Zone::fixed(0),
+            &[
+                ("00010101", -62_135_596_800),
+                ("20240115", 1_705_276_800),
+                ("99991230", 253_402_128_000),
+            ]
+        )?
+    );
+    assert!(rt;
+        starts(
+            &Zone::fixed(86_399),
+            &[("20240115", 1_705_190_401), ("99991231", 253_402_128_001),]
+        )?
+    );
+    assert!(rt; starts(&Zone::fixed(-86_399), &[("20240115", 1_705_363_199)])?);
+    Ok(())
+}
+
+#[test]
+fn zone_files(rt: HostRuntime) -> Result<(), Fail> {
+    let zone = Zone::file_bytes(rt.alloc(), CENTRAL_EUROPE)?;
+    assert!(rt;
+        starts(
+            &zone,
+            &[
+                ("20230701", 1_688_166_000),
+                ("20240330", 1_711_753_200),
+                ("20240331", 1_711_836_000),
+                ("20241027", 1_729_983_600),
+                ("20241201", 1_733_007_600),
+            ]
+        )?
+    );
+    Ok(())
+}
+
+#[test]
+fn refused_zones(rt: HostRuntime) {
+    let files: [&[u8]; 3] = [b"", b"TZif2", &CENTRAL_EUROPE[..152]];
+    for bytes in files {
+        let answer = Zone::file_bytes(rt.alloc(), bytes);
+        assert!(rt; matches!(answer, Err(DayFault::BadZone)));
+    }
+    for text in ["", "CET", "CET-1CEST", "CE-1", "CET-1 ", "Europe/Vienna"] {
+        assert!(rt; matches!(Zone::posix(text), Err(DayFault::BadZone)));
+    }
+}
+
+#[test]
+fn refused_days(rt: HostRuntime) {
+    let zone = Zone::fixed(0);
+    for (year, month, day) in [
+        (9999, 12, 31),
+        (0, 1, 1),
+        (10_000, 1, 1),
+        (2024, 0, 1),
+        (2024, 13, 1),
+        (2024, 2, 30),
+        (2023, 2, 29),
+        (2024, 1, 0),
+        (65_535, 255, 255),
+    ] {
+        assert!(rt; day_start(&zone, Day { year, month, day }) == Err(DayFault::DayOutOfRange));
+    }
+}
+
+#[test]
+fn numbers(rt: HostRuntime) {
+    assert_eq!(rt; DayFault::BadZone.number(), 21);
+    assert_eq!(rt; DayFault::DayOutOfRange.number(), 22);
+    assert_eq!(rt; DayFault::OutOfMemory.number(), 23);
+}
