@@ -33,7 +33,10 @@ pub record IsInstead {V : Type 0} (rules : Rules V) (t : TimetableValue) (stop :
 
 -- a chain of footpaths gives way to one closed footpath
 abbrev pub ChainsGiveWay : {V : Type 0} → Rules V → Type 0
-ChainsGiveWay rules = (t : TimetableValue) → IsLegal t → IsWithinLimits t → (stop : ℕ) (chain : List Footpath) → chain ≢ [] → IsWalk t stop chain → (f : Footpath) × IsInstead rules t stop chain f
+ChainsGiveWay rules =
+    (t : TimetableValue) → IsLegal t → IsWithinLimits t
+    → (stop : ℕ) (chain : List Footpath) → chain ≢ [] → IsWalk t stop chain
+    → (f : Footpath) × IsInstead rules t stop chain f
 
 -- connections that depart together can't continue one another: a trip's connections depart one after the other, and each leg departs later than the one before it was left
 pub record DeparturesRise (t : TimetableValue) : Type 0 where
@@ -45,7 +48,11 @@ TogetherNeverContinue = (t : TimetableValue) → IsLegal t → DeparturesRise t
 
 -- what is kept of the later connections and matches all ways to go on over them still does after the step of one connection
 abbrev pub OneIndexDown : {V : Type 0} → Rules V → (TimetableValue → Query → Spelling → ℕ → ScanValue V → ScanValue V → Type 0) → Type 0
-OneIndexDown {V} rules Step = (t : TimetableValue) (q : Query) → CanScan t q → (tags : Spelling) (i : ℕ) → i < length t.connections → (old new : ScanValue V) → MatchesFrom rules t q tags (i + 1) old → Step t q tags i old new → MatchesFrom rules t q tags i new
+OneIndexDown {V} rules Step =
+    (t : TimetableValue) (q : Query) → CanScan t q
+    → (tags : Spelling) (i : ℕ) → i < length t.connections
+    → (old new : ScanValue V) → MatchesFrom rules t q tags (i + 1) old → Step t q tags i old new
+    → MatchesFrom rules t q tags i new
 
 -- two spellings agree on the tags in use
 pub record SpellAlike {V : Type 0} (a b : Spelling) (scan : ScanValue V) : Type 0 where
@@ -55,7 +62,9 @@ pub record SpellAlike {V : Type 0} (a b : Spelling) (scan : ScanValue V) : Type 
 
 -- what matches still does where further tags come to spell something
 abbrev pub TagsMayCome : {V : Type 0} → Rules V → Type 0
-TagsMayCome {V} rules = (t : TimetableValue) (q : Query) (a b : Spelling) (i : ℕ) (scan : ScanValue V) → SpellAlike a b scan → MatchesFrom rules t q a i scan → MatchesFrom rules t q b i scan
+TagsMayCome {V} rules =
+    (t : TimetableValue) (q : Query) (a b : Spelling) (i : ℕ) (scan : ScanValue V)
+    → SpellAlike a b scan → MatchesFrom rules t q a i scan → MatchesFrom rules t q b i scan
 
 -- the cut at the latest departure is the source's alone: what follows a stop or in a trip doesn't know it, and of a journey only its own departure is asked, however early the cut
 pub record CutIsTheSources (JourneyCounts : TimetableValue → Query → ℕ → JourneyValue → Type 0) : Type 0 where
@@ -65,15 +74,26 @@ pub record CutIsTheSources (JourneyCounts : TimetableValue → Query → ℕ →
 
 -- points found that match at the window's start, none of which dominates another, in order, are the answer
 abbrev pub MatchIsTheAnswer : {V : Type 0} → Rules V → Type 0
-MatchIsTheAnswer {V} rules = (t : TimetableValue) (q : Query) → CanScan t q → (start : ℕ) → IsFirstAt t q.from start → (tags : Spelling) (found : List (Point V)) → Matches rules tags.journey (CountsFrom t q start) (journey_value rules t) found → IsBag rules found → AllPairs (Before rules) found → IsAnswer rules t q found
+MatchIsTheAnswer {V} rules =
+    (t : TimetableValue) (q : Query) → CanScan t q
+    → (start : ℕ) → IsFirstAt t q.from start
+    → (tags : Spelling) (found : List (Point V)) → Matches rules tags.journey (CountsFrom t q start) (journey_value rules t) found
+    → IsBag rules found → AllPairs (Before rules) found
+    → IsAnswer rules t q found
 
 -- past the window's end nothing follows, so empty lists match
 abbrev pub NothingFollows : {V : Type 0} → Rules V → Type 0
-NothingFollows {V} rules = (t : TimetableValue) (q : Query) → CanScan t q → (end : ℕ) → IsFirstAt t q.by end → (tags : Spelling) → MatchesFrom rules t q tags end (record { bag = λ _. []; labels = λ _. []; found = [] })
+NothingFollows {V} rules =
+    (t : TimetableValue) (q : Query) → CanScan t q
+    → (end : ℕ) → IsFirstAt t q.by end
+    → (tags : Spelling) → MatchesFrom rules t q tags end (record { bag = λ _. []; labels = λ _. []; found = [] })
 
 -- there is one answer only, tags aside
 abbrev pub OneAnswer : {V : Type 0} → Rules V → Type 0
-OneAnswer {V} rules = (t : TimetableValue) (q : Query) → CanScan t q → (a b : List (Point V)) → IsAnswer rules t q a → IsAnswer rules t q b → map untagged a ≡ map untagged b
+OneAnswer {V} rules =
+    (t : TimetableValue) (q : Query) → CanScan t q
+    → (a b : List (Point V)) → IsAnswer rules t q a → IsAnswer rules t q b
+    → map untagged a ≡ map untagged b
 
 -- a window read backward: its places stand between the first ones at two times, each is a place of a connection, and departures never rise
 pub record IsReadBackward (t : TimetableValue) (q : Query) : Type 0 where

@@ -42,7 +42,12 @@ pub data Leaving (V : Type 0) : Type 0 where
 -- whether that way is open, given the stop's bag
 abbrev pub MayLeave : {V : Type 0} → TimetableValue → Query → ℕ → List (Point V) → Leaving V → Type 0
 MayLeave t q i bag ends = ((connection_at t i).to ≡ q.target) × ((connection_at t i).arr ≤ q.by)
-MayLeave t q i bag (ends_after f) = Contains t.footpaths f × (f.from ≡ (connection_at t i).to) × (f.to ≡ q.target) × ((connection_at t i).to ≢ q.target) × ((connection_at t i).arr + f.secs ≤ q.by)
+MayLeave t q i bag (ends_after f) =
+    Contains t.footpaths f
+    × (f.from ≡ (connection_at t i).to)
+    × (f.to ≡ q.target)
+    × ((connection_at t i).to ≢ q.target)
+    × ((connection_at t i).arr + f.secs ≤ q.by)
 MayLeave t q i bag (changes p) = Contains bag p × ((connection_at t i).arr ≤ p.departure)
 
 -- its value
@@ -55,7 +60,9 @@ leaving_value rules t i (changes p) = p.value
 abbrev pub LeavingTag : {V : Type 0} → Spelling → ℕ → Leaving V → ℕ → Type 0
 LeavingTag tags i ends tag = StandsFor (tags.aboard tag) (record { last = i; walk = []; rides = [] })
 LeavingTag tags i (ends_after f) tag = StandsFor (tags.aboard tag) (record { last = i; walk = f ∷ []; rides = [] })
-LeavingTag tags i (changes p) tag = (x : Onward) → StandsFor (tags.onward p.tag) x → StandsFor (tags.aboard tag) (record { last = i; walk = x.walk; rides = x.rides })
+LeavingTag tags i (changes p) tag =
+    (x : Onward) → StandsFor (tags.onward p.tag) x
+    → StandsFor (tags.aboard tag) (record { last = i; walk = x.walk; rides = x.rides })
 
 -- the labels of the connection's trip are offered each way to leave it, where passengers may get off
 abbrev pub leavings : {V : Type 0} → Rules V → TimetableValue → Query → Spelling → ℕ → List (Point V) → Offer (Leaving V) V

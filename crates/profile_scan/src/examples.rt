@@ -19,8 +19,10 @@ fn both_ways_count()
 
 fn they_are_worth(arrival: &Arrival, trips: &ArrivalTrips)
     ensures arrival { journey_value (⟦<Arrival as Criterion>⟧.rules arrival.now) (with_loops 0 0) (by_change 0) ≡ 30000 }
-    ensures trips { journey_value (⟦<ArrivalTrips as Criterion>⟧.rules trips.now) (with_loops 0 0) (by_change 0) ≡ record { time = 30000; trips = 2 } }
-    ensures direct { journey_value (⟦<ArrivalTrips as Criterion>⟧.rules trips.now) (with_loops 0 0) direct ≡ record { time = 30600; trips = 1 } }
+    ensures trips { journey_value (⟦<ArrivalTrips as Criterion>⟧.rules trips.now) (with_loops 0 0) (by_change 0)
+        ≡ record { time = 30000; trips = 2 } }
+    ensures direct { journey_value (⟦<ArrivalTrips as Criterion>⟧.rules trips.now) (with_loops 0 0) direct
+        ≡ record { time = 30600; trips = 1 } }
 {}
 
 // two minutes are just enough for the change
@@ -66,13 +68,18 @@ fn windows_are_computed()
 
 // with two criteria: the same two points, one of them dominated or none
 fn one_dominates_by_arrival_alone(arrival: &Arrival, trips: &ArrivalTrips)
-    ensures arrival { Dominates (⟦<Arrival as Criterion>⟧.rules arrival.now) (record { departure = 28800; value = 30000; tag = 0 }) (record { departure = 28800; value = 30600; tag = 0 }) }
-    ensures trips { Apart (⟦<ArrivalTrips as Criterion>⟧.rules trips.now) (record { departure = 28800; value = record { time = 30000; trips = 2 }; tag = 0 }) (record { departure = 28800; value = record { time = 30600; trips = 1 }; tag = 0 }) }
+    ensures arrival { Dominates (⟦<Arrival as Criterion>⟧.rules arrival.now)
+        (record { departure = 28800; value = 30000; tag = 0 })
+        (record { departure = 28800; value = 30600; tag = 0 }) }
+    ensures trips { Apart (⟦<ArrivalTrips as Criterion>⟧.rules trips.now)
+        (record { departure = 28800; value = record { time = 30000; trips = 2 }; tag = 0 })
+        (record { departure = 28800; value = record { time = 30600; trips = 1 }; tag = 0 }) }
 {}
 
 // over all journeys, chains of any length included
 fn answers_are_computed(arrival: &Arrival)
-    ensures one { (tag : ℕ) → IsAnswer (⟦<Arrival as Criterion>⟧.rules arrival.now) (with_loops 0 0) (asked 32400 36000) (record { departure = 28800; value = 30000; tag = tag } ∷ []) }
+    ensures one { (tag : ℕ) → IsAnswer (⟦<Arrival as Criterion>⟧.rules arrival.now) (with_loops 0 0) (asked 32400 36000)
+        (record { departure = 28800; value = 30000; tag = tag } ∷ []) }
     ensures none { IsAnswer (⟦<Arrival as Criterion>⟧.rules arrival.now) (with_loops 60 0) (asked 28799 36000) [] }
 {}
 
