@@ -2,3 +2,4 @@ pub mod NameCounts
 pub mod Fours
 pub mod Sections
 pub mod Days
+pub mod Legal

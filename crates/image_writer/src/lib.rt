@@ -7,3 +7,6 @@ mod network;
 mod text;
 
 pub use image::write;
+
+#[cfg(test)]
+mod tests;
