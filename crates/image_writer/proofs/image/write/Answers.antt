@@ -1,10 +1,9 @@
-use Rattle.std.proofs.Common.{◌≡◌, ℕ, ◌+◌, List, ◌++◌, map, refl, sym, ap, ◌∙◌, subst}
+use Rattle.std.proofs.Common.{◌≡◌, ℕ, ◌+◌, List, ◌++◌, map, ap, ◌∙◌}
 use Rattle.std.specs.List.{flat_map, range_with_len}
 use Rattle.timetable.specs.declared.network.Connection.{Connection}
 use Rattle.timetable.specs.declared.network.Footpath.{Footpath}
 use Rattle.timetable.specs.TimetableValue.{TimetableValue}
 use Rattle.timetable.specs.NamesValue.{NamesValue, TripNameValue}
-use Rattle.timetable.specs.Legal.{At}
 use Rattle.image_layout.specs.Spelling.{connection_words, footpath_words, footpath_count_below}
 use Rattle.image_writer.proofs.Days.{days_fit}
 use Rattle.image_writer.proofs.Sections.{sections_are_image}

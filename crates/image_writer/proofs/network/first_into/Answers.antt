@@ -1,6 +1,5 @@
-use Rattle.std.proofs.Common.{ℕ, ◌<◌, ◌≤◌, get_or, arith}
+use Rattle.std.proofs.Common.{arith}
 use Rattle.std.proofs.lemmas.Option.{slice_get-get_or}
-use Rattle.image_layout.specs.Spelling.{footpath_count_below}
 use Rattle.image_layout.proofs.Spelled.{place_below, place_above}
 use Rattle.image_writer.proofs.network.first_into.Goals as goal
 

@@ -1,5 +1,4 @@
-use Rattle.std.proofs.Common.{ℕ, ◌≤◌, ◌∙◌, ap, arith}
-use Rattle.std.proofs.lemmas.List.Sums.{count_by-le-length}
+use Rattle.std.proofs.Common.{◌∙◌, arith}
 use Rattle.image_layout.specs.Spelling.{footpath_count_below}
 use Rattle.image_layout.proofs.Spelled.{below_rises}
 use Rattle.image_writer.proofs.NameCounts.{index_next}
