@@ -1,6 +1,3 @@
-use Rattle.std.proofs.Common.{ℕ, ◌+◌, ◌/◌, ◌%◌, get_or, ap, ◌∙◌, arith}
-use Rattle.std.specs.Int.{w32, to_le_bytes}
-use Rattle.image_layout.specs.Places.{header_of, text_place}
 use Rattle.image_layout.proofs.NameByte.{name_byte_within, name_byte}
 use Rattle.image_layout.proofs.fields.name_byte_at.Goals as goal
 
