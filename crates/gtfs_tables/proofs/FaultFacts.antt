@@ -1,10 +1,10 @@
 -- Records taken one at a time.
-use Rattle.std.proofs.Common.{◌≡◌, ◌+◌, ◌<◌, ◌≤◌, ◌∷◌, ◌++◌, ◌∙◌, ℕ, zero, suc, List, [], length, take, drop, get_or, map, Option, Some, None, true, refl, sym, ap, arith}
+use Rattle.std.proofs.Common.{◌≡◌, ◌+◌, ◌<◌, ◌≤◌, ◌∷◌, ◌++◌, ℕ, zero, suc, List, [], length, take, drop, get_or, Some, None, true, refl, ap, arith}
 use Rattle.std.specs.Str.{IsUtf8}
 use borrow.Author.Count.{below_more}
 use Rattle.gtfs_tables.specs.Source.{Record, table_records}
 use Rattle.gtfs_tables.specs.Cells.{Places, has_required, places_of}
-use Rattle.gtfs_tables.specs.Faults.{HoldsFile, HoldsRecords, IsFaultOf, IsFirstFault, Judge, Shape, fault_at, judge_under, length_first}
+use Rattle.gtfs_tables.specs.Faults.{HoldsFile, HoldsRecords, IsFaultOf, IsFirstFault, Judge, Shape, fault_at, length_first}
 use Rattle.gtfs_tables.specs.declared.fault.FaultKind.{FaultKind}
 
 -- what is left begins with the element at the place

@@ -9,7 +9,7 @@ use Rattle.indexmap.specs.IndexSet.{insert_key}
 use Rattle.std.specs.Option.{option_to_list}
 use Rattle.std.specs.Str.{bytes_eq}
 use Rattle.gtfs_tables.specs.Source.{Record}
-use Rattle.gtfs_tables.specs.Faults.{KeysOf, fault_if, is_among, keys_of, or_fault, values_then_key}
+use Rattle.gtfs_tables.specs.Faults.{KeysOf, fault_if, is_among, keys_of, values_then_key}
 use Rattle.gtfs_tables.specs.Cells.{Places}
 use Rattle.gtfs_tables.specs.Ids.{Extends}
 use Rattle.gtfs_tables.specs.Rows.{IsStopId, SpellsAgency, SpellsStopTime, StandsAt, is_first_zone, judge_agency, value}

@@ -1,7 +1,6 @@
 -- The records of a text, read one at a time, are the records of the text.
-use Rattle.std.proofs.Common.{◌≡◌, ◌≤◌, ◌+◌, ◌∷◌, ◌++◌, ℕ, zero, suc, List, [], length, Option, Some, None, Bool, true, false, refl, sym, ap, ◌∙◌, arith, add-one, Bor, rules, IsSome}
-use Rattle.std.specs.Bool.{MatchBool}
-use Rattle.std.proofs.lemmas.Bool.{false≢true, cases_Bool}
+use Rattle.std.proofs.Common.{◌≡◌, ◌≤◌, ◌+◌, ◌∷◌, ◌++◌, ℕ, zero, suc, List, [], length, Option, Some, None, Bool, true, false, refl, sym, ap, ◌∙◌, arith, add-one, Bor, IsSome}
+use Rattle.std.proofs.lemmas.Bool.{false≢true}
 use Rattle.csv.specs.Machine.{Read, ends_at_end, field_after, fields_after, is_end, next_record, step}
 use Rattle.csv.specs.Reading.{NextIs, ReadRecord, ReadsNext, default_config, pending_of, reader_config, reader_state, records_from, records_next, source_of}
 use Rattle.csv.specs.declared.parser.Config.{Config}

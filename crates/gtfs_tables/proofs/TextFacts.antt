@@ -1,5 +1,5 @@
 -- The records of a file that is UTF-8 are text.
-use Rattle.std.proofs.Common.{◌≡◌, ◌≢◌, ◌≤◌, ◌<◌, ◌+◌, ◌==◌, ◌&&◌, ◌∷◌, ◌++◌, ◌∙◌, ◌⊎◌, inl, inr, ℕ, zero, suc, List, [], length, Option, Some, None, Bool, true, false, refl, sym, ap, arith, append_assoc, lit<, ◌/◌, if◌then◌else◌}
+use Rattle.std.proofs.Common.{◌≡◌, ◌≤◌, ◌<◌, ◌+◌, ◌==◌, ◌&&◌, ◌∷◌, ◌++◌, ◌∙◌, ◌⊎◌, inl, inr, ℕ, zero, suc, List, [], length, Option, Some, None, Bool, true, false, refl, sym, arith, append_assoc, lit<, ◌/◌, if◌then◌else◌}
 use Rattle.std.specs.Str.{IsUtf8}
 use Rattle.std.specs.Prelude.{⊤}
 use Rattle.std.proofs.Math.Utf8.{encode, encodes, low_scalar, next, scalar, scalars}
@@ -14,7 +14,7 @@ use Rattle.csv.specs.declared.parser.Action.TheVariants as act
 use Rattle.csv.specs.declared.parser.State.{State}
 use Rattle.csv.specs.declared.parser.State.TheVariants as st
 use Rattle.csv.proofs.ReadFacts.{run-copies}
-use Rattle.gtfs_tables.specs.Source.{AllRecordsText, Record, table_records}
+use Rattle.gtfs_tables.specs.Source.{AllRecordsText, table_records}
 
 -- ---- fields and records
 

@@ -1,11 +1,9 @@
 -- The eight files of a feed, each with its columns, and what their bytes hold.
-use Rattle.std.specs.Prelude.{◌≡◌, ◌<◌, ◌≤◌, ◌⊎◌, List, [], ◌∷◌, ℕ, Option, None, Bool, true, false, codes, length, map, count_by}
+use Rattle.std.specs.Prelude.{◌≡◌, ◌<◌, ◌⊎◌, List, [], ◌∷◌, ℕ, Bool, true, false, codes, length, map, count_by}
 use Rattle.std.specs.List.{AllZip}
 use Rattle.std.specs.String.{string_bytes}
-use Rattle.gtfs_tables.specs.Cells.{Places}
 use Rattle.gtfs_tables.specs.Faults.{HoldsFile, HoldsRows, IsFaultOf, Shape, values_then_key}
 use Rattle.gtfs_tables.specs.Rows.{SpellsAgency, SpellsCalendar, SpellsCalendarDate, SpellsFrequency, SpellsStop, SpellsStopTime, SpellsTransfer, SpellsTrip, calendar_date_fault, calendar_fault, judge_agency, no_fault, no_key, service_day_key, no_key, service_key, stop_key, stop_time_fault, trip_key}
-use Rattle.gtfs_tables.specs.Source.{Record}
 use Rattle.gtfs_tables.specs.declared.fault.FaultKind.{FaultKind}
 use Rattle.gtfs_tables.specs.declared.fault.FaultKind.TheVariants as kinds
 use Rattle.gtfs_tables.specs.declared.rows.AgencyRow.{AgencyRow}

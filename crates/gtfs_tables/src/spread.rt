@@ -127,7 +127,9 @@ mod tests {
     use super::*;
     use std::test::Fail;
 
-    fn row(sequence: u32, time: Option<u32>) -> StopTimeRow {
+    fn row(sequence: u32, time: Option<u32>) -> StopTimeRow
+        ensures { result.arrival ≡ time }
+    {
         StopTimeRow {
             trip: 0,
             arrival: time,

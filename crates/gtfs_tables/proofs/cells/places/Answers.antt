@@ -1,4 +1,4 @@
-use Rattle.std.proofs.Common.{◌≡◌, ◌∙◌, map, take, ap, Bor, ℕ, List}
+use Rattle.std.proofs.Common.{◌∙◌, map, ap, Bor, ℕ, List}
 use Rattle.std.proofs.lemmas.List.{take_all}
 use Rattle.csv.specs.Records.{fields_of}
 use Rattle.gtfs_tables.specs.Cells.{column}

@@ -1,6 +1,6 @@
-use Rattle.std.proofs.Common.{◌≡◌, ◌≢◌, ◌≤◌, ◌<◌, ◌+◌, ◌-◌, ◌++◌, ◌∷◌, ◌∙◌, [], ℕ, List, length, take, get_or, slice_index_or, refl, sym, ap, arith}
+use Rattle.std.proofs.Common.{◌≡◌, ◌≢◌, ◌<◌, ◌+◌, ◌-◌, ◌∙◌, ℕ, List, length, take, get_or, refl, sym, ap, arith}
 use Rattle.std.proofs.lemmas.List.{take_more, length-take}
-use Rattle.gtfs_tables.specs.Cells.{kept_len, trim_front, trim_spaces}
+use Rattle.gtfs_tables.specs.Cells.{kept_len}
 use Rattle.gtfs_tables.proofs.CellFacts.{kept-other, kept-space}
 use Rattle.gtfs_tables.proofs.cells.trim.Goals as goal
 use Rattle.gtfs_tables.proofs.cells.trim.Goals.{then-loop-kept-test+else-front-kept-eq32, else-loop-kept-test}

@@ -1,4 +1,4 @@
-use Rattle.std.proofs.Common.{◌≡◌, sym, true, string_bytes}
+use Rattle.std.proofs.Common.{sym, string_bytes}
 use Rattle.std.specs.Str.{bytes_eq}
 use Rattle.gtfs_tables.proofs.KeyFacts.{find_passes, stands}
 use Rattle.gtfs_tables.proofs.ids.find_id.Goals as goal

@@ -1,7 +1,7 @@
-use Rattle.std.proofs.Common.{◌≡◌, ◌<◌, ◌+◌, ◌++◌, ◌∷◌, ◌∙◌, [], ℕ, List, None, drop, take, length, refl, sym, ap, arith}
+use Rattle.std.proofs.Common.{◌≡◌, ◌∷◌, ◌∙◌, [], take, arith}
 use Rattle.csv.specs.Records.{fields_of}
-use Rattle.gtfs_tables.specs.Source.{Record, left_of}
-use Rattle.gtfs_tables.specs.Faults.{fault_at, length_first}
+use Rattle.gtfs_tables.specs.Source.{left_of}
+use Rattle.gtfs_tables.specs.Faults.{length_first}
 use Rattle.gtfs_tables.proofs.CellFacts.{text_rest}
 use Rattle.gtfs_tables.proofs.FaultFacts.{closed, faultless_more, first_fault, opened}
 use Rattle.gtfs_tables.proofs.reader.add_records.Goals as goal

@@ -1,4 +1,4 @@
-use Rattle.std.proofs.Common.{◌≡◌, ◌∷◌, ◌∙◌, sym, true, map, List, ℕ, Bor}
+use Rattle.std.proofs.Common.{◌≡◌, ◌∷◌, ◌∙◌, sym, map, List, ℕ, Bor}
 use Rattle.std.proofs.lemmas.Result.{IfErr-weaker}
 use Rattle.csv.specs.Records.{fields_of}
 use Rattle.gtfs_tables.specs.Source.{left_of, table_records}

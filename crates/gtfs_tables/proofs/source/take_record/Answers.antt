@@ -1,8 +1,6 @@
-use Rattle.std.proofs.Common.{◌≡◌, ◌∷◌, [], true, false, inl, inr}
-use Rattle.std.specs.Bool.{MatchBool}
+use Rattle.std.proofs.Common.{inl, inr}
 use Rattle.std.proofs.lemmas.Bool.{cases_Bool}
 use Rattle.csv.specs.Records.{fields_of}
-use Rattle.gtfs_tables.specs.Source.{left_of}
 use Rattle.gtfs_tables.proofs.SourceFacts.{read_found, read_missed}
 use Rattle.gtfs_tables.proofs.source.take_record.Goals as goal
 

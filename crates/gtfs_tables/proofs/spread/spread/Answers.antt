@@ -1,4 +1,4 @@
-use Rattle.std.proofs.Common.{◌≡◌, ◌+◌, ◌-◌, arith, length}
+use Rattle.std.proofs.Common.{arith}
 use Rattle.gtfs_tables.proofs.SpreadFacts.{spread_more}
 use Rattle.gtfs_tables.proofs.spread.spread.Goals as goal
 

@@ -1,4 +1,4 @@
-use Rattle.std.proofs.Common.{◌≡◌, ◌∙◌, ◌∷◌, true, not, ap, sym, rules, Bool, []}
+use Rattle.std.proofs.Common.{◌≡◌, ◌∙◌, true, not, ap, sym, rules, Bool}
 use Rattle.std.specs.Result.{is_ok}
 use Rattle.csv.specs.Records.{fields_of}
 use Rattle.gtfs_tables.specs.Faults.{fault_if}
