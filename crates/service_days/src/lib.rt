@@ -6,10 +6,12 @@
 
 mod day;
 mod fault;
+mod services;
 mod zone;
 
 pub use day::day_start;
 pub use fault::DayFault;
+pub use services::{Services, active};
 pub use zone::Zone;
 
 #[cfg(test)]

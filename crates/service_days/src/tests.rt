@@ -2,8 +2,10 @@
 
 use crate::day::day_start;
 use crate::fault::DayFault;
+use crate::services::{Services, active};
 use crate::zone::Zone;
-use gtfs_tables::Day;
+use gtfs_tables::{CalendarDateRow, CalendarRow, Day, Exception};
+use std::alloc::Global;
 use std::test::Fail;
 
 // A zone file: Central European Time until 2024-03-31T01:00:00Z, then Central European Summer Time, and from there on
@@ -139,4 +141,116 @@ fn numbers(rt: HostRuntime) {
     assert_eq!(rt; DayFault::BadZone.number(), 21);
     assert_eq!(rt; DayFault::DayOutOfRange.number(), 22);
     assert_eq!(rt; DayFault::OutOfMemory.number(), 23);
+}
+
+fn calendar(service: &str, weekdays: [bool; 7], alloc: Global) -> Result<CalendarRow, Fail> {
+    Ok(CalendarRow {
+        service: String::from_str(alloc, service)?,
+        weekdays,
+        start: day("20240110")?,
+        end: day("20240220")?,
+    })
+}
+
+fn date(
+    service: &str,
+    text: &str,
+    exception: Exception,
+    alloc: Global,
+) -> Result<CalendarDateRow, Fail> {
+    Ok(CalendarDateRow {
+        service: String::from_str(alloc, service)?,
+        day: day(text)?,
+        exception,
+    })
+}
+
+#[test]
+fn services_of_dates_alone(rt: HostRuntime) -> Result<(), Fail> {
+    let alloc = rt.alloc();
+    let dates = [
+        date("X", "20240115", Exception::Added, alloc)?,
+        date("X", "20240116", Exception::Removed, alloc)?,
+    ];
+    let services = Services::new(alloc, &[], &dates)?;
+    assert!(rt; active(&services, "X", day("20240115")?));
+    assert!(rt; !active(&services, "X", day("20240116")?));
+    assert!(rt; !active(&services, "Y", day("20240115")?));
+    assert!(rt; !active(&services, "Y", day("20240116")?));
+    Ok(())
+}
+
+#[test]
+fn services_of_both_tables(rt: HostRuntime) -> Result<(), Fail> {
+    let alloc = rt.alloc();
+    // 2024-01-15 is a Monday
+    let rows = [
+        calendar(
+            "weekend",
+            [false, false, false, false, false, true, true],
+            alloc,
+        )?,
+        calendar(
+            "wednesday",
+            [false, false, true, false, false, false, false],
+            alloc,
+        )?,
+    ];
+    let dates = [
+        date("weekend", "20240117", Exception::Added, alloc)?,
+        date("wednesday", "20240117", Exception::Removed, alloc)?,
+        date("weekend", "20240203", Exception::Removed, alloc)?,
+        date("weekend", "20240204", Exception::Removed, alloc)?,
+        date("weekend", "20240204", Exception::Added, alloc)?,
+        date("weekend", "20240221", Exception::Added, alloc)?,
+    ];
+    let services = Services::new(alloc, &rows, &dates)?;
+    for (service, text, runs) in [
+        ("weekend", "20240112", false),
+        ("weekend", "20240113", true),
+        ("weekend", "20240114", true),
+        ("weekend", "20240115", false),
+        ("weekend", "20240116", false),
+        ("weekend", "20240117", true),
+        ("weekend", "20240118", false),
+        ("weekend", "20240119", false),
+        ("weekend", "20240120", true),
+        ("weekend", "20240203", false),
+        ("weekend", "20240204", false),
+        ("weekend", "20240218", true),
+        ("weekend", "20240221", true),
+        ("weekend", "20240224", false),
+        ("weekend", "20230218", false),
+        ("wednesday", "20240103", false),
+        ("wednesday", "20240110", true),
+        ("wednesday", "20240117", false),
+        ("wednesday", "20240124", true),
+        ("wednesday", "20240125", false),
+        ("wednesday", "20240214", true),
+        ("wednesday", "20240221", false),
+        ("", "20240110", false),
+    ] {
+        assert!(rt;
+            active(&services, service, day(text)?) == runs,
+            "{service} on {text}"
+        );
+    }
+    Ok(())
+}
+
+#[test]
+fn each_weekday(rt: HostRuntime) -> Result<(), Fail> {
+    let alloc = rt.alloc();
+    let days = [
+        "20240212", "20240213", "20240214", "20240215", "20240216", "20240217", "20240218",
+    ];
+    for weekday in 0..7 {
+        let mut weekdays = [false; 7];
+        weekdays[weekday] = true;
+        let services = Services::new(alloc, &[calendar("S", weekdays, alloc)?], &[])?;
+        for (i, text) in days.iter().enumerate() {
+            assert!(rt; active(&services, "S", day(text)?) == (i == weekday));
+        }
+    }
+    Ok(())
 }

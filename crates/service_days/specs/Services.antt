@@ -1,0 +1,78 @@
+-- On which days a service runs.
+use Rattle.std.specs.Prelude.{◌≡◌, ◌==◌, ◌&&◌, ◌||◌, not, if◌then◌else◌, ℕ, List, [], pos, map, filter, get_or, nat_le, nat_lt, Bool, true, false, String, Vec}
+use Rattle.std.specs.List.{list_any}
+use Rattle.std.specs.Option.{option_map_or}
+use Rattle.std.specs.Str.{bytes_eq}
+use Rattle.std.specs.String.{string_bytes}
+use Rattle.std.specs.HashMap.{get_by_text}
+use Rattle.jiff_core.specs.Calendar.{days_from_civil, weekday_number}
+use Rattle.gtfs_tables.specs.Values.{is_civil}
+use Rattle.gtfs_tables.specs.declared.values.Day.{Day}
+use Rattle.gtfs_tables.specs.declared.rows.CalendarRow.{CalendarRow}
+use Rattle.gtfs_tables.specs.declared.rows.CalendarDateRow.{CalendarDateRow}
+use Rattle.gtfs_tables.specs.declared.rows.Exception.{Exception}
+use Rattle.gtfs_tables.specs.declared.rows.Exception.TheVariants.{Added, Removed}
+use Rattle.service_days.specs.declared.services.Services.{Services}
+use Rattle.service_days.specs.declared.services.Week.{Week}
+use Rattle.service_days.specs.declared.services.DayException.{DayException}
+
+-- the weekday of a day, from 0 for Monday
+abbrev pub weekday_on : Day → ℕ
+weekday_on d = weekday_number (days_from_civil (pos d.year) d.month d.day)
+
+-- the one day is the other or comes before it
+abbrev pub is_not_after : Day → Day → Bool
+is_not_after a b =
+    if a.year == b.year then (if a.month == b.month then nat_le a.day b.day else nat_lt a.month b.month) else nat_lt a.year b.year
+
+abbrev pub is_same_day : Day → Day → Bool
+is_same_day a b = (a.year == b.year) && (a.month == b.month) && (a.day == b.day)
+
+-- what a row says of its service
+abbrev pub week_of : CalendarRow → Week
+week_of row = record { weekdays = row.weekdays; start = row.start; end = row.end }
+
+abbrev pub exception_of : CalendarDateRow → DayException
+exception_of row = record { day = row.day; exception = row.exception }
+
+-- the weekday's flag is set, and the day is in the range
+abbrev pub runs_in : ℕ → Day → Week → Bool
+runs_in weekday day week = get_or week.weekdays weekday false && is_not_after week.start day && is_not_after day week.end
+
+abbrev pub is_added : Exception → Bool
+is_added Added = true
+is_added Removed = false
+
+abbrev pub adds : Day → DayException → Bool
+adds day e = is_same_day e.day day && is_added e.exception
+
+abbrev pub removes : Day → DayException → Bool
+removes day e = is_same_day e.day day && not (is_added e.exception)
+
+-- the weekday and the range hold or the day is added, and it isn't removed
+abbrev pub is_running : List Week → List DayException → Day → Bool
+is_running weeks exceptions day =
+    (list_any (runs_in (weekday_on day) day) weeks || list_any (adds day) exceptions) && not (list_any (removes day) exceptions)
+
+-- what the tables say of a service
+abbrev pub weeks_in : List CalendarRow → List ℕ → List Week
+weeks_in rows service = map week_of (filter (λ row. bytes_eq service (string_bytes row.service)) rows)
+
+abbrev pub exceptions_in : List CalendarDateRow → List ℕ → List DayException
+exceptions_in rows service = map exception_of (filter (λ row. bytes_eq service (string_bytes row.service)) rows)
+
+-- a service runs on a day, which is a civil date
+abbrev pub is_active : List CalendarRow → List CalendarDateRow → List ℕ → Day → Bool
+is_active calendar dates service day = is_civil day && is_running (weeks_in calendar service) (exceptions_in dates service) day
+
+-- what is held of a service
+abbrev pub weeks_of : Services → List ℕ → List Week
+weeks_of services service = option_map_or (λ held. held.items) (get_by_text services.weeks service) []
+
+abbrev pub exceptions_of : Services → List ℕ → List DayException
+exceptions_of services service = option_map_or (λ held. held.items) (get_by_text services.exceptions service) []
+
+-- the services are those of the two tables
+pub record HoldsServices (calendar : List CalendarRow) (dates : List CalendarDateRow) (services : Services) : Type 0 where
+  pub weeks : (service : List ℕ) → weeks_of services service ≡ weeks_in calendar service
+  pub exceptions : (service : List ℕ) → exceptions_of services service ≡ exceptions_in dates service

@@ -1,0 +1,151 @@
+// On which days a service runs.
+
+ghost use Rattle.std.specs.Prelude.{◌≡◌, ◌<◌, ℕ, List, [], IfOk};
+ghost use Rattle.std.specs.List.{list_any};
+ghost use Rattle.std.specs.Option.{option_map_or};
+ghost use Rattle.std.specs.HashMap.{get_by_text};
+ghost use Rattle.gtfs_tables.specs.declared.rows.CalendarRow.{CalendarRow};
+ghost use Rattle.gtfs_tables.specs.declared.rows.CalendarDateRow.{CalendarDateRow};
+ghost use Rattle.service_days.specs.Services.{HoldsServices, adds, exceptions_in, is_active, is_not_after, is_same_day, removes, runs_in, weeks_in};
+
+use crate::day::civil_date;
+use gtfs_tables::{CalendarDateRow, CalendarRow, Day, Exception};
+use indexmap::IndexMap;
+use std::alloc::{AllocError, Global};
+
+// The weekdays on which a service runs, Monday first, and its first and last day.
+#[derive(Clone, Copy, Debug)]
+struct Week {
+    weekdays: [bool; 7],
+    start: Day,
+    end: Day,
+}
+
+// A day that is added to a service or removed from it.
+#[derive(Clone, Copy, Debug)]
+struct DayException {
+    day: Day,
+    exception: Exception,
+}
+
+/// The services of a feed, found by their ids.
+#[derive(Drop)]
+pub struct Services {
+    weeks: IndexMap<String, Vec<Week>>,
+    exceptions: IndexMap<String, Vec<DayException>>,
+}
+
+impl Services {
+    /// The services of `calendar.txt` and `calendar_dates.txt`, whose rows may be of any order.
+    pub fn new(
+        alloc: Global,
+        calendar: &[CalendarRow],
+        dates: &[CalendarDateRow],
+    ) -> Result<Services, AllocError>
+        ensures { IfOk result (HoldsServices calendar.now dates.now) }
+    {
+        Ok(Services {
+            weeks: weeks_of(alloc, calendar)?,
+            exceptions: exceptions_of(alloc, dates)?,
+        })
+    }
+}
+
+fn weeks_of(alloc: Global, rows: &[CalendarRow]) -> Result<IndexMap<String, Vec<Week>>, AllocError>
+    ensures { IfOk result (λ weeks. (service : List ℕ) → option_map_or (λ held. held.items) (get_by_text weeks service) [] ≡ weeks_in rows.now service) }
+{
+    let mut weeks = IndexMap::new(alloc);
+    for row in rows {
+        let week = Week {
+            weekdays: row.weekdays,
+            start: row.start,
+            end: row.end,
+        };
+        weeks
+            .entry(row.service.clone()?)?
+            .or_insert(Vec::new(alloc))
+            .push(week)?;
+    }
+    Ok(weeks)
+}
+
+fn exceptions_of(
+    alloc: Global,
+    rows: &[CalendarDateRow],
+) -> Result<IndexMap<String, Vec<DayException>>, AllocError>
+    ensures { IfOk result (λ exceptions. (service : List ℕ) → option_map_or (λ held. held.items) (get_by_text exceptions service) [] ≡ exceptions_in rows.now service) }
+{
+    let mut exceptions = IndexMap::new(alloc);
+    for row in rows {
+        let exception = DayException {
+            day: row.day,
+            exception: row.exception,
+        };
+        exceptions
+            .entry(row.service.clone()?)?
+            .or_insert(Vec::new(alloc))
+            .push(exception)?;
+    }
+    Ok(exceptions)
+}
+
+/// Whether a service runs on a day: a row of its calendar has the weekday and the day is in its range, or the day is
+/// added, and it isn't removed (GTFS Schedule Reference, `calendar.txt` and `calendar_dates.txt`). A service without
+/// rows never runs, nor does any on a day that is no civil date.
+pub fn active(services: &Services, service: &str, day: Day) -> bool
+    ensures { (calendar : List CalendarRow) (dates : List CalendarDateRow) → HoldsServices calendar dates services.now
+        → result ≡ is_active calendar dates service.now day }
+{
+    let Some(date) = civil_date(day) else {
+        return false;
+    };
+    let weekday = date.weekday().to_monday_zero_offset() as usize;
+    let regular = match services.weeks.get(service) {
+        Some(weeks) => runs(weeks, weekday, day),
+        None => false,
+    };
+    match services.exceptions.get(service) {
+        Some(exceptions) => (regular || is_added(exceptions, day)) && !is_removed(exceptions, day),
+        None => regular,
+    }
+}
+
+fn runs(weeks: &[Week], weekday: usize, day: Day) -> bool
+    requires { weekday < 7 }
+    ensures { result ≡ list_any (runs_in weekday day) weeks.now }
+{
+    weeks.iter().any(|week| week.weekdays[weekday]
+        && not_after(week.start, day)
+        && not_after(day, week.end))
+}
+
+fn is_added(exceptions: &[DayException], day: Day) -> bool
+    ensures { result ≡ list_any (adds day) exceptions.now }
+{
+    exceptions.iter().any(|e| same_day(e.day, day) && matches!(e.exception, Exception::Added))
+}
+
+fn is_removed(exceptions: &[DayException], day: Day) -> bool
+    ensures { result ≡ list_any (removes day) exceptions.now }
+{
+    exceptions.iter().any(|e| same_day(e.day, day) && matches!(e.exception, Exception::Removed))
+}
+
+// Whether a day is another or comes before it.
+fn not_after(a: Day, b: Day) -> bool
+    ensures { result ≡ is_not_after a b }
+{
+    if a.year != b.year {
+        a.year < b.year
+    } else if a.month != b.month {
+        a.month < b.month
+    } else {
+        a.day <= b.day
+    }
+}
+
+fn same_day(a: Day, b: Day) -> bool
+    ensures { result ≡ is_same_day a b }
+{
+    a.year == b.year && a.month == b.month && a.day == b.day
+}
