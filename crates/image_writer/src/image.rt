@@ -16,7 +16,11 @@ use image_layout::layout::{LAYOUT, MAGIC};
 use std::alloc::{AllocError, Global};
 use timetable::{Names, Timetable};
 
-/// The image of a timetable and its names. Its memory is taken at once, before the first word.
+/// The image of a timetable and its names, of which there is exactly one.
+///
+/// The timetable is legal and within the limits, with its footpaths by the stop led into, then by the stop left; there is a
+/// name for each stop and each trip, and together they have at most `MAX_NAME_BYTES` bytes. All memory is taken at once,
+/// before the first word, and want of it is the one error.
 pub fn write(alloc: Global, timetable: &Timetable, names: &Names) -> Result<Vec<u32>, AllocError>
     requires { IsWritable timetable.now names.now }
     ensures { IfOk result (λ words. IsImage words.items timetable.now names.now) }

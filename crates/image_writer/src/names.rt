@@ -1,6 +1,6 @@
 //! Names, and where each begins.
 
-ghost use Rattle.std.specs.Prelude.{◌≡◌, ◌+◌, ◌<◌, ◌≤◌, ◌^◌, ◌++◌, ℕ, List, length, map, slice_get, slice_index, OnOk, Some};
+ghost use Rattle.std.specs.Prelude.{◌≡◌, ◌<◌, ◌≤◌, ◌^◌, ◌++◌, ℕ, length, map, slice_index, OnOk};
 ghost use Rattle.std.specs.Str.{IsUtf8};
 ghost use Rattle.timetable.specs.declared.limits.TheConstants.{MAX_NAME_BYTES};
 ghost use Rattle.timetable.specs.NamesValue.{TripNameValue};
@@ -58,7 +58,7 @@ pub fn write_name_index(words: &mut Vec<u32>, names: &Names) -> Result<(), Alloc
     Ok(())
 }
 
-/// The service day of each trip.
+/// The service day of each trip. Each of the words fits 32 bits, as `write` says of the days.
 pub fn write_days(words: &mut Vec<u32>, trips: &[TripName]) -> Result<(), AllocError>
     ensures written { OnOk result (words.new.items ≡ words.old.items ++ map (λ (t : TripNameValue). t.day) trips.now) }
     ensures fits { OnOk result ((i : ℕ) → slice_index words.new.items i < 2 ^ 32) }
