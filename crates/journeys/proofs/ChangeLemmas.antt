@@ -1,19 +1,17 @@
 -- Walks and times without fault.
-use Rattle.std.proofs.Common.{◌≡◌, ◌≢◌, ℕ, zero, suc, ◌+◌, ◌-◌, ◌<◌, ◌≤◌, Bool, true, false, not, ◌||◌, cond, eqb, leb, ltb, List, [], ◌∷◌, length, Option, Some, None, refl, sym, ap, subst, ◌∙◌, arith, inl, inr}
+use Rattle.std.proofs.Common.{◌≡◌, ◌≢◌, ℕ, suc, ◌+◌, ◌-◌, ◌<◌, ◌≤◌, Bool, true, false, not, ◌||◌, eqb, ltb, List, [], ◌∷◌, length, Option, Some, None, refl, sym, ap, subst, ◌∙◌, arith, inl, inr}
 use Rattle.std.specs.List.{list_all}
-use Rattle.std.proofs.lemmas.Bool.{cases_Bool, cases_eq, or_parts, or_from, and_parts, ltb-false, ltb-true, lt-ltb, le-ltb, eq-eqb, eqb-true, eqb-false, ne_eqb, not-false, cond-true, cond-false}
+use Rattle.std.proofs.lemmas.Bool.{cases_Bool, or_parts, or_from, and_parts, ltb-false, ltb-true, lt-ltb, le-ltb, eq-eqb, eqb-true, eqb-false, ne_eqb, not-false, cond-true, cond-false}
 use Rattle.timetable.specs.declared.network.Footpath.{Footpath}
 use Rattle.timetable.specs.TimetableValue.{TimetableValue}
 use Rattle.timetable.specs.JourneyValue.{RideValue}
-use Rattle.timetable.specs.First.{first_below, first_between}
-use Rattle.timetable.specs.Journeys.{IsWalk, IsStart, walk_end, start_end, stop_after, time_after}
+use Rattle.timetable.specs.Journeys.{IsWalk, IsStart, start_end, stop_after, time_after}
 use Rattle.timetable.proofs.FirstLemmas.{no_fault, passes, first_between-none, first_between-all}
-use Rattle.journeys.specs.declared.fault.JourneyFault.{JourneyFault}
 use Rattle.journeys.specs.declared.fault.JourneyFault.TheVariants.{NoFootpath, WalkBroken, TooEarly}
 use Rattle.journeys.specs.Faults.{ride_at, leg_stop, leg_time, leg_end, has_footpath, led_to, is_elsewhere, is_nowhere, is_broken, walk_fault, walk_after_fault, start_fault, begin_of, early_fault, times_fault}
 use Rattle.journeys.proofs.FootpathLemmas.{and-from, Contains-has_footpath, has_footpath-Contains}
 use Rattle.journeys.proofs.WalkLemmas.{IsWalk-from, led_to-IsWalk, known-IsWalk}
-use Rattle.journeys.proofs.RideLemmas.{IsChange, IsRide}
+use Rattle.journeys.proofs.RideLemmas.{IsRide}
 
 pub walk_fault-parts : (t : TimetableValue) (i : ℕ) (walk : List Footpath) (broken : Bool) → walk_fault t i walk broken ≡ None → (list_all (has_footpath t) walk ≡ true) × (broken ≡ false)
 walk_fault-parts t i walk broken e =

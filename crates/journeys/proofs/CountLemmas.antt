@@ -1,20 +1,19 @@
 -- A journey without fault counts, and one that counts has none.
-use Rattle.std.proofs.Common.{◌≡◌, ◌≢◌, ◌↔◌, ℕ, zero, suc, ◌+◌, ◌-◌, ◌<◌, ◌≤◌, Bool, not, ◌||◌, eqb, ltb, List, [], ◌∷◌, length, Option, Some, None, Result, Ok, Err, refl, sym, ap, subst, ◌∙◌, arith}
+use Rattle.std.proofs.Common.{◌≡◌, ◌≢◌, ◌↔◌, ℕ, suc, ◌+◌, ◌-◌, ◌<◌, ◌≤◌, not, ◌||◌, eqb, ltb, List, [], ◌∷◌, length, Option, Some, None, Result, Ok, Err, refl, sym, ap, subst, ◌∙◌, arith}
 use Rattle.std.proofs.lemmas.Bool.{or_parts, or_from, ltb-false, le-ltb, eq-eqb, eqb-true, not-false}
 use Rattle.timetable.specs.declared.network.Footpath.{Footpath}
 use Rattle.timetable.specs.declared.journey.Times.{Times}
 use Rattle.timetable.specs.declared.query.Query.{Query}
 use Rattle.timetable.specs.TimetableValue.{TimetableValue}
 use Rattle.timetable.specs.JourneyValue.{RideValue, JourneyValue}
-use Rattle.timetable.specs.First.{or_else, first_below}
-use Rattle.timetable.specs.Journeys.{Leads, IsStart, IsJourney, DepartsAt, Counts, arrival, start_end, start_secs, stop_after, time_after, first_departure, final_time}
+use Rattle.timetable.specs.Journeys.{Leads, IsStart, Counts, arrival, start_end, start_secs, stop_after, first_departure, final_time}
 use Rattle.timetable.proofs.FirstLemmas.{or_else_parts, or_else-none, or_else-some, no_fault, passes, first_below-none, first_below-all}
 use Rattle.journeys.specs.declared.fault.JourneyFault.{JourneyFault}
 use Rattle.journeys.specs.declared.fault.JourneyFault.TheVariants.{WrongEnds, OutsideWindow}
 use Rattle.journeys.specs.Faults.{ride_at, leg_stop, leg_time, legs_fault, start_fault, walk_after_fault, walks_fault, times_fault, begin_of, end_of, over_at, ends_fault, window_fault, path_fault, first_fault}
 use Rattle.journeys.specs.Judged.{IsTimed, IsJudged}
 use Rattle.journeys.proofs.LegLemmas.{some_legs, AreLegs-from, legs_fault-none}
-use Rattle.journeys.proofs.RideLemmas.{IsRide, AreRides, EndsAt, Leads-from, AreRides-from, EndsAt-from, final_time-last}
+use Rattle.journeys.proofs.RideLemmas.{AreRides, EndsAt, Leads-from, AreRides-from, EndsAt-from, final_time-last}
 use Rattle.journeys.proofs.ChangeLemmas.{walk_of_ride, change_of_ride, walk_after-none, in_time, times_fault-none, IsStart-from, start_fault-none, begin_of-start}
 
 -- no part has a fault

@@ -1,6 +1,5 @@
 -- What the test for a footpath says, and footpaths into a stop by the stop that they leave.
-use Rattle.std.proofs.Common.{◌≡◌, ℕ, ◌+◌, ◌<◌, ◌≤◌, Bool, true, false, ◌&&◌, List, length, get_or, slice_get, Option, Some, Contains, ◌↔◌, true≢false, refl, sym, ap, subst, ◌∙◌, arith, inl, inr}
-use Rattle.std.specs.List.{list_any}
+use Rattle.std.proofs.Common.{◌≡◌, ℕ, ◌+◌, ◌<◌, ◌≤◌, Bool, true, false, ◌&&◌, List, slice_get, Some, Contains, ◌↔◌, true≢false, refl, sym, ap, subst, ◌∙◌, arith, inl, inr}
 use Rattle.std.proofs.lemmas.Bool.{cases_eq, cases_order, cases_Bool, and_parts, eqb-true, eq-eqb}
 use Rattle.std.proofs.lemmas.Option.{slice_get_within, get_or_from_slice_get, same_Some}
 use Rattle.std.proofs.lemmas.List.Folds.{Any-from_list_any, list_any_at}
@@ -8,7 +7,7 @@ use Rattle.timetable.specs.declared.network.Footpath.{Footpath}
 use Rattle.timetable.specs.TimetableValue.{TimetableValue}
 use Rattle.timetable.specs.Legal.{At, AreInOrder, IsLegal}
 use Rattle.timetable.specs.LegalProp.{in_order_later}
-use Rattle.timetable.proofs.LegalFacts.{At-Contains, Contains-At}
+use Rattle.timetable.proofs.LegalFacts.{At-Contains}
 use Rattle.journeys.specs.Faults.{is_same, has_footpath}
 
 pub and-from : (x y : Bool) → x ≡ true → y ≡ true → (x && y) ≡ true

@@ -1,5 +1,5 @@
 -- Legs without fault.
-use Rattle.std.proofs.Common.{◌≡◌, ◌≢◌, ℕ, zero, suc, ◌+◌, ◌<◌, ◌≤◌, Bool, true, false, not, ◌||◌, eqb, leb, ltb, cond, List, length, Option, Some, None, refl, sym, ap, ◌∙◌, arith}
+use Rattle.std.proofs.Common.{◌≡◌, ◌≢◌, ℕ, ◌<◌, Bool, false, not, ◌||◌, eqb, leb, ltb, cond, List, length, Some, None, refl, sym, ap, ◌∙◌, arith}
 use Rattle.std.proofs.lemmas.Bool.{or_parts, or_from, leb-false, ltb-false, le-ltb, lt-leb, eq-eqb, eqb-true, ne_eqb, eqb-false, not-false}
 use Rattle.timetable.specs.declared.journey.Leg.{Leg}
 use Rattle.timetable.specs.TimetableValue.{TimetableValue}
@@ -7,7 +7,6 @@ use Rattle.timetable.specs.JourneyValue.{RideValue}
 use Rattle.timetable.specs.First.{first_below}
 use Rattle.timetable.specs.Journeys.{IsLeg, connection_at}
 use Rattle.timetable.proofs.FirstLemmas.{no_fault, passes, first_below-none, first_below-all}
-use Rattle.journeys.specs.declared.fault.JourneyFault.{JourneyFault}
 use Rattle.journeys.specs.declared.fault.JourneyFault.TheVariants.{LegRange, TwoTrips, NoBoarding, NoAlighting}
 use Rattle.journeys.specs.Faults.{leg_fault, legs_fault, ride_at, AreLegs}
 

@@ -2,5 +2,8 @@ pub mod ChangeLemmas
 pub mod CountLemmas
 pub mod FootpathLemmas
 pub mod LegLemmas
+pub mod NumberLemmas
+pub mod ReadLemmas
 pub mod RideLemmas
+pub mod TextLemmas
 pub mod WalkLemmas

@@ -1,4 +1,4 @@
-use Rattle.std.proofs.Common.{◌≡◌, List, sym, ap, subst, ◌∙◌}
+use Rattle.std.proofs.Common.{List, ap, subst, ◌∙◌}
 use Rattle.timetable.specs.JourneyValue.{RideValue, JourneyValue}
 use Rattle.journeys.specs.Judged.{IsJudged}
 use Rattle.journeys.proofs.CountLemmas.{judged_once}

@@ -1,4 +1,4 @@
-use Rattle.std.proofs.Common.{◌+◌, ◌-◌, ◌/◌, ◌<◌, ◌≤◌, ℕ, arith}
+use Rattle.std.proofs.Common.{◌+◌, ◌-◌, ◌/◌, arith}
 use Rattle.journeys.proofs.FootpathLemmas.{before_middle, from_middle}
 use Rattle.journeys.proofs.footpaths.first_leaving.Goals as goal
 

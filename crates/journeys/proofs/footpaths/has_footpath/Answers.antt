@@ -1,4 +1,4 @@
-use Rattle.std.proofs.Common.{◌<◌, ◌≤◌, arith, sym, ◌∙◌, refl}
+use Rattle.std.proofs.Common.{◌<◌, arith, sym, ◌∙◌, refl}
 use Rattle.journeys.proofs.FootpathLemmas.{has_footpath-none, same_or_none}
 use Rattle.journeys.proofs.footpaths.has_footpath.Goals as goal
 

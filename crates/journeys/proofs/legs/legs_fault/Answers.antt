@@ -1,6 +1,4 @@
 use Rattle.std.proofs.Common.{ℕ, length, sym, ap, ◌∙◌, arith}
-use Rattle.timetable.specs.declared.journey.Leg.{Leg}
-use Rattle.timetable.specs.JourneyValue.{RideValue}
 use Rattle.timetable.proofs.FirstLemmas.{first_below-found}
 use Rattle.journeys.specs.Faults.{leg_fault, ride_at}
 use Rattle.journeys.proofs.LegLemmas.{legs_fault-first}

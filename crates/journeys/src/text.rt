@@ -1,0 +1,105 @@
+//! Journeys as texts.
+
+ghost use Rattle.std.specs.Prelude.{◌≡◌, ◌++◌, ◌∷◌, [], drop, codes, IfOk, OnOk, MatchResult};
+ghost use Rattle.std.specs.List.{flat_map};
+ghost use Rattle.timetable.specs.JourneyValue.{JourneyValue};
+ghost use Rattle.journeys.specs.declared.text_fault.TextFault.TheVariants.{OutOfMemory};
+ghost use Rattle.journeys.specs.Texts.{number_text, walk_text, leg_text, ride_text, start_text, text_of, HasText};
+
+use crate::reading::journey;
+use crate::text_fault::TextFault;
+use itoa::Buffer;
+use std::alloc::{AllocError, Global};
+use timetable::{Footpath, Journey, Leg, Ride};
+
+fn put_number(out: &mut Vec<u8>, number: u32) -> Result<(), AllocError>
+    ensures { OnOk result (out.new.items ≡ out.old.items ++ number_text number) }
+{
+    let mut buffer = Buffer::new();
+    out.push(b' ')?;
+    out.extend_from_slice(buffer.format(number).as_bytes())?;
+    Ok(())
+}
+
+fn put_walk(out: &mut Vec<u8>, footpath: Footpath) -> Result<(), AllocError>
+    ensures { OnOk result (out.new.items ≡ out.old.items ++ walk_text footpath) }
+{
+    out.extend_from_slice(b" walk")?;
+    put_number(out, footpath.from)?;
+    put_number(out, footpath.to)?;
+    put_number(out, footpath.secs)?;
+    Ok(())
+}
+
+fn put_leg(out: &mut Vec<u8>, leg: Leg) -> Result<(), AllocError>
+    ensures { OnOk result (out.new.items ≡ out.old.items ++ (codes " ride" ++ leg_text leg)) }
+{
+    out.extend_from_slice(b" ride")?;
+    put_number(out, leg.first)?;
+    put_number(out, leg.last)?;
+    Ok(())
+}
+
+fn put_walks(out: &mut Vec<u8>, walk: &[Footpath]) -> Result<(), AllocError>
+    ensures { OnOk result (out.new.items ≡ out.old.items ++ flat_map walk_text walk.now) }
+{
+    for footpath in walk {
+        put_walk(out, *footpath)?;
+    }
+    Ok(())
+}
+
+fn put_ride(out: &mut Vec<u8>, ride: &Ride) -> Result<(), AllocError>
+    ensures { OnOk result (out.new.items ≡ out.old.items ++ ride_text ride.now) }
+{
+    put_leg(out, ride.leg)?;
+    put_walks(out, &ride.walk)?;
+    Ok(())
+}
+
+fn put_rides(out: &mut Vec<u8>, rides: &[Ride]) -> Result<(), AllocError>
+    ensures { OnOk result (out.new.items ≡ out.old.items ++ flat_map ride_text rides.now) }
+{
+    for ride in rides {
+        put_ride(out, ride)?;
+    }
+    Ok(())
+}
+
+fn put_start(out: &mut Vec<u8>, start: Option<Footpath>) -> Result<(), AllocError>
+    ensures { OnOk result (out.new.items ≡ out.old.items ++ start_text start) }
+{
+    match start {
+        None => Ok(()),
+        Some(footpath) => put_walk(out, footpath),
+    }
+}
+
+/// The text of a journey: `walk FROM TO SECS` for each footpath and `ride FIRST LAST` for each leg, with one space between.
+pub fn journey_text(alloc: Global, journey: &Journey) -> Result<Vec<u8>, AllocError>
+    ensures { IfOk result (λ text. text.items ≡ text_of journey.now) }
+{
+    let mut out = Vec::new(alloc);
+    put_start(&mut out, journey.start)?;
+    put_rides(&mut out, &journey.rides)?;
+    if out.len() > 0 {
+        out.remove(0);
+    }
+    Ok(out)
+}
+
+/// The journey whose text the bytes are. Numbers are decimal, without leading zeros, up to 4,294,967,295; at most one walk comes
+/// before the first ride, and there is at least one ride.
+pub fn journey_parse(alloc: Global, text: &[u8]) -> Result<Journey, TextFault>
+    // What is read is spelled so.
+    ensures found { IfOk result (λ j. HasText j × (text.now ≡ text_of j)) }
+    // What is spelled so is read, unless memory runs out.
+    ensures only { (j : JourneyValue) → HasText j → text.now ≡ text_of j → MatchResult result (λ found. found ≡ j) (λ e. e ≡ OutOfMemory) }
+{
+    journey(alloc, text)
+}
+
+/// No two journeys have one text, so what was written is read again as it was.
+pub fn one_text()
+    ensures { (j k : JourneyValue) → HasText j → HasText k → text_of j ≡ text_of k → j ≡ k }
+{}
