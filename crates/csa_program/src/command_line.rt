@@ -1,15 +1,20 @@
 //! What the words of a command line ask for.
 
+use crate::journey::JourneyRequest;
+use crate::question::Question;
 use clap::error::ErrorKind;
-use clap::{Arg, ArgAction, Command, Error};
+use clap::{Arg, ArgAction, ArgMatches, Command, Error};
 use std::alloc::{AllocError, Global};
 use std::convert::AsStr;
+use timetable::clocks::clock_parse;
 
 /// A command with its arguments.
 #[derive(Drop)]
 pub enum Request<'a> {
     /// To verify the image in a file, or in the standard input for `-`.
     Verify(&'a str),
+    /// To check a journey against an image.
+    Journey(JourneyRequest<'a>),
 }
 
 /// Why the words ask for no command.
@@ -26,16 +31,75 @@ const STATUSES: &str =
     "Exit status: 0 accepted, 2 refused (one line `refused NUMBER NAME PLACES`), 3 a file can't be read \
 or a line can't be written, 4 no memory, 64 a wrong command line.";
 
-fn verify<'a>(alloc: Global) -> Result<Command<'a>, AllocError> {
-    let image = Arg::new(alloc, "image")
-        .value_name("IMAGE")
-        .help("The image's file, or - for the standard input")
+const JOURNEY_EXAMPLE: &str =
+    "Example: csa journey examples/base.csa 'ride 0 0 walk 1 1 0 ride 2 2' \
+--from A --to C --after 07:00:00 --until 09:00:00 --by 10:00:00";
+
+const WRONG_FORM: &str =
+    "error: a clock is HH:MM:SS: hours of one to six digits, minutes and seconds below 60\n";
+
+fn word<'a>(alloc: Global, id: &'a str, name: &'a str, help: &'a str) -> Arg<'a> {
+    Arg::new(alloc, id)
+        .value_name(name)
+        .help(help)
         .required(true)
-        .action(ArgAction::Set);
+        .action(ArgAction::Set)
+}
+
+fn option<'a>(alloc: Global, id: &'a str, name: &'a str, help: &'a str) -> Arg<'a> {
+    word(alloc, id, name, help).long(id)
+}
+
+fn image<'a>(alloc: Global) -> Arg<'a> {
+    word(
+        alloc,
+        "image",
+        "IMAGE",
+        "The image's file, or - for the standard input",
+    )
+}
+
+/// The options that ask a query. A text that begins with a hyphen may be a stop's name.
+fn with_query<'a>(alloc: Global, command: Command<'a>) -> Result<Command<'a>, AllocError> {
+    command
+        .arg(option(
+            alloc,
+            "from",
+            "STOP",
+            "The name of the stop where the journey begins",
+        ))?
+        .arg(option(alloc, "to", "STOP", "The name of the stop where it ends"))?
+        .arg(option(
+            alloc,
+            "after",
+            "CLOCK",
+            "The earliest departure, HH:MM:SS after the image's base",
+        ))?
+        .arg(option(alloc, "until", "CLOCK", "The latest departure"))?
+        .arg(option(alloc, "by", "CLOCK", "The latest arrival"))
+}
+
+fn verify<'a>(alloc: Global) -> Result<Command<'a>, AllocError> {
     Command::new(alloc, "verify")
         .about("Judges whether a file is the image of a legal timetable, and prints its counts")
         .after_help("Example: csa verify examples/base.csa")
-        .arg(image)
+        .arg(image(alloc))
+}
+
+fn journey<'a>(alloc: Global) -> Result<Command<'a>, AllocError> {
+    let command = Command::new(alloc, "journey")
+        .about(
+            "Judges whether a journey holds in an image and counts for a query, and prints its times",
+        )
+        .after_help(JOURNEY_EXAMPLE)
+        .arg(image(alloc))?
+        .arg(word(
+            alloc,
+            "text",
+            "TEXT",
+            "The journey: `walk FROM TO SECS` and `ride FIRST LAST`, with a space between",
+        ))?;
+    with_query(alloc, command)
 }
 
 fn program<'a>(alloc: Global) -> Result<Command<'a>, AllocError> {
@@ -43,8 +107,8 @@ fn program<'a>(alloc: Global) -> Result<Command<'a>, AllocError> {
         .about("Every best departure over verified public transport timetables")
         .after_help(STATUSES)
         .subcommand_required(true)
-        .arg_required_else_help(false)
-        .subcommand(verify(alloc)?)
+        .subcommand(verify(alloc)?)?
+        .subcommand(journey(alloc)?)
 }
 
 fn unread_of(alloc: Global, error: &Error) -> Unread {
@@ -63,14 +127,47 @@ pub fn read<'a, S: AsStr>(alloc: Global, words: &'a [S]) -> Result<Request<'a>, 
     let Ok(command) = program(alloc) else {
         return Err(Unread::OutOfMemory);
     };
-    match command.try_get_matches_from(words) {
-        Ok(matches) => match matches.subcommand() {
-            Some(("verify", inner)) => match inner.get_str("image") {
-                Some(image) => Ok(Request::Verify(image)),
-                None => Err(Unread::Mistake(String::new(alloc))),
-            },
-            _ => Err(Unread::Mistake(String::new(alloc))),
-        },
-        Err(error) => Err(unread_of(alloc, &error)),
+    let matches = match command.try_get_matches_from(words) {
+        Ok(matches) => matches,
+        Err(error) => return Err(unread_of(alloc, &error)),
+    };
+    let request = match matches.subcommand() {
+        Some(("verify", inner)) => inner.get_str("image").map(Request::Verify),
+        Some(("journey", inner)) => journey_request(inner).map(Request::Journey),
+        _ => None,
+    };
+    match request {
+        Some(request) => Ok(request),
+        None => Err(mistake(alloc)),
     }
+}
+
+/// A text that clap takes and no clock, or another argument of a wrong form.
+fn mistake(alloc: Global) -> Unread {
+    match String::from_str(alloc, WRONG_FORM) {
+        Ok(text) => Unread::Mistake(text),
+        Err(_) => Unread::OutOfMemory,
+    }
+}
+
+fn journey_request<'a>(matches: &ArgMatches<'a>) -> Option<JourneyRequest<'a>> {
+    Some(JourneyRequest {
+        image: matches.get_str("image")?,
+        text: matches.get_str("text")?,
+        question: question(matches)?,
+    })
+}
+
+fn question<'a>(matches: &ArgMatches<'a>) -> Option<Question<'a>> {
+    Some(Question {
+        from: matches.get_str("from")?,
+        to: matches.get_str("to")?,
+        after: clock(matches, "after")?,
+        until: clock(matches, "until")?,
+        by: clock(matches, "by")?,
+    })
+}
+
+fn clock(matches: &ArgMatches<'_>, id: &str) -> Option<u32> {
+    clock_parse(matches.get_str(id)?.as_bytes())
 }

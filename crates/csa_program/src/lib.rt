@@ -3,6 +3,9 @@
 
 mod command_line;
 mod image_file;
+mod journey;
+mod opening;
+mod question;
 mod refusal;
 mod status;
 #[cfg(test)]
@@ -27,7 +30,8 @@ pub fn run<H: Files + AllocGlobal, S: AsStr, I: Read, O: Write, E: Write>(
     errors: &mut E,
 ) -> u8 {
     match read(rt.alloc(), words) {
-        Ok(Request::Verify(image)) => verify::verify(rt, image, input, output, errors),
+        Ok(Request::Verify(image)) => verify::run(rt, image, input, output, errors),
+        Ok(Request::Journey(request)) => journey::run(rt, request, input, output, errors),
         Err(Unread::Help(text)) => status::written(output, text.as_str(), status::ACCEPTED),
         Err(Unread::Mistake(text)) => status::written(errors, text.as_str(), status::COMMAND_LINE),
         Err(Unread::OutOfMemory) => status::OUT_OF_MEMORY,

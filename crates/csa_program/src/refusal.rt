@@ -1,7 +1,9 @@
 //! Refusals as they are printed: a number, a name and the places, each after a space.
 
 use image_verifier::ImageFault;
+use journeys::JourneyFault;
 use std::fmt;
+use timetable::query::QueryFault;
 
 /// Why a request is refused.
 #[derive(Drop)]
@@ -9,6 +11,10 @@ pub enum Refusal {
     /// The bytes of an image aren't whole words.
     OddLength,
     Image(ImageFault),
+    Query(QueryFault),
+    /// A text that spells no journey.
+    BadText,
+    Journey(JourneyFault),
 }
 
 impl fmt::Display for Refusal {
@@ -16,6 +22,9 @@ impl fmt::Display for Refusal {
         match self {
             Refusal::OddLength => write!(f, "refused 51 OddLength"),
             Refusal::Image(fault) => write_image_fault(*fault, f),
+            Refusal::Query(fault) => write_query_fault(*fault, f),
+            Refusal::BadText => write!(f, "refused 80 BadText"),
+            Refusal::Journey(fault) => write_journey_fault(*fault, f),
         }
     }
 }
@@ -38,5 +47,30 @@ fn write_image_fault<W: fmt::Write>(fault: ImageFault, f: &mut fmt::Formatter<W>
         ImageFault::NotClosed(a, b, c) => write!(f, "refused 74 NotClosed {a} {b} {c}"),
         ImageFault::BadNames(i) => write!(f, "refused 75 BadNames {i}"),
         ImageFault::OutOfMemory => write!(f, "refused 76 OutOfMemory"),
+    }
+}
+
+fn write_query_fault<W: fmt::Write>(fault: QueryFault, f: &mut fmt::Formatter<W>) -> fmt::Result {
+    match fault {
+        QueryFault::UnknownStop => write!(f, "refused 31 UnknownStop"),
+        QueryFault::SameStop => write!(f, "refused 32 SameStop"),
+        QueryFault::BadWindow => write!(f, "refused 33 BadWindow"),
+    }
+}
+
+fn write_journey_fault<W: fmt::Write>(
+    fault: JourneyFault,
+    f: &mut fmt::Formatter<W>,
+) -> fmt::Result {
+    match fault {
+        JourneyFault::LegRange(leg) => write!(f, "refused 81 LegRange {leg}"),
+        JourneyFault::TwoTrips(leg) => write!(f, "refused 82 TwoTrips {leg}"),
+        JourneyFault::NoBoarding(leg) => write!(f, "refused 83 NoBoarding {leg}"),
+        JourneyFault::NoAlighting(leg) => write!(f, "refused 84 NoAlighting {leg}"),
+        JourneyFault::NoFootpath(walk) => write!(f, "refused 89 NoFootpath {walk}"),
+        JourneyFault::WalkBroken(walk) => write!(f, "refused 85 WalkBroken {walk}"),
+        JourneyFault::TooEarly(leg) => write!(f, "refused 86 TooEarly {leg}"),
+        JourneyFault::WrongEnds => write!(f, "refused 87 WrongEnds"),
+        JourneyFault::OutsideWindow => write!(f, "refused 88 OutsideWindow"),
     }
 }

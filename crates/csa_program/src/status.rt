@@ -1,5 +1,7 @@
-//! Exit statuses.
+//! Exit statuses, and what is written with them.
 
+use crate::refusal::Refusal;
+use std::alloc::{AllocError, Global};
 use std::io::Write;
 
 /// The request was accepted.
@@ -19,4 +21,26 @@ pub fn written<W: Write>(writer: &mut W, text: &str, status: u8) -> u8 {
         Ok(()) => status,
         Err(_) => INPUT_OUTPUT,
     }
+}
+
+/// Writes a line that may have found no memory.
+pub fn line_written<W: Write>(writer: &mut W, line: Result<String, AllocError>, status: u8) -> u8 {
+    match line {
+        Ok(line) => written(writer, line.as_str(), status),
+        Err(_) => OUT_OF_MEMORY,
+    }
+}
+
+/// Tells a refusal.
+pub fn refused<O: Write>(alloc: Global, output: &mut O, refusal: &Refusal) -> u8 {
+    line_written(output, format!(in alloc; "{refusal}\n"), REFUSED)
+}
+
+/// Tells of a file that can't be read.
+pub fn unreadable<E: Write>(alloc: Global, errors: &mut E, path: &str) -> u8 {
+    line_written(
+        errors,
+        format!(in alloc; "csa: {path} can't be read\n"),
+        INPUT_OUTPUT,
+    )
 }

@@ -2,6 +2,7 @@
 
 use crate::run;
 use image_layout::{Words, sample_words};
+use std::alloc::{AllocError, Global};
 use std::fs;
 use std::process::Abort;
 use std::rt::Files;
@@ -52,6 +53,15 @@ fn expect_message<R: Files + AllocGlobal + Abort>(
     assert_eq!(rt; outcome.status, status);
     assert!(rt; outcome.output.is_empty());
     assert!(rt; !outcome.errors.is_empty());
+}
+
+/// So many bytes from the front, or all where there are fewer.
+fn front(bytes: &[u8], count: usize) -> &[u8] {
+    if count <= bytes.len() {
+        &bytes[..count]
+    } else {
+        bytes
+    }
 }
 
 const VERIFY: [&str; 3] = ["csa", "verify", "-"];
@@ -164,9 +174,21 @@ fn footpaths_must_be_closed(rt: HostRuntime) -> Result<(), Fail> {
 fn bytes_that_are_cut_are_refused(rt: HostRuntime) -> Result<(), Fail> {
     let bytes = Words::to_bytes(rt.alloc(), &sample_words())?;
     assert_eq!(rt; bytes.len(), 188);
-    expect_line(&rt, &VERIFY, &bytes[..187], 2, "refused 51 OddLength\n");
-    expect_line(&rt, &VERIFY, &bytes[..184], 2, "refused 63 BadLength\n");
-    expect_line(&rt, &VERIFY, &bytes[..0], 2, "refused 63 BadLength\n");
+    expect_line(
+        &rt,
+        &VERIFY,
+        front(&bytes, 187),
+        2,
+        "refused 51 OddLength\n",
+    );
+    expect_line(
+        &rt,
+        &VERIFY,
+        front(&bytes, 184),
+        2,
+        "refused 63 BadLength\n",
+    );
+    expect_line(&rt, &VERIFY, front(&bytes, 0), 2, "refused 63 BadLength\n");
     Ok(())
 }
 
@@ -186,12 +208,98 @@ fn an_image_file_is_verified_by_its_path(rt: HostRuntime) -> Result<(), Fail> {
     Ok(())
 }
 
-/// A reader of many words: more than one piece.
+fn zeros(alloc: Global, count: usize) -> Result<Vec<u8>, AllocError> {
+    Ok(vec![in alloc; 0u8; count]?)
+}
+
+/// More words than are read at once.
 #[test]
 fn long_inputs_are_read_whole(rt: HostRuntime) -> Result<(), Fail> {
-    let zeros = vec![in rt.alloc(); 0u8; 200_003]?;
+    let zeros = zeros(rt.alloc(), 200_003)?;
     expect_line(&rt, &VERIFY, &zeros, 2, "refused 51 OddLength\n");
-    expect_line(&rt, &VERIFY, &zeros[..200_000], 2, "refused 61 BadMagic\n");
+    expect_line(
+        &rt,
+        &VERIFY,
+        front(&zeros, 200_000),
+        2,
+        "refused 61 BadMagic\n",
+    );
+    Ok(())
+}
+
+/// A journey of the sample from A to C, departing from 07:00:00 until a time and arriving by 10:00:00.
+fn journey_words<'a>(text: &'a str, until: &'a str) -> [&'a str; 14] {
+    [
+        "csa", "journey", "-", text, "--from", "A", "--to", "C", "--after", "07:00:00", "--until",
+        until, "--by", "10:00:00",
+    ]
+}
+
+fn judge_journey<R: Files + AllocGlobal + Abort>(
+    rt: &R,
+    image: &[u32],
+    text: &str,
+    status: u8,
+    line: &str,
+) -> Result<(), Fail> {
+    let bytes = Words::to_bytes(rt.alloc(), image)?;
+    expect_line(rt, &journey_words(text, "09:00:00"), &bytes, status, line);
+    Ok(())
+}
+
+/// The sample with a change at B that takes 121 s.
+fn slow_change() -> [u32; 47] {
+    let mut image = sample_words();
+    image[34] = 121;
+    image
+}
+
+const BY_CHANGE: &str = "ride 0 0 walk 1 1 0 ride 2 2";
+
+#[test]
+fn journeys_that_hold_are_accepted(rt: HostRuntime) -> Result<(), Fail> {
+    let sample = sample_words();
+    judge_journey(&rt, &sample, BY_CHANGE, 0, "ok dep 08:00:00 arr 08:20:00\n")?;
+    judge_journey(
+        &rt,
+        &sample,
+        "ride 0 1",
+        0,
+        "ok dep 08:00:00 arr 08:30:00\n",
+    )
+}
+
+#[test]
+fn journeys_that_break_are_refused(rt: HostRuntime) -> Result<(), Fail> {
+    let sample = sample_words();
+    judge_journey(
+        &rt,
+        &sample,
+        "ride 0 0 ride 2 2",
+        2,
+        "refused 85 WalkBroken 1\n",
+    )?;
+    judge_journey(&rt, &sample, "ride 0 2", 2, "refused 82 TwoTrips 0\n")?;
+    judge_journey(&rt, &sample, "ride 0 3", 2, "refused 81 LegRange 0\n")?;
+    judge_journey(&rt, &sample, "walk 0 0 0", 2, "refused 80 BadText\n")?;
+    let slow = slow_change();
+    let late = "ride 0 0 walk 1 1 121 ride 2 2";
+    judge_journey(&rt, &slow, late, 2, "refused 86 TooEarly 1\n")?;
+    judge_journey(&rt, &slow, BY_CHANGE, 2, "refused 89 NoFootpath 1\n")
+}
+
+#[test]
+fn queries_are_judged_before_texts(rt: HostRuntime) -> Result<(), Fail> {
+    let bytes = Words::to_bytes(rt.alloc(), &sample_words())?;
+    let early = journey_words("no journey", "06:00:00");
+    expect_line(&rt, &early, &bytes, 2, "refused 33 BadWindow\n");
+    let mut words = journey_words("no journey", "09:00:00");
+    words[7] = "A";
+    expect_line(&rt, &words, &bytes, 2, "refused 32 SameStop\n");
+    words[7] = "D";
+    expect_line(&rt, &words, &bytes, 2, "refused 31 UnknownStop\n");
+    words[11] = "9:0:0";
+    expect_message(&rt, &words, &bytes, 64);
     Ok(())
 }
 

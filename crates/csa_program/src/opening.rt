@@ -1,0 +1,31 @@
+//! What every command over an image begins with.
+
+use crate::image_file::{WordsFault, image_words};
+use crate::refusal::Refusal;
+use crate::status;
+use image_verifier::{ImageFault, Verified, verify};
+use std::io::{Read, Write};
+use std::rt::Files;
+
+/// The verified image at the path, or the status of a command that has said why there is none.
+pub fn open_image<H: Files + AllocGlobal, I: Read, O: Write, E: Write>(
+    rt: &H,
+    path: &str,
+    input: &mut I,
+    output: &mut O,
+    errors: &mut E,
+) -> Result<Verified, u8> {
+    let words = match image_words(rt, path, input) {
+        Ok(words) => words,
+        Err(WordsFault::OddLength) => {
+            return Err(status::refused(rt.alloc(), output, &Refusal::OddLength));
+        }
+        Err(WordsFault::Unreadable) => return Err(status::unreadable(rt.alloc(), errors, path)),
+        Err(WordsFault::OutOfMemory) => return Err(status::OUT_OF_MEMORY),
+    };
+    match verify(rt.alloc(), words) {
+        Ok(image) => Ok(image),
+        Err((_words, ImageFault::OutOfMemory)) => Err(status::OUT_OF_MEMORY),
+        Err((_words, fault)) => Err(status::refused(rt.alloc(), output, &Refusal::Image(fault))),
+    }
+}
