@@ -1,21 +1,21 @@
 -- Accepted words are an image.
-use Rattle.std.proofs.Common.{◌≡◌, ℕ, zero, suc, [], ◌∷◌, take, drop, inl, inr, ◌+◌, ◌*◌, ◌^◌, ◌<◌, ◌≤◌, false, List, length, map, Some, refl, sym, ap, subst, ◌∙◌, arith, Fits}
+use Rattle.std.proofs.Common.{◌≡◌, ℕ, ◌+◌, ◌*◌, ◌^◌, ◌<◌, ◌≤◌, false, List, length, map, Some, refl, sym, ap, subst, ◌∙◌, arith, Fits}
 use Rattle.std.specs.Prelude.{slice_get, slice_index}
 use Rattle.std.specs.Int.{w64}
 use Rattle.std.specs.List.{range_with_len}
 use Rattle.std.specs.Str.{IsUtf8}
 use Rattle.std.proofs.Math.Facts.{sfits_to_z}
-use Rattle.std.proofs.lemmas.Bool.{or_parts, ltb-false, cases_lt}
+use Rattle.std.proofs.lemmas.Bool.{or_parts, ltb-false}
 use Rattle.std.proofs.lemmas.Option.{slice_get_within, same_Some, slice_get-get_or}
-use Rattle.std.proofs.lemmas.List.{length-take-le, length-take, get_or-take, get_or_past}
+use Rattle.std.proofs.lemmas.List.{length-take-le}
 use Rattle.std.proofs.lemmas.List.FromFn.{length-map-range_with_len, get_or-map-range_with_len}
 use Rattle.std.proofs.lemmas.Str.{IsUtf8-from_is_utf8}
 use Rattle.timetable.specs.declared.network.Connection.{Connection}
 use Rattle.timetable.specs.declared.network.Footpath.{Footpath}
 use Rattle.timetable.specs.declared.limits.TheConstants.{MAX_STOPS, MAX_TRIPS, MAX_CONNECTIONS, MAX_FOOTPATHS, MAX_WALK_SECS, MAX_NAME_BYTES, TIME_END}
 use Rattle.timetable.specs.NamesValue.{TripNameValue}
-use Rattle.image_layout.specs.Places.{header_of, day_place, text_place}
-use Rattle.image_layout.specs.Text.{bytes_of, padded_text_of}
+use Rattle.image_layout.specs.Places.{header_of, day_place}
+use Rattle.image_layout.specs.Text.{padded_text_of}
 use Rattle.image_layout.specs.Shown.{name_of, trip_name_of, timetable_of, names_of}
 use Rattle.image_layout.specs.Image.{HasImage, IsImage}
 use Rattle.image_layout.proofs.Names.{name_count, names_are, text_again}

@@ -1,6 +1,6 @@
 -- The timetable that accepted words show is legal.
-use Rattle.std.proofs.Common.{◌≡◌, ℕ, zero, suc, ◌+◌, ◌-◌, ◌<◌, ◌≤◌, Bool, true, false, not, ◌&&◌, eqb, ltb, cond, List, Option, Some, None, refl, sym, ap, subst, ◌∙◌, arith, inl, inr}
-use Rattle.std.proofs.lemmas.Bool.{cases_order, or_parts, and_parts, leb-false, leb-true, ltb-false, lt-ltb, eqb-true, eq-eqb, ne_eqb}
+use Rattle.std.proofs.Common.{◌≡◌, ℕ, zero, suc, ◌+◌, ◌-◌, ◌<◌, ◌≤◌, false, not, ◌&&◌, eqb, ltb, List, Option, Some, None, sym, ap, subst, ◌∙◌, arith, inl, inr}
+use Rattle.std.proofs.lemmas.Bool.{cases_order, or_parts, leb-false, ltb-false, lt-ltb, eqb-true, eq-eqb, ne_eqb}
 use Rattle.timetable.specs.declared.network.Connection.{Connection}
 use Rattle.timetable.specs.declared.network.Footpath.{Footpath}
 use Rattle.timetable.specs.Legal.{At, HasFootpath, IsJustBefore, IsOrderedBefore, IsLegal}
@@ -10,8 +10,7 @@ use Rattle.image_layout.specs.Shown.{connection_of, connections_of, footpath_of,
 use Rattle.image_layout.proofs.Feet.{IsFootIndex, index_rises}
 use Rattle.image_layout.proofs.Whole.{connection_is}
 use Rattle.image_layout.proofs.Found.{connection_shown, footpath_is, footpath_shown}
-use Rattle.image_verifier.specs.declared.fault.ImageFault.{ImageFault}
-use Rattle.image_verifier.specs.declared.fault.ImageFault.TheVariants.{NotClosed, Unsorted, TripBroken}
+use Rattle.image_verifier.specs.declared.fault.ImageFault.TheVariants.{Unsorted, TripBroken}
 use Rattle.image_verifier.specs.ConnectionFaults.{is_break, last_of_trip}
 use Rattle.image_verifier.specs.FootFaults.{is_fall, is_from}
 use Rattle.image_verifier.specs.ClosureFaults.{secs_between, open_fault, way_fault, into_fault}

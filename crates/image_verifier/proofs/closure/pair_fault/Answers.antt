@@ -1,4 +1,4 @@
-use Rattle.std.proofs.Common.{◌≡◌, ◌+◌, ap, refl, sym, ◌∙◌}
+use Rattle.std.proofs.Common.{sym, ◌∙◌}
 use Rattle.image_verifier.proofs.ClosureLemmas.{pair_closed, pair_open}
 use Rattle.image_verifier.proofs.closure.pair_fault.Goals as goal
 

@@ -1,6 +1,6 @@
-use Rattle.std.proofs.Common.{◌≡◌, ◌+◌, ◌≤◌, ◌<◌, ℕ, None, Some, arith, ap, sym, subst, ◌∙◌}
+use Rattle.std.proofs.Common.{◌≡◌, ◌+◌, ℕ, arith, ap, sym, subst, ◌∙◌}
 use Rattle.image_layout.specs.Fields.{foot_index_of, foot_from_of}
-use Rattle.image_verifier.specs.ClosureFaults.{open_fault, IsFirstFrom}
+use Rattle.image_verifier.specs.ClosureFaults.{IsFirstFrom}
 use Rattle.image_verifier.proofs.ClosureLemmas.{open_at, way_by_place, rises_later, none_to_end}
 use Rattle.timetable.proofs.FirstLemmas.{first_between-empty, first_between-more, first_between-found}
 use Rattle.image_verifier.proofs.closure.way_fault.Goals as goal

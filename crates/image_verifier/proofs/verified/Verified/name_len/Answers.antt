@@ -1,4 +1,4 @@
-use Rattle.std.proofs.Common.{◌≡◌, ◌+◌, ◌<◌, ℕ, List, length, sym, subst, ap, ◌∙◌, arith}
+use Rattle.std.proofs.Common.{◌+◌, ◌<◌, ℕ, List, length, sym, subst, ap, ◌∙◌}
 use Rattle.timetable.specs.Legal.{At}
 use Rattle.image_layout.specs.Spelling.{name_list}
 use Rattle.image_layout.specs.Shown.{name_of}
