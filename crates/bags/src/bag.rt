@@ -54,7 +54,8 @@ impl<C: Criterion> Bag<C> {
     /// that it dominates. The answer tells whether the point now stands; a
     /// point of the same departure and value, which stands already, keeps its
     /// tag. Only a point that would stand takes memory, and where there is
-    /// none the bag stays as it was.
+    /// none the bag stays as it was. The value must be one that the criterion
+    /// admits, as all values of journeys are.
     pub fn insert(&mut self, departure: u32, value: C::V, tag: usize) -> Result<bool, AllocError>
         requires { Admits (C.rules (criterion_of self.old)) value }
         ensures criterion { criterion_of self.new ≡ criterion_of self.old }

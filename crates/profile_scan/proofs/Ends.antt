@@ -69,6 +69,7 @@ pub cut_is_the_sources : CutIsTheSources Counts
 cut_is_the_sources = record {
   onward = λ t q until i stop time x on. record { walks = on.walks; is_walk = on.is_walk; boards = on.boards; leads = on.leads; arrives = on.arrives };
   aboard = λ t q until i trip x a. record { later = a.later; in_range = a.in_range; on_trip = a.on_trip; alights = a.alights; is_walk = a.is_walk; walks = a.walks; leads = a.leads; arrives = a.arrives };
+  is_cut = λ t q departure j c. c.not_late;
   at_source = λ t q until departure j le c. record {
     journey = record { starts = c.journey.starts; has_rides = c.journey.has_rides; leads = c.journey.leads };
     departs = c.departs;

@@ -70,6 +70,7 @@ TagsMayCome {V} rules =
 pub record CutIsTheSources (JourneyCounts : TimetableValue → Query → ℕ → JourneyValue → Type 0) : Type 0 where
   pub onward : (t : TimetableValue) (q : Query) (until i stop time : ℕ) (x : Onward) → IsOnward t q i stop time x → IsOnward t (record q { until = until }) i stop time x
   pub aboard : (t : TimetableValue) (q : Query) (until i trip : ℕ) (x : Aboard) → IsAboard t q i trip x → IsAboard t (record q { until = until }) i trip x
+  pub is_cut : (t : TimetableValue) (q : Query) (departure : ℕ) (j : JourneyValue) → JourneyCounts t q departure j → departure ≤ q.until
   pub at_source : (t : TimetableValue) (q : Query) (until departure : ℕ) (j : JourneyValue) → departure ≤ until → JourneyCounts t q departure j → JourneyCounts t (record q { until = until }) departure j
 
 -- points found that match at the window's start, none of which dominates another, in order, are the answer

@@ -1,9 +1,19 @@
-//! Laws of clock texts alone. The functions do nothing.
+//! Laws of limits and of clock texts. The functions do nothing.
 
 ghost use Rattle.std.specs.Prelude.{◌≡◌, ◌<◌, ℕ, List};
 ghost use Rattle.timetable.specs.Clocks.{SpellsClock, HasNoSpareZero, clock_bytes};
 
 use crate::clocks::CLOCK_END;
+use crate::limits::{
+    MAX_CONNECTIONS, MAX_FOOTPATHS, MAX_NAME_BYTES, MAX_STOPS, MAX_TRIPS, MAX_WALK_SECS, TIME_END,
+};
+
+/// The limits of an image, in numbers: definitions and code cite the constants, so that a slip in one would show nowhere else.
+pub fn limits()
+    ensures counts { (MAX_STOPS ≡ 1000000) × (MAX_TRIPS ≡ 20000000) × (MAX_CONNECTIONS ≡ 20000000) × (MAX_FOOTPATHS ≡ 5000000) }
+    ensures bytes { MAX_NAME_BYTES ≡ 400000000 }
+    ensures times { (MAX_WALK_SECS ≡ 1000000) × (TIME_END ≡ 2000000000) }
+{}
 
 /// A text spells one time at most, and that is below a million hours.
 pub fn one_time()
