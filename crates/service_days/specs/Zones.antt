@@ -46,10 +46,10 @@ IsDate day date = IsYmd (pos day.year) (pos day.month) (pos day.day) date
 abbrev pub IsNoon : Day → DateTime → Type 0
 IsNoon day noon = IsDate day noon.date × IsHms (pos 12) (pos 0) (pos 0) (pos 0) noon.time
 
--- the second at which a day starts: 43,200 seconds before its noon
+-- the second at which a day starts: 43,200 seconds before its noon, which has an instant
 abbrev pub IsDayStart : Zone → Day → ℤ → Type 0
 IsDayStart zone day start =
-    (is_civil day ≡ true) × (noon : DateTime) × IsNoon day noon × (nanos_of_seconds (start +ℤ pos 43_200) ≡ instant_in zone noon)
+    (is_civil day ≡ true) × (noon : DateTime) × IsNoon day noon × IsTimestampNanos (instant_in zone noon) × (nanos_of_seconds (start +ℤ pos 43_200) ≡ instant_in zone noon)
 
 -- there is no such day, or its noon has no instant
 abbrev pub HasNoStart : Zone → Day → Type 0

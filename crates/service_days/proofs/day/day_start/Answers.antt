@@ -1,4 +1,4 @@
-use Rattle.std.proofs.Common.{◌≡◌, ◌<◌, ℤ, pos, neg_ℤ, ◌+ℤ◌, ◌-ℤ◌, ◌*ℤ◌, ◌<ℤ◌, negsuc, FitsSigned, w64, arith, refl, inr}
+use Rattle.std.proofs.Common.{◌≡◌, ◌<◌, ℤ, pos, neg_ℤ, subst, ◌+ℤ◌, ◌-ℤ◌, ◌*ℤ◌, ◌<ℤ◌, negsuc, FitsSigned, w64, arith, refl, inr}
 use Rattle.std.specs.Int.RustNames.{int_div, int_rem, unsigned_abs}
 use Rattle.std.proofs.lemmas.Int.{quot-rem, rem_below, to_z-of_z}
 use Rattle.std.proofs.lemmas.Bool.{false≢true}
@@ -30,7 +30,7 @@ returns-in-Ok-clause-ok c =
     let fits : FitsSigned w64 c.as_second.result = omega (arith, signed_arith, second) in
     let less : FitsSigned w64 (c.as_second.result -ℤ pos 43200) = omega (arith, signed_arith, second) in
     let known = c.in-Some.ensures.some in
-    (known.0, c.at.result, (rw c.at.ensures.date known.1, c.at.ensures.time), rw (to_z-of_z w64 c.as_second.result fits, to_z-of_z w64 (c.as_second.result -ℤ pos 43200) less) (rw (← offsets) (omega (arith, signed_arith, second, at))))
+    (known.0, c.at.result, (rw c.at.ensures.date known.1, c.at.ensures.time), rw (← offsets) (subst (λ (n : ℤ). IsTimestampNanos n) at range), rw (to_z-of_z w64 c.as_second.result fits, to_z-of_z w64 (c.as_second.result -ℤ pos 43200) less) (rw (← offsets) (omega (arith, signed_arith, second, at))))
 
 pub returns-in-Err-clause-err : goal.returns-in-Err-clause-err
 returns-in-Err-clause-err c =
