@@ -49,7 +49,7 @@ fn clocks_change_twice_a_year(rt: HostRuntime) -> Result<(), Fail> {
     );
     // 08:00:00 of the first day of summer time
     let second = day_start(&zone, day("20240331")?)?;
-    assert_eq!(rt; second + 8 * 3600, 1_711_864_800);
+    assert_eq!(rt; second, 1_711_864_800 - 8 * 3600);
     Ok(())
 }
 
