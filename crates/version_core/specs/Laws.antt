@@ -33,7 +33,7 @@ abbrev pub AsksAreAnswered : Type 0
 AsksAreAnswered =
     (s : State) (w k v : ℕ) → IsReached s → Holds s w k v
     → (e : ℕ) × (edition_of s.editions v ≡ Some e)
-        × ((reply : Reply) (t : State) → Step s (Event.Ask w) reply t → (reply ≡ Reply.From v e) × (t ≡ s))
+    × ((reply : Reply) (t : State) → Step s (Event.Ask w) reply t → (reply ≡ Reply.From v e) × (t ≡ s))
 
 -- one run after another is a run
 abbrev pub RunsJoin : Type 0
