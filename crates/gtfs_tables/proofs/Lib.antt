@@ -1,7 +1,1 @@
-pub mod CellFacts
-pub mod FaultFacts
-pub mod KeyFacts
-pub mod SourceFacts
 pub mod SpreadFacts
-pub mod TextFacts
-pub mod ValueFacts

@@ -3,7 +3,7 @@ use Rattle.std.proofs.Common.{◌≡◌, ◌+◌, ◌-◌, ◌*◌, ◌/◌, ◌
 use Rattle.std.proofs.Math.Nat.{div-le_of_le-mul, mul-le-mul_right}
 use Rattle.std.proofs.lemmas.Bool.{cases_order, false≢true}
 use Rattle.gtfs_tables.specs.Spread.{IsGap, IsSpreadBefore, arrival_at, departure_at, either, part_of}
-use Rattle.gtfs_tables.specs.declared.rows.StopTimeRow.{StopTimeRow}
+use Rattle.gtfs_rows.specs.declared.rows.StopTimeRow.{StopTimeRow}
 
 -- no part ends after the last
 pub part_within : (span parts j : ℕ) → j ≤ parts → (j * span) / parts ≤ span

@@ -1,8 +1,1 @@
-pub mod Cells
-pub mod Faults
-pub mod Ids
-pub mod Rows
-pub mod Source
 pub mod Spread
-pub mod Tables
-pub mod Values

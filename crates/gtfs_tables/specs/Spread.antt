@@ -1,6 +1,6 @@
 -- The times of a trip's rows, spread over its blank ones.
 use Rattle.std.specs.Prelude.{◌≡◌, ◌+◌, ◌-◌, ◌*◌, ◌/◌, ◌<◌, ℕ, List, length, map, slice_index_or, Option, Some, None}
-use Rattle.gtfs_tables.specs.declared.rows.StopTimeRow.{StopTimeRow}
+use Rattle.gtfs_rows.specs.declared.rows.StopTimeRow.{StopTimeRow}
 
 -- where one of a row's two times is given it serves for both
 abbrev pub either : Option ℕ → Option ℕ → Option ℕ

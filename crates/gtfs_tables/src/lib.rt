@@ -1,35 +1,14 @@
-//! The tables of a GTFS feed: the rows of each file, or the first thing that is wrong with it.
+//! The tables of a GTFS feed, joined: trips with their stop times in order, stops with their stations, transfers with
+//! both ends found; or the first thing that is wrong with them.
 //!
 //! The files and their columns are those of the GTFS Schedule Reference.
 #![tactic(auto)]
 
-mod agencies;
-mod cells;
-mod changes;
-pub mod fault;
-mod ids;
-mod keyed;
-pub mod read;
-mod reader;
-pub mod rows;
-mod services;
-mod source;
 pub mod spread;
-mod stop_times;
-mod stops;
-pub mod values;
 
-pub use fault::{FaultKind, Table, TableFault};
-pub use read::{
-    MAX_STOPS, MAX_TRIPS, read_agency, read_calendar, read_calendar_dates, read_frequencies,
-    read_stop_times, read_stops, read_transfers, read_trips,
+pub use gtfs_rows::{
+    AgencyRow, CalendarDateRow, CalendarRow, DateFault, Day, Exception, FaultKind, FrequencyRow,
+    Location, MAX_STOPS, MAX_TRIPS, StopRow, StopTimeRow, StopTimes, Table, TableFault, Time,
+    TimeFault, TransferKind, TransferRow, TripRow, read_agency, read_calendar, read_calendar_dates,
+    read_frequencies, read_stop_times, read_stops, read_transfers, read_trips,
 };
-pub use rows::{
-    AgencyRow, CalendarDateRow, CalendarRow, Exception, FrequencyRow, Location, StopRow,
-    StopTimeRow, TransferKind, TransferRow, TripRow,
-};
-pub use stop_times::StopTimes;
-pub use values::{DateFault, Day, Time, TimeFault};
-
-#[cfg(test)]
-mod tests;

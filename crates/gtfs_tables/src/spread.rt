@@ -3,7 +3,7 @@
 ghost use Rattle.std.specs.Prelude.{◌≡◌, ◌+◌, ◌-◌, ◌*◌, ◌/◌, ◌<◌, ◌≤◌, ℕ, None, Some, length, slice_index_or, IfOk, IsSome, OnOk};
 ghost use Rattle.gtfs_tables.specs.Spread.{IsSpread, arrival_at, departure_at, part_of};
 
-use crate::rows::StopTimeRow;
+use gtfs_rows::StopTimeRow;
 use std::alloc::{AllocError, Global};
 
 /// The arrival and the departure of each of a trip's rows, in seconds after the start of the service day. The rows

@@ -6,12 +6,12 @@ use Rattle.std.specs.Str.{bytes_eq}
 use Rattle.std.specs.String.{string_bytes}
 use Rattle.std.specs.HashMap.{get_by_text}
 use Rattle.jiff_core.specs.Calendar.{days_from_civil, weekday_number}
-use Rattle.gtfs_tables.specs.Values.{is_civil}
-use Rattle.gtfs_tables.specs.declared.values.Day.{Day}
-use Rattle.gtfs_tables.specs.declared.rows.CalendarRow.{CalendarRow}
-use Rattle.gtfs_tables.specs.declared.rows.CalendarDateRow.{CalendarDateRow}
-use Rattle.gtfs_tables.specs.declared.rows.Exception.{Exception}
-use Rattle.gtfs_tables.specs.declared.rows.Exception.TheVariants.{Added, Removed}
+use Rattle.gtfs_rows.specs.Values.{is_civil}
+use Rattle.gtfs_rows.specs.declared.values.Day.{Day}
+use Rattle.gtfs_rows.specs.declared.rows.CalendarRow.{CalendarRow}
+use Rattle.gtfs_rows.specs.declared.rows.CalendarDateRow.{CalendarDateRow}
+use Rattle.gtfs_rows.specs.declared.rows.Exception.{Exception}
+use Rattle.gtfs_rows.specs.declared.rows.Exception.TheVariants.{Added, Removed}
 use Rattle.service_days.specs.declared.services.Services.{Services}
 use Rattle.service_days.specs.declared.services.Week.{Week}
 use Rattle.service_days.specs.declared.services.DayException.{DayException}

@@ -1,8 +1,8 @@
 -- Time zones, and the start of a day in one.
 use Rattle.std.specs.Prelude.{◌≡◌, ◌⊎◌, ℤ, pos, ◌+ℤ◌, List, ℕ, Ok, true, false}
 use Rattle.std.specs.Result.{is_ok}
-use Rattle.gtfs_tables.specs.Values.{is_civil}
-use Rattle.gtfs_tables.specs.declared.values.Day.{Day}
+use Rattle.gtfs_rows.specs.Values.{is_civil}
+use Rattle.gtfs_rows.specs.declared.values.Day.{Day}
 use Rattle.jiff.specs.Placed.{IsPosixZone}
 use Rattle.jiff.specs.Types.{AmbiguousOffset, Date, DateTime}
 use Rattle.jiff.specs.Words.{IsHms, IsTimestampNanos, IsYmd, ambiguous_at, compatible_offset, instant_of, nanos_of_seconds, plain_zone}

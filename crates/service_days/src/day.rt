@@ -1,12 +1,12 @@
 // The start of a day.
 
 ghost use Rattle.std.specs.Prelude.{◌≡◌, IfSome, IfNone, IfOk, IfErr, false, true};
-ghost use Rattle.gtfs_tables.specs.Values.{is_civil};
+ghost use Rattle.gtfs_rows.specs.Values.{is_civil};
 ghost use Rattle.service_days.specs.Zones.{HasNoStart, IsDate, IsDayStart};
 
 use crate::fault::DayFault;
 use crate::zone::Zone;
-use gtfs_tables::Day;
+use gtfs_rows::Day;
 use jiff::civil::Date;
 
 /// The instant at which a day starts in a zone, in seconds after 1970-01-01T00:00:00Z: 43,200 seconds before the instant

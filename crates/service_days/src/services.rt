@@ -4,12 +4,12 @@ ghost use Rattle.std.specs.Prelude.{◌≡◌, ◌<◌, ℕ, List, [], IfOk};
 ghost use Rattle.std.specs.List.{list_any};
 ghost use Rattle.std.specs.Option.{option_map_or};
 ghost use Rattle.std.specs.HashMap.{get_by_text};
-ghost use Rattle.gtfs_tables.specs.declared.rows.CalendarRow.{CalendarRow};
-ghost use Rattle.gtfs_tables.specs.declared.rows.CalendarDateRow.{CalendarDateRow};
+ghost use Rattle.gtfs_rows.specs.declared.rows.CalendarRow.{CalendarRow};
+ghost use Rattle.gtfs_rows.specs.declared.rows.CalendarDateRow.{CalendarDateRow};
 ghost use Rattle.service_days.specs.Services.{HoldsServices, adds, exceptions_in, is_active, is_not_after, is_same_day, removes, runs_in, weeks_in};
 
 use crate::day::civil_date;
-use gtfs_tables::{CalendarDateRow, CalendarRow, Day, Exception};
+use gtfs_rows::{CalendarDateRow, CalendarRow, Day, Exception};
 use indexmap::IndexMap;
 use std::alloc::{AllocError, Global};
 

@@ -4,7 +4,7 @@ use crate::day::day_start;
 use crate::fault::DayFault;
 use crate::services::{Services, active};
 use crate::zone::Zone;
-use gtfs_tables::{CalendarDateRow, CalendarRow, Day, Exception};
+use gtfs_rows::{CalendarDateRow, CalendarRow, Day, Exception};
 use std::alloc::Global;
 use std::test::Fail;
 

@@ -1,0 +1,92 @@
+-- Facts on cells and columns.
+use Rattle.std.proofs.Common.{◌≡◌, ◌≢◌, ◌+◌, ◌<◌, ◌≤◌, ◌==◌, ◌&&◌, ◌∷◌, ◌++◌, ℕ, zero, suc, List, [], length, drop, Option, Some, None, Bool, true, false, refl, ap, arith, slice_index_or, unwrap_or, map, Bor}
+use Rattle.std.specs.List.{position_from}
+use Rattle.std.specs.Str.{IsCharBoundary, IsUtf8, bytes_eq}
+use Rattle.std.proofs.lemmas.Str.{IsCharBoundary-after_ascii, IsUtf8-drop, IsUtf8-nil, IsUtf8-take}
+use Rattle.std.proofs.lemmas.Bool.{eqb-true, ne_eqb, false≢true}
+use Rattle.csv.specs.Records.{AllText, field_at}
+use Rattle.gtfs_rows.specs.Source.{AllRecordsText, Record}
+use Rattle.gtfs_rows.specs.Cells.{cell, column, kept_len, places_of, trim_front, trim_spaces}
+
+-- a space at the end is not kept
+pub kept-space : (xs : List ℕ) → kept_len (xs ++ 32 ∷ []) ≡ kept_len xs
+kept-space [] = refl
+kept-space (x ∷ xs) = rw (kept-space xs) refl
+
+-- another byte at the end is
+pub kept-other : (xs : List ℕ) (b : ℕ) → b ≢ 32 → kept_len (xs ++ b ∷ []) ≡ length xs + 1
+kept-other [] b n = rw (ne_eqb b 32 n) refl
+kept-other (x ∷ xs) b n =
+    let more : ((length xs + 1) == 0) ≡ false = ne_eqb (length xs + 1) 0 (λ e. absurd (omega arith)) in
+    rw (kept-other xs b n, more) (omega arith)
+
+-- a field that is there
+pub field_there : (r : Record) (i : ℕ) → i < length r → (f : List ℕ) × (field_at r i ≡ Some f) × (drop i r ≡ f ∷ drop (i + 1) r)
+unfolding field_at
+field_there [] i h = absurd (omega arith)
+field_there (f ∷ rest) zero h = (f, refl, refl)
+field_there (f ∷ rest) (suc i) h = let (g, is, more) = field_there rest i (omega arith) in let e : suc i + 1 ≡ suc (i + 1) = omega arith in (g, is, rw e more)
+
+and-right : (a b : Bool) → (a && b) ≡ true → b ≡ true
+and-right true b e = e
+and-right false b e = absurd (false≢true e)
+
+-- a text with no space at its start is text
+front_text : (bs : List ℕ) → IsUtf8 bs → IsUtf8 (trim_front bs)
+front_text [] h = h
+front_text (b ∷ rest) h = by (b == 32) refl (front_text rest)
+  where
+    by : (e : Bool) → (b == 32) ≡ e → (IsUtf8 rest → IsUtf8 (trim_front rest)) → IsUtf8 (trim_front (b ∷ rest))
+    by true e go =
+        let space : b ≡ 32 = eqb-true b 32 e in
+        let boundary : IsCharBoundary (b ∷ rest) (0 + 1) = IsCharBoundary-after_ascii (b ∷ rest) 0 h (omega arith) (rw space (omega arith)) in
+        rw e (go (IsUtf8-drop (b ∷ rest) (0 + 1) h boundary))
+    by false e go = rw e h
+
+-- what is kept ends before a space
+kept_end : (bs : List ℕ) → (kept_len bs ≤ length bs) × (kept_len bs < length bs → slice_index_or bs (kept_len bs) 0 ≡ 32)
+kept_end [] = (omega arith, λ h. absurd (omega arith))
+kept_end (b ∷ rest) = by ((kept_len rest == 0) && (b == 32)) refl (kept_end rest)
+  where
+    by : (e : Bool) → ((kept_len rest == 0) && (b == 32)) ≡ e → ((kept_len rest ≤ length rest) × (kept_len rest < length rest → slice_index_or rest (kept_len rest) 0 ≡ 32))
+        → (kept_len (b ∷ rest) ≤ length (b ∷ rest)) × (kept_len (b ∷ rest) < length (b ∷ rest) → slice_index_or (b ∷ rest) (kept_len (b ∷ rest)) 0 ≡ 32)
+    by true e go = rw e (omega arith, λ h. eqb-true b 32 (and-right (kept_len rest == 0) (b == 32) e))
+    by false e go =
+        let k : kept_len rest + 1 ≡ suc (kept_len rest) = omega arith in
+        rw (e, k) (omega arith, λ h. go.1 (omega arith))
+
+-- a text with no space at either end is text
+trim_text : (bs : List ℕ) → IsUtf8 bs → IsUtf8 (trim_spaces bs)
+trim_text bs h =
+    let front = front_text bs h in
+    let (within, at) = kept_end (trim_front bs) in
+    IsUtf8-take (trim_front bs) (kept_len (trim_front bs)) front (within, λ less high. absurd (let space : slice_index_or (trim_front bs) (kept_len (trim_front bs)) 0 ≡ 32 = at less in omega arith))
+
+-- a field of a record of text is text
+field_text : (r : Record) (i : ℕ) → AllText r → IsUtf8 (unwrap_or (field_at r i) [])
+unfolding AllText field_at
+field_text [] i h = IsUtf8-nil
+field_text (f ∷ rest) zero h = h.0
+field_text (f ∷ rest) (suc i) h = field_text rest i h.1
+
+-- a record of text has text in each cell
+pub cell_text : (place : Option ℕ) (r : Record) → AllText r → IsUtf8 (cell place r)
+cell_text None r h = IsUtf8-nil
+cell_text (Some i) r h = trim_text (unwrap_or (field_at r i) []) (field_text r i h)
+
+pub text_rest : (all rest : List Record) (r : Record) → all ≡ r ∷ rest → AllRecordsText all → AllRecordsText rest
+text_rest all rest r e h = let t : AllRecordsText (r ∷ rest) = rw e at h in t.1
+
+-- a column from a place on
+pub column-here : (name : List ℕ) (header : Record) (i : ℕ) (f : List ℕ) → drop i header ≡ f ∷ drop (i + 1) header → bytes_eq name (trim_spaces f) ≡ true
+    → position_from (λ field. bytes_eq name (trim_spaces field)) i (drop i header) ≡ Some i
+column-here name header i f e h = rw (e, h) refl
+
+pub column-later : (name : List ℕ) (header : Record) (i : ℕ) (f : List ℕ) → drop i header ≡ f ∷ drop (i + 1) header → bytes_eq name (trim_spaces f) ≡ false
+    → position_from (λ field. bytes_eq name (trim_spaces field)) i (drop i header) ≡ position_from (λ field. bytes_eq name (trim_spaces field)) (i + 1) (drop (i + 1) header)
+column-later name header i f e h = rw (e, h) refl
+
+-- the columns of lent names
+pub places_names : (names : List (Bor (List ℕ))) (header : Record) → map (λ name. column name.now header) names ≡ places_of (map (λ name. name.now) names) header
+places_names [] header = refl
+places_names (n ∷ names) header = ap (λ places. column n.now header ∷ places) (places_names names header)

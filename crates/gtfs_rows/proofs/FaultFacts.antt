@@ -1,0 +1,58 @@
+-- Records taken one at a time.
+use Rattle.std.proofs.Common.{◌≡◌, ◌+◌, ◌<◌, ◌≤◌, ◌∷◌, ◌++◌, ℕ, zero, suc, List, [], length, take, drop, get_or, Some, None, true, refl, ap, arith}
+use Rattle.std.specs.Str.{IsUtf8}
+use borrow.Author.Count.{below_more}
+use Rattle.gtfs_rows.specs.Source.{Record, table_records}
+use Rattle.gtfs_rows.specs.Cells.{Places, has_required, places_of}
+use Rattle.gtfs_rows.specs.Faults.{HoldsFile, HoldsRecords, IsFaultOf, IsFirstFault, Judge, Shape, fault_at, length_first}
+use Rattle.gtfs_rows.specs.declared.fault.FaultKind.{FaultKind}
+
+-- what is left begins with the element at the place
+pub opened : {A : Type 0} (d : A) (n : ℕ) (all rest : List A) (r : A) → drop n all ≡ r ∷ rest
+    → (n < length all) × (get_or all n d ≡ r) × (drop (n + 1) all ≡ rest) × (take (n + 1) all ≡ take n all ++ r ∷ [])
+opened d zero [] rest r e = cc
+opened d (suc n) [] rest r e = cc
+opened d zero (x ∷ xs) rest r e = let h : x ≡ r = cc in let t : xs ≡ rest = cc in (omega arith, h, t, ap (λ y. y ∷ []) h)
+opened d (suc n) (x ∷ xs) rest r e =
+    let (less, here, after, more) = opened d n xs rest r e in
+    let s : suc n + 1 ≡ suc (n + 1) = omega arith in
+    (omega arith, here, rw s after, rw s (ap (λ ys. x ∷ ys) more))
+
+-- nothing is left
+pub closed : {A : Type 0} (n : ℕ) (all : List A) → drop n all ≡ [] → (length all ≤ n) × (take n all ≡ all)
+closed zero [] e = (omega arith, refl)
+closed (suc n) [] e = (omega arith, refl)
+closed zero (x ∷ xs) e = cc
+closed (suc n) (x ∷ xs) e = let (short, whole) = closed n xs e in (omega arith, ap (λ ys. x ∷ ys) whole)
+
+-- one record more without a fault
+pub faultless_more : (judge : Judge) (all rest : List Record) (n : ℕ) (r : Record) → drop n all ≡ r ∷ rest → judge (take n all) r ≡ None
+    → ((j : ℕ) → j < n → fault_at judge all j ≡ None) → (j : ℕ) → j < n + 1 → fault_at judge all j ≡ None
+faultless_more judge all rest n r e good earlier =
+    let here : get_or all n [] ≡ r = (opened [] n all rest r e).1 in
+    below_more (λ j. fault_at judge all j ≡ None) n earlier (rw here good)
+
+-- the first record at fault
+pub first_fault : (judge : Judge) (all rest : List Record) (n : ℕ) (r : Record) (kind : FaultKind) → drop n all ≡ r ∷ rest → judge (take n all) r ≡ Some kind
+    → ((j : ℕ) → j < n → fault_at judge all j ≡ None) → IsFirstFault judge all n kind
+first_fault judge all rest n r kind e bad earlier =
+    let here : get_or all n [] ≡ r = (opened [] n all rest r e).1 in
+    record { within = (opened [] n all rest r e).0; here = rw here bad; first = earlier }
+
+-- the first fault among the records is that of the file
+pub fault_under : (s : Shape) (bytes : List ℕ) (header : Record) (records : List Record) (places : Places) (width : ℕ)
+    → places ≡ places_of s.names header → width ≡ length header → IsUtf8 bytes → table_records bytes ≡ header ∷ records → has_required s.required places ≡ true
+    → (n : ℕ) (kind : FaultKind) → ((k : ℕ) × (n ≡ k + 1) × IsFirstFault (length_first width (s.judge places)) records k kind) → IsFaultOf s bytes n kind
+fault_under s bytes header records places width is wide text e there n kind f =
+    let all = rw is at there in
+    let found = rw (is, wide) at f in
+    (λ _. rw (e, all) found, λ none. absurd (none text))
+
+-- what holds of a file's records
+pub holds_weaker : {T U : Type 0} (s : Shape) (bytes : List ℕ) (holds : Places → List Record → T → Type 0) (other : Places → List Record → U → Type 0) (t : T) (u : U)
+    → ((places : Places) (records : List Record) → holds places records t → other places records u) → HoldsFile s holds bytes t → HoldsFile s other bytes u
+holds_weaker s bytes holds other t u go h = (h.0, by (table_records bytes) h.1)
+  where
+    by : (records : List Record) → HoldsRecords s holds records t → HoldsRecords s other records u
+    by [] h = h
+    by (header ∷ records) h = (h.0, h.1, go (places_of s.names header) records h.2)

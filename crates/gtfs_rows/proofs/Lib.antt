@@ -1,0 +1,6 @@
+pub mod CellFacts
+pub mod FaultFacts
+pub mod KeyFacts
+pub mod SourceFacts
+pub mod TextFacts
+pub mod ValueFacts

@@ -1,0 +1,7 @@
+use Rattle.std.proofs.Common.{◌≡◌, drop}
+use Rattle.csv.specs.Records.{fields_of}
+use Rattle.gtfs_rows.specs.Cells.{column, column_from}
+use Rattle.gtfs_rows.proofs.cells.column.Given as goal
+
+abbrev pub invariant-loop-place : goal.invariant-loop-place
+invariant-loop-place l = column l.name (fields_of l.header) ≡ column_from l.name l.place (drop l.place (fields_of l.header))

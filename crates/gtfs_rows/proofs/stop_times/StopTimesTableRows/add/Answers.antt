@@ -1,0 +1,48 @@
+use Rattle.std.proofs.Common.{◌≡◌, true, None, Some, ℕ, map, refl, rules, slice_index_or, string_bytes}
+use Rattle.std.specs.Result.{is_ok}
+use Rattle.csv.specs.Records.{fields_of}
+use Rattle.gtfs_rows.specs.Cells.{Places}
+use Rattle.gtfs_rows.specs.Rows.{SpellsStopTime, stop_time_fault, time_fault, value}
+use Rattle.gtfs_rows.specs.Source.{Record}
+use Rattle.gtfs_rows.specs.Values.{number_of}
+use Rattle.gtfs_rows.specs.declared.rows.StopTimeRow.{StopTimeRow}
+use Rattle.gtfs_rows.proofs.CellFacts.{cell_text}
+use Rattle.gtfs_rows.proofs.KeyFacts.{all_zip_more, spells_more}
+use Rattle.gtfs_rows.proofs.stop_times.StopTimesTableRows.add.Goals as goal
+
+no_stop_time_fault : (places : Places) (r : Record) (n : ℕ) → time_fault (value places 1 r) ≡ None → time_fault (value places 2 r) ≡ None → number_of (value places 4 r) ≡ Some n → stop_time_fault places r ≡ None
+no_stop_time_fault places r n a d s = rw (a, d, s) refl
+
+pub place_of-requires : goal.place_of-requires
+place_of-requires c = rw c.cell.ensures (cell_text (slice_index_or c.args.places.now 0 None) (fields_of c.args.fields.now) c.requires.text)
+
+pub stop_place-requires : goal.stop_place-requires
+stop_place-requires c = rw c.cell-2.ensures (cell_text (slice_index_or c.args.places.now 3 None) (fields_of c.args.fields.now) c.requires.text)
+
+pub returns-clause-ok : goal.returns-clause-ok
+returns-clause-ok c = λ before held.
+    let good : is_ok c.push.result ≡ true = search rules in
+    let items = rw good at c.push.ensures.items in
+    let row : StopTimeRow = record {
+      trip = c.in_ok-trip.trip;
+      arrival = c.in_ok-arrival.arrival;
+      departure = c.in_ok-departure.departure;
+      stop = c.in_ok-stop.stop;
+      sequence = c.in_ok-sequence.sequence;
+      board = c.available.result;
+      alight = c.available-2.result;
+    } in
+    let spelled : SpellsStopTime (map string_bytes c.place_of.new.ids.keys) (map string_bytes c.stop_place.new.stops.keys) c.args.places.now (fields_of c.args.fields.now) row = record {
+      trip = rw c.cell.ensures at c.in_ok-trip.ensures.ok;
+      arrival = c.in_ok-arrival.ensures.ok;
+      departure = c.in_ok-departure.ensures.ok;
+      stop = rw c.cell-2.ensures at c.in_ok-stop.ensures.ok;
+      sequence = c.in_ok-sequence.ensures.ok;
+      board = rw c.cell-3.ensures at c.available.ensures;
+      alight = rw c.cell-4.ensures at c.available-2.ensures;
+    } in (
+      no_stop_time_fault c.args.places.now (fields_of c.args.fields.now) c.in_ok-sequence.sequence c.in_ok-arrival.ensures.fine c.in_ok-departure.ensures.fine c.in_ok-sequence.ensures.ok,
+      rw items (all_zip_more (SpellsStopTime (map string_bytes c.place_of.new.ids.keys) (map string_bytes c.stop_place.new.stops.keys) c.args.places.now) before c.args.self.now.rows.items (fields_of c.args.fields.now) row
+          (spells_more c.args.self.now.trips.keys c.args.self.now.stops.keys c.place_of.new.ids.keys c.stop_place.new.stops.keys c.args.places.now before c.args.self.now.rows.items c.in_ok-trip.ensures.more c.in_ok-stop.ensures.more held)
+          spelled),
+    )

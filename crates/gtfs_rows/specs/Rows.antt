@@ -1,0 +1,195 @@
+-- What the records of each file spell, and what can be wrong with their values.
+use Rattle.std.specs.Prelude.{◌≡◌, ◌≢◌, ◌==◌, ◌&&◌, not, if◌then◌else◌, ℕ, List, [], ◌∷◌, ◌++◌, length, map, slice_index_or, option_map, Option, Some, None, Bool, true, false}
+use Rattle.std.specs.List.{slice_get}
+use Rattle.std.specs.Str.{bytes_eq}
+use Rattle.std.specs.String.{string_bytes}
+use Rattle.gtfs_rows.specs.Source.{Record}
+use Rattle.gtfs_rows.specs.Cells.{Places, cell}
+use Rattle.gtfs_rows.specs.Faults.{Judge, fault_if, fault_unless, or_fault}
+use Rattle.gtfs_rows.specs.Values.{day_of, number_of, time_of}
+use Rattle.gtfs_rows.specs.declared.fault.FaultKind.{FaultKind}
+use Rattle.gtfs_rows.specs.declared.fault.FaultKind.TheVariants as kinds
+use Rattle.gtfs_rows.specs.declared.rows.AgencyRow.{AgencyRow}
+use Rattle.gtfs_rows.specs.declared.rows.CalendarDateRow.{CalendarDateRow}
+use Rattle.gtfs_rows.specs.declared.rows.CalendarRow.{CalendarRow}
+use Rattle.gtfs_rows.specs.declared.rows.Exception.{Exception}
+use Rattle.gtfs_rows.specs.declared.rows.Exception.TheVariants as exceptions
+use Rattle.gtfs_rows.specs.declared.rows.FrequencyRow.{FrequencyRow}
+use Rattle.gtfs_rows.specs.declared.rows.Location.{Location}
+use Rattle.gtfs_rows.specs.declared.rows.Location.TheVariants as locations
+use Rattle.gtfs_rows.specs.declared.rows.StopRow.{StopRow}
+use Rattle.gtfs_rows.specs.declared.rows.StopTimeRow.{StopTimeRow}
+use Rattle.gtfs_rows.specs.declared.rows.TransferKind.{TransferKind}
+use Rattle.gtfs_rows.specs.declared.rows.TransferKind.TheVariants as transfers
+use Rattle.gtfs_rows.specs.declared.rows.TransferRow.{TransferRow}
+use Rattle.gtfs_rows.specs.declared.rows.TripRow.{TripRow}
+
+-- what a record has in the k-th of a table's columns
+abbrev pub value : Places → ℕ → Record → List ℕ
+value places k r = cell (slice_index_or places k None) r
+
+-- a table whose values are always fine, and one without a key
+abbrev pub no_fault : Places → Record → Option FaultKind
+no_fault places r = None
+
+abbrev pub no_key : Places → Record → Option (List ℕ)
+no_key places r = None
+
+-- ---- agency.txt: the time zone, which all records share
+
+pub record SpellsAgency (places : Places) (r : Record) (row : AgencyRow) : Type 0 where
+  pub zone : string_bytes row.zone ≡ value places 0 r
+
+abbrev pub judge_agency : Places → Judge
+judge_agency places [] r = None
+judge_agency places (first ∷ rest) r = fault_if (not (bytes_eq (value places 0 first) (value places 0 r))) kinds.ZonesDiffer
+
+-- the zone is that of the first of the rows, if there is one
+abbrev pub is_first_zone : List AgencyRow → List ℕ → Bool
+is_first_zone [] zone = true
+is_first_zone (row ∷ rest) zone = bytes_eq (string_bytes row.zone) zone
+
+-- ---- stops.txt: id, location_type, parent_station
+
+-- a blank location_type, and one that isn't allowed, is that of a stop
+abbrev pub location_of : Option ℕ → Location
+location_of None = locations.Stop
+location_of (Some n) = if n == 1 then locations.Station else (if n == 2 then locations.Entrance else (if n == 3 then locations.Node else (if n == 4 then locations.BoardingArea else locations.Stop)))
+
+pub record SpellsStop (places : Places) (r : Record) (row : StopRow) : Type 0 where
+  pub id : string_bytes row.id ≡ value places 0 r
+  pub location : row.location ≡ location_of (number_of (value places 1 r))
+  pub parent : string_bytes row.parent ≡ value places 2 r
+
+abbrev pub stop_key : Places → Record → Option (List ℕ)
+stop_key places r = Some (value places 0 r)
+
+-- ---- trips.txt: service_id, trip_id
+
+pub record SpellsTrip (places : Places) (r : Record) (row : TripRow) : Type 0 where
+  pub service : string_bytes row.service ≡ value places 0 r
+  pub id : string_bytes row.id ≡ value places 1 r
+
+abbrev pub trip_key : Places → Record → Option (List ℕ)
+trip_key places r = Some (value places 1 r)
+
+-- ---- stop_times.txt: trip_id, arrival_time, departure_time, stop_id, stop_sequence, pickup_type, drop_off_type
+
+-- a time that may be blank
+abbrev pub given_time : List ℕ → Option ℕ
+given_time [] = None
+given_time (b ∷ rest) = time_of (b ∷ rest)
+
+abbrev pub time_fault : List ℕ → Option FaultKind
+time_fault [] = None
+time_fault (b ∷ rest) = fault_unless (time_of (b ∷ rest)) kinds.BadTime
+
+abbrev pub stop_time_fault : Places → Record → Option FaultKind
+stop_time_fault places r =
+    or_fault (time_fault (value places 1 r)) (or_fault (time_fault (value places 2 r)) (fault_unless (number_of (value places 4 r)) kinds.BadNumber))
+
+-- boarding, or alighting, isn't available where the type is 1
+abbrev pub is_available : Option ℕ → Bool
+is_available None = true
+is_available (Some n) = not (n == 1)
+
+-- the text stands at the place
+abbrev pub StandsAt : List (List ℕ) → ℕ → List ℕ → Type 0
+StandsAt texts k text = slice_get texts k ≡ Some text
+
+-- a stop_id, which is none where it is blank
+abbrev pub IsStopId : List (List ℕ) → Option ℕ → List ℕ → Type 0
+IsStopId stops None text = text ≡ []
+IsStopId stops (Some k) text = (text ≢ []) × StandsAt stops k text
+
+-- a row names its trip and its stop by their places among the ids
+pub record SpellsStopTime (trips stops : List (List ℕ)) (places : Places) (r : Record) (row : StopTimeRow) : Type 0 where
+  pub trip : StandsAt trips row.trip (value places 0 r)
+  pub arrival : row.arrival ≡ given_time (value places 1 r)
+  pub departure : row.departure ≡ given_time (value places 2 r)
+  pub stop : IsStopId stops row.stop (value places 3 r)
+  pub sequence : number_of (value places 4 r) ≡ Some row.sequence
+  pub board : row.board ≡ is_available (number_of (value places 5 r))
+  pub alight : row.alight ≡ is_available (number_of (value places 6 r))
+
+-- ---- calendar.txt: service_id, monday to sunday, start_date, end_date
+
+abbrev pub flag_of : Option ℕ → Option Bool
+flag_of None = None
+flag_of (Some n) = if n == 0 then Some false else (if n == 1 then Some true else None)
+
+-- all the values, where each is there
+abbrev pub all_some : {X : Type 0} → List (Option X) → Option (List X)
+all_some [] = Some []
+all_some (None ∷ rest) = None
+all_some (Some x ∷ rest) = option_map (λ xs. x ∷ xs) (all_some rest)
+
+-- the weekdays from the k-th column on
+abbrev pub weekday : Places → Record → ℕ → Option Bool
+weekday places r k = flag_of (number_of (value places k r))
+
+abbrev pub weekdays_of : Places → Record → Option (List Bool)
+weekdays_of places r = all_some (map (weekday places r) (1 ∷ 2 ∷ 3 ∷ 4 ∷ 5 ∷ 6 ∷ 7 ∷ []))
+
+abbrev pub calendar_fault : Places → Record → Option FaultKind
+calendar_fault places r =
+    or_fault (fault_unless (weekdays_of places r) kinds.BadNumber)
+    (or_fault (fault_unless (day_of (value places 8 r)) kinds.BadDate) (fault_unless (day_of (value places 9 r)) kinds.BadDate))
+
+pub record SpellsCalendar (places : Places) (r : Record) (row : CalendarRow) : Type 0 where
+  pub service : string_bytes row.service ≡ value places 0 r
+  pub weekdays : weekdays_of places r ≡ Some row.weekdays
+  pub start : day_of (value places 8 r) ≡ Some row.start
+  pub end : day_of (value places 9 r) ≡ Some row.end
+
+abbrev pub service_key : Places → Record → Option (List ℕ)
+service_key places r = Some (value places 0 r)
+
+-- ---- calendar_dates.txt: service_id, date, exception_type
+
+abbrev pub exception_of : Option ℕ → Option Exception
+exception_of None = None
+exception_of (Some n) = if n == 1 then Some exceptions.Added else (if n == 2 then Some exceptions.Removed else None)
+
+abbrev pub calendar_date_fault : Places → Record → Option FaultKind
+calendar_date_fault places r =
+    or_fault (fault_unless (day_of (value places 1 r)) kinds.BadDate) (fault_unless (exception_of (number_of (value places 2 r))) kinds.BadNumber)
+
+pub record SpellsCalendarDate (places : Places) (r : Record) (row : CalendarDateRow) : Type 0 where
+  pub service : string_bytes row.service ≡ value places 0 r
+  pub day : day_of (value places 1 r) ≡ Some row.day
+  pub exception : exception_of (number_of (value places 2 r)) ≡ Some row.exception
+
+-- the service_id with the date, whose eight digits end the key, so that no two pairs have one key
+abbrev pub service_day_key : Places → Record → Option (List ℕ)
+service_day_key places r = Some (value places 0 r ++ value places 1 r)
+
+-- ---- transfers.txt: from_stop_id, to_stop_id, transfer_type, min_transfer_time, and the routes and trips
+
+abbrev pub is_blank : List ℕ → Bool
+is_blank text = length text == 0
+
+-- a blank transfer_type is 0, and one that isn't 0 to 3 is skipped
+abbrev pub transfer_by : Option ℕ → TransferKind
+transfer_by None = transfers.Skipped
+transfer_by (Some n) = if n == 0 then transfers.Recommended else (if n == 1 then transfers.Timed else (if n == 2 then transfers.Minimum else (if n == 3 then transfers.Impossible else transfers.Skipped)))
+
+abbrev pub typed_transfer : List ℕ → TransferKind
+typed_transfer text = if is_blank text then transfers.Recommended else transfer_by (number_of text)
+
+-- a transfer between routes or trips is skipped
+abbrev pub transfer_of : Places → Record → TransferKind
+transfer_of places r =
+    if is_blank (value places 4 r) && is_blank (value places 5 r) && is_blank (value places 6 r) && is_blank (value places 7 r)
+    then typed_transfer (value places 2 r) else transfers.Skipped
+
+pub record SpellsTransfer (places : Places) (r : Record) (row : TransferRow) : Type 0 where
+  pub from : string_bytes row.from ≡ value places 0 r
+  pub to : string_bytes row.to ≡ value places 1 r
+  pub kind : row.kind ≡ transfer_of places r
+  pub seconds : row.seconds ≡ number_of (value places 3 r)
+
+-- ---- frequencies.txt: trip_id
+
+pub record SpellsFrequency (places : Places) (r : Record) (row : FrequencyRow) : Type 0 where
+  pub trip : string_bytes row.trip ≡ value places 0 r

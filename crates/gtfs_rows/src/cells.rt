@@ -1,0 +1,114 @@
+// The columns of a table and what a record has in them.
+
+ghost use Rattle.std.specs.Prelude.{◌≡◌, ◌≤◌, length, map, IfOk, IsUtf8, true, false};
+ghost use Rattle.std.specs.String.{string_bytes};
+ghost use Rattle.csv.specs.Records.{AllText, fields_of};
+ghost use Rattle.gtfs_rows.specs.Cells.{cell as cell_of, column as column_of, has_required as are_there, places_of, trim_front, trim_spaces};
+
+use csv::ByteRecord;
+use std::alloc::{AllocError, Global};
+
+// The text without the spaces at its ends.
+fn trim(text: &[u8]) -> &[u8]
+    ensures { result.now ≡ trim_spaces text.entry.now }
+{
+    let front = trim_start(text);
+    let mut kept = front.len();
+    while kept > 0 && front[kept - 1] == b' ' {
+        kept -= 1;
+    }
+    &front[..kept]
+}
+
+// The text without the spaces at its start.
+fn trim_start(text: &[u8]) -> &[u8]
+    ensures { result.now ≡ trim_front text.entry.now }
+{
+    let mut rest = text;
+    while let [b' ', more @ ..] = rest {
+        rest = more;
+    }
+    rest
+}
+
+// What a record has in a column, blank where the column is absent.
+pub(crate) fn cell<'a>(fields: &'a ByteRecord, place: Option<usize>) -> &'a [u8]
+    ensures { result.now ≡ cell_of place (fields_of fields.entry.now) }
+{
+    let Some(place) = place else {
+        return &[];
+    };
+    match fields.get(place) {
+        Some(field) => trim(field),
+        None => &[],
+    }
+}
+
+// The first column of a name.
+fn column(header: &ByteRecord, name: &[u8]) -> Option<usize>
+    ensures { result ≡ column_of name.now (fields_of header.now) }
+{
+    for place in 0..header.len() {
+        if name == cell(header, Some(place)) {
+            return Some(place);
+        }
+    }
+    None
+}
+
+// Where the header has each column.
+pub(crate) fn places(
+    alloc: Global,
+    header: &ByteRecord,
+    names: &[&str],
+) -> Result<Vec<Option<usize>>, AllocError>
+    ensures { IfOk result (λ v. v.items ≡ places_of (map (λ name. name.now) names.now) (fields_of header.now)) }
+{
+    let mut places = Vec::with_capacity(alloc, names.len())?;
+    for name in names {
+        places.push(column(header, name.as_bytes()))?;
+    }
+    Ok(places)
+}
+
+// Whether the required columns, which are the first ones, are all there.
+pub(crate) fn has_required(places: &[Option<usize>], required: usize) -> bool
+    requires { required ≤ length places.now }
+    ensures { result ≡ are_there required places.now }
+{
+    places[..required].iter().all(|place| place.is_some())
+}
+
+// Whether the bytes are UTF-8.
+pub(crate) fn is_text(bytes: &[u8]) -> bool
+    ensures yes { result ≡ true → IsUtf8 bytes.now }
+    ensures no { result ≡ false → ¬ (IsUtf8 bytes.now) }
+{
+    match str::from_utf8(bytes) {
+        Ok(_) => true,
+        Err(_) => false,
+    }
+}
+
+// A text that is known to be UTF-8.
+pub(crate) fn text_of(alloc: Global, bytes: &[u8]) -> Result<String, AllocError>
+    requires { IsUtf8 bytes.now }
+    ensures { IfOk result (λ s. string_bytes s ≡ bytes.now) }
+{
+    match str::from_utf8(bytes) {
+        Ok(text) => String::from_str(alloc, text),
+        Err(_) => unreachable!(),
+    }
+}
+
+// What a record has in a column, as a text of its own.
+pub(crate) fn text_in(
+    alloc: Global,
+    fields: &ByteRecord,
+    place: Option<usize>,
+) -> Result<String, AllocError>
+    requires { AllText (fields_of fields.now) }
+    ensures { IfOk result (λ s. string_bytes s ≡ cell_of place (fields_of fields.now)) }
+{
+    text_of(alloc, cell(fields, place))
+}

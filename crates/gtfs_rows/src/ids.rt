@@ -1,0 +1,84 @@
+// Sets of ids, in the order in which they were first seen.
+
+ghost use Rattle.std.specs.Prelude.{◌≡◌, ◌≢◌, ◌++◌, ◌∷◌, [], map, option_map, true, false, IfErr, IfOk, IfSome, IsUtf8, OnOk};
+ghost use Rattle.std.specs.String.{string_bytes};
+ghost use Rattle.std.specs.Option.{option_to_list};
+ghost use Rattle.gtfs_rows.specs.Faults.{is_among};
+ghost use Rattle.gtfs_rows.specs.Ids.{Extends};
+ghost use Rattle.gtfs_rows.specs.Rows.{StandsAt};
+
+use crate::fault::FaultKind;
+use indexmap::IndexSet;
+use std::alloc::Global;
+
+// Adds a key, if there is one, that isn't there yet.
+pub(crate) fn add_key(keys: &mut IndexSet<String>, key: Option<String>) -> Result<(), FaultKind>
+    ensures new { OnOk result (is_among (option_map string_bytes key) (map string_bytes keys.old.keys) ≡ false) }
+    ensures last { OnOk result (map string_bytes keys.new.keys ≡ map string_bytes keys.old.keys ++ option_to_list (option_map string_bytes key)) }
+    ensures err { IfErr result (λ kind. kind ≢ FaultKind.OutOfMemory
+        → (kind ≡ FaultKind.IdTwice) × (is_among (option_map string_bytes key) (map string_bytes keys.old.keys) ≡ true)) }
+{
+    let Some(key) = key else {
+        return Ok(());
+    };
+    let Ok((_, added)) = keys.insert_full(key) else {
+        return Err(FaultKind::OutOfMemory);
+    };
+    if added {
+        Ok(())
+    } else {
+        Err(FaultKind::IdTwice)
+    }
+}
+
+// The place of an id, which is added where it isn't there yet.
+pub(crate) fn place_of(
+    alloc: Global,
+    ids: &mut IndexSet<String>,
+    id: &[u8],
+) -> Result<u32, FaultKind>
+    requires { IsUtf8 id.now }
+    ensures more { OnOk result (Extends ids.old.keys ids.new.keys) }
+    ensures ok { IfOk result (λ place. StandsAt (map string_bytes ids.new.keys) place id.now) }
+    ensures err { IfErr result (λ kind. kind ≡ FaultKind.OutOfMemory) }
+{
+    let Ok(text) = str::from_utf8(id) else {
+        unreachable!();
+    };
+    if let Some(place) = find_id(ids, text) {
+        return as_place(place);
+    }
+    let Ok(owned) = String::from_str(alloc, text) else {
+        return Err(FaultKind::OutOfMemory);
+    };
+    let place = add_id(ids, owned)?;
+    as_place(place)
+}
+
+// The place of an id, if it is there.
+fn find_id(ids: &IndexSet<String>, id: &str) -> Option<usize>
+    ensures { IfSome result (λ place. StandsAt (map string_bytes ids.now.keys) place id.now) }
+{
+    let (place, _) = ids.get_full(id)?;
+    Some(place)
+}
+
+// The place of an id, which goes last where it isn't there yet.
+fn add_id(ids: &mut IndexSet<String>, id: String) -> Result<usize, FaultKind>
+    ensures more { OnOk result (Extends ids.old.keys ids.new.keys) }
+    ensures ok { IfOk result (λ place. StandsAt (map string_bytes ids.new.keys) place (string_bytes id)) }
+    ensures err { IfErr result (λ kind. kind ≡ FaultKind.OutOfMemory) }
+{
+    let Ok((place, _)) = ids.insert_full(id) else {
+        return Err(FaultKind::OutOfMemory);
+    };
+    Ok(place)
+}
+
+// A place as a row keeps it: more ids than 32 bits can tell are as good as want of memory.
+fn as_place(place: usize) -> Result<u32, FaultKind>
+    ensures ok { IfOk result (λ n. n ≡ place) }
+    ensures err { IfErr result (λ kind. kind ≡ FaultKind.OutOfMemory) }
+{
+    u32::try_from(place).map_err(|_| FaultKind::OutOfMemory)
+}

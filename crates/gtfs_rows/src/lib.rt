@@ -1,0 +1,34 @@
+//! The rows of each file of a GTFS feed, or the first thing that is wrong with it.
+//!
+//! The files and their columns are those of the GTFS Schedule Reference.
+#![tactic(auto)]
+
+mod agencies;
+mod cells;
+mod changes;
+pub mod fault;
+mod ids;
+mod keyed;
+pub mod read;
+mod reader;
+pub mod rows;
+mod services;
+mod source;
+mod stop_times;
+mod stops;
+pub mod values;
+
+pub use fault::{FaultKind, Table, TableFault};
+pub use read::{
+    MAX_STOPS, MAX_TRIPS, read_agency, read_calendar, read_calendar_dates, read_frequencies,
+    read_stop_times, read_stops, read_transfers, read_trips,
+};
+pub use rows::{
+    AgencyRow, CalendarDateRow, CalendarRow, Exception, FrequencyRow, Location, StopRow,
+    StopTimeRow, TransferKind, TransferRow, TripRow,
+};
+pub use stop_times::StopTimes;
+pub use values::{DateFault, Day, Time, TimeFault};
+
+#[cfg(test)]
+mod tests;

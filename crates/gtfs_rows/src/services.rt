@@ -1,0 +1,142 @@
+// calendar.txt and calendar_dates.txt.
+
+ghost use Rattle.std.specs.Prelude.{◌≡◌, ◌+◌, ◌<◌, length, None, Some, IfOk, IfErr};
+ghost use Rattle.csv.specs.Records.{fields_of};
+ghost use Rattle.gtfs_rows.specs.Cells.{cell as cell_of};
+ghost use Rattle.gtfs_rows.specs.Faults.{fault_unless};
+ghost use Rattle.gtfs_rows.specs.Rows.{SpellsCalendar, SpellsCalendarDate, calendar_date_fault, calendar_fault, exception_of, flag_of, service_day_key, service_key, weekday as weekday_of, weekdays_of};
+ghost use Rattle.gtfs_rows.specs.Values.{day_of, number_of};
+
+use crate::cells::{cell, text_in};
+use crate::fault::FaultKind;
+use crate::keyed::Row;
+use crate::rows::{CalendarDateRow, CalendarRow, Exception};
+use crate::values::{Day, number};
+use csv::ByteRecord;
+use std::alloc::{AllocError, Global};
+
+// The date in a column.
+fn day_in(fields: &ByteRecord, place: Option<usize>) -> Result<Day, FaultKind>
+    ensures ok { IfOk result (λ d. day_of (cell_of place (fields_of fields.now)) ≡ Some d) }
+    ensures err { IfErr result (λ kind. fault_unless (day_of (cell_of place (fields_of fields.now))) FaultKind.BadDate ≡ Some kind) }
+{
+    Day::parse(cell(fields, place)).map_err(|_| FaultKind::BadDate)
+}
+
+// Whether a service runs on the weekday of a column.
+fn weekday(fields: &ByteRecord, places: &[Option<usize>], column: usize) -> Option<bool>
+    requires { column < length places.now }
+    ensures { result ≡ weekday_of places.now (fields_of fields.now) column }
+{
+    match number(cell(fields, places[column]))? {
+        0 => Some(false),
+        1 => Some(true),
+        _ => None,
+    }
+}
+
+// The weekdays, Monday first.
+fn weekdays(fields: &ByteRecord, places: &[Option<usize>]) -> Option<[bool; 7]>
+    requires { 7 < length places.now }
+    ensures { result ≡ weekdays_of places.now (fields_of fields.now) }
+{
+    Some([
+        weekday(fields, places, 1)?,
+        weekday(fields, places, 2)?,
+        weekday(fields, places, 3)?,
+        weekday(fields, places, 4)?,
+        weekday(fields, places, 5)?,
+        weekday(fields, places, 6)?,
+        weekday(fields, places, 7)?,
+    ])
+}
+
+// What an exception_type says.
+fn exception(text: &[u8]) -> Option<Exception>
+    ensures { result ≡ exception_of (number_of text.now) }
+{
+    match number(text)? {
+        1 => Some(Exception::Added),
+        2 => Some(Exception::Removed),
+        _ => None,
+    }
+}
+
+impl Row for CalendarRow {
+    ghost columns = { 10 };
+
+    ghost values = { calendar_fault };
+
+    ghost key = { service_key };
+
+    ghost spells = { SpellsCalendar };
+
+    fn read(
+        alloc: Global,
+        places: &[Option<usize>],
+        fields: &ByteRecord,
+    ) -> Result<CalendarRow, FaultKind> {
+        let Some(weekdays) = weekdays(fields, places) else {
+            return Err(FaultKind::BadNumber);
+        };
+        let start = day_in(fields, places[8])?;
+        let end = day_in(fields, places[9])?;
+        let Ok(service) = text_in(alloc, fields, places[0]) else {
+            return Err(FaultKind::OutOfMemory);
+        };
+        Ok(CalendarRow {
+            service,
+            weekdays,
+            start,
+            end,
+        })
+    }
+
+    fn key_of(
+        alloc: Global,
+        places: &[Option<usize>],
+        fields: &ByteRecord,
+    ) -> Result<Option<String>, AllocError> {
+        Ok(Some(text_in(alloc, fields, places[0])?))
+    }
+}
+
+impl Row for CalendarDateRow {
+    ghost columns = { 3 };
+
+    ghost values = { calendar_date_fault };
+
+    ghost key = { service_day_key };
+
+    ghost spells = { SpellsCalendarDate };
+
+    fn read(
+        alloc: Global,
+        places: &[Option<usize>],
+        fields: &ByteRecord,
+    ) -> Result<CalendarDateRow, FaultKind> {
+        let day = day_in(fields, places[1])?;
+        let Some(exception) = exception(cell(fields, places[2])) else {
+            return Err(FaultKind::BadNumber);
+        };
+        let Ok(service) = text_in(alloc, fields, places[0]) else {
+            return Err(FaultKind::OutOfMemory);
+        };
+        Ok(CalendarDateRow {
+            service,
+            day,
+            exception,
+        })
+    }
+
+    fn key_of(
+        alloc: Global,
+        places: &[Option<usize>],
+        fields: &ByteRecord,
+    ) -> Result<Option<String>, AllocError> {
+        let mut key = text_in(alloc, fields, places[0])?;
+        let date = text_in(alloc, fields, places[1])?;
+        key.push_str(date.as_str())?;
+        Ok(Some(key))
+    }
+}

@@ -1,0 +1,274 @@
+// Times, dates and numbers as tables write them.
+
+ghost use Rattle.std.specs.Prelude.{◌≡◌, ◌==◌, ◌+◌, ◌*◌, ◌<◌, ◌≤◌, ℕ, true, length, drop, IfSome};
+ghost use Rattle.std.specs.Result.{result_ok};
+ghost use Rattle.std.specs.Char.{is_ascii_digit};
+ghost use Rattle.std.specs.List.{AllPass, list_all, prefix_len};
+ghost use Rattle.gtfs_rows.specs.Values.{clock_of, day_of, decimal_of, digit_of, is_zero_fraction, number_of, time_of, two_digits_of, checked_day};
+
+use jiff::civil::Date;
+
+/// The times of a table, in seconds after the start of the service day.
+pub struct Time;
+
+/// The text is no time.
+#[derive(Clone, Copy, Debug, PartialEq, Eq)]
+pub struct TimeFault;
+
+impl Time {
+    /// The seconds of a text `H:MM:SS` or `HH:MM:SS`, which may pass 24:00:00.
+    pub fn parse(text: &[u8]) -> Result<u32, TimeFault>
+        ensures { result_ok result ≡ time_of text.now }
+    {
+        let seconds = match text {
+            [h, c, m, n, d, s, t] => clock(
+                digit(*h),
+                *c,
+                two_digits(*m, *n),
+                *d,
+                two_digits(*s, *t),
+            ),
+            [g, h, c, m, n, d, s, t] => clock(
+                two_digits(*g, *h),
+                *c,
+                two_digits(*m, *n),
+                *d,
+                two_digits(*s, *t),
+            ),
+            _ => None,
+        };
+        seconds.ok_or(TimeFault)
+    }
+}
+
+// The seconds of hours, minutes and seconds with a colon after the hours and one after the minutes.
+fn clock(
+    hours: Option<u32>,
+    colon: u8,
+    minutes: Option<u32>,
+    second_colon: u8,
+    seconds: Option<u32>,
+) -> Option<u32>
+    requires { IfSome hours (λ h. h < 100) }
+    ensures { result ≡ clock_of hours colon minutes second_colon seconds }
+{
+    let hours = hours?;
+    let minutes = minutes?;
+    let seconds = seconds?;
+    if colon == b':' && second_colon == b':' && minutes <= 59 && seconds <= 59 {
+        Some(hours * 3600 + minutes * 60 + seconds)
+    } else {
+        None
+    }
+}
+
+// The number of a decimal digit.
+fn digit(byte: u8) -> Option<u32>
+    ensures value { result ≡ digit_of byte }
+    ensures small { IfSome result (λ d. d < 10) }
+{
+    if byte.is_ascii_digit() {
+        Some((byte - b'0') as u32)
+    } else {
+        None
+    }
+}
+
+// The number of two decimal digits.
+fn two_digits(tens: u8, units: u8) -> Option<u32>
+    ensures value { result ≡ two_digits_of tens units }
+    ensures small { IfSome result (λ d. d < 100) }
+{
+    let tens = digit(tens)?;
+    let units = digit(units)?;
+    Some(tens * 10 + units)
+}
+
+/// A civil date.
+#[derive(Clone, Copy, Debug, PartialEq, Eq, PartialOrd, Ord)]
+pub struct Day {
+    pub year: u16,
+    pub month: u8,
+    pub day: u8,
+}
+
+/// The text is no date.
+#[derive(Clone, Copy, Debug, PartialEq, Eq)]
+pub struct DateFault;
+
+impl Day {
+    /// The date of a text `YYYYMMDD`, a civil date of the years 1 to 9999.
+    pub fn parse(text: &[u8]) -> Result<Day, DateFault>
+        ensures { result_ok result ≡ day_of text.now }
+    {
+        spelled_day(text).ok_or(DateFault)
+    }
+}
+
+fn spelled_day(text: &[u8]) -> Option<Day>
+    ensures { result ≡ day_of text.now }
+{
+    let [a, b, c, d, e, f, g, h] = text else {
+        return None;
+    };
+    let century = two_digits(*a, *b)?;
+    let of_century = two_digits(*c, *d)?;
+    let month = two_digits(*e, *f)?;
+    let day = two_digits(*g, *h)?;
+    civil(Day {
+        year: (century * 100 + of_century) as u16,
+        month: month as u8,
+        day: day as u8,
+    })
+}
+
+// The date, if the calendar has it.
+fn civil(day: Day) -> Option<Day>
+    requires { (day.year < 10000) × (day.month < 100) × (day.day < 100) }
+    ensures { result ≡ checked_day day }
+{
+    if day.year > 0 && Date::new(day.year as i16, day.month as i8, day.day as i8).is_ok() {
+        Some(day)
+    } else {
+        None
+    }
+}
+
+/// The number of a text: one to nine decimal digits, after which a point and one or more zeros may follow.
+pub(crate) fn number(text: &[u8]) -> Option<u32>
+    ensures { result ≡ number_of text.now }
+{
+    let digits = leading_digits(text);
+    if 0 < digits && digits <= 9 && zero_fraction(&text[digits..]) {
+        Some(decimal(&text[..digits]))
+    } else {
+        None
+    }
+}
+
+// How many decimal digits a text begins with.
+fn leading_digits(text: &[u8]) -> usize
+    ensures count { result ≡ prefix_len is_ascii_digit text.now }
+    ensures within { result ≤ length text.now }
+{
+    for (i, byte) in text.iter().enumerate() {
+        if !byte.is_ascii_digit() {
+            return i;
+        }
+    }
+    text.len()
+}
+
+// Whether a text is empty, or a point and one or more zeros.
+fn zero_fraction(text: &[u8]) -> bool
+    ensures { result ≡ is_zero_fraction text.now }
+{
+    match text {
+        [] => true,
+        [point, zeros @ ..] => *point == b'.' && 0 < zeros.len() && all_zeros(zeros),
+    }
+}
+
+fn all_zeros(text: &[u8]) -> bool
+    ensures { result ≡ list_all (λ b. b == 48) text.now }
+{
+    text.iter().all(|b| *b == b'0')
+}
+
+// The number that up to nine decimal digits spell.
+fn decimal(digits: &[u8]) -> u32
+    requires few { length digits.now ≤ 9 }
+    requires digits { AllPass is_ascii_digit digits.now }
+    ensures { result ≡ decimal_of digits.now }
+{
+    let mut number = 0;
+    for byte in digits {
+        number = number * 10 + (*byte - b'0') as u32;
+    }
+    number
+}
+
+#[cfg(test)]
+mod tests {
+    use super::*;
+
+    #[test]
+    fn times(rt: HostRuntime) {
+        let good: [(&[u8], u32); 5] = [
+            (b"8:05:09", 29_109),
+            (b"0:00:00", 0),
+            (b"24:00:00", 86_400),
+            (b"99:59:59", 359_999),
+            (b"08:59:59", 32_399),
+        ];
+        for (text, seconds) in good {
+            assert!(rt; Time::parse(text) == Ok(seconds));
+        }
+        let bad: [&[u8]; 8] = [
+            b"100:00:00",
+            b"08:60:00",
+            b"08:00:60",
+            b"8:5:9",
+            b"",
+            b"08.00.00",
+            b"+8:00:00",
+            b"08:00:00 ",
+        ];
+        for text in bad {
+            assert!(rt; Time::parse(text) == Err(TimeFault));
+        }
+    }
+
+    #[test]
+    fn dates(rt: HostRuntime) {
+        let good: [(&[u8], u16, u8, u8); 4] = [
+            (b"20240229", 2024, 2, 29),
+            (b"00010101", 1, 1, 1),
+            (b"99991231", 9999, 12, 31),
+            (b"20000229", 2000, 2, 29),
+        ];
+        for (text, year, month, day) in good {
+            assert!(rt; Day::parse(text) == Ok(Day { year, month, day }));
+        }
+        let bad: [&[u8]; 7] = [
+            b"20240230",
+            b"00000101",
+            b"19000229",
+            b"20241301",
+            b"20240100",
+            b"2024011",
+            b"2024-1-1",
+        ];
+        for text in bad {
+            assert!(rt; Day::parse(text) == Err(DateFault));
+        }
+    }
+
+    #[test]
+    fn numbers(rt: HostRuntime) {
+        let good: [(&[u8], u32); 5] = [
+            (b"0", 0),
+            (b"007", 7),
+            (b"7.000", 7),
+            (b"999999999", 999_999_999),
+            (b"0.0", 0),
+        ];
+        for (text, value) in good {
+            assert!(rt; number(text) == Some(value));
+        }
+        let bad: [&[u8]; 9] = [
+            b"",
+            b".0",
+            b"7.",
+            b"2.5",
+            b"7.01",
+            b"1234567890",
+            b"-1",
+            b"+1",
+            b"1e3",
+        ];
+        for text in bad {
+            assert!(rt; number(text) == None);
+        }
+    }
+}

@@ -1,7 +1,0 @@
-use Rattle.std.proofs.Common.{◌≡◌, drop}
-use Rattle.csv.specs.Records.{fields_of}
-use Rattle.gtfs_tables.specs.Cells.{column, column_from}
-use Rattle.gtfs_tables.proofs.cells.column.Given as goal
-
-abbrev pub invariant-loop-place : goal.invariant-loop-place
-invariant-loop-place l = column l.name (fields_of l.header) ≡ column_from l.name l.place (drop l.place (fields_of l.header))

@@ -1,9 +1,0 @@
-use Rattle.std.proofs.Common.{◌≡◌, length}
-use Rattle.gtfs_tables.specs.Cells.{trim_front}
-use Rattle.gtfs_tables.proofs.cells.trim_start.Given as goal
-
-abbrev pub invariant-loop-rest : goal.invariant-loop-rest
-invariant-loop-rest l = trim_front l.rest ≡ trim_front l.fn.text
-
-abbrev pub decreases-loop-rest : goal.decreases-loop-rest
-decreases-loop-rest l = length l.rest

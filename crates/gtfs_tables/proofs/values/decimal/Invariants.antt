@@ -1,9 +1,0 @@
-use Rattle.std.proofs.Common.{◌≡◌, ◌<◌, ◌^◌, take}
-use Rattle.gtfs_tables.specs.Values.{decimal_of}
-use Rattle.gtfs_tables.proofs.values.decimal.Given as goal
-
-abbrev pub invariant-loop-byte : goal.invariant-loop-byte
-invariant-loop-byte l = record {
-  value : l.number ≡ decimal_of (take l.byte-index l.digits);
-  small : l.number < 10 ^ l.byte-index;
-}
