@@ -4,4 +4,5 @@ pub mod Ids
 pub mod Rows
 pub mod Source
 pub mod Tables
+pub mod Told
 pub mod Values

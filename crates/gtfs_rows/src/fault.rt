@@ -1,6 +1,7 @@
 // What can be wrong with a feed.
 
 ghost use Rattle.std.specs.Prelude.{◌≡◌};
+ghost use Rattle.gtfs_rows.specs.Told.{fault_name, fault_number, file_name as name_of_file};
 
 use thiserror::Error;
 
@@ -73,7 +74,75 @@ pub struct TableFault {
     pub kind: FaultKind,
 }
 
+impl FaultKind {
+    /// The number by which the kind is told, from 1 to 17 in the order of the enum.
+    pub fn number(self) -> u32
+        ensures { result ≡ fault_number self }
+    {
+        match self {
+            FaultKind::MissingFile => 1,
+            FaultKind::MissingColumn => 2,
+            FaultKind::BadUtf8 => 3,
+            FaultKind::RowLength => 4,
+            FaultKind::BadTime => 5,
+            FaultKind::BadDate => 6,
+            FaultKind::BadNumber => 7,
+            FaultKind::IdTwice => 8,
+            FaultKind::UnknownId => 9,
+            FaultKind::ZonesDiffer => 10,
+            FaultKind::SequenceTwice => 11,
+            FaultKind::EndWithoutTime => 12,
+            FaultKind::TimeGoesBack => 13,
+            FaultKind::HopWithoutDuration => 14,
+            FaultKind::NotAStop => 15,
+            FaultKind::TooMany => 16,
+            FaultKind::OutOfMemory => 17,
+        }
+    }
+
+    /// The name by which the kind is told, as `MissingFile`.
+    pub fn name(self) -> &'static str
+        ensures { result.now ≡ fault_name self }
+    {
+        match self {
+            FaultKind::MissingFile => "MissingFile",
+            FaultKind::MissingColumn => "MissingColumn",
+            FaultKind::BadUtf8 => "BadUtf8",
+            FaultKind::RowLength => "RowLength",
+            FaultKind::BadTime => "BadTime",
+            FaultKind::BadDate => "BadDate",
+            FaultKind::BadNumber => "BadNumber",
+            FaultKind::IdTwice => "IdTwice",
+            FaultKind::UnknownId => "UnknownId",
+            FaultKind::ZonesDiffer => "ZonesDiffer",
+            FaultKind::SequenceTwice => "SequenceTwice",
+            FaultKind::EndWithoutTime => "EndWithoutTime",
+            FaultKind::TimeGoesBack => "TimeGoesBack",
+            FaultKind::HopWithoutDuration => "HopWithoutDuration",
+            FaultKind::NotAStop => "NotAStop",
+            FaultKind::TooMany => "TooMany",
+            FaultKind::OutOfMemory => "OutOfMemory",
+        }
+    }
+}
+
 impl Table {
+    /// The name of the table's file, as `agency.txt`.
+    pub fn file_name(self) -> &'static str
+        ensures { result.now ≡ name_of_file self }
+    {
+        match self {
+            Table::Agency => "agency.txt",
+            Table::Stops => "stops.txt",
+            Table::Trips => "trips.txt",
+            Table::StopTimes => "stop_times.txt",
+            Table::Calendar => "calendar.txt",
+            Table::CalendarDates => "calendar_dates.txt",
+            Table::Transfers => "transfers.txt",
+            Table::Frequencies => "frequencies.txt",
+        }
+    }
+
     // The fault of a record of this table.
     pub(crate) fn fault(self, row: u64, kind: FaultKind) -> TableFault
         ensures table { result.table ≡ self }
