@@ -1,0 +1,70 @@
+//! What a scan asks of its source.
+
+ghost use Rattle.std.specs.Prelude.{◌≡◌, ◌↔◌, ◌<◌, ◌≤◌, ◌++◌, ◌∷◌, [], ℕ, List, length};
+ghost use Rattle.timetable.specs.TimetableValue.{TimetableValue};
+ghost use Rattle.timetable.specs.Legal.{At, IsLegal};
+ghost use Rattle.timetable.specs.Limits.{IsWithinLimits};
+ghost use Rattle.timetable.specs.Journeys.{connection_at};
+ghost use Rattle.timetable.specs.declared.network.Footpath.{Footpath};
+ghost use Rattle.sources.specs.FirstAt.{IsFirstAt};
+
+use timetable::{Connection, Footpath};
+
+/// Where a scan gets its connections and footpaths from.
+///
+/// It stands for a legal timetable within the limits, and keeps a log of the connections asked for, which contracts alone see.
+/// None of its calls takes memory.
+pub trait ConnSource {
+    // the timetable that it stands for
+    ghost timetable: { Self → TimetableValue };
+
+    // the places that were asked of `connection`, the oldest first
+    ghost log: { Self → List ℕ };
+
+    /// How many stops there are.
+    fn stops(&self) -> u32
+        ensures { result ≡ (timetable self.now).stops };
+
+    /// How many trips there are.
+    fn trips(&self) -> u32
+        ensures { result ≡ (timetable self.now).trips };
+
+    /// How many connections there are.
+    fn len(&self) -> usize
+        ensures { result ≡ length (timetable self.now).connections };
+
+    /// The connection at a place. The log grows by the place.
+    fn connection(&mut self, i: usize) -> Connection
+        requires { i < length (timetable self.old).connections }
+        ensures there { At (timetable self.old).connections i result }
+        ensures connection { result ≡ connection_at (timetable self.old) i }
+        ensures log { log self.new ≡ log self.old ++ i ∷ [] }
+        ensures same { timetable self.new ≡ timetable self.old };
+
+    /// The least place whose connection departs at the time or later, else the number of connections.
+    fn first_at(&self, time: u32) -> usize
+        ensures { IsFirstAt (timetable self.now) time result };
+
+    /// The places of the footpaths into a stop: from the first up to before the second.
+    fn walks_into(&self, stop: usize) -> (usize, usize)
+        requires { stop < (timetable self.now).stops }
+        ensures order { result.0 ≤ result.1 }
+        ensures within { result.1 ≤ length (timetable self.now).footpaths }
+        ensures exact { (k : ℕ) (f : Footpath) → At (timetable self.now).footpaths k f → (f.to ≡ stop) ↔ ((result.0 ≤ k) × (k < result.1)) };
+
+    /// The footpath at a place. Its stop may be searched for: see `footpath_into`.
+    fn footpath(&self, place: usize) -> Footpath
+        requires { place < length (timetable self.now).footpaths }
+        ensures { At (timetable self.now).footpaths place result };
+
+    /// The footpath at a place among those into a stop, as `walks_into` tells them: nothing is searched.
+    fn footpath_into(&self, stop: usize, place: usize) -> Footpath
+        requires stop { stop < (timetable self.now).stops }
+        requires place { place < length (timetable self.now).footpaths }
+        requires into { (f : Footpath) → At (timetable self.now).footpaths place f → f.to ≡ stop }
+        ensures { At (timetable self.now).footpaths place result };
+
+    ghost legal: { (source : Self) → IsLegal (timetable source) };
+
+    ghost limits: { (source : Self) → IsWithinLimits (timetable source) };
+}
