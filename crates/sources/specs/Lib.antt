@@ -1,1 +1,3 @@
 pub mod FirstAt
+pub mod FewReads
+pub mod FootStarts

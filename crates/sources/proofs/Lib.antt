@@ -1,0 +1,3 @@
+pub mod ImageReads
+pub mod SearchLemmas
+pub mod StartLemmas

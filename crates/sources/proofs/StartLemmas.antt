@@ -1,0 +1,136 @@
+-- Where the footpaths into each stop start.
+use Rattle.std.proofs.Common.{◌≡◌, ◌↔◌, ℕ, zero, suc, ◌+◌, ◌<◌, ◌≤◌, List, [], ◌∷◌, ◌++◌, length, take, get_or, Some, slice_get, refl, sym, ap, subst, ◌∙◌, arith, inl, inr}
+use Rattle.std.specs.Prelude.{slice_index}
+use Rattle.std.proofs.lemmas.Bool.{cases_lt, cases_eq, cases_order}
+use Rattle.std.proofs.lemmas.List.{take_all, get_or_append_left, get_or-append_right}
+use Rattle.std.proofs.Math.Seq.{get_or-append_seam, take-suc}
+use Rattle.std.proofs.lemmas.Option.{slice_get-get_or, get_or_from_slice_get}
+use Rattle.std.specs.List.Sorted.{IsNonDecreasingBy}
+use Rattle.timetable.specs.declared.network.Connection.{Connection}
+use Rattle.timetable.specs.declared.network.Footpath.{Footpath}
+use Rattle.timetable.specs.TimetableValue.{TimetableValue}
+use Rattle.timetable.specs.Legal.{At, IsLegal}
+use Rattle.timetable.specs.LegalProp.{in_order_later}
+use Rattle.timetable.specs.Journeys.{connection_at}
+use Rattle.timetable.proofs.LegalFacts.{connection_at-stands, departures_rise}
+use Rattle.sources.specs.FootStarts.{IsStart, AreStarts, HoldsBelow}
+
+no_path : Footpath
+no_path = record { from = 0; to = 0; secs = 0 }
+
+-- a footpath stands at each place
+stands : (paths : List Footpath) (k : ℕ) → k < length paths → At paths k (get_or paths k no_path)
+stands paths k lt = slice_get-get_or paths k no_path lt
+
+-- the places from the first up to before the end are those of the footpaths into a stop
+pub record AreInto (t : TimetableValue) (stop first end : ℕ) : Type 0 where
+  pub within : end ≤ length t.footpaths
+  pub exact : (k : ℕ) (f : Footpath) → At t.footpaths k f → (f.to ≡ stop) ↔ ((first ≤ k) × (k < end))
+
+-- the next ones start at that end
+pub start_next : (t : TimetableValue) (stop first end : ℕ) → IsLegal t → stop < t.stops → AreInto t stop first end → IsStart t (stop + 1) end
+start_next t stop first end legal lt into =
+    let loop = legal.loops stop lt in
+    let place = loop.1.0 in
+    let at_place = loop.1.1 in
+    let f : Footpath = record { from = stop; to = stop; secs = loop.0 } in
+    let among = (into.exact place f at_place).0 refl in
+    record {
+      within = into.within;
+      exact = λ k g at. (
+        λ below. elim (cases_order g.to stop) [
+          | inl same ↦ ((into.exact k g at).0 same).1
+          | inr (inl less) ↦ elim (cases_lt k end) [
+            | inl before ↦ before
+            | inr past ↦
+                let later = in_order_later t.footpaths legal.in_order k place f g (omega (arith, among, past)) at_place at in
+                absurd (omega (arith, later.0, less))
+          ]
+          | inr (inr more) ↦ absurd (omega (arith, more, below))
+        ],
+        λ before. elim (cases_lt k first) [
+          | inl early ↦
+              let later = in_order_later t.footpaths legal.in_order place k g f (omega (arith, among, early)) at at_place in
+              omega (arith, later.0)
+          | inr late ↦
+              let same = (into.exact k g at).1 (late, before) in
+              omega (arith, same)
+        ],
+      );
+    }
+
+-- starts rise from stop to stop
+pub start_order : (t : TimetableValue) (stop first end : ℕ) → IsStart t stop first → IsStart t (stop + 1) end → first ≤ end
+start_order t stop first end at_first at_end =
+    elim (cases_lt end first) [
+      | inl less ↦
+          let at = stands t.footpaths end (omega (arith, less, at_first.within)) in
+          let below = (at_first.exact end (get_or t.footpaths end no_path) at).1 less in
+          let again = (at_end.exact end (get_or t.footpaths end no_path) at).0 (omega (arith, below)) in
+          absurd (omega (arith, again))
+      | inr more ↦ omega (arith, more)
+    ]
+
+-- between two starts stand footpaths into the stop
+pub between_starts : (t : TimetableValue) (stop first end place : ℕ) → IsStart t stop first → IsStart t (stop + 1) end → first ≤ place → place < end → (f : Footpath) → At t.footpaths place f → f.to ≡ stop
+between_starts t stop first end place at_first at_end low high f at =
+    let below = (at_end.exact place f at).1 high in
+    elim (cases_lt f.to stop) [
+      | inl less ↦ absurd (omega (arith, (at_first.exact place f at).0 less, low))
+      | inr more ↦ omega (arith, below, more)
+    ]
+
+pub start_of_first : (t : TimetableValue) → IsStart t 0 0
+start_of_first t = record { within = omega arith; exact = λ k f at. (λ lt. absurd (omega (arith, lt)), λ lt. absurd (omega (arith, lt))) }
+
+pub none_below : (t : TimetableValue) → HoldsBelow t 0 []
+none_below t = record { first = refl; start = start_of_first t }
+
+-- one element more is taken
+pub taken_more : {X : Type 0} (xs : List X) (place : ℕ) (taken : List X) (x : X) → taken ≡ take place xs → place < length xs → At xs place x → taken ++ x ∷ [] ≡ take (place + 1) xs
+taken_more {X} xs place taken x before lt at =
+    let next : suc place ≡ place + 1 = omega arith in
+    let is : get_or xs place x ≡ x = get_or_from_slice_get xs place x x at in
+    ap (λ (ys : List X). ys ++ x ∷ []) before
+    ∙ ap (λ (y : X). take place xs ++ y ∷ []) (sym is)
+    ∙ sym (take-suc xs place x lt)
+    ∙ ap (λ (n : ℕ). take n xs) next
+
+-- those into the stops below all stops are all
+pub all_held : (t : TimetableValue) (paths : List Footpath) → IsLegal t → HoldsBelow t t.stops paths → paths ≡ t.footpaths
+all_held t paths legal holds =
+    let all : length t.footpaths ≤ length paths =
+    (elim (cases_lt (length paths) (length t.footpaths)) [
+      | inl less ↦
+          let at = stands t.footpaths (length paths) less in
+          let end = legal.ends_in_range (length paths) (get_or t.footpaths (length paths) no_path) at in
+          let again = (holds.start.exact (length paths) (get_or t.footpaths (length paths) no_path) at).0 end.1 in
+          absurd (omega (arith, again))
+      | inr more ↦ omega (arith, more)
+    ]) in
+    holds.first ∙ take_all (length paths) t.footpaths all
+
+-- a start for each stop below a stop
+abbrev pub AreStartsBelow : TimetableValue → ℕ → List ℕ → Type 0
+AreStartsBelow t stop places = (s : ℕ) → s < stop → IsStart t s (slice_index places s)
+
+pub starts_more : (t : TimetableValue) (stop place : ℕ) (places : List ℕ) → length places ≡ stop → AreStartsBelow t stop places → IsStart t stop place → AreStartsBelow t (stop + 1) (places ++ place ∷ [])
+starts_more t stop place places long starts next s lt =
+    elim (cases_eq s stop) [
+      | inl same ↦
+          let here : get_or (places ++ place ∷ []) (length places) 0 ≡ place = get_or-append_seam places place [] 0 in
+          let at : get_or (places ++ place ∷ []) s 0 ≡ place = ap (λ (i : ℕ). get_or (places ++ place ∷ []) i 0) (same ∙ sym long) ∙ here in
+          subst (λ (x : ℕ). IsStart t s x) (sym at) (subst (λ (x : ℕ). IsStart t x place) (sym same) next)
+      | inr other ↦
+          let below : s < stop = omega (arith, lt, other) in
+          let at : get_or (places ++ place ∷ []) s 0 ≡ get_or places s 0 = get_or_append_left places (place ∷ []) 0 s (omega (arith, below, long)) in
+          subst (λ (x : ℕ). IsStart t s x) (sym at) (starts s below)
+    ]
+
+-- departures never fall
+pub departures_in_order : (t : TimetableValue) → IsLegal t → IsNonDecreasingBy (λ (c : Connection). c.dep) t.connections
+departures_in_order t legal i j d le lt =
+    let first : get_or t.connections i d ≡ connection_at t i = get_or_from_slice_get t.connections i (connection_at t i) d (connection_at-stands t i (omega (arith, le, lt))) in
+    let second : get_or t.connections j d ≡ connection_at t j = get_or_from_slice_get t.connections j (connection_at t j) d (connection_at-stands t j lt) in
+    let up : (connection_at t i).dep ≤ (connection_at t j).dep = departures_rise t legal j i le lt in
+    omega (arith, up, ap (λ (c : Connection). c.dep) first, ap (λ (c : Connection). c.dep) second)

@@ -1,0 +1,26 @@
+use Rattle.std.proofs.Common.{rules, ◌≡◌, ◌≤◌, ◌<◌, ◌+◌, ◌++◌, ◌∷◌, [], ℕ, List, length, arith, ap, sym, ◌∙◌, subst}
+use Rattle.std.proofs.lemmas.List.{length-append}
+use Rattle.sources.specs.FootStarts.{IsStart, AreStarts, HoldsBelow}
+use Rattle.sources.proofs.StartLemmas.{AreStartsBelow, starts_more, all_held}
+use Rattle.sources.proofs.decoded.decode_footpaths.Goals as goal
+
+pub returns-clause-footpaths : goal.returns-clause-footpaths
+returns-clause-footpaths c =
+    let t = c.args.image.now.timetable in
+    let done : c.loop-stop.stop ≡ t.stops = omega (arith, c.loop-stop-test.false, c.loop-stop.auto, c.stops-stops.ensures.stops) in
+    all_held t c.loop-stop.footpaths.items c.stops-stops.ensures.kept.legal (subst (λ (s : ℕ). HoldsBelow t s c.loop-stop.footpaths.items) done c.loop-stop.invariant.holds)
+
+pub returns-clause-starts : goal.returns-clause-starts
+returns-clause-starts c =
+    let t = c.args.image.now.timetable in
+    let stop = c.loop-stop.stop in
+    let items = c.loop-stop.starts.items in
+    let place = c.len-2.result in
+    let done : stop ≡ t.stops = omega (arith, c.loop-stop-test.false, c.loop-stop.auto, c.stops-stops.ensures.stops) in
+    let start : IsStart t stop place = subst (λ (x : ℕ). IsStart t stop x) (search rules) c.loop-stop.invariant.holds.start in
+    let more = starts_more t stop place items c.loop-stop.invariant.long c.loop-stop.invariant.starts start in
+    let all : AreStarts t (items ++ place ∷ []) = record {
+      each = length-append items (place ∷ []) ∙ ap (λ n. n + 1) (c.loop-stop.invariant.long ∙ done);
+      start = λ s le. more s (omega (arith, le, done));
+    } in
+    subst (λ (places : List ℕ). AreStarts t places) (sym c.in_ok-push-2.ensures.items) all

@@ -1,0 +1,78 @@
+//! An image as a source, read where it is.
+
+ghost use Rattle.std.specs.Prelude.{◌≡◌, []};
+ghost use Rattle.std.proofs.Props.{props};
+ghost use Rattle.timetable.specs.Legal.{IsLegal};
+ghost use Rattle.timetable.specs.LegalProp.{IsLegal-prop};
+ghost use Rattle.timetable.specs.Limits.{IsWithinLimits};
+
+use crate::search::first_at_counted;
+use crate::source::ConnSource;
+use image_verifier::Verified;
+use timetable::{Connection, Footpath, Trace};
+
+/// An image that is read in place: it is borrowed, and nothing of it is copied.
+#[derive(Drop)]
+pub struct InPlace<'a> {
+    image: &'a Verified,
+    log: Trace<usize>,
+    ghost legal: { IsLegal image.now.timetable } by { IsLegal-prop image.now.timetable },
+    ghost limits: { IsWithinLimits image.now.timetable } by { Prim.hlevel props },
+}
+
+impl<'a> InPlace<'a> {
+    /// The image, of which no connection was asked for.
+    pub fn new(image: &'a Verified) -> InPlace<'a>
+        ensures timetable { ⟦<InPlace<'a> as ConnSource>⟧.timetable result ≡ image.now.timetable }
+        ensures log { ⟦<InPlace<'a> as ConnSource>⟧.log result ≡ [] }
+    {
+        image.stops();
+        InPlace {
+            image,
+            log: Trace::new(),
+        }
+    }
+}
+
+impl<'a> ConnSource for InPlace<'a> {
+    ghost timetable = { λ source. source.image.now.timetable };
+
+    ghost log = { λ source. source.log };
+
+    fn stops(&self) -> u32 {
+        self.image.stops()
+    }
+
+    fn trips(&self) -> u32 {
+        self.image.trips()
+    }
+
+    fn len(&self) -> usize {
+        self.image.len()
+    }
+
+    fn connection(&mut self, i: usize) -> Connection {
+        self.log.note(&i);
+        self.image.connection(i)
+    }
+
+    fn first_at(&self, time: u32) -> usize {
+        first_at_counted(self.image, time, &mut Trace::new())
+    }
+
+    fn walks_into(&self, stop: usize) -> (usize, usize) {
+        self.image.walks_into(stop)
+    }
+
+    fn footpath(&self, place: usize) -> Footpath {
+        self.image.footpath(place)
+    }
+
+    fn footpath_into(&self, stop: usize, place: usize) -> Footpath {
+        self.image.footpath_into(stop, place)
+    }
+
+    ghost legal = { λ source. source.legal };
+
+    ghost limits = { λ source. source.limits };
+}
