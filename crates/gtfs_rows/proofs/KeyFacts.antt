@@ -1,20 +1,15 @@
 -- Keys, and one record more.
-use Rattle.std.proofs.Common.{◌≡◌, ◌∷◌, ◌++◌, ◌∙◌, ℕ, zero, suc, List, [], map, not, Option, Some, None, Bool, true, false, refl, sym, ap, append_assoc, append-nil, String, Global, string_bytes, option_map}
+use Rattle.std.proofs.Common.{◌≡◌, ◌∷◌, ◌++◌, ◌∙◌, ℕ, List, [], map, not, Option, Some, None, Bool, true, false, refl, sym, ap, append_assoc, String, Global, string_bytes, option_map}
 use Rattle.std.specs.List.{AllZip, find, list_any, slice_get}
-use Rattle.std.proofs.lemmas.List.{map-append}
 use Rattle.std.proofs.lemmas.Option.{slice_get-map}
 use Rattle.std.proofs.lemmas.Slice.Eq.{bytes_eq-Decides}
-use Rattle.std.specs.String.{string_eq}
-use Rattle.indexmap.specs.IndexSet.{insert_key}
 use Rattle.std.specs.Option.{option_to_list}
 use Rattle.std.specs.Str.{bytes_eq}
 use Rattle.gtfs_rows.specs.Source.{Record}
 use Rattle.gtfs_rows.specs.Faults.{KeysOf, fault_if, is_among, keys_of, values_then_key}
 use Rattle.gtfs_rows.specs.Cells.{Places}
-use Rattle.gtfs_rows.specs.Ids.{Extends}
-use Rattle.gtfs_rows.specs.Rows.{IsStopId, SpellsAgency, SpellsStopTime, StandsAt, is_first_zone, judge_agency, value}
+use Rattle.gtfs_rows.specs.Rows.{SpellsAgency, StandsAt, is_first_zone, judge_agency, value}
 use Rattle.gtfs_rows.specs.declared.rows.AgencyRow.{AgencyRow}
-use Rattle.gtfs_rows.specs.declared.rows.StopTimeRow.{StopTimeRow}
 use Rattle.gtfs_rows.specs.declared.fault.FaultKind.{FaultKind}
 use Rattle.gtfs_rows.specs.declared.fault.FaultKind.TheVariants as kinds
 
@@ -77,22 +72,6 @@ find_passes p (y ∷ ys) x e = by (p y) refl (find_passes p ys x)
     by true h rest = let f : Some y ≡ Some x = rw h at e in let s : y ≡ x = cc in rw (← s) h
     by false h rest = rest (rw h at e)
 
--- ids stay at their places as more follow
-pub stands_more : (texts more : List (List ℕ)) (k : ℕ) (text : List ℕ) → StandsAt texts k text → StandsAt (texts ++ more) k text
-stands_more [] more k text h = cc
-stands_more (t ∷ texts) more zero text h = h
-stands_more (t ∷ texts) more (suc k) text h = stands_more texts more k text h
-
-pub extends_refl : (keys : List (String Global)) → Extends keys keys
-extends_refl keys = ([], sym (append-nil (map string_bytes keys)))
-
-pub extends_insert : (keys new : List (String Global)) (k : String Global) → new ≡ insert_key string_eq keys k → Extends keys new
-extends_insert keys new k e = by (list_any (string_eq k) keys) refl
-  where
-    by : (b : Bool) → list_any (string_eq k) keys ≡ b → Extends keys new
-    by true h = let same : new ≡ keys = e ∙ (rw h refl) in ([], ap (map string_bytes) same ∙ sym (append-nil (map string_bytes keys)))
-    by false h = let last : new ≡ keys ++ k ∷ [] = e ∙ (rw h refl) in (string_bytes k ∷ [], ap (map string_bytes) last ∙ map-append string_bytes keys (k ∷ []))
-
 -- the zones of agencies
 pub zones_judged : (places : Places) (before : List Record) (rows : List AgencyRow) (r : Record) → AllZip (SpellsAgency places) before rows
     → judge_agency places before r ≡ fault_if (not (is_first_zone rows (value places 0 r))) kinds.ZonesDiffer
@@ -100,22 +79,3 @@ zones_judged places [] [] r h = refl
 zones_judged places [] (row ∷ rows) r h = absurd h
 zones_judged places (b ∷ before) [] r h = absurd h
 zones_judged places (b ∷ before) (row ∷ rows) r h = ap (λ (zone : List ℕ). fault_if (not (bytes_eq zone (value places 0 r))) kinds.ZonesDiffer) (sym h.0.zone)
-
--- rows of stop times as more ids follow
-stop_id_more : (stops more : List (List ℕ)) (place : Option ℕ) (text : List ℕ) → IsStopId stops place text → IsStopId (stops ++ more) place text
-stop_id_more stops more None text h = h
-stop_id_more stops more (Some k) text h = (h.0, stands_more stops more k text h.1)
-
-pub spells_more : (trips stops new_trips new_stops : List (String Global)) (places : Places) (records : List Record) (rows : List StopTimeRow)
-    → Extends trips new_trips → Extends stops new_stops
-    → AllZip (SpellsStopTime (map string_bytes trips) (map string_bytes stops) places) records rows
-    → AllZip (SpellsStopTime (map string_bytes new_trips) (map string_bytes new_stops) places) records rows
-spells_more trips stops new_trips new_stops places [] [] t s h = h
-spells_more trips stops new_trips new_stops places [] (row ∷ rows) t s h = absurd h
-spells_more trips stops new_trips new_stops places (r ∷ records) [] t s h = absurd h
-spells_more trips stops new_trips new_stops places (r ∷ records) (row ∷ rows) t s h =
-    let trip : StandsAt (map string_bytes new_trips) row.trip (value places 0 r) = rw t.1 (stands_more (map string_bytes trips) t.0 row.trip (value places 0 r) h.0.trip) in
-    let stop : IsStopId (map string_bytes new_stops) row.stop (value places 3 r) = rw s.1 (stop_id_more (map string_bytes stops) s.0 row.stop (value places 3 r) h.0.stop) in (
-      record { trip = trip; arrival = h.0.arrival; departure = h.0.departure; stop = stop; sequence = h.0.sequence; board = h.0.board; alight = h.0.alight },
-      spells_more trips stops new_trips new_stops places records rows t s h.1,
-    )

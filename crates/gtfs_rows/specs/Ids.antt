@@ -1,8 +1,23 @@
 -- Ids in the order in which they were first seen.
-use Rattle.std.specs.Prelude.{◌≡◌, ◌++◌, List, map, ℕ, String}
-use Rattle.std.specs.String.{string_bytes}
-use Rattle.std.specs.declared.alloc.Global.{Global}
+use Rattle.std.specs.Prelude.{◌∷◌, ◌++◌, [], if◌then◌else◌, List, Bool, true, false, not, ℕ, filter}
+use Rattle.std.specs.List.{list_any}
+use Rattle.std.specs.Str.{bytes_eq}
 
--- the ids stay at their places, and more may follow
-abbrev pub Extends : List (String Global) → List (String Global) → Type 0
-Extends old new = (more : List (List ℕ)) × (map string_bytes new ≡ map string_bytes old ++ more)
+-- the different texts, in the order in which each is first seen
+abbrev pub first_seen : List (List ℕ) → List (List ℕ)
+first_seen [] = []
+first_seen (text ∷ rest) = text ∷ filter (λ other. not (bytes_eq text other)) (first_seen rest)
+
+-- the texts and one text more, which goes last unless it is among them
+abbrev pub seen_also : List (List ℕ) → List ℕ → List (List ℕ)
+seen_also texts text = if list_any (bytes_eq text) texts then texts else texts ++ text ∷ []
+
+-- the text isn't blank
+abbrev pub is_given : List ℕ → Bool
+is_given [] = false
+is_given (b ∷ rest) = true
+
+-- the texts and one text more unless it is blank
+abbrev pub given_also : List (List ℕ) → List ℕ → List (List ℕ)
+given_also texts [] = texts
+given_also texts (b ∷ rest) = seen_also texts (b ∷ rest)

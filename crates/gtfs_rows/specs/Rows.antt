@@ -1,11 +1,12 @@
 -- What the records of each file spell, and what can be wrong with their values.
-use Rattle.std.specs.Prelude.{◌≡◌, ◌≢◌, ◌==◌, ◌&&◌, not, if◌then◌else◌, ℕ, List, [], ◌∷◌, ◌++◌, length, map, slice_index_or, option_map, Option, Some, None, Bool, true, false}
-use Rattle.std.specs.List.{slice_get}
+use Rattle.std.specs.Prelude.{◌≡◌, ◌≢◌, ◌==◌, ◌&&◌, not, if◌then◌else◌, ℕ, List, [], ◌∷◌, ◌++◌, filter, length, map, slice_index_or, option_map, Option, Some, None, Bool, true, false}
+use Rattle.std.specs.List.{AllZip, slice_get}
 use Rattle.std.specs.Str.{bytes_eq}
 use Rattle.std.specs.String.{string_bytes}
 use Rattle.gtfs_rows.specs.Source.{Record}
 use Rattle.gtfs_rows.specs.Cells.{Places, cell}
 use Rattle.gtfs_rows.specs.Faults.{Judge, fault_if, fault_unless, or_fault}
+use Rattle.gtfs_rows.specs.Ids.{first_seen, is_given}
 use Rattle.gtfs_rows.specs.Values.{day_of, number_of, time_of}
 use Rattle.gtfs_rows.specs.declared.fault.FaultKind.{FaultKind}
 use Rattle.gtfs_rows.specs.declared.fault.FaultKind.TheVariants as kinds
@@ -23,6 +24,7 @@ use Rattle.gtfs_rows.specs.declared.rows.TransferKind.{TransferKind}
 use Rattle.gtfs_rows.specs.declared.rows.TransferKind.TheVariants as transfers
 use Rattle.gtfs_rows.specs.declared.rows.TransferRow.{TransferRow}
 use Rattle.gtfs_rows.specs.declared.rows.TripRow.{TripRow}
+use Rattle.gtfs_rows.specs.declared.stop_times.StopTimes.{StopTimes}
 
 -- what a record has in the k-th of a table's columns
 abbrev pub value : Places → ℕ → Record → List ℕ
@@ -111,6 +113,20 @@ pub record SpellsStopTime (trips stops : List (List ℕ)) (places : Places) (r :
   pub sequence : number_of (value places 4 r) ≡ Some row.sequence
   pub board : row.board ≡ is_available (number_of (value places 5 r))
   pub alight : row.alight ≡ is_available (number_of (value places 6 r))
+
+-- the trip_ids of records, and those of their stop_ids that aren't blank
+abbrev pub trip_ids : Places → List Record → List (List ℕ)
+trip_ids places records = map (value places 0) records
+
+abbrev pub stop_ids : Places → List Record → List (List ℕ)
+stop_ids places records = filter is_given (map (value places 3) records)
+
+-- the rows spell the records, and the ids are those that the records name: each once, in the order in which they are
+-- first seen
+pub record AreStopTimes (places : Places) (records : List Record) (t : StopTimes) : Type 0 where
+  pub trips : map string_bytes t.trips.keys ≡ first_seen (trip_ids places records)
+  pub stops : map string_bytes t.stops.keys ≡ first_seen (stop_ids places records)
+  pub rows : AllZip (SpellsStopTime (map string_bytes t.trips.keys) (map string_bytes t.stops.keys) places) records t.rows.items
 
 -- ---- calendar.txt: service_id, monday to sunday, start_date, end_date
 

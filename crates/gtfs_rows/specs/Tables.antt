@@ -1,9 +1,7 @@
 -- The eight files of a feed, each with its columns, and what their bytes hold.
-use Rattle.std.specs.Prelude.{◌≡◌, ◌<◌, ◌⊎◌, List, [], ◌∷◌, ℕ, Bool, true, false, codes, length, map, count_by}
-use Rattle.std.specs.List.{AllZip}
-use Rattle.std.specs.String.{string_bytes}
+use Rattle.std.specs.Prelude.{◌≡◌, ◌<◌, ◌⊎◌, List, [], ◌∷◌, ℕ, Bool, true, false, codes, length, count_by}
 use Rattle.gtfs_rows.specs.Faults.{HoldsFile, HoldsRows, IsFaultOf, Shape, values_then_key}
-use Rattle.gtfs_rows.specs.Rows.{SpellsAgency, SpellsCalendar, SpellsCalendarDate, SpellsFrequency, SpellsStop, SpellsStopTime, SpellsTransfer, SpellsTrip, calendar_date_fault, calendar_fault, judge_agency, no_fault, no_key, service_day_key, no_key, service_key, stop_key, stop_time_fault, trip_key}
+use Rattle.gtfs_rows.specs.Rows.{AreStopTimes, SpellsAgency, SpellsCalendar, SpellsCalendarDate, SpellsFrequency, SpellsStop, SpellsTransfer, SpellsTrip, calendar_date_fault, calendar_fault, judge_agency, no_fault, no_key, service_day_key, no_key, service_key, stop_key, stop_time_fault, trip_key}
 use Rattle.gtfs_rows.specs.declared.fault.FaultKind.{FaultKind}
 use Rattle.gtfs_rows.specs.declared.fault.FaultKind.TheVariants as kinds
 use Rattle.gtfs_rows.specs.declared.rows.AgencyRow.{AgencyRow}
@@ -33,8 +31,7 @@ stop_times_shape = record {
 }
 
 abbrev pub HoldsStopTimes : List ℕ → StopTimes → Type 0
-HoldsStopTimes bytes t =
-    HoldsFile stop_times_shape (λ places records table. AllZip (SpellsStopTime (map string_bytes table.trips.keys) (map string_bytes table.stops.keys) places) records table.rows.items) bytes t
+HoldsStopTimes = HoldsFile stop_times_shape AreStopTimes
 
 -- stops.txt
 abbrev pub stops_shape : Shape

@@ -4,7 +4,7 @@ ghost use Rattle.std.specs.Prelude.{◌≡◌, ◌≢◌, ◌++◌, ◌∷◌, [
 ghost use Rattle.std.specs.String.{string_bytes};
 ghost use Rattle.std.specs.Option.{option_to_list};
 ghost use Rattle.gtfs_rows.specs.Faults.{is_among};
-ghost use Rattle.gtfs_rows.specs.Ids.{Extends};
+ghost use Rattle.gtfs_rows.specs.Ids.{seen_also};
 ghost use Rattle.gtfs_rows.specs.Rows.{StandsAt};
 
 use crate::fault::FaultKind;
@@ -31,20 +31,23 @@ pub(crate) fn add_key(keys: &mut IndexSet<String>, key: Option<String>) -> Resul
     }
 }
 
-// The place of an id, which is added where it isn't there yet.
+// The place of an id, which goes last where it isn't there yet. It is first sought at a place where it is likely.
 pub(crate) fn place_of(
     alloc: Global,
     ids: &mut IndexSet<String>,
+    likely: Option<u32>,
     id: &[u8],
 ) -> Result<u32, FaultKind>
     requires { IsUtf8 id.now }
-    ensures more { OnOk result (Extends ids.old.keys ids.new.keys) }
+    ensures more { OnOk result (map string_bytes ids.new.keys ≡ seen_also (map string_bytes ids.old.keys) id.now) }
     ensures ok { IfOk result (λ place. StandsAt (map string_bytes ids.new.keys) place id.now) }
     ensures err { IfErr result (λ kind. kind ≡ FaultKind.OutOfMemory) }
 {
-    let Ok(text) = str::from_utf8(id) else {
-        unreachable!();
-    };
+    if let Some(place) = id_at(ids, likely, id) {
+        return Ok(place);
+    }
+    // the whole file was found to be UTF-8, so no cell is judged again
+    let text = unsafe { str::from_utf8_unchecked(id) };
     if let Some(place) = find_id(ids, text) {
         return as_place(place);
     }
@@ -53,6 +56,19 @@ pub(crate) fn place_of(
     };
     let place = add_id(ids, owned)?;
     as_place(place)
+}
+
+// The place, if the id is there.
+fn id_at(ids: &IndexSet<String>, place: Option<u32>, id: &[u8]) -> Option<u32>
+    ensures { IfSome result (λ place. StandsAt (map string_bytes ids.now.keys) place id.now) }
+{
+    let place = place?;
+    let there = ids.get_index(place as usize)?;
+    if id == there.as_bytes() {
+        Some(place)
+    } else {
+        None
+    }
 }
 
 // The place of an id, if it is there.
@@ -65,7 +81,7 @@ fn find_id(ids: &IndexSet<String>, id: &str) -> Option<usize>
 
 // The place of an id, which goes last where it isn't there yet.
 fn add_id(ids: &mut IndexSet<String>, id: String) -> Result<usize, FaultKind>
-    ensures more { OnOk result (Extends ids.old.keys ids.new.keys) }
+    ensures more { OnOk result (map string_bytes ids.new.keys ≡ seen_also (map string_bytes ids.old.keys) (string_bytes id)) }
     ensures ok { IfOk result (λ place. StandsAt (map string_bytes ids.new.keys) place (string_bytes id)) }
     ensures err { IfErr result (λ kind. kind ≡ FaultKind.OutOfMemory) }
 {

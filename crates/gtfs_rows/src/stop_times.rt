@@ -1,13 +1,12 @@
 // stop_times.txt, the longest table: its rows keep numbers, and each id is kept once.
 
 ghost use Rattle.std.specs.Prelude.{◌≡◌, ◌≢◌, ◌<◌, length, map, IfOk, IfErr, OnOk, IsUtf8, None, Some};
-ghost use Rattle.std.specs.List.{AllZip};
 ghost use Rattle.std.specs.String.{string_bytes};
 ghost use Rattle.csv.specs.Records.{AllText, fields_of};
 ghost use Rattle.gtfs_rows.specs.Cells.{cell as cell_of};
 ghost use Rattle.gtfs_rows.specs.Faults.{fault_unless};
-ghost use Rattle.gtfs_rows.specs.Ids.{Extends};
-ghost use Rattle.gtfs_rows.specs.Rows.{IsStopId, SpellsStopTime, StandsAt, given_time, is_available, stop_time_fault, time_fault, value};
+ghost use Rattle.gtfs_rows.specs.Ids.{given_also};
+ghost use Rattle.gtfs_rows.specs.Rows.{AreStopTimes, IsStopId, given_time, is_available, stop_time_fault, time_fault, value};
 ghost use Rattle.gtfs_rows.specs.Values.{number_of};
 
 use crate::cells::cell;
@@ -69,14 +68,14 @@ fn stop_place(
     text: &[u8],
 ) -> Result<Option<u32>, FaultKind>
     requires { IsUtf8 text.now }
-    ensures more { OnOk result (Extends stops.old.keys stops.new.keys) }
+    ensures more { OnOk result (map string_bytes stops.new.keys ≡ given_also (map string_bytes stops.old.keys) text.now) }
     ensures ok { IfOk result (λ place. IsStopId (map string_bytes stops.new.keys) place text.now) }
     ensures err { IfErr result (λ kind. kind ≡ FaultKind.OutOfMemory) }
 {
     if text.is_empty() {
         return Ok(None);
     }
-    let place = place_of(alloc, stops, text)?;
+    let place = place_of(alloc, stops, None, text)?;
     Ok(Some(place))
 }
 
@@ -85,7 +84,7 @@ impl TableRows for StopTimes {
 
     ghost judge = { λ places before r. stop_time_fault places r };
 
-    ghost holds = { λ places records t. AllZip (SpellsStopTime (map string_bytes t.trips.keys) (map string_bytes t.stops.keys) places) records t.rows.items };
+    ghost holds = { AreStopTimes };
 
     fn add(
         &mut self,
@@ -96,7 +95,8 @@ impl TableRows for StopTimes {
         let arrival = time_in(fields, places[1])?;
         let departure = time_in(fields, places[2])?;
         let sequence = number_in(fields, places[4])?;
-        let trip = place_of(alloc, &mut self.trips, cell(fields, places[0]))?;
+        let before = self.rows.last().map(|row| row.trip);
+        let trip = place_of(alloc, &mut self.trips, before, cell(fields, places[0]))?;
         let stop = stop_place(alloc, &mut self.stops, cell(fields, places[3]))?;
         let row = StopTimeRow {
             trip,

@@ -1,5 +1,6 @@
 use Rattle.std.proofs.Common.{string_bytes}
-use Rattle.gtfs_rows.proofs.KeyFacts.{extends_insert, stands}
+use Rattle.gtfs_rows.proofs.KeyFacts.{stands}
+use Rattle.gtfs_rows.proofs.SeenFacts.{seen_insert}
 use Rattle.gtfs_rows.proofs.ids.add_id.Goals as goal
 
 pub returns-clause-ok : goal.returns-clause-ok
@@ -8,4 +9,4 @@ returns-clause-ok c =
     stands c.insert_full.new.self.keys c.in-Ok.place k (string_bytes c.args.id) there same
 
 pub returns-clause-more : goal.returns-clause-more
-returns-clause-more c = extends_insert c.args.ids.now.keys c.insert_full.new.self.keys c.args.id c.in-Ok.ensures.keys
+returns-clause-more c = seen_insert c.args.ids.now.keys c.insert_full.new.self.keys c.args.id c.in-Ok.ensures.keys
