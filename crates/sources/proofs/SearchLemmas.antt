@@ -1,24 +1,29 @@
 -- A search that halves what is left reads as many departures as there are binary digits.
-use Rattle.std.proofs.Common.{◌≡◌, ℕ, zero, suc, ◌+◌, ◌*◌, ◌/◌, ◌^◌, ◌<◌, ◌≤◌, List, [], ◌∷◌, ◌++◌, length, refl, sym, ap, ◌∙◌, subst, arith}
+use Rattle.std.proofs.Common.{◌≡◌, ℕ, zero, suc, ◌+◌, ◌*◌, ◌/◌, ◌^◌, ◌<◌, ◌≤◌, List, [], ◌∷◌, ◌++◌, ◌-◌, length, Contains, refl, sym, ap, ◌∙◌, subst, arith}
 use Rattle.std.proofs.Math.Nat.{pow-suc}
+use Rattle.std.proofs.lemmas.List.Elements.{Contains-append_left, Contains-append_right}
 use Rattle.std.proofs.lemmas.List.{append_assoc, append-nil, length-append}
 use Rattle.timetable.specs.TimetableValue.{TimetableValue}
 use Rattle.timetable.specs.Legal.{IsLegal}
 use Rattle.timetable.specs.Journeys.{connection_at}
 use Rattle.timetable.proofs.LegalFacts.{departures_rise}
-use Rattle.sources.specs.FewReads.{HasDigits, AddsFew}
+use Rattle.sources.specs.Searches.{HasDigits, FindsByFew}
 
--- of so many digits as the number has, so many reads leave enough for what is left
-pub record IsHalving (number left : ℕ) (before now : List ℕ) : Type 0 where
-  pub added : List ℕ
-  pub at_end : now ≡ before ++ added
-  pub spare : (digits : ℕ) → HasDigits number digits → (rest : ℕ) × HasDigits left rest × (length added + rest ≤ digits)
+-- what a search has read that has the places from low up to before high left: of the digits of the number enough are left for them, and both ends were read
+pub record IsHalving (number low high : ℕ) (before now : List ℕ) : Type 0 where
+  pub read : List ℕ
+  pub noted : now ≡ before ++ read
+  pub spare : (digits : ℕ) → HasDigits number digits → (rest : ℕ) × HasDigits (high - low) rest × (length read + rest ≤ digits)
+  pub has_high : high < number → Contains read high
+  pub has_low : 0 < low → Contains read (low - 1)
 
-pub halving_starts : (number : ℕ) (before : List ℕ) → IsHalving number number before before
+pub halving_starts : (number : ℕ) (before : List ℕ) → IsHalving number 0 number before before
 halving_starts number before = record {
-  added = [];
-  at_end = sym (append-nil before);
-  spare = λ digits has. (digits, has, omega arith);
+  read = [];
+  noted = sym (append-nil before);
+  spare = λ digits has. (digits, omega (arith, has), omega arith);
+  has_high = λ lt. absurd (omega (arith, lt));
+  has_low = λ lt. absurd (omega (arith, lt));
 }
 
 -- what is left has a digit more than its half
@@ -28,30 +33,58 @@ half_of left next (suc rest) some half has =
     let double : 2 ^ suc rest ≡ 2 ^ rest * 2 = pow-suc 2 rest in
     (rest, omega (arith, double, half, has), omega arith)
 
-pub halving_goes_on : (number left next place : ℕ) (before now : List ℕ) → IsHalving number left before now → 0 < left → next ≤ left / 2 → IsHalving number next before (now ++ place ∷ [])
-halving_goes_on number left next place before now h some half = record {
-  added = h.added ++ place ∷ [];
-  at_end = ap (λ (xs : List ℕ). xs ++ place ∷ []) h.at_end ∙ append_assoc before h.added (place ∷ []);
-  spare = λ digits has.
-      let s = h.spare digits has in
-      let fewer = half_of left next s.0 some half s.1 in
-      let long : length (h.added ++ place ∷ []) ≡ length h.added + 1 = length-append h.added (place ∷ []) in
-      (fewer.0, fewer.1, omega (arith, s.2, fewer.2, long));
+-- one more read, and half is left
+spare_less : (number low high low2 high2 place : ℕ) (before now : List ℕ) (h : IsHalving number low high before now) → low < high → high2 - low2 ≤ (high - low) / 2 → (digits : ℕ) → HasDigits number digits → (rest : ℕ) × HasDigits (high2 - low2) rest × (length (h.read ++ place ∷ []) + rest ≤ digits)
+spare_less number low high low2 high2 place before now h some half digits has =
+    let s = h.spare digits has in
+    let fewer = half_of (high - low) (high2 - low2) s.0 (omega (arith, some)) half s.1 in
+    let long : length (h.read ++ place ∷ []) ≡ length h.read + 1 = length-append h.read (place ∷ []) in
+    (fewer.0, fewer.1, omega (arith, s.2, fewer.2, long))
+
+note_more : (place : ℕ) (before now read : List ℕ) → now ≡ before ++ read → now ++ place ∷ [] ≡ before ++ (read ++ place ∷ [])
+note_more place before now read noted = ap (λ (xs : List ℕ). xs ++ place ∷ []) noted ∙ append_assoc before read (place ∷ [])
+
+has_last : (place : ℕ) (read : List ℕ) → Contains (read ++ place ∷ []) place
+has_last place read = Contains-append_right read (place ∷ []) place (0, omega arith, refl)
+
+-- the search goes on above the place that was read
+pub goes_on_above : (number low high place : ℕ) (before now : List ℕ) → IsHalving number low high before now → low < high → high - (place + 1) ≤ (high - low) / 2 → IsHalving number (place + 1) high before (now ++ place ∷ [])
+goes_on_above number low high place before now h some half = record {
+  read = h.read ++ place ∷ [];
+  noted = note_more place before now h.read h.noted;
+  spare = spare_less number low high (place + 1) high place before now h some half;
+  has_high = λ lt. Contains-append_left h.read (place ∷ []) high (h.has_high lt);
+  has_low = λ lt. let back : place ≡ (place + 1) - 1 = omega arith in subst (λ (x : ℕ). Contains (h.read ++ place ∷ []) x) back (has_last place h.read);
 }
 
-pub few_read : (number left : ℕ) (before now : List ℕ) → IsHalving number left before now → AddsFew number before now
-few_read number left before now h = record {
-  added = h.added;
-  at_end = h.at_end;
+-- .. or below it
+pub goes_on_below : (number low high place : ℕ) (before now : List ℕ) → IsHalving number low high before now → low < high → place - low ≤ (high - low) / 2 → IsHalving number low place before (now ++ place ∷ [])
+goes_on_below number low high place before now h some half = record {
+  read = h.read ++ place ∷ [];
+  noted = note_more place before now h.read h.noted;
+  spare = spare_less number low high low place place before now h some half;
+  has_high = λ lt. has_last place h.read;
+  has_low = λ lt. Contains-append_left h.read (place ∷ []) (low - 1) (h.has_low lt);
+}
+
+-- where nothing is left, the search is over
+pub found_by_few : (t : TimetableValue) (first high : ℕ) (before now : List ℕ) → IsHalving (length t.connections) first high before now → first ≡ high → FindsByFew t first before now
+found_by_few t first high before now h over = record {
+  read = h.read;
+  noted = h.noted;
   few = λ digits has. let s = h.spare digits has in omega (arith, s.2);
+  has_first = λ lt. subst (λ (x : ℕ). Contains h.read x) (sym over) (h.has_high (omega (arith, over, lt)));
+  has_last_before = h.has_low;
 }
 
--- what was added to nothing is added behind a list
-pub few_behind : (number : ℕ) (start before now : List ℕ) → start ≡ [] → AddsFew number start now → AddsFew number before (before ++ now)
-few_behind number start before now none few = record {
-  added = few.added;
-  at_end = ap (λ (xs : List ℕ). before ++ xs) (few.at_end ∙ ap (λ (xs : List ℕ). xs ++ few.added) none);
-  few = few.few;
+-- what was noted behind nothing is noted behind others
+pub noted_behind : (t : TimetableValue) (first : ℕ) (start before now : List ℕ) → start ≡ [] → FindsByFew t first start now → FindsByFew t first before (before ++ now)
+noted_behind t first start before now none by = record {
+  read = by.read;
+  noted = ap (λ (xs : List ℕ). before ++ xs) (by.noted ∙ ap (λ (xs : List ℕ). xs ++ by.read) none);
+  few = by.few;
+  has_first = by.has_first;
+  has_last_before = by.has_last_before;
 }
 
 -- what stands before a connection departs no later, what stands behind it no earlier

@@ -1,3 +1,3 @@
 pub mod FirstAt
-pub mod FewReads
+pub mod Searches
 pub mod FootStarts

@@ -1,9 +1,8 @@
 //! The first departure at a time or later, by few reads.
 
-ghost use Rattle.std.specs.Prelude.{◌≡◌, length};
 ghost use Rattle.timetable.specs.Legal.{IsLegal};
 ghost use Rattle.sources.specs.FirstAt.{IsFirstAt};
-ghost use Rattle.sources.specs.FewReads.{AddsFew};
+ghost use Rattle.sources.specs.Searches.{FindsByFew};
 
 use crate::departures::Departures;
 use image_verifier::Verified;
@@ -13,7 +12,7 @@ use timetable::Trace;
 fn search(departures: &mut Departures<'_>, time: u32) -> usize
     requires { IsLegal departures.old.image.now.timetable }
     ensures first { IsFirstAt departures.old.image.now.timetable time result }
-    ensures few { AddsFew (length departures.old.image.now.timetable.connections) departures.old.reads departures.new.reads }
+    ensures reads { FindsByFew departures.old.image.now.timetable result departures.old.reads departures.new.reads }
 {
     let mut low = 0;
     let mut high = departures.len();
@@ -30,11 +29,11 @@ fn search(departures: &mut Departures<'_>, time: u32) -> usize
 
 /// The least place whose connection departs at the time or later, else the number of connections.
 ///
-/// Each departure that is read is noted. As many are read, at most, as the number of connections has binary digits: of the
-/// 20,000,000 connections that an image may have, 25; of none, none.
+/// The place of each departure that is read is noted in `reads`, which takes no bytes. At most as many are read as the number of
+/// connections has binary digits: of the 20,000,000 that an image may have, 25; of none, none.
 pub fn first_at_counted(image: &Verified, time: u32, reads: &mut Trace<usize>) -> usize
     ensures first { IsFirstAt image.now.timetable time result }
-    ensures few { AddsFew (length image.now.timetable.connections) reads.old reads.new }
+    ensures reads { FindsByFew image.now.timetable result reads.old reads.new }
 {
     let mut departures = Departures::of(image);
     let first = search(&mut departures, time);

@@ -1,42 +1,137 @@
+// Both sources over two small images: what they answer was worked out by hand.
+
+ghost use Rattle.std.specs.Prelude.{◌<◌};
+
 use super::*;
 use image_layout::sample_words;
 use image_verifier::{Verified, verify};
 use std::alloc::Global;
+use std::mem::size_of;
 use std::test::*;
 use timetable::{Connection, Footpath, Trace};
 
-/// The sample as an image.
-fn sample(alloc: Global) -> Result<Verified, Fail> {
-    let words = sample_words().to_vec(alloc)?;
-    let image = verify(alloc, words).ok().ok_or("the words are an image")?;
+/// Two stops, two trips, three connections, and walks of 300 and 240 seconds between the stops.
+const EARLY: [u32; 48] = [
+    0x50415343, 1, 2, 2, 3, 4, 9, 4294880896, 4294967295, 0, 1, 10, 20, 1, 1, 1, 0, 30, 50, 1, 2,
+    1, 0, 40, 60, 0, 3, 0, 2, 4, 0, 120, 1, 300, 0, 240, 1, 90, 0, 0, 4, 6, 9, 19691231, 19700101,
+    0x74726f50, 0x42413231, 0x00000043,
+];
+
+fn image(alloc: Global, words: &[u32]) -> Result<Verified, Fail> {
+    let image = verify(alloc, words.to_vec(alloc)?)
+        .ok()
+        .ok_or("the words are an image")?;
     Ok(image)
 }
 
+fn footpath(from: u32, to: u32, secs: u32) -> Footpath {
+    Footpath { from, to, secs }
+}
+
+/// The second connection of the sample.
+const SECOND: Connection = Connection {
+    from: 1,
+    to: 2,
+    dep: 29400,
+    arr: 30600,
+    trip: 0,
+    board: true,
+    alight: true,
+};
+
+/// The departure of the last connection.
+fn last_departure<S: ConnSource>(source: &mut S) -> Option<u32> {
+    let count = source.len();
+    if count == 0 {
+        return None;
+    }
+    Some(source.connection(count - 1).dep)
+}
+
+/// The seconds of the footpath from a stop into a stop.
+fn seconds<S: ConnSource>(source: &S, from: u32, to: usize) -> Option<u32>
+    requires { to < (S.timetable source.now).stops }
+{
+    let (first, end) = source.walks_into(to);
+    for place in first..end {
+        let footpath = source.footpath_into(to, place);
+        if footpath.from == from {
+            return Some(footpath.secs);
+        }
+    }
+    None
+}
+
 #[test]
-fn in_place_reads_the_sample(rt: HostRuntime) -> Result<(), Fail> {
-    let image = sample(rt.alloc())?;
+fn sample_in_place(rt: HostRuntime) -> Result<(), Fail> {
+    let image = image(rt.alloc(), &sample_words())?;
     let mut source = InPlace::new(&image);
     assert_eq!(rt; source.stops(), 3);
     assert_eq!(rt; source.trips(), 2);
     assert_eq!(rt; source.len(), 3);
-    assert_eq!(rt; source.connection(1).dep, 29400);
+    assert_eq!(rt; source.connection(1), SECOND);
+    assert_eq!(rt; source.first_at(29400), 1);
     assert_eq!(rt; source.first_at(29401), 2);
-    assert_eq!(rt; source.walks_into(1), (1, 2));
+    assert_eq!(rt; source.walks_into(2), (2, 3));
+    assert_eq!(rt; source.footpath(2), footpath(2, 2, 0));
+    assert_eq!(rt; source.footpath_into(2, 2), footpath(2, 2, 0));
+    assert_eq!(rt; last_departure(&mut source), Some(29520));
+    Ok(())
+}
+
+#[test]
+fn sample_decoded(rt: HostRuntime) -> Result<(), Fail> {
+    let image = image(rt.alloc(), &sample_words())?;
+    let mut source = Decoded::of(rt.alloc(), &image)?;
+    assert_eq!(rt; source.stops(), 3);
+    assert_eq!(rt; source.trips(), 2);
+    assert_eq!(rt; source.len(), 3);
+    assert_eq!(rt; source.connection(1), SECOND);
+    assert_eq!(rt; source.first_at(29400), 1);
+    assert_eq!(rt; source.first_at(29401), 2);
+    assert_eq!(rt; source.walks_into(2), (2, 3));
+    assert_eq!(rt; source.footpath(2), footpath(2, 2, 0));
+    assert_eq!(rt; source.footpath_into(2, 2), footpath(2, 2, 0));
+    assert_eq!(rt; last_departure(&mut source), Some(29520));
+    Ok(())
+}
+
+#[test]
+fn a_log_takes_no_bytes(rt: HostRuntime) {
     assert_eq!(rt;
-        source.footpath(2),
-        Footpath {
-            from: 2,
-            to: 2,
-            secs: 0
-        }
+        size_of::<InPlace<'static>>(),
+        size_of::<&'static Verified>()
     );
-    assert_eq!(rt;
-        source.footpath_into(1, 1),
-        Footpath {
-            from: 1,
-            to: 1,
-            secs: 0
-        }
-    );
+}
+
+#[test]
+fn footpaths_between_stops(rt: HostRuntime) -> Result<(), Fail> {
+    let image = image(rt.alloc(), &EARLY)?;
+    let mut in_place = InPlace::new(&image);
+    let mut decoded = Decoded::of(rt.alloc(), &image)?;
+    assert_eq!(rt; in_place.stops(), 2);
+    assert_eq!(rt; decoded.stops(), 2);
+    assert_eq!(rt; in_place.walks_into(0), (0, 2));
+    assert_eq!(rt; decoded.walks_into(0), (0, 2));
+    assert_eq!(rt; seconds(&in_place, 1, 0), Some(300));
+    assert_eq!(rt; seconds(&decoded, 1, 0), Some(300));
+    assert_eq!(rt; seconds(&in_place, 0, 1), Some(240));
+    assert_eq!(rt; seconds(&decoded, 0, 1), Some(240));
+    assert_eq!(rt; last_departure(&mut in_place), Some(40));
+    assert_eq!(rt; last_departure(&mut decoded), Some(40));
+    Ok(())
+}
+
+#[test]
+fn departures_at_a_time_or_later(rt: HostRuntime) -> Result<(), Fail> {
+    let image = image(rt.alloc(), &EARLY)?;
+    let in_place = InPlace::new(&image);
+    let decoded = Decoded::of(rt.alloc(), &image)?;
+    for (time, first) in [(0, 0), (10, 0), (11, 1), (30, 1), (31, 2), (40, 2), (41, 3)] {
+        assert_eq!(rt; in_place.first_at(time), first);
+        assert_eq!(rt; decoded.first_at(time), first);
+        let mut reads = Trace::new();
+        assert_eq!(rt; first_at_counted(&image, time, &mut reads), first);
+    }
     Ok(())
 }

@@ -1,7 +1,7 @@
-use Rattle.std.proofs.Common.{rules, ◌≡◌, ◌≤◌, ◌<◌, ◌+◌, ◌++◌, ◌∷◌, [], ℕ, List, length, arith, ap, sym, ◌∙◌, subst}
+use Rattle.std.proofs.Common.{rules, ◌≡◌, ◌+◌, ◌++◌, ◌∷◌, [], ℕ, List, arith, ap, sym, ◌∙◌, subst}
 use Rattle.std.proofs.lemmas.List.{length-append}
 use Rattle.sources.specs.FootStarts.{IsStart, AreStarts, HoldsBelow}
-use Rattle.sources.proofs.StartLemmas.{AreStartsBelow, starts_more, all_held}
+use Rattle.sources.proofs.StartLemmas.{starts_more, all_held}
 use Rattle.sources.proofs.decoded.decode_footpaths.Goals as goal
 
 pub returns-clause-footpaths : goal.returns-clause-footpaths

@@ -1,7 +1,7 @@
-use Rattle.std.proofs.Common.{◌≡◌, ◌≤◌, ◌<◌, ◌+◌, ◌∷◌, [], List, length, take, arith, ap, sym, ◌∙◌, subst}
+use Rattle.std.proofs.Common.{◌≡◌, ◌<◌, ◌+◌, ◌∷◌, [], List, length, take, arith, ap, sym, ◌∙◌, subst}
 use Rattle.std.proofs.lemmas.List.{length-append}
 use Rattle.timetable.specs.declared.network.Footpath.{Footpath}
-use Rattle.sources.specs.FootStarts.{IsStart, HoldsBelow}
+use Rattle.sources.specs.FootStarts.{IsStart}
 use Rattle.sources.proofs.StartLemmas.{start_next, start_order, between_starts, taken_more}
 use Rattle.sources.proofs.decoded.decode_walks_into.Goals as goal
 

@@ -1,7 +1,7 @@
-use Rattle.std.proofs.Common.{◌≡◌, ℕ, ◌+◌, ◌-◌, ◌/◌, ◌<◌, ◌≤◌, ◌++◌, ◌∷◌, [], List, length, ap, ◌∙◌, sym, subst, arith}
+use Rattle.std.proofs.Common.{◌≡◌, ℕ, ◌+◌, ◌-◌, ◌/◌, ◌<◌, ◌≤◌, List, length, ap, ◌∙◌, sym, subst, arith}
 use Rattle.timetable.specs.Journeys.{connection_at}
 use Rattle.image_layout.specs.Image.{ImageValue}
-use Rattle.sources.proofs.SearchLemmas.{IsHalving, halving_goes_on, departs_before, departs_after}
+use Rattle.sources.proofs.SearchLemmas.{IsHalving, goes_on_above, goes_on_below, departs_before, departs_after}
 use Rattle.sources.proofs.search.search.Goals as goal
 
 pub halve-preserved-then-read-time : goal.halve-preserved-then-read-time
@@ -19,8 +19,8 @@ halve-preserved-then-read-time c =
       before = λ k below. departs_before t middle c.args.time k c.requires within early below;
       after = c.halve.invariant.after;
       halving =
-          subst (λ (reads : List ℕ). IsHalving (length t.connections) (c.halve.high - (middle + 1)) c.args.departures.now.reads reads) (sym c.read.ensures.noted)
-          (halving_goes_on (length t.connections) (c.halve.high - c.halve.low) (c.halve.high - (middle + 1)) middle c.args.departures.now.reads c.halve.departures.reads c.halve.invariant.halving (omega (arith, c.halve-test.true)) less);
+          subst (λ (reads : List ℕ). IsHalving (length t.connections) (middle + 1) c.halve.high c.args.departures.now.reads reads) (sym c.read.ensures.noted)
+          (goes_on_above (length t.connections) c.halve.low c.halve.high middle c.args.departures.now.reads c.halve.departures.reads c.halve.invariant.halving c.halve-test.true less);
     }
 
 pub halve-preserved : goal.halve-preserved
@@ -37,6 +37,6 @@ halve-preserved c =
       before = c.halve.invariant.before;
       after = λ k above lt. departs_after t middle c.args.time k c.requires late above lt;
       halving =
-          subst (λ (reads : List ℕ). IsHalving (length t.connections) (middle - c.halve.low) c.args.departures.now.reads reads) (sym c.read.ensures.noted)
-          (halving_goes_on (length t.connections) (c.halve.high - c.halve.low) (middle - c.halve.low) middle c.args.departures.now.reads c.halve.departures.reads c.halve.invariant.halving (omega (arith, c.halve-test.true)) less);
+          subst (λ (reads : List ℕ). IsHalving (length t.connections) c.halve.low middle c.args.departures.now.reads reads) (sym c.read.ensures.noted)
+          (goes_on_below (length t.connections) c.halve.low c.halve.high middle c.args.departures.now.reads c.halve.departures.reads c.halve.invariant.halving c.halve-test.true less);
     }

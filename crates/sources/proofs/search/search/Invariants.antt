@@ -12,7 +12,7 @@ invariant-halve l =
       within : l.high ≤ length t.connections;
       before : (k : ℕ) → k < l.low → (connection_at t k).dep < l.time;
       after : (k : ℕ) → l.high ≤ k → k < length t.connections → l.time ≤ (connection_at t k).dep;
-      halving : IsHalving (length t.connections) (l.high - l.low) l.initial.departures.reads l.departures.reads;
+      halving : IsHalving (length t.connections) l.low l.high l.initial.departures.reads l.departures.reads;
     }
 
 abbrev pub decreases-halve : goal.decreases-halve

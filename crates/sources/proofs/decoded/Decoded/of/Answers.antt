@@ -1,6 +1,4 @@
-use Rattle.std.proofs.Common.{◌≡◌, List, ap, sym, ◌∙◌, subst}
-use Rattle.timetable.specs.declared.network.Connection.{Connection}
-use Rattle.timetable.specs.declared.network.Footpath.{Footpath}
+use Rattle.std.proofs.Common.{◌≡◌, sym, subst}
 use Rattle.timetable.specs.TimetableValue.{TimetableValue}
 use Rattle.timetable.specs.Legal.{IsLegal}
 use Rattle.timetable.specs.Limits.{IsWithinLimits}
