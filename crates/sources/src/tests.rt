@@ -72,9 +72,11 @@ fn sample_in_place(rt: HostRuntime) -> Result<(), Fail> {
     assert_eq!(rt; source.connection(1), SECOND);
     assert_eq!(rt; source.first_at(29400), 1);
     assert_eq!(rt; source.first_at(29401), 2);
-    assert_eq!(rt; source.walks_into(2), (2, 3));
+    let (first, end) = source.walks_into(2);
+    assert_eq!(rt; first, 2);
+    assert_eq!(rt; end, 3);
     assert_eq!(rt; source.footpath(2), footpath(2, 2, 0));
-    assert_eq!(rt; source.footpath_into(2, 2), footpath(2, 2, 0));
+    assert_eq!(rt; seconds(&source, 2, 2), Some(0));
     assert_eq!(rt; last_departure(&mut source), Some(29520));
     Ok(())
 }
@@ -89,9 +91,11 @@ fn sample_decoded(rt: HostRuntime) -> Result<(), Fail> {
     assert_eq!(rt; source.connection(1), SECOND);
     assert_eq!(rt; source.first_at(29400), 1);
     assert_eq!(rt; source.first_at(29401), 2);
-    assert_eq!(rt; source.walks_into(2), (2, 3));
+    let (first, end) = source.walks_into(2);
+    assert_eq!(rt; first, 2);
+    assert_eq!(rt; end, 3);
     assert_eq!(rt; source.footpath(2), footpath(2, 2, 0));
-    assert_eq!(rt; source.footpath_into(2, 2), footpath(2, 2, 0));
+    assert_eq!(rt; seconds(&source, 2, 2), Some(0));
     assert_eq!(rt; last_departure(&mut source), Some(29520));
     Ok(())
 }
