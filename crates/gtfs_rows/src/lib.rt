@@ -31,4 +31,8 @@ pub use stop_times::StopTimes;
 pub use values::{DateFault, Day, Time, TimeFault};
 
 #[cfg(test)]
+mod fault_tests;
+#[cfg(test)]
+mod memory_tests;
+#[cfg(test)]
 mod tests;

@@ -151,8 +151,22 @@ pub fn read_stops(alloc: Global, bytes: &[u8]) -> Result<Vec<StopRow>, TableFaul
     ensures file { IfErr result (λ fault. fault.table ≡ Table.Stops) }
     ensures err { IfErr result (λ fault. fault.kind ≢ FaultKind.OutOfMemory → IsStopsFault MAX_STOPS bytes.now fault.row fault.kind) }
 {
+    stops_up_to(MAX_STOPS, alloc, bytes)
+}
+
+// The rows of `stops.txt`, of which at most so many are stops.
+pub(crate) fn stops_up_to(
+    limit: usize,
+    alloc: Global,
+    bytes: &[u8],
+) -> Result<Vec<StopRow>, TableFault>
+    ensures ok { IfOk result (λ rows. HoldsStops bytes.now rows.items) }
+    ensures few { IfOk result (λ rows. count_by is_stop rows.items ≤ limit) }
+    ensures file { IfErr result (λ fault. fault.table ≡ Table.Stops) }
+    ensures err { IfErr result (λ fault. fault.kind ≢ FaultKind.OutOfMemory → IsStopsFault limit bytes.now fault.row fault.kind) }
+{
     let rows = stop_rows(alloc, bytes)?;
-    if count_stops(&rows) > MAX_STOPS {
+    if count_stops(&rows) > limit {
         return Err(Table::Stops.fault(0, FaultKind::TooMany));
     }
     Ok(rows)
@@ -174,8 +188,22 @@ pub fn read_trips(alloc: Global, bytes: &[u8]) -> Result<Vec<TripRow>, TableFaul
     ensures file { IfErr result (λ fault. fault.table ≡ Table.Trips) }
     ensures err { IfErr result (λ fault. fault.kind ≢ FaultKind.OutOfMemory → IsTripsFault MAX_TRIPS bytes.now fault.row fault.kind) }
 {
+    trips_up_to(MAX_TRIPS, alloc, bytes)
+}
+
+// The rows of `trips.txt`, at most so many.
+pub(crate) fn trips_up_to(
+    limit: usize,
+    alloc: Global,
+    bytes: &[u8],
+) -> Result<Vec<TripRow>, TableFault>
+    ensures ok { IfOk result (λ rows. HoldsTrips bytes.now rows.items) }
+    ensures few { IfOk result (λ rows. length rows.items ≤ limit) }
+    ensures file { IfErr result (λ fault. fault.table ≡ Table.Trips) }
+    ensures err { IfErr result (λ fault. fault.kind ≢ FaultKind.OutOfMemory → IsTripsFault limit bytes.now fault.row fault.kind) }
+{
     let rows = trip_rows(alloc, bytes)?;
-    if rows.len() > MAX_TRIPS {
+    if rows.len() > limit {
         return Err(Table::Trips.fault(0, FaultKind::TooMany));
     }
     Ok(rows)

@@ -10,7 +10,12 @@ use crate::values::Day;
 use std::test::Fail;
 
 // Whether the answer is this fault of the table.
-fn tells<T: Drop>(answer: Result<T, TableFault>, table: Table, row: u64, kind: FaultKind) -> bool {
+pub(crate) fn tells<T: Drop>(
+    answer: Result<T, TableFault>,
+    table: Table,
+    row: u64,
+    kind: FaultKind,
+) -> bool {
     match answer {
         Ok(_) => false,
         Err(fault) => fault.table == table && fault.row == row && fault.kind == kind,
