@@ -1,0 +1,4 @@
+pub mod SearchLemmas
+pub mod WalkLemmas
+pub mod IndexLemmas
+pub mod OrderLemmas

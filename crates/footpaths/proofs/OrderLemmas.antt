@@ -1,0 +1,121 @@
+-- Lists of footpaths by the stop led into, then by the stop left.
+use Rattle.std.proofs.Common.{◌≡◌, ◌≢◌, ℕ, zero, suc, ◌+◌, ◌<◌, ◌≤◌, ◌⊎◌, inl, inr, List, [], ◌∷◌, ◌++◌, length, Option, Some, None, Contains, refl, sym, ap, subst, ◌∙◌, arith, length-append}
+use Rattle.std.specs.List.{slice_get}
+use Rattle.std.proofs.lemmas.Bool.{cases_order}
+use Rattle.std.proofs.lemmas.Option.{same_Some, none-some, slice_get_within}
+use Rattle.timetable.specs.declared.network.Footpath.{Footpath}
+use Rattle.timetable.specs.Legal.{At, HasFootpath, IsOrderedBefore, AreInOrder}
+use Rattle.timetable.specs.LegalProp.{in_order_later}
+use Rattle.footpaths.proofs.IndexLemmas.{Contains-at, at_Contains, same_at}
+
+get-left : (xs ys : List Footpath) (i : ℕ) → i < length xs → slice_get (xs ++ ys) i ≡ slice_get xs i
+get-left [] ys i below = absurd (omega (arith, below))
+get-left (x ∷ xs) ys zero below = refl
+get-left (x ∷ xs) ys (suc i) below = get-left xs ys i (omega (arith, below))
+
+get-end : (xs : List Footpath) (f : Footpath) → slice_get (xs ++ f ∷ []) (length xs) ≡ Some f
+get-end [] f = refl
+get-end (x ∷ xs) f = get-end xs f
+
+-- nothing stands in an empty list
+at_nothing : (i : ℕ) (f : Footpath) → At [] i f → ⊥
+at_nothing i f at = none-some f at
+
+-- a footpath behind all others
+pub in_order_push : (paths : List Footpath) (f : Footpath) → AreInOrder paths → ((e : Footpath) → Contains paths e → IsOrderedBefore e f) → AreInOrder (paths ++ f ∷ [])
+in_order_push paths f in_order after i d e at_d at_e =
+    let size : length (paths ++ f ∷ []) ≡ length paths + 1 = length-append paths (f ∷ []) in
+    let inside : i + 1 < length paths + 1 = omega (arith, size, slice_get_within (paths ++ f ∷ []) (i + 1) e at_e) in
+    let d_inside : i < length paths = omega (arith, inside) in
+    let was_d : At paths i d = sym (get-left paths (f ∷ []) i d_inside) ∙ at_d in
+    elim (cases_order (i + 1) (length paths)) [
+      | inl same ↦
+          let at_end : At (paths ++ f ∷ []) (length paths) e = subst (λ (n : ℕ). At (paths ++ f ∷ []) n e) same at_e in
+          let equal : f ≡ e = same_Some f e (sym (get-end paths f) ∙ at_end) in
+          subst (λ (g : Footpath). IsOrderedBefore d g) equal (after d (Contains-at paths i d was_d))
+      | inr (inl below) ↦ in_order i d e was_d (sym (get-left paths (f ∷ []) (i + 1) below) ∙ at_e)
+      | inr (inr above) ↦ absurd (omega (arith, inside, above))
+    ]
+
+pub in_order_nil : AreInOrder []
+in_order_nil i d e at_d at_e = absurd (at_nothing i d at_d)
+
+in_order_tail : (x : Footpath) (xs : List Footpath) → AreInOrder (x ∷ xs) → AreInOrder xs
+in_order_tail x xs in_order i d e at_d at_e =
+    let next : suc (i + 1) ≡ suc i + 1 = omega arith in
+    let at_next : At (x ∷ xs) (suc (i + 1)) e = at_e in
+    in_order (suc i) d e at_d (subst (λ (n : ℕ). At (x ∷ xs) n e) next at_next)
+
+-- the first is before all others
+first_before : (x : Footpath) (xs : List Footpath) → AreInOrder (x ∷ xs) → (j : ℕ) (f : Footpath) → At xs j f → IsOrderedBefore x f
+first_before x xs in_order j f at = in_order_later (x ∷ xs) in_order (suc j) zero x f (omega arith) refl at
+
+-- what joins the same stops isn't before
+never_same : (d e : Footpath) → IsOrderedBefore d e → d.from ≡ e.from → d.to ≡ e.to → ⊥
+never_same d e before from to = omega (arith, before.1 to, from)
+
+-- the list has a footpath between the same stops
+abbrev pub HasPair : List Footpath → Footpath → Type 0
+HasPair paths f = (secs : ℕ) × HasFootpath paths f.from f.to secs
+
+ends_of : (y f : Footpath) (secs : ℕ) → Some y ≡ Some (record { from = f.from; to = f.to; secs = secs }) → (y.from ≡ f.from) × (y.to ≡ f.to)
+ends_of y f secs e =
+    let same : y ≡ record { from = f.from; to = f.to; secs = secs } = same_Some y (record { from = f.from; to = f.to; secs = secs }) e in
+    (ap (λ (g : Footpath). g.from) same, ap (λ (g : Footpath). g.to) same)
+
+-- where the first isn't between those stops, another is
+pair_in_tail : (y : Footpath) (w : List Footpath) (f : Footpath) → (y.from ≡ f.from → y.to ≡ f.to → ⊥) → HasPair (y ∷ w) f → HasPair w f
+pair_in_tail y w f differ (secs, zero, at) = let ends = ends_of y f secs at in absurd (differ ends.0 ends.1)
+pair_in_tail y w f differ (secs, suc i, at) = (secs, i, at)
+
+-- three in a row
+not_round : (y x f : Footpath) → IsOrderedBefore y x → IsOrderedBefore x f → y.from ≡ f.from → y.to ≡ f.to → ⊥
+not_round y x f first second from to =
+    let near : y.to ≡ x.to = omega (arith, first.0, second.0, to) in
+    let far : x.to ≡ f.to = omega (arith, near, to) in
+    omega (arith, first.1 near, second.1 far, from)
+
+-- footpaths in order are no more than those of a list that has one between the same stops for each
+pub no_longer : (part whole : List Footpath) → AreInOrder part → AreInOrder whole → ((j : ℕ) (f : Footpath) → At part j f → HasPair whole f) → length part ≤ length whole
+no_longer [] whole in_part in_whole all = omega arith
+no_longer (x ∷ p) [] in_part in_whole all = let (secs, i, at) = all 0 x refl in absurd (at_nothing i (record { from = x.from; to = x.to; secs = secs }) at)
+no_longer (x ∷ p) (y ∷ w) in_part in_whole all = by (all 0 x refl)
+  where
+    by : HasPair (y ∷ w) x → length (x ∷ p) ≤ length (y ∷ w)
+    by (secs, zero, at) =
+        let ends = ends_of y x secs at in
+        let rest = no_longer p w (in_order_tail x p in_part) (in_order_tail y w in_whole) (λ j f at_f.
+            pair_in_tail y w f (λ from to. never_same x f (first_before x p in_part j f at_f) (sym ends.0 ∙ from) (sym ends.1 ∙ to)) (all (suc j) f at_f)) in
+        omega (arith, rest)
+    by (secs, suc i, at) =
+        let before_x : IsOrderedBefore y (record { from = x.from; to = x.to; secs = secs }) = first_before y w in_whole i (record { from = x.from; to = x.to; secs = secs }) at in
+        let rest = no_longer (x ∷ p) w in_part (in_order_tail y w in_whole) (λ j f at_f. pair_in_tail y w f (differ before_x j f at_f) (all j f at_f)) in
+        omega (arith, rest)
+      where
+        differ : IsOrderedBefore y (record { from = x.from; to = x.to; secs = secs }) → (j : ℕ) (f : Footpath) → At (x ∷ p) j f → y.from ≡ f.from → y.to ≡ f.to → ⊥
+        differ before zero f at_f from to =
+            let same : x ≡ f = same_Some x f at_f in
+            let x_from : x.from ≡ f.from = ap (λ (g : Footpath). g.from) same in
+            let x_to : x.to ≡ f.to = ap (λ (g : Footpath). g.to) same in
+            omega (arith, before.1 (to ∙ sym x_to), from, x_from)
+        differ before (suc j) f at_f from to = not_round y (record { from = x.from; to = x.to; secs = secs }) f before (first_before x p in_part j f at_f) from to
+
+-- lists in order with the same footpaths are one list
+pub same_list : (c d : List Footpath) → AreInOrder c → AreInOrder d → ((f : Footpath) → Contains c f → Contains d f) → ((f : Footpath) → Contains d f → Contains c f) → c ≡ d
+same_list [] [] in_c in_d there back = refl
+same_list [] (y ∷ d) in_c in_d there back = let (i, at) = at_Contains [] y (back y (Contains-at (y ∷ d) 0 y refl)) in absurd (at_nothing i y at)
+same_list (x ∷ c) [] in_c in_d there back = let (i, at) = at_Contains [] x (there x (Contains-at (x ∷ c) 0 x refl)) in absurd (at_nothing i x at)
+same_list (x ∷ c) (y ∷ d) in_c in_d there back =
+    let same : x ≡ y = first_same (at_Contains (y ∷ d) x (there x (Contains-at (x ∷ c) 0 x refl))) (at_Contains (x ∷ c) y (back y (Contains-at (y ∷ d) 0 y refl))) in
+    let rest : c ≡ d = same_list c d (in_order_tail x c in_c) (in_order_tail y d in_d)
+    (λ f in_c_rest. let (i, at) = at_Contains c f in_c_rest in into_tail y d f (λ (e : y ≡ f). never_same x f (first_before x c in_c i f at) (ap (λ (g : Footpath). g.from) (same ∙ e)) (ap (λ (g : Footpath). g.to) (same ∙ e))) (at_Contains (y ∷ d) f (there f (Contains-at (x ∷ c) (suc i) f at))))
+    (λ f in_d_rest. let (i, at) = at_Contains d f in_d_rest in into_tail x c f (λ (e : x ≡ f). never_same y f (first_before y d in_d i f at) (ap (λ (g : Footpath). g.from) (sym same ∙ e)) (ap (λ (g : Footpath). g.to) (sym same ∙ e))) (at_Contains (x ∷ c) f (back f (Contains-at (y ∷ d) (suc i) f at)))) in
+    ap (λ (g : Footpath). g ∷ c) same ∙ ap (λ (xs : List Footpath). y ∷ xs) rest
+  where
+    into_tail : (z : Footpath) (zs : List Footpath) (f : Footpath) → (z ≡ f → ⊥) → (i : ℕ) × At (z ∷ zs) i f → Contains zs f
+    into_tail z zs f differ (zero, at) = absurd (differ (same_Some z f at))
+    into_tail z zs f differ (suc i, at) = Contains-at zs i f at
+    first_same : (i : ℕ) × At (y ∷ d) i x → (j : ℕ) × At (x ∷ c) j y → x ≡ y
+    first_same (zero, at) other = sym (same_Some y x at)
+    first_same (suc i, at) (zero, at_y) = same_Some x y at_y
+    first_same (suc i, at) (suc j, at_y) = absurd (not_round y x y (first_before y d in_d i x at) (first_before x c in_c j y at_y) refl refl)

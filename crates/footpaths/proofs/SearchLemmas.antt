@@ -1,0 +1,119 @@
+-- How what is known of the walks into a stop changes.
+use Rattle.std.proofs.Common.{◌≡◌, ◌≢◌, ℕ, suc, ◌+◌, ◌*◌, ◌<◌, ◌≤◌, ◌⊎◌, inl, inr, Bool, true, false, eqb, List, [], ◌∷◌, ◌++◌, length, min, Option, Some, None, All, Contains, get_or, set, sum_by, is_none, true≢false, refl, sym, ap, subst, ◌∙◌, arith}
+use Rattle.std.specs.List.Sorted.{IsPermutation}
+use Rattle.std.proofs.Math.ListN.{length-set}
+use Rattle.std.proofs.lemmas.Bool.{cases_eq}
+use Rattle.std.proofs.lemmas.Option.{same_Some, none-some}
+use Rattle.std.proofs.lemmas.List.{get_or-set_same, get_or-set_other, get_or_default}
+use Rattle.std.proofs.lemmas.List.Elements.{All-contains, All-cons, All-weaker, Contains-push, Contains-append_left}
+use Rattle.std.proofs.lemmas.List.Sorted.{Contains-permutation, All-permutation}
+use Rattle.std.proofs.lemmas.List.Sums.{sum_by-set}
+use Rattle.timetable.specs.declared.network.Footpath.{Footpath}
+use Rattle.footpaths.specs.declared.search.Found.{Found}
+use Rattle.footpaths.specs.Search.{time_at, found_at, IsWithin, IsUndercut, IsToldTime, AreWalked, AreReached, Grows, weight_of, weight}
+
+pub Grows-refl : (times : List (Option ℕ)) (pending : List Found) → Grows times pending times pending
+Grows-refl times pending = record {
+  same_length = refl;
+  inside = λ old. old;
+  lower = λ stop secs within. within;
+  kept = λ x in_it. in_it;
+  fresh = λ stop secs at. inl at;
+}
+
+pub Grows-trans : (a b c : List (Option ℕ)) (p q r : List Found) → Grows a p b q → Grows b q c r → Grows a p c r
+Grows-trans a b c p q r first second = record {
+  same_length = second.same_length ∙ first.same_length;
+  inside = λ old. second.inside (first.inside old);
+  lower = λ stop secs within. second.lower stop secs (first.lower stop secs within);
+  kept = λ x in_it. second.kept x (first.kept x in_it);
+  fresh = λ stop secs at. elim (second.fresh stop secs at) [
+    | inl before ↦ elim (first.fresh stop secs before) [ inl start ↦ inl start | inr in_it ↦ inr (second.kept (found_at secs stop) in_it) ]
+    | inr in_it ↦ inr in_it
+  ];
+}
+
+-- what is pending, and one time more
+abbrev pub IsJoinedBy : List Found → Found → List Found → Type 0
+IsJoinedBy pending x pending' = IsPermutation (x ∷ pending) pending'
+
+Contains-head : (x : Found) (xs : List Found) → Contains (x ∷ xs) x
+Contains-head x xs = (0, omega arith, refl)
+
+Contains-tail : (x y : Found) (xs : List Found) → Contains xs y → Contains (x ∷ xs) y
+Contains-tail x y xs (k, below, is) = (suc k, omega (arith, below), is)
+
+module _ (times : List (Option ℕ)) (pending pending' : List Found) (stop secs : ℕ) (inside : stop < length times) (joined : IsJoinedBy pending (found_at secs stop) pending') where
+  time_now : time_at (set times stop (Some secs)) stop ≡ Some secs
+  time_now = get_or-set_same times stop (Some secs) None inside
+
+  time_other : (other : ℕ) → other ≢ stop → time_at (set times stop (Some secs)) other ≡ time_at times other
+  time_other other differ = get_or-set_other times stop other (Some secs) None differ
+
+  pub Grows-set : IsUndercut times stop secs → Grows times pending (set times stop (Some secs)) pending'
+  Grows-set undercut = record {
+    same_length = length-set times stop (Some secs);
+    inside = λ old.
+        let same : length (set times stop (Some secs)) ≡ length times = length-set times stop (Some secs) in
+        let all : All (λ x. x.stop < length times) (found_at secs stop ∷ pending) = All-cons (λ x. x.stop < length times) (found_at secs stop) pending inside old in
+        subst (λ (n : ℕ). All (λ x. x.stop < n) pending') (sym same) (All-permutation (λ x. x.stop < length times) (found_at secs stop ∷ pending) pending' joined all);
+    lower = λ other d within. elim (cases_eq other stop) [
+      | inl same ↦
+          let less : secs < within.0 = undercut within.0 (subst (λ (s : ℕ). time_at times s ≡ Some within.0) same within.1) in
+          (secs, subst (λ (s : ℕ). time_at (set times stop (Some secs)) s ≡ Some secs) (sym same) time_now, omega (arith, less, within.2))
+      | inr differ ↦ (within.0, time_other other differ ∙ within.1, within.2)
+    ];
+    kept = λ x in_it. Contains-permutation (found_at secs stop ∷ pending) pending' x joined (Contains-tail (found_at secs stop) x pending in_it);
+    fresh = λ other d at. elim (cases_eq other stop) [
+      | inl same ↦
+          let now : Some secs ≡ Some d = sym time_now ∙ subst (λ (s : ℕ). time_at (set times stop (Some secs)) s ≡ Some d) same at in
+          let equal : secs ≡ d = same_Some secs d now in
+          let here : Contains pending' (found_at secs stop) = Contains-permutation (found_at secs stop ∷ pending) pending' (found_at secs stop) joined (Contains-head (found_at secs stop) pending) in
+          let moved : Contains pending' (found_at d stop) = subst (λ (s : ℕ). Contains pending' (found_at s stop)) equal here in
+          inr (subst (λ (s : ℕ). Contains pending' (found_at d s)) (sym same) moved)
+      | inr differ ↦ inl (sym (time_other other differ) ∙ at)
+    ];
+  }
+
+  pub IsWithin-set : IsWithin (set times stop (Some secs)) stop secs
+  IsWithin-set = (secs, time_now, omega arith)
+
+  pub AreWalked-set : (listed : List Footpath) (cap target : ℕ) → IsToldTime listed cap stop target secs → AreWalked listed cap target times → AreWalked listed cap target (set times stop (Some secs))
+  AreWalked-set listed cap target told walked = λ other d at. elim (cases_eq other stop) [
+    | inl same ↦
+        let equal : secs ≡ d = same_Some secs d (sym time_now ∙ subst (λ (s : ℕ). time_at (set times stop (Some secs)) s ≡ Some d) same at) in
+        subst (λ (s : ℕ). IsToldTime listed cap s target d) (sym same) (subst (λ (s : ℕ). IsToldTime listed cap stop target s) equal told)
+    | inr differ ↦ walked other d (sym (time_other other differ) ∙ at)
+  ]
+
+  pub AreReached-set : (reached reached' : List ℕ) → ((s : ℕ) → Contains reached s → Contains reached' s) → Contains reached' stop
+      → AreReached times reached → AreReached (set times stop (Some secs)) reached'
+  AreReached-set reached reached' more here ones = λ other d at. elim (cases_eq other stop) [
+    | inl same ↦ subst (λ (s : ℕ). Contains reached' s) (sym same) here
+    | inr differ ↦ more other (ones other d (sym (time_other other differ) ∙ at))
+  ]
+
+  pub weight-set : (cap : ℕ) → secs ≤ cap → IsUndercut times stop secs → weight cap (set times stop (Some secs)) + 1 ≤ weight cap times
+  weight-set cap small undercut =
+      let e : sum_by (weight_of cap) (set times stop (Some secs)) + weight_of cap (time_at times stop) ≡ sum_by (weight_of cap) times + secs = sum_by-set (weight_of cap) times stop (Some secs) None inside in
+      lighter (time_at times stop) refl e
+    where
+      lighter : (o : Option ℕ) → time_at times stop ≡ o → sum_by (weight_of cap) (set times stop (Some secs)) + weight_of cap o ≡ sum_by (weight_of cap) times + secs → weight cap (set times stop (Some secs)) + 1 ≤ weight cap times
+      lighter None is e = omega (arith, e, small)
+      lighter (Some d) is e = let less : secs < d = undercut d is in omega (arith, e, less)
+
+-- a time that is there is known
+pub known_time : (o : Option ℕ) → is_none o ≡ false → (d : ℕ) × (o ≡ Some d)
+known_time None e = absurd (true≢false e)
+known_time (Some d) e = (d, refl)
+
+-- one footpath more is walked, and times only fall
+pub all_within_more : (times times' : List (Option ℕ)) (paths : List Footpath) (secs i : ℕ) → i < length paths
+    → ((stop d : ℕ) → IsWithin times stop d → IsWithin times' stop d)
+    → ((k : ℕ) (d : Footpath) → k < i → IsWithin times (get_or paths k d).from ((get_or paths k d).secs + secs))
+    → (e : Footpath) → IsWithin times' (get_or paths i e).from ((get_or paths i e).secs + secs)
+    → (k : ℕ) (d : Footpath) → k < i + 1 → IsWithin times' (get_or paths k d).from ((get_or paths k d).secs + secs)
+all_within_more times times' paths secs i inside lower before e here k d below = elim (cases_eq k i) [
+  | inl same ↦ subst (λ (n : ℕ). IsWithin times' (get_or paths n d).from ((get_or paths n d).secs + secs)) (sym same) (subst (λ (f : Footpath). IsWithin times' f.from (f.secs + secs)) (get_or_default paths i e d inside) here)
+  | inr differ ↦ lower (get_or paths k d).from ((get_or paths k d).secs + secs) (before k d (omega (arith, below, differ)))
+]

@@ -1,0 +1,5 @@
+pub mod FaultNumber
+pub mod Walks
+pub mod Closure
+pub mod Search
+pub mod Index

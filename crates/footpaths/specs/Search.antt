@@ -1,0 +1,80 @@
+-- What is known while the least walks into one stop are sought.
+use Rattle.std.specs.Prelude.{◌≡◌, ℕ, ◌+◌, ◌<◌, ◌≤◌, ◌⊎◌, suc, List, length, min, Option, Some, None, Contains, All, slice_index_or, sum_by}
+use Rattle.std.specs.declared.cmp.Reverse.{Reverse}
+use Rattle.timetable.specs.declared.network.Footpath.{Footpath}
+use Rattle.timetable.specs.Journeys.{walk_secs}
+use Rattle.footpaths.specs.Walks.{IsWalkBetween}
+use Rattle.footpaths.specs.declared.search.Found.{Found}
+
+-- the time that a table has for a stop
+abbrev pub time_at : List (Option ℕ) → ℕ → Option ℕ
+time_at times stop = slice_index_or times stop None
+
+-- a time that was found at a stop
+abbrev pub found_at : ℕ → ℕ → Found
+found_at secs stop = record { secs = record { 0 = secs }; stop = stop }
+
+-- the table has a time for the stop, of at most so many seconds
+abbrev pub IsWithin : List (Option ℕ) → ℕ → ℕ → Type 0
+IsWithin times stop secs = (d : ℕ) × (time_at times stop ≡ Some d) × (d ≤ secs)
+
+-- no time of the table for the stop is as low
+abbrev pub IsUndercut : List (Option ℕ) → ℕ → ℕ → Type 0
+IsUndercut times stop secs = (d : ℕ) → time_at times stop ≡ Some d → secs < d
+
+-- a walk takes so many seconds, told no further than a cap
+abbrev pub IsToldTime : List Footpath → ℕ → ℕ → ℕ → ℕ → Type 0
+IsToldTime listed cap from to secs = (walk : List Footpath) × IsWalkBetween listed from to walk × (min (walk_secs walk) cap ≡ secs)
+
+-- the footpath, then a walk of so many seconds or none at all, lead to the target
+abbrev pub IsBackFrom : List Footpath → ℕ → ℕ → Footpath → ℕ → Type 0
+IsBackFrom listed cap target f secs = IsToldTime listed cap f.from target (min (f.secs + secs) cap)
+
+-- each time of the table is that of a walk into the target
+abbrev pub AreWalked : List Footpath → ℕ → ℕ → List (Option ℕ) → Type 0
+AreWalked listed cap target times = (stop secs : ℕ) → time_at times stop ≡ Some secs → IsToldTime listed cap stop target secs
+
+-- each stop that has a time is listed
+abbrev pub AreReached : List (Option ℕ) → List ℕ → Type 0
+AreReached times reached = (stop secs : ℕ) → time_at times stop ≡ Some secs → Contains reached stop
+
+-- no footpath into a stop, walked before so many seconds, makes a time less
+abbrev pub IsFollowed : List Footpath → List (Option ℕ) → ℕ → ℕ → Type 0
+IsFollowed listed times stop secs = (f : Footpath) → Contains listed f → f.to ≡ stop → IsWithin times f.from (f.secs + secs)
+
+-- each time of the table was followed
+abbrev pub AreFollowed : List Footpath → List (Option ℕ) → Type 0
+AreFollowed listed times = (stop secs : ℕ) → time_at times stop ≡ Some secs → IsFollowed listed times stop secs
+
+-- each time of the table is pending, or was followed
+abbrev pub ArePendingOrFollowed : List Footpath → List (Option ℕ) → List Found → Type 0
+ArePendingOrFollowed listed times pending = (stop secs : ℕ) → time_at times stop ≡ Some secs → Contains pending (found_at secs stop) ⊎ IsFollowed listed times stop secs
+
+-- what is pending is at stops of the table
+abbrev pub ArePendingInside : List (Option ℕ) → List Found → Type 0
+ArePendingInside times pending = All (λ x. x.stop < length times) pending
+
+-- times only fall, what is pending stays so, and what is new is pending
+pub record Grows (times : List (Option ℕ)) (pending : List Found) (times' : List (Option ℕ)) (pending' : List Found) : Type 0 where
+  pub same_length : length times' ≡ length times
+  pub inside : ArePendingInside times pending → ArePendingInside times' pending'
+  pub lower : (stop secs : ℕ) → IsWithin times stop secs → IsWithin times' stop secs
+  pub kept : (x : Found) → Contains pending x → Contains pending' x
+  pub fresh : (stop secs : ℕ) → time_at times' stop ≡ Some secs → (time_at times stop ≡ Some secs) ⊎ Contains pending' (found_at secs stop)
+
+-- what a place of the table weighs, and the table
+abbrev pub weight_of : ℕ → Option ℕ → ℕ
+weight_of cap None = suc cap
+weight_of cap (Some secs) = secs
+
+abbrev pub weight : ℕ → List (Option ℕ) → ℕ
+weight cap times = sum_by (weight_of cap) times
+
+-- the table tells the least time of a walk from each stop to the target
+abbrev pub IsToldLeast : List Footpath → ℕ → ℕ → ℕ → Option ℕ → Type 0
+IsToldLeast listed cap from to None = (walk : List Footpath) → ¬ IsWalkBetween listed from to walk
+IsToldLeast listed cap from to (Some secs) =
+    IsToldTime listed cap from to secs × ((walk : List Footpath) → IsWalkBetween listed from to walk → secs ≤ walk_secs walk)
+
+abbrev pub AreToldLeast : List Footpath → ℕ → ℕ → List (Option ℕ) → Type 0
+AreToldLeast listed cap target times = (stop : ℕ) → IsToldLeast listed cap stop target (time_at times stop)

@@ -1,0 +1,55 @@
+// Why listed footpaths have no closure.
+
+ghost use Rattle.std.specs.Prelude.{◌≡◌};
+ghost use Rattle.footpaths.specs.declared.fault.FootFault.TheVariants.{OutOfMemory};
+
+use std::alloc::AllocError;
+use thiserror::Error;
+
+/// Why a closure isn't made.
+#[derive(Clone, Copy, Debug, PartialEq, Eq, Error)]
+pub enum FootFault {
+    /// A footpath of the closure takes more than `timetable::limits::MAX_WALK_SECS`.
+    #[error("a walk takes too long")]
+    WalkTooLong,
+    /// The closure has more footpaths than `timetable::limits::MAX_FOOTPATHS`.
+    #[error("there are too many footpaths")]
+    TooManyFootpaths,
+    #[error("out of memory")]
+    OutOfMemory,
+}
+
+impl FootFault {
+    ghost use Rattle.std.specs.Prelude.{codes};
+    ghost use Rattle.footpaths.specs.FaultNumber.{number_of, name_of};
+
+    /// The number by which the fault is told, from 41 to 43.
+    pub fn number(self) -> u8
+        ensures { result ≡ number_of self }
+    {
+        match self {
+            FootFault::WalkTooLong => 41,
+            FootFault::TooManyFootpaths => 42,
+            FootFault::OutOfMemory => 43,
+        }
+    }
+
+    /// The name by which the fault is told.
+    pub fn name(self) -> &'static str
+        ensures { result.now ≡ name_of self }
+    {
+        match self {
+            FootFault::WalkTooLong => "WalkTooLong",
+            FootFault::TooManyFootpaths => "TooManyFootpaths",
+            FootFault::OutOfMemory => "OutOfMemory",
+        }
+    }
+}
+
+impl From<AllocError> for FootFault {
+    ghost from_gives = { λ _ e. e ≡ OutOfMemory };
+
+    fn from(_e: AllocError) -> FootFault {
+        FootFault::OutOfMemory
+    }
+}

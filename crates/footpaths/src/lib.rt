@@ -1,0 +1,13 @@
+//! The closure of listed footpaths: for each ordered pair of stops the least time of a walk over them.
+#![tactic(auto)]
+
+mod closure;
+mod fault;
+mod index;
+mod search;
+
+pub use closure::close;
+pub use fault::FootFault;
+
+#[cfg(test)]
+mod tests;
