@@ -10,11 +10,7 @@ use Rattle.image_layout.specs.Places.{header_of, name_index_place, day_place, Is
 use Rattle.image_layout.specs.Fields.{name_index_of, day_of}
 use Rattle.image_layout.specs.Text.{padded_text_of}
 use Rattle.image_layout.specs.Spelling.{name_list, byte_count_before, name_index, text}
-use Rattle.image_layout.specs.Shown.{name_of, trip_name_of, names_of}
-
--- how many names there are
-abbrev pub name_count : List ℕ → ℕ
-name_count w = (header_of w).stops + (header_of w).trips
+use Rattle.image_layout.specs.Shown.{name_count, name_of, trip_name_of, names_of}
 
 -- the index of the names begins with 0, never falls, and ends with the number of bytes
 pub record IsNameIndex (w : List ℕ) : Type 0 where

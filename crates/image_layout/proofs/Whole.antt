@@ -15,10 +15,10 @@ use Rattle.image_layout.specs.Places.{header_of, foot_index_place, footpath_plac
 use Rattle.image_layout.specs.Fields.{flags_of}
 use Rattle.image_layout.specs.Text.{bytes_of, padded_text_of}
 use Rattle.image_layout.specs.Spelling.{footpath_words, text, text_words, header, image}
-use Rattle.image_layout.specs.Shown.{connection_of, connections_of, footpaths_of, timetable_of, names_of}
+use Rattle.image_layout.specs.Shown.{name_count, connection_of, connections_of, footpaths_of, timetable_of, names_of}
 use Rattle.image_layout.proofs.Sections.{take_next, take_six, connections_again}
 use Rattle.image_layout.proofs.Feet.{IsFootIndex, foot_index_again, footpaths_again}
-use Rattle.image_layout.proofs.Names.{name_count, IsNameIndex, days_again, name_index_again, text_again}
+use Rattle.image_layout.proofs.Names.{IsNameIndex, days_again, name_index_again, text_again}
 
 -- four bytes are the word that spells them
 word_again : (x : ℕ) → x < 2 ^ 32 → from_le_bytes w32 (byte_at 0 x ∷ byte_at 1 x ∷ byte_at 2 x ∷ byte_at 3 x ∷ []) ≡ x

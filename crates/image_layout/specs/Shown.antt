@@ -37,6 +37,10 @@ footpaths_of w = flat_map (footpaths_into w) (range_with_len 0 (header_of w).sto
 abbrev pub timetable_of : List ℕ → TimetableValue
 timetable_of w = record { stops = (header_of w).stops; trips = (header_of w).trips; connections = connections_of w; footpaths = footpaths_of w }
 
+-- how many names there are, of stops and of trips
+abbrev pub name_count : List ℕ → ℕ
+name_count w = (header_of w).stops + (header_of w).trips
+
 -- the bytes of name i
 abbrev pub name_of : List ℕ → ℕ → List ℕ
 name_of w i = slice_range (padded_text_of w) (name_index_of w i) (name_index_of w (i + 1))

@@ -13,7 +13,7 @@ pub use fields::{
     foot_secs_at, from_at, layout_at, magic_at, name_byte_at, name_index_at, to_at, trip_at,
 };
 pub use header::Header;
-pub use sample::sample_words;
+pub use sample::{sample_names, sample_timetable, sample_words};
 pub use words::{Words, WordsFault};
 
 #[cfg(test)]

@@ -4,6 +4,7 @@ ghost use Rattle.image_layout.specs.Shown.{name_of};
 
 use super::layout::{LAYOUT, MAGIC};
 use super::*;
+use std::alloc::AllocError;
 use std::test::*;
 use timetable::Connection;
 
@@ -117,6 +118,44 @@ fn bytes_and_back(rt: HostRuntime) -> Result<(), Fail> {
             (Err(WordsFault::OddLength), None) => {}
             (Err(WordsFault::OutOfMemory), Some(_)) => return Err("out of memory".into()),
             (_, _) => return Err("another answer".into()),
+        }
+    }
+    Ok(())
+}
+
+#[test]
+fn sample_is_given(rt: HostRuntime) -> Result<(), Fail> {
+    let timetable = sample_timetable(rt.alloc())?;
+    let names = sample_names(rt.alloc())?;
+    assert_eq!(rt; timetable.connections.len(), 3);
+    assert_eq!(rt; timetable.footpaths.len(), 3);
+    assert_eq!(rt; names.stops.len(), timetable.stops as usize);
+    assert_eq!(rt; names.trips.len(), timetable.trips as usize);
+    Ok(())
+}
+
+#[test]
+fn faults_have_numbers_and_names(rt: HostRuntime) {
+    for (fault, number, name) in [
+        (WordsFault::OddLength, 51, "OddLength"),
+        (WordsFault::OutOfMemory, 52, "OutOfMemory"),
+    ] {
+        assert_eq!(rt; fault.number(), number);
+        assert_eq!(rt; fault.name(), name);
+    }
+}
+
+/// Whichever growth is refused, want of memory is told, and else the words come back. A refused growth ends the test with
+/// `AllocError`.
+#[test]
+fn refused_growth_is_told(rt: HostRuntime) -> Result<(), Fail> {
+    let sample = sample_words();
+    let bytes = Words::to_bytes(rt.alloc(), &sample)?;
+    match Words::from_bytes(rt.alloc(), &bytes) {
+        Ok(words) => assert_eq!(rt; words.as_slice(), sample.as_slice()),
+        Err(fault) => {
+            assert_eq!(rt; fault, WordsFault::OutOfMemory);
+            return Err(AllocError.into());
         }
     }
     Ok(())
