@@ -7,7 +7,7 @@ use Rattle.std.proofs.lemmas.Bool.{or_parts, ltb-false, eqb-true}
 use Rattle.image_layout.specs.Places.{header_of, word_count, IsWhole}
 use Rattle.image_layout.specs.Fields.{trip_of, foot_index_of, name_index_of}
 use Rattle.image_layout.specs.Text.{padded_text_of}
-use Rattle.image_layout.specs.Shown.{name_of}
+use Rattle.image_layout.specs.Shown.{name_count, name_of}
 use Rattle.image_layout.proofs.Feet.{IsFootIndex}
 use Rattle.image_layout.proofs.Whole.{IsWellFormed}
 use Rattle.image_verifier.specs.declared.fault.ImageFault.TheVariants.{BadMagic, BadLayout, BadLength, FootRange, BadNames}
@@ -15,7 +15,7 @@ use Rattle.timetable.specs.First.{or_else, first_below}
 use Rattle.image_verifier.specs.ConnectionFaults.{own_fault, place_fault, connection_fault, connections_fault, last_of_trip}
 use Rattle.image_verifier.specs.FootFaults.{foot_fault, foot_end_fault, footpaths_fault}
 use Rattle.image_verifier.specs.ClosureFaults.{into_fault, closure_fault}
-use Rattle.image_verifier.specs.NameFaults.{name_count, is_bad_name_range, name_fault, names_end_fault, names_fault}
+use Rattle.image_verifier.specs.NameFaults.{is_bad_name_range, name_fault, names_end_fault, names_fault}
 use Rattle.image_verifier.specs.FirstFault.{is_too_large, header_fault, section_fault, first_fault}
 use Rattle.timetable.proofs.FirstLemmas.{or_else_parts, no_fault, first_below-none}
 use Rattle.image_verifier.proofs.ConnectionLemmas.{IsSound-from}

@@ -16,9 +16,9 @@ use Rattle.timetable.specs.declared.limits.TheConstants.{MAX_STOPS, MAX_TRIPS, M
 use Rattle.timetable.specs.NamesValue.{TripNameValue}
 use Rattle.image_layout.specs.Places.{header_of, day_place}
 use Rattle.image_layout.specs.Text.{padded_text_of}
-use Rattle.image_layout.specs.Shown.{name_of, trip_name_of, timetable_of, names_of}
+use Rattle.image_layout.specs.Shown.{name_count, name_of, trip_name_of, timetable_of, names_of}
 use Rattle.image_layout.specs.Image.{HasImage, IsImage}
-use Rattle.image_layout.proofs.Names.{name_count, names_are, text_again}
+use Rattle.image_layout.proofs.Names.{names_are, text_again}
 use Rattle.image_layout.proofs.Whole.{IsWellFormed, text_is_long, length-connections_of, length-footpaths_of, image_again}
 use Rattle.image_layout.proofs.Found.{connection_shown, footpath_shown}
 use Rattle.image_verifier.specs.FirstFault.{is_too_large}

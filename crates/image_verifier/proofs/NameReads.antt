@@ -10,10 +10,9 @@ use Rattle.image_layout.specs.Places.{header_of}
 use Rattle.image_layout.specs.Fields.{name_index_of}
 use Rattle.image_layout.specs.Text.{padded_text_of}
 use Rattle.image_layout.specs.Spelling.{name_list}
-use Rattle.image_layout.specs.Shown.{name_of, names_of}
+use Rattle.image_layout.specs.Shown.{name_count, name_of, names_of}
 use Rattle.image_layout.proofs.Names.{names_are}
 use Rattle.image_layout.proofs.Whole.{text_is_long}
-use Rattle.image_verifier.specs.NameFaults.{name_count}
 use Rattle.image_verifier.specs.Accepted.{IsAccepted}
 use Rattle.image_verifier.proofs.AcceptedLemmas.{AreFaultless-from, IsName, IsName-from}
 use Rattle.image_verifier.proofs.ImageLemmas.{shown_in}

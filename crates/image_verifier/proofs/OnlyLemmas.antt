@@ -13,9 +13,9 @@ use Rattle.image_layout.specs.Places.{header_of}
 use Rattle.image_layout.specs.Fields.{name_index_of}
 use Rattle.image_layout.specs.Text.{padded_text_of}
 use Rattle.image_layout.specs.Spelling.{name_list, text, image}
-use Rattle.image_layout.specs.Shown.{name_of, timetable_of, names_of}
+use Rattle.image_layout.specs.Shown.{name_count, name_of, timetable_of, names_of}
 use Rattle.image_layout.specs.Image.{HasImage, IsImage}
-use Rattle.image_layout.proofs.Names.{name_count, names_are, at_rises, text_again}
+use Rattle.image_layout.proofs.Names.{names_are, at_rises, text_again}
 use Rattle.image_layout.proofs.Whole.{IsWellFormed, length-connections_of, length-footpaths_of, text_is_long}
 use Rattle.image_layout.proofs.Back.{timetable_back}
 use Rattle.image_layout.proofs.BackNames.{names_back, well_formed_back}

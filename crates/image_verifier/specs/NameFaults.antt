@@ -5,14 +5,10 @@ use Rattle.std.specs.Str.{is_utf8}
 use Rattle.image_layout.specs.Places.{header_of}
 use Rattle.image_layout.specs.Fields.{name_index_of}
 use Rattle.image_layout.specs.Text.{padded_text_of}
-use Rattle.image_layout.specs.Shown.{name_of}
+use Rattle.image_layout.specs.Shown.{name_count, name_of}
 use Rattle.image_verifier.specs.declared.fault.ImageFault.{ImageFault}
 use Rattle.image_verifier.specs.declared.fault.ImageFault.TheVariants.{BadNames}
 use Rattle.timetable.specs.First.{or_else, first_below}
-
--- how many names there are
-abbrev pub name_count : List ℕ → ℕ
-name_count w = (header_of w).stops + (header_of w).trips
 
 -- the bytes of name i are no range of bytes
 abbrev pub is_bad_name_range : List ℕ → ℕ → Bool

@@ -2,9 +2,8 @@
 
 ghost use Rattle.std.specs.Prelude.{◌≡◌, ◌≢◌, ◌<◌, ◌↔◌, ℕ, length, IsTrue, IfSome, IfNone};
 ghost use Rattle.image_layout.specs.Places.{header_of};
-ghost use Rattle.image_layout.specs.Shown.{name_of};
+ghost use Rattle.image_layout.specs.Shown.{name_count, name_of};
 ghost use Rattle.image_verifier.specs.Accepted.{IsAccepted};
-ghost use Rattle.image_verifier.specs.NameFaults.{name_count};
 
 use image_layout::{Header, name_byte_at, name_index_at};
 

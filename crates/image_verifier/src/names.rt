@@ -5,7 +5,8 @@ ghost use Rattle.std.specs.List.{list_all};
 ghost use Rattle.std.specs.Str.{is_utf8};
 ghost use Rattle.image_layout.specs.Places.{IsWhole, header_of};
 ghost use Rattle.image_layout.specs.Text.{padded_text_of};
-ghost use Rattle.image_verifier.specs.NameFaults.{is_bad_name_range, name_count, name_fault, names_end_fault, names_fault};
+ghost use Rattle.image_layout.specs.Shown.{name_count};
+ghost use Rattle.image_verifier.specs.NameFaults.{is_bad_name_range, name_fault, names_end_fault, names_fault};
 
 use crate::fault::ImageFault;
 use image_layout::{Header, name_index_at};

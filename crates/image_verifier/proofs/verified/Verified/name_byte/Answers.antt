@@ -2,9 +2,8 @@ use Rattle.std.proofs.Common.{◌+◌, ◌<◌, ℕ, List, length, sym, subst, a
 use Rattle.std.specs.Prelude.{slice_get}
 use Rattle.timetable.specs.Legal.{At}
 use Rattle.image_layout.specs.Spelling.{name_list}
-use Rattle.image_layout.specs.Shown.{name_of}
+use Rattle.image_layout.specs.Shown.{name_count, name_of}
 use Rattle.image_layout.specs.Image.{ImageValue}
-use Rattle.image_verifier.specs.NameFaults.{name_count}
 use Rattle.image_verifier.proofs.NameReads.{name_is, name_shown}
 use Rattle.image_verifier.proofs.verified.Verified.name_byte.Goals as goal
 
