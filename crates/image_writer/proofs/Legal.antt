@@ -4,9 +4,6 @@ use Rattle.std.proofs.lemmas.Option.{same_Some}
 use Rattle.timetable.specs.declared.network.Footpath.{Footpath}
 use Rattle.timetable.specs.TimetableValue.{TimetableValue}
 use Rattle.timetable.specs.Legal.{At, HasFootpath, AreInOrder, IsLegal}
-use Rattle.image_layout.specs.Sample.{sample_timetable, sample_names}
-use Rattle.image_layout.proofs.SampleImage.{sample_has_image}
-use Rattle.image_writer.specs.Writable.{IsWritable}
 
 abbrev pub one_stop : TimetableValue
 one_stop = record { stops = 1; trips = 0; connections = []; footpaths = record { from = 0; to = 0; secs = 60 } ∷ [] }
@@ -39,13 +36,4 @@ one_stop_is_legal = record {
   in_order = one_in_order;
   loops = loops;
   closed = λ a b c d1 d2 first second. (d2, subst (λ (x : ℕ). HasFootpath one_stop.footpaths x c d2) (sym (is_loop a b d1 first)) second, omega arith);
-}
-
-pub sample_is_writable : IsWritable sample_timetable sample_names
-sample_is_writable = record {
-  legal = sample_has_image.legal;
-  limits = sample_has_image.limits;
-  stop_names = refl;
-  trip_names = refl;
-  bytes = sample_has_image.names.bytes;
 }

@@ -1,29 +1,13 @@
-ghost use Rattle.std.specs.Prelude.{◌≡◌, ◌≤◌, length, true, IfOk};
+ghost use Rattle.std.specs.Prelude.{◌≡◌, ◌≤◌, length, IfOk};
 ghost use Rattle.timetable.specs.Legal.{IsLegal};
 ghost use Rattle.timetable.specs.Limits.{IsWithinLimits};
 ghost use Rattle.image_layout.specs.Spelling.{text};
-ghost use Rattle.image_layout.specs.Sample.{sample_timetable, sample_names};
 
 use super::*;
-use image_layout::sample_words;
+use image_layout::{sample_names, sample_timetable, sample_words};
 use std::alloc::{AllocError, Global};
 use std::test::*;
-use timetable::{Connection, Footpath, Names, Timetable, TripName};
-
-/// A connection of the sample: all may board and alight.
-fn open_connection(from: u32, to: u32, dep: u32, arr: u32, trip: u32) -> Connection
-    ensures { result ≡ record { from = from; to = to; dep = dep; arr = arr; trip = trip; board = true; alight = true } }
-{
-    Connection {
-        from,
-        to,
-        dep,
-        arr,
-        trip,
-        board: true,
-        alight: true,
-    }
-}
+use timetable::{Footpath, Names, Timetable};
 
 /// The change time at a stop.
 fn change(stop: u32, secs: u32) -> Footpath
@@ -34,41 +18,6 @@ fn change(stop: u32, secs: u32) -> Footpath
         to: stop,
         secs,
     }
-}
-
-fn sample_timetable(alloc: Global) -> Result<Timetable, AllocError>
-    ensures { IfOk result (λ t. t ≡ sample_timetable) }
-{
-    let connections = vec![in alloc;
-        open_connection(0, 1, 28800, 29400, 0),
-        open_connection(1, 2, 29400, 30600, 0),
-        open_connection(1, 2, 29520, 30000, 1),
-    ]?;
-    let footpaths = vec![in alloc; change(0, 0), change(1, 0), change(2, 0)]?;
-    Ok(Timetable {
-        stops: 3,
-        trips: 2,
-        connections,
-        footpaths,
-    })
-}
-
-fn sample_names(alloc: Global) -> Result<Names, AllocError>
-    ensures { IfOk result (λ n. n ≡ sample_names) }
-{
-    let a = String::from_str(alloc, "A")?;
-    let b = String::from_str(alloc, "B")?;
-    let c = String::from_str(alloc, "C")?;
-    let t1 = String::from_str(alloc, "T1")?;
-    let t2 = String::from_str(alloc, "T2")?;
-    let stops = vec![in alloc; a, b, c]?;
-    let day = 20240115;
-    let trips = vec![in alloc; TripName { name: t1, day }, TripName { name: t2, day }]?;
-    Ok(Names {
-        base: 1705276800,
-        stops,
-        trips,
-    })
 }
 
 #[test]
@@ -161,5 +110,16 @@ fn names_fill_words(rt: HostRuntime) -> Result<(), Fail> {
         let names = one_name(rt.alloc(), name)?;
         assert_eq!(rt; write(rt.alloc(), &timetable, &names)?, wanted);
     }
+    Ok(())
+}
+
+/// Whichever growth is refused, want of memory is told, and else all words are there. A refused growth ends the test with
+/// `AllocError`.
+#[test]
+fn refused_growth_is_told(rt: HostRuntime) -> Result<(), Fail> {
+    let timetable = one_stop(rt.alloc())?;
+    let names = one_name(rt.alloc(), "Wels")?;
+    let words = write(rt.alloc(), &timetable, &names)?;
+    assert_eq!(rt; words.len(), 16);
     Ok(())
 }
