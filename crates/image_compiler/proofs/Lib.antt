@@ -1,0 +1,2 @@
+pub mod OneImage
+pub mod Early
