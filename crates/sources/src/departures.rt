@@ -22,6 +22,7 @@ impl<'a> Departures<'a> {
         ensures reads { result.reads ≡ [] }
         ensures legal { IsLegal image.now.timetable }
     {
+        // Says of the image what each one keeps: its timetable is legal.
         image.stops();
         Departures {
             image,

@@ -26,6 +26,7 @@ impl<'a> InPlace<'a> {
         ensures timetable { ⟦<InPlace<'a> as ConnSource>⟧.timetable result ≡ image.now.timetable }
         ensures log { ⟦<InPlace<'a> as ConnSource>⟧.log result ≡ [] }
     {
+        // Says of the image what each one keeps: its timetable is legal and within the limits.
         image.stops();
         InPlace {
             image,
