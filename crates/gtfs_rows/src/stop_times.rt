@@ -65,17 +65,17 @@ fn available(text: &[u8]) -> bool
 fn stop_place(
     alloc: Global,
     stops: &mut IndexSet<String>,
-    text: &[u8],
+    id: &[u8],
 ) -> Result<Option<u32>, FaultKind>
-    requires { IsUtf8 text.now }
-    ensures more { OnOk result (map string_bytes stops.new.keys ≡ given_also (map string_bytes stops.old.keys) text.now) }
-    ensures ok { IfOk result (λ place. IsStopId (map string_bytes stops.new.keys) place text.now) }
+    requires { IsUtf8 id.now }
+    ensures more { OnOk result (map string_bytes stops.new.keys ≡ given_also (map string_bytes stops.old.keys) id.now) }
+    ensures ok { IfOk result (λ place. IsStopId (map string_bytes stops.new.keys) place id.now) }
     ensures err { IfErr result (λ kind. kind ≡ FaultKind.OutOfMemory) }
 {
-    if text.is_empty() {
+    if id.is_empty() {
         return Ok(None);
     }
-    let place = place_of(alloc, stops, None, text)?;
+    let place = place_of(alloc, stops, None, id)?;
     Ok(Some(place))
 }
 
