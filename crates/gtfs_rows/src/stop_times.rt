@@ -19,7 +19,8 @@ use csv::ByteRecord;
 use indexmap::IndexSet;
 use std::alloc::Global;
 
-/// The rows of `stop_times.txt`, and the ids that they name by place: of trips, and of stops.
+/// The rows of `stop_times.txt`, and the ids that they name by place: of trips, and of stops. Each id is there once, in
+/// the order in which they are first seen.
 #[derive(Drop)]
 pub struct StopTimes {
     pub trips: IndexSet<String>,
