@@ -127,10 +127,13 @@ index_more listed stop first paths new adds old = subst (λ (xs : List Footpath)
   where
     at_end : get_or (first ++ length (paths ++ adds.added) ∷ []) (stop + 1) 0 ≡ length (paths ++ adds.added)
     at_end = get_or-append_right first (length (paths ++ adds.added) ∷ []) (stop + 1) (stop + 1) 0 old.count (omega arith) ∙ ap (λ (n : ℕ). get_or (length (paths ++ adds.added) ∷ []) n 0) (let e : (stop + 1) - (stop + 1) ≡ 0 = omega arith in e)
+
     at_first : (s : ℕ) → s < stop + 1 → get_or (first ++ length (paths ++ adds.added) ∷ []) s 0 ≡ get_or first s 0
     at_first s below = get_or_append_left first (length (paths ++ adds.added) ∷ []) 0 s (omega (arith, below, old.count))
+
     longer : length (first ++ length (paths ++ adds.added) ∷ []) ≡ stop + 2
     longer = omega (arith, length-append first (length (paths ++ adds.added) ∷ []), old.count)
+
     more : IsIndexUpTo listed (stop + 1) (first ++ length (paths ++ adds.added) ∷ []) (paths ++ adds.added)
     more = record {
       count = omega (arith, longer);

@@ -2,3 +2,5 @@ pub mod SearchLemmas
 pub mod WalkLemmas
 pub mod IndexLemmas
 pub mod OrderLemmas
+pub mod ClosureLemmas
+pub mod LawLemmas

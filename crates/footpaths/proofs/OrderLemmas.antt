@@ -8,12 +8,12 @@ use Rattle.timetable.specs.Legal.{At, HasFootpath, IsOrderedBefore, AreInOrder}
 use Rattle.timetable.specs.LegalProp.{in_order_later}
 use Rattle.footpaths.proofs.IndexLemmas.{Contains-at, at_Contains, same_at}
 
-get-left : (xs ys : List Footpath) (i : ℕ) → i < length xs → slice_get (xs ++ ys) i ≡ slice_get xs i
+pub get-left : (xs ys : List Footpath) (i : ℕ) → i < length xs → slice_get (xs ++ ys) i ≡ slice_get xs i
 get-left [] ys i below = absurd (omega (arith, below))
 get-left (x ∷ xs) ys zero below = refl
 get-left (x ∷ xs) ys (suc i) below = get-left xs ys i (omega (arith, below))
 
-get-end : (xs : List Footpath) (f : Footpath) → slice_get (xs ++ f ∷ []) (length xs) ≡ Some f
+pub get-end : (xs : List Footpath) (f : Footpath) → slice_get (xs ++ f ∷ []) (length xs) ≡ Some f
 get-end [] f = refl
 get-end (x ∷ xs) f = get-end xs f
 
@@ -65,8 +65,8 @@ ends_of y f secs e =
 
 -- where the first isn't between those stops, another is
 pair_in_tail : (y : Footpath) (w : List Footpath) (f : Footpath) → (y.from ≡ f.from → y.to ≡ f.to → ⊥) → HasPair (y ∷ w) f → HasPair w f
-pair_in_tail y w f differ (secs, zero, at) = let ends = ends_of y f secs at in absurd (differ ends.0 ends.1)
-pair_in_tail y w f differ (secs, suc i, at) = (secs, i, at)
+pair_in_tail y w f differ (secs, (zero, at)) = let ends = ends_of y f secs at in absurd (differ ends.0 ends.1)
+pair_in_tail y w f differ (secs, (suc i, at)) = (secs, (i, at))
 
 -- three in a row
 not_round : (y x f : Footpath) → IsOrderedBefore y x → IsOrderedBefore x f → y.from ≡ f.from → y.to ≡ f.to → ⊥
@@ -75,30 +75,37 @@ not_round y x f first second from to =
     let far : x.to ≡ f.to = omega (arith, near, to) in
     omega (arith, first.1 near, second.1 far, from)
 
+-- the pair is that of the first, or of another
+pair_cases : (y : Footpath) (w : List Footpath) (f : Footpath) → HasPair (y ∷ w) f → ((y.from ≡ f.from) × (y.to ≡ f.to)) ⊎ HasPair w f
+pair_cases y w f (secs, (zero, at)) = inl (ends_of y f secs at)
+pair_cases y w f (secs, (suc i, at)) = inr (secs, (i, at))
+
+-- where the first of one list is in the tail of the other, no pair of the one is that of the other's first
+first_differs : (x : Footpath) (p : List Footpath) (y : Footpath) (w : List Footpath) → AreInOrder (x ∷ p) → AreInOrder (y ∷ w) → HasPair w x → (j : ℕ) (f : Footpath) → At (x ∷ p) j f → y.from ≡ f.from → y.to ≡ f.to → ⊥
+first_differs x p y w in_part in_whole (secs, (i, at)) zero f at_f from to =
+    let before : IsOrderedBefore y (record { from = x.from; to = x.to; secs = secs }) = first_before y w in_whole i (record { from = x.from; to = x.to; secs = secs }) at in
+    let same : x ≡ f = same_Some x f at_f in
+    let x_from : x.from ≡ f.from = ap (λ (g : Footpath). g.from) same in
+    let x_to : x.to ≡ f.to = ap (λ (g : Footpath). g.to) same in
+    let less : y.from < x.from = before.1 (to ∙ sym x_to) in
+    omega (arith, less, from, x_from)
+first_differs x p y w in_part in_whole (secs, (i, at)) (suc j) f at_f from to =
+    not_round y (record { from = x.from; to = x.to; secs = secs }) f (first_before y w in_whole i (record { from = x.from; to = x.to; secs = secs }) at) (first_before x p in_part j f at_f) from to
+
 -- footpaths in order are no more than those of a list that has one between the same stops for each
 pub no_longer : (part whole : List Footpath) → AreInOrder part → AreInOrder whole → ((j : ℕ) (f : Footpath) → At part j f → HasPair whole f) → length part ≤ length whole
 no_longer [] whole in_part in_whole all = omega arith
-no_longer (x ∷ p) [] in_part in_whole all = let (secs, i, at) = all 0 x refl in absurd (at_nothing i (record { from = x.from; to = x.to; secs = secs }) at)
-no_longer (x ∷ p) (y ∷ w) in_part in_whole all = by (all 0 x refl)
-  where
-    by : HasPair (y ∷ w) x → length (x ∷ p) ≤ length (y ∷ w)
-    by (secs, zero, at) =
-        let ends = ends_of y x secs at in
-        let rest = no_longer p w (in_order_tail x p in_part) (in_order_tail y w in_whole) (λ j f at_f.
-            pair_in_tail y w f (λ from to. never_same x f (first_before x p in_part j f at_f) (sym ends.0 ∙ from) (sym ends.1 ∙ to)) (all (suc j) f at_f)) in
-        omega (arith, rest)
-    by (secs, suc i, at) =
-        let before_x : IsOrderedBefore y (record { from = x.from; to = x.to; secs = secs }) = first_before y w in_whole i (record { from = x.from; to = x.to; secs = secs }) at in
-        let rest = no_longer (x ∷ p) w in_part (in_order_tail y w in_whole) (λ j f at_f. pair_in_tail y w f (differ before_x j f at_f) (all j f at_f)) in
-        omega (arith, rest)
-      where
-        differ : IsOrderedBefore y (record { from = x.from; to = x.to; secs = secs }) → (j : ℕ) (f : Footpath) → At (x ∷ p) j f → y.from ≡ f.from → y.to ≡ f.to → ⊥
-        differ before zero f at_f from to =
-            let same : x ≡ f = same_Some x f at_f in
-            let x_from : x.from ≡ f.from = ap (λ (g : Footpath). g.from) same in
-            let x_to : x.to ≡ f.to = ap (λ (g : Footpath). g.to) same in
-            omega (arith, before.1 (to ∙ sym x_to), from, x_from)
-        differ before (suc j) f at_f from to = not_round y (record { from = x.from; to = x.to; secs = secs }) f before (first_before x p in_part j f at_f) from to
+no_longer (x ∷ p) [] in_part in_whole all = let (secs, (i, at)) = all 0 x refl in absurd (at_nothing i (record { from = x.from; to = x.to; secs = secs }) at)
+no_longer (x ∷ p) (y ∷ w) in_part in_whole all = elim (pair_cases y w x (all 0 x refl)) [
+  | inl ends ↦
+      let rest : length p ≤ length w = no_longer p w (in_order_tail x p in_part) (in_order_tail y w in_whole) (λ j f at_f.
+      pair_in_tail y w f (λ from to. never_same x f (first_before x p in_part j f at_f) (sym ends.0 ∙ from) (sym ends.1 ∙ to)) (all (suc j) f at_f)) in
+      omega (arith, rest)
+  | inr in_tail ↦
+      let rest : length (x ∷ p) ≤ length w = no_longer (x ∷ p) w in_part (in_order_tail y w in_whole) (λ j f at_f.
+      pair_in_tail y w f (first_differs x p y w in_part in_whole in_tail j f at_f) (all j f at_f)) in
+      omega (arith, rest)
+]
 
 -- lists in order with the same footpaths are one list
 pub same_list : (c d : List Footpath) → AreInOrder c → AreInOrder d → ((f : Footpath) → Contains c f → Contains d f) → ((f : Footpath) → Contains d f → Contains c f) → c ≡ d
@@ -115,6 +122,7 @@ same_list (x ∷ c) (y ∷ d) in_c in_d there back =
     into_tail : (z : Footpath) (zs : List Footpath) (f : Footpath) → (z ≡ f → ⊥) → (i : ℕ) × At (z ∷ zs) i f → Contains zs f
     into_tail z zs f differ (zero, at) = absurd (differ (same_Some z f at))
     into_tail z zs f differ (suc i, at) = Contains-at zs i f at
+
     first_same : (i : ℕ) × At (y ∷ d) i x → (j : ℕ) × At (x ∷ c) j y → x ≡ y
     first_same (zero, at) other = sym (same_Some y x at)
     first_same (suc i, at) (zero, at_y) = same_Some x y at_y

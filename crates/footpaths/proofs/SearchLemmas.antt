@@ -5,7 +5,7 @@ use Rattle.std.proofs.Math.ListN.{length-set}
 use Rattle.std.proofs.lemmas.Bool.{cases_eq}
 use Rattle.std.proofs.lemmas.Option.{same_Some, none-some}
 use Rattle.std.proofs.lemmas.List.{get_or-set_same, get_or-set_other, get_or_default}
-use Rattle.std.proofs.lemmas.List.Elements.{All-contains, All-cons, All-weaker, Contains-push, Contains-append_left}
+use Rattle.std.proofs.lemmas.List.Elements.{All-contains, All-cons, All-nil, All-push, Contains-push, Contains-append_left}
 use Rattle.std.proofs.lemmas.List.Sorted.{Contains-permutation, All-permutation}
 use Rattle.std.proofs.lemmas.List.Sums.{sum_by-set}
 use Rattle.timetable.specs.declared.network.Footpath.{Footpath}
@@ -86,12 +86,25 @@ module _ (times : List (Option ℕ)) (pending pending' : List Found) (stop secs 
     | inr differ ↦ walked other d (sym (time_other other differ) ∙ at)
   ]
 
-  pub AreReached-set : (reached reached' : List ℕ) → ((s : ℕ) → Contains reached s → Contains reached' s) → Contains reached' stop
-      → AreReached times reached → AreReached (set times stop (Some secs)) reached'
-  AreReached-set reached reached' more here ones = λ other d at. elim (cases_eq other stop) [
-    | inl same ↦ subst (λ (s : ℕ). Contains reached' s) (sym same) here
-    | inr differ ↦ more other (ones other d (sym (time_other other differ) ∙ at))
-  ]
+  -- the stop is among those reached already
+  pub AreReached-again : (reached : List ℕ) → Contains reached stop → AreReached times reached → AreReached (set times stop (Some secs)) reached
+  AreReached-again reached here old = record {
+    has = λ other d at. elim (cases_eq other stop) [
+      | inl same ↦ subst (λ (s : ℕ). Contains reached s) (sym same) here
+      | inr differ ↦ old.has other d (sym (time_other other differ) ∙ at)
+    ];
+    inside = subst (λ (n : ℕ). All (λ s. s < n) reached) (sym (length-set times stop (Some secs))) old.inside;
+  }
+
+  -- the stop is reached now
+  pub AreReached-push : (reached : List ℕ) → AreReached times reached → AreReached (set times stop (Some secs)) (reached ++ stop ∷ [])
+  AreReached-push reached old = record {
+    has = λ other d at. elim (cases_eq other stop) [
+      | inl same ↦ subst (λ (s : ℕ). Contains (reached ++ stop ∷ []) s) (sym same) (Contains-push reached stop)
+      | inr differ ↦ Contains-append_left reached (stop ∷ []) other (old.has other d (sym (time_other other differ) ∙ at))
+    ];
+    inside = subst (λ (n : ℕ). All (λ s. s < n) (reached ++ stop ∷ [])) (sym (length-set times stop (Some secs))) (All-push (λ s. s < length times) reached stop old.inside inside);
+  }
 
   pub weight-set : (cap : ℕ) → secs ≤ cap → IsUndercut times stop secs → weight cap (set times stop (Some secs)) + 1 ≤ weight cap times
   weight-set cap small undercut =
@@ -117,3 +130,17 @@ all_within_more times times' paths secs i inside lower before e here k d below =
   | inl same ↦ subst (λ (n : ℕ). IsWithin times' (get_or paths n d).from ((get_or paths n d).secs + secs)) (sym same) (subst (λ (f : Footpath). IsWithin times' f.from (f.secs + secs)) (get_or_default paths i e d inside) here)
   | inr differ ↦ lower (get_or paths k d).from ((get_or paths k d).secs + secs) (before k d (omega (arith, below, differ)))
 ]
+
+-- those reached in another order
+pub AreReached-sorted : (times : List (Option ℕ)) (reached reached' : List ℕ) → IsPermutation reached reached' → AreReached times reached → AreReached times reached'
+AreReached-sorted times reached reached' moved old = record {
+  has = λ stop secs at. Contains-permutation reached reached' stop moved (old.has stop secs at);
+  inside = All-permutation (λ s. s < length times) reached reached' moved old.inside;
+}
+
+-- nothing is reached yet
+pub AreReached-none : (times : List (Option ℕ)) (reached : List ℕ) → reached ≡ [] → ((stop : ℕ) → time_at times stop ≡ None) → AreReached times reached
+AreReached-none times reached none empty = record {
+  has = λ stop secs at. absurd (none-some secs (sym (empty stop) ∙ at));
+  inside = subst (λ (xs : List ℕ). All (λ s. s < length times) xs) (sym none) (All-nil (λ s. s < length times));
+}

@@ -92,9 +92,3 @@ least listed cap target times walked started followed stop = by (time_at times s
           let same : secs ≡ d = same_Some secs d (sym at ∙ known) in
           omega (arith, same, le),
     )
-
--- the same of what a call gives
-pub least_given : {T E : Type 0} (r : Result T E) (listed : List Footpath) (cap target : ℕ) (times : List (Option ℕ)) → OnOk r (AreWalked listed cap target times)
-    → ((f : Footpath) → Contains listed f → f.to ≡ target → OnOk r (IsWithin times f.from (f.secs + 0))) → OnOk r (AreFollowed listed times) → OnOk r (AreToldLeast listed cap target times)
-least_given (Ok x) listed cap target times walked started followed = least listed cap target times walked started followed
-least_given (Err e) listed cap target times walked started followed = tt

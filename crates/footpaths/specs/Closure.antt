@@ -1,5 +1,5 @@
 -- The closure of listed footpaths, what a legal timetable asks of it, and why it isn't made.
-use Rattle.std.specs.Prelude.{◌≡◌, ℕ, ◌+◌, ◌<◌, ◌≤◌, List, length, Contains}
+use Rattle.std.specs.Prelude.{◌≡◌, ℕ, ◌+◌, ◌<◌, ◌≤◌, List, length, All, Contains}
 use Rattle.timetable.specs.declared.network.Footpath.{Footpath}
 use Rattle.timetable.specs.Journeys.{walk_secs}
 use Rattle.timetable.specs.Legal.{At, HasFootpath, AreInOrder}
@@ -38,7 +38,7 @@ IsFault listed most longest OutOfMemory = Unit {0}
 
 -- each footpath joins two of so many stops
 abbrev pub AreInRange : List Footpath → ℕ → Type 0
-AreInRange listed stops = (f : Footpath) → Contains listed f → (f.from < stops) × (f.to < stops)
+AreInRange listed stops = All (λ f. (f.from < stops) × (f.to < stops)) listed
 
 -- each stop has a loop
 abbrev pub HasLoops : List Footpath → ℕ → Type 0

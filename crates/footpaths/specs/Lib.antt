@@ -3,3 +3,4 @@ pub mod Walks
 pub mod Closure
 pub mod Search
 pub mod Index
+pub mod Collected

@@ -34,9 +34,10 @@ IsBackFrom listed cap target f secs = IsToldTime listed cap f.from target (min (
 abbrev pub AreWalked : List Footpath → ℕ → ℕ → List (Option ℕ) → Type 0
 AreWalked listed cap target times = (stop secs : ℕ) → time_at times stop ≡ Some secs → IsToldTime listed cap stop target secs
 
--- each stop that has a time is listed
-abbrev pub AreReached : List (Option ℕ) → List ℕ → Type 0
-AreReached times reached = (stop secs : ℕ) → time_at times stop ≡ Some secs → Contains reached stop
+-- each stop that has a time was reached, and all those reached are stops of the table
+pub record AreReached (times : List (Option ℕ)) (reached : List ℕ) : Type 0 where
+  pub has : (stop secs : ℕ) → time_at times stop ≡ Some secs → Contains reached stop
+  pub inside : All (λ s. s < length times) reached
 
 -- no footpath into a stop, walked before so many seconds, makes a time less
 abbrev pub IsFollowed : List Footpath → List (Option ℕ) → ℕ → ℕ → Type 0

@@ -4,6 +4,7 @@
 mod closure;
 mod fault;
 mod index;
+pub mod laws;
 mod search;
 
 pub use closure::close;

@@ -2,6 +2,7 @@
 
 ghost use Rattle.std.specs.Prelude.{◌≡◌, ◌<◌, ◌≤◌, ◌+◌, ◌*◌, true, false, ℕ, [], None, Some, is_none, Contains, All, length, min, IfOk, OnOk, ◌⊎◌};
 ghost use Rattle.std.specs.BinaryHeap.{heap_items, heap_len};
+ghost use Rattle.std.specs.List.Sorted.{IsNonDecreasing};
 ghost use Rattle.timetable.specs.declared.network.Footpath.{Footpath};
 ghost use Rattle.footpaths.specs.Index.{IsIndex, IsOver};
 ghost use Rattle.footpaths.specs.Search.{time_at, IsWithin, IsUndercut, IsToldTime, IsBackFrom, AreWalked, AreReached, ArePendingInside, Grows, IsFollowed, AreFollowed, ArePendingOrFollowed, weight, AreToldLeast};
@@ -154,18 +155,22 @@ impl Search {
         Ok(())
     }
 
-    /// Finds the least time of a walk from each stop into the target, told no further than a cap.
+    /// Finds the least time of a walk from each stop into the target, told no further than a cap, and sorts the stops reached.
     pub fn fill(&mut self, index: &Index, target: u32, cap: u32) -> Result<(), AllocError>
         requires over { IsOver (length self.old.times.items) index.now.first.items index.now.paths.items }
         requires in_table { target < length self.old.times.items }
         requires empty { (stop : ℕ) → time_at self.old.times.items stop ≡ None }
+        requires nothing { self.old.reached.items ≡ [] }
         requires idle { heap_items self.old.pending ≡ [] }
         ensures count { OnOk result (length self.new.times.items ≡ length self.old.times.items) }
         ensures least { (listed : _) → IsIndex listed index.now.first.items index.now.paths.items → OnOk result (AreToldLeast listed cap target self.new.times.items) }
         ensures reached { OnOk result (AreReached self.new.times.items self.new.reached.items) }
+        ensures sorted { OnOk result (IsNonDecreasing self.new.reached.items) }
         ensures idle { OnOk result (heap_items self.new.pending ≡ []) }
     {
         self.spread(index.into(target), 0, cap)?;
-        self.settle(index, cap)
+        self.settle(index, cap)?;
+        self.reached.sort_unstable();
+        Ok(())
     }
 }

@@ -32,5 +32,5 @@ loop-place-preserved c =
       adds = λ stop into_stop.
           subst (λ (xs : List Footpath). AddsThoseFrom c.args.listed.now stop (get_or c.args.before.now (c.loop-place.place - 1) 0) c.args.paths.now.items xs) (sym c.in_ok-push.ensures.items)
           (adds_more c.args.listed.now c.args.paths.now.items c.loop-place.paths.items stop c.loop-place.place (c.loop-place.place - 1) path at_path number (c.loop-place.invariant.into stop into_stop (c.loop-place.place - 1) path number at_path)
-            (get_or c.args.before.now (c.loop-place.place - 1) 0) before (c.loop-place.invariant.adds stop into_stop));
+          (get_or c.args.before.now (c.loop-place.place - 1) 0) before (c.loop-place.invariant.adds stop into_stop));
     }

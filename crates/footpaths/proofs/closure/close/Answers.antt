@@ -1,0 +1,11 @@
+use Rattle.std.proofs.Common.{Vec, Global}
+use Rattle.std.proofs.lemmas.Result.{IfOk-weaker}
+use Rattle.timetable.specs.declared.network.Footpath.{Footpath}
+use Rattle.footpaths.specs.Closure.{IsClosure, HasLegalFootpaths}
+use Rattle.footpaths.proofs.LawLemmas.{legal_closure}
+use Rattle.footpaths.proofs.closure.close.Goals as goal
+
+pub returns-clause-legal : goal.returns-clause-legal
+returns-clause-legal c =
+    IfOk-weaker c.close_within.result (λ (v : Vec Footpath Global). IsClosure c.args.listed.now v.items) (λ (v : Vec Footpath Global). HasLegalFootpaths c.args.stops v.items)
+    (λ v is. legal_closure c.args.stops c.args.listed.now v.items c.requires.in_range c.requires.loops is) c.close_within.ensures.closure

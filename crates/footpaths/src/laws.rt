@@ -1,0 +1,27 @@
+//! Laws of closures. The functions do nothing: their contracts are the laws.
+
+ghost use Rattle.std.specs.Prelude.{◌≡◌, ◌<◌, ◌↔◌, ℕ, List, length, Contains};
+ghost use Rattle.timetable.specs.declared.network.Footpath.{Footpath};
+ghost use Rattle.footpaths.specs.Closure.{IsClosure, HasMorePairs, HasLongerWalk, AreInRange, HasLoops, HasLegalFootpaths};
+
+/// The closure of footpaths among which each stop has a loop meets what a legal timetable asks of its footpaths.
+pub fn closure_is_legal()
+    ensures { (stops : ℕ) (listed closure : List Footpath) → AreInRange listed stops → HasLoops listed stops → IsClosure listed closure → HasLegalFootpaths stops closure }
+{}
+
+/// Listed footpaths have one closure at most.
+pub fn one_closure()
+    ensures { (listed closure other : List Footpath) → IsClosure listed closure → IsClosure listed other → closure ≡ other }
+{}
+
+/// Footpaths that are closed already stay as they are.
+pub fn closed_stays()
+    ensures { (stops : ℕ) (paths : List Footpath) → HasLegalFootpaths stops paths → IsClosure paths paths }
+{}
+
+/// The faults are told of the closure: it has more footpaths than that exactly where walks join more pairs of stops, and one that
+/// takes longer exactly where some pair is joined by such walks alone.
+pub fn faults_of_closure()
+    ensures many { (listed closure : List Footpath) (most : ℕ) → IsClosure listed closure → HasMorePairs listed most ↔ (most < length closure) }
+    ensures long { (listed closure : List Footpath) (longest : ℕ) → IsClosure listed closure → HasLongerWalk listed longest ↔ ((f : Footpath) × Contains closure f × (longest < f.secs)) }
+{}
