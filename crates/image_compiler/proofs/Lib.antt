@@ -1,2 +1,3 @@
 pub mod OneImage
 pub mod Early
+pub mod Fits

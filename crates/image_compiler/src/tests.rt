@@ -90,7 +90,7 @@ fn early_names(alloc: Global) -> Result<Names, AllocError>
     })
 }
 
-/// The bytes of a name, in their order.
+/// Whether a name has these bytes.
 fn has_name(image: &Verified, name: usize, bytes: &[u8]) -> bool {
     if name >= image.stops() as usize + image.trips() as usize {
         return false;

@@ -1,0 +1,15 @@
+//! A law of images. The function does nothing: its contract is the law.
+
+ghost use Rattle.std.specs.Prelude.{◌≡◌, ◌<◌, ◌^◌, All, None};
+ghost use Rattle.timetable.specs.TimetableValue.{TimetableValue};
+ghost use Rattle.timetable.specs.NamesValue.{NamesValue};
+ghost use Rattle.image_layout.specs.Spelling.{image};
+ghost use Rattle.image_layout.specs.Image.{HasImage};
+ghost use Rattle.image_verifier.specs.FirstFault.{first_fault};
+
+/// Every legal timetable within the limits has an image, whatever the names that fit it: its words fit 32 bits, and have no
+/// fault.
+pub fn every_timetable_has_an_image()
+    ensures words { (t : TimetableValue) (n : NamesValue) → HasImage t n → All (λ x. x < 2 ^ 32) (image t n) }
+    ensures faultless { (t : TimetableValue) (n : NamesValue) → HasImage t n → first_fault (image t n) ≡ None }
+{}
