@@ -76,7 +76,7 @@ pub struct TableFault {
 
 impl FaultKind {
     /// The number by which the kind is told, from 1 to 17 in the order of the enum.
-    pub fn number(self) -> u32
+    pub fn number(self) -> u8
         ensures { result ≡ fault_number self }
     {
         match self {
