@@ -1,20 +1,19 @@
 -- How the closure is collected, and what it is then.
-use Rattle.std.proofs.Common.{◌≡◌, ◌≢◌, ℕ, zero, suc, ◌+◌, ◌<◌, ◌≤◌, ◌⊎◌, inl, inr, List, [], ◌∷◌, ◌++◌, length, min, Option, Some, None, All, Contains, get_or, set, take, drop, refl, sym, ap, subst, ◌∙◌, arith, length-append}
-use Rattle.std.specs.List.{slice_get}
+use Rattle.std.proofs.Common.{◌≡◌, ◌≢◌, ℕ, ◌+◌, ◌<◌, ◌≤◌, ◌⊎◌, inl, inr, List, [], ◌∷◌, ◌++◌, length, Option, Some, None, All, Contains, get_or, set, take, drop, refl, sym, ap, subst, ◌∙◌, arith, length-append}
 use Rattle.std.specs.List.Sorted.{IsNonDecreasing}
 use Rattle.std.proofs.Math.ListN.{length-set}
-use Rattle.std.proofs.lemmas.Bool.{cases_eq, cases_lt}
+use Rattle.std.proofs.lemmas.Bool.{cases_eq}
 use Rattle.std.proofs.lemmas.Option.{same_Some, none-some}
 use Rattle.std.proofs.lemmas.List.{get_or-set_same, get_or-set_other, get_or_default, append-nil, take_all, drop_all}
 use Rattle.std.proofs.lemmas.List.Elements.{All-contains, Contains-push_cases, Contains-append_left}
 use Rattle.timetable.specs.declared.network.Footpath.{Footpath}
-use Rattle.timetable.specs.Journeys.{IsWalk, walk_end, walk_secs}
-use Rattle.timetable.specs.Legal.{At, HasFootpath, IsOrderedBefore, AreInOrder}
+use Rattle.timetable.specs.Journeys.{IsWalk, walk_end}
+use Rattle.timetable.specs.Legal.{HasFootpath, IsOrderedBefore, AreInOrder}
 use Rattle.footpaths.specs.declared.fault.FootFault.{FootFault}
 use Rattle.footpaths.specs.declared.fault.FootFault.TheVariants.{WalkTooLong, TooManyFootpaths, OutOfMemory}
-use Rattle.footpaths.specs.Walks.{on_foot, IsWalkBetween, AreJoined, IsLeastTime}
-use Rattle.footpaths.specs.Closure.{IsClosure, JoinsMore, HasMorePairs, TakesLonger, HasLongerWalk, AreInRange}
-use Rattle.footpaths.specs.Search.{time_at, IsToldTime, AreReached, IsToldLeast, AreToldLeast}
+use Rattle.footpaths.specs.Walks.{on_foot, AreJoined}
+use Rattle.footpaths.specs.Closure.{IsClosure, HasMorePairs, HasLongerWalk, AreInRange}
+use Rattle.footpaths.specs.Search.{time_at, AreReached, IsToldLeast, AreToldLeast}
 use Rattle.footpaths.specs.Collected.{IsClosedInto, taken, IsTakeFault, IsCountFault}
 use Rattle.footpaths.proofs.IndexLemmas.{Contains-at, at_Contains}
 use Rattle.footpaths.proofs.OrderLemmas.{in_order_push, in_order_nil, get-end, no_longer}

@@ -1,14 +1,14 @@
 -- How footpaths are brought into the order of the stops that they lead into.
-use Rattle.std.proofs.Common.{◌≡◌, ◌≢◌, ℕ, zero, suc, ◌+◌, ◌-◌, ◌<◌, ◌≤◌, ◌⊎◌, inl, inr, List, [], ◌∷◌, ◌++◌, length, take, drop, Option, Some, None, All, Contains, get_or, set, refl, sym, ap, subst, ◌∙◌, arith, length-append}
-use Rattle.std.specs.List.{slice_range, slice_get, slice_index}
+use Rattle.std.proofs.Common.{◌≡◌, ◌≢◌, ℕ, ◌+◌, ◌-◌, ◌<◌, ◌≤◌, inl, inr, List, [], ◌∷◌, ◌++◌, length, take, drop, Some, Contains, get_or, set, sym, ap, subst, ◌∙◌, arith, length-append}
+use Rattle.std.specs.List.{slice_range}
 use Rattle.std.proofs.Math.ListN.{length-set}
 use Rattle.std.proofs.lemmas.Bool.{cases_eq, cases_lt}
-use Rattle.std.proofs.lemmas.Option.{same_Some, none-some, slice_get-get_or, slice_get_within, get_or_from_slice_get}
+use Rattle.std.proofs.lemmas.Option.{same_Some, slice_get-get_or, slice_get_within, get_or_from_slice_get}
 use Rattle.std.proofs.lemmas.List.{get_or-set_same, get_or-set_other, get_or_append_left, get_or-append_right, take-append-le, drop-append-le, take_all, drop_at, length-drop, append-nil, append_assoc}
 use Rattle.std.proofs.lemmas.List.Elements.{All-append, All-push, All-nil, All-weaker, Contains-push, Contains-append_left}
 use Rattle.timetable.specs.declared.network.Footpath.{Footpath}
 use Rattle.timetable.specs.Legal.{At}
-use Rattle.footpaths.specs.Index.{AreThoseInto, IsIndex, AreRanges, IsIndexUpTo, IsLastInto, AreChains, AddsThoseFrom}
+use Rattle.footpaths.specs.Index.{AreThoseInto, IsIndexUpTo, IsLastInto, AreChains, AddsThoseFrom}
 
 -- what stands at a place is an element
 pub Contains-at : (paths : List Footpath) (i : ℕ) (f : Footpath) → At paths i f → Contains paths f

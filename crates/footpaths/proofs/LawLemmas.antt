@@ -1,15 +1,14 @@
 -- Closures meet what a legal timetable asks of footpaths; there is one at most; closed footpaths are their own.
-use Rattle.std.proofs.Common.{◌≡◌, ◌≢◌, ℕ, zero, suc, ◌+◌, ◌<◌, ◌≤◌, List, [], ◌∷◌, ◌++◌, length, Some, All, Contains, get_or, refl, sym, ap, subst, ◌∙◌, arith}
-use Rattle.std.proofs.lemmas.Bool.{cases_lt}
+use Rattle.std.proofs.Common.{◌≡◌, ◌≢◌, ℕ, ◌+◌, ◌<◌, ◌≤◌, List, [], ◌∷◌, ◌++◌, length, Contains, refl, sym, ap, subst, ◌∙◌, arith}
 use Rattle.std.proofs.lemmas.List.Elements.{All-contains}
 use Rattle.timetable.specs.declared.network.Footpath.{Footpath}
 use Rattle.timetable.specs.Journeys.{IsWalk, walk_end, walk_secs}
-use Rattle.timetable.specs.Legal.{At, HasFootpath, IsOrderedBefore, AreInOrder}
+use Rattle.timetable.specs.Legal.{HasFootpath}
 use Rattle.timetable.specs.LegalProp.{same_secs}
-use Rattle.footpaths.specs.Walks.{on_foot, IsWalkBetween, AreJoined, IsLeastTime}
-use Rattle.footpaths.specs.Closure.{IsClosure, JoinsMore, HasMorePairs, TakesLonger, HasLongerWalk, AreInRange, HasLoops, HasLegalFootpaths}
+use Rattle.footpaths.specs.Walks.{on_foot, IsWalkBetween, IsLeastTime}
+use Rattle.footpaths.specs.Closure.{IsClosure, HasMorePairs, HasLongerWalk, AreInRange, HasLoops, HasLegalFootpaths}
 use Rattle.footpaths.proofs.IndexLemmas.{Contains-at, at_Contains}
-use Rattle.footpaths.proofs.WalkLemmas.{alone, in_front}
+use Rattle.footpaths.proofs.WalkLemmas.{alone}
 use Rattle.footpaths.proofs.OrderLemmas.{no_longer, same_list}
 use Rattle.footpaths.proofs.ClosureLemmas.{joined_in_range}
 

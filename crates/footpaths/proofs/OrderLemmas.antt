@@ -1,12 +1,12 @@
 -- Lists of footpaths by the stop led into, then by the stop left.
-use Rattle.std.proofs.Common.{◌≡◌, ◌≢◌, ℕ, zero, suc, ◌+◌, ◌<◌, ◌≤◌, ◌⊎◌, inl, inr, List, [], ◌∷◌, ◌++◌, length, Option, Some, None, Contains, refl, sym, ap, subst, ◌∙◌, arith, length-append}
+use Rattle.std.proofs.Common.{◌≡◌, ℕ, zero, suc, ◌+◌, ◌<◌, ◌≤◌, ◌⊎◌, inl, inr, List, [], ◌∷◌, ◌++◌, length, Some, Contains, refl, sym, ap, subst, ◌∙◌, arith, length-append}
 use Rattle.std.specs.List.{slice_get}
 use Rattle.std.proofs.lemmas.Bool.{cases_order}
 use Rattle.std.proofs.lemmas.Option.{same_Some, none-some, slice_get_within}
 use Rattle.timetable.specs.declared.network.Footpath.{Footpath}
 use Rattle.timetable.specs.Legal.{At, HasFootpath, IsOrderedBefore, AreInOrder}
 use Rattle.timetable.specs.LegalProp.{in_order_later}
-use Rattle.footpaths.proofs.IndexLemmas.{Contains-at, at_Contains, same_at}
+use Rattle.footpaths.proofs.IndexLemmas.{Contains-at, at_Contains}
 
 pub get-left : (xs ys : List Footpath) (i : ℕ) → i < length xs → slice_get (xs ++ ys) i ≡ slice_get xs i
 get-left [] ys i below = absurd (omega (arith, below))

@@ -1,5 +1,5 @@
 -- The closure of listed footpaths, what a legal timetable asks of it, and why it isn't made.
-use Rattle.std.specs.Prelude.{◌≡◌, ℕ, ◌+◌, ◌<◌, ◌≤◌, List, length, All, Contains}
+use Rattle.std.specs.Prelude.{ℕ, ◌+◌, ◌<◌, ◌≤◌, List, length, All, Contains}
 use Rattle.timetable.specs.declared.network.Footpath.{Footpath}
 use Rattle.timetable.specs.Journeys.{walk_secs}
 use Rattle.timetable.specs.Legal.{At, HasFootpath, AreInOrder}

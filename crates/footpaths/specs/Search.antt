@@ -1,6 +1,5 @@
 -- What is known while the least walks into one stop are sought.
 use Rattle.std.specs.Prelude.{◌≡◌, ℕ, ◌+◌, ◌<◌, ◌≤◌, ◌⊎◌, suc, List, length, min, Option, Some, None, Contains, All, slice_index_or, sum_by}
-use Rattle.std.specs.declared.cmp.Reverse.{Reverse}
 use Rattle.timetable.specs.declared.network.Footpath.{Footpath}
 use Rattle.timetable.specs.Journeys.{walk_secs}
 use Rattle.footpaths.specs.Walks.{IsWalkBetween}

@@ -1,4 +1,4 @@
-use Rattle.std.proofs.Common.{◌≡◌, ◌<◌, ◌≤◌, ℕ, List, All, Contains, subst, sym}
+use Rattle.std.proofs.Common.{◌≤◌, List, All, Contains, subst}
 use Rattle.timetable.specs.declared.network.Footpath.{Footpath}
 use Rattle.footpaths.proofs.ClosureLemmas.{closure_of_told, few_pairs, longer_walk}
 use Rattle.footpaths.proofs.closure.close_within.Goals as goal

@@ -1,4 +1,4 @@
-use Rattle.std.proofs.Common.{◌≡◌, ◌≤◌, ℕ, List, length}
+use Rattle.std.proofs.Common.{◌≤◌, ℕ, List, length}
 use Rattle.timetable.specs.declared.network.Footpath.{Footpath}
 use Rattle.footpaths.specs.Search.{AreToldLeast}
 use Rattle.footpaths.specs.Collected.{IsClosedInto}

@@ -1,4 +1,4 @@
-use Rattle.std.proofs.Common.{◌≡◌, ◌+◌, ℕ, sym, ◌∙◌, inl, inr, arith}
+use Rattle.std.proofs.Common.{◌+◌, ℕ, sym, ◌∙◌, inl, inr}
 use Rattle.std.specs.BinaryHeap.{heap_items}
 use Rattle.std.proofs.lemmas.Option.{none-some}
 use Rattle.footpaths.specs.Search.{IsFollowed, AreWalked, AreReached, ArePendingOrFollowed}

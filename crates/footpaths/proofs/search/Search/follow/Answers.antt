@@ -1,4 +1,4 @@
-use Rattle.std.proofs.Common.{◌≡◌, ℕ, Some, arith}
+use Rattle.std.proofs.Common.{◌≡◌, Some, arith}
 use Rattle.std.proofs.lemmas.Grind.{common_steps}
 use Rattle.footpaths.specs.Search.{time_at, IsToldTime}
 use Rattle.footpaths.proofs.WalkLemmas.{followed_those, told_in_front}

@@ -1,7 +1,6 @@
-use Rattle.std.proofs.Common.{◌≡◌, ◌+◌, ◌*◌, ◌≤◌, ℕ, List, ◌++◌, ◌∷◌, [], Some, false, is_none, Contains, length, set, sym, ◌∙◌, subst, arith}
-use Rattle.std.specs.BinaryHeap.{heap_items, heap_len}
-use Rattle.std.proofs.lemmas.List.Elements.{Contains-push, Contains-append_left}
-use Rattle.footpaths.specs.Search.{time_at, AreReached, weight}
+use Rattle.std.proofs.Common.{◌≡◌, ℕ, List, ◌++◌, ◌∷◌, [], Some, set, sym, ◌∙◌, subst, arith}
+use Rattle.std.specs.BinaryHeap.{heap_items}
+use Rattle.footpaths.specs.Search.{time_at, AreReached}
 use Rattle.footpaths.proofs.SearchLemmas.{Grows-set, AreWalked-set, AreReached-again, AreReached-push, weight-set, known_time}
 use Rattle.footpaths.proofs.search.Search.note.Goals as goal
 

@@ -1,7 +1,6 @@
-use Rattle.std.proofs.Common.{◌≡◌, ◌+◌, ◌*◌, ◌<◌, ◌≤◌, ℕ, arith, below_more}
-use Rattle.std.specs.BinaryHeap.{heap_items, heap_len}
+use Rattle.std.proofs.Common.{arith}
+use Rattle.std.specs.BinaryHeap.{heap_items}
 use Rattle.timetable.specs.declared.network.Footpath.{Footpath}
-use Rattle.footpaths.specs.Search.{weight}
 use Rattle.footpaths.proofs.SearchLemmas.{Grows-trans, all_within_more}
 use Rattle.footpaths.proofs.search.Search.spread.Goals as goal
 
