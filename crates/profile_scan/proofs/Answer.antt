@@ -10,7 +10,7 @@ use Rattle.timetable.specs.TimetableValue.{TimetableValue}
 use Rattle.timetable.specs.declared.query.Query.{Query}
 use Rattle.profile_scan.specs.Values.{journey_value}
 use Rattle.profile_scan.specs.Points.{IsPoint, IsUndominated, Lists, Covers, Before, IsAnswer, untagged}
-use Rattle.profile_scan.specs.Window.{IsFirstAt}
+use Rattle.sources.specs.FirstAt.{IsFirstAt}
 use Rattle.profile_scan.specs.Continuations.{CountsFrom}
 use Rattle.profile_scan.specs.Matching.{Spelling, Matches}
 use Rattle.profile_scan.specs.LawStatements.{CanScan, MatchIsTheAnswer, OneAnswer}
@@ -18,7 +18,7 @@ use Rattle.profile_scan.proofs.Admitted.{AreAdmitted, point_admits}
 use Rattle.profile_scan.proofs.Ends.{counts_in_window}
 
 -- a point of a bag dominates no other one
-only_itself : {V : Type 0} (rules : Rules V) (points : List (Point V)) → AllPairs (Apart rules) points → (p q : Point V) → Contains points p → Contains points q → Dominates rules p q → p ≡ q
+pub only_itself : {V : Type 0} (rules : Rules V) (points : List (Point V)) → AllPairs (Apart rules) points → (p q : Point V) → Contains points p → Contains points q → Dominates rules p q → p ≡ q
 only_itself rules points apart p q in_p in_q d =
     let i = in_p.0 in
     let j = in_q.0 in
@@ -92,7 +92,7 @@ tail_pairs R x xs all i j d lt within = all (suc i) (suc j) d (omega arith) (ome
 
 module _ {V : Type 0} (rules : Rules V) (laws : Laws rules) where
   -- neither of two points of equal departure and value is before the other
-  not_before_itself : (p q : Point V) → Admits rules p.value → p.departure ≡ q.departure → p.value ≡ q.value → Before rules p q → ⊥
+  pub not_before_itself : (p q : Point V) → Admits rules p.value → p.departure ≡ q.departure → p.value ≡ q.value → Before rules p q → ⊥
   not_before_itself p q a departs worth (inl lt) = omega arith
   not_before_itself p q a departs worth (inr (e, less)) =
       let turned = laws.order_turns p.value p.value a a in

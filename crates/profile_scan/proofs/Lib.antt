@@ -1,3 +1,14 @@
+pub mod Offers
+pub mod NodeLemmas
+pub mod ChangeLemmas
+pub mod EndLemmas
+pub mod KeptLemmas
+pub mod BoardLemmas
+pub mod LeaveLemmas
+pub mod WayLemmas
+pub mod StepFacts
+pub mod LogLemmas
+pub mod OrderLemmas
 pub mod Chains
 pub mod Times
 pub mod Admitted

@@ -14,7 +14,7 @@ use Rattle.timetable.specs.Limits.{IsWithinLimits}
 use Rattle.timetable.specs.TimetableValue.{TimetableValue}
 use Rattle.profile_scan.specs.Values.{started}
 use Rattle.profile_scan.specs.Points.{Covers, IsAnswer}
-use Rattle.profile_scan.specs.Window.{IsFirstAt}
+use Rattle.sources.specs.FirstAt.{IsFirstAt}
 use Rattle.profile_scan.specs.Continuations.{Onward, IsOnward}
 use Rattle.profile_scan.specs.Matching.{Spelling, ScanValue, MatchesFrom}
 use Rattle.profile_scan.specs.Steps.{Offer, TakesIn, IsOffered, Leaving, ends, ends_after, changes, MayLeave, leaving_value, leavings, Boarding, MayBoard, boardings, SettingOut, settings_out, IsStep}

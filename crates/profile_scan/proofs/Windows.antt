@@ -11,7 +11,8 @@ use Rattle.timetable.specs.Legal.{IsLegal}
 use Rattle.timetable.specs.Journeys.{connection_at}
 use Rattle.timetable.specs.declared.query.Query.{Query}
 use Rattle.timetable.proofs.LegalFacts.{departures_rise}
-use Rattle.profile_scan.specs.Window.{departs_inside, window, IsFirstAt, falling}
+use Rattle.profile_scan.specs.Window.{departs_inside, window, falling}
+use Rattle.sources.specs.FirstAt.{IsFirstAt}
 use Rattle.profile_scan.specs.LawStatements.{WindowIsReadBackward}
 
 range_more : (a n : ℕ) → range_with_len a (suc n) ≡ range_with_len a n ++ (a + n) ∷ []

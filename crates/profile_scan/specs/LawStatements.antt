@@ -13,7 +13,8 @@ use Rattle.timetable.specs.Journeys.{connection_at, IsWalk, walk_end, walk_secs,
 use Rattle.timetable.specs.declared.query.Query.{Query}
 use Rattle.profile_scan.specs.Values.{walked, journey_value}
 use Rattle.profile_scan.specs.Points.{IsAnswer, Before, untagged}
-use Rattle.profile_scan.specs.Window.{window, IsFirstAt, falling}
+use Rattle.profile_scan.specs.Window.{window, falling}
+use Rattle.sources.specs.FirstAt.{IsFirstAt}
 use Rattle.profile_scan.specs.Continuations.{Onward, Aboard, IsOnward, IsAboard, CountsFrom}
 use Rattle.profile_scan.specs.Matching.{Spelling, Matches, ScanValue, MatchesFrom}
 

@@ -5,5 +5,9 @@ pub mod Continuations
 pub mod Matching
 pub mod Steps
 pub mod LawStatements
-pub mod Examples
+pub mod Nodes
+pub mod Adding
+pub mod Kept
+pub mod Found
 pub mod WrongSteps
+pub mod Examples

@@ -1,5 +1,5 @@
 -- The window of a query: the connections that a scan reads.
-use Rattle.std.specs.Prelude.{ℕ, zero, suc, ◌+◌, ◌<◌, ◌≤◌, Bool, ◌&&◌, nat_le, nat_lt, List, [], ◌∷◌, length, filter}
+use Rattle.std.specs.Prelude.{ℕ, zero, suc, ◌+◌, Bool, ◌&&◌, nat_le, nat_lt, List, [], ◌∷◌, length, filter}
 use Rattle.std.specs.List.{range_with_len}
 use Rattle.timetable.specs.TimetableValue.{TimetableValue}
 use Rattle.timetable.specs.Journeys.{connection_at}
@@ -12,12 +12,6 @@ departs_inside t q i = nat_le q.from (connection_at t i).dep && nat_lt (connecti
 -- the places of all such connections, rising
 abbrev pub window : TimetableValue → Query → List ℕ
 window t q = filter (departs_inside t q) (range_with_len 0 (length t.connections))
-
--- the least place whose connection departs at a time or later, else the number of connections
-pub record IsFirstAt (t : TimetableValue) (time i : ℕ) : Type 0 where
-  pub in_range : i ≤ length t.connections
-  pub before : (k : ℕ) → k < i → (connection_at t k).dep < time
-  pub after : (k : ℕ) → i ≤ k → k < length t.connections → time ≤ (connection_at t k).dep
 
 -- n places from low on, the last first
 abbrev pub falling : ℕ → ℕ → List ℕ

@@ -6,8 +6,23 @@
 //! connection, and why that is enough, is said in `specs/` and proved by the functions of `laws`.
 #![tactic(auto)]
 
+mod adding;
+mod alight;
+mod answering;
+mod board;
 #[cfg(test)]
 mod examples;
+mod found;
 pub mod laws;
+mod nodes;
+mod scan;
+mod step;
+#[cfg(test)]
+mod tests;
+mod trips;
+mod ways;
 #[cfg(test)]
 mod wrong_steps;
+
+pub use answering::profile;
+pub use found::Found;

@@ -1,0 +1,159 @@
+-- Boarding, over the footpaths into a connection's start.
+use Rattle.std.proofs.Common.{◌≡◌, ◌⊎◌, ◌↔◌, ℕ, ◌+◌, ◌-◌, ◌<◌, ◌≤◌, true, List, Contains, slice_get, Option, Some, None, refl, sym, ◌∙◌, ap, subst, inl, inr, arith}
+use Rattle.std.proofs.lemmas.Bool.{cases_lt}
+use Rattle.std.proofs.lemmas.Option.{same_Some}
+use Rattle.criteria.specs.Laws.{Rules, Laws, Admits, IsSecs}
+use Rattle.bags.specs.declared.point.Point.{Point}
+use Rattle.timetable.specs.declared.network.Connection.{Connection}
+use Rattle.timetable.specs.declared.network.Footpath.{Footpath}
+use Rattle.timetable.specs.declared.query.Query.{Query}
+use Rattle.timetable.specs.TimetableValue.{TimetableValue}
+use Rattle.timetable.specs.Legal.{At}
+use Rattle.timetable.specs.Limits.{IsWithinLimits}
+use Rattle.timetable.specs.Journeys.{connection_at, IsStart, start_end, start_secs}
+use Rattle.timetable.proofs.LegalFacts.{Contains-At, At-Contains}
+use Rattle.profile_scan.specs.Values.{started}
+use Rattle.profile_scan.specs.Points.{Covers}
+use Rattle.profile_scan.specs.Matching.{Spelling}
+use Rattle.profile_scan.specs.Steps.{Offer, TakesIn, boardings, settings_out, MayBoard, MaySetOut}
+use Rattle.profile_scan.specs.Adding.{each_of, StandsBetween, IsTried, StartsFrom, MayStart, boardings_by, settings_out_by}
+use Rattle.profile_scan.proofs.Admitted.{AreAdmitted}
+use Rattle.profile_scan.proofs.Offers.{takes_none, takes_more, takes_as}
+
+between_more : (walks : List Footpath) (begin end : ℕ) (y : Footpath) → StandsBetween walks begin end y → StandsBetween walks begin (end + 1) y
+between_more walks begin end y s = (s.0, s.1, omega (arith, s.2), s.3)
+
+pub between_split : (walks : List Footpath) (begin end : ℕ) (x y : Footpath) → slice_get walks end ≡ Some x → StandsBetween walks begin (end + 1) y → StandsBetween walks begin end y ⊎ (y ≡ x)
+between_split walks begin end x y at s = elim (cases_lt s.0 end) [
+  | inl lt ↦ inl (s.0, s.1, lt, s.3)
+  | inr ge ↦
+      let same : s.0 ≡ end = omega (arith, s.2) in
+      inr (same_Some y x (sym s.3 ∙ ap (λ k. slice_get walks k) same ∙ at))
+]
+
+tried_more : (walks : List Footpath) (begin end : ℕ) (y : Option Footpath) → IsTried walks begin end y → IsTried walks begin (end + 1) y
+tried_more walks begin end None s = tt
+tried_more walks begin end (Some f) s = between_more walks begin end f s
+
+tried_split : (walks : List Footpath) (begin end : ℕ) (x : Footpath) (y : Option Footpath) → slice_get walks end ≡ Some x → IsTried walks begin (end + 1) y → IsTried walks begin end y ⊎ (y ≡ Some x)
+tried_split walks begin end x None at s = inl tt
+tried_split walks begin end x (Some f) at s = elim (between_split walks begin end x f at s) [ inl was ↦ inl was | inr same ↦ inr (ap Some same) ]
+
+none_tried : (walks : List Footpath) (begin : ℕ) (y : Option Footpath) → IsTried walks begin begin y → ⊥ ⊎ (y ≡ None)
+none_tried walks begin None s = inr refl
+none_tried walks begin (Some f) s = absurd (omega (arith, s.1, s.2))
+
+module _ {V : Type 0} (rules : Rules V) (laws : Laws rules) (t : TimetableValue) (limits : IsWithinLimits t) (labels : List (Point V)) (admitted : AreAdmitted rules labels) where
+  walk_secs_allowed : (begin end : ℕ) (walk : Footpath) → StandsBetween t.footpaths begin end walk → IsSecs walk.secs
+  walk_secs_allowed begin end walk s = limits.walks s.0 walk s.3
+
+  boarding_admits : (tags : Spelling) (i : ℕ) (c : Connection) (stop begin end : ℕ) (walk : Footpath) (label : Point V) → StandsBetween t.footpaths begin end walk → (boardings_by rules tags i c stop labels walk).is_open label → Admits rules ((boardings_by rules tags i c stop labels walk).value label)
+  boarding_admits tags i c stop begin end walk label s opened = laws.walk_admits walk.secs (rules.ride label.value) (walk_secs_allowed begin end walk s) (laws.ride_admits label.value (admitted label opened.1))
+
+  start_secs_allowed : (begin end : ℕ) (start : Option Footpath) (v : V) → IsTried t.footpaths begin end start → Admits rules v → Admits rules (started rules start v)
+  start_secs_allowed begin end None v s a = a
+  start_secs_allowed begin end (Some f) v s a = laws.walk_admits f.secs v (walk_secs_allowed begin end f s) a
+
+  -- no footpath yet
+  pub walks_first : {A : Type 0} (offer : Footpath → Offer A V) (begin : ℕ) (old : List (Point V)) → TakesIn rules (each_of (StandsBetween t.footpaths begin begin) offer) old old
+  walks_first offer begin old = takes_none rules (each_of (StandsBetween t.footpaths begin begin) offer) old (λ way opened. absurd (omega (arith, opened.0.1, opened.0.2)))
+
+  -- no start, and no footpath yet
+  pub starts_first : {A : Type 0} (offer : Option Footpath → Offer A V) (begin : ℕ) (old new : List (Point V)) → TakesIn rules (offer None) old new → TakesIn rules (each_of (IsTried t.footpaths begin begin) offer) old new
+  starts_first offer begin old new takes =
+      takes_more rules (λ _. ⊥) (IsTried t.footpaths begin begin) offer None old old new (λ y no. absurd no) tt (none_tried t.footpaths begin) (λ y way no opened. absurd no)
+      (takes_none rules (each_of (λ _. ⊥) offer) old (λ way opened. opened.0)) takes
+
+  -- one footpath more
+  pub walks_next : (tags : Spelling) (i : ℕ) (c : Connection) (stop begin place : ℕ) (x : Footpath) (old mid new : List (Point V)) → begin ≤ place → At t.footpaths place x
+      → TakesIn rules (each_of (StandsBetween t.footpaths begin place) (boardings_by rules tags i c stop labels)) old mid → TakesIn rules (boardings_by rules tags i c stop labels x) mid new
+      → TakesIn rules (each_of (StandsBetween t.footpaths begin (place + 1)) (boardings_by rules tags i c stop labels)) old new
+  walks_next tags i c stop begin place x old mid new low at before here =
+      takes_more rules (StandsBetween t.footpaths begin place) (StandsBetween t.footpaths begin (place + 1)) (boardings_by rules tags i c stop labels) x old mid new
+      (between_more t.footpaths begin place) (place, low, omega arith, at) (λ y. between_split t.footpaths begin place x y at)
+      (boarding_admits tags i c stop begin place) before here
+
+  pub starts_next : (tags : Spelling) (i : ℕ) (c : Connection) (q : Query) (begin place : ℕ) (x : Footpath) (old mid new : List (Point V)) → begin ≤ place → At t.footpaths place x
+      → TakesIn rules (each_of (IsTried t.footpaths begin place) (settings_out_by rules tags i c q labels)) old mid → TakesIn rules (settings_out_by rules tags i c q labels (Some x)) mid new
+      → TakesIn rules (each_of (IsTried t.footpaths begin (place + 1)) (settings_out_by rules tags i c q labels)) old new
+  starts_next tags i c q begin place x old mid new low at before here =
+      takes_more rules (IsTried t.footpaths begin place) (IsTried t.footpaths begin (place + 1)) (settings_out_by rules tags i c q labels) (Some x) old mid new
+      (tried_more t.footpaths begin place) (place, low, omega arith, at) (λ y. tried_split t.footpaths begin place x y at)
+      (λ y label s opened. start_secs_allowed begin place y (rules.ride label.value) s (laws.ride_admits label.value (admitted label opened.1))) before here
+
+-- a start that leads to the connection
+leads_there : (q : Query) (c : Connection) (start : Option Footpath) → StartsFrom q c start → ((f : Footpath) → start ≡ Some f → f.to ≡ c.from) → start_end q.source start ≡ c.from
+leads_there q c None s to = sym s
+leads_there q c (Some f) s to = to f refl
+
+is_start : (t : TimetableValue) (q : Query) (c : Connection) (begin end : ℕ) (start : Option Footpath) → IsTried t.footpaths begin end start → StartsFrom q c start → IsStart t q.source start
+is_start t q c begin end None tried s = tt
+is_start t q c begin end (Some f) tried s = (Contains-At t.footpaths tried.0 f tried.3, s.0, s.1)
+
+starts_from : (t : TimetableValue) (q : Query) (c : Connection) (start : Option Footpath) → IsStart t q.source start → start_end q.source start ≡ c.from → StartsFrom q c start
+starts_from t q c None is leads = sym leads
+starts_from t q c (Some f) is leads = (is.1, is.2)
+
+-- all footpaths into the connection's start
+module _ {V : Type 0} (rules : Rules V) (t : TimetableValue) (tags : Spelling) (i : ℕ) (c : Connection) (is : c ≡ connection_at t i) (boards : c.board ≡ true) (begin end : ℕ) (into : (k : ℕ) (f : Footpath) → At t.footpaths k f → (f.to ≡ c.from) ↔ ((begin ≤ k) × (k < end))) (labels : List (Point V)) where
+  between : (f : Footpath) → Contains t.footpaths f → f.to ≡ (connection_at t i).from → StandsBetween t.footpaths begin end f
+  between f in_f to =
+      let at = At-Contains t.footpaths f in_f in
+      let place = (into at.0 f at.1).0 (to ∙ ap (λ (x : Connection). x.from) (sym is)) in
+      (at.0, place.0, place.1, at.1)
+
+  tried : (q : Query) (start : Option Footpath) → IsStart t q.source start → start_end q.source start ≡ (connection_at t i).from → IsTried t.footpaths begin end start
+  tried q None starts leads = tt
+  tried q (Some f) starts leads = between f starts.0 leads
+
+  leads_into : (start : Option Footpath) → IsTried t.footpaths begin end start → (f : Footpath) → start ≡ Some f → f.to ≡ c.from
+  leads_into start s f e =
+      let at = subst (IsTried t.footpaths begin end) e s in
+      (into at.0 f at.3).1 (at.1, at.2)
+
+  pub boardings_taken : (stop : ℕ) (old new : List (Point V)) → TakesIn rules (each_of (StandsBetween t.footpaths begin end) (boardings_by rules tags i c stop labels)) old new → TakesIn rules (boardings rules t tags i stop labels) old new
+  boardings_taken stop old new takes =
+      takes_as rules (each_of (StandsBetween t.footpaths begin end) (boardings_by rules tags i c stop labels)) (boardings rules t tags i stop labels) old new
+      (λ way opened.
+      let f = way.0 in
+      let at = opened.0 in
+      let may : MayBoard t i stop labels (record { walk = way.0; label = way.1 }) = record {
+        boards = ap (λ (x : Connection). x.board) (sym is) ∙ boards;
+        is_footpath = Contains-At t.footpaths at.0 f at.3;
+        leaves = opened.1.0.0;
+        leads = (into at.0 f at.3).1 (at.1, at.2) ∙ ap (λ (x : Connection). x.from) is;
+        fits = subst (λ (x : Connection). f.secs ≤ x.dep) is opened.1.0.1;
+        is_label = opened.1.1;
+      } in
+      record { there = record { walk = way.0; label = way.1 }; is_open = may; departs = ap (λ (x : Connection). x.dep - f.secs) is; worth = refl; fits = λ tag h. h })
+      (λ way opened. subst (λ (x : Connection). Covers rules new (x.dep - way.walk.secs) (rules.walk way.walk.secs (rules.ride way.label.value))) is
+      (takes.covered (way.walk, way.label) (between way.walk opened.is_footpath opened.leads, ((opened.leaves, subst (λ (x : Connection). way.walk.secs ≤ x.dep) (sym is) opened.fits), opened.is_label))))
+      takes
+
+  pub settings_out_taken : (q : Query) (old new : List (Point V)) → TakesIn rules (each_of (IsTried t.footpaths begin end) (settings_out_by rules tags i c q labels)) old new → TakesIn rules (settings_out rules t q tags i labels) old new
+  settings_out_taken q old new takes =
+      takes_as rules (each_of (IsTried t.footpaths begin end) (settings_out_by rules tags i c q labels)) (settings_out rules t q tags i labels) old new
+      (λ way opened.
+      let start = way.0 in
+      let m = opened.1.0 in
+      let may : MaySetOut t q i labels (record { start = way.0; label = way.1 }) = record {
+        boards = ap (λ (x : Connection). x.board) (sym is) ∙ boards;
+        is_start = is_start t q c begin end start opened.0 m.starts;
+        leads = leads_there q c start m.starts (leads_into start opened.0) ∙ ap (λ (x : Connection). x.from) is;
+        fits = subst (λ (x : Connection). start_secs start ≤ x.dep) is m.fits;
+        not_early = subst (λ (x : Connection). q.from ≤ x.dep - start_secs start) is m.not_early;
+        not_late = subst (λ (x : Connection). x.dep - start_secs start ≤ q.until) is m.not_late;
+        is_label = opened.1.1;
+      } in
+      record { there = record { start = way.0; label = way.1 }; is_open = may; departs = ap (λ (x : Connection). x.dep - start_secs start) is; worth = refl; fits = λ tag h. h })
+      (λ way opened.
+      let start = way.start in
+      let may : MayStart q c start = record {
+        starts = starts_from t q c start opened.is_start (opened.leads ∙ ap (λ (x : Connection). x.from) (sym is));
+        fits = subst (λ (x : Connection). start_secs start ≤ x.dep) (sym is) opened.fits;
+        not_early = subst (λ (x : Connection). q.from ≤ x.dep - start_secs start) (sym is) opened.not_early;
+        not_late = subst (λ (x : Connection). x.dep - start_secs start ≤ q.until) (sym is) opened.not_late;
+      } in
+      subst (λ (x : Connection). Covers rules new (x.dep - start_secs start) (started rules start (rules.ride way.label.value))) is
+      (takes.covered (start, way.label) (tried q start opened.is_start opened.leads, (may, opened.is_label))))
+      takes

@@ -1,0 +1,63 @@
+-- The log of a scan.
+use Rattle.std.proofs.Common.{◌≡◌, inl, inr, length, ℕ, zero, suc, ◌+◌, ◌-◌, ◌≤◌, List, [], ◌∷◌, ◌++◌, take, arith, refl, sym, ◌∙◌, ap, add-zero, append_assoc, append-nil, Result, Ok, Err, OnErr}
+use Rattle.std.proofs.Math.Seq.{take-length}
+use Rattle.std.proofs.lemmas.Bool.{cases_lt}
+use Rattle.timetable.specs.TimetableValue.{TimetableValue}
+use Rattle.sources.specs.FirstAt.{IsFirstAt}
+use Rattle.profile_scan.specs.Window.{falling}
+
+-- one more, below
+pub falling_more : (low n : ℕ) → falling low (suc n) ≡ falling (low + 1) n ++ low ∷ []
+falling_more low zero = ap (λ k. k ∷ []) (add-zero low)
+falling_more low (suc n) =
+    let e : low + suc n ≡ low + 1 + n = omega arith in
+    ap (λ k. k ∷ falling low (suc n)) e ∙ ap (λ ks. (low + 1 + n) ∷ ks) (falling_more low n)
+
+-- the log after one more turn
+pub log_more : (log : List ℕ) (low i hi : ℕ) → low + 1 ≡ i → i ≤ hi → (log ++ falling i (hi - i)) ++ low ∷ [] ≡ log ++ falling low (hi - low)
+log_more log low i hi e le =
+    let n_is : hi - low ≡ suc (hi - i) = omega arith in
+    append_assoc log (falling i (hi - i)) (low ∷ []) ∙ ap (λ ks. log ++ ks) (sym (ap (falling low) n_is ∙ (falling_more low (hi - i) ∙ ap (λ k. falling k (hi - i) ++ low ∷ []) e)))
+
+-- the first of the window's indices, read from its end
+pub falling_take : (low n m : ℕ) → m ≤ n → take m (falling low n) ≡ falling (low + n - m) m
+falling_take low zero zero le = refl
+falling_take low (suc n) zero le = refl
+falling_take low zero (suc m) le = absurd (omega arith)
+falling_take low (suc n) (suc m) le =
+    let e : low + suc n - suc m ≡ low + n - m = omega arith in
+    let f : low + n ≡ low + n - m + m = omega arith in
+    ap (λ ks. (low + n) ∷ ks) (falling_take low n m (omega arith)) ∙ (ap (λ k. k ∷ falling (low + n - m) m) f ∙ ap (λ k. falling k (suc m)) (sym e))
+
+pub log_front : (log : List ℕ) (lo i hi : ℕ) → lo ≤ i → i ≤ hi → log ++ falling i (hi - i) ≡ log ++ take (hi - i) (falling lo (hi - lo))
+log_front log lo i hi low high =
+    let e : i ≡ lo + (hi - lo) - (hi - i) = omega arith in
+    ap (λ ks. log ++ ks) (ap (λ k. falling k (hi - i)) e ∙ sym (falling_take lo (hi - lo) (hi - i) (omega arith)))
+
+pub on_err : {T E : Type 0} (r : Result T E) (P : Type 0) → P → OnErr r P
+on_err (Ok x) P h = tt
+on_err (Err e) P h = h
+
+-- at the end of the window nothing was read
+pub log_none : (log : List ℕ) (end : ℕ) → log ≡ log ++ falling end (end - end)
+log_none log end =
+    let none : end - end ≡ 0 = omega arith in
+    sym (append-nil log) ∙ sym (ap (λ n. log ++ falling end n) none)
+
+-- the window begins no later than it ends
+pub starts_first : (t : TimetableValue) (from by start end : ℕ) → from ≤ by → IsFirstAt t from start → IsFirstAt t by end → start ≤ end
+starts_first t from by start end le is_start is_end = elim (cases_lt end start) [
+  | inl lt ↦
+      let in_range = is_start.in_range in
+      let early = is_start.before end lt in
+      let late = is_end.after end (omega arith) (omega arith) in
+      absurd (omega arith)
+  | inr ge ↦ ge
+]
+
+-- nothing of a list, and all of it
+pub taken_none : (log xs : List ℕ) → log ≡ log ++ take 0 xs
+taken_none log xs = sym (append-nil log)
+
+pub taken_all : (log xs now : List ℕ) → now ≡ log ++ xs → now ≡ log ++ take (length xs) xs
+taken_all log xs now e = e ∙ ap (λ ys. log ++ ys) (sym (take-length xs))

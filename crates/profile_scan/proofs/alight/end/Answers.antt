@@ -1,0 +1,14 @@
+use Rattle.bags.specs.Bag.{points_of}
+use Rattle.profile_scan.proofs.Offers.{on_ok_more}
+use Rattle.profile_scan.proofs.EndLemmas.{takes_the_end}
+use Rattle.profile_scan.proofs.alight.end.Goals as goal
+
+pub returns-in-Some-clause-takes : goal.returns-in-Some-clause-takes
+returns-in-Some-clause-takes g c =
+    let rules = g.C.Criterion.rules c.args.criterion.now in
+    let end = c.in-Some.end in
+    let is = c.in-Some.ensures in
+    on_ok_more c.add.result _ _
+    (λ takes all ext. takes_the_end rules all c.args.last c.args.connection.now c.args.query.now c.args.way end.walk c.value_at_end-value.result end.time (points_of c.args.labels.now) (points_of c.add.new.bag)
+    is.0 is.3 c.value_at_end-value.ensures is.1 (takes all ext))
+    c.add.ensures.takes

@@ -1,0 +1,16 @@
+use Rattle.std.proofs.Common.{◌≡◌}
+use Rattle.bags.specs.Bag.{criterion_of, points_of}
+use Rattle.profile_scan.specs.Values.{started}
+use Rattle.profile_scan.specs.Nodes.{Extends, IsSpelled}
+use Rattle.profile_scan.specs.Adding.{Takes, one_way, each_of, StandsBefore}
+use Rattle.profile_scan.specs.declared.nodes.Node.TheVariants.{SetsOut}
+use Rattle.profile_scan.proofs.board.set_out_after.Given as goal
+
+abbrev pub invariant-loop-place : goal.invariant-loop-place
+invariant-loop-place g l =
+    let rules = g.C.Criterion.rules l.criterion in
+    record {
+      same : criterion_of l.found ≡ l.criterion;
+      nodes : Extends l.fn.nodes.items l.nodes.items;
+      takes : Takes rules l.nodes.items (λ all. each_of (StandsBefore (points_of l.labels) l.place) (λ label. one_way l.departure (started rules l.start (rules.ride label.value)) (IsSpelled all (SetsOut l.start l.first label.tag)))) (points_of l.fn.found) (points_of l.found);
+    }

@@ -1,0 +1,39 @@
+use Rattle.std.proofs.Common.{◌-◌, arith, sym, subst}
+use Rattle.bags.specs.Bag.{points_of}
+use Rattle.timetable.proofs.LegalFacts.{Contains-At}
+use Rattle.profile_scan.proofs.Offers.{bag_under}
+use Rattle.profile_scan.proofs.OrderLemmas.{AreListed, none_listed, listed_in, all_listed, comparable, one_listed}
+use Rattle.profile_scan.proofs.found.in_order.Goals as goal
+
+pub loop-left-init : goal.loop-left-init
+loop-left-init g c =
+    subst (λ n. AreListed (g.C.Criterion.rules c.args.criterion.now) (points_of c.args.bag.now) n c.in_ok-points.points.items) (sym c.len-left.ensures)
+    (none_listed (g.C.Criterion.rules c.args.criterion.now) (points_of c.args.bag.now) c.in_ok-points.points.items c.in_ok-points.ensures.items)
+
+pub put-requires-clause-admitted : goal.put-requires-clause-admitted
+put-requires-clause-admitted g c p h =
+    let rules = g.C.Criterion.rules c.args.criterion.now in
+    let bag = bag_under g.C.Criterion.rules c.args.bag.now.criterion c.args.criterion.now (points_of c.args.bag.now) c.requires c.args.bag.now.kept in
+    bag.admitted p (listed_in rules (points_of c.args.bag.now) c.loop-left.left c.loop-left.points.items c.loop-left.invariant p h)
+
+pub put-requires-clause-point : goal.put-requires-clause-point
+put-requires-clause-point g c =
+    let bag = bag_under g.C.Criterion.rules c.args.bag.now.criterion c.args.criterion.now (points_of c.args.bag.now) c.requires c.args.bag.now.kept in
+    bag.admitted c.point-point.result (Contains-At (points_of c.args.bag.now) (c.loop-left.left - 1) c.point-point.result c.point-point.ensures)
+
+pub put-requires-clause-comparable : goal.put-requires-clause-comparable
+put-requires-clause-comparable g c =
+    let rules = g.C.Criterion.rules c.args.criterion.now in
+    let bag = bag_under g.C.Criterion.rules c.args.bag.now.criterion c.args.criterion.now (points_of c.args.bag.now) c.requires c.args.bag.now.kept in
+    comparable rules (points_of c.args.bag.now) (g.met.C.Criterion.laws c.args.criterion.now) bag c.loop-left.left c.loop-left.points.items c.point-point.result c.loop-left.invariant (omega arith) c.point-point.ensures
+
+pub loop-left-preserved : goal.loop-left-preserved
+loop-left-preserved g c =
+    one_listed (g.C.Criterion.rules c.args.criterion.now) (points_of c.args.bag.now) c.loop-left.left c.loop-left.points.items c.put.new.points.items c.point-point.result c.loop-left.invariant (omega arith) c.point-point.ensures
+    c.in_ok-put.ensures.ordered c.in_ok-put.ensures.put
+
+pub returns-clause-only : goal.returns-clause-only
+returns-clause-only g c = listed_in (g.C.Criterion.rules c.args.criterion.now) (points_of c.args.bag.now) c.loop-left.left c.loop-left.points.items c.loop-left.invariant
+
+pub returns-clause-each : goal.returns-clause-each
+returns-clause-each g c = all_listed (g.C.Criterion.rules c.args.criterion.now) (points_of c.args.bag.now) c.loop-left.left c.loop-left.points.items (omega arith) c.loop-left.invariant

@@ -1,0 +1,98 @@
+use Rattle.std.proofs.Common.{◌≡◌, ◌+◌, ◌-◌, ◌<◌, ◌∷◌, [], ◌++◌, All, ℕ, length, arith, refl, sym, ◌∙◌, ap, subst}
+use Rattle.std.proofs.lemmas.List.Elements.{All-nil}
+use Rattle.bags.specs.Bag.{points_of, criterion_of}
+use Rattle.bags.specs.declared.bag.Bag.{Bag}
+use Rattle.timetable.specs.TimetableValue.{TimetableValue}
+use Rattle.profile_scan.specs.Values.{journey_value}
+use Rattle.profile_scan.specs.Continuations.{CountsFrom}
+use Rattle.profile_scan.specs.Matching.{MatchesFrom, Matches}
+use Rattle.profile_scan.specs.Steps.{IsStep}
+use Rattle.profile_scan.specs.LawStatements.{CanScan}
+use Rattle.profile_scan.specs.Nodes.{spelling}
+use Rattle.profile_scan.specs.Kept.{kept_by}
+use Rattle.profile_scan.specs.Window.{falling}
+use Rattle.profile_scan.proofs.Ends.{nothing_follows}
+use Rattle.profile_scan.proofs.StepLemmas.{one_index_down}
+use Rattle.profile_scan.proofs.StepFacts.{matches_alike}
+use Rattle.profile_scan.proofs.NodeLemmas.{extends_on, extends_none}
+use Rattle.profile_scan.proofs.LogLemmas.{log_more, log_front, log_none, on_err}
+use Rattle.profile_scan.proofs.scan.scan_window.Goals as goal
+
+pub loop-place-init : goal.loop-place-init
+loop-place-init g c =
+    let rules = g.C.Criterion.rules c.args.criterion.now in
+    let t = g.S.ConnSource.timetable c.args.source.now in
+    let can : CanScan (g.S.ConnSource.timetable c.args.source.now) c.args.query.now = record { legal = g.met.S.ConnSource.legal c.args.source.now; limits = g.met.S.ConnSource.limits c.args.source.now; in_time = c.requires.by } in
+    record {
+      low = c.requires.order;
+      high = omega arith;
+      timetable = refl;
+      log = log_none (g.S.ConnSource.log c.args.source.now) c.args.end;
+      len = c.in_ok-stops.ensures.len ∙ c.stops.ensures;
+      long = c.in_ok-labels.ensures.long ∙ c.trips.ensures;
+      placed = c.in_ok-labels.ensures.placed;
+      stops = c.in_ok-stops.ensures.same;
+      labels = subst (All (λ (b : Bag g.row.C.Denot g.row.C-V.Denot g.C.Criterion). criterion_of b ≡ c.args.criterion.now)) (sym c.in_ok-labels.ensures.empty) (All-nil (λ b. criterion_of b ≡ c.args.criterion.now));
+      found = c.new-found.ensures.criterion;
+      matched = λ all ext. matches_alike rules t c.args.query.now (spelling all) c.args.end (record { bag = λ _. []; labels = λ _. []; found = [] }) (kept_by c.in_ok-stops.stops.items c.in_ok-labels.labels.slots.items c.in_ok-labels.labels.bags.items c.new-found.result)
+          c.in_ok-stops.ensures.none c.in_ok-labels.ensures.none c.new-found.ensures.empty
+          (nothing_follows rules t c.args.query.now can c.args.end c.requires.end (spelling all));
+    }
+
+pub loop-place-preserved : goal.loop-place-preserved
+loop-place-preserved g c =
+    let inv = c.loop-place.invariant in
+    let low = inv.low in
+    let high = inv.high in
+    let test = c.loop-place-test.true in
+    let i = c.loop-place.place - 1 in
+    let rules = g.C.Criterion.rules c.args.criterion.now in
+    let q = c.args.query.now in
+    let source = c.connection-connection.new.self in
+    let same = c.connection-connection.ensures.same ∙ inv.timetable in
+    let can : CanScan (g.S.ConnSource.timetable c.args.source.now) c.args.query.now = record { legal = g.met.S.ConnSource.legal c.args.source.now; limits = g.met.S.ConnSource.limits c.args.source.now; in_time = c.requires.by } in
+    let in_range = c.requires.end.in_range in
+    let in_i : c.loop-place.place - 1 < length (g.S.ConnSource.timetable c.args.source.now).connections = omega arith in
+    let up : c.loop-place.place ≡ c.loop-place.place - 1 + 1 = omega arith in
+    record {
+      low = omega arith;
+      high = omega arith;
+      timetable = same;
+      log = c.connection-connection.ensures.log ∙ ap (λ ks. ks ++ i ∷ []) inv.log ∙ log_more (g.S.ConnSource.log c.args.source.now) i c.loop-place.place c.args.end (omega arith) high;
+      len = c.in_ok-step.ensures.len ∙ ap (λ (t : TimetableValue). t.stops) same;
+      long = c.in_ok-step.ensures.long ∙ ap (λ (t : TimetableValue). t.trips) same;
+      placed = c.in_ok-step.ensures.placed;
+      stops = c.in_ok-step.ensures.stops;
+      labels = c.in_ok-step.ensures.labels;
+      found = c.in_ok-step.ensures.found;
+      matched = λ all ext.
+          one_index_down rules (g.met.C.Criterion.laws c.args.criterion.now) (g.S.ConnSource.timetable c.args.source.now) q can (spelling all) i in_i
+          (kept_by c.loop-place.stops.items c.loop-place.labels.slots.items c.loop-place.labels.bags.items c.loop-place.found)
+          (kept_by c.step.new.stops.items c.step.new.labels.slots.items c.step.new.labels.bags.items c.step.new.found)
+          (subst (λ (n : ℕ). MatchesFrom rules (g.S.ConnSource.timetable c.args.source.now) q (spelling all) n (kept_by c.loop-place.stops.items c.loop-place.labels.slots.items c.loop-place.labels.bags.items c.loop-place.found)) up
+          (inv.matched all (extends_on c.loop-place.nodes.items c.step.new.nodes.items all c.in_ok-step.ensures.nodes ext)))
+          (subst (λ (t : TimetableValue). IsStep rules t q (spelling all) i (kept_by c.loop-place.stops.items c.loop-place.labels.slots.items c.loop-place.labels.bags.items c.loop-place.found) (kept_by c.step.new.stops.items c.step.new.labels.slots.items c.step.new.labels.bags.items c.step.new.found)) same
+          (c.in_ok-step.ensures.step all ext));
+    }
+
+pub returns-in_err-step-clause-err : goal.returns-in_err-step-clause-err
+returns-in_err-step-clause-err g c =
+    let inv = c.loop-place.invariant in
+    let low = inv.low in
+    let high = inv.high in
+    let test = c.loop-place-test.true in
+    let i = c.loop-place.place - 1 in
+    let log : g.S.ConnSource.log c.connection-connection.new.self ≡ g.S.ConnSource.log c.args.source.now ++ falling i (c.args.end - i) = c.connection-connection.ensures.log ∙ ap (λ ks. ks ++ i ∷ []) inv.log ∙ log_more (g.S.ConnSource.log c.args.source.now) i c.loop-place.place c.args.end (omega arith) high in
+    on_err c.from_residual-in_err-step.result _ (c.args.end - i, log ∙ log_front (g.S.ConnSource.log c.args.source.now) c.args.start i c.args.end (omega arith) (omega arith))
+
+pub returns-clause-matches : goal.returns-clause-matches
+returns-clause-matches g c =
+    let inv = c.loop-place.invariant in
+    let low = inv.low in
+    let test = c.loop-place-test.false in
+    let rules = g.C.Criterion.rules c.args.criterion.now in
+    let t = g.S.ConnSource.timetable c.args.source.now in
+    let q = c.args.query.now in
+    let at : c.loop-place.place ≡ c.args.start = omega arith in
+    let m = inv.matched c.loop-place.nodes.items (extends_none c.loop-place.nodes.items) in
+    subst (λ (n : ℕ). Matches rules (spelling c.loop-place.nodes.items).journey (CountsFrom t q n) (journey_value rules t) (points_of c.loop-place.found)) at m.at_source

@@ -1,0 +1,137 @@
+-- Offers put together from smaller ones, and taken in under nodes to which further ones may come.
+use Rattle.std.specs.Prelude.{◌≡◌, ◌≢◌, ◌⊎◌, ℕ, ◌+◌, ◌-◌, ◌<◌, ◌≤◌, List, [], ◌∷◌, Contains, slice_get, Option, Some, None}
+use Rattle.std.proofs.Common.{inl, inr}
+use Rattle.criteria.specs.Laws.{Rules}
+use Rattle.bags.specs.declared.point.Point.{Point}
+use Rattle.timetable.specs.declared.network.Connection.{Connection}
+use Rattle.timetable.specs.declared.network.Footpath.{Footpath}
+use Rattle.timetable.specs.declared.query.Query.{Query}
+use Rattle.timetable.specs.Journeys.{start_secs}
+use Rattle.profile_scan.specs.Values.{started}
+use Rattle.profile_scan.specs.Continuations.{Onward, Aboard}
+use Rattle.profile_scan.specs.Matching.{Spelling, StandsFor}
+use Rattle.profile_scan.specs.Steps.{Offer, TakesIn, boarded}
+use Rattle.profile_scan.specs.Nodes.{Extends, walk_of}
+use Rattle.profile_scan.specs.declared.nodes.Node.{Node}
+
+-- one way, which is open
+abbrev pub one_way : {V : Type 0} → ℕ → V → (ℕ → Type 0) → Offer (Unit {0}) V
+one_way departure value fits = record { is_open = λ _. Unit {0}; departure = λ _. departure; value = λ _. value; fits_tag = λ _. fits }
+
+-- each way that some element offers
+abbrev pub each_of : {X A V : Type 0} → (X → Type 0) → (X → Offer A V) → Offer (X × A) V
+each_of There offer = record {
+  is_open = λ way. There way.0 × (offer way.0).is_open way.1;
+  departure = λ way. (offer way.0).departure way.1;
+  value = λ way. (offer way.0).value way.1;
+  fits_tag = λ way. (offer way.0).fits_tag way.1;
+}
+
+-- a list takes an offer in, whatever nodes are still to come
+abbrev pub Takes : {A V : Type 0} → Rules V → List Node → (List Node → Offer A V) → List (Point V) → List (Point V) → Type 0
+Takes rules nodes offer old new = (all : List Node) → Extends nodes all → TakesIn rules (offer all) old new
+
+-- an element stands at a place below n
+abbrev pub StandsBefore : {X : Type 0} → List X → ℕ → X → Type 0
+StandsBefore points n x = (k : ℕ) × (k < n) × (slice_get points k ≡ Some x)
+
+-- an element stands at one of these places
+abbrev pub StandsAtOne : {X : Type 0} → List X → List ℕ → X → Type 0
+StandsAtOne points places x = (k : ℕ) × Contains places k × (slice_get points k ≡ Some x)
+
+-- a bag is offered each label of a trip, boarded at place i after a footpath
+abbrev pub boardings_after : {V : Type 0} → Rules V → Spelling → ℕ → ℕ → Footpath → List (Point V) → Offer (Point V) V
+boardings_after rules tags i departure walk labels = record {
+  is_open = Contains labels;
+  departure = λ _. departure;
+  value = λ label. rules.walk walk.secs (rules.ride label.value);
+  fits_tag = λ label tag. (x : Aboard) → StandsFor (tags.aboard label.tag) x → StandsFor (tags.onward tag) (record { walk = walk ∷ []; rides = boarded i x });
+}
+
+-- the points found are offered each label of a trip, boarded at place i after a start
+abbrev pub settings_out_after : {V : Type 0} → Rules V → Spelling → ℕ → ℕ → Option Footpath → List (Point V) → Offer (Point V) V
+settings_out_after rules tags i departure start labels = record {
+  is_open = Contains labels;
+  departure = λ _. departure;
+  value = λ label. started rules start (rules.ride label.value);
+  fits_tag = λ label tag. (x : Aboard) → StandsFor (tags.aboard label.tag) x → StandsFor (tags.journey tag) (record { start = start; rides = boarded i x });
+}
+
+-- labels are offered each point of a bag that departs at a time or later, the trip being left at place i
+abbrev pub changes_from : {V : Type 0} → Spelling → ℕ → ℕ → List (Point V) → Offer (Point V) V
+changes_from tags i time bag = record {
+  is_open = λ p. Contains bag p × (time ≤ p.departure);
+  departure = λ _. 0;
+  value = λ p. p.value;
+  fits_tag = λ p tag. (x : Onward) → StandsFor (tags.onward p.tag) x → StandsFor (tags.aboard tag) (record { last = i; walk = x.walk; rides = x.rides });
+}
+
+-- two offers together
+abbrev pub open_in : {A B V : Type 0} → Offer A V → Offer B V → A ⊎ B → Type 0
+open_in a b (inl way) = a.is_open way
+open_in a b (inr way) = b.is_open way
+
+abbrev pub departure_in : {A B V : Type 0} → Offer A V → Offer B V → A ⊎ B → ℕ
+departure_in a b (inl way) = a.departure way
+departure_in a b (inr way) = b.departure way
+
+abbrev pub value_in : {A B V : Type 0} → Offer A V → Offer B V → A ⊎ B → V
+value_in a b (inl way) = a.value way
+value_in a b (inr way) = b.value way
+
+abbrev pub fits_in : {A B V : Type 0} → Offer A V → Offer B V → A ⊎ B → ℕ → Type 0
+fits_in a b (inl way) = a.fits_tag way
+fits_in a b (inr way) = b.fits_tag way
+
+abbrev pub either : {A B V : Type 0} → Offer A V → Offer B V → Offer (A ⊎ B) V
+either a b = record { is_open = open_in a b; departure = departure_in a b; value = value_in a b; fits_tag = fits_in a b }
+
+-- an offer under a condition
+abbrev pub only_if : {A V : Type 0} → Type 0 → Offer A V → Offer A V
+only_if P offer = record { is_open = λ way. P × offer.is_open way; departure = offer.departure; value = offer.value; fits_tag = offer.fits_tag }
+
+-- how one may end where a connection ends: at the target, or after one footpath of so many seconds to it; and at the target by a time
+abbrev pub IsEnding : Connection → Query → Option ℕ → Option Footpath → Type 0
+IsEnding c q way None = (c.to ≡ q.target) × (c.arr ≤ q.by)
+IsEnding c q way (Some f) = (c.to ≢ q.target) × (way ≡ Some f.secs) × (f.from ≡ c.to) × (f.to ≡ q.target) × (c.arr + f.secs ≤ q.by)
+
+-- labels are offered each way to end there, the trip being left at place i
+abbrev pub endings : {V : Type 0} → Rules V → Spelling → ℕ → Connection → Query → Option ℕ → Offer (Option Footpath) V
+endings rules tags i c q way = record {
+  is_open = IsEnding c q way;
+  departure = λ _. 0;
+  value = λ walk. started rules walk (rules.arrive (c.arr + start_secs walk));
+  fits_tag = λ walk tag. StandsFor (tags.aboard tag) (record { last = i; walk = walk_of walk; rides = [] });
+}
+
+-- the two ways to leave a trip where a connection ends: to end, or to change
+abbrev pub endings_and_changes : {V : Type 0} → Rules V → Spelling → ℕ → Connection → Query → Option ℕ → List (Point V) → Offer (Option Footpath ⊎ Point V) V
+endings_and_changes rules tags i c q way bag = either (endings rules tags i c q way) (changes_from tags i c.arr bag)
+
+-- a start leads to a connection from the source in time, and departs in the window: none where the connection starts at the source, else one footpath to another stop
+abbrev pub StartsFrom : Query → Connection → Option Footpath → Type 0
+StartsFrom q c None = c.from ≡ q.source
+StartsFrom q c (Some f) = (f.from ≡ q.source) × (f.to ≢ q.source)
+
+pub record MayStart (q : Query) (c : Connection) (start : Option Footpath) : Type 0 where
+  pub starts : StartsFrom q c start
+  pub fits : start_secs start ≤ c.dep
+  pub not_early : q.from ≤ c.dep - start_secs start
+  pub not_late : c.dep - start_secs start ≤ q.until
+
+-- a footpath stands at a place from a first one up to before another
+abbrev pub StandsBetween : List Footpath → ℕ → ℕ → Footpath → Type 0
+StandsBetween walks begin end walk = (k : ℕ) × (begin ≤ k) × (k < end) × (slice_get walks k ≡ Some walk)
+
+-- no start, or one of these footpaths
+abbrev pub IsTried : List Footpath → ℕ → ℕ → Option Footpath → Type 0
+IsTried walks begin end None = Unit {0}
+IsTried walks begin end (Some walk) = StandsBetween walks begin end walk
+
+-- what one footpath into a connection's start offers the bag of a stop: something, if it begins there and is short enough
+abbrev pub boardings_by : {V : Type 0} → Rules V → Spelling → ℕ → Connection → ℕ → List (Point V) → Footpath → Offer (Point V) V
+boardings_by rules tags i c stop labels walk = only_if ((walk.from ≡ stop) × (walk.secs ≤ c.dep)) (boardings_after rules tags i (c.dep - walk.secs) walk labels)
+
+-- what one start offers the points found, if it is one
+abbrev pub settings_out_by : {V : Type 0} → Rules V → Spelling → ℕ → Connection → Query → List (Point V) → Option Footpath → Offer (Point V) V
+settings_out_by rules tags i c q labels start = only_if (MayStart q c start) (settings_out_after rules tags i (c.dep - start_secs start) start labels)

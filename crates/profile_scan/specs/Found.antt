@@ -1,0 +1,28 @@
+-- What contracts see of an answer that was found.
+use Rattle.std.specs.Prelude.{◌≡◌, ℕ, Bool, ◌&&◌, ◌||◌, ◌==◌, nat_lt, List, Option}
+use Rattle.std.specs.Ordering.{is_lt}
+use Rattle.criteria.specs.Laws.{Rules}
+use Rattle.bags.specs.declared.point.Point.{Point}
+use Rattle.timetable.specs.TimetableValue.{TimetableValue}
+use Rattle.timetable.specs.declared.query.Query.{Query}
+use Rattle.profile_scan.specs.Points.{IsAnswer}
+use Rattle.profile_scan.specs.Kept.{IsWay}
+use Rattle.profile_scan.specs.declared.found.Found.{Found}
+
+-- its points, at their places
+abbrev pub listed : {K V : Type 0} → Found K V → List (Point V)
+listed found = found.points.items
+
+-- the seconds of the footpath from the source to the target, if there is one
+abbrev pub walk_of_found : {K V : Type 0} → Found K V → Option ℕ
+walk_of_found found = found.walk
+
+-- it is the answer of a query over a timetable, under a criterion
+pub record Answers {K V : Type 0} (criterion : K) (rules : Rules V) (t : TimetableValue) (q : Query) (found : Found K V) : Type 0 where
+  pub answer : IsAnswer rules t q (listed found)
+  pub direct : IsWay t q.target q.source (walk_of_found found)
+  pub keeps : (found.criterion ≡ criterion) × (found.timetable.value ≡ t) × (found.query.value ≡ q)
+
+-- whether a point is listed before another
+abbrev pub is_before : {V : Type 0} → Rules V → Point V → Point V → Bool
+is_before rules p q = nat_lt p.departure q.departure || (p.departure == q.departure && is_lt (rules.list_order p.value q.value))

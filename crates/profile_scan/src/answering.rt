@@ -1,0 +1,53 @@
+//! The answer of a profile query.
+
+ghost use Rattle.std.specs.Prelude.{◌≡◌, ◌++◌, ℕ, IfOk, OnOk, OnErr, reverse, take};
+ghost use Rattle.timetable.specs.Queries.{IsAskable};
+ghost use Rattle.profile_scan.specs.Window.{window};
+ghost use Rattle.profile_scan.specs.Found.{Answers};
+
+use crate::found::{Found, in_order};
+use crate::scan::scan_window;
+use crate::ways::ways_to;
+use criteria::Criterion;
+use sources::ConnSource;
+use std::alloc::{AllocError, Global};
+use timetable::{Kept, Query, Timetable};
+
+// The timetable that a source stands for.
+fn timetable_of<S: ConnSource>(source: &S) -> Kept<Timetable>
+    ensures { result.value ≡ S.timetable source.now }
+{
+    Kept::at(source, &())
+}
+
+/// Answers a query that can be asked: exactly the points of all journeys that count for it, which no other such point dominates,
+/// in order.
+///
+/// Each connection of the window is asked for once, from the last to the first. The only error is want of memory; then a beginning
+/// of them was asked for.
+pub fn profile<S: ConnSource, C: Criterion>(
+    alloc: Global,
+    source: &mut S,
+    criterion: &C,
+    query: &Query,
+) -> Result<Found<C>, AllocError>
+    requires { IsAskable (S.timetable source.old).stops query.now }
+    ensures timetable { S.timetable source.new ≡ S.timetable source.old }
+    ensures answers { IfOk result (λ found. Answers criterion.now (C.rules criterion.now) (S.timetable source.old) query.now found) }
+    ensures log { OnOk result (S.log source.new ≡ S.log source.old ++ reverse (window (S.timetable source.old) query.now)) }
+    ensures err { OnErr result ((n : ℕ) × (S.log source.new ≡ S.log source.old ++ take n (reverse (window (S.timetable source.old) query.now)))) }
+{
+    let start = source.first_at(query.from);
+    let end = source.first_at(query.by);
+    let ways = ways_to(alloc, source, query.target)?;
+    let scanned = scan_window(alloc, source, criterion, query, &ways, start, end)?;
+    let points = in_order(alloc, criterion, &scanned.found)?;
+    Ok(Found {
+        criterion: *criterion,
+        points,
+        nodes: scanned.nodes,
+        walk: ways[query.source as usize],
+        timetable: timetable_of(source),
+        query: Kept::of(query),
+    })
+}

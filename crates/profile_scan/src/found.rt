@@ -1,0 +1,117 @@
+//! The answer of a query.
+
+ghost use Rattle.std.specs.Prelude.{◌≡◌, ◌<◌, ◌≤◌, ◌⊎◌, ◌↔◌, ℕ, IfOk, OnOk, Contains, AllPairs, length, slice_get, slice_index_or, Some};
+ghost use Rattle.criteria.specs.Laws.{Admits};
+ghost use Rattle.bags.specs.Bag.{criterion_of, points_of};
+ghost use Rattle.profile_scan.specs.Points.{Before};
+ghost use Rattle.profile_scan.specs.Found.{is_before, listed, walk_of_found};
+
+use crate::nodes::Node;
+use bags::{Bag, Point};
+use criteria::Criterion;
+use std::alloc::{AllocError, Global};
+use timetable::{Kept, Query, Timetable};
+
+/// The answer of a profile query: the points of all best departures, by departure, then by the criterion's order.
+///
+/// It keeps the criterion, and in fields that contracts alone see the timetable and the query that it answers.
+#[derive(Drop)]
+pub struct Found<C: Criterion> {
+    pub(crate) criterion: C,
+    pub(crate) points: Vec<Point<C::V>>,
+    pub(crate) nodes: Vec<Node>,
+    pub(crate) walk: Option<u32>,
+    pub(crate) timetable: Kept<Timetable>,
+    pub(crate) query: Kept<Query>,
+}
+
+impl<C: Criterion> Found<C> {
+    /// How many points there are.
+    pub fn len(&self) -> usize
+        ensures { result ≡ length (listed self.now) }
+    {
+        self.points.len()
+    }
+
+    /// The point at a place: its departure, in seconds after the base, and its value.
+    pub fn point(&self, i: usize) -> Point<C::V>
+        requires { i < length (listed self.now) }
+        ensures { slice_get (listed self.now) i ≡ Some result }
+    {
+        self.points[i]
+    }
+
+    /// The seconds of the footpath from the source to the target, if there is one.
+    pub fn direct_walk(&self) -> Option<u32>
+        ensures { result ≡ walk_of_found self.now }
+    {
+        self.walk
+    }
+}
+
+/// The points of a bag by departure, then by the criterion's order.
+pub fn in_order<C: Criterion>(
+    alloc: Global,
+    criterion: &C,
+    bag: &Bag<C>,
+) -> Result<Vec<Point<C::V>>, AllocError>
+    requires { criterion_of bag.now ≡ criterion.now }
+    ensures ordered { IfOk result (λ points. AllPairs (Before (C.rules criterion.now)) points.items) }
+    ensures only { IfOk result (λ points. (p : _) → Contains points.items p → Contains (points_of bag.now) p) }
+    ensures each { IfOk result (λ points. (p : _) → Contains (points_of bag.now) p → Contains points.items p) }
+{
+    let mut points = Vec::with_capacity(alloc, bag.len())?;
+    let mut left = bag.len();
+    while left > 0 {
+        left -= 1;
+        let point = bag.point(left);
+        put(criterion, &mut points, point)?;
+    }
+    Ok(points)
+}
+
+// Puts a point in its place among points in order. A bag's points come by departure nearly, so its place is near the end.
+fn put<C: Criterion>(
+    criterion: &C,
+    points: &mut Vec<Point<C::V>>,
+    point: Point<C::V>,
+) -> Result<(), AllocError>
+    requires ordered { AllPairs (Before (C.rules criterion.now)) points.old.items }
+    requires admitted { (p : _) → Contains points.old.items p → Admits (C.rules criterion.now) p.value }
+    requires point { Admits (C.rules criterion.now) point.value }
+    requires comparable { (p : _) → Contains points.old.items p → Before (C.rules criterion.now) p point ⊎ Before (C.rules criterion.now) point p }
+    ensures ordered { OnOk result (AllPairs (Before (C.rules criterion.now)) points.new.items) }
+    ensures put { OnOk result ((p : _) → Contains points.new.items p ↔ ((point ≡ p) ⊎ Contains points.old.items p)) }
+{
+    let place = place_for(criterion, points, &point);
+    points.insert(place, point)?;
+    Ok(())
+}
+
+// The place of a point among points in order.
+fn place_for<C: Criterion>(criterion: &C, points: &[Point<C::V>], point: &Point<C::V>) -> usize
+    requires ordered { AllPairs (Before (C.rules criterion.now)) points.now }
+    requires admitted { (p : _) → Contains points.now p → Admits (C.rules criterion.now) p.value }
+    requires point { Admits (C.rules criterion.now) point.now.value }
+    requires comparable { (p : _) → Contains points.now p → Before (C.rules criterion.now) p point.now ⊎ Before (C.rules criterion.now) point.now p }
+    ensures within { result ≤ length points.now }
+    ensures before { (k : ℕ) (d : _) → k < result → Before (C.rules criterion.now) (slice_index_or points.now k d) point.now }
+    ensures after { (k : ℕ) (d : _) → result ≤ k → k < length points.now → Before (C.rules criterion.now) point.now (slice_index_or points.now k d) }
+{
+    let mut place = points.len();
+    while place > 0 && is_before(criterion, point, &points[place - 1]) {
+        place -= 1;
+    }
+    place
+}
+
+// Whether a point is listed before another.
+fn is_before<C: Criterion>(criterion: &C, point: &Point<C::V>, other: &Point<C::V>) -> bool
+    requires point { Admits (C.rules criterion.now) point.now.value }
+    requires other { Admits (C.rules criterion.now) other.now.value }
+    ensures { result ≡ is_before (C.rules criterion.now) point.now other.now }
+{
+    point.departure < other.departure
+        || (point.departure == other.departure
+            && criterion.list_order(&point.value, &other.value).is_lt())
+}
