@@ -3,7 +3,8 @@ use Rattle.std.proofs.Common.{◌≡◌, ◌≢◌, ℕ, ◌+◌, ◌<◌, ◌�
 use Rattle.std.proofs.lemmas.List.Elements.{All-contains}
 use Rattle.timetable.specs.declared.network.Footpath.{Footpath}
 use Rattle.timetable.specs.Journeys.{IsWalk, walk_end, walk_secs}
-use Rattle.timetable.specs.Legal.{HasFootpath}
+use Rattle.timetable.specs.TimetableValue.{TimetableValue}
+use Rattle.timetable.specs.Legal.{HasFootpath, IsLegal}
 use Rattle.timetable.specs.LegalProp.{same_secs}
 use Rattle.footpaths.specs.Walks.{on_foot, IsWalkBetween, IsLeastTime}
 use Rattle.footpaths.specs.Closure.{IsClosure, HasMorePairs, HasLongerWalk, AreInRange, HasLoops, HasLegalFootpaths}
@@ -141,3 +142,19 @@ longer_of listed closure longest is (f, in_it, more) =
     let least = is.least f in_it in
     let (walk, walks, time) = least.walked in
     (f.from, f.to, record { joined = (walk, walks); longer = λ other others. let low = least.least other others in omega (arith, low, more) })
+
+pub footpaths_of_legal : (t : TimetableValue) → IsLegal t → HasLegalFootpaths t.stops t.footpaths
+footpaths_of_legal t legal = record { ends_in_range = legal.ends_in_range; in_order = legal.in_order; loops = legal.loops; closed = legal.closed }
+
+pub legal_with : (t : TimetableValue) (paths : List Footpath) → IsLegal t → HasLegalFootpaths t.stops paths → IsLegal (record t { footpaths = paths })
+legal_with t paths legal paths_legal = record {
+  stops_in_range = legal.stops_in_range;
+  trips_in_range = legal.trips_in_range;
+  ends_in_range = paths_legal.ends_in_range;
+  takes_time = legal.takes_time;
+  departures_never_fall = legal.departures_never_fall;
+  unbroken = legal.unbroken;
+  in_order = paths_legal.in_order;
+  loops = paths_legal.loops;
+  closed = paths_legal.closed;
+}

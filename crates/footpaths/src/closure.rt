@@ -142,17 +142,21 @@ pub(crate) fn close_within(
     Ok(closed)
 }
 
-/// The closure: one footpath for each ordered pair of stops that a non-empty walk over the listed footpaths joins, of the least
-/// time in seconds of any such walk, by the stop led into, then by the stop left. It is what a legal timetable asks of its
-/// footpaths. A loop is a walk like any other: a way there and back may undercut it.
+/// The closure of listed footpaths: one footpath for each ordered pair of stops that a non-empty walk over them joins, of the
+/// least time in seconds of any such walk, by the stop led into, then by the stop left. It is what a legal timetable asks of its
+/// footpaths, as the Connection Scan Algorithm does (Dibbelt, Pajor, Strasser, Wagner, ACM JEA 2018). A loop is a footpath like
+/// any other here: a way there and back may undercut it.
 ///
-/// Each stop has a listed loop. Where the closure has too many footpaths that is told, and only where it hasn't that one of
-/// them takes too long.
+/// # Errors
+///
+/// `TooManyFootpaths` where the closure has more than `MAX_FOOTPATHS` footpaths, else `WalkTooLong` where one of them takes more
+/// than `MAX_WALK_SECS`.
 pub fn close(alloc: Global, stops: u32, listed: &[Footpath]) -> Result<Vec<Footpath>, FootFault>
     requires in_range { AreInRange listed.now stops }
     requires loops { HasLoops listed.now stops }
     ensures closure { IfOk result (λ v. IsClosure listed.now v.items) }
     ensures legal { IfOk result (λ v. HasLegalFootpaths stops v.items) }
+    ensures stays { HasLegalFootpaths stops listed.now → IfOk result (λ v. v.items ≡ listed.now) }
     ensures few { IfOk result (λ v. length v.items ≤ MAX_FOOTPATHS) }
     ensures short { IfOk result (λ v. All (λ f. f.secs ≤ MAX_WALK_SECS) v.items) }
     ensures fault { IfErr result (IsFault listed.now MAX_FOOTPATHS MAX_WALK_SECS) }

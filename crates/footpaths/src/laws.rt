@@ -2,6 +2,8 @@
 
 ghost use Rattle.std.specs.Prelude.{◌≡◌, ◌<◌, ◌↔◌, ℕ, List, length, Contains};
 ghost use Rattle.timetable.specs.declared.network.Footpath.{Footpath};
+ghost use Rattle.timetable.specs.TimetableValue.{TimetableValue};
+ghost use Rattle.timetable.specs.Legal.{IsLegal};
 ghost use Rattle.footpaths.specs.Closure.{IsClosure, HasMorePairs, HasLongerWalk, AreInRange, HasLoops, HasLegalFootpaths};
 
 /// The closure of footpaths among which each stop has a loop meets what a legal timetable asks of its footpaths.
@@ -24,4 +26,11 @@ pub fn closed_stays()
 pub fn faults_of_closure()
     ensures many { (listed closure : List Footpath) (most : ℕ) → IsClosure listed closure → HasMorePairs listed most ↔ (most < length closure) }
     ensures long { (listed closure : List Footpath) (longest : ℕ) → IsClosure listed closure → HasLongerWalk listed longest ↔ ((f : Footpath) × Contains closure f × (longest < f.secs)) }
+{}
+
+/// What is asked of the closure is what a legal timetable asks of its footpaths: a legal timetable has such footpaths, and with
+/// others of that kind it is legal too.
+pub fn legal_footpaths()
+    ensures has { (t : TimetableValue) → IsLegal t → HasLegalFootpaths t.stops t.footpaths }
+    ensures takes { (t : TimetableValue) (paths : List Footpath) → IsLegal t → HasLegalFootpaths t.stops paths → IsLegal (record t { footpaths = paths }) }
 {}
