@@ -5,3 +5,5 @@ pub mod Workers
 pub mod Keeps
 pub mod Runs
 pub mod Rests
+pub mod Replies
+pub mod Pins

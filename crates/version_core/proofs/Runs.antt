@@ -22,7 +22,7 @@ run_kept s [] (r ∷ rs) t kept h = absurd h
 run_kept s (e ∷ es) [] t kept h = absurd h
 
 pub reached_kept : (s : State) → IsReached s → Kept s
-reached_kept s h = run_kept start h.0 h.1 s start_kept h.2
+reached_kept s h = run_kept start h.0 h.1.0 s start_kept h.1.1
 
 pub runs_join : (s t u : State) (before after : List Event) (first second : List Reply) → Run s before first t → Run t after second u → Run s (before ++ after) (first ++ second) u
 runs_join s t u [] after [] second h next = subst (λ (x : State). Run x after second u) h next
@@ -36,9 +36,13 @@ runs_part s u [] after replies h = (s, [], replies, refl, refl, h)
 runs_part s u (e ∷ es) after (r ∷ rs) h = let p = runs_part h.0 u es after rs h.2 in (p.0, r ∷ p.1, p.2, ap (λ l. r ∷ l) p.3, (h.0, h.1, p.4), p.5)
 runs_part s u (e ∷ es) after [] h = absurd h
 
+-- the list of events grows by the event of a step
+pub runs_grow : (s t u : State) (before : List Event) (replies : List Reply) (e : Event) (r : Reply) → Run s before replies t → Step t e r u → Run s (before ++ e ∷ []) (replies ++ r ∷ []) u
+runs_grow s t u before replies e r h step = runs_join s t u before (e ∷ []) replies (r ∷ []) h (u, step, refl)
+
 -- a run goes on by the next event of a list
 pub run_take : (s : State) (xs : List Event) (i : ℕ) (d : Event) (rs : List Reply) (t u : State) (r : Reply) → i < length xs → Run s (take i xs) rs t → Step t (get_or xs i d) r u → Run s (take (i + 1) xs) (rs ++ r ∷ []) u
-run_take s xs i d rs t u r less h step = rw (take_more xs i d less) (runs_join s t u (take i xs) (get_or xs i d ∷ []) rs (r ∷ []) h (u, step, refl))
+run_take s xs i d rs t u r less h step = rw (take_more xs i d less) (runs_grow s t u (take i xs) rs (get_or xs i d) r h step)
 
 -- a run that ended before the event at a place, which was about to open a version
 pub stopped_at : (s t u : State) (events : List Event) (i : ℕ) (d : Event) (replies : List Reply) → i < length events → Run s (take i events) replies t → Opens t (get_or events i d) → u ≡ t → IsStopped s events u
@@ -126,7 +130,7 @@ ask_later s w (Reply.From v e) t h = same_later s t h.3
 ask_later s w Reply.NotNow t h = same_later s t h.1
 ask_later s w _ t h = absurd h
 
-step_later : (s : State) (e : Event) (r : Reply) (t : State) → Kept s → Step s e r t → IsLater s t
+pub step_later : (s : State) (e : Event) (r : Reply) (t : State) → Kept s → Step s e r t → IsLater s t
 step_later s (Event.Look w) r t kept h = look_later s w r t kept h
 step_later s (Event.Take w) r t kept h = take_later s w r t h
 step_later s (Event.Drop w) r t kept h = drop_later s w r t h

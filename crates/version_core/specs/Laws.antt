@@ -1,39 +1,84 @@
--- What is true over every list of events.
-use Rattle.std.specs.Prelude.{◌≡◌, ℕ, ◌<◌, List, ◌++◌, length, count_by, slice_index, Some}
+-- What is true over every list of events. A state that is kept is one of which `Kept` holds: every state of every run is.
+use Rattle.std.specs.Prelude.{◌≡◌, ℕ, ◌<◌, List, [], ◌∷◌, ◌++◌, length, count_by, slice_index, Some}
+use Rattle.version_core.specs.declared.state.Worker.{Worker}
 use Rattle.version_core.specs.declared.event.Event.{Event}
 use Rattle.version_core.specs.declared.event.Reply.{Reply}
-use Rattle.version_core.specs.State.{State, edition_of}
-use Rattle.version_core.specs.Steps.{Step, Holds}
-use Rattle.version_core.specs.Runs.{Run, IsReached, IsLater}
+use Rattle.version_core.specs.State.{State, edition_of, looked, arrived, departed}
+use Rattle.version_core.specs.Steps.{Step, IsIdle, Holds, OpensLeast}
+use Rattle.version_core.specs.Runs.{Run, IsRun, IsReached, IsLater}
 use Rattle.version_core.specs.Kept.{Kept, is_at, version_on}
 
+-- every state of every run is kept
 abbrev pub EveryRunKeeps : Type 0
 EveryRunKeeps = (s : State) → IsReached s → Kept s
 
+-- and so is the state after a step from a state that is kept, whatever list of events led there
+abbrev pub EveryStepKeeps : Type 0
+EveryStepKeeps = (s t : State) (event : Event) (reply : Reply) → Kept s → Step s event reply t → Kept t
+
 -- each count is the number of workers that are late at the shelf or hold it
 abbrev pub CountsAreWorkers : Type 0
-CountsAreWorkers = (s : State) (k : ℕ) → IsReached s → k < length s.shelves → slice_index s.counts k ≡ count_by (is_at k) s.workers
+CountsAreWorkers = (s : State) (k : ℕ) → Kept s → k < length s.shelves → slice_index s.counts k ≡ count_by (is_at k) s.workers
 
 -- the shelf of a version that is held is not free, and has no other version
 abbrev pub NoHeldShelfIsCollected : Type 0
-NoHeldShelfIsCollected = (s : State) (w k v : ℕ) → IsReached s → Holds s w k v → version_on s.shelves k ≡ Some v
+NoHeldShelfIsCollected = (s : State) (w k v : ℕ) → Kept s → Holds s w k v → version_on s.shelves k ≡ Some v
 
 -- the current version and what a worker has seen never fall, and editions are only added
 abbrev pub NothingFalls : Type 0
-NothingFalls = (s t : State) (events : List Event) (replies : List Reply) → IsReached s → Run s events replies t → IsLater s t
+NothingFalls = (s t : State) (events : List Event) (replies : List Reply) → Kept s → Run s events replies t → IsLater s t
+
+-- nor do they in one step
+abbrev pub NothingFallsInAStep : Type 0
+NothingFallsInAStep = (s t : State) (event : Event) (reply : Reply) → Kept s → Step s event reply t → IsLater s t
 
 -- a version has one edition for good
 abbrev pub EditionsStay : Type 0
 EditionsStay =
-    (s t : State) (events : List Event) (replies : List Reply) (v e : ℕ) → IsReached s → Run s events replies t
+    (s t : State) (events : List Event) (replies : List Reply) (v e : ℕ) → Kept s → Run s events replies t
     → edition_of s.editions v ≡ Some e → edition_of t.editions v ≡ Some e
 
 -- a version that is held has an edition, and who holds it and asks is told both
 abbrev pub AsksAreAnswered : Type 0
 AsksAreAnswered =
-    (s : State) (w k v : ℕ) → IsReached s → Holds s w k v
+    (s : State) (w k v : ℕ) → Kept s → Holds s w k v
     → (e : ℕ) × (edition_of s.editions v ≡ Some e)
     × ((reply : Reply) (t : State) → Step s (Event.Ask w) reply t → (reply ≡ Reply.From v e) × (t ≡ s))
+
+-- a worker that is idle looks and takes: with no event between, it holds the current version
+abbrev pub LooksAndTakesHold : Type 0
+LooksAndTakesHold =
+    (s t u : State) (w : ℕ) (first second : Reply) → Kept s → IsIdle s w → Step s (Event.Look w) first t → Step t (Event.Take w) second u
+    → (first ≡ Reply.Looked s.current s.current_shelf) × (second ≡ Reply.Holds s.current)
+    × (u ≡ arrived (looked s w) w s.current_shelf (Worker.Holding s.current_shelf s.current)) × Holds u w s.current_shelf s.current
+
+-- a worker that holds a version and drops it is idle again, and counted at its shelf no longer
+abbrev pub DropsLetGo : Type 0
+DropsLetGo =
+    (s t : State) (w k v : ℕ) (reply : Reply) → Kept s → Holds s w k v → Step s (Event.Drop w) reply t
+    → (reply ≡ Reply.Dropped) × (t ≡ departed s w k) × IsIdle t w
+
+-- with the least free shelf opened, a state and an event have one reply and one next state
+abbrev pub OneReply : Type 0
+OneReply =
+    (s t u : State) (event : Event) (reply other : Reply) → Kept s
+    → Step s event reply t → OpensLeast s event reply → Step s event other u → OpensLeast s event other → (other ≡ reply) × (u ≡ t)
+
+-- no events lead from a state to itself
+abbrev pub RunsBegin : Type 0
+RunsBegin = (s : State) → IsRun s [] s
+
+-- whoever keeps a list of events, and adds the event of each step, keeps a list that leads to the state
+abbrev pub RunsGrow : Type 0
+RunsGrow =
+    (s t u : State) (before : List Event) (event : Event) (reply : Reply)
+    → IsRun s before t → Step t event reply u → IsRun s (before ++ event ∷ []) u
+
+-- and so does whoever keeps the replies as well
+abbrev pub RunsGrowByReplies : Type 0
+RunsGrowByReplies =
+    (s t u : State) (before : List Event) (replies : List Reply) (event : Event) (reply : Reply)
+    → Run s before replies t → Step t event reply u → Run s (before ++ event ∷ []) (replies ++ reply ∷ []) u
 
 -- one run after another is a run
 abbrev pub RunsJoin : Type 0

@@ -5,7 +5,8 @@ use Rattle.version_core.specs.declared.event.Event.{Event}
 use Rattle.version_core.specs.declared.event.Reply.{Reply}
 use Rattle.version_core.specs.State.{State, newest}
 use Rattle.version_core.specs.Steps.{Step, IsOpen, IsClosing}
-use Rattle.version_core.specs.Runs.{Run, IsReached}
+use Rattle.version_core.specs.Runs.{Run}
+use Rattle.version_core.specs.Kept.{Kept}
 
 -- nothing is unpublished, and no version but the current one is open
 pub record IsAtRest (s : State) : Type 0 where
@@ -35,16 +36,16 @@ RestStays = (s t : State) (event : Event) (reply : Reply) → IsAtRest s → IsN
 -- a load that opens a version publishes it and closes the one before
 abbrev pub LoadsRest : Type 0
 LoadsRest =
-    (s t : State) (e v k : ℕ) (second third : Reply) → IsReached s → IsAtRest s
+    (s t : State) (e v k : ℕ) (second third : Reply) → Kept s → IsAtRest s
     → Run s (Event.Open e ∷ Event.Publish ∷ Event.Close s.current_shelf ∷ []) (Reply.Opened v k ∷ second ∷ third ∷ []) t
     → (second ≡ Reply.Published v) × (third ≡ Reply.Closing) × (t ≡ loaded s k e) × IsAtRest t
 
 -- at rest, an opening that has no place has no number left
 abbrev pub RestIsSpent : Type 0
-RestIsSpent = (s t : State) (e : ℕ) → IsReached s → IsAtRest s → Step s (Event.Open e) Reply.NotNow t → newest s ≡ 1000000000
+RestIsSpent = (s t : State) (e : ℕ) → Kept s → IsAtRest s → Step s (Event.Open e) Reply.NotNow t → newest s ≡ 1000000000
 
 -- at rest, an opening that has no room finds seven shelves closing
 abbrev pub RestIsFull : Type 0
 RestIsFull =
-    (s t : State) (e k : ℕ) (counts : List ℕ) → IsReached s → IsAtRest s → Step s (Event.Open e) (Reply.NoRoom counts) t
+    (s t : State) (e k : ℕ) (counts : List ℕ) → Kept s → IsAtRest s → Step s (Event.Open e) (Reply.NoRoom counts) t
     → k < 8 → k ≢ s.current_shelf → (v : ℕ) × IsClosing s k v

@@ -11,9 +11,13 @@ Run s [] [] t = t ≡ s
 Run s (e ∷ es) (r ∷ rs) t = (mid : State) × Step s e r mid × Run mid es rs t
 Run s _ _ t = ⊥
 
+-- the events may lead from the one state to the other, whatever the replies
+abbrev pub IsRun : State → List Event → State → Type 0
+IsRun s events t = (replies : List Reply) × Run s events replies t
+
 -- some run leads from the start to this state
 abbrev pub IsReached : State → Type 0
-IsReached s = (events : List Event) × (replies : List Reply) × Run start events replies s
+IsReached s = (events : List Event) × IsRun start events s
 
 -- a later state: no version has lost its edition, nothing that was seen or current has become older
 pub record IsLater (s t : State) : Type 0 where

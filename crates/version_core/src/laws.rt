@@ -1,10 +1,12 @@
 //! Laws over every list of events. The functions do nothing: their contracts are the laws.
 
-ghost use Rattle.version_core.specs.Laws.{EveryRunKeeps, CountsAreWorkers, NoHeldShelfIsCollected, NothingFalls, EditionsStay, AsksAreAnswered, RunsJoin, RunsPart};
+ghost use Rattle.version_core.specs.Laws.{EveryRunKeeps, EveryStepKeeps, CountsAreWorkers, NoHeldShelfIsCollected, NothingFalls, NothingFallsInAStep, EditionsStay, AsksAreAnswered, LooksAndTakesHold, DropsLetGo, OneReply, RunsBegin, RunsGrow, RunsGrowByReplies, RunsJoin, RunsPart};
 ghost use Rattle.version_core.specs.State.{start};
+ghost use Rattle.version_core.specs.Kept.{Kept};
 ghost use Rattle.version_core.specs.Rest.{IsAtRest, RestStays, LoadsRest, RestIsSpent, RestIsFull};
 
-/// What holds in every state of every run from the start, whatever the events.
+/// What holds in every state of every run from the start, whatever the events: each such state is kept, and the rest is
+/// true of every state that is kept.
 pub fn every_run()
     ensures kept { EveryRunKeeps }
     ensures counts { CountsAreWorkers }
@@ -14,8 +16,26 @@ pub fn every_run()
     ensures asks { AsksAreAnswered }
 {}
 
-/// Runs may be put together and taken apart.
+/// What one step does, for whoever has a state that is kept and no list of the events before it. The start is kept, a step
+/// leads from kept to kept, and the state and the event leave nothing open but which free shelf is opened.
+pub fn every_step()
+    ensures start { Kept start }
+    ensures kept { EveryStepKeeps }
+    ensures later { NothingFallsInAStep }
+    ensures reply { OneReply }
+{}
+
+/// Who is idle, looks and takes at once holds the current version; who holds a version and drops it is idle.
+pub fn holding()
+    ensures takes { LooksAndTakesHold }
+    ensures drops { DropsLetGo }
+{}
+
+/// Runs may be put together and taken apart. Whoever keeps the list of events adds the event of each step.
 pub fn runs_in_parts()
+    ensures begin { RunsBegin }
+    ensures grow { RunsGrow }
+    ensures grow_by_replies { RunsGrowByReplies }
     ensures join { RunsJoin }
     ensures part { RunsPart }
 {}

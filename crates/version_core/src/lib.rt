@@ -13,7 +13,7 @@ mod sequence;
 mod state;
 
 pub use event::{Event, Reply};
-pub use laws::{at_rest, every_run, runs_in_parts};
+pub use laws::{at_rest, every_run, every_step, holding, runs_in_parts};
 pub use machine::Core;
 pub use sequence::run;
 pub use state::{MOST_VERSIONS, Shelf, Worker};

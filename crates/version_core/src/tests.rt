@@ -275,6 +275,8 @@ fn what_stands_where(rt: HostRuntime) -> Result<(), Fail> {
     assert_eq!(&rt; core.seen(16), None);
     at_rest();
     every_run();
+    every_step();
+    holding();
     runs_in_parts();
     Ok(())
 }

@@ -1,0 +1,150 @@
+-- A state and an event have one reply and one next state, but for the free shelf that is opened.
+use Rattle.std.proofs.Common.{◌≡◌, ℕ, ◌<◌, Some, slice_get, refl, ap, sym, ◌∙◌, arith, inl, inr}
+use Rattle.version_core.specs.declared.state.Shelf.{Shelf}
+use Rattle.version_core.specs.declared.state.Worker.{Worker}
+use Rattle.version_core.specs.declared.event.Event.{Event}
+use Rattle.version_core.specs.declared.event.Reply.{Reply}
+use Rattle.version_core.specs.State.{State, newest, edition_of, arrived, departed, opened, published, shelved}
+use Rattle.version_core.specs.Steps.{IsUnpublished, OpensLeast, Step, LookStep, TakeStep, DropStep, OpenStep, PublishStep, CloseStep, CollectStep, AskStep}
+use Rattle.version_core.specs.Kept.{Kept}
+use Rattle.version_core.proofs.Shelves.{version_at}
+use Rattle.version_core.proofs.Pins.{stays_once}
+
+look_one : (s t u : State) (w : ℕ) (r q : Reply) → LookStep s w r t → LookStep s w q u → (q ≡ r) × (u ≡ t)
+look_one s t u w (Reply.Looked v k) (Reply.Looked x j) a b = (ap (λ n. Reply.Looked n j) (b.1 ∙ sym a.1) ∙ ap (λ n. Reply.Looked v n) (b.2 ∙ sym a.2), b.3 ∙ sym a.3)
+look_one s t u w (Reply.Looked v k) Reply.NotNow a b = absurd (b.0 a.0)
+look_one s t u w (Reply.Looked v k) _ a b = absurd b
+look_one s t u w Reply.NotNow (Reply.Looked x j) a b = absurd (a.0 b.0)
+look_one s t u w Reply.NotNow Reply.NotNow a b = (refl, b.1 ∙ sym a.1)
+look_one s t u w Reply.NotNow _ a b = absurd b
+look_one s t u w _ q a b = absurd a
+
+take_one : (s t u : State) (w : ℕ) (r q : Reply) → TakeStep s w r t → TakeStep s w q u → (q ≡ r) × (u ≡ t)
+take_one s t u w (Reply.Holds v) (Reply.Holds x) a b =
+    let e : Some (Worker.Looked v a.0) ≡ Some (Worker.Looked x b.0) = sym a.1 ∙ b.1 in
+    let p : x ≡ v = cc in
+    let q : b.0 ≡ a.0 = cc in
+    (ap (λ n. Reply.Holds n) p, b.3 ∙ (ap (λ n. arrived s w b.0 (Worker.Holding b.0 n)) p ∙ (ap (λ n. arrived s w n (Worker.Holding n v)) q ∙ sym a.3)))
+take_one s t u w (Reply.Holds v) Reply.Late a b =
+    let e : Some (Worker.Looked v a.0) ≡ Some (Worker.Looked b.0 b.1) = sym a.1 ∙ b.2 in
+    let p : b.0 ≡ v = cc in
+    let q : b.1 ≡ a.0 = cc in
+    absurd (b.3 (ap (λ n. slice_get s.shelves n) q ∙ (a.2 ∙ ap (λ n. Some (Shelf.Open n)) (sym p))))
+take_one s t u w (Reply.Holds v) Reply.NotNow a b = absurd (b.0 v a.0 a.1)
+take_one s t u w (Reply.Holds v) _ a b = absurd b
+take_one s t u w Reply.Late (Reply.Holds x) a b =
+    let e : Some (Worker.Looked a.0 a.1) ≡ Some (Worker.Looked x b.0) = sym a.2 ∙ b.1 in
+    let p : a.0 ≡ x = cc in
+    let q : a.1 ≡ b.0 = cc in
+    absurd (a.3 (ap (λ n. slice_get s.shelves n) q ∙ (b.2 ∙ ap (λ n. Some (Shelf.Open n)) (sym p))))
+take_one s t u w Reply.Late Reply.Late a b =
+    let e : Some (Worker.Looked a.0 a.1) ≡ Some (Worker.Looked b.0 b.1) = sym a.2 ∙ b.2 in
+    let q : b.1 ≡ a.1 = cc in
+    (refl, b.4 ∙ (ap (λ n. arrived s w n (Worker.Late n)) q ∙ sym a.4))
+take_one s t u w Reply.Late Reply.NotNow a b = absurd (b.0 a.0 a.1 a.2)
+take_one s t u w Reply.Late _ a b = absurd b
+take_one s t u w Reply.NotNow (Reply.Holds x) a b = absurd (a.0 x b.0 b.1)
+take_one s t u w Reply.NotNow Reply.Late a b = absurd (a.0 b.0 b.1 b.2)
+take_one s t u w Reply.NotNow Reply.NotNow a b = (refl, b.1 ∙ sym a.1)
+take_one s t u w Reply.NotNow _ a b = absurd b
+take_one s t u w _ q a b = absurd a
+
+drop_one : (s t u : State) (w : ℕ) (r q : Reply) → DropStep s w r t → DropStep s w q u → (q ≡ r) × (u ≡ t)
+drop_one s t u w Reply.Dropped Reply.Dropped a b = (refl, b.2 ∙ (ap (λ n. departed s w n) (stays_once s w a.0 b.0 a.1 b.1) ∙ sym a.2))
+drop_one s t u w Reply.Dropped Reply.NotNow a b = absurd (b.0 a.0 a.1)
+drop_one s t u w Reply.Dropped _ a b = absurd b
+drop_one s t u w Reply.NotNow Reply.Dropped a b = absurd (a.0 b.0 b.1)
+drop_one s t u w Reply.NotNow Reply.NotNow a b = (refl, b.1 ∙ sym a.1)
+drop_one s t u w Reply.NotNow _ a b = absurd b
+drop_one s t u w _ q a b = absurd a
+
+-- of two numbers neither of which is below the other
+neither_below : (m n : ℕ) → ¬ (m < n) → ¬ (n < m) → n ≡ m
+neither_below m n a b = omega (arith, a, b)
+
+open_one : (s t u : State) (e : ℕ) (r q : Reply) → OpenStep s e r t → OpensLeast s (Event.Open e) r → OpenStep s e q u → OpensLeast s (Event.Open e) q → (q ≡ r) × (u ≡ t)
+open_one s t u e (Reply.Opened v k) (Reply.Opened x j) a least b least' =
+    let p : x ≡ v = b.2 ∙ sym a.2 in
+    let q : j ≡ k = neither_below k j (λ less. least' k less a.1) (λ less. least j less b.1) in
+    (ap (λ n. Reply.Opened n j) p ∙ ap (λ n. Reply.Opened v n) q, b.3 ∙ (ap (λ n. opened s n e) q ∙ sym a.3))
+open_one s t u e (Reply.Opened v k) (Reply.NoRoom counts) a least b least' = absurd (b.1 k a.1)
+open_one s t u e (Reply.Opened v k) Reply.NotNow a least b least' = absurd (b.0 a.0)
+open_one s t u e (Reply.Opened v k) _ a least b least' = absurd b
+open_one s t u e (Reply.NoRoom counts) (Reply.Opened x j) a least b least' = absurd (a.1 j b.1)
+open_one s t u e (Reply.NoRoom counts) (Reply.NoRoom others) a least b least' = (ap (λ l. Reply.NoRoom l) (b.2 ∙ sym a.2), b.3 ∙ sym a.3)
+open_one s t u e (Reply.NoRoom counts) Reply.NotNow a least b least' = absurd (b.0 a.0)
+open_one s t u e (Reply.NoRoom counts) _ a least b least' = absurd b
+open_one s t u e Reply.NotNow (Reply.Opened x j) a least b least' = absurd (a.0 b.0)
+open_one s t u e Reply.NotNow (Reply.NoRoom others) a least b least' = absurd (a.0 b.0)
+open_one s t u e Reply.NotNow Reply.NotNow a least b least' = (refl, b.1 ∙ sym a.1)
+open_one s t u e Reply.NotNow _ a least b least' = absurd b
+open_one s t u e _ q a least b least' = absurd a
+
+-- what is unpublished is the newest version
+unpublished_is_newest : (s : State) (k v : ℕ) → Kept s → IsUnpublished s k v → v ≡ newest s
+unpublished_is_newest s k v kept new =
+    let known = kept.shelves.known k v (version_at s.shelves k (Shelf.Open v) new.0) in let most = known.1 in let above = new.1 in
+    elim kept.shelves.newest_open [ inl a ↦ (omega arith) | inr b ↦ (let next = b.0 in omega arith) ]
+
+publish_one : (s t u : State) (r q : Reply) → Kept s → PublishStep s r t → PublishStep s q u → (q ≡ r) × (u ≡ t)
+publish_one s t u (Reply.Published v) (Reply.Published x) kept a b =
+    let p : x ≡ v = unpublished_is_newest s b.0 x kept b.1 ∙ sym (unpublished_is_newest s a.0 v kept a.1) in
+    let q : b.0 ≡ a.0 = kept.shelves.apart b.0 a.0 v (version_at s.shelves b.0 (Shelf.Open x) b.1.0 ∙ ap (λ n. Some n) p) (version_at s.shelves a.0 (Shelf.Open v) a.1.0) in
+    (ap (λ n. Reply.Published n) p, b.2 ∙ (ap (λ n. published s b.0 n) p ∙ (ap (λ n. published s n v) q ∙ sym a.2)))
+publish_one s t u (Reply.Published v) Reply.NotNow kept a b = absurd (b.0 a.0 v a.1)
+publish_one s t u (Reply.Published v) _ kept a b = absurd b
+publish_one s t u Reply.NotNow (Reply.Published x) kept a b = absurd (a.0 b.0 x b.1)
+publish_one s t u Reply.NotNow Reply.NotNow kept a b = (refl, b.1 ∙ sym a.1)
+publish_one s t u Reply.NotNow _ kept a b = absurd b
+publish_one s t u _ q kept a b = absurd a
+
+close_one : (s t u : State) (k : ℕ) (r q : Reply) → CloseStep s k r t → CloseStep s k q u → (q ≡ r) × (u ≡ t)
+close_one s t u k Reply.Closing Reply.Closing a b =
+    let e : Some (Shelf.Open a.0) ≡ Some (Shelf.Open b.0) = sym a.1.0 ∙ b.1.0 in
+    let p : b.0 ≡ a.0 = cc in
+    (refl, b.2 ∙ (ap (λ n. shelved s k (Shelf.Closing n)) p ∙ sym a.2))
+close_one s t u k Reply.Closing Reply.NotNow a b = absurd (b.0 a.0 a.1)
+close_one s t u k Reply.Closing _ a b = absurd b
+close_one s t u k Reply.NotNow Reply.Closing a b = absurd (a.0 b.0 b.1)
+close_one s t u k Reply.NotNow Reply.NotNow a b = (refl, b.1 ∙ sym a.1)
+close_one s t u k Reply.NotNow _ a b = absurd b
+close_one s t u k _ q a b = absurd a
+
+collect_one : (s t u : State) (k : ℕ) (r q : Reply) → CollectStep s k r t → CollectStep s k q u → (q ≡ r) × (u ≡ t)
+collect_one s t u k Reply.Freed Reply.Freed a b = (refl, b.3 ∙ sym a.3)
+collect_one s t u k Reply.Freed (Reply.Busy count) a b = absurd (let none = a.2 in let is = b.2 in let some = b.3 in omega arith)
+collect_one s t u k Reply.Freed Reply.NotNow a b = absurd (b.0 a.0 a.1)
+collect_one s t u k Reply.Freed _ a b = absurd b
+collect_one s t u k (Reply.Busy count) Reply.Freed a b = absurd (let none = b.2 in let is = a.2 in let some = a.3 in omega arith)
+collect_one s t u k (Reply.Busy count) (Reply.Busy other) a b = (ap (λ n. Reply.Busy n) (sym b.2 ∙ a.2), b.4 ∙ sym a.4)
+collect_one s t u k (Reply.Busy count) Reply.NotNow a b = absurd (b.0 a.0 a.1)
+collect_one s t u k (Reply.Busy count) _ a b = absurd b
+collect_one s t u k Reply.NotNow Reply.Freed a b = absurd (a.0 b.0 b.1)
+collect_one s t u k Reply.NotNow (Reply.Busy other) a b = absurd (a.0 b.0 b.1)
+collect_one s t u k Reply.NotNow Reply.NotNow a b = (refl, b.1 ∙ sym a.1)
+collect_one s t u k Reply.NotNow _ a b = absurd b
+collect_one s t u k _ q a b = absurd a
+
+ask_one : (s t u : State) (w : ℕ) (r q : Reply) → AskStep s w r t → AskStep s w q u → (q ≡ r) × (u ≡ t)
+ask_one s t u w (Reply.From v e) (Reply.From x d) a b =
+    let same : Some (Worker.Holding a.0 v) ≡ Some (Worker.Holding b.0 x) = sym a.1 ∙ b.1 in
+    let p : x ≡ v = cc in
+    let two : Some d ≡ Some e = sym b.2 ∙ (ap (λ n. edition_of s.editions n) p ∙ a.2) in
+    let q : d ≡ e = cc in
+    (ap (λ n. Reply.From n d) p ∙ ap (λ n. Reply.From v n) q, b.3 ∙ sym a.3)
+ask_one s t u w (Reply.From v e) Reply.NotNow a b = absurd (b.0 a.0 v a.1)
+ask_one s t u w (Reply.From v e) _ a b = absurd b
+ask_one s t u w Reply.NotNow (Reply.From x d) a b = absurd (a.0 b.0 x b.1)
+ask_one s t u w Reply.NotNow Reply.NotNow a b = (refl, b.1 ∙ sym a.1)
+ask_one s t u w Reply.NotNow _ a b = absurd b
+ask_one s t u w _ q a b = absurd a
+
+pub one_reply : (s t u : State) (e : Event) (r q : Reply) → Kept s → Step s e r t → OpensLeast s e r → Step s e q u → OpensLeast s e q → (q ≡ r) × (u ≡ t)
+one_reply s t u (Event.Look w) r q kept a least b least' = look_one s t u w r q a b
+one_reply s t u (Event.Take w) r q kept a least b least' = take_one s t u w r q a b
+one_reply s t u (Event.Drop w) r q kept a least b least' = drop_one s t u w r q a b
+one_reply s t u (Event.Open e) r q kept a least b least' = open_one s t u e r q a least b least'
+one_reply s t u Event.Publish r q kept a least b least' = publish_one s t u r q kept a b
+one_reply s t u (Event.Close k) r q kept a least b least' = close_one s t u k r q a b
+one_reply s t u (Event.Collect k) r q kept a least b least' = collect_one s t u k r q a b
+one_reply s t u (Event.Ask w) r q kept a least b least' = ask_one s t u w r q a b
