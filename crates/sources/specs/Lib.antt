@@ -1,3 +1,4 @@
+pub mod Departing
 pub mod FirstAt
 pub mod Searches
 pub mod FootStarts

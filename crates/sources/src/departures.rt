@@ -2,6 +2,7 @@
 
 ghost use Rattle.std.specs.Prelude.{◌≡◌, ◌<◌, ◌++◌, ◌∷◌, [], length};
 ghost use Rattle.timetable.specs.Legal.{IsLegal};
+ghost use Rattle.timetable.specs.LegalProp.{IsLegal-prop};
 ghost use Rattle.timetable.specs.Journeys.{connection_at};
 
 use image_layout::dep_at;
@@ -13,14 +14,16 @@ use timetable::Trace;
 pub struct Departures<'a> {
     image: &'a Verified,
     reads: Trace<usize>,
+    ghost legal: { IsLegal image.now.timetable } by { IsLegal-prop image.now.timetable },
 }
 
 impl<'a> Departures<'a> {
+    ghost use Rattle.sources.specs.Departing.{image_of, reads_of};
+
     /// Those of the image, of which none was read.
     pub fn of(image: &'a Verified) -> Departures<'a>
-        ensures image { result.image.now ≡ image.now }
-        ensures reads { result.reads ≡ [] }
-        ensures legal { IsLegal image.now.timetable }
+        ensures image { image_of result ≡ image.now }
+        ensures reads { reads_of result ≡ [] }
     {
         // Says of the image what each one keeps: its timetable is legal.
         image.stops();
@@ -32,27 +35,19 @@ impl<'a> Departures<'a> {
 
     /// How many there are.
     pub fn len(&self) -> usize
-        ensures { result ≡ length self.now.image.now.timetable.connections }
+        ensures { result ≡ length (image_of self.now).timetable.connections }
     {
         self.image.len()
     }
 
     /// The departure of the connection at a place, from its one word.
     pub fn read(&mut self, place: usize) -> u32
-        requires { place < length self.old.image.now.timetable.connections }
-        ensures departure { result ≡ (connection_at self.old.image.now.timetable place).dep }
-        ensures noted { self.new.reads ≡ self.old.reads ++ place ∷ [] }
-        ensures same { self.new.image.now ≡ self.old.image.now }
+        requires { place < length (image_of self.old).timetable.connections }
+        ensures departure { result ≡ (connection_at (image_of self.old).timetable place).dep }
+        ensures noted { reads_of self.new ≡ reads_of self.old ++ place ∷ [] }
+        ensures same { image_of self.new ≡ image_of self.old }
     {
         self.reads.note(&place);
         dep_at(self.image.words(), place)
-    }
-
-    /// The places whose departures were read, in this order.
-    pub fn into_reads(self) -> Trace<usize>
-        ensures { result ≡ self.entry.reads }
-    {
-        let Departures { reads, .. } = self;
-        reads
     }
 }

@@ -6,7 +6,8 @@ ghost use Rattle.timetable.specs.Legal.{IsLegal};
 ghost use Rattle.timetable.specs.LegalProp.{IsLegal-prop};
 ghost use Rattle.timetable.specs.Limits.{IsWithinLimits};
 
-use crate::search::first_at_counted;
+use crate::departures::Departures;
+use crate::search::first_departure;
 use crate::source::ConnSource;
 use image_verifier::Verified;
 use timetable::{Connection, Footpath, Trace};
@@ -58,7 +59,7 @@ impl<'a> ConnSource for InPlace<'a> {
     }
 
     fn first_at(&self, time: u32) -> usize {
-        first_at_counted(self.image, time, &mut Trace::new())
+        first_departure(&mut Departures::of(self.image), time)
     }
 
     fn walks_into(&self, stop: usize) -> (usize, usize) {

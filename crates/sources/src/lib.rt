@@ -8,8 +8,9 @@ mod search;
 mod source;
 
 pub use decoded::Decoded;
+pub use departures::Departures;
 pub use in_place::InPlace;
-pub use search::first_at_counted;
+pub use search::first_departure;
 pub use source::ConnSource;
 
 #[cfg(test)]

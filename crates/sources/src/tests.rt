@@ -134,8 +134,8 @@ fn departures_at_a_time_or_later(rt: HostRuntime) -> Result<(), Fail> {
     for (time, first) in [(0, 0), (10, 0), (11, 1), (30, 1), (31, 2), (40, 2), (41, 3)] {
         assert_eq!(rt; in_place.first_at(time), first);
         assert_eq!(rt; decoded.first_at(time), first);
-        let mut reads = Trace::new();
-        assert_eq!(rt; first_at_counted(&image, time, &mut reads), first);
+        let mut departures = Departures::of(&image);
+        assert_eq!(rt; first_departure(&mut departures, time), first);
     }
     Ok(())
 }

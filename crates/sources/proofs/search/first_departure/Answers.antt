@@ -2,7 +2,7 @@ use Rattle.std.proofs.Common.{◌≡◌, ℕ, ◌+◌, ◌-◌, ◌/◌, ◌<◌
 use Rattle.timetable.specs.Journeys.{connection_at}
 use Rattle.image_layout.specs.Image.{ImageValue}
 use Rattle.sources.proofs.SearchLemmas.{IsHalving, goes_on_above, goes_on_below, departs_before, departs_after}
-use Rattle.sources.proofs.search.search.Goals as goal
+use Rattle.sources.proofs.search.first_departure.Goals as goal
 
 pub halve-preserved-then-read-time : goal.halve-preserved-then-read-time
 halve-preserved-then-read-time c =
@@ -16,7 +16,7 @@ halve-preserved-then-read-time c =
       same = c.read.ensures.same ∙ c.halve.invariant.same;
       apart = omega (arith, c.halve-test.true);
       within = c.halve.invariant.within;
-      before = λ k below. departs_before t middle c.args.time k c.requires within early below;
+      before = λ k below. departs_before t middle c.args.time k c.args.departures.now.legal within early below;
       after = c.halve.invariant.after;
       halving =
           subst (λ (reads : List ℕ). IsHalving (length t.connections) (middle + 1) c.halve.high c.args.departures.now.reads reads) (sym c.read.ensures.noted)
@@ -35,7 +35,7 @@ halve-preserved c =
       apart = omega (arith, c.halve-test.true);
       within = omega (arith, c.halve-test.true, c.halve.invariant.within);
       before = c.halve.invariant.before;
-      after = λ k above lt. departs_after t middle c.args.time k c.requires late above lt;
+      after = λ k above lt. departs_after t middle c.args.time k c.args.departures.now.legal late above lt;
       halving =
           subst (λ (reads : List ℕ). IsHalving (length t.connections) c.halve.low middle c.args.departures.now.reads reads) (sym c.read.ensures.noted)
           (goes_on_below (length t.connections) c.halve.low c.halve.high middle c.args.departures.now.reads c.halve.departures.reads c.halve.invariant.halving c.halve-test.true less);

@@ -1,0 +1,12 @@
+-- The departures of an image, and those that were read.
+use Rattle.std.specs.Prelude.{ℕ, List}
+use Rattle.image_layout.specs.Image.{ImageValue}
+use Rattle.sources.specs.declared.departures.Departures.{Departures}
+
+-- the image whose departures they are
+abbrev pub image_of : Departures → ImageValue
+image_of departures = departures.image.now
+
+-- the places whose departures were read, in this order
+abbrev pub reads_of : Departures → List ℕ
+reads_of departures = departures.reads
