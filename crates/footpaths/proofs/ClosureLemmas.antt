@@ -16,7 +16,7 @@ use Rattle.footpaths.specs.Closure.{IsClosure, HasMorePairs, HasLongerWalk, AreI
 use Rattle.footpaths.specs.Search.{time_at, AreReached, IsToldLeast, AreToldLeast}
 use Rattle.footpaths.specs.Collected.{IsClosedInto, taken, IsTakeFault, IsCountFault}
 use Rattle.footpaths.proofs.IndexLemmas.{Contains-at, at_Contains}
-use Rattle.footpaths.proofs.OrderLemmas.{in_order_push, in_order_nil, get-end, no_longer}
+use Rattle.footpaths.proofs.OrderLemmas.{in_order_push, get-end, no_longer}
 
 -- the times of the first stops reached were taken out of the table, and the others stay
 pub record AreTaken (start : List (Option ℕ)) (reached : List ℕ) (i : ℕ) (times : List (Option ℕ)) : Type 0 where
@@ -217,15 +217,6 @@ closed_more listed cap target start reached i times closed empty least closing =
         | inr has ↦ (secs, has)
       ]
     ]
-
--- nothing leads into the stops below 0
-pub closed_none : (listed : List Footpath) (cap : ℕ) → IsClosedInto listed cap 0 []
-closed_none listed cap = record {
-  in_order = in_order_nil;
-  below = λ f in_it. absurd (omega (arith, in_it.1));
-  least = λ f in_it. absurd (omega (arith, in_it.1));
-  whole = λ from to below joined. absurd (omega (arith, below));
-}
 
 -- a walk ends at one of the stops
 ends_in_range : (listed : List Footpath) (stops : ℕ) → AreInRange listed stops → (walk : List Footpath) (from : ℕ) → IsWalk (on_foot listed) from walk → walk ≢ [] → walk_end from walk < stops

@@ -22,10 +22,6 @@ at_Contains paths f (k, below, is) = (k, slice_get-get_or paths k f below ∙ ap
 pub same_at : (paths : List Footpath) (i : ℕ) (f g : Footpath) → At paths i f → At paths i g → f ≡ g
 same_at paths i f g at_f at_g = same_Some f g (sym at_f ∙ at_g)
 
--- before the first footpath none leads into a stop
-pub last_of_none : (listed : List Footpath) (stop : ℕ) → IsLastInto listed stop 0 0
-last_of_none listed stop = record { within = omega arith; into = λ i f e at. absurd (omega (arith, e)); none_after = λ i f low high at to. omega (arith, low, high) }
-
 module _ (listed : List Footpath) (i : ℕ) (path : Footpath) (at_path : At listed i path) where
   last_here : IsLastInto listed path.to (i + 1) (i + 1)
   last_here = record {

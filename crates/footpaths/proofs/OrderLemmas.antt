@@ -37,9 +37,6 @@ in_order_push paths f in_order after i d e at_d at_e =
       | inr (inr above) ↦ absurd (omega (arith, inside, above))
     ]
 
-pub in_order_nil : AreInOrder []
-in_order_nil i d e at_d at_e = absurd (at_nothing i d at_d)
-
 in_order_tail : (x : Footpath) (xs : List Footpath) → AreInOrder (x ∷ xs) → AreInOrder xs
 in_order_tail x xs in_order i d e at_d at_e =
     let next : suc (i + 1) ≡ suc i + 1 = omega arith in

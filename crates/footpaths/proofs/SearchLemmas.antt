@@ -12,15 +12,6 @@ use Rattle.timetable.specs.declared.network.Footpath.{Footpath}
 use Rattle.footpaths.specs.declared.search.Found.{Found}
 use Rattle.footpaths.specs.Search.{time_at, found_at, IsWithin, IsUndercut, IsToldTime, AreWalked, AreReached, Grows, weight_of, weight}
 
-pub Grows-refl : (times : List (Option ℕ)) (pending : List Found) → Grows times pending times pending
-Grows-refl times pending = record {
-  same_length = refl;
-  inside = λ old. old;
-  lower = λ stop secs within. within;
-  kept = λ x in_it. in_it;
-  fresh = λ stop secs at. inl at;
-}
-
 pub Grows-trans : (a b c : List (Option ℕ)) (p q r : List Found) → Grows a p b q → Grows b q c r → Grows a p c r
 Grows-trans a b c p q r first second = record {
   same_length = second.same_length ∙ first.same_length;
@@ -74,9 +65,6 @@ module _ (times : List (Option ℕ)) (pending pending' : List Found) (stop secs 
       | inr differ ↦ inl (sym (time_other other differ) ∙ at)
     ];
   }
-
-  pub IsWithin-set : IsWithin (set times stop (Some secs)) stop secs
-  IsWithin-set = (secs, time_now, omega arith)
 
   pub AreWalked-set : (listed : List Footpath) (cap target : ℕ) → IsToldTime listed cap stop target secs → AreWalked listed cap target times → AreWalked listed cap target (set times stop (Some secs))
   AreWalked-set listed cap target told walked = λ other d at. elim (cases_eq other stop) [

@@ -92,7 +92,7 @@ fn close_to(
 {
     let index = Index::new(alloc, stops, listed)?;
     let mut search = Search::new(alloc, stops)?;
-    let mut closed = Vec::new(alloc);
+    let mut closed = Vec::with_capacity(alloc, listed.len().min(most))?;
     for target in 0..stops {
         search.fill(&index, target, cap)?;
         collect(

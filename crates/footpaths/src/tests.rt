@@ -98,6 +98,15 @@ fn a_chain_is_closed(rt: HostRuntime) -> Result<(), Fail> {
 }
 
 #[test]
+fn loops_alone_stay(rt: HostRuntime) -> Result<(), Fail> {
+    let listed = [path(1, 1, 0), path(0, 0, 0)];
+    let wanted = [path(0, 0, 0), path(1, 1, 0)];
+    let got = closed(&rt, rt.alloc(), 2, &listed)?;
+    assert!(rt; got.as_slice() == wanted.as_slice());
+    Ok(())
+}
+
+#[test]
 fn there_and_back_undercuts_a_loop(rt: HostRuntime) -> Result<(), Fail> {
     let listed = [
         path(0, 0, 180),
