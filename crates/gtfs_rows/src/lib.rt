@@ -9,6 +9,7 @@ mod changes;
 pub mod fault;
 mod ids;
 mod keyed;
+pub mod laws;
 pub mod read;
 mod reader;
 pub mod rows;
