@@ -49,3 +49,7 @@ pub slice_get-append : {X : Type 0} (xs ys : List X) (i : ℕ) (x : X) → slice
 slice_get-append [] ys i x is = absurd (cc)
 slice_get-append (y ∷ zs) ys zero x is = is
 slice_get-append (y ∷ zs) ys (suc i) x is = slice_get-append zs ys i x is
+
+pub slice_get-last : {X : Type 0} (xs : List X) (x : X) → slice_get (xs ++ x ∷ []) (length xs) ≡ Some x
+slice_get-last [] x = refl
+slice_get-last (y ∷ ys) x = slice_get-last ys x

@@ -1,5 +1,5 @@
 -- What runs keep, and how they are put together.
-use Rattle.std.proofs.Common.{◌≡◌, ℕ, zero, suc, ◌+◌, ◌-◌, ◌<◌, ◌≤◌, List, [], ◌∷◌, ◌++◌, length, set, get_or, take, Some, slice_get, refl, ap, sym, ◌∙◌, subst, arith, append_assoc, inr, Result, Ok, Err, OnErr, get_or-set_same, get_or-set_other}
+use Rattle.std.proofs.Common.{◌≡◌, ℕ, zero, suc, ◌+◌, ◌-◌, ◌<◌, ◌≤◌, List, [], ◌∷◌, ◌++◌, length, set, get_or, take, Some, slice_get, refl, ap, sym, ◌∙◌, subst, arith, append_assoc, length-append, inr, Result, Ok, Err, OnErr, get_or-set_same, get_or-set_other}
 use Rattle.std.proofs.lemmas.List.{append-nil, take_more}
 use Rattle.std.proofs.lemmas.Option.{slice_get_within, slice_get-get_or}
 use mathlib.Core.Logic.{dite}
@@ -9,11 +9,12 @@ use Rattle.version_core.specs.declared.state.Worker.{Worker}
 use Rattle.version_core.specs.declared.event.Event.{Event}
 use Rattle.version_core.specs.declared.event.Reply.{Reply}
 use Rattle.version_core.specs.State.{State, start, newest, edition_of, looked, arrived, departed, opened, published, shelved}
-use Rattle.version_core.specs.Steps.{IsIdle, Holds, Opens, Step, LookStep, TakeStep, DropStep, OpenStep, PublishStep, CloseStep, CollectStep, AskStep}
-use Rattle.version_core.specs.Runs.{Run, IsReached, IsLater, IsStopped}
+use Rattle.version_core.specs.Steps.{IsIdle, IsOpen, Holds, Opens, OpensLeast, Step, LookStep, TakeStep, DropStep, OpenStep, PublishStep, CloseStep, CollectStep, AskStep}
+use Rattle.version_core.specs.Runs.{Run, LeastRun, IsRun, IsReached, IsLater, IsStopped}
 use Rattle.version_core.specs.Kept.{Kept}
-use Rattle.version_core.proofs.Lists.{slice_get-append}
+use Rattle.version_core.proofs.Lists.{slice_get-append, slice_get-last, slice_get-set_same}
 use Rattle.version_core.proofs.Keeps.{start_kept, step_kept, held_known}
+use Rattle.version_core.proofs.Replies.{one_reply}
 
 pub run_kept : (s : State) (es : List Event) (rs : List Reply) (t : State) → Kept s → Run s es rs t → Kept t
 run_kept s [] [] t kept h = subst Kept (sym h) kept
@@ -22,7 +23,7 @@ run_kept s [] (r ∷ rs) t kept h = absurd h
 run_kept s (e ∷ es) [] t kept h = absurd h
 
 pub reached_kept : (s : State) → IsReached s → Kept s
-reached_kept s h = run_kept start h.0 h.1.0 s start_kept h.1.1
+reached_kept s h = run_kept start h.0 h.1.replies s start_kept h.1.run
 
 pub runs_join : (s t u : State) (before after : List Event) (first second : List Reply) → Run s before first t → Run t after second u → Run s (before ++ after) (first ++ second) u
 runs_join s t u [] after [] second h next = subst (λ (x : State). Run x after second u) h next
@@ -40,17 +41,48 @@ runs_part s u (e ∷ es) after [] h = absurd h
 pub runs_grow : (s t u : State) (before : List Event) (replies : List Reply) (e : Event) (r : Reply) → Run s before replies t → Step t e r u → Run s (before ++ e ∷ []) (replies ++ r ∷ []) u
 runs_grow s t u before replies e r h step = runs_join s t u before (e ∷ []) replies (r ∷ []) h (u, step, refl)
 
+-- so does a list that is kept, with the replies or without
+pub list_grows_with_replies : (s t u : State) (before events : List Event) (e : Event) (first replies : List Reply) (r : Reply) → Run s before first t → events ≡ before ++ e ∷ [] → replies ≡ first ++ r ∷ [] → Step t e r u → Run s events replies u
+list_grows_with_replies s t u before events e first replies r h is all step = rw is (rw all (runs_grow s t u before first e r h step))
+
+pub list_grows_by_run : (s t u : State) (before added events : List Event) (replies : List Reply) → IsRun s before t → events ≡ before ++ added → Run t added replies u → IsRun s events u
+list_grows_by_run s t u before added events replies h is more = record { replies = h.replies ++ replies; run = rw is (runs_join s t u before added h.replies replies h.run more) }
+
+pub list_grows : (s t u : State) (before events : List Event) (e : Event) (r : Reply) → IsRun s before t → events ≡ before ++ e ∷ [] → Step t e r u → IsRun s events u
+list_grows s t u before events e r h is step = list_grows_by_run s t u before (e ∷ []) events (r ∷ []) h is (u, step, refl)
+
 -- a run goes on by the next event of a list
 pub run_take : (s : State) (xs : List Event) (i : ℕ) (d : Event) (rs : List Reply) (t u : State) (r : Reply) → i < length xs → Run s (take i xs) rs t → Step t (get_or xs i d) r u → Run s (take (i + 1) xs) (rs ++ r ∷ []) u
 run_take s xs i d rs t u r less h step = rw (take_more xs i d less) (runs_grow s t u (take i xs) rs (get_or xs i d) r h step)
 
+least_join : (s t u : State) (before after : List Event) (first second : List Reply) → LeastRun s before first t → LeastRun t after second u → LeastRun s (before ++ after) (first ++ second) u
+least_join s t u [] after [] second h next = subst (λ (x : State). LeastRun x after second u) h next
+least_join s t u (e ∷ es) after (r ∷ rs) second h next = (h.0, h.1, h.2, least_join h.0 t u es after rs second h.3 next)
+least_join s t u [] after (r ∷ rs) second h next = absurd h
+least_join s t u (e ∷ es) after [] second h next = absurd h
+
+pub least_take : (s : State) (xs : List Event) (i : ℕ) (d : Event) (rs : List Reply) (t u : State) (r : Reply) → i < length xs → LeastRun s (take i xs) rs t → Step t (get_or xs i d) r u → OpensLeast t (get_or xs i d) r → LeastRun s (take (i + 1) xs) (rs ++ r ∷ []) u
+least_take s xs i d rs t u r less h step least = rw (take_more xs i d less) (least_join s t u (take i xs) (get_or xs i d ∷ []) rs (r ∷ []) h (u, step, least, refl))
+
+pub one_run : (s t u : State) (es : List Event) (rs qs : List Reply) → Kept s → LeastRun s es rs t → LeastRun s es qs u → (qs ≡ rs) × (u ≡ t)
+one_run s t u [] [] [] kept a b = (refl, b ∙ sym a)
+one_run s t u (e ∷ es) (r ∷ rs) (q ∷ qs) kept a b =
+    let now = one_reply s a.0 b.0 e r q kept a.1 a.2 b.1 b.2 in
+    let rest = one_run a.0 t u es rs qs (step_kept s e r a.0 kept a.1) a.3 (subst (λ (x : State). LeastRun x es qs u) now.1 b.3) in
+    (ap (λ x. x ∷ qs) now.0 ∙ ap (λ l. r ∷ l) rest.0, rest.1)
+one_run s t u [] (r ∷ rs) qs kept a b = absurd a
+one_run s t u [] [] (q ∷ qs) kept a b = absurd b
+one_run s t u (e ∷ es) [] qs kept a b = absurd a
+one_run s t u (e ∷ es) (r ∷ rs) [] kept a b = absurd b
+
 -- a run that ended before the event at a place, which was about to open a version
-pub stopped_at : (s t u : State) (events : List Event) (i : ℕ) (d : Event) (replies : List Reply) → i < length events → Run s (take i events) replies t → Opens t (get_or events i d) → u ≡ t → IsStopped s events u
-stopped_at s t u events i d replies less h opens same = subst (λ x. IsStopped s events x) (sym same) (record {
+pub stopped_at : (s t u : State) (events : List Event) (i : ℕ) (d : Event) (replies : List Reply) → i < length events → Run s (take i events) replies t → LeastRun s (take i events) replies t → Opens t (get_or events i d) → u ≡ t → IsStopped s events u
+stopped_at s t u events i d replies less h least opens same = subst (λ x. IsStopped s events x) (sym same) (record {
   done = i;
   replies = replies;
   within = omega arith;
   run = h;
+  least = least;
   there = inr (get_or events i d, slice_get-get_or events i d less, opens);
 })
 
@@ -154,6 +186,15 @@ edition_later s t (suc n) e later is = subst (λ l. slice_get l n ≡ Some e) (s
 pub edition_of-place : (editions : List ℕ) (v e : ℕ) → 0 < v → slice_get editions (v - 1) ≡ Some e → edition_of editions v ≡ Some e
 edition_of-place editions zero e some is = absurd (omega arith)
 edition_of-place editions (suc n) e some is = let place : suc n - 1 ≡ n = omega arith in rw place at is
+
+pub opens_with_edition : (s t : State) (e v k : ℕ) → Step s (Event.Open e) (Reply.Opened v k) t → IsOpen t k v × (v ≡ newest t) × (edition_of t.editions v ≡ Some e)
+opens_with_edition s t e v k h =
+    let longer : length (s.editions ++ e ∷ []) ≡ newest s + 1 = omega (arith, length-append s.editions (e ∷ [])) in
+    let there : slice_get (s.editions ++ e ∷ []) (newest s + 1 - 1) ≡ Some e = (let same : newest s + 1 - 1 ≡ newest s = omega arith in rw same (slice_get-last s.editions e)) in
+    let new = opened s k e in
+    let all : IsOpen new k (newest s + 1) × (newest s + 1 ≡ newest new) × (edition_of new.editions (newest s + 1) ≡ Some e) =
+    (slice_get-set_same s.shelves k (Shelf.Open (newest s + 1)) (slice_get_within s.shelves k Shelf.Free h.1), sym longer, edition_of-place new.editions (newest s + 1) e (omega arith) there) in
+    subst (λ x. IsOpen x k v × (v ≡ newest x) × (edition_of x.editions v ≡ Some e)) (sym h.3) (subst (λ n. IsOpen new k n × (n ≡ newest new) × (edition_of new.editions n ≡ Some e)) (sym h.2) all)
 
 place_of : (s : State) (v : ℕ) → 0 < v → v ≤ newest s → (e : ℕ) × (edition_of s.editions v ≡ Some e)
 place_of s v some most = (get_or s.editions (v - 1) 0, edition_of-place s.editions v _ some (slice_get-get_or s.editions (v - 1) 0 (omega arith)))

@@ -3,9 +3,9 @@ use Rattle.std.specs.Prelude.{◌≡◌, ℕ, ◌<◌, List, [], ◌∷◌, ◌+
 use Rattle.version_core.specs.declared.state.Worker.{Worker}
 use Rattle.version_core.specs.declared.event.Event.{Event}
 use Rattle.version_core.specs.declared.event.Reply.{Reply}
-use Rattle.version_core.specs.State.{State, edition_of, looked, arrived, departed}
-use Rattle.version_core.specs.Steps.{Step, IsIdle, Holds, OpensLeast}
-use Rattle.version_core.specs.Runs.{Run, IsRun, IsReached, IsLater}
+use Rattle.version_core.specs.State.{State, newest, edition_of, looked, arrived, departed}
+use Rattle.version_core.specs.Steps.{Step, IsIdle, IsOpen, Holds, OpensLeast}
+use Rattle.version_core.specs.Runs.{Run, LeastRun, IsRun, IsReached, IsLater}
 use Rattle.version_core.specs.Kept.{Kept, is_at, version_on}
 
 -- every state of every run is kept
@@ -58,27 +58,44 @@ DropsLetGo =
     (s t : State) (w k v : ℕ) (reply : Reply) → Kept s → Holds s w k v → Step s (Event.Drop w) reply t
     → (reply ≡ Reply.Dropped) × (t ≡ departed s w k) × IsIdle t w
 
+-- an opening leaves its shelf open with the new version, which has the edition that the event names
+abbrev pub OpensWithEdition : Type 0
+OpensWithEdition =
+    (s t : State) (e v k : ℕ) → Step s (Event.Open e) (Reply.Opened v k) t → IsOpen t k v × (v ≡ newest t) × (edition_of t.editions v ≡ Some e)
+
 -- with the least free shelf opened, a state and an event have one reply and one next state
 abbrev pub OneReply : Type 0
 OneReply =
     (s t u : State) (event : Event) (reply other : Reply) → Kept s
     → Step s event reply t → OpensLeast s event reply → Step s event other u → OpensLeast s event other → (other ≡ reply) × (u ≡ t)
 
--- no events lead from a state to itself
+-- and so have a state and a list of events
+abbrev pub OneRun : Type 0
+OneRun =
+    (s t u : State) (events : List Event) (replies others : List Reply) → Kept s
+    → LeastRun s events replies t → LeastRun s events others u → (others ≡ replies) × (u ≡ t)
+
+-- the empty list leads from a state to itself
 abbrev pub RunsBegin : Type 0
 RunsBegin = (s : State) → IsRun s [] s
 
--- whoever keeps a list of events, and adds the event of each step, keeps a list that leads to the state
+-- whoever keeps the list of events, and adds the event of each step, keeps a list that leads to the state
 abbrev pub RunsGrow : Type 0
 RunsGrow =
-    (s t u : State) (before : List Event) (event : Event) (reply : Reply)
-    → IsRun s before t → Step t event reply u → IsRun s (before ++ event ∷ []) u
+    (s t u : State) (before events : List Event) (event : Event) (reply : Reply)
+    → IsRun s before t → events ≡ before ++ event ∷ [] → Step t event reply u → IsRun s events u
 
--- and so does whoever keeps the replies as well
-abbrev pub RunsGrowByReplies : Type 0
-RunsGrowByReplies =
-    (s t u : State) (before : List Event) (replies : List Reply) (event : Event) (reply : Reply)
-    → Run s before replies t → Step t event reply u → Run s (before ++ event ∷ []) (replies ++ reply ∷ []) u
+-- and so does whoever adds the events of a run
+abbrev pub RunsGrowByRuns : Type 0
+RunsGrowByRuns =
+    (s t u : State) (before added events : List Event) (replies : List Reply)
+    → IsRun s before t → events ≡ before ++ added → Run t added replies u → IsRun s events u
+
+-- the replies may be kept as well
+abbrev pub RunsGrowWithReplies : Type 0
+RunsGrowWithReplies =
+    (s t u : State) (before events : List Event) (event : Event) (first replies : List Reply) (reply : Reply)
+    → Run s before first t → events ≡ before ++ event ∷ [] → replies ≡ first ++ reply ∷ [] → Step t event reply u → Run s events replies u
 
 -- one run after another is a run
 abbrev pub RunsJoin : Type 0

@@ -3,7 +3,7 @@ use Rattle.std.specs.Prelude.{◌≡◌, ℕ, ◌≤◌, List, [], ◌∷◌, �
 use Rattle.version_core.specs.declared.event.Event.{Event}
 use Rattle.version_core.specs.declared.event.Reply.{Reply}
 use Rattle.version_core.specs.State.{State, start}
-use Rattle.version_core.specs.Steps.{Step, Opens}
+use Rattle.version_core.specs.Steps.{Step, Opens, OpensLeast}
 
 -- the events may be answered with these replies, one after another
 abbrev pub Run : State → List Event → List Reply → State → Type 0
@@ -11,9 +11,16 @@ Run s [] [] t = t ≡ s
 Run s (e ∷ es) (r ∷ rs) t = (mid : State) × Step s e r mid × Run mid es rs t
 Run s _ _ t = ⊥
 
--- the events may lead from the one state to the other, whatever the replies
-abbrev pub IsRun : State → List Event → State → Type 0
-IsRun s events t = (replies : List Reply) × Run s events replies t
+-- a run in which each opening takes the least free shelf
+abbrev pub LeastRun : State → List Event → List Reply → State → Type 0
+LeastRun s [] [] t = t ≡ s
+LeastRun s (e ∷ es) (r ∷ rs) t = (mid : State) × Step s e r mid × OpensLeast s e r × LeastRun mid es rs t
+LeastRun s _ _ t = ⊥
+
+-- the events lead from the one state to the other, with some replies
+pub record IsRun (s : State) (events : List Event) (t : State) : Type 0 where
+  pub replies : List Reply
+  pub run : Run s events replies t
 
 -- some run leads from the start to this state
 abbrev pub IsReached : State → Type 0
@@ -31,4 +38,5 @@ pub record IsStopped (s : State) (events : List Event) (t : State) : Type 0 wher
   pub replies : List Reply
   pub within : done ≤ length events
   pub run : Run s (take done events) replies t
+  pub least : LeastRun s (take done events) replies t
   pub there : (done ≡ 0) ⊎ ((e : Event) × (slice_get events done ≡ Some e) × Opens t e)

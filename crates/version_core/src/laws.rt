@@ -1,6 +1,6 @@
 //! Laws over every list of events. The functions do nothing: their contracts are the laws.
 
-ghost use Rattle.version_core.specs.Laws.{EveryRunKeeps, EveryStepKeeps, CountsAreWorkers, NoHeldShelfIsCollected, NothingFalls, NothingFallsInAStep, EditionsStay, AsksAreAnswered, LooksAndTakesHold, DropsLetGo, OneReply, RunsBegin, RunsGrow, RunsGrowByReplies, RunsJoin, RunsPart};
+ghost use Rattle.version_core.specs.Laws.{EveryRunKeeps, EveryStepKeeps, CountsAreWorkers, NoHeldShelfIsCollected, NothingFalls, NothingFallsInAStep, EditionsStay, AsksAreAnswered, LooksAndTakesHold, DropsLetGo, OpensWithEdition, OneReply, OneRun, RunsBegin, RunsGrow, RunsGrowByRuns, RunsGrowWithReplies, RunsJoin, RunsPart};
 ghost use Rattle.version_core.specs.State.{start};
 ghost use Rattle.version_core.specs.Kept.{Kept};
 ghost use Rattle.version_core.specs.Rest.{IsAtRest, RestStays, LoadsRest, RestIsSpent, RestIsFull};
@@ -14,6 +14,7 @@ pub fn every_run()
     ensures later { NothingFalls }
     ensures editions { EditionsStay }
     ensures asks { AsksAreAnswered }
+    ensures replies { OneRun }
 {}
 
 /// What one step does, for whoever has a state that is kept and no list of the events before it. The start is kept, a step
@@ -22,6 +23,7 @@ pub fn every_step()
     ensures start { Kept start }
     ensures kept { EveryStepKeeps }
     ensures later { NothingFallsInAStep }
+    ensures opened { OpensWithEdition }
     ensures reply { OneReply }
 {}
 
@@ -31,11 +33,13 @@ pub fn holding()
     ensures drops { DropsLetGo }
 {}
 
-/// Runs may be put together and taken apart. Whoever keeps the list of events adds the event of each step.
+/// Runs may be put together and taken apart. Whoever keeps the list of events beside a core adds the event of each step, or
+/// the events of a run, and the list still leads to the core's state. A step that is refused adds none.
 pub fn runs_in_parts()
     ensures begin { RunsBegin }
     ensures grow { RunsGrow }
-    ensures grow_by_replies { RunsGrowByReplies }
+    ensures grow_by_run { RunsGrowByRuns }
+    ensures grow_with_replies { RunsGrowWithReplies }
     ensures join { RunsJoin }
     ensures part { RunsPart }
 {}

@@ -1,5 +1,5 @@
 ghost use Rattle.std.specs.Prelude.{IfOk, OnErr};
-ghost use Rattle.version_core.specs.Runs.{Run, IsStopped};
+ghost use Rattle.version_core.specs.Runs.{Run, LeastRun, IsStopped};
 
 use crate::event::{Event, Reply};
 use crate::machine::Core;
@@ -8,6 +8,7 @@ use std::alloc::{AllocError, Global};
 /// Takes the events one after another. Refused for want of memory, it leaves the core after a beginning of them.
 pub fn run(alloc: Global, core: &mut Core, events: &[Event]) -> Result<Vec<Reply>, AllocError>
     ensures run { IfOk result (λ replies. Run core.old events.now replies.items core.new) }
+    ensures least { IfOk result (λ replies. LeastRun core.old events.now replies.items core.new) }
     ensures stopped { OnErr result (IsStopped core.old events.now core.new) }
 {
     let mut replies = Vec::with_capacity(alloc, events.len())?;

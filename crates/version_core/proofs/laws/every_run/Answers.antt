@@ -1,5 +1,5 @@
 use Rattle.version_core.proofs.Keeps.{held_known}
-use Rattle.version_core.proofs.Runs.{reached_kept, run_later, edition_later, asked}
+use Rattle.version_core.proofs.Runs.{reached_kept, run_later, edition_later, asked, one_run}
 use Rattle.version_core.proofs.laws.every_run.Goals as goal
 
 pub returns : goal.returns
@@ -10,4 +10,5 @@ returns c = record {
   later = λ s t es rs kept run. run_later s es rs t kept run;
   editions = λ s t es rs v e kept run is. edition_later s t v e (run_later s es rs t kept run) is;
   asks = asked;
+  replies = one_run;
 }
