@@ -239,16 +239,17 @@ impl Core {
         Ok(Reply::Opened { version, shelf })
     }
 
-    // Where nothing waits to be published, the newest version is the current one.
-    fn may_open(&self) -> bool
+    /// Whether a version may be opened, if a shelf is free: none is open and unpublished, and a number is left.
+    pub fn may_open(&self) -> bool
         ensures { MatchBool result (MayOpen self.now) (¬ (MayOpen self.now)) }
     {
+        // Where nothing waits to be published, the newest version is the current one.
         let newest = self.editions.len() as u64;
         newest == self.current && newest < MOST_VERSIONS
     }
 
-    // The least free shelf.
-    fn free_shelf(&self) -> Option<usize>
+    /// The least free shelf: the one that the next version is opened on.
+    pub fn free_shelf(&self) -> Option<usize>
         ensures { MatchOption result ((k : ℕ) → ¬ (IsFree self.now k)) (λ k. IsFree self.now k × ((j : ℕ) → j < k → ¬ (IsFree self.now j))) }
     {
         let _ = &self.current;

@@ -218,6 +218,7 @@ fn eight_versions_leave_no_room(rt: HostRuntime) -> Result<(), Fail> {
     }
     assert_eq!(&rt; core.close(0), Reply::Closing);
     assert_eq!(&rt; core.take(2), Reply::Late);
+    assert_eq!(&rt; core.free_shelf(), None);
     let counts = [2, 0, 0, 0, 0, 0, 0, 0];
     assert_eq!(&rt; core.open(9)?, Reply::NoRoom { counts });
     assert_eq!(&rt;
@@ -255,6 +256,8 @@ fn what_stands_where(rt: HostRuntime) -> Result<(), Fail> {
     ];
     run(rt.alloc(), &mut core, &events)?;
     assert_eq!(&rt; core.current(), (2, 1));
+    assert!(&rt; core.may_open());
+    assert_eq!(&rt; core.free_shelf(), Some(2));
     assert_eq!(&rt; core.shelf(0), Some(Shelf::Closing { version: 1 }));
     assert_eq!(&rt; core.shelf(1), Some(Shelf::Open { version: 2 }));
     assert_eq!(&rt; core.shelf(7), Some(Shelf::Free));
