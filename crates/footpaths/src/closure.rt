@@ -145,7 +145,7 @@ pub(crate) fn close_within(
 /// The closure of listed footpaths: one footpath for each ordered pair of stops that a non-empty walk over them joins, of the
 /// least time in seconds of any such walk, by the stop led into, then by the stop left. It is what a legal timetable asks of its
 /// footpaths, as the Connection Scan Algorithm does (Dibbelt, Pajor, Strasser, Wagner, ACM JEA 2018). A loop is a footpath like
-/// any other here: a way there and back may undercut it.
+/// any other here: a way there and back may undercut it. There are so many stops, and each has a listed loop.
 ///
 /// # Errors
 ///
