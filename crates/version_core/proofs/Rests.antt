@@ -120,13 +120,13 @@ loaded_rests s k e kept rest free =
     }
 
 pub loads_rest : (s t : State) (e v k : ℕ) (second third : Reply) → Kept s → IsAtRest s → Run s (Event.Open e ∷ Event.Publish ∷ Event.Close s.current_shelf ∷ []) (Reply.Opened v k ∷ second ∷ third ∷ []) t
-    → (second ≡ Reply.Published v) × (third ≡ Reply.Closing) × (t ≡ loaded s k e) × IsAtRest t
+    → (v ≡ newest s + 1) × (second ≡ Reply.Published v) × (third ≡ Reply.Closing) × (t ≡ loaded s k e) × IsAtRest t
 loads_rest s t e v k second third kept rest h =
     let first = h.1 in
     let publish = published_is s k e second h.2.0 kept rest first.0 first.1 (subst (λ x. PublishStep x second h.2.0) first.3 h.2.1) in
     let close = closed_is s k e third h.2.2.0 kept rest first.1 (subst (λ x. CloseStep x s.current_shelf third h.2.2.0) publish.1 h.2.2.1) in
     let last : t ≡ loaded s k e = h.2.2.2 ∙ close.1 in
-    (publish.0 ∙ ap (λ n. Reply.Published n) (sym first.2), close.0, last, subst IsAtRest (sym last) (loaded_rests s k e kept rest first.1))
+    (first.2, publish.0 ∙ ap (λ n. Reply.Published n) (sym first.2), close.0, last, subst IsAtRest (sym last) (loaded_rests s k e kept rest first.1))
 
 pub rest_is_spent : (s : State) → Kept s → IsAtRest s → ¬ (MayOpen s) → newest s ≡ 1000000000
 rest_is_spent s kept rest not =

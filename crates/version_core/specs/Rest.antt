@@ -30,15 +30,17 @@ IsNoLoad Event.Publish = ⊥
 IsNoLoad (Event.Close k) = ⊥
 IsNoLoad _ = Unit {0}
 
+-- other events leave it at rest
 abbrev pub RestStays : Type 0
 RestStays = (s t : State) (event : Event) (reply : Reply) → IsAtRest s → IsNoLoad event → Step s event reply t → IsAtRest t
 
 -- a load that opens a version publishes it and closes the one before
+-- a load whose opening finds room publishes the next version, closes the one before, and ends at rest
 abbrev pub LoadsRest : Type 0
 LoadsRest =
     (s t : State) (e v k : ℕ) (second third : Reply) → Kept s → IsAtRest s
     → Run s (Event.Open e ∷ Event.Publish ∷ Event.Close s.current_shelf ∷ []) (Reply.Opened v k ∷ second ∷ third ∷ []) t
-    → (second ≡ Reply.Published v) × (third ≡ Reply.Closing) × (t ≡ loaded s k e) × IsAtRest t
+    → (v ≡ newest s + 1) × (second ≡ Reply.Published v) × (third ≡ Reply.Closing) × (t ≡ loaded s k e) × IsAtRest t
 
 -- at rest, an opening that has no place has no number left
 abbrev pub RestIsSpent : Type 0
