@@ -34,7 +34,6 @@ IsNoLoad _ = Unit {0}
 abbrev pub RestStays : Type 0
 RestStays = (s t : State) (event : Event) (reply : Reply) → IsAtRest s → IsNoLoad event → Step s event reply t → IsAtRest t
 
--- a load that opens a version publishes it and closes the one before
 -- a load whose opening finds room publishes the next version, closes the one before, and ends at rest
 abbrev pub LoadsRest : Type 0
 LoadsRest =
