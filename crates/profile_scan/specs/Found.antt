@@ -1,11 +1,15 @@
 -- What contracts see of an answer that was found.
-use Rattle.std.specs.Prelude.{◌≡◌, ℕ, Bool, ◌&&◌, ◌||◌, ◌==◌, nat_lt, List, Option}
+use Rattle.std.specs.Prelude.{◌≡◌, ℕ, Bool, ◌&&◌, ◌||◌, ◌==◌, nat_lt, List, Option, Contains}
 use Rattle.std.specs.Ordering.{is_lt}
 use Rattle.criteria.specs.Laws.{Rules}
 use Rattle.bags.specs.declared.point.Point.{Point}
 use Rattle.timetable.specs.TimetableValue.{TimetableValue}
 use Rattle.timetable.specs.declared.query.Query.{Query}
 use Rattle.profile_scan.specs.Points.{IsAnswer}
+use Rattle.timetable.specs.Journeys.{Counts}
+use Rattle.profile_scan.specs.Values.{journey_value}
+use Rattle.profile_scan.specs.Matching.{IsAttained}
+use Rattle.profile_scan.specs.Nodes.{spelling}
 use Rattle.profile_scan.specs.Kept.{IsWay}
 use Rattle.profile_scan.specs.declared.found.Found.{Found}
 
@@ -17,9 +21,10 @@ listed found = found.points.items
 abbrev pub walk_of_found : {K V : Type 0} → Found K V → Option ℕ
 walk_of_found found = found.walk
 
--- it is the answer of a query over a timetable, under a criterion
+-- it is the answer of a query over a timetable, under a criterion; each point is attained by a journey that counts, the one that its tag spells by the nodes if it spells one
 pub record Answers {K V : Type 0} (criterion : K) (rules : Rules V) (t : TimetableValue) (q : Query) (found : Found K V) : Type 0 where
   pub answer : IsAnswer rules t q (listed found)
+  pub attained : (p : Point V) → Contains (listed found) p → IsAttained (spelling found.nodes.items).journey (Counts t q) (journey_value rules t) p
   pub direct : IsWay t q.target q.source (walk_of_found found)
   pub keeps : (found.criterion ≡ criterion) × (found.timetable.value ≡ t) × (found.query.value ≡ q)
 

@@ -43,13 +43,14 @@ pub fn change<C: Criterion>(
 }
 
 // How to end: the walk to the target, and when it is over.
-#[derive(Clone, Copy, Debug)]
+#[derive(Clone, Copy)]
 struct Ending {
     walk: Option<Footpath>,
     time: u32,
 }
 
-// How one who leaves a trip where a connection ends is at the target in time, `way` being the seconds of the footpath from that stop to the target.
+// How one who leaves a trip where a connection ends is at the target in time, `way` being the seconds of the footpath from that stop
+// to the target.
 fn end_of(connection: &Connection, query: &Query, way: Option<u32>) -> Option<Ending>
     requires arrival { IsTime connection.now.arr }
     requires secs { IfSome way (λ secs. IsSecs secs) }

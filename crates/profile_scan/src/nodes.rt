@@ -3,7 +3,7 @@
 use timetable::Footpath;
 
 /// How one goes on, from here to the target. Places are those of connections; `next` is the number of an earlier node.
-#[derive(Clone, Copy, Debug, Drop)]
+#[derive(Clone, Copy, Drop)]
 pub enum Node {
     /// Leaves the trip where a connection ends: at the target, or one footpath before it.
     Ends {

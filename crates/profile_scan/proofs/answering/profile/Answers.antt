@@ -55,6 +55,9 @@ returns-clause-answers g c =
           (listed_match rules tags.journey (CountsFrom t q c.first_at-start.result) (journey_value rules t) found points c.in_ok-points.ensures.only c.in_ok-points.ensures.each c.in_ok-scanned.ensures.matches)
           (listed_bag rules laws found points bag c.in_ok-points.ensures.ordered c.in_ok-points.ensures.only)
           c.in_ok-points.ensures.ordered;
+      attained = λ p h.
+          let a = c.in_ok-scanned.ensures.matches.sound p (c.in_ok-points.ensures.only p h) in
+          record { way = a.way; spells = a.spells; there = a.there.counts; worth = a.worth };
       direct = subst (λ (w : Option ℕ). IsWay t q.target q.source w) (sym read) (ways.each q.source c.requires.source);
       keeps = (refl, c.timetable_of.ensures ∙ c.in_ok-scanned.ensures.timetable, c.of.ensures);
     }
