@@ -27,7 +27,7 @@ departs [] i t e = cc
 departs (row ∷ rows) zero t e = either_some row.arrival row.departure t e
 departs (row ∷ rows) (suc i) t e = departs rows i t e
 
-never_departs : (rows : List StopTimeRow) (i : ℕ) → arrival_at rows i ≡ None → departure_at rows i ≡ None
+pub never_departs : (rows : List StopTimeRow) (i : ℕ) → arrival_at rows i ≡ None → departure_at rows i ≡ None
 never_departs [] i e = refl
 never_departs (row ∷ rows) zero e = either_none row.arrival row.departure e
 never_departs (row ∷ rows) (suc i) e = never_departs rows i e

@@ -1,1 +1,7 @@
+pub mod Feeds
+pub mod First
+pub mod Names
+pub mod Order
+pub mod Rows
 pub mod Spread
+pub mod Times

@@ -4,7 +4,13 @@
 //! The files and their columns are those of the GTFS Schedule Reference.
 #![tactic(auto)]
 
+mod joining;
+mod links;
+mod names;
+mod order;
 pub mod spread;
+pub mod tables;
+mod times;
 
 pub use gtfs_rows::{
     AgencyRow, CalendarDateRow, CalendarRow, DateFault, Day, Exception, FaultKind, FrequencyRow,
@@ -12,3 +18,5 @@ pub use gtfs_rows::{
     TimeFault, TransferKind, TransferRow, TripRow, read_agency, read_calendar, read_calendar_dates,
     read_frequencies, read_stop_times, read_stops, read_transfers, read_trips,
 };
+pub use joining::join;
+pub use tables::{Feed, Place, Stop, Tables, Transfer, Trip};

@@ -105,7 +105,7 @@ fn part(from: u32, to: u32, parts: usize, j: usize) -> u32
 }
 
 // When the row at a place arrives.
-fn arrival(rows: &[StopTimeRow], at: usize) -> Option<u32>
+pub(crate) fn arrival(rows: &[StopTimeRow], at: usize) -> Option<u32>
     requires { at < length rows.now }
     ensures { result ≡ arrival_at rows.now at }
 {
@@ -114,7 +114,7 @@ fn arrival(rows: &[StopTimeRow], at: usize) -> Option<u32>
 }
 
 // When the row at a place departs.
-fn departure(rows: &[StopTimeRow], at: usize) -> Option<u32>
+pub(crate) fn departure(rows: &[StopTimeRow], at: usize) -> Option<u32>
     requires { at < length rows.now }
     ensures { result ≡ departure_at rows.now at }
 {

@@ -1,0 +1,111 @@
+-- The first fault of several steps, and what is linked by maps that hold what the ids name.
+use Rattle.std.proofs.Common.{◌≡◌, ℕ, ◌+◌, ◌<◌, List, [], ◌∷◌, length, map, Bool, false, Option, Some, None, refl, ap, ◌∙◌, arith, subst, slice_index_or}
+use Rattle.std.specs.Prelude.{Result, Ok, Err, IfOk, IfErr, ◌≢◌}
+use Rattle.std.specs.Option.{option_or}
+use Rattle.gtfs_rows.specs.declared.fault.FaultKind.TheVariants.{OutOfMemory}
+use Rattle.gtfs_rows.specs.declared.fault.Table.TheVariants as kinds
+use Rattle.gtfs_rows.specs.declared.fault.TableFault.{TableFault}
+use Rattle.gtfs_rows.specs.declared.rows.FrequencyRow.{FrequencyRow}
+use Rattle.gtfs_rows.specs.declared.rows.StopRow.{StopRow}
+use Rattle.gtfs_rows.specs.declared.rows.StopTimeRow.{StopTimeRow}
+use Rattle.gtfs_rows.specs.declared.rows.TripRow.{TripRow}
+use Rattle.gtfs_tables.specs.Feeds.{IsLinked, IsNamingFault, feed_trip, feed_trips, rows_by, stop_time_fault, stops_by, trip_fault, trips_by}
+use Rattle.gtfs_tables.specs.First.{first_below, first_fault_of}
+use Rattle.gtfs_tables.specs.Order.{IsInOrder, row_of}
+use Rattle.gtfs_tables.specs.Rows.{frequency_fault, is_flex_id, linked_fault, linked_row, parent_fault}
+use Rattle.gtfs_tables.specs.declared.joining.Links.{Links}
+use Rattle.gtfs_tables.specs.declared.names.Named.{Named}
+use Rattle.gtfs_tables.specs.declared.order.Turn.{Turn}
+use Rattle.gtfs_tables.specs.declared.tables.Tables.{Tables}
+use Rattle.gtfs_tables.specs.declared.tables.Trip.{Trip}
+
+pub of_one : {X : Type 0} (a b : Option X) (x : X) → a ≡ Some x → option_or a b ≡ Some x
+of_one a b x e = rw e refl
+
+pub of_two : {X : Type 0} (a b c : Option X) (x : X) → a ≡ None → b ≡ Some x → option_or a (option_or b c) ≡ Some x
+of_two a b c x e f = rw (e, f) refl
+
+pub of_three : {X : Type 0} (a b c : Option X) (x : X) → a ≡ None → b ≡ None → c ≡ Some x → option_or a (option_or b c) ≡ Some x
+of_three a b c x e f g = rw (e, f, g) refl
+
+pub of_none : {X : Type 0} (a b c : Option X) → a ≡ None → b ≡ None → c ≡ None → option_or a (option_or b c) ≡ None
+of_none a b c e f g = rw (e, f, g) refl
+
+-- the trips with what is the same of each
+pub same_trips : (turns : List Turn) (rows : List StopTimeRow) (f g : ℕ → Bool) (from : ℕ) (trips : List TripRow) → ((t : ℕ) → t < from + length trips → f t ≡ g t)
+    → feed_trips turns rows f from trips ≡ feed_trips turns rows g from trips
+same_trips turns rows f g from [] same = refl
+same_trips turns rows f g from (trip ∷ trips) same =
+    let here : f from ≡ g from = same from (omega arith) in
+    let rest : feed_trips turns rows f (from + 1) trips ≡ feed_trips turns rows g (from + 1) trips = same_trips turns rows f g (from + 1) trips (λ t lt. same t (omega arith)) in
+    ap (λ again. record { id = trip.id; service = trip.service; first = (feed_trip turns rows f from trip).first; end = (feed_trip turns rows f from trip).end; repeats = again; flex = (feed_trip turns rows f from trip).flex } ∷ feed_trips turns rows f (from + 1) trips) here
+    ∙ ap (λ rest. feed_trip turns rows g from trip ∷ rest) rest
+
+-- what was judged or made of lists that are those of the tables
+pub order_told : (placed : List ℕ → Option ℕ) (t : Tables) (rows : List StopTimeRow) (ts : List (Option ℕ)) (turns : List Turn) → rows ≡ t.stop_times.rows.items → ts ≡ trips_by placed t
+    → IsInOrder ts rows turns → IsInOrder (trips_by placed t) t.stop_times.rows.items turns
+order_told placed t rows ts turns e f order = subst (λ (x : List StopTimeRow). IsInOrder (trips_by placed t) x turns) e (subst (λ (x : List (Option ℕ)). IsInOrder x rows turns) f order)
+
+pub stops_told : (named : List ℕ → Option Named) (given stops : List StopRow) (r : Option TableFault) → given ≡ stops → first_fault_of kinds.Stops (parent_fault named) given ≡ r → first_fault_of kinds.Stops (parent_fault named) stops ≡ r
+stops_told named given stops r e h = subst (λ (x : List StopRow). first_fault_of kinds.Stops (parent_fault named) x ≡ r) e h
+
+pub times_told : (named : List ℕ → Option Named) (placed : List ℕ → Option ℕ) (t : Tables) (ts : List (Option ℕ)) (r : Option TableFault) → ts ≡ trips_by placed t
+    → first_fault_of kinds.StopTimes (λ row. linked_fault ts (stops_by named t) (is_flex_id t.stop_times.rows.items row.trip) row) t.stop_times.rows.items ≡ r
+    → first_fault_of kinds.StopTimes (stop_time_fault named placed t) t.stop_times.rows.items ≡ r
+times_told named placed t ts r e h = subst (λ (x : List (Option ℕ)). first_fault_of kinds.StopTimes (λ row. linked_fault x (stops_by named t) (is_flex_id t.stop_times.rows.items row.trip) row) t.stop_times.rows.items ≡ r) e h
+
+pub rows_told : (named : List ℕ → Option Named) (placed : List ℕ → Option ℕ) (t : Tables) (ts : List (Option ℕ)) (given turns : List Turn) (rows : List StopTimeRow) → ts ≡ trips_by placed t → given ≡ turns
+    → rows ≡ map (λ turn. linked_row ts (stops_by named t) (is_flex_id t.stop_times.rows.items (row_of t.stop_times.rows.items turn.number).trip) (row_of t.stop_times.rows.items turn.number)) given
+    → rows ≡ rows_by named placed t turns
+rows_told named placed t ts given turns rows e f h =
+    subst (λ (x : List Turn). rows ≡ rows_by named placed t x) f
+    (subst (λ (x : List (Option ℕ)). rows ≡ map (λ turn. linked_row x (stops_by named t) (is_flex_id t.stop_times.rows.items (row_of t.stop_times.rows.items turn.number).trip) (row_of t.stop_times.rows.items turn.number)) given) e h)
+
+pub frequencies_told : (placed : List ℕ → Option ℕ) (given rows : List FrequencyRow) (r : Option TableFault) → given ≡ rows → first_fault_of kinds.Frequencies (frequency_fault placed) given ≡ r → first_fault_of kinds.Frequencies (frequency_fault placed) rows ≡ r
+frequencies_told placed given rows r e h = subst (λ (x : List FrequencyRow). first_fault_of kinds.Frequencies (frequency_fault placed) x ≡ r) e h
+
+-- two functions that agree are one: what a call gives of the one is given of the other
+pub links_told : (f g : List ℕ → Option Named) (h k : List ℕ → Option ℕ) (t : Tables) (r : Result Links TableFault) → ((id : List ℕ) → f id ≡ g id) → ((id : List ℕ) → h id ≡ k id) → IfOk r (IsLinked f h t) → IfOk r (IsLinked g k t)
+links_told f g h k t r e d linked = swapped
+  where
+    e_path : f ≡ g
+    e_path = λ i id. e id i
+
+    d_path : h ≡ k
+    d_path = λ i id. d id i
+
+    swapped : IfOk r (IsLinked g k t)
+    swapped = subst (λ (x : List ℕ → Option ℕ). IfOk r (IsLinked g x t)) d_path (subst (λ (x : List ℕ → Option Named). IfOk r (IsLinked x h t)) e_path linked)
+
+pub fault_told : (f g : List ℕ → Option Named) (h k : List ℕ → Option ℕ) (t : Tables) (r : Result Links TableFault) → ((id : List ℕ) → f id ≡ g id) → ((id : List ℕ) → h id ≡ k id)
+    → IfErr r (λ fault. fault.kind ≢ OutOfMemory → IsNamingFault f h t fault) → IfErr r (λ fault. fault.kind ≢ OutOfMemory → IsNamingFault g k t fault)
+fault_told f g h k t r e d wrong = swapped
+  where
+    e_path : f ≡ g
+    e_path = λ i id. e id i
+
+    d_path : h ≡ k
+    d_path = λ i id. d id i
+
+    swapped : IfErr r (λ fault. fault.kind ≢ OutOfMemory → IsNamingFault g k t fault)
+    swapped = subst (λ (x : List ℕ → Option ℕ). IfErr r (λ fault. fault.kind ≢ OutOfMemory → IsNamingFault g x t fault)) d_path
+        (subst (λ (x : List ℕ → Option Named). IfErr r (λ fault. fault.kind ≢ OutOfMemory → IsNamingFault x h t fault)) e_path wrong)
+
+pub of_err : {X E : Type 0} (r : Result X E) (fault : E) (Q : E → Type 0) → r ≡ Err fault → IfErr r Q → Q fault
+of_err {X = X} {E = E} r fault Q e h = subst (λ (x : Result X E). IfErr x Q) e h
+
+pub of_ok : {X E : Type 0} (r : Result X E) (kept : X) (Q : X → Type 0) → r ≡ Ok kept → IfOk r Q → Q kept
+of_ok {X = X} {E = E} r kept Q e h = subst (λ (x : Result X E). IfOk x Q) e h
+
+pub trips_told : (strict : Bool) (given turns : List Turn) (listed rows : List StopTimeRow) (n : ℕ) (r : Option TableFault) → given ≡ turns → listed ≡ rows
+    → first_below (trip_fault strict given listed) n ≡ r → first_below (trip_fault strict turns rows) n ≡ r
+trips_told strict given turns listed rows n r e f h =
+    subst (λ (x : List Turn). first_below (trip_fault strict x rows) n ≡ r) e (subst (λ (x : List StopTimeRow). first_below (trip_fault strict given x) n ≡ r) f h)
+
+pub trips_made : (given turns : List Turn) (listed rows : List StopTimeRow) (marked repeats : List Bool) (f : ℕ → Bool) (trips : List TripRow) (made : List Trip) → given ≡ turns → listed ≡ rows → marked ≡ repeats
+    → ((i : ℕ) → i < length trips → slice_index_or repeats i false ≡ f i) → made ≡ feed_trips given listed (λ t. slice_index_or marked t false) 0 trips → made ≡ feed_trips turns rows f 0 trips
+trips_made given turns listed rows marked repeats f trips made e d m same h =
+    subst (λ (x : List Turn). made ≡ feed_trips x rows (λ t. slice_index_or repeats t false) 0 trips) e
+    (subst (λ (x : List StopTimeRow). made ≡ feed_trips given x (λ t. slice_index_or repeats t false) 0 trips) d
+    (subst (λ (x : List Bool). made ≡ feed_trips given listed (λ t. slice_index_or x t false) 0 trips) m h))
+    ∙ same_trips turns rows (λ t. slice_index_or repeats t false) f 0 trips (λ t lt. same t (omega arith))

@@ -1,0 +1,74 @@
+-- The turns of rows, a row on, and where those of a trip begin.
+use Rattle.std.proofs.Common.{◌≡◌, ℕ, zero, suc, ◌+◌, ◌<◌, ◌≤◌, ◌⊎◌, inl, inr, List, [], ◌∷◌, ◌++◌, length, get_or, take, Bool, true, false, eqb, ltb, Option, refl, ap, ◌∙◌, sym, arith}
+use Rattle.std.specs.Prelude.{count_by, filter, IsSortedBy, unwrap_or}
+use Rattle.std.specs.List.{AllWithin}
+use Rattle.std.specs.List.Sorted.{IsNonDecreasingBy}
+use Rattle.std.proofs.lemmas.Bool.{cases_order, false≢true, le-ltb, lt-ltb, ne_eqb}
+use Rattle.std.proofs.lemmas.List.Sums.{length-filter}
+use Rattle.std.proofs.lemmas.List.Sorted.{IsNonDecreasingBy-from_all_adjacent}
+use Rattle.std.proofs.lemmas.List.{get_or_default, length-take-le, take_more}
+use Rattle.gtfs_rows.specs.declared.rows.StopTimeRow.{StopTimeRow}
+use Rattle.gtfs_tables.specs.Names.{named_at}
+use Rattle.gtfs_tables.specs.Order.{comes_before, first_turn, turn_of, turns_from}
+use Rattle.gtfs_tables.specs.declared.order.Turn.{Turn}
+
+turns-push : (trips : List (Option ℕ)) (k place : ℕ) (rows : List StopTimeRow) (row : StopTimeRow) → place ≡ k + length rows
+    → turns_from trips k (rows ++ row ∷ []) ≡ turns_from trips k rows ++ turn_of trips place row ∷ []
+turns-push trips k place [] row e = let same : place ≡ k = omega (arith, e) in rw same refl
+turns-push trips k place (first ∷ rows) row e = ap (λ rest. turn_of trips k first ∷ rest) (turns-push trips (k + 1) place rows row (omega (arith, e)))
+
+pub turns-more : (trips : List (Option ℕ)) (rows : List StopTimeRow) (i : ℕ) (row : StopTimeRow) → i < length rows → row ≡ get_or rows i row
+    → turns_from trips 1 (take (i + 1) rows) ≡ turns_from trips 1 (take i rows) ++ turn_of trips (i + 1) row ∷ []
+turns-more trips rows i row lt e =
+    let len : length (take i rows) ≡ i = length-take-le i rows (omega arith) in
+    let front : take (i + 1) rows ≡ take i rows ++ row ∷ [] = take_more rows i row lt ∙ ap (λ x. take i rows ++ x ∷ []) (sym e) in
+    rw front (turns-push trips 1 (i + 1) (take i rows) row (omega (arith, len)))
+
+pub turns-pushed : (trips : List (Option ℕ)) (rows : List StopTimeRow) (i trip : ℕ) (d : StopTimeRow) (turns : List Turn) → i < length rows → turns ≡ turns_from trips 1 (take i rows)
+    → trip ≡ unwrap_or (named_at trips (get_or rows i d).trip) 0
+    → turns ++ record { trip = trip; sequence = (get_or rows i d).sequence; number = i + 1 } ∷ [] ≡ turns_from trips 1 (take (i + 1) rows)
+turns-pushed trips rows i trip d turns lt e f =
+    rw (e, f) (sym (turns-more trips rows i (get_or rows i d) lt (get_or_default rows i d (get_or rows i d) lt)))
+
+-- the trips rise along the turns
+trip_rises : (a b : Turn) → comes_before b a ≡ false → a.trip ≤ b.trip
+trip_rises a b e = by (cases_order b.trip a.trip)
+  where
+    by : (b.trip ≡ a.trip) ⊎ ((b.trip < a.trip) ⊎ (a.trip < b.trip)) → a.trip ≤ b.trip
+    by (inl same) = omega (arith, same)
+    by (inr (inl less)) =
+        let differs : eqb b.trip a.trip ≡ false = ne_eqb b.trip a.trip (λ s. omega (arith, s)) in
+        let below : ltb b.trip a.trip ≡ true = lt-ltb b.trip a.trip less in
+        absurd (false≢true (sym e ∙ rw (differs, below) refl))
+    by (inr (inr more)) = omega arith
+
+pub trips_rise : (turns : List Turn) → IsSortedBy comes_before turns → IsNonDecreasingBy (λ turn. turn.trip) turns
+trips_rise turns sorted = IsNonDecreasingBy-from_all_adjacent (λ turn. turn.trip) turns (λ k d lt. trip_rises (get_or turns k d) (get_or turns (k + 1) d) (sorted k d (omega arith) lt))
+
+-- a test that passes exactly below a place passes so often
+filter_front : {X : Type 0} (p : X → Bool) (xs : List X) (n : ℕ) → n ≤ length xs → ((k : ℕ) (d : X) → k < n → p (get_or xs k d) ≡ true)
+    → ((k : ℕ) (d : X) → n ≤ k → k < length xs → p (get_or xs k d) ≡ false) → length (filter p xs) ≡ n
+filter_front p [] zero le under over = refl
+filter_front p [] (suc n) le under over = absurd (omega arith)
+filter_front p (x ∷ xs) zero le under over =
+    let here : p x ≡ false = over 0 x (omega arith) (omega arith) in
+    rw here (filter_front p xs 0 (omega arith) (λ k d lt. absurd (omega arith)) (λ k d low lt. over (suc k) d (omega arith) (omega arith)))
+filter_front p (x ∷ xs) (suc n) le under over =
+    let here : p x ≡ true = under 0 x (omega arith) in
+    let rest : length (filter p xs) ≡ n = filter_front p xs n (omega arith) (λ k d lt. under (suc k) d (omega arith)) (λ k d low lt. over (suc k) d (omega arith) (omega arith)) in
+    rw here (ap (λ m. suc m) rest)
+
+count_front : {X : Type 0} (p : X → Bool) (xs : List X) (n : ℕ) → n ≤ length xs → ((k : ℕ) (d : X) → k < n → p (get_or xs k d) ≡ true)
+    → ((k : ℕ) (d : X) → n ≤ k → k < length xs → p (get_or xs k d) ≡ false) → count_by p xs ≡ n
+count_front p xs n le under over = sym (length-filter p xs) ∙ filter_front p xs n le under over
+
+-- the place up to which the trips are below t, and from which they aren't
+pub first_turn-is : (turns : List Turn) (t at : ℕ) → IsSortedBy comes_before turns → at ≤ length turns → AllWithin (λ turn. turn.trip < t) turns 0 at
+    → ((d : Turn) → at < length turns → t ≤ (get_or turns at d).trip) → at ≡ first_turn turns t
+first_turn-is turns t at sorted le below here =
+    sym (count_front (λ turn. ltb turn.trip t) turns at le
+    (λ k d lt. lt-ltb (get_or turns k d).trip t (below k d (omega arith) lt))
+    (λ k d low lt.
+    let up : (get_or turns at d).trip ≤ (get_or turns k d).trip = trips_rise turns sorted at k d low lt in
+    let from : t ≤ (get_or turns at d).trip = here d (omega arith) in
+    le-ltb (get_or turns k d).trip t (omega arith)))

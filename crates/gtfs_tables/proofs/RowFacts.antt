@@ -1,0 +1,101 @@
+-- The rows of the tables, a row on.
+use Rattle.std.proofs.Common.{◌≡◌, ℕ, ◌+◌, ◌<◌, ◌≤◌, List, [], ◌∷◌, ◌++◌, length, get_or, get_or-set_other, map, set, take, Bool, true, false, eqb, ◌||◌, Option, Some, None, refl, ◌∙◌, sym, arith, inl, inr, ◌⊎◌}
+use Rattle.std.specs.Prelude.{filter, is_some, option_to_list, IfSome}
+use Rattle.std.specs.List.{AllZip}
+use Rattle.std.specs.String.{string_bytes}
+use Rattle.std.proofs.lemmas.Bool.{cases_eq, cases_lt, eq-eqb, ne_eqb, or_right}
+use Rattle.std.proofs.lemmas.Grind.{get_or-set_at}
+use Rattle.std.proofs.lemmas.List.Folds.{list_any_more}
+use Rattle.std.proofs.lemmas.List.{append-nil, get_or_past, map_more}
+use Rattle.std.proofs.lemmas.List.Elements.{filter_more}
+use Rattle.gtfs_rows.specs.declared.rows.FrequencyRow.{FrequencyRow}
+use Rattle.gtfs_rows.specs.declared.rows.StopTimeRow.{StopTimeRow}
+use Rattle.gtfs_rows.specs.declared.rows.TransferRow.{TransferRow}
+use Rattle.gtfs_tables.specs.Rows.{IsTransferOf, ends_fault, is_flex_id, is_kept, is_place, is_repeated, linked_fault, linked_row, transfer_fault}
+use Rattle.gtfs_tables.specs.declared.names.Named.{Named}
+use Rattle.gtfs_tables.specs.declared.order.Turn.{Turn}
+use Rattle.gtfs_tables.specs.declared.tables.Transfer.{Transfer}
+
+-- a row that isn't skipped is judged by its ends
+pub transfer_judged : (named : List ℕ → Option Named) (row : TransferRow) (from to : Option Named) → is_kept row ≡ true
+    → named (string_bytes row.from) ≡ from → named (string_bytes row.to) ≡ to → transfer_fault named row ≡ ends_fault from to
+transfer_judged named row from to kept e f = rw (kept, e, f) refl
+
+or_false : (b : Bool) → (b || false) ≡ b
+or_false true = refl
+or_false false = refl
+
+-- the marks of the trips that rows of frequencies.txt name, a row on
+pub marked_more : (named : List ℕ → Option ℕ) (rows : List FrequencyRow) (i u n : ℕ) (row : FrequencyRow) (old : List Bool) → i < length rows → row ≡ get_or rows i row
+    → named (string_bytes row.trip) ≡ Some u → length old ≡ n
+    → ((t : ℕ) → t < n → get_or old t false ≡ is_repeated named (take i rows) t)
+    → (t : ℕ) → t < n → get_or (set old u true) t false ≡ is_repeated named (take (i + 1) rows) t
+marked_more named rows i u n row old lt e names len before t within = by (cases_eq t u)
+  where
+    more : is_repeated named (take (i + 1) rows) t ≡ (is_repeated named (take i rows) t || is_place (Some u) t)
+    more = list_any_more (λ r. is_place (named (string_bytes r.trip)) t) rows i row lt ∙ rw (sym e, names) refl
+
+    here : get_or old t false ≡ is_repeated named (take i rows) t
+    here = before t within
+
+    by : (t ≡ u) ⊎ (t ≡ u → ⊥) → get_or (set old u true) t false ≡ is_repeated named (take (i + 1) rows) t
+    by (inl same) =
+        let set_here : get_or (set old u true) t false ≡ true = get_or-set_at old u t true false same (omega (arith, same, len)) in
+        set_here ∙ sym (more ∙ or_right (is_repeated named (take i rows) t) (eqb u t) (eq-eqb u t (sym same)))
+    by (inr other) =
+        let set_else : get_or (set old u true) t false ≡ get_or old t false = get_or-set_other old u t true false other in
+        let differs : eqb u t ≡ false = ne_eqb u t (λ s. other (sym s)) in
+        set_else ∙ here ∙ sym (more ∙ rw differs (or_false (is_repeated named (take i rows) t)))
+
+-- a trip that isn't known is a fault, and gives no stop, flex or not
+pub fault_same : (trips : List (Option ℕ)) (stops : List (Option Named)) (rows : List StopTimeRow) (flex : List Bool) (row : StopTimeRow)
+    → ((id : ℕ) → id < length trips → get_or flex id false ≡ is_flex_id rows id)
+    → linked_fault trips stops (get_or flex row.trip false) row ≡ linked_fault trips stops (is_flex_id rows row.trip) row
+fault_same trips stops rows flex row same = by (cases_lt row.trip (length trips))
+  where
+    by : (row.trip < length trips) ⊎ (length trips ≤ row.trip) → linked_fault trips stops (get_or flex row.trip false) row ≡ linked_fault trips stops (is_flex_id rows row.trip) row
+    by (inl lt) = rw (same row.trip lt) refl
+    by (inr le) = let none : get_or trips row.trip None ≡ None = get_or_past trips row.trip None le in rw none refl
+
+pub row_same : (trips : List (Option ℕ)) (stops : List (Option Named)) (rows : List StopTimeRow) (flex : List Bool) (row : StopTimeRow)
+    → ((id : ℕ) → id < length trips → get_or flex id false ≡ is_flex_id rows id)
+    → linked_row trips stops (get_or flex row.trip false) row ≡ linked_row trips stops (is_flex_id rows row.trip) row
+row_same trips stops rows flex row same = by (cases_lt row.trip (length trips))
+  where
+    by : (row.trip < length trips) ⊎ (length trips ≤ row.trip) → linked_row trips stops (get_or flex row.trip false) row ≡ linked_row trips stops (is_flex_id rows row.trip) row
+    by (inl lt) = rw (same row.trip lt) refl
+    by (inr le) = let none : get_or trips row.trip None ≡ None = get_or_past trips row.trip None le in rw none refl
+
+-- two lists side by side, a pair on
+zip_push : {A B : Type 0} (R : A → B → Type 0) (xs : List A) (ys : List B) (x : A) (y : B) → AllZip R xs ys → R x y → AllZip R (xs ++ x ∷ []) (ys ++ y ∷ [])
+zip_push R [] [] x y z r = (r, tt)
+zip_push R [] (b ∷ ys) x y z r = absurd z
+zip_push R (a ∷ xs) [] x y z r = absurd z
+zip_push R (a ∷ xs) (b ∷ ys) x y z r = (z.0, zip_push R xs ys x y z.1 r)
+
+pub kept_more : (named : List ℕ → Option Named) (rows : List TransferRow) (i : ℕ) (row : TransferRow) (kept : List Transfer) (found : Transfer) → i < length rows → row ≡ get_or rows i row
+    → true ≡ is_kept row → IsTransferOf named row found → AllZip (IsTransferOf named) (filter is_kept (take i rows)) kept
+    → AllZip (IsTransferOf named) (filter is_kept (take (i + 1) rows)) (kept ++ found ∷ [])
+kept_more named rows i row kept found lt e counted is before =
+    let more : filter is_kept (take (i + 1) rows) ≡ filter is_kept (take i rows) ++ row ∷ [] = filter_more is_kept rows i row lt ∙ rw (sym e, sym counted) refl in
+    rw more (zip_push (IsTransferOf named) (filter is_kept (take i rows)) kept row found before is)
+
+pub kept_same : (named : List ℕ → Option Named) (rows : List TransferRow) (i : ℕ) (row : TransferRow) (kept : List Transfer) → i < length rows → row ≡ get_or rows i row
+    → false ≡ is_kept row → AllZip (IsTransferOf named) (filter is_kept (take i rows)) kept → AllZip (IsTransferOf named) (filter is_kept (take (i + 1) rows)) kept
+kept_same named rows i row kept lt e skipped before =
+    let same : filter is_kept (take (i + 1) rows) ≡ filter is_kept (take i rows) = filter_more is_kept rows i row lt ∙ rw (sym e, sym skipped) (append-nil (filter is_kept (take i rows))) in
+    rw same before
+
+-- what a function gives of a list, an element on
+pub mapped_more : {A B : Type 0} (f : A → B) (xs : List A) (i : ℕ) (d : A) (ys : List B) (y : B) → i < length xs → ys ≡ map f (take i xs) → y ≡ f (get_or xs i d)
+    → ys ++ y ∷ [] ≡ map f (take (i + 1) xs)
+mapped_more f xs i d ys y lt e here = rw (e, here) (sym (map_more f xs i d lt))
+
+abbrev pub no_turn : Turn
+no_turn = record { trip = 0; sequence = 0; number = 0 }
+
+pub kept_next : (named : List ℕ → Option Named) (rows : List TransferRow) (i : ℕ) (row : TransferRow) (kept new : List Transfer) (found : Option Transfer) → i < length rows → row ≡ get_or rows i row
+    → is_some found ≡ is_kept row → IfSome found (IsTransferOf named row) → new ≡ kept ++ option_to_list found → AllZip (IsTransferOf named) (filter is_kept (take i rows)) kept
+    → AllZip (IsTransferOf named) (filter is_kept (take (i + 1) rows)) new
+kept_next named rows i row kept new None lt e counted is made before = rw (made, append-nil kept) (kept_same named rows i row kept lt e counted before)
+kept_next named rows i row kept new (Some found) lt e counted is made before = rw made (kept_more named rows i row kept found lt e counted is before)

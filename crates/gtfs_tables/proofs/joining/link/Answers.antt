@@ -1,0 +1,26 @@
+use Rattle.std.proofs.Common.{◌∙◌, ap}
+use Rattle.gtfs_tables.specs.Names.{held_at, stop_named, trip_named}
+use Rattle.gtfs_tables.proofs.JoinFacts.{fault_told, links_told}
+use Rattle.gtfs_tables.proofs.joining.link.Goals as goal
+
+pub stops_by_id-requires : goal.stops_by_id-requires
+stops_by_id-requires c = rw c.deref.ensures.value c.requires.stops
+
+pub trips_by_id-requires : goal.trips_by_id-requires
+trips_by_id-requires c = rw c.deref-2.ensures.value c.requires.trips
+
+pub returns-in_default-clause-err : goal.returns-in_default-clause-err
+returns-in_default-clause-err c = λ other. absurd (other c.out_of_memory.ensures)
+
+pub returns-in_default-trips_by_id-clause-err : goal.returns-in_default-trips_by_id-clause-err
+returns-in_default-trips_by_id-clause-err c = λ other. absurd (other c.out_of_memory-in_default-trips_by_id.ensures)
+
+pub returns-clause-ok : goal.returns-clause-ok
+returns-clause-ok c =
+    links_told (held_at c.in-Ok.names) (stop_named c.args.tables.now.stops.items) (held_at c.in-Ok-trips_by_id.places) (trip_named c.args.tables.now.trips.items) c.args.tables.now c.link_by.result
+    (λ id. c.in-Ok.ensures id ∙ ap (λ stops. stop_named stops id) c.deref.ensures.value) (λ id. c.in-Ok-trips_by_id.ensures id ∙ ap (λ trips. trip_named trips id) c.deref-2.ensures.value) c.link_by.ensures.ok
+
+pub returns-clause-err : goal.returns-clause-err
+returns-clause-err c =
+    fault_told (held_at c.in-Ok.names) (stop_named c.args.tables.now.stops.items) (held_at c.in-Ok-trips_by_id.places) (trip_named c.args.tables.now.trips.items) c.args.tables.now c.link_by.result
+    (λ id. c.in-Ok.ensures id ∙ ap (λ stops. stop_named stops id) c.deref.ensures.value) (λ id. c.in-Ok-trips_by_id.ensures id ∙ ap (λ trips. trip_named trips id) c.deref-2.ensures.value) c.link_by.ensures.err

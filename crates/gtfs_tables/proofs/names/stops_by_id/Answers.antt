@@ -1,0 +1,27 @@
+use Rattle.std.proofs.Common.{◌∙◌, sym, arith, rules}
+use Rattle.std.proofs.lemmas.Grind.{common_steps}
+use Rattle.std.proofs.lemmas.List.Sums.{count_by_more_yes, count_by_more_no}
+use Rattle.gtfs_rows.specs.Tables.{is_stop}
+use Rattle.gtfs_tables.proofs.FirstFacts.{first_below-start}
+use Rattle.gtfs_tables.proofs.NameFacts.{held-none, stop_named-more}
+use Rattle.gtfs_tables.proofs.names.stops_by_id.Goals as goal
+use Rattle.gtfs_tables.proofs.names.stops_by_id.Goals.{then-eq, else-eq}
+
+pub loop-place-init : goal.loop-place-init
+loop-place-init c = record {
+  number = search rules;
+  held = λ id. held-none c.in_ok-names.names id c.in_ok-names.ensures.empty ∙ sym (first_below-start _);
+}
+
+pub loop-place-preserved : goal.loop-place-preserved
+loop-place-preserved c = record {
+  number = elim c.if-eq.branch [ then-eq w ↦ grind (arith, common_steps, count_by_more_yes is_stop c.args.stops.now c.loop-place.place c.index-stops-place.result) | else-eq w ↦ grind (arith, common_steps, count_by_more_no is_stop c.args.stops.now c.loop-place.place c.index-stops-place.result) ];
+  held = λ id.
+      let before = c.loop-place.invariant.held id in
+      let count = c.loop-place.invariant.number in
+      let step = stop_named-more c.args.stops.now c.loop-place.place c.index-stops-place.result id (omega arith) c.index-stops-place.is in
+      let put = c.in_ok-add_first.ensures id in
+      let text = c.as_str.ensures.value in
+      let name = c.named_as-name.ensures in
+      cc;
+}

@@ -1,0 +1,128 @@
+-- The feed of the tables, or their first fault.
+use Rattle.std.specs.Prelude.{◌≡◌, ◌≢◌, ◌+◌, ◌<◌, not, false, IfOk, IfErr, ℕ, List, [], ◌∷◌, length, map, filter, count_by, option_map, Option, Some, None, Bool}
+use Rattle.std.specs.List.{AllZip, slice_index_or}
+use Rattle.std.specs.Option.{option_or}
+use Rattle.std.specs.String.{string_bytes}
+use Rattle.gtfs_rows.specs.Tables.{is_stop}
+use Rattle.gtfs_rows.specs.declared.fault.FaultKind.{FaultKind}
+use Rattle.gtfs_rows.specs.declared.fault.FaultKind.TheVariants as kinds
+use Rattle.gtfs_rows.specs.declared.fault.Table.TheVariants as tables
+use Rattle.gtfs_rows.specs.declared.fault.TableFault.{TableFault}
+use Rattle.gtfs_rows.specs.declared.rows.StopRow.{StopRow}
+use Rattle.gtfs_rows.specs.declared.rows.StopTimeRow.{StopTimeRow}
+use Rattle.gtfs_rows.specs.declared.rows.TripRow.{TripRow}
+use Rattle.gtfs_tables.specs.First.{first_below, first_fault_of}
+use Rattle.gtfs_tables.specs.Names.{stop_named, trip_named}
+use Rattle.gtfs_tables.specs.Order.{IsInOrder, first_turn, of_trip, row_of}
+use Rattle.gtfs_tables.specs.Rows.{IsTransferOf, frequency_fault, is_flex_id, is_kept, is_repeated, linked_fault, linked_row, parent_fault, station_of, transfer_fault}
+use Rattle.gtfs_tables.specs.Times.{first_wrong, is_flex}
+use Rattle.gtfs_tables.specs.declared.joining.Links.{Links}
+use Rattle.gtfs_tables.specs.declared.names.Named.{Named}
+use Rattle.gtfs_tables.specs.declared.order.Turn.{Turn}
+use Rattle.gtfs_tables.specs.declared.tables.Feed.{Feed}
+use Rattle.gtfs_tables.specs.declared.tables.Stop.{Stop}
+use Rattle.gtfs_tables.specs.declared.tables.Tables.{Tables}
+use Rattle.gtfs_tables.specs.declared.tables.Trip.{Trip}
+
+-- In what follows `named` and `placed` tell what an id of stops.txt and one of trips.txt name.
+
+-- what the ids of stop_times.txt name
+abbrev pub trips_by : (List ℕ → Option ℕ) → Tables → List (Option ℕ)
+trips_by placed t = map (λ id. placed (string_bytes id)) t.stop_times.trips.keys
+
+abbrev pub stops_by : (List ℕ → Option Named) → Tables → List (Option Named)
+stops_by named t = map (λ id. named (string_bytes id)) t.stop_times.stops.keys
+
+-- the rows of stop_times.txt in order, each id replaced by what it names
+abbrev pub link_by : (List ℕ → Option Named) → (List ℕ → Option ℕ) → Tables → StopTimeRow → StopTimeRow
+link_by named placed t row = linked_row (trips_by placed t) (stops_by named t) (is_flex_id t.stop_times.rows.items row.trip) row
+
+abbrev pub rows_by : (List ℕ → Option Named) → (List ℕ → Option ℕ) → Tables → List Turn → List StopTimeRow
+rows_by named placed t turns = map (λ turn. link_by named placed t (row_of t.stop_times.rows.items turn.number)) turns
+
+-- ---- the faults, in the order in which they are judged
+
+abbrev pub stop_time_fault : (List ℕ → Option Named) → (List ℕ → Option ℕ) → Tables → StopTimeRow → Option FaultKind
+stop_time_fault named placed t row = linked_fault (trips_by placed t) (stops_by named t) (is_flex_id t.stop_times.rows.items row.trip) row
+
+-- parents of stops, then stop times, then frequencies
+abbrev pub naming_fault : (List ℕ → Option Named) → (List ℕ → Option ℕ) → Tables → Option TableFault
+naming_fault named placed t =
+    option_or (first_fault_of tables.Stops (parent_fault named) t.stops.items)
+    (option_or (first_fault_of tables.StopTimes (stop_time_fault named placed t) t.stop_times.rows.items)
+    (first_fault_of tables.Frequencies (frequency_fault placed) t.frequencies.items))
+
+-- the fault of a trip's row, told of its record
+abbrev pub told_of : List Turn → ℕ × FaultKind → TableFault
+told_of turns wrong = record { table = tables.StopTimes; row = slice_index_or (map (λ turn. turn.number) turns) wrong.0 0; kind = wrong.1 }
+
+abbrev pub trip_fault : Bool → List Turn → List StopTimeRow → ℕ → Option TableFault
+trip_fault strict turns rows t = option_map (told_of (of_trip turns t turns)) (first_wrong strict (of_trip turns t rows))
+
+-- those of what names nothing, then trips, then transfers
+abbrev pub first_fault : (List ℕ → Option Named) → (List ℕ → Option ℕ) → Bool → Tables → List Turn → Option TableFault
+first_fault named placed strict t turns =
+    option_or (naming_fault named placed t)
+    (option_or (first_below (trip_fault strict turns (rows_by named placed t turns)) (length t.trips.items))
+    (first_fault_of tables.Transfers (transfer_fault named) t.transfers.items))
+
+-- ---- the feed
+
+abbrev pub feed_stop : (List ℕ → Option Named) → StopRow → Stop
+feed_stop named row = record { id = row.id; station = station_of named row }
+
+-- the trip at a place, and the trips from a place on
+abbrev pub feed_trip : List Turn → List StopTimeRow → (ℕ → Bool) → ℕ → TripRow → Trip
+feed_trip turns rows repeats t row = record {
+  id = row.id;
+  service = row.service;
+  first = first_turn turns t;
+  end = first_turn turns (t + 1);
+  repeats = repeats t;
+  flex = is_flex (of_trip turns t rows);
+}
+
+abbrev pub feed_trips : List Turn → List StopTimeRow → (ℕ → Bool) → ℕ → List TripRow → List Trip
+feed_trips turns rows repeats t [] = []
+feed_trips turns rows repeats t (row ∷ rest) = feed_trip turns rows repeats t row ∷ feed_trips turns rows repeats (t + 1) rest
+
+pub record IsFeed (named : List ℕ → Option Named) (placed : List ℕ → Option ℕ) (t : Tables) (turns : List Turn) (feed : Feed) : Type 0 where
+  pub stops : feed.stops.items ≡ map (feed_stop named) (filter is_stop t.stops.items)
+  pub trips : feed.trips.items ≡ feed_trips turns (rows_by named placed t turns) (is_repeated placed t.frequencies.items) 0 t.trips.items
+  pub stop_times : feed.stop_times.items ≡ rows_by named placed t turns
+  pub transfers : AllZip (IsTransferOf named) (filter is_kept t.transfers.items) feed.transfers.items
+  pub skipped : feed.skipped ≡ count_by (λ row. not (is_kept row)) t.transfers.items
+  pub calendar : feed.calendar ≡ t.calendar
+  pub calendar_dates : feed.calendar_dates ≡ t.calendar_dates
+
+-- the tables have no fault, and the feed is theirs; an id stands for the first row that has it
+pub record IsJoined (strict : Bool) (t : Tables) (feed : Feed) : Type 0 where
+  pub turns : List Turn
+  pub in_order : IsInOrder (trips_by (trip_named t.trips.items) t) t.stop_times.rows.items turns
+  pub faultless : first_fault (stop_named t.stops.items) (trip_named t.trips.items) strict t turns ≡ None
+  pub feed_is : IsFeed (stop_named t.stops.items) (trip_named t.trips.items) t turns feed
+
+-- the tables' first fault
+pub record IsFirstFault (strict : Bool) (t : Tables) (fault : TableFault) : Type 0 where
+  pub turns : List Turn
+  pub in_order : IsInOrder (trips_by (trip_named t.trips.items) t) t.stop_times.rows.items turns
+  pub first : first_fault (stop_named t.stops.items) (trip_named t.trips.items) strict t turns ≡ Some fault
+
+-- ---- the tables once their ids are replaced
+
+-- what is made before the trips are judged; the transfers wait
+pub record IsLinked (named : List ℕ → Option Named) (placed : List ℕ → Option ℕ) (t : Tables) (links : Links) : Type 0 where
+  pub in_order : IsInOrder (trips_by placed t) t.stop_times.rows.items links.turns.items
+  pub fine : naming_fault named placed t ≡ None
+  pub stations : links.stations.items ≡ map (station_of named) t.stops.items
+  pub stop_times : links.stop_times.items ≡ rows_by named placed t links.turns.items
+  pub repeats : (i : ℕ) → i < length t.trips.items → slice_index_or links.repeats.items i false ≡ is_repeated placed t.frequencies.items i
+  pub transfers_fine : IfOk links.transfers (λ kept. first_fault_of tables.Transfers (transfer_fault named) t.transfers.items ≡ None)
+  pub transfers : IfOk links.transfers (λ kept. AllZip (IsTransferOf named) (filter is_kept t.transfers.items) kept.items)
+  pub transfers_wrong : IfErr links.transfers (λ fault. fault.kind ≢ kinds.OutOfMemory → first_fault_of tables.Transfers (transfer_fault named) t.transfers.items ≡ Some fault)
+
+-- a fault of what names nothing
+pub record IsNamingFault (named : List ℕ → Option Named) (placed : List ℕ → Option ℕ) (t : Tables) (fault : TableFault) : Type 0 where
+  pub turns : List Turn
+  pub in_order : IsInOrder (trips_by placed t) t.stop_times.rows.items turns
+  pub first : naming_fault named placed t ≡ Some fault

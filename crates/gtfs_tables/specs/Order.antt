@@ -1,0 +1,41 @@
+-- The order of the rows of stop_times.txt.
+use Rattle.std.specs.Prelude.{◌==◌, ◌+◌, ◌-◌, ℕ, List, [], ◌∷◌, count_by, nat_lt, Option, None, Bool, false, if◌then◌else◌, unwrap_or, IsPermutation, IsSortedBy}
+use Rattle.std.specs.List.{slice_index_or, slice_range}
+use Rattle.gtfs_rows.specs.declared.rows.StopTimeRow.{StopTimeRow}
+use Rattle.gtfs_tables.specs.Names.{named_at}
+use Rattle.gtfs_tables.specs.declared.order.Turn.{Turn}
+
+-- where a row goes: its trip, its stop_sequence and its record's number
+abbrev pub turn_of : List (Option ℕ) → ℕ → StopTimeRow → Turn
+turn_of trips number row = record { trip = unwrap_or (named_at trips row.trip) 0; sequence = row.sequence; number = number }
+
+-- the turns of the rows, of which the first has a record's number
+abbrev pub turns_from : List (Option ℕ) → ℕ → List StopTimeRow → List Turn
+turns_from trips number [] = []
+turns_from trips number (row ∷ rest) = turn_of trips number row ∷ turns_from trips (number + 1) rest
+
+-- by trip, then by stop_sequence, then by record
+abbrev pub comes_before : Turn → Turn → Bool
+comes_before a b =
+    if a.trip == b.trip then (if a.sequence == b.sequence then nat_lt a.number b.number else nat_lt a.sequence b.sequence) else nat_lt a.trip b.trip
+
+-- the turns are those of the rows, in order
+pub record IsInOrder (trips : List (Option ℕ)) (rows : List StopTimeRow) (turns : List Turn) : Type 0 where
+  pub same : IsPermutation (turns_from trips 1 rows) turns
+  pub rising : IsSortedBy comes_before turns
+
+-- where the rows of a trip begin: behind those of the trips before it
+abbrev pub first_turn : List Turn → ℕ → ℕ
+first_turn turns t = count_by (λ turn. nat_lt turn.trip t) turns
+
+-- the turns of a trip, and its rows, in order
+abbrev pub of_trip : {X : Type 0} → List Turn → ℕ → List X → List X
+of_trip turns t xs = slice_range xs (first_turn turns t) (first_turn turns (t + 1))
+
+-- a row without stop and times, in place of one past the end
+abbrev pub no_row : StopTimeRow
+no_row = record { trip = 0; arrival = None; departure = None; stop = None; sequence = 0; board = false; alight = false }
+
+-- the row of a record's number
+abbrev pub row_of : List StopTimeRow → ℕ → StopTimeRow
+row_of rows number = slice_index_or rows (number - 1) no_row

@@ -1,0 +1,120 @@
+-- The rows of the tables, each id replaced by what it names, and what is wrong with those that name nothing.
+use Rattle.std.specs.Prelude.{◌≡◌, ◌==◌, ◌&&◌, ◌||◌, not, ℕ, List, option_and_then, Option, Some, None, Bool, true, false, if◌then◌else◌, is_none, unwrap_or}
+use Rattle.std.specs.List.{list_any}
+use Rattle.std.specs.String.{string_bytes}
+use Rattle.gtfs_rows.specs.Faults.{fault_unless, or_fault}
+use Rattle.gtfs_rows.specs.Rows.{is_blank}
+use Rattle.gtfs_rows.specs.Tables.{is_stop}
+use Rattle.gtfs_rows.specs.declared.fault.FaultKind.{FaultKind}
+use Rattle.gtfs_rows.specs.declared.fault.FaultKind.TheVariants as kinds
+use Rattle.gtfs_rows.specs.declared.rows.FrequencyRow.{FrequencyRow}
+use Rattle.gtfs_rows.specs.declared.rows.StopRow.{StopRow}
+use Rattle.gtfs_rows.specs.declared.rows.StopTimeRow.{StopTimeRow}
+use Rattle.gtfs_rows.specs.declared.rows.TransferKind.{TransferKind}
+use Rattle.gtfs_rows.specs.declared.rows.TransferKind.TheVariants as transfers
+use Rattle.gtfs_rows.specs.declared.rows.TransferRow.{TransferRow}
+use Rattle.gtfs_tables.specs.Names.{named_at}
+use Rattle.gtfs_tables.specs.declared.names.Named.{Named}
+use Rattle.gtfs_tables.specs.declared.names.Named.TheVariants as names
+use Rattle.gtfs_tables.specs.declared.tables.Place.{Place}
+use Rattle.gtfs_tables.specs.declared.tables.Place.TheVariants as places
+use Rattle.gtfs_tables.specs.declared.tables.Transfer.{Transfer}
+
+-- In what follows `named` tells what an id names.
+
+-- ---- stops.txt: the parent of a stop, where it has one, is a station
+
+abbrev pub has_parent : StopRow → Bool
+has_parent row = is_stop row && not (is_blank (string_bytes row.parent))
+
+abbrev pub station_place : Option Named → Option ℕ
+station_place (Some (names.Station place)) = Some place
+station_place (Some (names.Stop number)) = None
+station_place (Some names.Elsewhere) = None
+station_place None = None
+
+abbrev pub station_of : (List ℕ → Option Named) → StopRow → Option ℕ
+station_of named row = if has_parent row then station_place (named (string_bytes row.parent)) else None
+
+abbrev pub parent_fault : (List ℕ → Option Named) → StopRow → Option FaultKind
+parent_fault named row = if has_parent row then fault_unless (station_place (named (string_bytes row.parent))) kinds.UnknownId else None
+
+-- ---- stop_times.txt: the trip is known, and so is the stop, unless the trip is a flex trip
+
+-- a row with the trip_id has a blank stop_id
+abbrev pub is_flex_id : List StopTimeRow → ℕ → Bool
+is_flex_id rows id = list_any (λ row. is_none row.stop && (row.trip == id)) rows
+
+-- what a row's stop_id names
+abbrev pub stop_of : List (Option Named) → StopTimeRow → Option Named
+stop_of stops row = option_and_then (named_at stops) row.stop
+
+abbrev pub stop_fault : Option Named → Option FaultKind
+stop_fault None = Some kinds.UnknownId
+stop_fault (Some (names.Stop number)) = None
+stop_fault (Some (names.Station place)) = Some kinds.NotAStop
+stop_fault (Some names.Elsewhere) = Some kinds.NotAStop
+
+abbrev pub stop_number : Option Named → Option ℕ
+stop_number (Some (names.Stop number)) = Some number
+stop_number (Some (names.Station place)) = None
+stop_number (Some names.Elsewhere) = None
+stop_number None = None
+
+abbrev pub linked_fault : List (Option ℕ) → List (Option Named) → Bool → StopTimeRow → Option FaultKind
+linked_fault trips stops flex row =
+    or_fault (fault_unless (named_at trips row.trip) kinds.UnknownId) (if flex then None else stop_fault (stop_of stops row))
+
+-- a row with its trip's place and its stop's number, which a flex trip's rows don't have
+abbrev pub linked_row : List (Option ℕ) → List (Option Named) → Bool → StopTimeRow → StopTimeRow
+linked_row trips stops flex row =
+    record row { trip = unwrap_or (named_at trips row.trip) 0; stop = if is_none (named_at trips row.trip) || flex then None else stop_number (stop_of stops row) }
+
+-- ---- frequencies.txt: the trip is known
+
+abbrev pub frequency_fault : (List ℕ → Option ℕ) → FrequencyRow → Option FaultKind
+frequency_fault named row = fault_unless (named (string_bytes row.trip)) kinds.UnknownId
+
+abbrev pub is_place : Option ℕ → ℕ → Bool
+is_place None t = false
+is_place (Some u) t = u == t
+
+-- a row of frequencies.txt names the trip
+abbrev pub is_repeated : (List ℕ → Option ℕ) → List FrequencyRow → ℕ → Bool
+is_repeated named rows t = list_any (λ row. is_place (named (string_bytes row.trip)) t) rows
+
+-- ---- transfers.txt: both ends are known, and are stops or stations, unless the row is skipped
+
+abbrev pub is_kept_kind : TransferKind → Bool
+is_kept_kind transfers.Skipped = false
+is_kept_kind transfers.Recommended = true
+is_kept_kind transfers.Timed = true
+is_kept_kind transfers.Minimum = true
+is_kept_kind transfers.Impossible = true
+
+abbrev pub is_kept : TransferRow → Bool
+is_kept row = is_kept_kind row.kind
+
+abbrev pub end_fault : Option Named → Option FaultKind
+end_fault (Some names.Elsewhere) = Some kinds.NotAStop
+end_fault (Some (names.Stop number)) = None
+end_fault (Some (names.Station place)) = None
+end_fault None = None
+
+abbrev pub ends_fault : Option Named → Option Named → Option FaultKind
+ends_fault from to =
+    or_fault (fault_unless from kinds.UnknownId) (or_fault (fault_unless to kinds.UnknownId) (or_fault (end_fault from) (end_fault to)))
+
+abbrev pub transfer_fault : (List ℕ → Option Named) → TransferRow → Option FaultKind
+transfer_fault named row = if is_kept row then ends_fault (named (string_bytes row.from)) (named (string_bytes row.to)) else None
+
+-- an end as what it names
+abbrev pub named_by : Place → Named
+named_by (places.Stop number) = names.Stop number
+named_by (places.Station place) = names.Station place
+
+pub record IsTransferOf (named : List ℕ → Option Named) (row : TransferRow) (transfer : Transfer) : Type 0 where
+  pub from : named (string_bytes row.from) ≡ Some (named_by transfer.from)
+  pub to : named (string_bytes row.to) ≡ Some (named_by transfer.to)
+  pub kind : transfer.kind ≡ row.kind
+  pub seconds : transfer.seconds ≡ row.seconds

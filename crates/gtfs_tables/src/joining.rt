@@ -1,0 +1,312 @@
+// The tables of a feed joined, or the first thing that is wrong with them.
+
+ghost use Rattle.std.specs.Prelude.{◌≡◌, ◌≢◌, ◌≤◌, ◌<◌, ◌+◌, ℕ, List, length, map, filter, IfOk, IfErr, IsSortedBy, Some, None, Option, false, slice_index_or, option_map};
+ghost use Rattle.std.specs.List.{AllWithin};
+ghost use Rattle.gtfs_rows.specs.Tables.{is_stop};
+ghost use Rattle.gtfs_tables.specs.First.{first_below, first_fault_of};
+ghost use Rattle.gtfs_tables.specs.Names.{held_at, stop_named, trip_named};
+ghost use Rattle.gtfs_tables.specs.Order.{comes_before, first_turn, row_of};
+ghost use Rattle.gtfs_tables.specs.Rows.{is_flex_id, linked_fault, linked_row, station_of};
+ghost use Rattle.std.specs.String.{string_bytes};
+ghost use Rattle.gtfs_tables.specs.Times.{first_wrong as wrong_first};
+ghost use Rattle.gtfs_tables.specs.Feeds.{IsFirstFault, IsJoined, IsLinked, IsNamingFault, feed_stop, feed_trips, told_of, trip_fault};
+ghost use Rattle.gtfs_tables.specs.declared.names.Named.{Named as NamedBy};
+
+use crate::links::{
+    flex_at, flex_ids, judge_rows, linked_rows, out_of_memory, repeating, skipped_in, stations,
+    transfers as linked_transfers,
+};
+use crate::names::{Named, named_each, stops_by_id, trips_by_id};
+use crate::order::{Turn, turns_in_order};
+use crate::tables::{Feed, Stop, Tables, Transfer, Trip};
+use crate::times::{first_wrong, is_flex};
+use gtfs_rows::{FaultKind, Location, StopRow, StopTimeRow, StopTimes, Table, TableFault, TripRow};
+use indexmap::IndexMap;
+use std::alloc::{AllocError, Global};
+
+// What is made of the tables before their trips are judged. The transfers' fault waits until then.
+#[derive(Drop)]
+struct Links {
+    turns: Vec<Turn>,
+    stations: Vec<Option<u32>>,
+    stop_times: Vec<StopTimeRow>,
+    repeats: Vec<bool>,
+    transfers: Result<Vec<Transfer>, TableFault>,
+}
+
+/// The feed of the tables, or their first fault. Faults are judged in this order: the parents of stops, then the
+/// trip and the stop of each stop time, then the trips that repeat, then the times of each trip, then the transfers;
+/// each in the order of its file. An id stands for the first row that has it. With `strict` an arrival must be after
+/// the departure before it.
+#[tactic(none)]
+pub fn join(alloc: Global, tables: Tables, strict: bool) -> Result<Feed, TableFault>
+    ensures ok { IfOk result (IsJoined strict tables) }
+    ensures err { IfErr result (λ fault. fault.kind ≢ FaultKind.OutOfMemory → IsFirstFault strict tables fault) }
+{
+    let most = u32::MAX as usize;
+    if tables.stops.len() > most || tables.trips.len() > most {
+        return Err(out_of_memory());
+    }
+    match link(alloc, &tables) {
+        Ok(links) => feed_of(alloc, tables, links, strict),
+        Err(fault) => Err(fault),
+    }
+}
+
+// The links of the tables, or the first of their ids that names nothing.
+#[tactic(none)]
+fn link(alloc: Global, tables: &Tables) -> Result<Links, TableFault>
+    requires stops { length tables.now.stops.items ≤ u32.MAX }
+    requires trips { length tables.now.trips.items ≤ u32.MAX }
+    ensures ok { IfOk result (IsLinked (stop_named tables.now.stops.items) (trip_named tables.now.trips.items) tables.now) }
+    ensures err { IfErr result (λ fault. fault.kind ≢ FaultKind.OutOfMemory → IsNamingFault (stop_named tables.now.stops.items) (trip_named tables.now.trips.items) tables.now fault) }
+{
+    let Ok(names) = stops_by_id(alloc, &tables.stops) else {
+        return Err(out_of_memory());
+    };
+    let Ok(places) = trips_by_id(alloc, &tables.trips) else {
+        return Err(out_of_memory());
+    };
+    link_by(alloc, tables, &names, &places)
+}
+
+// The links by what the ids name.
+#[tactic(none)]
+fn link_by(
+    alloc: Global,
+    tables: &Tables,
+    names: &IndexMap<&str, Named>,
+    places: &IndexMap<&str, u32>,
+) -> Result<Links, TableFault>
+    ensures ok { IfOk result (IsLinked (held_at names.now) (held_at places.now) tables.now) }
+    ensures err { IfErr result (λ fault. fault.kind ≢ FaultKind.OutOfMemory → IsNamingFault (held_at names.now) (held_at places.now) tables.now fault) }
+{
+    let Ok(trips) = named_each(alloc, &tables.stop_times.trips, places) else {
+        return Err(out_of_memory());
+    };
+    let Ok(turns) = turns_in_order(alloc, &tables.stop_times.rows, &trips) else {
+        return Err(out_of_memory());
+    };
+    let stations = match stations(alloc, &tables.stops, names) {
+        Ok(stations) => stations,
+        Err(fault) => return Err(fault),
+    };
+    let stop_times = match linked_times(alloc, &tables.stop_times, names, &turns, &trips) {
+        Ok(stop_times) => stop_times,
+        Err(fault) => return Err(fault),
+    };
+    let repeats = match repeating(alloc, &tables.frequencies, places, tables.trips.len()) {
+        Ok(repeats) => repeats,
+        Err(fault) => return Err(fault),
+    };
+    let transfers = linked_transfers(alloc, &tables.transfers, names);
+    Ok(Links {
+        turns,
+        stations,
+        stop_times,
+        repeats,
+        transfers,
+    })
+}
+
+// The rows of stop_times.txt by their turns, or the first whose trip or stop is wrong.
+fn linked_times(
+    alloc: Global,
+    stop_times: &StopTimes,
+    names: &IndexMap<&str, Named>,
+    turns: &[Turn],
+    trips: &[Option<u32>],
+) -> Result<Vec<StopTimeRow>, TableFault>
+    ensures fine { IfOk result (λ ordered. first_fault_of Table.StopTimes (λ row. linked_fault trips.now (map (λ id. held_at names.now (string_bytes id)) stop_times.now.stops.keys) (is_flex_id stop_times.now.rows.items row.trip) row) stop_times.now.rows.items ≡ None) }
+    ensures ok { IfOk result (λ ordered. ordered.items ≡ map (λ turn. let row = row_of stop_times.now.rows.items turn.number in linked_row trips.now (map (λ id. held_at names.now (string_bytes id)) stop_times.now.stops.keys) (is_flex_id stop_times.now.rows.items row.trip) row) turns.now) }
+    ensures err { IfErr result (λ fault. fault.kind ≢ FaultKind.OutOfMemory → first_fault_of Table.StopTimes (λ row. linked_fault trips.now (map (λ id. held_at names.now (string_bytes id)) stop_times.now.stops.keys) (is_flex_id stop_times.now.rows.items row.trip) row) stop_times.now.rows.items ≡ Some fault) }
+{
+    let Ok(stops) = named_each(alloc, &stop_times.stops, names) else {
+        return Err(out_of_memory());
+    };
+    let Ok(flex) = flex_ids(alloc, &stop_times.rows, trips.len()) else {
+        return Err(out_of_memory());
+    };
+    match judge_rows(&stop_times.rows, trips, &stops, &flex) {
+        Ok(()) => {}
+        Err(fault) => return Err(fault),
+    }
+    match linked_rows(alloc, &stop_times.rows, turns, trips, &stops, &flex) {
+        Ok(ordered) => Ok(ordered),
+        Err(_) => Err(out_of_memory()),
+    }
+}
+
+// The feed of tables whose ids are linked, or the first fault of its trips or transfers.
+#[tactic(none)]
+fn feed_of(alloc: Global, tables: Tables, links: Links, strict: bool) -> Result<Feed, TableFault>
+    requires { IsLinked (stop_named tables.stops.items) (trip_named tables.trips.items) tables links }
+    ensures ok { IfOk result (IsJoined strict tables) }
+    ensures err { IfErr result (λ fault. fault.kind ≢ FaultKind.OutOfMemory → IsFirstFault strict tables fault) }
+{
+    let Tables {
+        stops,
+        trips,
+        transfers,
+        calendar,
+        calendar_dates,
+        ..
+    } = tables;
+    let Links {
+        turns,
+        stations,
+        stop_times,
+        repeats,
+        transfers: kept,
+    } = links;
+    let skipped = skipped_in(&transfers);
+    let trips = match timed_trips(alloc, trips, &stop_times, &turns, &repeats, strict) {
+        Ok(trips) => trips,
+        Err(fault) => return Err(fault),
+    };
+    let transfers = match kept {
+        Ok(kept) => kept,
+        Err(fault) => return Err(fault),
+    };
+    let Ok(stops) = feed_stops(alloc, stops, &stations) else {
+        return Err(out_of_memory());
+    };
+    Ok(Feed {
+        stops,
+        trips,
+        stop_times,
+        transfers,
+        skipped,
+        calendar,
+        calendar_dates,
+    })
+}
+
+// The trips with their rows, unless the times of one are wrong.
+fn timed_trips(
+    alloc: Global,
+    trips: Vec<TripRow>,
+    rows: &[StopTimeRow],
+    turns: &[Turn],
+    repeats: &[bool],
+    strict: bool,
+) -> Result<Vec<Trip>, TableFault>
+    requires len { length rows.now ≡ length turns.now }
+    requires rising { IsSortedBy comes_before turns.now }
+    ensures fine { IfOk result (λ timed. first_below (trip_fault strict turns.now rows.now) (length trips.items) ≡ None) }
+    ensures ok { IfOk result (λ timed. timed.items ≡ feed_trips turns.now rows.now (λ t. slice_index_or repeats.now t false) 0 trips.items) }
+    ensures err { IfErr result (λ fault. fault.kind ≢ FaultKind.OutOfMemory → first_below (trip_fault strict turns.now rows.now) (length trips.items) ≡ Some fault) }
+{
+    let Ok(mut timed) = Vec::with_capacity(alloc, trips.len()) else {
+        return Err(out_of_memory());
+    };
+    let mut first = 0;
+    let mut place = 0;
+    for row in trips {
+        let end = end_of_trip(turns, first, place);
+        match judge_trip(alloc, &rows[first..end], &turns[first..end], strict) {
+            Ok(()) => {}
+            Err(fault) => return Err(fault),
+        }
+        let trip = Trip {
+            id: row.id,
+            service: row.service,
+            first,
+            end,
+            repeats: flex_at(repeats, place),
+            flex: is_flex(&rows[first..end]),
+        };
+        match timed.push(trip) {
+            Ok(()) => {}
+            Err(_) => return Err(out_of_memory()),
+        }
+        first = end;
+        place += 1;
+    }
+    Ok(timed)
+}
+
+// The place behind the last row of a trip.
+fn end_of_trip(turns: &[Turn], first: usize, trip: usize) -> usize
+    requires rising { IsSortedBy comes_before turns.now }
+    requires within { first ≤ length turns.now }
+    requires before { AllWithin (λ turn. turn.trip < trip) turns.now 0 first }
+    ensures from { first ≤ result }
+    ensures within { result ≤ length turns.now }
+    ensures before { AllWithin (λ turn. turn.trip < trip + 1) turns.now 0 result }
+    ensures end { result ≡ first_turn turns.now (trip + 1) }
+{
+    for at in first..turns.len() {
+        if turns[at].trip as usize > trip {
+            return at;
+        }
+    }
+    turns.len()
+}
+
+// Judges the times of a trip.
+fn judge_trip(
+    alloc: Global,
+    rows: &[StopTimeRow],
+    turns: &[Turn],
+    strict: bool,
+) -> Result<(), TableFault>
+    ensures ok { IfOk result (λ _. option_map (told_of turns.now) (wrong_first strict rows.now) ≡ None) }
+    ensures err { IfErr result (λ fault. fault.kind ≢ FaultKind.OutOfMemory → option_map (told_of turns.now) (wrong_first strict rows.now) ≡ Some fault) }
+{
+    match first_wrong(alloc, rows, strict) {
+        Ok(None) => Ok(()),
+        Ok(Some((at, kind))) => Err(told(turns, at, kind)),
+        Err(_) => Err(out_of_memory()),
+    }
+}
+
+// The fault of a trip's row, told of its record.
+fn told(turns: &[Turn], at: usize, kind: FaultKind) -> TableFault
+    ensures { result ≡ told_of turns.now (at, kind) }
+{
+    let row = if at < turns.len() {
+        turns[at].number
+    } else {
+        0
+    };
+    TableFault {
+        table: Table::StopTimes,
+        row,
+        kind,
+    }
+}
+
+// The rows that stand for stops, with their stations.
+fn feed_stops(
+    alloc: Global,
+    rows: Vec<StopRow>,
+    stations: &[Option<u32>],
+) -> Result<Vec<Stop>, AllocError>
+    ensures { (named : List ℕ → Option NamedBy) → stations.now ≡ map (station_of named) rows.items
+        → IfOk result (λ stops. stops.items ≡ map (feed_stop named) (filter is_stop rows.items)) }
+{
+    let mut stops = Vec::new(alloc);
+    let mut place = 0;
+    for row in rows {
+        if row.location == Location::Stop {
+            stops.push(Stop {
+                id: row.id,
+                station: station_at(stations, place),
+            })?;
+        }
+        place += 1;
+    }
+    Ok(stops)
+}
+
+// The station at a place, if there is one.
+fn station_at(stations: &[Option<u32>], place: usize) -> Option<u32>
+    ensures { result ≡ slice_index_or stations.now place None }
+{
+    if place < stations.len() {
+        stations[place]
+    } else {
+        None
+    }
+}

@@ -1,0 +1,365 @@
+// The rows of the tables, each id replaced by what it names, or the first of each that names nothing.
+
+ghost use Rattle.std.specs.Prelude.{◌≡◌, ◌≢◌, ◌<◌, ℕ, length, map, filter, IfOk, IfErr, IfSome, None, Some, is_some, slice_index_or, slice_set, true, false, not, count_by};
+ghost use Rattle.std.specs.List.{AllZip};
+ghost use Rattle.gtfs_tables.specs.First.{fault_at as fault_of, first_fault_of};
+ghost use Rattle.gtfs_tables.specs.Names.{held_at, named_at};
+ghost use Rattle.gtfs_tables.specs.Order.{row_of};
+ghost use Rattle.gtfs_tables.specs.Rows.{IsTransferOf, ends_fault, end_fault, frequency_fault, is_flex_id, is_kept, is_repeated, linked_fault, linked_row, named_by, parent_fault, station_of, stop_fault, stop_number, stop_of, transfer_fault};
+
+use crate::names::Named;
+use crate::order::Turn;
+use crate::tables::{Place, Transfer};
+use gtfs_rows::{
+    FaultKind, FrequencyRow, Location, StopRow, StopTimeRow, Table, TableFault, TransferKind,
+    TransferRow,
+};
+use indexmap::IndexMap;
+use std::alloc::{AllocError, Global};
+
+// The fault of the row at a place: records are numbered from 1.
+pub(crate) fn fault_at(table: Table, place: usize, kind: FaultKind) -> TableFault
+    requires { place < usize.MAX }
+    ensures { result ≡ fault_of table place kind }
+{
+    TableFault {
+        table,
+        row: place as u64 + 1,
+        kind,
+    }
+}
+
+// The want of memory.
+pub(crate) fn out_of_memory() -> TableFault
+    ensures { result.kind ≡ FaultKind.OutOfMemory }
+{
+    TableFault {
+        table: Table::StopTimes,
+        row: 0,
+        kind: FaultKind::OutOfMemory,
+    }
+}
+
+// The place of the trip that stands at a place, if one does.
+pub(crate) fn place_at(trips: &[Option<u32>], place: u32) -> Option<u32>
+    ensures { result ≡ named_at trips.now place }
+{
+    let place = place as usize;
+    if place < trips.len() {
+        trips[place]
+    } else {
+        None
+    }
+}
+
+// What the stop_id of a row names.
+fn stop_at(stops: &[Option<Named>], row: &StopTimeRow) -> Option<Named>
+    ensures { result ≡ stop_of stops.now row.now }
+{
+    let place = row.stop? as usize;
+    if place < stops.len() {
+        stops[place]
+    } else {
+        None
+    }
+}
+
+// The station of each row of stops.txt.
+pub(crate) fn stations(
+    alloc: Global,
+    stops: &[StopRow],
+    names: &IndexMap<&str, Named>,
+) -> Result<Vec<Option<u32>>, TableFault>
+    ensures fine { IfOk result (λ found. first_fault_of Table.Stops (parent_fault (held_at names.now)) stops.now ≡ None) }
+    ensures ok { IfOk result (λ found. found.items ≡ map (station_of (held_at names.now)) stops.now) }
+    ensures err { IfErr result (λ fault. fault.kind ≢ FaultKind.OutOfMemory → first_fault_of Table.Stops (parent_fault (held_at names.now)) stops.now ≡ Some fault) }
+{
+    let Ok(mut found) = Vec::with_capacity(alloc, stops.len()) else {
+        return Err(out_of_memory());
+    };
+    for (place, row) in stops.iter().enumerate() {
+        match station(row, names) {
+            Ok(parent) => {
+                if found.push(parent).is_err() {
+                    return Err(out_of_memory());
+                }
+            }
+            Err(kind) => return Err(fault_at(Table::Stops, place, kind)),
+        }
+    }
+    Ok(found)
+}
+
+// The station that a stop names as its parent. Of other places the parent isn't looked up.
+fn station(row: &StopRow, names: &IndexMap<&str, Named>) -> Result<Option<u32>, FaultKind>
+    ensures fine { IfOk result (λ place. parent_fault (held_at names.now) row.now ≡ None) }
+    ensures ok { IfOk result (λ place. place ≡ station_of (held_at names.now) row.now) }
+    ensures err { IfErr result (λ kind. parent_fault (held_at names.now) row.now ≡ Some kind) }
+{
+    if row.location != Location::Stop || row.parent.is_empty() {
+        return Ok(None);
+    }
+    match names.get(row.parent.as_str()) {
+        Some(Named::Station(place)) => Ok(Some(*place)),
+        _ => Err(FaultKind::UnknownId),
+    }
+}
+
+// Whether a row with each trip_id has a blank stop_id.
+pub(crate) fn flex_ids(
+    alloc: Global,
+    rows: &[StopTimeRow],
+    ids: usize,
+) -> Result<Vec<bool>, AllocError>
+    ensures { IfOk result (λ flex. (id : ℕ) → id < ids → slice_index_or flex.items id false ≡ is_flex_id rows.now id) }
+{
+    let mut flex = vec![in alloc; false; ids]?;
+    for row in rows {
+        let id = row.trip as usize;
+        if row.stop.is_none() && id < flex.len() {
+            flex[id] = true;
+        }
+    }
+    Ok(flex)
+}
+
+// Whether the trip at a place is marked.
+pub(crate) fn flex_at(flex: &[bool], id: usize) -> bool
+    ensures { result ≡ slice_index_or flex.now id false }
+{
+    id < flex.len() && flex[id]
+}
+
+// Judges the trips and the stops of the rows.
+pub(crate) fn judge_rows(
+    rows: &[StopTimeRow],
+    trips: &[Option<u32>],
+    stops: &[Option<Named>],
+    flex: &[bool],
+) -> Result<(), TableFault>
+    requires { (id : ℕ) → id < length trips.now → slice_index_or flex.now id false ≡ is_flex_id rows.now id }
+    ensures ok { IfOk result (λ _. first_fault_of Table.StopTimes (λ row. linked_fault trips.now stops.now (is_flex_id rows.now row.trip) row) rows.now ≡ None) }
+    ensures err { IfErr result (λ fault. first_fault_of Table.StopTimes (λ row. linked_fault trips.now stops.now (is_flex_id rows.now row.trip) row) rows.now ≡ Some fault) }
+{
+    for (place, row) in rows.iter().enumerate() {
+        if let Some(kind) = wrong_link(row, trips, stops, flex_at(flex, row.trip as usize)) {
+            return Err(fault_at(Table::StopTimes, place, kind));
+        }
+    }
+    Ok(())
+}
+
+// What is wrong with the trip or the stop of a row.
+fn wrong_link(
+    row: &StopTimeRow,
+    trips: &[Option<u32>],
+    stops: &[Option<Named>],
+    flex: bool,
+) -> Option<FaultKind>
+    ensures { result ≡ linked_fault trips.now stops.now flex row.now }
+{
+    if place_at(trips, row.trip).is_none() {
+        return Some(FaultKind::UnknownId);
+    }
+    if flex {
+        return None;
+    }
+    match stop_at(stops, row) {
+        None => Some(FaultKind::UnknownId),
+        Some(Named::Stop(_)) => None,
+        Some(Named::Station(_)) | Some(Named::Elsewhere) => Some(FaultKind::NotAStop),
+    }
+}
+
+// A row with its trip's place and its stop's number.
+fn linked(
+    row: &StopTimeRow,
+    trips: &[Option<u32>],
+    stops: &[Option<Named>],
+    flex: bool,
+) -> StopTimeRow
+    ensures { result ≡ linked_row trips.now stops.now flex row.now }
+{
+    let trip = place_at(trips, row.trip);
+    let stop = match stop_at(stops, row) {
+        Some(Named::Stop(number)) if !flex && trip.is_some() => Some(number),
+        _ => None,
+    };
+    StopTimeRow {
+        trip: trip.unwrap_or(0),
+        arrival: row.arrival,
+        departure: row.departure,
+        stop,
+        sequence: row.sequence,
+        board: row.board,
+        alight: row.alight,
+    }
+}
+
+// The rows by their turns, each with its trip's place and its stop's number.
+pub(crate) fn linked_rows(
+    alloc: Global,
+    rows: &[StopTimeRow],
+    turns: &[Turn],
+    trips: &[Option<u32>],
+    stops: &[Option<Named>],
+    flex: &[bool],
+) -> Result<Vec<StopTimeRow>, AllocError>
+    requires { (id : ℕ) → id < length trips.now → slice_index_or flex.now id false ≡ is_flex_id rows.now id }
+    ensures { IfOk result (λ ordered. ordered.items ≡ map (λ turn. let row = row_of rows.now turn.number in linked_row trips.now stops.now (is_flex_id rows.now row.trip) row) turns.now) }
+{
+    let mut ordered = Vec::with_capacity(alloc, turns.len())?;
+    for turn in turns {
+        let row = row_numbered(rows, turn.number);
+        ordered.push(linked(&row, trips, stops, flex_at(flex, row.trip as usize)))?;
+    }
+    Ok(ordered)
+}
+
+// The row of a record's number, or a row without stop and times.
+fn row_numbered(rows: &[StopTimeRow], number: u64) -> StopTimeRow
+    ensures { result ≡ row_of rows.now number }
+{
+    let place = number.saturating_sub(1) as usize;
+    if place < rows.len() {
+        rows[place]
+    } else {
+        StopTimeRow {
+            trip: 0,
+            arrival: None,
+            departure: None,
+            stop: None,
+            sequence: 0,
+            board: false,
+            alight: false,
+        }
+    }
+}
+
+// Whether frequencies.txt names each trip.
+pub(crate) fn repeating(
+    alloc: Global,
+    frequencies: &[FrequencyRow],
+    places: &IndexMap<&str, u32>,
+    trips: usize,
+) -> Result<Vec<bool>, TableFault>
+    ensures fine { IfOk result (λ repeats. first_fault_of Table.Frequencies (frequency_fault (held_at places.now)) frequencies.now ≡ None) }
+    ensures ok { IfOk result (λ repeats. (t : ℕ) → t < trips → slice_index_or repeats.items t false ≡ is_repeated (held_at places.now) frequencies.now t) }
+    ensures len { IfOk result (λ repeats. length repeats.items ≡ trips) }
+    ensures err { IfErr result (λ fault. fault.kind ≢ FaultKind.OutOfMemory → first_fault_of Table.Frequencies (frequency_fault (held_at places.now)) frequencies.now ≡ Some fault) }
+{
+    let Ok(mut repeats) = vec![in alloc; false; trips] else {
+        return Err(out_of_memory());
+    };
+    for (at, row) in frequencies.iter().enumerate() {
+        let Some(place) = places.get(row.trip.as_str()) else {
+            return Err(fault_at(Table::Frequencies, at, FaultKind::UnknownId));
+        };
+        mark(&mut repeats, *place as usize);
+    }
+    Ok(repeats)
+}
+
+// Marks a place, if it is one.
+fn mark(marks: &mut Vec<bool>, place: usize)
+    ensures { marks.new.items ≡ slice_set marks.old.items place true }
+{
+    if place < marks.len() {
+        marks[place] = true;
+    }
+}
+
+// The transfers that aren't skipped.
+pub(crate) fn transfers(
+    alloc: Global,
+    rows: &[TransferRow],
+    names: &IndexMap<&str, Named>,
+) -> Result<Vec<Transfer>, TableFault>
+    ensures fine { IfOk result (λ kept. first_fault_of Table.Transfers (transfer_fault (held_at names.now)) rows.now ≡ None) }
+    ensures ok { IfOk result (λ kept. AllZip (IsTransferOf (held_at names.now)) (filter is_kept rows.now) kept.items) }
+    ensures err { IfErr result (λ fault. fault.kind ≢ FaultKind.OutOfMemory → first_fault_of Table.Transfers (transfer_fault (held_at names.now)) rows.now ≡ Some fault) }
+{
+    let mut kept = Vec::new(alloc);
+    for (place, row) in rows.iter().enumerate() {
+        let found = match transfer(row, names) {
+            Ok(found) => found,
+            Err(kind) => return Err(fault_at(Table::Transfers, place, kind)),
+        };
+        if let Some(found) = found {
+            if kept.push(found).is_err() {
+                return Err(out_of_memory());
+            }
+        }
+    }
+    Ok(kept)
+}
+
+// A transfer between what its two ids name, unless it is skipped.
+fn transfer(row: &TransferRow, names: &IndexMap<&str, Named>) -> Result<Option<Transfer>, FaultKind>
+    ensures fine { IfOk result (λ found. transfer_fault (held_at names.now) row.now ≡ None) }
+    ensures kept { IfOk result (λ found. is_some found ≡ is_kept row.now) }
+    ensures ok { IfOk result (λ found. IfSome found (IsTransferOf (held_at names.now) row.now)) }
+    ensures err { IfErr result (λ kind. transfer_fault (held_at names.now) row.now ≡ Some kind) }
+{
+    if !is_counted(row) {
+        return Ok(None);
+    }
+    let from = names.get(row.from.as_str()).copied();
+    let to = names.get(row.to.as_str()).copied();
+    match ends(from, to) {
+        Ok((from, to)) => Ok(Some(Transfer {
+            from,
+            to,
+            kind: row.kind,
+            seconds: row.seconds,
+        })),
+        Err(kind) => Err(kind),
+    }
+}
+
+// Whether a transfer isn't skipped.
+fn is_counted(row: &TransferRow) -> bool
+    ensures { result ≡ is_kept row.now }
+{
+    row.kind != TransferKind::Skipped
+}
+
+// Both ends of a transfer: they are known, and then each is a stop or a station.
+fn ends(from: Option<Named>, to: Option<Named>) -> Result<(Place, Place), FaultKind>
+    ensures fine { IfOk result (λ places. ends_fault from to ≡ None) }
+    ensures from { IfOk result (λ places. from ≡ Some (named_by places.0)) }
+    ensures to { IfOk result (λ places. to ≡ Some (named_by places.1)) }
+    ensures err { IfErr result (λ kind. ends_fault from to ≡ Some kind) }
+{
+    let Some(from) = from else {
+        return Err(FaultKind::UnknownId);
+    };
+    let Some(to) = to else {
+        return Err(FaultKind::UnknownId);
+    };
+    match (end_of(from), end_of(to)) {
+        (Some(from), Some(to)) => Ok((from, to)),
+        _ => Err(FaultKind::NotAStop),
+    }
+}
+
+// A stop or a station as an end of a transfer.
+fn end_of(named: Named) -> Option<Place>
+    ensures some { IfSome result (λ place. (named ≡ named_by place) × (end_fault (Some named) ≡ None)) }
+    ensures none { result ≡ None → end_fault (Some named) ≡ Some FaultKind.NotAStop }
+{
+    match named {
+        Named::Stop(number) => Some(Place::Stop(number)),
+        Named::Station(place) => Some(Place::Station(place)),
+        Named::Elsewhere => None,
+    }
+}
+
+// How many rows are skipped.
+pub(crate) fn skipped_in(rows: &[TransferRow]) -> usize
+    ensures { result ≡ count_by (λ row. not (is_kept row)) rows.now }
+{
+    rows.iter()
+        .filter(|row| row.kind == TransferKind::Skipped)
+        .count()
+}

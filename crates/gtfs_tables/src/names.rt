@@ -1,0 +1,97 @@
+// What the ids of the tables name.
+
+ghost use Rattle.std.specs.Prelude.{◌≡◌, ◌≤◌, ◌<◌, ℕ, List, length, map, IfOk, OnOk, Some, None, if◌then◌else◌};
+ghost use Rattle.std.specs.Option.{option_or};
+ghost use Rattle.std.specs.Str.{bytes_eq};
+ghost use Rattle.std.specs.String.{string_bytes};
+ghost use Rattle.gtfs_tables.specs.Names.{held_at, named_as as name_of, stop_named, trip_named};
+
+use gtfs_rows::{Location, StopRow, TripRow};
+use indexmap::{IndexMap, IndexSet};
+use std::alloc::{AllocError, Global};
+
+/// What an id of `stops.txt` names.
+#[derive(Clone, Copy, Debug, PartialEq, Eq)]
+pub enum Named {
+    /// A stop, by its number.
+    Stop(u32),
+    /// A station, by the place of its row.
+    Station(u32),
+    /// A place of another kind.
+    Elsewhere,
+}
+
+// What each id of stops.txt names.
+pub(crate) fn stops_by_id<'a>(
+    alloc: Global,
+    stops: &'a [StopRow],
+) -> Result<IndexMap<&'a str, Named>, AllocError>
+    requires { length stops.now ≤ u32.MAX }
+    ensures { IfOk result (λ names. (id : List ℕ) → held_at names id ≡ stop_named stops.now id) }
+{
+    let mut names = IndexMap::with_capacity(alloc, stops.len())?;
+    let mut number = 0;
+    for (place, row) in stops.iter().enumerate() {
+        let name = named_as(row.location, number, place as u32);
+        if row.location == Location::Stop {
+            number += 1;
+        }
+        add_first(&mut names, row.id.as_str(), name)?;
+    }
+    Ok(names)
+}
+
+// What a row of stops.txt stands for, with the stops before it and the rows before it.
+fn named_as(location: Location, number: u32, place: u32) -> Named
+    ensures { result ≡ name_of location number place }
+{
+    match location {
+        Location::Stop => Named::Stop(number),
+        Location::Station => Named::Station(place),
+        Location::Entrance | Location::Node | Location::BoardingArea => Named::Elsewhere,
+    }
+}
+
+// The place of the row of each id of trips.txt.
+pub(crate) fn trips_by_id<'a>(
+    alloc: Global,
+    trips: &'a [TripRow],
+) -> Result<IndexMap<&'a str, u32>, AllocError>
+    requires { length trips.now ≤ u32.MAX }
+    ensures { IfOk result (λ places. (id : List ℕ) → held_at places id ≡ trip_named trips.now id) }
+{
+    let mut places = IndexMap::with_capacity(alloc, trips.len())?;
+    for (place, row) in trips.iter().enumerate() {
+        add_first(&mut places, row.id.as_str(), place as u32)?;
+    }
+    Ok(places)
+}
+
+// Keeps what an id names, unless an earlier row has the id.
+fn add_first<'a, T: Copy>(
+    names: &mut IndexMap<&'a str, T>,
+    id: &'a str,
+    name: T,
+) -> Result<(), AllocError>
+    ensures { OnOk result ((q : List ℕ) → held_at names.new q ≡ option_or (held_at names.old q) (if bytes_eq q id.now then Some name else None)) }
+{
+    if let Some(first) = names.insert(id, name)? {
+        names.insert(id, first)?;
+    }
+    Ok(())
+}
+
+// What each of the ids names.
+pub(crate) fn named_each<T: Copy>(
+    alloc: Global,
+    ids: &IndexSet<String>,
+    names: &IndexMap<&str, T>,
+) -> Result<Vec<Option<T>>, AllocError>
+    ensures { IfOk result (λ named. named.items ≡ map (λ id. held_at names.now (string_bytes id)) ids.now.keys) }
+{
+    let mut named = Vec::with_capacity(alloc, ids.len())?;
+    for id in ids {
+        named.push(names.get(id.as_str()).copied())?;
+    }
+    Ok(named)
+}

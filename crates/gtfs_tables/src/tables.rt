@@ -1,0 +1,79 @@
+// The tables of a feed as they are read, and as they name one another.
+
+use gtfs_rows::{
+    AgencyRow, CalendarDateRow, CalendarRow, FrequencyRow, StopRow, StopTimeRow, StopTimes,
+    TransferKind, TransferRow, TripRow,
+};
+
+/// The rows of all files of a feed.
+#[derive(Drop)]
+pub struct Tables {
+    pub agencies: Vec<AgencyRow>,
+    pub stops: Vec<StopRow>,
+    pub trips: Vec<TripRow>,
+    pub stop_times: StopTimes,
+    pub calendar: Vec<CalendarRow>,
+    pub calendar_dates: Vec<CalendarDateRow>,
+    pub transfers: Vec<TransferRow>,
+    pub frequencies: Vec<FrequencyRow>,
+}
+
+/// A stop or platform (location_type 0).
+#[derive(Debug, Drop)]
+pub struct Stop {
+    pub id: String,
+    /// The place, from 0, of its station's row in `stops.txt`.
+    pub station: Option<u32>,
+}
+
+/// A trip of `trips.txt`.
+#[derive(Debug, Drop)]
+pub struct Trip {
+    pub id: String,
+    pub service: String,
+    /// The place of its first row among the feed's stop times.
+    pub first: usize,
+    /// The place behind its last row.
+    pub end: usize,
+    /// Whether `frequencies.txt` names it.
+    pub repeats: bool,
+    /// Whether a row of it has a blank stop_id.
+    pub flex: bool,
+}
+
+/// What an end of a transfer stands for.
+#[derive(Clone, Copy, Debug, PartialEq, Eq)]
+pub enum Place {
+    /// A stop, by its number.
+    Stop(u32),
+    /// A station, by the place of its row in `stops.txt`.
+    Station(u32),
+}
+
+/// A transfer between two stops, or stations in place of their stops.
+#[derive(Clone, Copy, Debug)]
+pub struct Transfer {
+    pub from: Place,
+    pub to: Place,
+    pub kind: TransferKind,
+    /// The min_transfer_time, where it is a number.
+    pub seconds: Option<u32>,
+}
+
+/// The tables of a feed, each id replaced by what it names.
+#[derive(Drop)]
+pub struct Feed {
+    /// The stops and platforms in the order of `stops.txt`. A stop's number is its place here.
+    pub stops: Vec<Stop>,
+    /// The trips in the order of `trips.txt`.
+    pub trips: Vec<Trip>,
+    /// All rows of `stop_times.txt`, by trip, then by rising stop_sequence, then by record. A row's trip is its place
+    /// among the trips, its stop the stop's number, None for each row of a flex trip.
+    pub stop_times: Vec<StopTimeRow>,
+    /// The transfers that aren't skipped, in the order of `transfers.txt`.
+    pub transfers: Vec<Transfer>,
+    /// How many rows of `transfers.txt` were skipped.
+    pub skipped: usize,
+    pub calendar: Vec<CalendarRow>,
+    pub calendar_dates: Vec<CalendarDateRow>,
+}
