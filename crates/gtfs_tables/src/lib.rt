@@ -20,3 +20,6 @@ pub use gtfs_rows::{
 };
 pub use joining::join;
 pub use tables::{Feed, Place, Stop, Tables, Transfer, Trip};
+
+#[cfg(test)]
+mod tests;
