@@ -1,0 +1,14 @@
+-- What reading a feed's file counts.
+use Rattle.std.specs.Prelude.{ℕ, ◌+◌, ◌-◌, ◌^◌, min, Result, Ok, Err}
+use Rattle.feed_files.specs.declared.files.FileFault.{FileFault}
+use Rattle.feed_files.specs.declared.files.FileFault.TheVariants as faults
+
+-- a count that stays at its greatest value
+abbrev pub one_more : ℕ → ℕ
+one_more count = min (count + 1) (2 ^ 64 - 1)
+
+-- the count of failures after a read: want of memory is none
+abbrev pub counted : {T : Type 0} → ℕ → Result T FileFault → ℕ
+counted count (Ok file) = count
+counted count (Err faults.Failed) = one_more count
+counted count (Err faults.OutOfMemory) = count

@@ -1,0 +1,17 @@
+-- How the reading of files ends.
+use Rattle.std.specs.Prelude.{ℕ, Result, Ok, Err}
+use Rattle.gtfs_rows.specs.declared.fault.Table.{Table}
+use Rattle.gtfs_rows.specs.declared.fault.TableFault.{TableFault}
+use Rattle.feed_files.specs.declared.reading.ReadFault.{ReadFault}
+use Rattle.feed_files.specs.declared.reading.ReadFault.TheVariants as faults
+
+-- a table is refused for a fault of this kind, or a file of this kind can't be read
+abbrev pub RefusedOrFailed : (TableFault → Type 0) → (Table → Type 0) → ReadFault → Type 0
+RefusedOrFailed Refused Failed (faults.Table fault) = Refused fault
+RefusedOrFailed Refused Failed (faults.FileFailed table) = Failed table
+
+-- how many reads failed
+abbrev pub failed_in : {T : Type 0} → Result T ReadFault → ℕ
+failed_in (Ok t) = 0
+failed_in (Err (faults.Table fault)) = 0
+failed_in (Err (faults.FileFailed table)) = 1

@@ -1,0 +1,148 @@
+-- The tables of a feed's files, and the first thing that is wrong with them.
+use Rattle.std.specs.Prelude.{◌≡◌, ◌≢◌, ◌∷◌, ◌≤◌, ℕ, List, [], length, count_by, Option, Some, None, ⊤, Vec}
+use Rattle.std.specs.declared.alloc.Global.{Global}
+use Rattle.gtfs_rows.specs.Faults.{IsFaultOf}
+use Rattle.gtfs_rows.specs.Tables.{HoldsAgencies, HoldsCalendar, HoldsCalendarDates, HoldsFrequencies, HoldsStopTimes, HoldsStops, HoldsTransfers, HoldsTrips, IsStopsFault, IsTripsFault, agency_shape, is_stop, calendar_dates_shape, calendar_shape, frequencies_shape, stop_times_shape, transfers_shape}
+use Rattle.feed_files.specs.Outcome.{RefusedOrFailed}
+use Rattle.feed_files.specs.declared.reading.ReadFault.{ReadFault}
+use Rattle.gtfs_rows.specs.Told.{file_name}
+use Rattle.gtfs_rows.specs.declared.fault.FaultKind.{FaultKind}
+use Rattle.gtfs_rows.specs.declared.fault.FaultKind.TheVariants as kinds
+use Rattle.gtfs_rows.specs.declared.fault.Table.{Table}
+use Rattle.gtfs_rows.specs.declared.fault.Table.TheVariants as tables
+use Rattle.gtfs_rows.specs.declared.fault.TableFault.{TableFault}
+use Rattle.gtfs_rows.specs.declared.rows.AgencyRow.{AgencyRow}
+use Rattle.gtfs_rows.specs.declared.stop_times.StopTimes.{StopTimes}
+use Rattle.gtfs_rows.specs.declared.rows.CalendarRow.{CalendarRow}
+use Rattle.gtfs_rows.specs.declared.rows.CalendarDateRow.{CalendarDateRow}
+use Rattle.gtfs_rows.specs.declared.rows.StopRow.{StopRow}
+use Rattle.gtfs_rows.specs.declared.rows.TripRow.{TripRow}
+use Rattle.gtfs_tables.specs.declared.tables.Tables.{Tables}
+use Rattle.gtfs_rows.specs.declared.read.TheConstants.{MAX_STOPS, MAX_TRIPS}
+
+-- what the file of each table holds, none where there is no such file
+abbrev pub Content : Type 0
+Content = Table → Option (List ℕ)
+
+-- a feed's files that are known to hold this
+abbrev pub Tells : (List ℕ → Option (Option (List ℕ))) → Content → Type 0
+Tells holds content = (table : Table) → holds (file_name table) ≡ Some (content table)
+
+-- the tables whose files are read before a table's
+abbrev pub earlier : Table → List Table
+earlier tables.Agency = []
+earlier tables.Stops = tables.Agency ∷ []
+earlier tables.Trips = tables.Agency ∷ tables.Stops ∷ []
+earlier tables.StopTimes = tables.Agency ∷ tables.Stops ∷ tables.Trips ∷ []
+earlier tables.Calendar = tables.Agency ∷ tables.Stops ∷ tables.Trips ∷ tables.StopTimes ∷ []
+earlier tables.CalendarDates = tables.Agency ∷ tables.Stops ∷ tables.Trips ∷ tables.StopTimes ∷ tables.Calendar ∷ []
+earlier tables.Transfers = tables.Agency ∷ tables.Stops ∷ tables.Trips ∷ tables.StopTimes ∷ tables.Calendar ∷ tables.CalendarDates ∷ []
+earlier tables.Frequencies = tables.Agency ∷ tables.Stops ∷ tables.Trips ∷ tables.StopTimes ∷ tables.Calendar ∷ tables.CalendarDates ∷ tables.Transfers ∷ []
+
+-- a file that must be there, and one that may be missing
+abbrev pub Required : (List ℕ → Type 0) → Option (List ℕ) → Type 0
+Required Is None = ⊥
+Required Is (Some bytes) = Is bytes
+
+abbrev pub Optional : Type 0 → (List ℕ → Type 0) → Option (List ℕ) → Type 0
+Optional missing Is None = missing
+Optional missing Is (Some bytes) = Is bytes
+
+-- the stops and the trips, no more than there may be
+abbrev pub HoldsStopsInLimit : List ℕ → List StopRow → Type 0
+HoldsStopsInLimit bytes rows = HoldsStops bytes rows × (count_by is_stop rows ≤ MAX_STOPS)
+
+abbrev pub HoldsTripsInLimit : List ℕ → List TripRow → Type 0
+HoldsTripsInLimit bytes rows = HoldsTrips bytes rows × (length rows ≤ MAX_TRIPS)
+
+-- the rows of the files that must be there
+pub record HoldsRequired (content : Content) (agencies : List AgencyRow) (stops : List StopRow) (trips : List TripRow) (stop_times : StopTimes) : Type 0 where
+  pub agency_txt : Required (λ bytes. HoldsAgencies bytes agencies) (content tables.Agency)
+  pub stops_txt : Required (λ bytes. HoldsStopsInLimit bytes stops) (content tables.Stops)
+  pub trips_txt : Required (λ bytes. HoldsTripsInLimit bytes trips) (content tables.Trips)
+  pub stop_times_txt : Required (λ bytes. HoldsStopTimes bytes stop_times) (content tables.StopTimes)
+
+-- the rows of the two calendars, of which one is there
+pub record HoldsCalendars (content : Content) (calendar : List CalendarRow) (dates : List CalendarDateRow) : Type 0 where
+  pub calendar_txt : Optional (calendar ≡ []) (λ bytes. HoldsCalendar bytes calendar) (content tables.Calendar)
+  pub calendar_dates_txt : Optional (dates ≡ []) (λ bytes. HoldsCalendarDates bytes dates) (content tables.CalendarDates)
+  pub some_calendar : content tables.Calendar ≡ None → content tables.CalendarDates ≢ None
+
+-- the tables are those that the files hold
+pub record HoldsTables (content : Content) (t : Tables) : Type 0 where
+  pub required : HoldsRequired content t.agencies.items t.stops.items t.trips.items t.stop_times
+  pub calendars : HoldsCalendars content t.calendar.items t.calendar_dates.items
+  pub transfers : Optional (t.transfers.items ≡ []) (λ bytes. HoldsTransfers bytes t.transfers.items) (content tables.Transfers)
+  pub frequencies : Optional (t.frequencies.items ≡ []) (λ bytes. HoldsFrequencies bytes t.frequencies.items) (content tables.Frequencies)
+
+-- a file that is missing
+abbrev pub IsMissing : ℕ → FaultKind → Type 0
+IsMissing row kind = (row ≡ 0) × (kind ≡ kinds.MissingFile)
+
+-- the fault of a file that must be there, and of one that may be missing
+abbrev pub RequiredFault : (List ℕ → ℕ → FaultKind → Type 0) → Option (List ℕ) → ℕ → FaultKind → Type 0
+RequiredFault IsFault None row kind = IsMissing row kind
+RequiredFault IsFault (Some bytes) row kind = IsFault bytes row kind
+
+abbrev pub OptionalFault : (List ℕ → ℕ → FaultKind → Type 0) → Option (List ℕ) → ℕ → FaultKind → Type 0
+OptionalFault IsFault None row kind = ⊥
+OptionalFault IsFault (Some bytes) row kind = IsFault bytes row kind
+
+-- the fault of calendar.txt, which may be missing alone: where calendar_dates.txt is missing too, calendar.txt is told, once both were asked for
+abbrev pub CalendarFault : Option (List ℕ) → Option (List ℕ) → ℕ → FaultKind → Type 0
+CalendarFault None dates row kind = (dates ≡ None) × IsMissing row kind
+CalendarFault (Some bytes) dates row kind = IsFaultOf calendar_shape bytes row kind
+
+-- what is wrong with a table's file, at which record
+abbrev pub FaultIn : Content → Table → ℕ → FaultKind → Type 0
+FaultIn content tables.Agency = RequiredFault (IsFaultOf agency_shape) (content tables.Agency)
+FaultIn content tables.Stops = RequiredFault (IsStopsFault MAX_STOPS) (content tables.Stops)
+FaultIn content tables.Trips = RequiredFault (IsTripsFault MAX_TRIPS) (content tables.Trips)
+FaultIn content tables.StopTimes = RequiredFault (IsFaultOf stop_times_shape) (content tables.StopTimes)
+FaultIn content tables.Calendar = CalendarFault (content tables.Calendar) (content tables.CalendarDates)
+FaultIn content tables.CalendarDates = OptionalFault (IsFaultOf calendar_dates_shape) (content tables.CalendarDates)
+FaultIn content tables.Transfers = OptionalFault (IsFaultOf transfers_shape) (content tables.Transfers)
+FaultIn content tables.Frequencies = OptionalFault (IsFaultOf frequencies_shape) (content tables.Frequencies)
+
+-- the rows of a file can be had
+abbrev pub HasRows : {R : Type 0} → (List ℕ → R → Type 0) → List ℕ → Type 0
+HasRows {R} Holds bytes = (rows : R) × Holds bytes rows
+
+-- nothing is wrong with a table's file; with calendar_dates.txt nothing is where one of the two calendars is there
+abbrev pub IsFine : Content → Table → Type 0
+IsFine content tables.Agency = Required (HasRows HoldsAgencies) (content tables.Agency)
+IsFine content tables.Stops = Required (HasRows HoldsStopsInLimit) (content tables.Stops)
+IsFine content tables.Trips = Required (HasRows HoldsTripsInLimit) (content tables.Trips)
+IsFine content tables.StopTimes = Required (HasRows HoldsStopTimes) (content tables.StopTimes)
+IsFine content tables.Calendar = Optional ⊤ (HasRows HoldsCalendar) (content tables.Calendar)
+IsFine content tables.CalendarDates = Optional (content tables.Calendar ≢ None) (HasRows HoldsCalendarDates) (content tables.CalendarDates)
+IsFine content tables.Transfers = Optional ⊤ (HasRows HoldsTransfers) (content tables.Transfers)
+IsFine content tables.Frequencies = Optional ⊤ (HasRows HoldsFrequencies) (content tables.Frequencies)
+
+abbrev pub AreFine : Content → List Table → Type 0
+AreFine content [] = ⊤
+AreFine content (table ∷ rest) = IsFine content table × AreFine content rest
+
+-- nothing is wrong with the files that are read before a table's
+abbrev pub FineBefore : Content → Table → Type 0
+FineBefore content table = AreFine content (earlier table)
+
+-- the first fault of a feed's files
+pub record IsFirstFault (content : Content) (fault : TableFault) : Type 0 where
+  pub stands : FaultIn content fault.table fault.row fault.kind
+  pub first : FineBefore content fault.table
+
+-- the rows that were read are those of the file, and there are none where there is no file
+abbrev pub IsHeld : {R : Type 0} → (List ℕ → R → Type 0) → Option (List ℕ) → Option R → Type 0
+IsHeld Holds None None = ⊤
+IsHeld Holds None (Some rows) = ⊥
+IsHeld Holds (Some bytes) None = ⊥
+IsHeld Holds (Some bytes) (Some rows) = Holds bytes rows
+
+-- why one file's rows can't be had: want of memory, its fault, or a read of it that failed
+abbrev pub NoRows : Table → (ℕ → FaultKind → Type 0) → ReadFault → Type 0
+NoRows table IsFault = RefusedOrFailed (λ fault. (fault.table ≡ table) × (fault.kind ≢ kinds.OutOfMemory → IsFault fault.row fault.kind)) (λ failed. failed ≡ table)
+
+-- why a feed's tables can't be had: its first fault, or a read that failed, where nothing was wrong with the files before
+abbrev pub NoTables : Content → ReadFault → Type 0
+NoTables content = RefusedOrFailed (λ fault. fault.kind ≢ kinds.OutOfMemory → IsFirstFault content fault) (FineBefore content)

@@ -1,0 +1,34 @@
+//! The files of a feed, by name.
+
+ghost use Rattle.std.specs.Prelude.{◌≡◌, ℕ, List, Option, IfOk, IfSome, option_map};
+ghost use Rattle.feed_files.specs.Files.{counted};
+
+use std::alloc::Global;
+use thiserror::Error;
+
+/// The longest file that is read, in bytes. A longer one counts as one that can't be read.
+pub const LONGEST_FILE: u64 = 2_000_000_000;
+
+/// Why the bytes of a file can't be had.
+#[derive(Clone, Copy, Debug, PartialEq, Eq, Error)]
+pub enum FileFault {
+    #[error("the file can't be read")]
+    Failed,
+    #[error("out of memory")]
+    OutOfMemory,
+}
+
+/// The files of a feed.
+pub trait FeedFiles {
+    // How many reads failed; it stays at its greatest value.
+    ghost failures: { Self → ℕ };
+
+    // What a file of a name holds, where that is told: none where there is no such file.
+    ghost holds: { Self → List ℕ → Option (Option (List ℕ)) };
+
+    /// The bytes of a file, none where there is no such file. Want of memory is no failure.
+    fn read(&mut self, alloc: Global, name: &str) -> Result<Option<Vec<u8>>, FileFault>
+        ensures told { IfOk result (λ file. IfSome (holds self.old name.now) (λ bytes. option_map (λ read. read.items) file ≡ bytes)) }
+        ensures same { holds self.new ≡ holds self.old }
+        ensures failures { failures self.new ≡ counted (failures self.old) result };
+}

@@ -1,0 +1,93 @@
+//! The files of a folder.
+
+ghost use Rattle.std.specs.Prelude.{◌≡◌, None};
+ghost use Rattle.feed_files.specs.Files.{one_more};
+
+use crate::files::{FeedFiles, FileFault, LONGEST_FILE};
+use std::alloc::Global;
+use std::fs::{File, OpenFile};
+use std::io;
+use std::io::{ErrorKind, Read};
+use std::path::Path;
+use std::rt::Files;
+
+/// The files of a folder. No contract says what a disk holds, so it tells nothing of their bytes.
+#[derive(Drop)]
+pub struct FolderFiles<'a, H> {
+    rt: &'a H,
+    folder: &'a str,
+    failures: u64,
+}
+
+impl<'a, H: Files + AllocGlobal> FolderFiles<'a, H> {
+    /// The files of the folder at a path, which need not be there: then no file is.
+    pub fn new(rt: &'a H, folder: &'a str) -> FolderFiles<'a, H>
+        ensures { result.failures ≡ 0 }
+    {
+        FolderFiles {
+            rt,
+            folder,
+            failures: 0,
+        }
+    }
+}
+
+// Why a file can't be opened or read.
+fn fault_of(error: &io::Error) -> FileFault {
+    match error.kind() {
+        ErrorKind::OutOfMemory => FileFault::OutOfMemory,
+        _ => FileFault::Failed,
+    }
+}
+
+// The bytes of an open file. Room is made for them at once, as far as its length is told.
+fn bytes_of<F: OpenFile + Read + Drop>(alloc: Global, file: F) -> Result<Vec<u8>, FileFault> {
+    let length = match file.metadata() {
+        Ok(metadata) => metadata.len(),
+        Err(error) => return Err(fault_of(&error)),
+    };
+    if length > LONGEST_FILE {
+        return Err(FileFault::Failed);
+    }
+    let Ok(mut bytes) = Vec::with_capacity(alloc, length as usize + 1) else {
+        return Err(FileFault::OutOfMemory);
+    };
+    match file.take(LONGEST_FILE + 1).read_to_end(&mut bytes) {
+        Ok(_) if bytes.len() as u64 <= LONGEST_FILE => Ok(bytes),
+        Ok(_) => Err(FileFault::Failed),
+        Err(error) => Err(fault_of(&error)),
+    }
+}
+
+// The bytes of a file of a folder. There is no such file where the folder isn't there, or is no folder.
+fn read_file<H: Files>(
+    rt: &H,
+    alloc: Global,
+    folder: &str,
+    name: &str,
+) -> Result<Option<Vec<u8>>, FileFault> {
+    let Ok(path) = Path::new(folder).join(alloc, name) else {
+        return Err(FileFault::OutOfMemory);
+    };
+    match File::open(rt, path.as_path()) {
+        Ok(file) => Ok(Some(bytes_of(alloc, file)?)),
+        Err(error) => match error.kind() {
+            ErrorKind::NotFound | ErrorKind::NotADirectory => Ok(None),
+            _ => Err(fault_of(&error)),
+        },
+    }
+}
+
+impl<'a, H: Files + AllocGlobal> FeedFiles for FolderFiles<'a, H> {
+    ghost failures = { λ files. files.failures };
+
+    ghost holds = { λ files name. None };
+
+    fn read(&mut self, alloc: Global, name: &str) -> Result<Option<Vec<u8>>, FileFault> {
+        let read = read_file(self.rt, alloc, self.folder, name);
+        if let Err(FileFault::Failed) = read {
+            self.failures = self.failures.saturating_add(1);
+        }
+        read
+    }
+}

@@ -1,0 +1,17 @@
+//! The files of a feed, by name, and the tables that are read from them.
+#![tactic(auto)]
+
+pub mod files;
+pub mod folder;
+pub mod laws;
+pub mod memory;
+pub mod reading;
+mod tables;
+
+pub use files::{FeedFiles, FileFault, LONGEST_FILE};
+pub use folder::FolderFiles;
+pub use memory::MemoryFiles;
+pub use reading::{ReadFault, read_tables};
+
+#[cfg(test)]
+mod tests;

@@ -1,0 +1,177 @@
+//! The tables of a feed's files, read one after another.
+
+ghost use Rattle.std.specs.Prelude.{◌≡◌, ◌≢◌, ◌+◌, ◌-◌, ◌^◌, ◌<◌, ℕ, List, Option, None, Some, IfOk, IfErr, option_map};
+ghost use Rattle.gtfs_rows.specs.declared.fault.Table.TheVariants as tables;
+ghost use Rattle.gtfs_rows.specs.Told.{file_name};
+ghost use Rattle.feed_files.specs.Outcome.{failed_in};
+ghost use Rattle.feed_files.specs.Reading.{Content, FineBefore, HoldsCalendars, HoldsRequired, HoldsTables, IsHeld, NoRows, NoTables, Optional, OptionalFault, Required, RequiredFault, Tells};
+
+use crate::files::{FeedFiles, FileFault};
+use crate::tables::{FileRows, OptionalRows};
+use gtfs_tables::{
+    AgencyRow, CalendarDateRow, CalendarRow, FaultKind, FrequencyRow, StopRow, StopTimes, Table,
+    TableFault, Tables, TransferRow, TripRow,
+};
+use std::alloc::Global;
+use thiserror::Error;
+
+/// Why a feed's tables can't be had.
+#[derive(Clone, Copy, Debug, PartialEq, Eq, Error)]
+pub enum ReadFault {
+    /// A file is refused.
+    #[error("{0}")]
+    Table(TableFault),
+    /// A file can't be read.
+    #[error("{0} can't be read")]
+    FileFailed(Table),
+}
+
+// The bytes of the file of these rows, if there is such a file.
+fn bytes_of<F: FeedFiles, T: FileRows>(
+    alloc: Global,
+    files: &mut F,
+) -> Result<Option<Vec<u8>>, ReadFault>
+    ensures same { F.holds files.new ≡ F.holds files.old }
+    ensures failures { F.failures files.old < 2 ^ 64 - 1 → F.failures files.new ≡ F.failures files.old + failed_in result }
+    ensures ok { (bytes : Option (List ℕ)) → F.holds files.old (file_name T.table) ≡ Some bytes → IfOk result (λ file. option_map (λ read. read.items) file ≡ bytes) }
+    ensures err { (bytes : Option (List ℕ)) → F.holds files.old (file_name T.table) ≡ Some bytes → IfErr result (NoRows T.table (OptionalFault T.tells bytes)) }
+{
+    let table = T::table();
+    match files.read(alloc, table.file_name()) {
+        Ok(bytes) => Ok(bytes),
+        Err(FileFault::Failed) => Err(ReadFault::FileFailed(table)),
+        Err(FileFault::OutOfMemory) => Err(ReadFault::Table(TableFault {
+            table,
+            row: 0,
+            kind: FaultKind::OutOfMemory,
+        })),
+    }
+}
+
+// The rows of bytes, as a part of reading the feed.
+fn rows_of<T: FileRows>(alloc: Global, bytes: &[u8]) -> Result<Option<T>, ReadFault>
+    ensures ok { IfOk result (λ rows. IsHeld T.holds (Some bytes.now) rows) }
+    ensures failures { failed_in result ≡ 0 }
+    ensures err { IfErr result (NoRows T.table (OptionalFault T.tells (Some bytes.now))) }
+{
+    match T::rows_of(alloc, bytes) {
+        Ok(rows) => Ok(Some(rows)),
+        Err(fault) => Err(ReadFault::Table(fault)),
+    }
+}
+
+// The rows of a file that may be missing.
+fn optional<F: FeedFiles, T: FileRows>(alloc: Global, files: &mut F) -> Result<Option<T>, ReadFault>
+    ensures same { F.holds files.new ≡ F.holds files.old }
+    ensures failures { F.failures files.old < 2 ^ 64 - 1 → F.failures files.new ≡ F.failures files.old + failed_in result }
+    ensures ok { (bytes : Option (List ℕ)) → F.holds files.old (file_name T.table) ≡ Some bytes → IfOk result (λ rows. IsHeld T.holds bytes rows) }
+    ensures err { (bytes : Option (List ℕ)) → F.holds files.old (file_name T.table) ≡ Some bytes → IfErr result (NoRows T.table (OptionalFault T.tells bytes)) }
+{
+    match bytes_of::<F, T>(alloc, files) {
+        Ok(Some(bytes)) => rows_of(alloc, &bytes),
+        Ok(None) => Ok(None),
+        Err(fault) => Err(fault),
+    }
+}
+
+// The rows of a file that must be there.
+fn required<F: FeedFiles, T: FileRows>(alloc: Global, files: &mut F) -> Result<T, ReadFault>
+    ensures same { F.holds files.new ≡ F.holds files.old }
+    ensures failures { F.failures files.old < 2 ^ 64 - 1 → F.failures files.new ≡ F.failures files.old + failed_in result }
+    ensures ok { (bytes : Option (List ℕ)) → F.holds files.old (file_name T.table) ≡ Some bytes → IfOk result (λ rows. Required (λ held. T.holds held rows) bytes) }
+    ensures err { (bytes : Option (List ℕ)) → F.holds files.old (file_name T.table) ≡ Some bytes → IfErr result (NoRows T.table (RequiredFault T.tells bytes)) }
+{
+    match optional::<F, T>(alloc, files) {
+        Ok(Some(rows)) => Ok(rows),
+        Ok(None) => Err(ReadFault::Table(T::table().missing())),
+        Err(fault) => Err(fault),
+    }
+}
+
+// The rows of a file that may be missing, none where it is.
+fn rows_or_none<F: FeedFiles, T: OptionalRows>(alloc: Global, files: &mut F) -> Result<T, ReadFault>
+    ensures same { F.holds files.new ≡ F.holds files.old }
+    ensures failures { F.failures files.old < 2 ^ 64 - 1 → F.failures files.new ≡ F.failures files.old + failed_in result }
+    ensures ok { (bytes : Option (List ℕ)) → F.holds files.old (file_name T.table) ≡ Some bytes → IfOk result (λ rows. Optional (T.are_none rows) (λ held. T.holds held rows) bytes) }
+    ensures err { (bytes : Option (List ℕ)) → F.holds files.old (file_name T.table) ≡ Some bytes → IfErr result (NoRows T.table (OptionalFault T.tells bytes)) }
+{
+    match optional::<F, T>(alloc, files) {
+        Ok(Some(rows)) => Ok(rows),
+        Ok(None) => Ok(T::none(alloc)),
+        Err(fault) => Err(fault),
+    }
+}
+
+// The rows of the two calendars, of which one must be there.
+fn calendars<F: FeedFiles>(
+    alloc: Global,
+    files: &mut F,
+) -> Result<(Vec<CalendarRow>, Vec<CalendarDateRow>), ReadFault>
+    ensures same { F.holds files.new ≡ F.holds files.old }
+    ensures failures { F.failures files.old < 2 ^ 64 - 1 → F.failures files.new ≡ F.failures files.old + failed_in result }
+    ensures ok { (content : Content) → Tells (F.holds files.old) content → IfOk result (λ rows. HoldsCalendars content rows.0.items rows.1.items) }
+    ensures err { (content : Content) → Tells (F.holds files.old) content → FineBefore content tables.Calendar → IfErr result (NoTables content) }
+{
+    let calendar = optional::<F, Vec<CalendarRow>>(alloc, files)?;
+    let dates = optional::<F, Vec<CalendarDateRow>>(alloc, files)?;
+    match (calendar, dates) {
+        (None, None) => Err(ReadFault::Table(Table::Calendar.missing())),
+        (None, Some(dates)) => Ok((Vec::new(alloc), dates)),
+        (Some(calendar), None) => Ok((calendar, Vec::new(alloc))),
+        (Some(calendar), Some(dates)) => Ok((calendar, dates)),
+    }
+}
+
+// The rows of the files that must be there.
+#[derive(Drop)]
+struct RequiredTables {
+    agencies: Vec<AgencyRow>,
+    stops: Vec<StopRow>,
+    trips: Vec<TripRow>,
+    stop_times: StopTimes,
+}
+
+fn required_tables<F: FeedFiles>(alloc: Global, files: &mut F) -> Result<RequiredTables, ReadFault>
+    ensures same { F.holds files.new ≡ F.holds files.old }
+    ensures failures { F.failures files.old < 2 ^ 64 - 1 → F.failures files.new ≡ F.failures files.old + failed_in result }
+    ensures ok { (content : Content) → Tells (F.holds files.old) content → IfOk result (λ t. HoldsRequired content t.agencies.items t.stops.items t.trips.items t.stop_times) }
+    ensures err { (content : Content) → Tells (F.holds files.old) content → IfErr result (NoTables content) }
+{
+    let agencies = required(alloc, files)?;
+    let stops = required(alloc, files)?;
+    let trips = required(alloc, files)?;
+    let stop_times = required(alloc, files)?;
+    Ok(RequiredTables {
+        agencies,
+        stops,
+        trips,
+        stop_times,
+    })
+}
+
+/// The tables of a feed's files (GTFS Schedule Reference). Each file is read and judged before the next is read, in the
+/// order of [`Table`]; `transfers.txt` and `frequencies.txt` may be missing, and one of the two calendars. The fault is
+/// the first; want of memory is told of the file at which it was met. A file that can't be read is told where nothing
+/// was wrong with those before it, and the count of failures is then one more; else it stays.
+pub fn read_tables<F: FeedFiles>(alloc: Global, files: &mut F) -> Result<Tables, ReadFault>
+    requires { F.failures files.old < 2 ^ 64 - 1 }
+    ensures same { F.holds files.new ≡ F.holds files.old }
+    ensures failures { F.failures files.new ≡ F.failures files.old + failed_in result }
+    ensures ok { (content : Content) → Tells (F.holds files.old) content → IfOk result (HoldsTables content) }
+    ensures err { (content : Content) → Tells (F.holds files.old) content → IfErr result (NoTables content) }
+{
+    let required = required_tables(alloc, files)?;
+    let (calendar, calendar_dates) = calendars(alloc, files)?;
+    let transfers = rows_or_none(alloc, files)?;
+    let frequencies = rows_or_none(alloc, files)?;
+    Ok(Tables {
+        agencies: required.agencies,
+        stops: required.stops,
+        trips: required.trips,
+        stop_times: required.stop_times,
+        calendar,
+        calendar_dates,
+        transfers,
+        frequencies,
+    })
+}
