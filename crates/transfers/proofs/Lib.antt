@@ -1,0 +1,9 @@
+pub mod AddLemmas
+pub mod ClaimLemmas
+pub mod StationLemmas
+pub mod OrderLemmas
+pub mod WordLemmas
+pub mod MemberLemmas
+pub mod PathLemmas
+pub mod RangeLemmas
+pub mod FinalLemmas

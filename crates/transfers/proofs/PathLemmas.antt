@@ -1,0 +1,149 @@
+-- The footpaths of the first claims on their pairs.
+use Rattle.std.proofs.Common.{◌≡◌, ℕ, zero, suc, ◌+◌, ◌-◌, ◌<◌, ◌≤◌, inl, inr, List, [], ◌∷◌, ◌++◌, length, Some, Contains, get_or, refl, sym, ap, subst, ◌∙◌, arith, append-nil, length-append}
+use Rattle.std.specs.List.{slice_get}
+use Rattle.std.proofs.lemmas.Option.{same_Some, slice_get-get_or, slice_get_within, get_or_from_slice_get}
+use Rattle.std.proofs.lemmas.Bool.{cases_eq, cases_lt, cases_order}
+use Rattle.std.proofs.lemmas.List.Elements.{Contains-push, Contains-push_cases, Contains-append_left}
+use Rattle.timetable.specs.declared.network.Footpath.{Footpath}
+use Rattle.timetable.specs.Legal.{At, IsOrderedBefore, AreInOrder}
+use Rattle.transfers.specs.declared.claims.Word.{Word}
+use Rattle.transfers.specs.declared.claims.Word.TheVariants.{Never, Takes}
+use Rattle.transfers.specs.declared.claims.Claim.{Claim}
+use Rattle.transfers.specs.Claims.{ComesBefore, AreSorted, IsFirstAt, IsPathAt, ArePathsBelow, path_of}
+
+-- what stands at a place is an element, and the other way round
+pub contains_at : {X : Type 0} (xs : List X) (i : ℕ) (x : X) → At xs i x → Contains xs x
+contains_at xs i x at = (i, slice_get_within xs i x at, get_or_from_slice_get xs i x x at)
+
+pub at_contains : {X : Type 0} (xs : List X) (x : X) → Contains xs x → (i : ℕ) × At xs i x
+at_contains {X} xs x (k, below, is) = (k, slice_get-get_or xs k x below ∙ ap (λ (y : X). Some y) is)
+
+pub same_at : {X : Type 0} (xs : List X) (i : ℕ) (x y : X) → At xs i x → At xs i y → x ≡ y
+same_at xs i x y at_x at_y = same_Some x y (sym at_x ∙ at_y)
+
+abbrev pub secs_in : Word → ℕ
+secs_in Never = 0
+secs_in (Takes n) = suc n
+
+pub never_takes : (n : ℕ) → Never ≡ Takes n → ⊥
+never_takes n e = let same : 0 ≡ suc n = ap (λ (w : Word). secs_in w) e in omega (arith, same)
+
+pub same_takes : (m n : ℕ) → Takes m ≡ Takes n → m ≡ n
+same_takes m n e = let same : suc m ≡ suc n = ap (λ (w : Word). secs_in w) e in omega (arith, same)
+
+abbrev pub footpath_of : ℕ → ℕ → ℕ → Footpath
+footpath_of from to secs = record { from = from; to = to; secs = secs }
+
+same_path : (from to secs : ℕ) (f : Footpath) → from ≡ f.from → to ≡ f.to → secs ≡ f.secs → footpath_of from to secs ≡ f
+same_path from to secs f e_from e_to e_secs =
+    ap (λ (n : ℕ). footpath_of n to secs) e_from ∙ ap (λ (n : ℕ). footpath_of f.from n secs) e_to ∙ ap (λ (n : ℕ). footpath_of f.from f.to n) e_secs
+
+get_left : (xs ys : List Footpath) (i : ℕ) → i < length xs → slice_get (xs ++ ys) i ≡ slice_get xs i
+get_left [] ys i below = absurd (omega (arith, below))
+get_left (x ∷ xs) ys zero below = refl
+get_left (x ∷ xs) ys (suc i) below = get_left xs ys i (omega (arith, below))
+
+get_end : (xs : List Footpath) (f : Footpath) → slice_get (xs ++ f ∷ []) (length xs) ≡ Some f
+get_end [] f = refl
+get_end (x ∷ xs) f = get_end xs f
+
+-- a footpath behind all others
+in_order_push : (paths : List Footpath) (f : Footpath) → AreInOrder paths → ((e : Footpath) → Contains paths e → IsOrderedBefore e f) → AreInOrder (paths ++ f ∷ [])
+in_order_push paths f in_order after i d e at_d at_e =
+    let size : length (paths ++ f ∷ []) ≡ length paths + 1 = length-append paths (f ∷ []) in
+    let inside : i + 1 < length paths + 1 = omega (arith, size, slice_get_within (paths ++ f ∷ []) (i + 1) e at_e) in
+    let d_inside : i < length paths = omega (arith, inside) in
+    let was_d : At paths i d = sym (get_left paths (f ∷ []) i d_inside) ∙ at_d in
+    elim (cases_order (i + 1) (length paths)) [
+      | inl same ↦
+          let at_end : At (paths ++ f ∷ []) (length paths) e = subst (λ (n : ℕ). At (paths ++ f ∷ []) n e) same at_e in
+          let equal : f ≡ e = same_Some f e (sym (get_end paths f) ∙ at_end) in
+          subst (λ (g : Footpath). IsOrderedBefore d g) equal (after d (contains_at paths i d was_d))
+      | inr (inl below) ↦ in_order i d e was_d (sym (get_left paths (f ∷ []) (i + 1) below) ∙ at_e)
+      | inr (inr above) ↦ absurd (omega (arith, inside, above))
+    ]
+
+-- before the first claim on a pair none stands on it
+pub first_strict : (claims : List Claim) → AreSorted claims → (k place : ℕ) (e c : Claim) → k < place → At claims k e → At claims place c → IsFirstAt claims place → e.to ≡ c.to → e.from ≡ c.from → ⊥
+first_strict claims sorted k place e c below at_e at_c first to from =
+    let b : Claim = get_or claims (place - 1) c in
+    let at_b : At claims (place - 1) b = slice_get-get_or claims (place - 1) c (omega (arith, below, slice_get_within claims place c at_c)) in
+    let second : ComesBefore b c = sorted (place - 1) place b c (omega (arith, below)) at_b at_c in
+    elim (cases_eq k (place - 1)) [
+      | inl same ↦
+          let is_b : e ≡ b = same_at claims k e b at_e (subst (λ (n : ℕ). At claims n b) (sym same) at_b) in
+          first b c at_b at_c (omega (arith, below)) (sym (ap (λ (x : Claim). x.to) is_b) ∙ to, sym (ap (λ (x : Claim). x.from) is_b) ∙ from)
+      | inr differ ↦
+          let front : ComesBefore e b = sorted k (place - 1) e b (omega (arith, below, differ)) at_e at_b in
+          let b_to : b.to ≡ c.to = omega (arith, front.by_to, second.by_to, to) in
+          let e_to : e.to ≡ b.to = to ∙ sym b_to in
+          let b_from : b.from ≡ c.from = omega (arith, front.by_from e_to, second.by_from b_to, from) in
+          first b c at_b at_c (omega (arith, below)) (b_to, b_from)
+    ]
+
+module _ (claims : List Claim) (place : ℕ) (c : Claim) (at : At claims place c) (paths : List Footpath) (h : ArePathsBelow claims place paths) where
+  weaker : (f : Footpath) → Contains paths f → (k : ℕ) × (k < place + 1) × IsPathAt claims k f
+  weaker f is_in = let (k, below, path) = h.has f is_in in (k, omega (arith, below), path)
+
+  -- a claim that isn't the first on its pair gives nothing
+  pub paths_skip : ¬ IsFirstAt claims place → ArePathsBelow claims (place + 1) paths
+  paths_skip later = record {
+    has = weaker;
+    each = λ k f below path. elim (cases_eq k place) [
+      | inl same ↦ absurd (later (subst (λ (n : ℕ). IsFirstAt claims n) same path.first))
+      | inr differ ↦ h.each k f (omega (arith, below, differ)) path
+    ];
+  }
+
+  module _ (first : IsFirstAt claims place) where
+    by_word : (w : Word) → c.word ≡ w → ArePathsBelow claims (place + 1) (paths ++ path_of c.from c.to w)
+    by_word Never is = record {
+      has = λ f is_in. weaker f (subst (λ (ps : List Footpath). Contains ps f) (append-nil paths) is_in);
+      each = λ k f below path. elim (cases_eq k place) [
+        | inl same ↦
+            let is_c : path.claim ≡ c = same_at claims place path.claim c (subst (λ (n : ℕ). At claims n path.claim) same path.at) at in
+            absurd (never_takes f.secs (sym is ∙ sym (ap (λ (x : Claim). x.word) is_c) ∙ path.word_is))
+        | inr differ ↦ Contains-append_left paths [] f (h.each k f (omega (arith, below, differ)) path)
+      ];
+    }
+    by_word (Takes secs) is =
+        let x : Footpath = record { from = c.from; to = c.to; secs = secs } in
+        record {
+          has = λ f is_in. elim (Contains-push_cases paths x f is_in) [
+            | inl was ↦ weaker f was
+            | inr same ↦ (place, omega arith, subst (λ (f : Footpath). IsPathAt claims place f) same (record { claim = c; at = at; first = first; from_is = refl; to_is = refl; word_is = is }))
+          ];
+          each = λ k f below path. elim (cases_eq k place) [
+            | inl same ↦
+                let is_c : path.claim ≡ c = same_at claims place path.claim c (subst (λ (n : ℕ). At claims n path.claim) same path.at) at in
+                let from : c.from ≡ f.from = sym (ap (λ (x : Claim). x.from) is_c) ∙ path.from_is in
+                let to : c.to ≡ f.to = sym (ap (λ (x : Claim). x.to) is_c) ∙ path.to_is in
+                let words : Takes secs ≡ Takes f.secs = sym is ∙ sym (ap (λ (x : Claim). x.word) is_c) ∙ path.word_is in
+                subst (λ (g : Footpath). Contains (paths ++ x ∷ []) g) (same_path c.from c.to secs f from to (same_takes secs f.secs words)) (Contains-push paths x)
+            | inr differ ↦ Contains-append_left paths (x ∷ []) f (h.each k f (omega (arith, below, differ)) path)
+          ];
+        }
+
+    -- a claim that is the first on its pair gives its footpath
+    pub paths_more : ArePathsBelow claims (place + 1) (paths ++ path_of c.from c.to c.word)
+    paths_more = by_word c.word refl
+
+    order_by : AreSorted claims → AreInOrder paths → (w : Word) → AreInOrder (paths ++ path_of c.from c.to w)
+    order_by sorted in_order Never = subst (λ (ps : List Footpath). AreInOrder ps) (sym (append-nil paths)) in_order
+    order_by sorted in_order (Takes secs) = in_order_push paths (record { from = c.from; to = c.to; secs = secs }) in_order (λ e is_in.
+        let (k, below, path) = h.has e is_in in
+        let before : ComesBefore path.claim c = sorted k place path.claim c below path.at at in
+        let by_to : e.to ≤ c.to = omega (arith, before.by_to, path.to_is) in
+        (by_to, λ to. strict e k below path before to))
+      where
+        strict : (e : Footpath) (k : ℕ) → k < place → (path : IsPathAt claims k e) → ComesBefore path.claim c → e.to ≡ c.to → e.from < c.from
+        strict e k below path before to =
+            let same_to : path.claim.to ≡ c.to = path.to_is ∙ to in
+            let le : path.claim.from ≤ c.from = before.by_from same_to in
+            elim (cases_lt e.from c.from) [
+              | inl less ↦ less
+              | inr above ↦ absurd (first_strict claims sorted k place path.claim c below path.at at first same_to (omega (arith, le, above, path.from_is)))
+            ]
+
+    pub order_more : AreSorted claims → AreInOrder paths → AreInOrder (paths ++ path_of c.from c.to c.word)
+    order_more sorted in_order = order_by sorted in_order c.word

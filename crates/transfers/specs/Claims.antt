@@ -1,0 +1,147 @@
+-- What is claimed of ordered pairs of stops, and in what order.
+use Rattle.std.specs.Prelude.{◌≡◌, ◌≢◌, ◌==◌, ◌-◌, ◌<◌, ◌≤◌, ◌⊎◌, ℕ, true, List, [], ◌∷◌, length, slice_index, Contains, Option, Some, None}
+use Rattle.timetable.specs.Legal.{At}
+use Rattle.timetable.specs.declared.network.Footpath.{Footpath}
+use Rattle.gtfs_tables.specs.declared.tables.Stop.{Stop}
+use Rattle.gtfs_tables.specs.declared.tables.Transfer.{Transfer}
+use Rattle.gtfs_tables.specs.declared.tables.Place.{Place}
+use Rattle.transfers.specs.declared.stations.Member.{Member}
+use Rattle.transfers.specs.declared.claims.Source.{Source}
+use Rattle.transfers.specs.declared.claims.Source.TheVariants.{Stops, Station, Default}
+use Rattle.transfers.specs.declared.claims.Word.{Word}
+use Rattle.transfers.specs.declared.claims.Word.TheVariants.{Never, Takes}
+use Rattle.transfers.specs.declared.claims.Claim.{Claim}
+use Rattle.transfers.specs.Listed.{stands_for, is_child, source_of, word_of, is_of, station_of}
+
+-- the claims are those that there were, and new ones
+pub record Adds (old new : List Claim) (made : Claim → Type 0) : Type 0 where
+  pub kept : (c : Claim) → Contains old c → Contains new c
+  pub added : (c : Claim) → made c → Contains new c
+  pub only : (c : Claim) → Contains new c → Contains old c ⊎ made c
+
+-- for one of the elements it holds
+abbrev pub ForOneOf : {X : Type 0} → List X → (X → Claim → Type 0) → Claim → Type 0
+ForOneOf {X} xs made c = (x : X) × Contains xs x × made x c
+
+-- a transfer claims it of a pair of stops
+pub record IsPairClaim (row : Transfer) (from to : ℕ) (c : Claim) : Type 0 where
+  pub from_is : c.from ≡ from
+  pub to_is : c.to ≡ to
+  pub source_is : c.source ≡ source_of row
+  pub word_is : word_of row (from == to) ≡ Some c.word
+
+-- a transfer claims it
+pub record IsRowClaim (stops : List Stop) (row : Transfer) (c : Claim) : Type 0 where
+  pub from_stands : stands_for stops row.from c.from ≡ true
+  pub to_stands : stands_for stops row.to c.to ≡ true
+  pub source_is : c.source ≡ source_of row
+  pub word_is : word_of row (c.from == c.to) ≡ Some c.word
+
+-- it is claimed of two stops of one station
+pub record IsSiblingClaim (stops : List Stop) (c : Claim) : Type 0 where
+  pub siblings : is_of stops (station_of stops c.to) c.from ≡ true
+  pub differ : c.from ≢ c.to
+  pub source_is : c.source ≡ Default
+  pub word_is : c.word ≡ Takes 120
+
+-- a way from one stop to a stop is claimed, within a station
+pub record IsSiblingPair (from to : ℕ) (c : Claim) : Type 0 where
+  pub from_is : c.from ≡ from
+  pub to_is : c.to ≡ to
+  pub differ : from ≢ to
+  pub source_is : c.source ≡ Default
+  pub word_is : c.word ≡ Takes 120
+
+-- it is claimed of a way to a stop from another of the station
+pub record IsSiblingInto (all : List Stop) (station to : ℕ) (c : Claim) : Type 0 where
+  pub child : is_child all station c.from ≡ true
+  pub to_is : c.to ≡ to
+  pub differ : c.from ≢ c.to
+  pub source_is : c.source ≡ Default
+  pub word_is : c.word ≡ Takes 120
+
+-- it is claimed of a way to one of so many stops that have a station
+abbrev pub IsSiblingBelow : List Stop → List ℕ → List ℕ → ℕ → Claim → Type 0
+IsSiblingBelow all stations stops count c = (k : ℕ) × (k < count) × IsSiblingInto all (slice_index stations k) (slice_index stops k) c
+
+-- it is claimed of the loop of one of so many stops
+pub record IsLoopClaim (stops : ℕ) (c : Claim) : Type 0 where
+  pub below : c.to < stops
+  pub loop : c.from ≡ c.to
+  pub source_is : c.source ≡ Default
+  pub word_is : c.word ≡ Takes 0
+
+-- the feed makes the claim
+abbrev pub IsClaim : List Stop → List Transfer → Claim → Type 0
+IsClaim stops transfers c = ForOneOf transfers (IsRowClaim stops) c ⊎ (IsSiblingClaim stops c ⊎ IsLoopClaim (length stops) c)
+
+-- these are the stops that have a station, each beside its station, by station
+pub record AreStations (all : List Stop) (stations stops : List ℕ) : Type 0 where
+  pub has : (k : ℕ) → k < length stations → is_child all (slice_index stations k) (slice_index stops k) ≡ true
+  pub each : (station stop : ℕ) → is_child all station stop ≡ true → (k : ℕ) × (k < length stations) × (slice_index stations k ≡ station) × (slice_index stops k ≡ stop)
+
+-- these are the stops that a place stands for
+pub record AreStoodFor (all : List Stop) (place : Place) (stops : List ℕ) : Type 0 where
+  pub stand : (stop : ℕ) → Contains stops stop → stands_for all place stop ≡ true
+  pub each : (stop : ℕ) → stands_for all place stop ≡ true → Contains stops stop
+
+-- these are the stops of a station
+pub record AreChildren (all : List Stop) (station : ℕ) (stops : List ℕ) : Type 0 where
+  pub has : (stop : ℕ) → Contains stops stop → is_child all station stop ≡ true
+  pub each : (stop : ℕ) → is_child all station stop ≡ true → Contains stops stop
+
+-- the member that a stop with a station is
+abbrev pub member_of : Option ℕ → ℕ → List Member
+member_of None stop = []
+member_of (Some station) stop = record { station = station; stop = stop } ∷ []
+
+-- stops that have a station, of the first so many
+pub record AreMembers (all : List Stop) (count : ℕ) (members : List Member) : Type 0 where
+  pub has : (m : Member) → Contains members m → (m.stop < count) × (station_of all m.stop ≡ Some m.station)
+  pub each : (m : Member) → m.stop < count → station_of all m.stop ≡ Some m.station → Contains members m
+
+-- the sources in the order in which they are heard
+abbrev pub source_number : Source → ℕ
+source_number Stops = 0
+source_number Station = 1
+source_number Default = 2
+
+-- of two words the first is heard
+abbrev pub IsHeardBefore : Word → Word → Type 0
+IsHeardBefore Never other = Unit {0}
+IsHeardBefore (Takes secs) Never = ⊥
+IsHeardBefore (Takes secs) (Takes other) = secs ≤ other
+
+-- a claim stands before another: by the stop led into, then by the stop left, then by what is heard
+pub record ComesBefore (c d : Claim) : Type 0 where
+  pub by_to : c.to ≤ d.to
+  pub by_from : c.to ≡ d.to → c.from ≤ d.from
+  pub by_source : c.to ≡ d.to → c.from ≡ d.from → source_number c.source ≤ source_number d.source
+  pub by_word : c.to ≡ d.to → c.from ≡ d.from → c.source ≡ d.source → IsHeardBefore c.word d.word
+
+-- claims stand by the stop led into, the stop left, and what is heard
+abbrev pub AreSorted : List Claim → Type 0
+AreSorted claims = (i j : ℕ) (c d : Claim) → i < j → At claims i c → At claims j d → ComesBefore c d
+
+-- the claim at the place is the first of its pair
+abbrev pub IsFirstAt : List Claim → ℕ → Type 0
+IsFirstAt claims place = (b c : Claim) → At claims (place - 1) b → At claims place c → 0 < place → ¬ ((b.to ≡ c.to) × (b.from ≡ c.from))
+
+-- the footpath is that of the first claim on its pair
+pub record IsPathAt (claims : List Claim) (place : ℕ) (f : Footpath) : Type 0 where
+  pub claim : Claim
+  pub at : At claims place claim
+  pub first : IsFirstAt claims place
+  pub from_is : claim.from ≡ f.from
+  pub to_is : claim.to ≡ f.to
+  pub word_is : claim.word ≡ Takes f.secs
+
+-- these are the footpaths of the first claims on their pairs, below a place
+pub record ArePathsBelow (claims : List Claim) (place : ℕ) (paths : List Footpath) : Type 0 where
+  pub has : (f : Footpath) → Contains paths f → (k : ℕ) × (k < place) × IsPathAt claims k f
+  pub each : (k : ℕ) (f : Footpath) → k < place → IsPathAt claims k f → Contains paths f
+
+-- the footpath that a word gives, where it gives one
+abbrev pub path_of : ℕ → ℕ → Word → List Footpath
+path_of from to Never = []
+path_of from to (Takes secs) = record { from = from; to = to; secs = secs } ∷ []

@@ -1,0 +1,126 @@
+-- The footpaths that a feed lists. (GTFS Schedule Reference, stops.txt and transfers.txt; the times where none is given are our own.)
+use Rattle.std.specs.Prelude.{◌==◌, ◌&&◌, ◌<◌, ℕ, min, nat_lt, Bool, true, false, if◌then◌else◌, List, [], ◌∷◌, All, length, slice_get, Option, Some, None}
+use Rattle.timetable.specs.First.{or_else}
+use Rattle.gtfs_rows.specs.declared.rows.TransferKind.{TransferKind}
+use Rattle.gtfs_rows.specs.declared.rows.TransferKind.TheVariants.{Recommended, Timed, Minimum, Impossible, Skipped}
+use Rattle.gtfs_tables.specs.declared.tables.Feed.{Feed}
+use Rattle.gtfs_tables.specs.declared.tables.Stop.{Stop}
+use Rattle.gtfs_tables.specs.declared.tables.Transfer.{Transfer}
+use Rattle.gtfs_tables.specs.declared.tables.Place.{Place}
+use Rattle.gtfs_tables.specs.declared.tables.Place.TheVariants.{Stop as TheStop, Station as TheStation}
+use Rattle.transfers.specs.declared.claims.Source.{Source}
+use Rattle.transfers.specs.declared.claims.Source.TheVariants.{Stops, Station, Default}
+use Rattle.transfers.specs.declared.claims.Word.{Word}
+use Rattle.transfers.specs.declared.claims.Word.TheVariants.{Never, Takes}
+
+-- a stop that the place names is one of so many
+abbrev pub NamesBelow : ℕ → Place → Type 0
+NamesBelow stops (TheStop stop) = stop < stops
+NamesBelow stops (TheStation station) = Unit {0}
+
+-- each stop that a transfer names is one of the feed's
+abbrev pub NamesStops : Feed → Type 0
+NamesStops feed = All (λ row. NamesBelow (length feed.stops.items) row.from × NamesBelow (length feed.stops.items) row.to) feed.transfers.items
+
+-- the station of a stop
+abbrev pub station_in : Option Stop → Option ℕ
+station_in None = None
+station_in (Some stop) = stop.station
+
+abbrev pub station_of : List Stop → ℕ → Option ℕ
+station_of stops stop = station_in (slice_get stops stop)
+
+-- whether a station is that one
+abbrev pub is_station : Option ℕ → ℕ → Bool
+is_station None station = false
+is_station (Some other) station = other == station
+
+-- whether a stop is one of the station's
+abbrev pub is_child : List Stop → ℕ → ℕ → Bool
+is_child stops station stop = is_station (station_of stops stop) station
+
+-- whether a place stands for a stop: it names that stop, or its station
+abbrev pub stands_for : List Stop → Place → ℕ → Bool
+stands_for stops (TheStop named) stop = named == stop
+stands_for stops (TheStation station) stop = is_child stops station stop
+
+-- who speaks by a transfer: the stops themselves, or a station
+abbrev pub source_by : Place → Place → Source
+source_by (TheStop from) (TheStop to) = Stops
+source_by (TheStop from) (TheStation to) = Station
+source_by (TheStation from) (TheStop to) = Station
+source_by (TheStation from) (TheStation to) = Station
+
+abbrev pub source_of : Transfer → Source
+source_of row = source_by row.from row.to
+
+-- the time that is given, a day at most, or so many seconds
+abbrev pub given_or : Option ℕ → ℕ → ℕ
+given_or None secs = secs
+given_or (Some given) secs = min given 86400
+
+-- what a transfer says of a pair of stops that it stands for; a stop can't be kept apart from itself
+abbrev pub word_by : TransferKind → Option ℕ → Bool → Option Word
+word_by Recommended given is_loop = Some (Takes (given_or given (if is_loop then 0 else 120)))
+word_by Timed given is_loop = Some (Takes (given_or given 0))
+word_by Minimum given is_loop = Some (Takes (given_or given 120))
+word_by Impossible given is_loop = if is_loop then None else Some Never
+word_by Skipped given is_loop = None
+
+abbrev pub word_of : Transfer → Bool → Option Word
+word_of row is_loop = word_by row.kind row.seconds is_loop
+
+-- whether two sources are the same
+abbrev pub is_source : Source → Source → Bool
+is_source Stops Stops = true
+is_source Station Station = true
+is_source Default Default = true
+is_source _ _ = false
+
+-- what a transfer says of a pair of stops, where it is from that source
+abbrev pub word_for : List Stop → Source → ℕ → ℕ → Transfer → Option Word
+word_for stops source from to row =
+    if is_source (source_of row) source && stands_for stops row.from from && stands_for stops row.to to then word_of row (from == to) else None
+
+-- of two words: there is no footpath where one says so, else the least time
+abbrev pub least_word : Word → Word → Word
+least_word Never other = Never
+least_word (Takes secs) Never = Never
+least_word (Takes secs) (Takes other) = Takes (min secs other)
+
+abbrev pub heard : Option Word → Option Word → Option Word
+heard None other = other
+heard (Some word) None = Some word
+heard (Some word) (Some other) = Some (least_word word other)
+
+-- what the transfers from one source say of a pair of stops
+abbrev pub said_by : List Stop → Source → ℕ → ℕ → List Transfer → Option Word
+said_by stops source from to [] = None
+said_by stops source from to (row ∷ rows) = heard (word_for stops source from to row) (said_by stops source from to rows)
+
+-- whether a stop is of that station
+abbrev pub is_of : List Stop → Option ℕ → ℕ → Bool
+is_of stops None stop = false
+is_of stops (Some station) stop = is_child stops station stop
+
+-- what holds of a pair of stops where no transfer counts: no time for a loop, two minutes within a station
+abbrev pub default_word : List Stop → ℕ → ℕ → Option Word
+default_word stops from to =
+    if from == to
+    then (if nat_lt to (length stops) then Some (Takes 0) else None)
+    else (if is_of stops (station_of stops to) from then Some (Takes 120) else None)
+
+-- what is said of a pair of stops: by transfers that name both themselves, else by those of stations, else by default
+abbrev pub word_between : Feed → ℕ → ℕ → Option Word
+word_between feed from to =
+    or_else (said_by feed.stops.items Stops from to feed.transfers.items)
+    (or_else (said_by feed.stops.items Station from to feed.transfers.items) (default_word feed.stops.items from to))
+
+abbrev pub secs_of : Option Word → Option ℕ
+secs_of None = None
+secs_of (Some Never) = None
+secs_of (Some (Takes secs)) = Some secs
+
+-- the seconds of the listed footpath from a stop to a stop, where there is one
+abbrev pub listed_secs : Feed → ℕ → ℕ → Option ℕ
+listed_secs feed from to = secs_of (word_between feed from to)

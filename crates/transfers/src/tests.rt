@@ -1,0 +1,219 @@
+ghost use Rattle.std.specs.Prelude.{◌≡◌, true, All};
+ghost use Rattle.transfers.specs.Listed.{NamesBelow, NamesStops};
+
+use super::*;
+use gtfs_tables::{Feed, Place, Stop, StopTimeRow, Transfer, TransferKind};
+use std::alloc::Global;
+use std::process::Abort;
+use std::test::Fail;
+use timetable::Footpath;
+
+fn path(from: u32, to: u32, secs: u32) -> Footpath {
+    Footpath { from, to, secs }
+}
+
+fn row(from: Place, to: Place, kind: TransferKind, seconds: Option<u32>) -> Transfer {
+    Transfer {
+        from,
+        to,
+        kind,
+        seconds,
+    }
+}
+
+// A feed of a stop without a station, then two stops of station 5, with these transfers.
+fn feed_of(alloc: Global, transfers: &[Transfer]) -> Result<Feed, Fail> {
+    let mut stops = Vec::new(alloc);
+    for station in [None, Some(5), Some(5)] {
+        stops.push(Stop {
+            id: String::new(alloc),
+            station,
+        })?;
+    }
+    Ok(Feed {
+        stops,
+        trips: Vec::new(alloc),
+        stop_times: Vec::new(alloc),
+        transfers: Vec::from_slice(alloc, transfers)?,
+        skipped: 0,
+        calendar: Vec::new(alloc),
+        calendar_dates: Vec::new(alloc),
+    })
+}
+
+// Whether a place is a station, or one of so many stops.
+fn is_named(place: Place, stops: usize) -> bool
+    ensures { result ≡ true → NamesBelow stops place }
+{
+    match place {
+        Place::Stop(stop) => (stop as usize) < stops,
+        Place::Station(_) => true,
+    }
+}
+
+// Whether each stop that a transfer names is one of so many.
+fn are_named(transfers: &[Transfer], stops: usize) -> bool
+    ensures { result ≡ true → All (λ row. NamesBelow stops row.from × NamesBelow stops row.to) transfers.now }
+{
+    for row in transfers {
+        if !is_named(row.from, stops) || !is_named(row.to, stops) {
+            return false;
+        }
+    }
+    true
+}
+
+// Whether each stop that a transfer of the feed names is one of its stops.
+fn names_stops(feed: &Feed) -> bool
+    ensures { result ≡ true → NamesStops feed.now }
+{
+    are_named(&feed.transfers, feed.stops.len())
+}
+
+// The footpaths that the feed with these transfers lists.
+fn listed_with(
+    rt: &impl Abort,
+    alloc: Global,
+    transfers: &[Transfer],
+) -> Result<Vec<Footpath>, Fail> {
+    let feed = feed_of(alloc, transfers)?;
+    assert!(rt; names_stops(&feed));
+    Ok(listed(alloc, &feed)?)
+}
+
+#[test]
+fn stops_of_a_station_are_siblings(rt: HostRuntime) -> Result<(), Fail> {
+    let wanted = [
+        path(0, 0, 0),
+        path(1, 1, 0),
+        path(2, 1, 120),
+        path(1, 2, 120),
+        path(2, 2, 0),
+    ];
+    let got = listed_with(&rt, rt.alloc(), &[])?;
+    assert!(rt; got.as_slice() == wanted.as_slice());
+    let childless = row(
+        Place::Station(4),
+        Place::Stop(0),
+        TransferKind::Minimum,
+        None,
+    );
+    let got = listed_with(&rt, rt.alloc(), &[childless])?;
+    assert!(rt; got.as_slice() == wanted.as_slice());
+    Ok(())
+}
+
+#[test]
+fn a_station_stands_for_its_stops(rt: HostRuntime) -> Result<(), Fail> {
+    let station = Place::Station(5);
+    let all = row(station, station, TransferKind::Minimum, Some(180));
+    let wanted = [
+        path(0, 0, 0),
+        path(1, 1, 180),
+        path(2, 1, 180),
+        path(1, 2, 180),
+        path(2, 2, 180),
+    ];
+    let got = listed_with(&rt, rt.alloc(), &[all])?;
+    assert!(rt; got.as_slice() == wanted.as_slice());
+    let none = row(
+        Place::Stop(1),
+        Place::Stop(2),
+        TransferKind::Impossible,
+        None,
+    );
+    let wanted = [
+        path(0, 0, 0),
+        path(1, 1, 180),
+        path(2, 1, 180),
+        path(2, 2, 180),
+    ];
+    let got = listed_with(&rt, rt.alloc(), &[all, none])?;
+    assert!(rt; got.as_slice() == wanted.as_slice());
+    Ok(())
+}
+
+#[test]
+fn a_loop_cannot_be_impossible(rt: HostRuntime) -> Result<(), Fail> {
+    let station = Place::Station(5);
+    let here = Place::Stop(1);
+    let transfers = [
+        row(here, here, TransferKind::Impossible, None),
+        row(station, station, TransferKind::Recommended, Some(7)),
+        row(station, here, TransferKind::Timed, Some(9)),
+        row(
+            Place::Stop(0),
+            Place::Stop(0),
+            TransferKind::Impossible,
+            None,
+        ),
+    ];
+    let wanted = [
+        path(0, 0, 0),
+        path(1, 1, 7),
+        path(2, 1, 7),
+        path(1, 2, 7),
+        path(2, 2, 7),
+    ];
+    let got = listed_with(&rt, rt.alloc(), &transfers)?;
+    assert!(rt; got.as_slice() == wanted.as_slice());
+    Ok(())
+}
+
+#[test]
+fn each_kind_has_its_times(rt: HostRuntime) -> Result<(), Fail> {
+    let a = Place::Stop(0);
+    let b = Place::Stop(1);
+    let c = Place::Stop(2);
+    let transfers = [
+        row(a, b, TransferKind::Minimum, Some(86_401)),
+        row(b, a, TransferKind::Timed, None),
+        row(a, c, TransferKind::Recommended, None),
+        row(c, a, TransferKind::Minimum, None),
+        row(a, a, TransferKind::Recommended, None),
+        row(b, b, TransferKind::Minimum, None),
+        row(c, c, TransferKind::Timed, Some(60)),
+        row(c, c, TransferKind::Timed, Some(50)),
+    ];
+    let wanted = [
+        path(0, 0, 0),
+        path(1, 0, 0),
+        path(2, 0, 120),
+        path(0, 1, 86_400),
+        path(1, 1, 120),
+        path(2, 1, 120),
+        path(0, 2, 120),
+        path(1, 2, 120),
+        path(2, 2, 50),
+    ];
+    let got = listed_with(&rt, rt.alloc(), &transfers)?;
+    assert!(rt; got.as_slice() == wanted.as_slice());
+    Ok(())
+}
+
+#[test]
+fn both_stops_before_a_station(rt: HostRuntime) -> Result<(), Fail> {
+    let a = Place::Stop(0);
+    let b = Place::Stop(1);
+    let station = Place::Station(5);
+    let transfers = [
+        row(a, station, TransferKind::Minimum, Some(30)),
+        row(a, b, TransferKind::Minimum, Some(300)),
+        row(station, a, TransferKind::Minimum, Some(40)),
+        row(station, a, TransferKind::Impossible, None),
+        row(b, a, TransferKind::Minimum, Some(50)),
+    ];
+    let wanted = [
+        path(0, 0, 0),
+        path(1, 0, 50),
+        path(0, 1, 300),
+        path(1, 1, 0),
+        path(2, 1, 120),
+        path(0, 2, 30),
+        path(1, 2, 120),
+        path(2, 2, 0),
+    ];
+    let got = listed_with(&rt, rt.alloc(), &transfers)?;
+    assert!(rt; got.as_slice() == wanted.as_slice());
+    Ok(())
+}
