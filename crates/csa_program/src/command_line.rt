@@ -1,6 +1,7 @@
 //! What the words of a command line ask for.
 
 use crate::journey::JourneyRequest;
+use crate::profile::{CriterionName, ProfileRequest};
 use crate::question::Question;
 use clap::error::ErrorKind;
 use clap::{Arg, ArgAction, ArgMatches, Command, Error};
@@ -15,6 +16,10 @@ pub enum Request<'a> {
     Verify(&'a str),
     /// To check a journey against an image.
     Journey(JourneyRequest<'a>),
+    /// To answer a profile query over an image.
+    Profile(ProfileRequest<'a>),
+    /// To read the tables of a feed's folder.
+    Tables(&'a str),
 }
 
 /// Why the words ask for no command.
@@ -34,6 +39,12 @@ or a line can't be written, 4 no memory, 64 a wrong command line.";
 const JOURNEY_EXAMPLE: &str =
     "Example: csa journey examples/base.csa 'ride 0 0 walk 1 1 0 ride 2 2' \
 --from A --to C --after 07:00:00 --until 09:00:00 --by 10:00:00";
+
+const PROFILE_EXAMPLE: &str =
+    "Example: csa profile examples/base.csa --from A --to C --after 07:00:00 --until 09:00:00 \
+--by 10:00:00 --criterion arrival+trips";
+
+const CRITERIA: [&str; 2] = ["arrival", "arrival+trips"];
 
 const WRONG_FORM: &str =
     "error: a clock is HH:MM:SS: hours of one to six digits, minutes and seconds below 60\n";
@@ -102,13 +113,41 @@ fn journey<'a>(alloc: Global) -> Result<Command<'a>, AllocError> {
     with_query(alloc, command)
 }
 
+fn profile<'a>(alloc: Global) -> Result<Command<'a>, AllocError> {
+    let command = Command::new(alloc, "profile")
+        .about("Prints every best departure from one stop to another in a window of time")
+        .after_help(PROFILE_EXAMPLE)
+        .arg(image(alloc))?;
+    with_query(alloc, command)?.arg(option(
+        alloc,
+        "criterion",
+        "NAME",
+        "What is best: the least arrival, or arrival and trips",
+    )
+    .value_parser(CRITERIA.as_slice()))
+}
+
+fn tables<'a>(alloc: Global) -> Result<Command<'a>, AllocError> {
+    Command::new(alloc, "tables")
+        .about("Judges the files of a GTFS feed, and prints how many records each has")
+        .after_help("Example: csa tables examples/base")
+        .arg(word(
+            alloc,
+            "folder",
+            "FOLDER",
+            "The folder with the feed's unpacked files",
+        ))
+}
+
 fn program<'a>(alloc: Global) -> Result<Command<'a>, AllocError> {
     Command::new(alloc, "csa")
         .about("Every best departure over verified public transport timetables")
         .after_help(STATUSES)
         .subcommand_required(true)
         .subcommand(verify(alloc)?)?
-        .subcommand(journey(alloc)?)
+        .subcommand(journey(alloc)?)?
+        .subcommand(profile(alloc)?)?
+        .subcommand(tables(alloc)?)
 }
 
 fn unread_of(alloc: Global, error: &Error) -> Unread {
@@ -134,6 +173,8 @@ pub fn read<'a, S: AsStr>(alloc: Global, words: &'a [S]) -> Result<Request<'a>, 
     let request = match matches.subcommand() {
         Some(("verify", inner)) => inner.get_str("image").map(Request::Verify),
         Some(("journey", inner)) => journey_request(inner).map(Request::Journey),
+        Some(("profile", inner)) => profile_request(inner).map(Request::Profile),
+        Some(("tables", inner)) => inner.get_str("folder").map(Request::Tables),
         _ => None,
     };
     match request {
@@ -156,6 +197,22 @@ fn journey_request<'a>(matches: &ArgMatches<'a>) -> Option<JourneyRequest<'a>> {
         text: matches.get_str("text")?,
         question: question(matches)?,
     })
+}
+
+fn profile_request<'a>(matches: &ArgMatches<'a>) -> Option<ProfileRequest<'a>> {
+    Some(ProfileRequest {
+        image: matches.get_str("image")?,
+        question: question(matches)?,
+        criterion: criterion(matches)?,
+    })
+}
+
+fn criterion(matches: &ArgMatches<'_>) -> Option<CriterionName> {
+    match matches.get_str("criterion")? {
+        "arrival" => Some(CriterionName::Arrival),
+        "arrival+trips" => Some(CriterionName::ArrivalTrips),
+        _ => None,
+    }
 }
 
 fn question<'a>(matches: &ArgMatches<'a>) -> Option<Question<'a>> {

@@ -2,12 +2,16 @@
 #![tactic(auto)]
 
 mod command_line;
+#[cfg(test)]
+mod feed_tests;
 mod image_file;
 mod journey;
 mod opening;
+mod profile;
 mod question;
 mod refusal;
 mod status;
+mod tables;
 #[cfg(test)]
 mod tests;
 mod verify;
@@ -32,6 +36,8 @@ pub fn run<H: Files + AllocGlobal, S: AsStr, I: Read, O: Write, E: Write>(
     match read(rt.alloc(), words) {
         Ok(Request::Verify(image)) => verify::run(rt, image, input, output, errors),
         Ok(Request::Journey(request)) => journey::run(rt, request, input, output, errors),
+        Ok(Request::Profile(request)) => profile::run(rt, request, input, output, errors),
+        Ok(Request::Tables(folder)) => tables::run(rt, folder, output),
         Err(Unread::Help(text)) => status::written(output, text.as_str(), status::ACCEPTED),
         Err(Unread::Mistake(text)) => status::written(errors, text.as_str(), status::COMMAND_LINE),
         Err(Unread::OutOfMemory) => status::OUT_OF_MEMORY,

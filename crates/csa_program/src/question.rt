@@ -1,5 +1,8 @@
 //! A query as the command line asks it: stops by their names, times as clock texts.
 
+ghost use Rattle.std.specs.Prelude.{IfOk};
+ghost use Rattle.timetable.specs.Queries.{IsAskable};
+
 use crate::refusal::Refusal;
 use image_verifier::Verified;
 use timetable::Query;
@@ -16,7 +19,9 @@ pub struct Question<'a> {
 }
 
 /// The query that the question asks of the image's timetable.
-pub fn query_of(image: &Verified, question: Question<'_>) -> Result<Query, Refusal> {
+pub fn query_of(image: &Verified, question: Question<'_>) -> Result<Query, Refusal>
+    ensures { IfOk result (IsAskable image.now.timetable.stops) }
+{
     let Some(source) = image.find(question.from.as_bytes()) else {
         return Err(Refusal::Query(QueryFault::UnknownStop));
     };

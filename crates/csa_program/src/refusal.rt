@@ -1,5 +1,6 @@
 //! Refusals as they are printed: a number, a name and the places, each after a space.
 
+use gtfs_tables::{Table, TableFault};
 use image_verifier::ImageFault;
 use journeys::JourneyFault;
 use std::fmt;
@@ -11,6 +12,9 @@ pub enum Refusal {
     /// The bytes of an image aren't whole words.
     OddLength,
     Image(ImageFault),
+    Table(TableFault),
+    /// A feed's file can't be read.
+    FileFailed(Table),
     Query(QueryFault),
     /// A text that spells no journey.
     BadText,
@@ -22,6 +26,8 @@ impl fmt::Display for Refusal {
         match self {
             Refusal::OddLength => write!(f, "refused 51 OddLength"),
             Refusal::Image(fault) => write_image_fault(*fault, f),
+            Refusal::Table(fault) => write_table_fault(*fault, f),
+            Refusal::FileFailed(table) => write!(f, "refused 101 FileFailed {}", table.file_name()),
             Refusal::Query(fault) => write_query_fault(*fault, f),
             Refusal::BadText => write!(f, "refused 80 BadText"),
             Refusal::Journey(fault) => write_journey_fault(*fault, f),
@@ -30,24 +36,37 @@ impl fmt::Display for Refusal {
 }
 
 fn write_image_fault<W: fmt::Write>(fault: ImageFault, f: &mut fmt::Formatter<W>) -> fmt::Result {
+    write!(f, "refused {} {}", fault.number(), fault.name())?;
     match fault {
-        ImageFault::BadMagic => write!(f, "refused 61 BadMagic"),
-        ImageFault::BadLayout => write!(f, "refused 62 BadLayout"),
-        ImageFault::BadLength => write!(f, "refused 63 BadLength"),
-        ImageFault::StopRange(i) => write!(f, "refused 64 StopRange {i}"),
-        ImageFault::TripRange(i) => write!(f, "refused 65 TripRange {i}"),
-        ImageFault::HopWithoutDuration(i) => write!(f, "refused 66 HopWithoutDuration {i}"),
-        ImageFault::Unsorted(i) => write!(f, "refused 67 Unsorted {i}"),
-        ImageFault::TripBroken(i) => write!(f, "refused 68 TripBroken {i}"),
-        ImageFault::TimeRange(i) => write!(f, "refused 69 TimeRange {i}"),
-        ImageFault::BadFlags(i) => write!(f, "refused 70 BadFlags {i}"),
-        ImageFault::FootRange(s) => write!(f, "refused 71 FootRange {s}"),
-        ImageFault::FootUnsorted(s) => write!(f, "refused 72 FootUnsorted {s}"),
-        ImageFault::NoLoop(s) => write!(f, "refused 73 NoLoop {s}"),
-        ImageFault::NotClosed(a, b, c) => write!(f, "refused 74 NotClosed {a} {b} {c}"),
-        ImageFault::BadNames(i) => write!(f, "refused 75 BadNames {i}"),
-        ImageFault::OutOfMemory => write!(f, "refused 76 OutOfMemory"),
+        ImageFault::BadMagic
+        | ImageFault::BadLayout
+        | ImageFault::BadLength
+        | ImageFault::OutOfMemory => Ok(()),
+        ImageFault::StopRange(i)
+        | ImageFault::TripRange(i)
+        | ImageFault::HopWithoutDuration(i)
+        | ImageFault::Unsorted(i)
+        | ImageFault::TripBroken(i)
+        | ImageFault::TimeRange(i)
+        | ImageFault::BadFlags(i)
+        | ImageFault::FootRange(i)
+        | ImageFault::FootUnsorted(i)
+        | ImageFault::NoLoop(i)
+        | ImageFault::BadNames(i) => write!(f, " {i}"),
+        ImageFault::NotClosed(a, b, c) => write!(f, " {a} {b} {c}"),
     }
+}
+
+fn write_table_fault<W: fmt::Write>(fault: TableFault, f: &mut fmt::Formatter<W>) -> fmt::Result {
+    let kind = fault.kind;
+    let file = fault.table.file_name();
+    write!(
+        f,
+        "refused {} {} {file} {}",
+        kind.number(),
+        kind.name(),
+        fault.row
+    )
 }
 
 fn write_query_fault<W: fmt::Write>(fault: QueryFault, f: &mut fmt::Formatter<W>) -> fmt::Result {

@@ -10,13 +10,13 @@ use std::test::Fail;
 
 /// What a command wrote, and its status.
 #[derive(Drop)]
-struct Outcome {
-    status: u8,
-    output: Vec<u8>,
-    errors: Vec<u8>,
+pub(crate) struct Outcome {
+    pub(crate) status: u8,
+    pub(crate) output: Vec<u8>,
+    pub(crate) errors: Vec<u8>,
 }
 
-fn outcome_of<R: Files + AllocGlobal>(rt: &R, words: &[&str], bytes: &[u8]) -> Outcome {
+pub(crate) fn outcome_of<R: Files + AllocGlobal>(rt: &R, words: &[&str], bytes: &[u8]) -> Outcome {
     let mut input: &[u8] = bytes;
     let mut output = Vec::new(rt.alloc());
     let mut errors = Vec::new(rt.alloc());
@@ -29,7 +29,7 @@ fn outcome_of<R: Files + AllocGlobal>(rt: &R, words: &[&str], bytes: &[u8]) -> O
 }
 
 /// The command prints this line alone, and ends with the status.
-fn expect_line<R: Files + AllocGlobal + Abort>(
+pub(crate) fn expect_line<R: Files + AllocGlobal + Abort>(
     rt: &R,
     words: &[&str],
     bytes: &[u8],
@@ -323,4 +323,62 @@ fn help_is_printed(rt: HostRuntime) {
         assert!(rt; !outcome.output.is_empty());
         assert!(rt; outcome.errors.is_empty());
     }
+}
+
+/// A profile query of the sample's stops from A to C, departing from 07:00:00, arriving by 10:00:00.
+fn profile_words<'a>(until: &'a str, criterion: &'a str) -> [&'a str; 15] {
+    [
+        "csa",
+        "profile",
+        "-",
+        "--from",
+        "A",
+        "--to",
+        "C",
+        "--after",
+        "07:00:00",
+        "--until",
+        until,
+        "--by",
+        "10:00:00",
+        "--criterion",
+        criterion,
+    ]
+}
+
+fn ask_profile<R: Files + AllocGlobal + Abort>(
+    rt: &R,
+    image: &[u32],
+    criterion: &str,
+    lines: &str,
+) -> Result<(), Fail> {
+    let bytes = Words::to_bytes(rt.alloc(), image)?;
+    expect_line(rt, &profile_words("09:00:00", criterion), &bytes, 0, lines);
+    Ok(())
+}
+
+#[test]
+fn best_departures_are_printed(rt: HostRuntime) -> Result<(), Fail> {
+    let sample = sample_words();
+    let one = "dep 08:00:00 arr 08:20:00\npoints 1 read 3 walk none\n";
+    ask_profile(&rt, &sample, "arrival", one)?;
+    let two =
+        "dep 08:00:00 arr 08:20:00 trips 2\ndep 08:00:00 arr 08:30:00 trips 1\npoints 2 read 3 walk none\n";
+    ask_profile(&rt, &sample, "arrival+trips", two)?;
+    let slow = "dep 08:00:00 arr 08:30:00\npoints 1 read 3 walk none\n";
+    ask_profile(&rt, &slow_change(), "arrival", slow)?;
+    let walked = "dep 08:00:00 arr 08:11:00\ndep 08:11:00 arr 08:20:00\npoints 2 read 3 walk 120\n";
+    ask_profile(&rt, &walks(120), "arrival", walked)
+}
+
+#[test]
+fn profile_queries_are_judged(rt: HostRuntime) -> Result<(), Fail> {
+    let bytes = Words::to_bytes(rt.alloc(), &sample_words())?;
+    let early = profile_words("06:00:00", "arrival");
+    expect_line(&rt, &early, &bytes, 2, "refused 33 BadWindow\n");
+    let until = profile_words("07:59:59", "arrival");
+    expect_line(&rt, &until, &bytes, 0, "points 0 read 3 walk none\n");
+    let walking = profile_words("09:00:00", "walking");
+    expect_message(&rt, &walking, &bytes, 64);
+    Ok(())
 }
