@@ -24,6 +24,18 @@ const CALENDAR: &[u8] =
 
 const DATES: &[u8] = b"service_id,date,exception_type\nS,20240115,1\n";
 
+// The tables in the order in which their files are read.
+const ORDER: [Table; 8] = [
+    Table::Agency,
+    Table::Stops,
+    Table::Trips,
+    Table::StopTimes,
+    Table::Calendar,
+    Table::CalendarDates,
+    Table::Transfers,
+    Table::Frequencies,
+];
+
 // The feed with both calendars.
 fn feed() -> [(&'static str, &'static [u8]); 6] {
     [
@@ -140,21 +152,11 @@ impl<'a> FeedFiles for Failing<'a> {
 
 #[test]
 fn a_read_that_fails_is_told(rt: HostRuntime) {
-    let order = [
-        (0, Table::Agency),
-        (1, Table::Stops),
-        (2, Table::Trips),
-        (3, Table::StopTimes),
-        (4, Table::Calendar),
-        (5, Table::CalendarDates),
-        (6, Table::Transfers),
-        (7, Table::Frequencies),
-    ];
     let feed = feed();
-    for (left, table) in order {
+    for (left, table) in ORDER.into_iter().enumerate() {
         let mut files = Failing {
             files: MemoryFiles { files: &feed },
-            left,
+            left: left as u64,
             failures: 0,
         };
         let answer = read_tables(rt.alloc(), &mut files);
@@ -212,6 +214,12 @@ fn a_folder_is_read_whole(rt: HostRuntime) -> Result<(), Fail> {
     assert_eq!(rt; tables.calendar_dates.len(), 9000);
     assert_eq!(rt; tables.transfers.len(), 2);
     assert_eq!(rt; tables.frequencies.len(), 1);
+    for table in ORDER {
+        let name = table.file_name();
+        let path = format!(in rt.alloc(); "whole_feed/{name}")?;
+        fs::remove_file(&rt, path.as_str())?;
+    }
+    fs::remove_dir(&rt, "whole_feed")?;
     Ok(())
 }
 
