@@ -1,5 +1,5 @@
 -- Which queries can be asked of a timetable, and what is wrong with the others.
-use Rattle.std.specs.Prelude.{◌≡◌, ◌≢◌, ℕ, ◌<◌, ◌≤◌, ◌⊎◌}
+use Rattle.std.specs.Prelude.{◌≡◌, ◌≢◌, ℕ, ◌<◌, ◌≤◌, ◌⊎◌, List, codes}
 use Rattle.timetable.specs.declared.limits.TheConstants.{TIME_END}
 use Rattle.timetable.specs.declared.query.Query.{Query}
 use Rattle.timetable.specs.declared.query.QueryFault.{QueryFault}
@@ -23,3 +23,14 @@ abbrev pub IsFirstFault : ℕ → Query → QueryFault → Type 0
 IsFirstFault stops q UnknownStop = (stops ≤ q.source) ⊎ (stops ≤ q.target)
 IsFirstFault stops q SameStop = (q.source < stops) × (q.target < stops) × (q.source ≡ q.target)
 IsFirstFault stops q BadWindow = (q.source < stops) × (q.target < stops) × (q.source ≢ q.target) × HasBadWindow q
+
+-- the numbers and names by which faults are told
+abbrev pub fault_number : QueryFault → ℕ
+fault_number UnknownStop = 31
+fault_number SameStop = 32
+fault_number BadWindow = 33
+
+abbrev pub fault_name : QueryFault → List ℕ
+fault_name UnknownStop = codes "UnknownStop"
+fault_name SameStop = codes "SameStop"
+fault_name BadWindow = codes "BadWindow"

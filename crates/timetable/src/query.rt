@@ -28,6 +28,33 @@ pub enum QueryFault {
     BadWindow,
 }
 
+impl QueryFault {
+    ghost use Rattle.std.specs.Prelude.{◌≡◌};
+    ghost use Rattle.timetable.specs.Queries.{fault_number, fault_name};
+
+    /// The number by which the fault is told, from 31 to 33.
+    pub fn number(self) -> u8
+        ensures { result ≡ fault_number self }
+    {
+        match self {
+            QueryFault::UnknownStop => 31,
+            QueryFault::SameStop => 32,
+            QueryFault::BadWindow => 33,
+        }
+    }
+
+    /// The name by which the fault is told, as `UnknownStop`.
+    pub fn name(self) -> &'static str
+        ensures { result.now ≡ fault_name self }
+    {
+        match self {
+            QueryFault::UnknownStop => "UnknownStop",
+            QueryFault::SameStop => "SameStop",
+            QueryFault::BadWindow => "BadWindow",
+        }
+    }
+}
+
 impl Query {
     ghost use Rattle.std.specs.Prelude.{◌↔◌, IsOk, IfErr};
     ghost use Rattle.timetable.specs.Queries.{IsAskable, IsFirstFault};

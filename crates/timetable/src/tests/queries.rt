@@ -89,3 +89,15 @@ fn queries_are_checked(rt: HostRuntime) {
         assert_eq!(rt; asked.check(3), answer);
     }
 }
+
+#[test]
+fn faults_have_numbers_and_names(rt: HostRuntime) {
+    for (fault, number, name) in [
+        (QueryFault::UnknownStop, 31, "UnknownStop"),
+        (QueryFault::SameStop, 32, "SameStop"),
+        (QueryFault::BadWindow, 33, "BadWindow"),
+    ] {
+        assert_eq!(rt; fault.number(), number);
+        assert_eq!(rt; fault.name(), name);
+    }
+}
