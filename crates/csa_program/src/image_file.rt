@@ -1,6 +1,6 @@
 //! The words of an image, from a file or a reader.
 
-ghost use Rattle.std.specs.Prelude.{◌≡◌, ◌≢◌, ◌<◌, ◌≤◌, ◌%◌, ◌*◌, ◌^◌, length, take, ◌++◌, IfOk, OnOk, IfSome};
+ghost use Rattle.std.specs.Prelude.{◌≡◌, ◌≢◌, ◌<◌, ◌≤◌, ◌%◌, ◌*◌, ◌^◌, length, take, codes, ◌++◌, IfOk, OnOk, IfSome};
 ghost use Rattle.std.specs.Io.KnownBytes.{Consumes, IsAtEnd};
 ghost use Rattle.image_layout.specs.Text.{bytes_of};
 
@@ -12,7 +12,7 @@ use std::{fs, io};
 
 /// Why there are no words.
 #[derive(Debug, Drop)]
-pub enum WordsFault {
+pub enum ImageFileFault {
     /// The bytes aren't whole words.
     OddLength,
     /// They couldn't be read.
@@ -20,27 +20,27 @@ pub enum WordsFault {
     OutOfMemory,
 }
 
-impl From<AllocError> for WordsFault {
+impl From<AllocError> for ImageFileFault {
     ghost use Rattle.std.specs.Prelude.{◌≡◌};
-    ghost use Rattle.csa_program.specs.declared.image_file.WordsFault.TheVariants.{OutOfMemory};
+    ghost use Rattle.csa_program.specs.declared.image_file.ImageFileFault.TheVariants.{OutOfMemory};
 
     ghost from_gives = { λ _ fault. fault ≡ OutOfMemory };
 
-    fn from(_error: AllocError) -> WordsFault {
-        WordsFault::OutOfMemory
+    fn from(_error: AllocError) -> ImageFileFault {
+        ImageFileFault::OutOfMemory
     }
 }
 
-impl From<io::Error> for WordsFault {
+impl From<io::Error> for ImageFileFault {
     ghost use Rattle.std.specs.Prelude.{◌≢◌};
-    ghost use Rattle.csa_program.specs.declared.image_file.WordsFault.TheVariants.{OddLength};
+    ghost use Rattle.csa_program.specs.declared.image_file.ImageFileFault.TheVariants.{OddLength};
 
     ghost from_gives = { λ _ fault. fault ≢ OddLength };
 
-    fn from(error: io::Error) -> WordsFault {
+    fn from(error: io::Error) -> ImageFileFault {
         match error.kind() {
-            io::ErrorKind::OutOfMemory => WordsFault::OutOfMemory,
-            _ => WordsFault::Unreadable,
+            io::ErrorKind::OutOfMemory => ImageFileFault::OutOfMemory,
+            _ => ImageFileFault::Unreadable,
         }
     }
 }
@@ -53,7 +53,10 @@ pub fn image_words<H: Files + AllocGlobal, I: Read>(
     rt: &H,
     path: &str,
     input: &mut I,
-) -> Result<Vec<u32>, WordsFault> {
+) -> Result<Vec<u32>, ImageFileFault>
+    ensures spelled { IfOk result (λ words. path.now ≡ codes "-" → IfSome (I.remaining input.old) (λ bytes. bytes_of words.items ≡ bytes)) }
+    ensures odd { result ≡ Err ImageFileFault.OddLength → path.now ≡ codes "-" → IfSome (I.remaining input.old) (λ bytes. length bytes % 4 ≢ 0) }
+{
     let mut piece = new_piece(rt.alloc(), PIECE_WORDS)?;
     if path == "-" {
         return words_of(rt.alloc(), input, &mut piece, 0);
@@ -108,23 +111,23 @@ fn words_of<R: Read>(
     reader: &mut R,
     piece: &mut [u8],
     ahead: usize,
-) -> Result<Vec<u32>, WordsFault>
+) -> Result<Vec<u32>, ImageFileFault>
     requires { length piece.old % 4 ≡ 0 }
     ensures spelled { IfOk result (λ words. IfSome (R.remaining reader.old) (λ bytes. bytes_of words.items ≡ bytes)) }
-    ensures odd { result ≡ Err WordsFault.OddLength → IfSome (R.remaining reader.old) (λ bytes. length bytes % 4 ≢ 0) }
+    ensures odd { result ≡ Err ImageFileFault.OddLength → IfSome (R.remaining reader.old) (λ bytes. length bytes % 4 ≢ 0) }
 {
     let mut words = Vec::with_capacity(alloc, ahead)?;
     'pieces: for _ in 0..u64::MAX {
         let count = fill(reader, piece)?;
         if count % 4 != 0 {
-            return Err(WordsFault::OddLength);
+            return Err(ImageFileFault::OddLength);
         }
         append_words(&mut words, &piece[..count])?;
         if count < piece.len() {
             return Ok(words);
         }
     }
-    Err(WordsFault::Unreadable)
+    Err(ImageFileFault::Unreadable)
 }
 
 /// Room for so many words, as bytes.

@@ -1,6 +1,9 @@
 //! What every command over an image begins with.
 
-use crate::image_file::{WordsFault, image_words};
+ghost use Rattle.std.specs.Prelude.{◌≡◌, codes, IfOk, IfSome};
+ghost use Rattle.csa_program.specs.Opening.{SpellsImage};
+
+use crate::image_file::{ImageFileFault, image_words};
 use crate::refusal::Refusal;
 use crate::status;
 use image_verifier::{ImageFault, Verified, verify};
@@ -14,14 +17,16 @@ pub fn open_image<H: Files + AllocGlobal, I: Read, O: Write, E: Write>(
     input: &mut I,
     output: &mut O,
     errors: &mut E,
-) -> Result<Verified, u8> {
+) -> Result<Verified, u8>
+    ensures { IfOk result (λ image. path.now ≡ codes "-" → IfSome (I.remaining input.old) (SpellsImage image.timetable image.names)) }
+{
     let words = match image_words(rt, path, input) {
         Ok(words) => words,
-        Err(WordsFault::OddLength) => {
+        Err(ImageFileFault::OddLength) => {
             return Err(status::refused(rt.alloc(), output, &Refusal::OddLength));
         }
-        Err(WordsFault::Unreadable) => return Err(status::unreadable(rt.alloc(), errors, path)),
-        Err(WordsFault::OutOfMemory) => return Err(status::OUT_OF_MEMORY),
+        Err(ImageFileFault::Unreadable) => return Err(status::unreadable(rt.alloc(), errors, path)),
+        Err(ImageFileFault::OutOfMemory) => return Err(status::OUT_OF_MEMORY),
     };
     match verify(rt.alloc(), words) {
         Ok(image) => Ok(image),

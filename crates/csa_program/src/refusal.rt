@@ -1,6 +1,7 @@
 //! Refusals as they are printed: a number, a name and the places, each after a space.
 
 use gtfs_tables::{Table, TableFault};
+use image_layout::WordsFault;
 use image_verifier::ImageFault;
 use journeys::JourneyFault;
 use std::fmt;
@@ -24,11 +25,11 @@ pub enum Refusal {
 impl fmt::Display for Refusal {
     fn fmt<W: fmt::Write>(&self, f: &mut fmt::Formatter<W>) -> fmt::Result {
         match self {
-            Refusal::OddLength => write!(f, "refused 51 OddLength"),
+            Refusal::OddLength => write_fault(WordsFault::OddLength.number(), WordsFault::OddLength.name(), f),
             Refusal::Image(fault) => write_image_fault(*fault, f),
             Refusal::Table(fault) => write_table_fault(*fault, f),
             Refusal::FileFailed(table) => write!(f, "refused 101 FileFailed {}", table.file_name()),
-            Refusal::Query(fault) => write_query_fault(*fault, f),
+            Refusal::Query(fault) => write_fault(fault.number(), fault.name(), f),
             Refusal::BadText => write!(f, "refused 80 BadText"),
             Refusal::Journey(fault) => write_journey_fault(*fault, f),
         }
@@ -69,12 +70,9 @@ fn write_table_fault<W: fmt::Write>(fault: TableFault, f: &mut fmt::Formatter<W>
     )
 }
 
-fn write_query_fault<W: fmt::Write>(fault: QueryFault, f: &mut fmt::Formatter<W>) -> fmt::Result {
-    match fault {
-        QueryFault::UnknownStop => write!(f, "refused 31 UnknownStop"),
-        QueryFault::SameStop => write!(f, "refused 32 SameStop"),
-        QueryFault::BadWindow => write!(f, "refused 33 BadWindow"),
-    }
+// A refusal without places.
+fn write_fault<W: fmt::Write>(number: u8, name: &str, f: &mut fmt::Formatter<W>) -> fmt::Result {
+    write!(f, "refused {number} {name}")
 }
 
 fn write_journey_fault<W: fmt::Write>(
