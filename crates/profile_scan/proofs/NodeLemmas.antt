@@ -1,7 +1,8 @@
 -- Nodes keep what they spell while further ones come.
-use Rattle.std.proofs.Common.{◌≡◌, ◌⊎◌, ℕ, ◌+◌, ◌<◌, List, [], ◌∷◌, ◌++◌, length, Some, None, refl, sym, ◌∙◌, ap, inl, inr, arith, append_assoc, append-nil, length-append}
+use Rattle.std.proofs.Common.{◌≡◌, ◌⊎◌, ℕ, zero, suc, ◌+◌, ◌<◌, ◌≤◌, take, drop, slice_get, List, [], ◌∷◌, ◌++◌, length, Some, None, refl, sym, ◌∙◌, ap, inl, inr, arith, append_assoc, append-nil, length-append}
 use Rattle.std.proofs.lemmas.Bool.{cases_lt}
-use Rattle.std.proofs.lemmas.List.{get_or_append_left, get_or_past}
+use Rattle.std.proofs.lemmas.List.{get_or_append_left, get_or_past, length-take-le}
+use Rattle.std.proofs.lemmas.Option.{slice_get_within, same_Some}
 use Rattle.std.proofs.Math.Seq.{get_or-append_seam}
 use Rattle.profile_scan.specs.Continuations.{Onward, Aboard}
 use Rattle.profile_scan.specs.Matching.{Spelling, Keeps, from_to}
@@ -43,16 +44,27 @@ one_more : (done : List Spelled) (node : Node) → spelled_on done (node ∷ [])
 unfolding spelled_on
 one_more done node = refl
 
--- what is spelled stays spelled while further nodes come: a number past the last node spells nothing
-number_spells : (nodes all : List Node) → Extends nodes all → (k : ℕ) → (spelled nodes k ≡ nothing) ⊎ (spelled all k ≡ spelled nodes k)
-number_spells nodes all ext k =
+-- what the nodes of a beginning spell, all spell alike; past its end it spells nothing
+pub spelled_alike : (nodes all : List Node) → Extends nodes all → (k : ℕ) → k < length nodes → spelled all k ≡ spelled nodes k
+spelled_alike nodes all ext k lt =
     let done = spelled_on [] nodes in
+    let long : length done ≡ length nodes = spelled_on-long [] nodes ∙ (omega arith) in
     let whole : spelled_on [] all ≡ spelled_on done ext.0 = ap (spelled_on []) ext.1 ∙ spelled_on-append [] nodes ext.0 in
-    elim (cases_lt k (length done)) [
-      | inl lt ↦ inr (ap (λ xs. at_number xs k) whole ∙ spelled_on-stays done ext.0 k lt)
-      | inr ge ↦ inl (get_or_past done k nothing ge)
-    ]
+    ap (λ xs. at_number xs k) whole ∙ spelled_on-stays done ext.0 k (omega arith)
 
+pub spelled_past : (nodes : List Node) (k : ℕ) → length nodes ≤ k → spelled nodes k ≡ nothing
+spelled_past nodes k ge =
+    let done = spelled_on [] nodes in
+    let long : length done ≡ length nodes = spelled_on-long [] nodes ∙ (omega arith) in
+    get_or_past done k nothing (omega arith)
+
+number_spells : (nodes all : List Node) → Extends nodes all → (k : ℕ) → (spelled nodes k ≡ nothing) ⊎ (spelled all k ≡ spelled nodes k)
+number_spells nodes all ext k = elim (cases_lt k (length nodes)) [
+  | inl lt ↦ inr (spelled_alike nodes all ext k lt)
+  | inr ge ↦ inl (spelled_past nodes k ge)
+]
+
+-- so what is spelled stays spelled while further nodes come
 pub extends_keeps : (nodes all : List Node) → Extends nodes all → Keeps (spelling nodes) (spelling all)
 extends_keeps nodes all ext = record {
   onward = λ k x e. elim (number_spells nodes all ext k) [
@@ -98,3 +110,30 @@ pub comes_next : (before nodes now all : List Node) (node : Node) → now ≡ no
 comes_next before nodes now all node e ext_before ext =
     let keeps = extends_keeps before nodes ext_before in
     node_says (spelling before) (spelling all) (spelled nodes) node (spelled all (length nodes)) (length nodes) keeps.onward keeps.aboard (next_spells nodes now all node e ext) refl refl refl
+
+-- the node of a number, and what the ones before it spell
+pub record IsSpelledAt (nodes : List Node) (k : ℕ) (node : Node) (earlier : ℕ → Spelled) : Type 0 where
+  pub is : spelled nodes k ≡ spells earlier node
+  pub before : (n : ℕ) → n < k → earlier n ≡ spelled nodes n
+  pub none : (n : ℕ) → k ≤ n → earlier n ≡ nothing
+
+split_at : {X : Type 0} (xs : List X) (k : ℕ) (x : X) → slice_get xs k ≡ Some x → xs ≡ take k xs ++ x ∷ drop (suc k) xs
+split_at [] k x at = absurd cc
+split_at (y ∷ ys) zero x at = ap (λ z. z ∷ ys) (same_Some y x at)
+split_at (y ∷ ys) (suc k) x at = ap (λ zs. y ∷ zs) (split_at ys k x at)
+
+pub spelled_at : (nodes : List Node) (k : ℕ) (node : Node) → slice_get nodes k ≡ Some node → (earlier : ℕ → Spelled) × IsSpelledAt nodes k node earlier
+spelled_at nodes k node at =
+    let front = take k nodes in
+    let parts : nodes ≡ front ++ node ∷ drop (suc k) nodes = split_at nodes k node at in
+    let within = slice_get_within nodes k node at in
+    let long : length front ≡ k = length-take-le k nodes (omega arith) in
+    let one : Extends (front ++ node ∷ []) nodes = (drop (suc k) nodes, parts ∙ sym (append_assoc front (node ∷ []) (drop (suc k) nodes))) in
+    let all : Extends front nodes = (node ∷ drop (suc k) nodes, parts) in (
+      spelled front,
+      record {
+        is = ap (spelled nodes) (sym long) ∙ next_spells front (front ++ node ∷ []) nodes node refl one;
+        before = λ n lt. sym (spelled_alike front nodes all n (omega arith));
+        none = λ n ge. spelled_past front n (omega arith);
+      },
+    )

@@ -46,8 +46,7 @@ returns-clause-takes g c =
     let new = points_of c.alight.new.labels in
     let to_in = (legal.stops_in_range c.args.place (connection_at t c.args.place) (connection_at-stands t c.args.place c.requires.place)).1 in
     let within : c.args.connection.now.to < length c.args.stops.now.items = subst (λ (n : ℕ). c.args.connection.now.to < n) (sym c.requires.len ∙ c.args.stops.now.ok.0) (subst (λ (x : Connection). x.to < t.stops) (sym c.requires.connection) to_in) in
-    let bag_is : points_of c.index-bag.result.now ≡ points_at stops (connection_at t c.args.place).to = ap points_of c.index-bag.ensures ∙ sym (points_at-read stops cn.to c.index-bag.result.now within) ∙ ap (λ (x : Connection). points_at stops x.to) c.requires.connection in
-    (
+    let bag_is : points_of c.index-bag.result.now ≡ points_at stops (connection_at t c.args.place).to = ap points_of c.index-bag.ensures ∙ sym (points_at-read stops cn.to c.index-bag.result.now within) ∙ ap (λ (x : Connection). points_at stops x.to) c.requires.connection in (
       c.alight.new.nodes.items,
       c.in_ok-alight.ensures.nodes,
       c.in_ok-board.ensures.nodes,
