@@ -7,3 +7,4 @@ pub mod ReadLemmas
 pub mod RideLemmas
 pub mod TextLemmas
 pub mod WalkLemmas
+pub mod SpellLemmas

@@ -1,5 +1,5 @@
 ghost use Rattle.std.specs.Prelude.{◌≡◌};
-ghost use Rattle.journeys.specs.Numbers.{number_of};
+ghost use Rattle.journeys.specs.Numbers.{name_of, number_of};
 
 /// Why a journey doesn't count for a query, with the number of the leg or walk.
 ///
@@ -27,9 +27,9 @@ pub enum JourneyFault {
 }
 
 impl JourneyFault {
-    /// The number by which a refusal is told.
-    pub fn number(&self) -> u8
-        ensures { result ≡ number_of self.now }
+    /// The number by which the fault is told, from 81 to 89.
+    pub fn number(self) -> u8
+        ensures { result ≡ number_of self }
     {
         match self {
             JourneyFault::LegRange(_) => 81,
@@ -41,6 +41,23 @@ impl JourneyFault {
             JourneyFault::WrongEnds => 87,
             JourneyFault::OutsideWindow => 88,
             JourneyFault::NoFootpath(_) => 89,
+        }
+    }
+
+    /// The name by which the fault is told, as `LegRange`.
+    pub fn name(self) -> &'static str
+        ensures { result.now ≡ name_of self }
+    {
+        match self {
+            JourneyFault::LegRange(_) => "LegRange",
+            JourneyFault::TwoTrips(_) => "TwoTrips",
+            JourneyFault::NoBoarding(_) => "NoBoarding",
+            JourneyFault::NoAlighting(_) => "NoAlighting",
+            JourneyFault::WalkBroken(_) => "WalkBroken",
+            JourneyFault::TooEarly(_) => "TooEarly",
+            JourneyFault::WrongEnds => "WrongEnds",
+            JourneyFault::OutsideWindow => "OutsideWindow",
+            JourneyFault::NoFootpath(_) => "NoFootpath",
         }
     }
 }

@@ -1,8 +1,9 @@
-//! Journeys as texts, and whether a journey holds in an image and counts for a query.
+//! Journeys as texts, whether a journey holds in an image and counts for a query, and the journeys of an answer.
 #![tactic(auto)]
 
 mod counts;
 mod ends;
+mod extraction;
 mod fault;
 mod footpaths;
 mod legs;
@@ -12,9 +13,12 @@ mod text_fault;
 mod walks;
 
 pub use counts::{check, faultless_counts};
+pub use extraction::extract;
 pub use fault::JourneyFault;
 pub use text::{journey_parse, journey_text, one_text};
 pub use text_fault::TextFault;
 
+#[cfg(test)]
+mod extraction_tests;
 #[cfg(test)]
 mod tests;

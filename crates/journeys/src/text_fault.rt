@@ -1,4 +1,5 @@
 ghost use Rattle.std.specs.Prelude.{◌≡◌};
+ghost use Rattle.journeys.specs.Numbers.{text_name, text_number};
 ghost use Rattle.journeys.specs.declared.text_fault.TextFault.TheVariants.{OutOfMemory};
 
 use std::alloc::{AllocError, AllocFailed};
@@ -9,6 +10,28 @@ pub enum TextFault {
     /// It is no journey's text.
     BadText,
     OutOfMemory,
+}
+
+impl TextFault {
+    /// The number by which the fault is told, 80; want of memory has none.
+    pub fn number(self) -> Option<u8>
+        ensures { result ≡ text_number self }
+    {
+        match self {
+            TextFault::BadText => Some(80),
+            TextFault::OutOfMemory => None,
+        }
+    }
+
+    /// The name by which the fault is told, as `BadText`.
+    pub fn name(self) -> &'static str
+        ensures { result.now ≡ text_name self }
+    {
+        match self {
+            TextFault::BadText => "BadText",
+            TextFault::OutOfMemory => "OutOfMemory",
+        }
+    }
 }
 
 impl From<AllocError> for TextFault {

@@ -44,8 +44,8 @@ module _ {V : Type 0} (rules : Rules V) (laws : Laws rules) (t : TimetableValue)
   point_admits departure v p = subst (Admits rules) (sym p.2) (journey_admits departure p.0 p.1)
 
 -- points that are attained by admitted ways are admitted
-pub attained_admits : {V X : Type 0} (rules : Rules V) (spelled : ℕ → Option X) (IsThere : ℕ → X → Type 0) (value : X → V) → ((departure : ℕ) (x : X) → IsThere departure x → Admits rules (value x)) → (points : List (Point V)) → ((p : Point V) → Contains points p → IsAttained spelled IsThere value p) → AreAdmitted rules points
-attained_admits rules spelled IsThere value admits points sound p is =
+pub attained_admits : {V X : Type 0} (rules : Rules V) (spelled : ℕ → Option X) (IsThere : ℕ → X → Type 0) (IsPlainWay : X → Type 0) (value : X → V) → ((departure : ℕ) (x : X) → IsThere departure x → Admits rules (value x)) → (points : List (Point V)) → ((p : Point V) → Contains points p → IsAttained spelled IsThere IsPlainWay value p) → AreAdmitted rules points
+attained_admits rules spelled IsThere IsPlainWay value admits points sound p is =
     let a = sound p is in
     subst (Admits rules) (sym a.worth) (admits p.departure a.way a.there)
 

@@ -12,6 +12,7 @@ use Rattle.profile_scan.specs.Values.{journey_value}
 use Rattle.profile_scan.specs.Points.{IsPoint, IsUndominated, Lists, Covers, Before, IsAnswer, untagged}
 use Rattle.sources.specs.FirstAt.{IsFirstAt}
 use Rattle.profile_scan.specs.Continuations.{CountsFrom}
+use Rattle.profile_scan.specs.Plain.{IsPlain}
 use Rattle.profile_scan.specs.Matching.{Spelling, Matches}
 use Rattle.profile_scan.specs.LawStatements.{CanScan, MatchIsTheAnswer, OneAnswer}
 use Rattle.profile_scan.proofs.Admitted.{AreAdmitted, point_admits}
@@ -29,7 +30,7 @@ only_itself rules points apart p q in_p in_q d =
     ]
 
 module _ {V : Type 0} (rules : Rules V) (laws : Laws rules) (t : TimetableValue) (q : Query) (can : CanScan t q) where
-  module _ (start : ℕ) (is_start : IsFirstAt t q.from start) (tags : Spelling) (found : List (Point V)) (matches : Matches rules tags.journey (CountsFrom t q start) (journey_value rules t) found) (bag : IsBag rules found) where
+  module _ (start : ℕ) (is_start : IsFirstAt t q.from start) (tags : Spelling) (found : List (Point V)) (matches : Matches rules tags.journey (CountsFrom t q start) (IsPlain t q.target) (journey_value rules t) found) (bag : IsBag rules found) where
     -- each point found is one of the query
     found_is_point : (p : Point V) → Contains found p → IsPoint rules t q p.departure p.value
     found_is_point p is = let a = matches.sound p is in (a.way, a.there.counts, a.worth)

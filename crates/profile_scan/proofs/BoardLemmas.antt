@@ -14,7 +14,7 @@ use Rattle.timetable.specs.Journeys.{connection_at, IsStart, start_end, start_se
 use Rattle.timetable.proofs.LegalFacts.{Contains-At, At-Contains}
 use Rattle.profile_scan.specs.Values.{started}
 use Rattle.profile_scan.specs.Points.{Covers}
-use Rattle.profile_scan.specs.Matching.{Spelling}
+use Rattle.profile_scan.specs.Matching.{Spellings}
 use Rattle.profile_scan.specs.Steps.{Offer, TakesIn, boardings, settings_out, MayBoard, MaySetOut}
 use Rattle.profile_scan.specs.Adding.{each_of, StandsBetween, IsTried, StartsFrom, MayStart, boardings_by, settings_out_by}
 use Rattle.profile_scan.proofs.Admitted.{AreAdmitted}
@@ -47,7 +47,7 @@ module _ {V : Type 0} (rules : Rules V) (laws : Laws rules) (t : TimetableValue)
   walk_secs_allowed : (begin end : ℕ) (walk : Footpath) → StandsBetween t.footpaths begin end walk → IsSecs walk.secs
   walk_secs_allowed begin end walk s = limits.walks s.0 walk s.3
 
-  boarding_admits : (tags : Spelling) (i : ℕ) (c : Connection) (stop begin end : ℕ) (walk : Footpath) (label : Point V) → StandsBetween t.footpaths begin end walk → (boardings_by rules tags i c stop labels walk).is_open label → Admits rules ((boardings_by rules tags i c stop labels walk).value label)
+  boarding_admits : (tags : Spellings) (i : ℕ) (c : Connection) (stop begin end : ℕ) (walk : Footpath) (label : Point V) → StandsBetween t.footpaths begin end walk → (boardings_by rules tags i c stop labels walk).is_open label → Admits rules ((boardings_by rules tags i c stop labels walk).value label)
   boarding_admits tags i c stop begin end walk label s opened = laws.walk_admits walk.secs (rules.ride label.value) (walk_secs_allowed begin end walk s) (laws.ride_admits label.value (admitted label opened.1))
 
   start_secs_allowed : (begin end : ℕ) (start : Option Footpath) (v : V) → IsTried t.footpaths begin end start → Admits rules v → Admits rules (started rules start v)
@@ -65,7 +65,7 @@ module _ {V : Type 0} (rules : Rules V) (laws : Laws rules) (t : TimetableValue)
       (takes_none rules (each_of (λ _. ⊥) offer) old (λ way opened. opened.0)) takes
 
   -- one footpath more
-  pub walks_next : (tags : Spelling) (i : ℕ) (c : Connection) (stop begin place : ℕ) (x : Footpath) (old mid new : List (Point V)) → begin ≤ place → At t.footpaths place x
+  pub walks_next : (tags : Spellings) (i : ℕ) (c : Connection) (stop begin place : ℕ) (x : Footpath) (old mid new : List (Point V)) → begin ≤ place → At t.footpaths place x
       → TakesIn rules (each_of (StandsBetween t.footpaths begin place) (boardings_by rules tags i c stop labels)) old mid → TakesIn rules (boardings_by rules tags i c stop labels x) mid new
       → TakesIn rules (each_of (StandsBetween t.footpaths begin (place + 1)) (boardings_by rules tags i c stop labels)) old new
   walks_next tags i c stop begin place x old mid new low at before here =
@@ -73,7 +73,7 @@ module _ {V : Type 0} (rules : Rules V) (laws : Laws rules) (t : TimetableValue)
       (between_more t.footpaths begin place) (place, low, omega arith, at) (λ y. between_split t.footpaths begin place x y at)
       (boarding_admits tags i c stop begin place) before here
 
-  pub starts_next : (tags : Spelling) (i : ℕ) (c : Connection) (q : Query) (begin place : ℕ) (x : Footpath) (old mid new : List (Point V)) → begin ≤ place → At t.footpaths place x
+  pub starts_next : (tags : Spellings) (i : ℕ) (c : Connection) (q : Query) (begin place : ℕ) (x : Footpath) (old mid new : List (Point V)) → begin ≤ place → At t.footpaths place x
       → TakesIn rules (each_of (IsTried t.footpaths begin place) (settings_out_by rules tags i c q labels)) old mid → TakesIn rules (settings_out_by rules tags i c q labels (Some x)) mid new
       → TakesIn rules (each_of (IsTried t.footpaths begin (place + 1)) (settings_out_by rules tags i c q labels)) old new
   starts_next tags i c q begin place x old mid new low at before here =
@@ -95,7 +95,7 @@ starts_from t q c None is leads = sym leads
 starts_from t q c (Some f) is leads = (is.1, is.2)
 
 -- all footpaths into the connection's start
-module _ {V : Type 0} (rules : Rules V) (t : TimetableValue) (tags : Spelling) (i : ℕ) (c : Connection) (is : c ≡ connection_at t i) (boards : c.board ≡ true) (begin end : ℕ) (into : (k : ℕ) (f : Footpath) → At t.footpaths k f → (f.to ≡ c.from) ↔ ((begin ≤ k) × (k < end))) (labels : List (Point V)) where
+module _ {V : Type 0} (rules : Rules V) (t : TimetableValue) (tags : Spellings) (i : ℕ) (c : Connection) (is : c ≡ connection_at t i) (boards : c.board ≡ true) (begin end : ℕ) (into : (k : ℕ) (f : Footpath) → At t.footpaths k f → (f.to ≡ c.from) ↔ ((begin ≤ k) × (k < end))) (labels : List (Point V)) where
   between : (f : Footpath) → Contains t.footpaths f → f.to ≡ (connection_at t i).from → StandsBetween t.footpaths begin end f
   between f in_f to =
       let at = At-Contains t.footpaths f in_f in

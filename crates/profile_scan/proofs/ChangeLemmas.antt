@@ -8,14 +8,13 @@ use Rattle.criteria.specs.Laws.{Rules, Laws}
 use Rattle.bags.specs.Best.{is_bettered_by, best_places, IsBestPlace, SomeNoWorse}
 use Rattle.bags.specs.declared.point.Point.{Point}
 use Rattle.timetable.proofs.LegalFacts.{Contains-At}
+use Rattle.profile_scan.specs.Matching.{Spellings}
 use Rattle.profile_scan.specs.Steps.{TakesIn}
-use Rattle.profile_scan.specs.Nodes.{IsSpelled, spelling}
+use Rattle.profile_scan.specs.Nodes.{IsSpelled}
 use Rattle.profile_scan.specs.Adding.{one_way, each_of, StandsAtOne, changes_from}
-use Rattle.profile_scan.specs.declared.nodes.Node.{Node}
 use Rattle.profile_scan.specs.declared.nodes.Node.TheVariants.{Changes}
 use Rattle.profile_scan.proofs.Admitted.{AreAdmitted}
 use Rattle.profile_scan.proofs.Offers.{takes_none, takes_more, takes_as}
-use Rattle.profile_scan.proofs.NodeLemmas.{changes_fit}
 
 -- a place that is told is among those to be told
 pub told_is_in : (all : List ℕ) (n place : ℕ) → (n < length all) × (place ≡ get_or all n place) → Contains all place
@@ -53,13 +52,13 @@ module _ {V : Type 0} (rules : Rules V) (points : List (Point V)) where
   change_none fits old = takes_none rules (each_of (StandsAtOne points []) (λ (p : Point V). one_way 0 p.value (fits p))) old (λ way opened. absurd (omega (arith, opened.0.1.1)))
 
   -- all best places
-  pub changes_taken : (laws : Laws rules) (all : List Node) (last time : ℕ) (best : List ℕ) (old new : List (Point V)) → AreAdmitted rules points → AreAdmitted rules new
+  pub changes_taken : (laws : Laws rules) (tags : Spellings) (last time : ℕ) (best : List ℕ) (old new : List (Point V)) → AreAdmitted rules points → AreAdmitted rules new
       → ((place : ℕ) → Contains best place → IsBestPlace rules points time place)
       → ((p : Point V) → Contains points p → time ≤ p.departure → SomeNoWorse rules points best p.value)
-      → TakesIn rules (each_of (StandsAtOne points best) (λ (p : Point V). one_way 0 p.value (IsSpelled all (Changes last p.tag)))) old new
-      → TakesIn rules (changes_from (spelling all) last time points) old new
-  changes_taken laws all last time best old new admitted new_admitted are_best covers takes =
-      takes_as rules (each_of (StandsAtOne points best) (λ (p : Point V). one_way 0 p.value (IsSpelled all (Changes last p.tag)))) (changes_from (spelling all) last time points) old new
+      → TakesIn rules (each_of (StandsAtOne points best) (λ (p : Point V). one_way 0 p.value (IsSpelled tags (Changes last p.tag)))) old new
+      → TakesIn rules (changes_from tags last time points) old new
+  changes_taken laws tags last time best old new admitted new_admitted are_best covers takes =
+      takes_as rules (each_of (StandsAtOne points best) (λ (p : Point V). one_way 0 p.value (IsSpelled tags (Changes last p.tag)))) (changes_from tags last time points) old new
       (λ way opened.
       let p = way.0 in
       let s = opened.0 in
@@ -68,7 +67,7 @@ module _ {V : Type 0} (rules : Rules V) (points : List (Point V)) where
         is_open = (Contains-At points s.0 p s.2, late_enough rules points time s.0 p s.2 (are_best s.0 s.1));
         departs = refl;
         worth = refl;
-        fits = λ tag. changes_fit all last p.tag tag;
+        fits = λ tag h. h;
       })
       (λ p opened.
       let s = covers p opened.0 opened.1 in
@@ -78,13 +77,13 @@ module _ {V : Type 0} (rules : Rules V) (points : List (Point V)) where
       takes
 
 -- all best places, under an equal criterion
-pub changes_under : {K V : Type 0} (rules : K → Rules V) (a b : K) → a ≡ b → (points : List (Point V)) → Laws (rules b) → (all : List Node) (last time : ℕ) (places : List ℕ) (old new : List (Point V)) → AreAdmitted (rules b) points → AreAdmitted (rules b) new → places ≡ best_places (rules a) points time
+pub changes_under : {K V : Type 0} (rules : K → Rules V) (a b : K) → a ≡ b → (points : List (Point V)) → Laws (rules b) → (tags : Spellings) (last time : ℕ) (places : List ℕ) (old new : List (Point V)) → AreAdmitted (rules b) points → AreAdmitted (rules b) new → places ≡ best_places (rules a) points time
     → ((place : ℕ) → Contains (best_places (rules a) points time) place → IsBestPlace (rules a) points time place)
     → ((p : Point V) → Contains points p → time ≤ p.departure → SomeNoWorse (rules a) points (best_places (rules a) points time) p.value)
-    → TakesIn (rules b) (each_of (StandsAtOne points places) (λ (p : Point V). one_way 0 p.value (IsSpelled all (Changes last p.tag)))) old new
-    → TakesIn (rules b) (changes_from (spelling all) last time points) old new
-changes_under {K} {V} rules a b e points laws all last time places old new admitted new_admitted whole are_best covers takes =
-    changes_taken (rules b) points laws all last time places old new admitted new_admitted
+    → TakesIn (rules b) (each_of (StandsAtOne points places) (λ (p : Point V). one_way 0 p.value (IsSpelled tags (Changes last p.tag)))) old new
+    → TakesIn (rules b) (changes_from tags last time points) old new
+changes_under {K} {V} rules a b e points laws tags last time places old new admitted new_admitted whole are_best covers takes =
+    changes_taken (rules b) points laws tags last time places old new admitted new_admitted
     (λ place is. subst (λ k. IsBestPlace (rules k) points time place) e (are_best place (subst (λ (xs : List ℕ). Contains xs place) whole is)))
     (λ p is late. subst (λ (xs : List ℕ). SomeNoWorse (rules b) points xs p.value) (sym whole) (subst (λ k. SomeNoWorse (rules k) points (best_places (rules a) points time) p.value) e (covers p is late)))
     takes

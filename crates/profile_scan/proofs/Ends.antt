@@ -40,17 +40,17 @@ none_counts : (t : TimetableValue) (q : Query) → IsLegal t → (end departure 
 none_counts t q legal end departure is_end j c = rides_too_late t legal q.target (start_end q.source j.start) 0 q.by end is_end j.rides c.boards c.counts.journey.leads c.counts.arrives
 
 -- where nothing is there, no points match
-empty_matches : {V X : Type 0} (rules : Rules V) (spelled : ℕ → Option X) (IsThere : ℕ → X → Type 0) (value : X → V) → ((d : ℕ) (x : X) → IsThere d x → ⊥) → Matches rules spelled IsThere value []
-empty_matches rules spelled IsThere value none = record {
+empty_matches : {V X : Type 0} (rules : Rules V) (spelled : ℕ → Option X) (IsThere : ℕ → X → Type 0) (IsPlainWay : X → Type 0) (value : X → V) → ((d : ℕ) (x : X) → IsThere d x → ⊥) → Matches rules spelled IsThere IsPlainWay value []
+empty_matches rules spelled IsThere IsPlainWay value none = record {
   sound = λ p is. absurd (omega (arith, is.1));
   complete = λ d x there. absurd (none d x there);
 }
 
 pub nothing_follows : {V : Type 0} (rules : Rules V) → NothingFollows rules
 nothing_follows rules t q can end is_end tags = record {
-  at_stops = λ stop _. empty_matches rules _ _ _ (λ time x on. none_onward t q can.legal end stop time is_end x on);
-  in_trips = λ trip _. empty_matches rules _ _ _ (λ _ x l. none_aboard t q can.legal end trip is_end x l.aboard);
-  at_source = empty_matches rules _ _ _ (λ departure j c. none_counts t q can.legal end departure is_end j c);
+  at_stops = λ stop _. empty_matches rules _ _ _ _ (λ time x on. none_onward t q can.legal end stop time is_end x on);
+  in_trips = λ trip _. empty_matches rules _ _ _ _ (λ _ x l. none_aboard t q can.legal end trip is_end x l.aboard);
+  at_source = empty_matches rules _ _ _ _ (λ departure j c. none_counts t q can.legal end departure is_end j c);
 }
 
 boards_in_window : (t : TimetableValue) (time start departure secs : ℕ) → IsFirstAt t time start → (rides : List RideValue) → rides ≢ [] → time ≤ departure → departure + secs ≡ first_departure t rides → BoardsFrom start rides

@@ -11,7 +11,7 @@ use Rattle.timetable.specs.Limits.{IsWithinLimits}
 use Rattle.timetable.specs.Journeys.{connection_at}
 use Rattle.timetable.proofs.LegalFacts.{one_footpath, walk_limit}
 use Rattle.profile_scan.specs.Points.{Covers}
-use Rattle.profile_scan.specs.Matching.{Spelling}
+use Rattle.profile_scan.specs.Matching.{Spellings}
 use Rattle.profile_scan.specs.Steps.{TakesIn, Leaving, ends, ends_after, changes, leaving_value, leavings}
 use Rattle.profile_scan.specs.Adding.{only_if, endings_and_changes, value_in, departure_in, endings, changes_from}
 use Rattle.profile_scan.specs.Kept.{IsWay}
@@ -36,7 +36,7 @@ is_there t target stop way is f e from to =
     let at_from : Contains t.footpaths (record { from = f.from; to = target; secs = f.secs }) = subst (λ (n : ℕ). Contains t.footpaths (record { from = n; to = target; secs = f.secs })) (sym from) there in
     subst (λ (n : ℕ). Contains t.footpaths (record { from = f.from; to = n; secs = f.secs })) (sym to) at_from
 
-module _ {V : Type 0} (rules : Rules V) (t : TimetableValue) (legal : IsLegal t) (q : Query) (tags : Spelling) (i : ℕ) (c : Connection) (is : c ≡ connection_at t i) (way : Option ℕ) (is_way : IsWay t q.target c.to way) (bag : List (Point V)) where
+module _ {V : Type 0} (rules : Rules V) (t : TimetableValue) (legal : IsLegal t) (q : Query) (tags : Spellings) (i : ℕ) (c : Connection) (is : c ≡ connection_at t i) (way : Option ℕ) (is_way : IsWay t q.target c.to way) (bag : List (Point V)) where
   alights : c.alight ≡ true → (connection_at t i).alight ≡ true
   alights a = ap (λ (x : Connection). x.alight) (sym is) ∙ a
 

@@ -178,8 +178,8 @@ module _ {V : Type 0} (rules : Rules V) (bag : List (Point V)) where
       }
 
 -- points listed match as those of the bag do
-pub listed_match : {V X : Type 0} (rules : Rules V) (spelled : ℕ → Option X) (IsThere : ℕ → X → Type 0) (value : X → V) (bag points : List (Point V)) → ((p : Point V) → Contains points p → Contains bag p) → ((p : Point V) → Contains bag p → Contains points p) → Matches rules spelled IsThere value bag → Matches rules spelled IsThere value points
-listed_match rules spelled IsThere value bag points only each m = record {
+pub listed_match : {V X : Type 0} (rules : Rules V) (spelled : ℕ → Option X) (IsThere : ℕ → X → Type 0) (IsPlainWay : X → Type 0) (value : X → V) (bag points : List (Point V)) → ((p : Point V) → Contains points p → Contains bag p) → ((p : Point V) → Contains bag p → Contains points p) → Matches rules spelled IsThere IsPlainWay value bag → Matches rules spelled IsThere IsPlainWay value points
+listed_match rules spelled IsThere IsPlainWay value bag points only each m = record {
   sound = λ p h. m.sound p (only p h);
   complete = λ d x there. let c = m.complete d x there in (c.0, each c.0 c.1, c.2, c.3);
 }

@@ -7,7 +7,7 @@ use Rattle.bags.specs.declared.point.Point.{Point}
 use Rattle.timetable.specs.declared.network.Connection.{Connection}
 use Rattle.timetable.specs.declared.network.Footpath.{Footpath}
 use Rattle.timetable.specs.declared.query.Query.{Query}
-use Rattle.timetable.specs.JourneyValue.{RideValue}
+use Rattle.timetable.specs.JourneyValue.{RideValue, JourneyValue}
 use Rattle.timetable.specs.Journeys.{connection_at, walk_end, walk_secs, Leads, IsStart, start_end, start_secs, Counts}
 use Rattle.timetable.specs.Legal.{At, HasFootpath, IsLegal}
 use Rattle.timetable.specs.Limits.{IsWithinLimits}
@@ -15,9 +15,9 @@ use Rattle.timetable.specs.TimetableValue.{TimetableValue}
 use Rattle.profile_scan.specs.Values.{started}
 use Rattle.profile_scan.specs.Points.{Covers, IsAnswer}
 use Rattle.sources.specs.FirstAt.{IsFirstAt}
-use Rattle.profile_scan.specs.Continuations.{Onward, IsOnward}
-use Rattle.profile_scan.specs.Matching.{Spelling, ScanValue, MatchesFrom}
-use Rattle.profile_scan.specs.Steps.{Offer, TakesIn, IsOffered, Leaving, ends, ends_after, changes, MayLeave, leaving_value, leavings, Boarding, MayBoard, boardings, SettingOut, settings_out, IsStep}
+use Rattle.profile_scan.specs.Continuations.{Onward, Aboard, IsOnward}
+use Rattle.profile_scan.specs.Matching.{Spelling, Spellings, Keeps, from_to, ScanValue, MatchesFrom}
+use Rattle.profile_scan.specs.Steps.{Offer, TakesIn, IsOffered, Leaving, ends, ends_after, changes, MayLeave, leaving_value, leavings, boarded, Boarding, MayBoard, boardings, SettingOut, settings_out, IsStep}
 use Rattle.profile_scan.specs.LawStatements.{CanScan, OneIndexDown, CutIsTheSources}
 use Rattle.profile_scan.specs.Examples.{one_hop, over_one_hop, with_loops, asked, by_change, ride, footpath}
 use Rattle.profile_scan.specs.WrongSteps.{cut_boardings, IsStepWithBagCut, loop_starts, LeavesSource, MayBoardAtOnce, at_once_departure, at_once_value, IsStepWithLoopStart, Unchanged, on_foot, at_once, at_once_boardings, IsStepWithoutChange, CountsLegByLeg}
@@ -123,9 +123,38 @@ past_the_end = record {
   after = λ k le lt. absurd (omega arith);
 }
 
--- tags that spell nothing
-abbrev silent : Spelling
-silent = record { onward = λ _. None; aboard = λ _. None; journey = λ _. None }
+-- in the trip, one gets off where its one connection ends, which is the target
+abbrev one_stop : Aboard
+one_stop = record { last = 0; walk = []; rides = [] }
+
+-- how one goes on to board it, at once or after the loop; and journeys with no start, or with the loop as one
+abbrev going_on : ℕ → Onward
+going_on zero = record { walk = []; rides = boarded 0 one_stop }
+going_on (suc n) = record { walk = long_loop ∷ []; rides = boarded 0 one_stop }
+
+abbrev setting_out : ℕ → JourneyValue
+setting_out zero = record { start = None; rides = boarded 0 one_stop }
+setting_out (suc n) = record { start = Some long_loop; rides = boarded 0 one_stop }
+
+-- tags that spell all that: 0 at once, others by the loop
+abbrev spoken : Spelling
+spoken = record { onward = λ tag. Some (going_on tag); aboard = λ _. Some one_stop; journey = λ tag. Some (setting_out tag) }
+
+abbrev turn : Spellings
+turn = from_to spoken spoken
+
+spoken_stays : Keeps spoken spoken
+spoken_stays = record { onward = λ tag x e. e; aboard = λ tag x e. e; journey = λ tag j e. e }
+
+-- nothing else is spelled in the trip
+the_label : (x : Aboard) → Some one_stop ≡ Some x → one_stop ≡ x
+the_label x e = same_Some one_stop x e
+
+goes_on : (walk : List Footpath) (x : Aboard) → Some one_stop ≡ Some x → Some (let y : Onward = record { walk = walk; rides = boarded 0 one_stop } in y) ≡ Some (record { walk = walk; rides = boarded 0 x })
+goes_on walk x e = ap (λ (z : Aboard). Some (let y : Onward = record { walk = walk; rides = boarded 0 z } in y)) (the_label x e)
+
+sets_out : (start : Option Footpath) (x : Aboard) → Some one_stop ≡ Some x → Some (let y : JourneyValue = record { start = start; rides = boarded 0 one_stop } in y) ≡ Some (record { start = start; rides = boarded 0 x })
+sets_out start x e = ap (λ (z : Aboard). Some (let y : JourneyValue = record { start = start; rides = boarded 0 z } in y)) (the_label x e)
 
 none_in : {X : Type 0} (x : X) → Contains [] x → ⊥
 none_in x is = omega (arith, is.1)
@@ -158,7 +187,7 @@ module _ {V : Type 0} (rules : Rules V) (laws : Laws rules) where
   label = record { departure = 0; value = rules.arrive 200; tag = 0 }
 
   abbrev on_loop : Point V
-  on_loop = record { departure = 40; value = walked_once; tag = 0 }
+  on_loop = record { departure = 40; value = walked_once; tag = 1 }
 
   abbrev at_stop : Point V
   at_stop = record { departure = 100; value = ridden_once; tag = 0 }
@@ -190,9 +219,9 @@ module _ {V : Type 0} (rules : Rules V) (laws : Laws rules) where
   takes_from_nothing : {A : Type 0} (offer : Offer A V) (points : List (Point V)) → ((p : Point V) → Contains points p → IsOffered offer p) → ((way : A) → offer.is_open way → Covers rules points (offer.departure way) (offer.value way)) → TakesIn rules offer [] points
   takes_from_nothing offer points offered covered = record { only = λ p is. inr (offered p is); kept = λ d v a c. absurd (none_in c.0 c.1); covered = covered }
 
-  leaves_by_end : (until : ℕ) → TakesIn rules (leavings rules one_hop (over_one_hop until) silent 0 []) [] (label ∷ [])
-  leaves_by_end until = takes_from_nothing (leavings rules one_hop (over_one_hop until) silent 0 []) (label ∷ [])
-      (λ p is. subst (IsOffered (leavings rules one_hop (over_one_hop until) silent 0 [])) (one_in label p is) (record { way = ends; is_open = (refl, (refl, omega arith)); departs = refl; worth = refl; fits = tt }))
+  leaves_by_end : (until : ℕ) → TakesIn rules (leavings rules one_hop (over_one_hop until) turn 0 []) [] (label ∷ [])
+  leaves_by_end until = takes_from_nothing (leavings rules one_hop (over_one_hop until) turn 0 []) (label ∷ [])
+      (λ p is. subst (IsOffered (leavings rules one_hop (over_one_hop until) turn 0 [])) (one_in label p is) (record { way = ends; is_open = (refl, (refl, omega arith)); departs = refl; worth = refl; fits = refl }))
       (λ way open_way. by_way way open_way.1)
     where
       by_way : (way : Leaving V) → MayLeave one_hop (over_one_hop until) 0 [] way → Covers rules (label ∷ []) 0 (leaving_value rules one_hop 0 way)
@@ -205,9 +234,9 @@ module _ {V : Type 0} (rules : Rules V) (laws : Laws rules) where
   other_trips (suc n) other = refl
 
   -- a law that the steps of one kind keep matches would tell of what such a step makes of nothing
-  after_step : (Step : TimetableValue → Query → Spelling → ℕ → ScanValue V → ScanValue V → Type 0) → OneIndexDown rules Step → (until : ℕ) (new : ScanValue V) → Step one_hop (over_one_hop until) silent 0 nothing new → MatchesFrom rules one_hop (over_one_hop until) silent 0 new
+  after_step : (Step : TimetableValue → Query → Spellings → ℕ → ScanValue V → ScanValue V → Type 0) → OneIndexDown rules Step → (until : ℕ) (new : ScanValue V) → Step one_hop (over_one_hop until) turn 0 nothing new → MatchesFrom rules one_hop (over_one_hop until) spoken 0 new
   after_step Step law until new step =
-      law one_hop (over_one_hop until) (can_scan until) silent 0 (omega arith) nothing new (nothing_follows rules one_hop (over_one_hop until) (can_scan until) 1 past_the_end silent) step
+      law one_hop (over_one_hop until) (can_scan until) turn 0 (omega arith) nothing new (nothing_follows rules one_hop (over_one_hop until) (can_scan until) 1 past_the_end spoken) step
 
   -- the source's bag, cut at 30, lacks who may leave at 40 to come to the target
   abbrev cut_bag : ScanValue V
@@ -217,15 +246,18 @@ module _ {V : Type 0} (rules : Rules V) (laws : Laws rules) where
   bag_cut_is_wrong law =
       let q = over_one_hop 30 in
       let matched = after_step (IsStepWithBagCut rules) law 30 cut_bag (record {
+        between = spoken;
+        kept_first = spoken_stays;
+        kept_then = spoken_stays;
         leaves = leaves_by_end 30;
         other_trips = other_trips;
-        boards = λ stop in_stops. takes_none (cut_boardings rules one_hop q silent 0 stop (label ∷ [])) (λ way may.
+        boards = λ stop in_stops. takes_none (cut_boardings rules one_hop q turn 0 stop (label ∷ [])) (λ way may.
             let e = only_from_zero way.walk may.0.is_footpath may.0.leads in
             let secs : way.walk.secs ≡ 60 = ap (λ (f : Footpath). f.secs) e in
             let stop_is : stop ≡ 0 = sym may.0.leaves ∙ ap (λ (f : Footpath). f.from) e in
             let late = may.1 stop_is in
             omega arith);
-        sets_out = takes_none (settings_out rules one_hop q silent 0 (label ∷ [])) (λ way may. by_start way.start may.is_start may.leads may.not_late);
+        sets_out = takes_none (settings_out rules one_hop q turn 0 (label ∷ [])) (λ way may. by_start way.start may.is_start may.leads may.not_late);
       }) in
       let onward : Onward = record { walk = long_loop ∷ []; rides = record { leg = record { first = 0; last = 0 }; walk = [] } ∷ [] } in
       let is_onward : IsOnward one_hop q 0 0 40 onward = record {
@@ -245,13 +277,13 @@ module _ {V : Type 0} (rules : Rules V) (laws : Laws rules) where
   loop_is_open : MayBoard one_hop 0 0 (label ∷ []) (record { walk = long_loop; label = label })
   loop_is_open = record { boards = refl; is_footpath = (zero, omega arith, refl); leaves = refl; leads = refl; fits = omega arith; is_label = (zero, omega arith, refl) }
 
-  by_loop : IsOffered (boardings rules one_hop silent 0 0 (label ∷ [])) on_loop
+  by_loop : IsOffered (boardings rules one_hop turn 0 0 (label ∷ [])) on_loop
   by_loop = record {
     way = record { walk = long_loop; label = label };
     is_open = loop_is_open;
     departs = refl;
     worth = refl;
-    fits = λ x _. tt;
+    fits = goes_on (long_loop ∷ []);
   }
 
   loop_covered : (points : List (Point V)) → Contains points on_loop → (way : Boarding V) → MayBoard one_hop 0 0 (label ∷ []) way → Covers rules points (100 - way.walk.secs) (rules.walk way.walk.secs (rules.ride way.label.value))
@@ -267,11 +299,11 @@ module _ {V : Type 0} (rules : Rules V) (laws : Laws rules) where
       omega arith
 
   -- a bag that is offered the label after the loop
-  takes_loop : (stop : ℕ) → TakesIn rules (boardings rules one_hop silent 0 stop (label ∷ [])) [] (at_zero (on_loop ∷ []) stop)
-  takes_loop zero = takes_from_nothing (boardings rules one_hop silent 0 0 (label ∷ [])) (on_loop ∷ [])
-      (λ p is. subst (IsOffered (boardings rules one_hop silent 0 0 (label ∷ []))) (one_in on_loop p is) by_loop)
+  takes_loop : (stop : ℕ) → TakesIn rules (boardings rules one_hop turn 0 stop (label ∷ [])) [] (at_zero (on_loop ∷ []) stop)
+  takes_loop zero = takes_from_nothing (boardings rules one_hop turn 0 0 (label ∷ [])) (on_loop ∷ [])
+      (λ p is. subst (IsOffered (boardings rules one_hop turn 0 0 (label ∷ []))) (one_in on_loop p is) by_loop)
       (λ way may. loop_covered (on_loop ∷ []) (zero, omega arith, refl) way may)
-  takes_loop (suc n) = takes_none (boardings rules one_hop silent 0 (suc n) (label ∷ [])) (λ way may. elsewhere n way may)
+  takes_loop (suc n) = takes_none (boardings rules one_hop turn 0 (suc n) (label ∷ [])) (λ way may. elsewhere n way may)
 
   at_stop_covered : (points : List (Point V)) → Contains points at_stop → (l : Point V) → Contains (label ∷ []) l → Covers rules points 100 (rules.ride l.value)
   at_stop_covered points is l in_labels = subst (λ (k : Point V). Covers rules points 100 (rules.ride k.value)) (one_in label l in_labels) (covers_itself points at_stop is ridden_admitted)
@@ -296,15 +328,18 @@ module _ {V : Type 0} (rules : Rules V) (laws : Laws rules) where
   pub loop_start_is_wrong : OneIndexDown rules (IsStepWithLoopStart rules) → ⊥
   loop_start_is_wrong law =
       let q = over_one_hop 1000 in
-      let offer : Offer (SettingOut V) V = loop_starts rules one_hop q silent 0 (label ∷ []) in
+      let offer : Offer (SettingOut V) V = loop_starts rules one_hop q turn 0 (label ∷ []) in
       let matched = after_step (IsStepWithLoopStart rules) law 1000 loop_start (record {
+        between = spoken;
+        kept_first = spoken_stays;
+        kept_then = spoken_stays;
         leaves = leaves_by_end 1000;
         other_trips = other_trips;
         boards = λ stop in_stops. takes_loop stop;
-        sets_out = takes_from_nothing (loop_starts rules one_hop q silent 0 (label ∷ [])) (at_stop ∷ on_loop ∷ [])
+        sets_out = takes_from_nothing (loop_starts rules one_hop q turn 0 (label ∷ [])) (at_stop ∷ on_loop ∷ [])
             (λ p is. elim (two_in at_stop on_loop p is) [
-              | inl e ↦ subst (IsOffered (loop_starts rules one_hop q silent 0 (label ∷ []))) e (record { way = record { start = None; label = label }; is_open = record { boards = refl; leaves = tt; leads = refl; fits = omega arith; not_early = omega arith; not_late = omega arith; is_label = (zero, omega arith, refl) }; departs = refl; worth = refl; fits = λ x _. tt })
-              | inr e ↦ subst (IsOffered (loop_starts rules one_hop q silent 0 (label ∷ []))) e (record { way = record { start = Some long_loop; label = label }; is_open = record { boards = refl; leaves = ((zero, omega arith, refl), refl); leads = refl; fits = omega arith; not_early = omega arith; not_late = omega arith; is_label = (zero, omega arith, refl) }; departs = refl; worth = refl; fits = λ x _. tt })
+              | inl e ↦ subst (IsOffered (loop_starts rules one_hop q turn 0 (label ∷ []))) e (record { way = record { start = None; label = label }; is_open = record { boards = refl; leaves = tt; leads = refl; fits = omega arith; not_early = omega arith; not_late = omega arith; is_label = (zero, omega arith, refl) }; departs = refl; worth = refl; fits = sets_out None })
+              | inr e ↦ subst (IsOffered (loop_starts rules one_hop q turn 0 (label ∷ []))) e (record { way = record { start = Some long_loop; label = label }; is_open = record { boards = refl; leaves = ((zero, omega arith, refl), refl); leads = refl; fits = omega arith; not_early = omega arith; not_late = omega arith; is_label = (zero, omega arith, refl) }; departs = refl; worth = refl; fits = sets_out (Some long_loop) })
             ])
             (λ way may. by_start way.start way.label may.leaves may.leads may.is_label);
       }) in
@@ -334,27 +369,27 @@ module _ {V : Type 0} (rules : Rules V) (laws : Laws rules) where
   abbrev unchanged : ScanValue V
   unchanged = record { bag = at_zero (on_loop ∷ at_stop ∷ []); labels = at_zero (label ∷ []); found = at_stop ∷ [] }
 
-  takes_at_once : (stop : ℕ) → TakesIn rules (at_once_boardings rules one_hop silent 0 stop (label ∷ [])) [] (at_zero (on_loop ∷ at_stop ∷ []) stop)
-  takes_at_once zero = takes_from_nothing (at_once_boardings rules one_hop silent 0 0 (label ∷ [])) (on_loop ∷ at_stop ∷ [])
+  takes_at_once : (stop : ℕ) → TakesIn rules (at_once_boardings rules one_hop turn 0 stop (label ∷ [])) [] (at_zero (on_loop ∷ at_stop ∷ []) stop)
+  takes_at_once zero = takes_from_nothing (at_once_boardings rules one_hop turn 0 0 (label ∷ [])) (on_loop ∷ at_stop ∷ [])
       (λ p is. elim (two_in on_loop at_stop p is) [
-        | inl e ↦ subst (IsOffered (at_once_boardings rules one_hop silent 0 0 (label ∷ []))) e (record { way = on_foot (record { walk = long_loop; label = label }); is_open = loop_is_open; departs = refl; worth = refl; fits = λ x _. tt })
-        | inr e ↦ subst (IsOffered (at_once_boardings rules one_hop silent 0 0 (label ∷ []))) e (record { way = at_once label; is_open = (refl, refl, (zero, omega arith, refl)); departs = refl; worth = refl; fits = λ x _. tt })
+        | inl e ↦ subst (IsOffered (at_once_boardings rules one_hop turn 0 0 (label ∷ []))) e (record { way = on_foot (record { walk = long_loop; label = label }); is_open = loop_is_open; departs = refl; worth = refl; fits = goes_on (long_loop ∷ []) })
+        | inr e ↦ subst (IsOffered (at_once_boardings rules one_hop turn 0 0 (label ∷ []))) e (record { way = at_once label; is_open = (refl, refl, (zero, omega arith, refl)); departs = refl; worth = refl; fits = goes_on [] })
       ])
       by_way
     where
-      by_way : (way : Unchanged V) → MayBoardAtOnce rules one_hop silent 0 0 (label ∷ []) way → Covers rules (on_loop ∷ at_stop ∷ []) (at_once_departure rules one_hop silent 0 0 (label ∷ []) way) (at_once_value rules one_hop silent 0 0 (label ∷ []) way)
+      by_way : (way : Unchanged V) → MayBoardAtOnce rules one_hop turn 0 0 (label ∷ []) way → Covers rules (on_loop ∷ at_stop ∷ []) (at_once_departure rules one_hop turn 0 0 (label ∷ []) way) (at_once_value rules one_hop turn 0 0 (label ∷ []) way)
       by_way (on_foot way) may = loop_covered (on_loop ∷ at_stop ∷ []) (zero, omega arith, refl) way may
       by_way (at_once l) may = at_stop_covered (on_loop ∷ at_stop ∷ []) (suc zero, omega arith, refl) l may.2
-  takes_at_once (suc n) = takes_none (at_once_boardings rules one_hop silent 0 (suc n) (label ∷ [])) by_way
+  takes_at_once (suc n) = takes_none (at_once_boardings rules one_hop turn 0 (suc n) (label ∷ [])) by_way
     where
-      by_way : (way : Unchanged V) → MayBoardAtOnce rules one_hop silent 0 (suc n) (label ∷ []) way → ⊥
+      by_way : (way : Unchanged V) → MayBoardAtOnce rules one_hop turn 0 (suc n) (label ∷ []) way → ⊥
       by_way (on_foot way) may = elsewhere n way may
       by_way (at_once l) may = absurd (omega (arith, may.1))
 
   -- the points found are offered the label at the source itself
-  sets_out_once : TakesIn rules (settings_out rules one_hop (over_one_hop 1000) silent 0 (label ∷ [])) [] (at_stop ∷ [])
-  sets_out_once = takes_from_nothing (settings_out rules one_hop (over_one_hop 1000) silent 0 (label ∷ [])) (at_stop ∷ [])
-      (λ p is. subst (IsOffered (settings_out rules one_hop (over_one_hop 1000) silent 0 (label ∷ []))) (one_in at_stop p is) (record { way = record { start = None; label = label }; is_open = record { boards = refl; is_start = tt; leads = refl; fits = omega arith; not_early = omega arith; not_late = omega arith; is_label = (zero, omega arith, refl) }; departs = refl; worth = refl; fits = λ x _. tt }))
+  sets_out_once : TakesIn rules (settings_out rules one_hop (over_one_hop 1000) turn 0 (label ∷ [])) [] (at_stop ∷ [])
+  sets_out_once = takes_from_nothing (settings_out rules one_hop (over_one_hop 1000) turn 0 (label ∷ [])) (at_stop ∷ [])
+      (λ p is. subst (IsOffered (settings_out rules one_hop (over_one_hop 1000) turn 0 (label ∷ []))) (one_in at_stop p is) (record { way = record { start = None; label = label }; is_open = record { boards = refl; is_start = tt; leads = refl; fits = omega arith; not_early = omega arith; not_late = omega arith; is_label = (zero, omega arith, refl) }; departs = refl; worth = refl; fits = sets_out None }))
       (λ way may. by_start way.start way.label may.is_start may.leads may.is_label)
     where
       by_start : (start : Option Footpath) (l : Point V) → IsStart one_hop 0 start → start_end 0 start ≡ 0 → Contains (label ∷ []) l → Covers rules (at_stop ∷ []) (100 - start_secs start) (started rules start (rules.ride l.value))
@@ -364,6 +399,9 @@ module _ {V : Type 0} (rules : Rules V) (laws : Laws rules) where
   pub no_change_is_wrong : OneIndexDown rules (IsStepWithoutChange rules) → ⊥
   no_change_is_wrong law =
       let matched = after_step (IsStepWithoutChange rules) law 1000 unchanged (record {
+        between = spoken;
+        kept_first = spoken_stays;
+        kept_then = spoken_stays;
         leaves = leaves_by_end 1000;
         other_trips = other_trips;
         boards = λ stop in_stops. takes_at_once stop;
@@ -382,13 +420,16 @@ module _ {V : Type 0} (rules : Rules V) (laws : Laws rules) where
   pub scan_answers : IsAnswer rules one_hop (over_one_hop 1000) (at_stop ∷ [])
   scan_answers =
       let matched = after_step (IsStep rules) (one_index_down rules laws) 1000 scanned (record {
+        between = spoken;
+        kept_first = spoken_stays;
+        kept_then = spoken_stays;
         leaves = leaves_by_end 1000;
         other_trips = other_trips;
         boards = λ stop in_stops. takes_loop stop;
         sets_out = sets_out_once;
       }) in
       let bag : IsBag rules (at_stop ∷ []) = record { admitted = λ p is. subst (λ (x : Point V). Admits rules x.value) (one_in at_stop p is) ridden_admitted; undominated = λ i j d lt in_j. absurd (omega arith) } in
-      match_is_the_answer rules laws one_hop (over_one_hop 1000) (can_scan 1000) 0 from_the_start silent (at_stop ∷ []) matched.at_source bag (λ i j d lt in_j. absurd (omega arith))
+      match_is_the_answer rules laws one_hop (over_one_hop 1000) (can_scan 1000) 0 from_the_start spoken (at_stop ∷ []) matched.at_source bag (λ i j d lt in_j. absurd (omega arith))
 
 -- a cut of each leg loses a journey when the window shrinks, although it departs at its end
 pub leg_by_leg_is_wrong : CutIsTheSources CountsLegByLeg → ⊥

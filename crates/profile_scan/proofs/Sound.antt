@@ -1,5 +1,5 @@
 -- What a connection adds is attained by what its tag spells.
-use Rattle.std.proofs.Common.{◌≡◌, ℕ, ◌+◌, ◌-◌, ◌<◌, ◌≤◌, true, List, [], ◌∷◌, length, Contains, arith, refl, sym, ◌∙◌, ap, subst, add-zero}
+use Rattle.std.proofs.Common.{◌≡◌, ℕ, ◌+◌, ◌-◌, ◌<◌, ◌≤◌, true, List, [], ◌∷◌, length, Contains, arith, refl, sym, ◌∙◌, ap, subst, inl, inr, add-zero}
 use Rattle.criteria.specs.Laws.{Rules}
 use Rattle.bags.specs.declared.point.Point.{Point}
 use Rattle.timetable.specs.declared.network.Footpath.{Footpath}
@@ -9,7 +9,8 @@ use Rattle.timetable.specs.Journeys.{connection_at, walk_end, walk_secs, Leads, 
 use Rattle.timetable.specs.declared.query.Query.{Query}
 use Rattle.profile_scan.specs.Values.{walked, ridden, started, journey_value}
 use Rattle.profile_scan.specs.Continuations.{Onward, Aboard, BoardsFrom, IsOnward, IsAboard, CountsFrom, onward_value, aboard_value}
-use Rattle.profile_scan.specs.Matching.{Spelling, IsAttained, IsLabelled}
+use Rattle.profile_scan.specs.Plain.{IsOneFootpath, HasPlainWalk, IsPlainOnward, IsPlainAboard, IsPlain}
+use Rattle.profile_scan.specs.Matching.{Spellings, IsAttained, IsLabelled}
 use Rattle.profile_scan.specs.Steps.{IsOffered, Leaving, ends, ends_after, changes, MayLeave, leaving_value, LeavingTag, leavings, boarded, boardings, settings_out}
 
 -- what is there from a place on is there from the place before on
@@ -91,27 +92,34 @@ module _ (t : TimetableValue) (q : Query) (i : ℕ) where
         arrives = a.arrives;
       }
 
-module _ {V : Type 0} (rules : Rules V) (t : TimetableValue) (q : Query) (tags : Spelling) (i : ℕ) where
+-- a footpath before rides that board is one to change
+plain_before : (t : TimetableValue) (target last i : ℕ) (walk : List Footpath) (rides : List RideValue) → BoardsFrom i rides → IsOneFootpath walk → HasPlainWalk t target last walk rides
+plain_before t target last i walk [] from one = absurd from
+plain_before t target last i walk (ride ∷ rides) from one = one
+
+module _ {V : Type 0} (rules : Rules V) (t : TimetableValue) (q : Query) (tags : Spellings) (i : ℕ) where
   -- what changing is worth
   change_value : (time : ℕ) (x : Onward) → IsOnward t q (i + 1) (connection_at t i).to time x → onward_value rules t x ≡ aboard_value rules t (record { last = i; walk = x.walk; rides = x.rides })
   change_value time x on =
       ap (λ (n : ℕ). walked rules x.walk (ridden rules n x.rides)) (final_same t 0 ((connection_at t i).arr + walk_secs x.walk) (i + 1) x.rides on.boards)
 
   -- a label that was offered is attained
-  pub leaving_attained : (bag : List (Point V)) → i < length t.connections → ((p : Point V) → Contains bag p → IsAttained tags.onward (IsOnward t q (i + 1) (connection_at t i).to) (onward_value rules t) p) → (p : Point V) → IsOffered (leavings rules t q tags i bag) p → IsAttained tags.aboard (IsLabelled t q i (connection_at t i).trip) (aboard_value rules t) p
+  pub leaving_attained : (bag : List (Point V)) → i < length t.connections → ((p : Point V) → Contains bag p → IsAttained tags.earlier.onward (IsOnward t q (i + 1) (connection_at t i).to) (IsPlainOnward t q.target) (onward_value rules t) p) → (p : Point V) → IsOffered (leavings rules t q tags i bag) p → IsAttained tags.later.aboard (IsLabelled t q i (connection_at t i).trip) (IsPlainAboard t q.target) (aboard_value rules t) p
   leaving_attained bag in_i sound p offered = by_way offered.way offered.is_open.0 offered.is_open.1 offered.departs offered.worth offered.fits
     where
-      by_way : (way : Leaving V) → (connection_at t i).alight ≡ true → MayLeave t q i bag way → p.departure ≡ 0 → p.value ≡ leaving_value rules t i way → LeavingTag tags i way p.tag → IsAttained tags.aboard (IsLabelled t q i (connection_at t i).trip) (aboard_value rules t) p
+      by_way : (way : Leaving V) → (connection_at t i).alight ≡ true → MayLeave t q i bag way → p.departure ≡ 0 → p.value ≡ leaving_value rules t i way → LeavingTag tags i way p.tag → IsAttained tags.later.aboard (IsLabelled t q i (connection_at t i).trip) (IsPlainAboard t q.target) (aboard_value rules t) p
       by_way ends alights may departs worth fits = record {
         way = record { last = i; walk = []; rides = [] };
         spells = fits;
         there = record { departed = departs; aboard = arrives_aboard t q i in_i alights may.0 may.1 };
+        plain = (inl (may.0, refl), tt);
         worth = worth ∙ ap rules.arrive (sym (add-zero (connection_at t i).arr));
       }
       by_way (ends_after f) alights may departs worth fits = record {
         way = record { last = i; walk = f ∷ []; rides = [] };
         spells = fits;
         there = record { departed = departs; aboard = walks_aboard t q i f in_i alights may.0 may.1 may.2 may.4 };
+        plain = (inr (may.3, (f, refl)), tt);
         worth = worth ∙ ap (λ (n : ℕ). rules.walk f.secs (rules.arrive ((connection_at t i).arr + n))) (sym (add-zero f.secs));
       }
       by_way (changes b) alights may departs worth fits =
@@ -120,11 +128,12 @@ module _ {V : Type 0} (rules : Rules V) (t : TimetableValue) (q : Query) (tags :
             way = record { last = i; walk = on.way.walk; rides = on.way.rides };
             spells = fits on.way on.spells;
             there = record { departed = departs; aboard = changes_aboard t q i b.departure on.way in_i alights may.1 on.there };
+            plain = (plain_before t q.target i (i + 1) on.way.walk on.way.rides on.there.boards on.plain.0, on.plain.1);
             worth = worth ∙ on.worth ∙ change_value b.departure on.way on.there;
           }
 
   -- a point of a bag that was offered is attained
-  pub boarding_attained : (stop : ℕ) (labels : List (Point V)) → ((p : Point V) → Contains labels p → IsAttained tags.aboard (IsLabelled t q i (connection_at t i).trip) (aboard_value rules t) p) → (p : Point V) → IsOffered (boardings rules t tags i stop labels) p → IsAttained tags.onward (IsOnward t q i stop) (onward_value rules t) p
+  pub boarding_attained : (stop : ℕ) (labels : List (Point V)) → ((p : Point V) → Contains labels p → IsAttained tags.earlier.aboard (IsLabelled t q i (connection_at t i).trip) (IsPlainAboard t q.target) (aboard_value rules t) p) → (p : Point V) → IsOffered (boardings rules t tags i stop labels) p → IsAttained tags.later.onward (IsOnward t q i stop) (IsPlainOnward t q.target) (onward_value rules t) p
   boarding_attained stop labels sound p offered =
       let may = offered.is_open in
       let f = offered.way.walk in
@@ -133,11 +142,12 @@ module _ {V : Type 0} (rules : Rules V) (t : TimetableValue) (q : Query) (tags :
         way = record { walk = f ∷ []; rides = boarded i label.way };
         spells = offered.fits label.way label.spells;
         there = subst (λ (n : ℕ). IsOnward t q i stop n (record { walk = f ∷ []; rides = boarded i label.way })) (sym offered.departs) (boards_onward t q i stop f label.way label.there.aboard may.boards may.is_footpath may.leaves may.leads may.fits);
+        plain = ((f, refl), label.plain);
         worth = offered.worth ∙ ap (λ (v : V). rules.walk f.secs (rules.ride v)) label.worth;
       }
 
   -- a point found that was offered is attained
-  pub setting_out_attained : (labels : List (Point V)) → ((p : Point V) → Contains labels p → IsAttained tags.aboard (IsLabelled t q i (connection_at t i).trip) (aboard_value rules t) p) → (p : Point V) → IsOffered (settings_out rules t q tags i labels) p → IsAttained tags.journey (CountsFrom t q i) (journey_value rules t) p
+  pub setting_out_attained : (labels : List (Point V)) → ((p : Point V) → Contains labels p → IsAttained tags.earlier.aboard (IsLabelled t q i (connection_at t i).trip) (IsPlainAboard t q.target) (aboard_value rules t) p) → (p : Point V) → IsOffered (settings_out rules t q tags i labels) p → IsAttained tags.later.journey (CountsFrom t q i) (IsPlain t q.target) (journey_value rules t) p
   setting_out_attained labels sound p offered =
       let may = offered.is_open in
       let start = offered.way.start in
@@ -158,5 +168,6 @@ module _ {V : Type 0} (rules : Rules V) (t : TimetableValue) (q : Query) (tags :
         way = journey;
         spells = offered.fits label.way label.spells;
         there = record { counts = subst (λ (n : ℕ). Counts t q n journey) (sym offered.departs) counts; boards = omega arith };
+        plain = label.plain;
         worth = offered.worth ∙ ap (λ (v : V). started rules start (rules.ride v)) label.worth;
       }

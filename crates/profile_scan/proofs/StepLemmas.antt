@@ -1,5 +1,5 @@
 -- One index down: a step keeps the match.
-use Rattle.std.proofs.Common.{◌≡◌, ◌≢◌, ℕ, ◌+◌, ◌<◌, List, length, Contains, Option, arith, refl, sym, ◌∙◌, ap, subst, inl, inr}
+use Rattle.std.proofs.Common.{◌≡◌, ◌≢◌, ℕ, ◌+◌, ◌<◌, List, length, Contains, Option, Some, arith, refl, sym, ◌∙◌, ap, subst, inl, inr}
 use Rattle.std.proofs.lemmas.Bool.{cases_eq}
 use Rattle.criteria.specs.Laws.{Rules, Laws}
 use Rattle.bags.specs.declared.point.Point.{Point}
@@ -10,47 +10,64 @@ use Rattle.timetable.proofs.LegalFacts.{connection_at-stands}
 use Rattle.profile_scan.specs.Values.{journey_value}
 use Rattle.profile_scan.specs.Points.{Covers}
 use Rattle.profile_scan.specs.Continuations.{IsOnward, CountsFrom, onward_value, aboard_value}
-use Rattle.profile_scan.specs.Matching.{Spelling, StandsFor, IsAttained, IsLabelled, Matches}
+use Rattle.profile_scan.specs.Plain.{IsPlainOnward, IsPlainAboard, IsPlain}
+use Rattle.profile_scan.specs.Matching.{Spelling, Spellings, Keeps, from_to, IsAttained, IsLabelled, Matches}
 use Rattle.profile_scan.specs.Steps.{TakesIn, leavings, boardings, settings_out, IsStep}
 use Rattle.profile_scan.specs.LawStatements.{CanScan, OneIndexDown, TagsMayCome}
 use Rattle.profile_scan.proofs.Admitted.{AreAdmitted, attained_admits, onward_admits, aboard_admits, journey_admits}
 use Rattle.profile_scan.proofs.Sound.{onward_more, aboard_more, counts_more, leaving_attained, boarding_attained, setting_out_attained}
 use Rattle.profile_scan.proofs.Complete.{labels_cover, bag_covers, found_covers}
 
--- a point attained by ways that are there is attained where more are there
-attained_more : {V X : Type 0} (spelled : ℕ → Option X) (Was IsThere : ℕ → X → Type 0) (value : X → V) → ((departure : ℕ) (x : X) → Was departure x → IsThere departure x) → (p : Point V) → IsAttained spelled Was value p → IsAttained spelled IsThere value p
-attained_more spelled Was IsThere value more p a = record { way = a.way; spells = a.spells; there = more p.departure a.way a.there; worth = a.worth }
+-- a point attained by ways that are there is attained where more are there, and more is spelled
+attained_more : {V X : Type 0} (spelled respelled : ℕ → Option X) (Was IsThere : ℕ → X → Type 0) (IsPlainWay : X → Type 0) (value : X → V) → ((departure : ℕ) (x : X) → Was departure x → IsThere departure x) → (p : Point V) → ((x : X) → spelled p.tag ≡ Some x → respelled p.tag ≡ Some x) → IsAttained spelled Was IsPlainWay value p → IsAttained respelled IsThere IsPlainWay value p
+attained_more spelled respelled Was IsThere IsPlainWay value more p stays a = record { way = a.way; spells = stays a.way a.spells; there = more p.departure a.way a.there; plain = a.plain; worth = a.worth }
 
-module _ {V : Type 0} (rules : Rules V) (laws : Laws rules) (t : TimetableValue) (q : Query) (can : CanScan t q) (tags : Spelling) (i : ℕ) where
-  -- the points of a bag, of labels, of the points found
-  abbrev BagMatches : ℕ → ℕ → List (Point V) → Type 0
-  BagMatches from stop points = Matches rules tags.onward (IsOnward t q from stop) (onward_value rules t) points
+module _ {V : Type 0} (rules : Rules V) (laws : Laws rules) (t : TimetableValue) (q : Query) (can : CanScan t q) (i : ℕ) where
+  -- a point of a bag, of labels, of the points found
+  abbrev InBag : Spelling → ℕ → ℕ → Point V → Type 0
+  InBag tags from stop p = IsAttained tags.onward (IsOnward t q from stop) (IsPlainOnward t q.target) (onward_value rules t) p
 
-  abbrev LabelsMatch : ℕ → ℕ → List (Point V) → Type 0
-  LabelsMatch from trip points = Matches rules tags.aboard (IsLabelled t q from trip) (aboard_value rules t) points
+  abbrev InLabels : Spelling → ℕ → ℕ → Point V → Type 0
+  InLabels tags from trip p = IsAttained tags.aboard (IsLabelled t q from trip) (IsPlainAboard t q.target) (aboard_value rules t) p
 
-  abbrev FoundMatches : ℕ → List (Point V) → Type 0
-  FoundMatches from points = Matches rules tags.journey (CountsFrom t q from) (journey_value rules t) points
+  abbrev InFound : Spelling → ℕ → Point V → Type 0
+  InFound tags from p = IsAttained tags.journey (CountsFrom t q from) (IsPlain t q.target) (journey_value rules t) p
 
-  bag_admitted : (from stop : ℕ) (points : List (Point V)) → ((p : Point V) → Contains points p → IsAttained tags.onward (IsOnward t q from stop) (onward_value rules t) p) → AreAdmitted rules points
-  bag_admitted from stop points sound = attained_admits rules tags.onward (IsOnward t q from stop) (onward_value rules t) (λ time x on. onward_admits rules laws t q can from stop time x on) points sound
+  -- all of them
+  abbrev BagMatches : Spelling → ℕ → ℕ → List (Point V) → Type 0
+  BagMatches tags from stop points = Matches rules tags.onward (IsOnward t q from stop) (IsPlainOnward t q.target) (onward_value rules t) points
 
-  labels_admitted : (from trip : ℕ) (points : List (Point V)) → ((p : Point V) → Contains points p → IsAttained tags.aboard (IsLabelled t q from trip) (aboard_value rules t) p) → AreAdmitted rules points
-  labels_admitted from trip points sound = attained_admits rules tags.aboard (IsLabelled t q from trip) (aboard_value rules t) (λ _ x on. aboard_admits rules laws t q can from trip x on.aboard) points sound
+  abbrev LabelsMatch : Spelling → ℕ → ℕ → List (Point V) → Type 0
+  LabelsMatch tags from trip points = Matches rules tags.aboard (IsLabelled t q from trip) (IsPlainAboard t q.target) (aboard_value rules t) points
 
-  found_admitted : (from : ℕ) (points : List (Point V)) → ((p : Point V) → Contains points p → IsAttained tags.journey (CountsFrom t q from) (journey_value rules t) p) → AreAdmitted rules points
-  found_admitted from points sound = attained_admits rules tags.journey (CountsFrom t q from) (journey_value rules t) (λ departure j c. journey_admits rules laws t q can departure j c.counts) points sound
+  abbrev FoundMatches : Spelling → ℕ → List (Point V) → Type 0
+  FoundMatches tags from points = Matches rules tags.journey (CountsFrom t q from) (IsPlain t q.target) (journey_value rules t) points
+
+  bag_admitted : (tags : Spelling) (from stop : ℕ) (points : List (Point V)) → ((p : Point V) → Contains points p → InBag tags from stop p) → AreAdmitted rules points
+  bag_admitted tags from stop points sound = attained_admits rules tags.onward (IsOnward t q from stop) (IsPlainOnward t q.target) (onward_value rules t) (λ time x on. onward_admits rules laws t q can from stop time x on) points sound
+
+  labels_admitted : (tags : Spelling) (from trip : ℕ) (points : List (Point V)) → ((p : Point V) → Contains points p → InLabels tags from trip p) → AreAdmitted rules points
+  labels_admitted tags from trip points sound = attained_admits rules tags.aboard (IsLabelled t q from trip) (IsPlainAboard t q.target) (aboard_value rules t) (λ _ x on. aboard_admits rules laws t q can from trip x on.aboard) points sound
+
+  found_admitted : (tags : Spelling) (from : ℕ) (points : List (Point V)) → ((p : Point V) → Contains points p → InFound tags from p) → AreAdmitted rules points
+  found_admitted tags from points sound = attained_admits rules tags.journey (CountsFrom t q from) (IsPlain t q.target) (journey_value rules t) (λ departure j c. journey_admits rules laws t q can departure j c.counts) points sound
+
+  -- labels that were attained later in their trip
+  label_stays : (before after : Spelling) (trip : ℕ) → Keeps before after → (p : Point V) → InLabels before (i + 1) trip p → InLabels after i trip p
+  label_stays before after trip keeps p a =
+      attained_more before.aboard after.aboard (IsLabelled t q (i + 1) trip) (IsLabelled t q i trip) (IsPlainAboard t q.target) (aboard_value rules t)
+      (λ d x l. record { departed = l.departed; aboard = aboard_more t q i trip x l.aboard }) p (keeps.aboard p.tag) a
 
   -- the labels of the connection's trip
-  pub labels_down : (bag old new : List (Point V)) → i < length t.connections → BagMatches (i + 1) (connection_at t i).to bag → LabelsMatch (i + 1) (connection_at t i).trip old → TakesIn rules (leavings rules t q tags i bag) old new → LabelsMatch i (connection_at t i).trip new
-  labels_down bag old new in_i bag_is old_is takes =
+  pub labels_down : (tags : Spellings) → Keeps tags.earlier tags.later → (bag old new : List (Point V)) → i < length t.connections → BagMatches tags.earlier (i + 1) (connection_at t i).to bag → LabelsMatch tags.earlier (i + 1) (connection_at t i).trip old → TakesIn rules (leavings rules t q tags i bag) old new → LabelsMatch tags.later i (connection_at t i).trip new
+  labels_down tags keeps bag old new in_i bag_is old_is takes =
       let trip = (connection_at t i).trip in
-      let sound : (p : Point V) → Contains new p → IsAttained tags.aboard (IsLabelled t q i trip) (aboard_value rules t) p = λ p is. elim (takes.only p is) [
-        | inl was ↦ attained_more tags.aboard (IsLabelled t q (i + 1) trip) (IsLabelled t q i trip) (aboard_value rules t) (λ d x l. record { departed = l.departed; aboard = aboard_more t q i trip x l.aboard }) p (old_is.sound p was)
+      let sound : (p : Point V) → Contains new p → InLabels tags.later i trip p = λ p is. elim (takes.only p is) [
+        | inl was ↦ label_stays tags.earlier tags.later trip keeps p (old_is.sound p was)
         | inr offered ↦ leaving_attained rules t q tags i bag in_i bag_is.sound p offered
       ] in
-      let admitted = labels_admitted i trip new sound in
-      let bag_adm = bag_admitted (i + 1) (connection_at t i).to bag bag_is.sound in
+      let admitted = labels_admitted tags.later i trip new sound in
+      let bag_adm = bag_admitted tags.earlier (i + 1) (connection_at t i).to bag bag_is.sound in
       record {
         sound = sound;
         complete = λ departure x l.
@@ -61,10 +78,17 @@ module _ {V : Type 0} (rules : Rules V) (laws : Laws rules) (t : TimetableValue)
             subst (λ (n : ℕ). Covers rules new n (aboard_value rules t x)) (sym l.departed) covered;
       }
 
+  -- the labels of a trip, where tags come to spell more
+  pub labels_kept : (before after : Spelling) (trip : ℕ) (points : List (Point V)) → Keeps before after → LabelsMatch before i trip points → LabelsMatch after i trip points
+  labels_kept before after trip points keeps is = record {
+    sound = λ p in_points. attained_more before.aboard after.aboard (IsLabelled t q i trip) (IsLabelled t q i trip) (IsPlainAboard t q.target) (aboard_value rules t) (λ d x l. l) p (keeps.aboard p.tag) (is.sound p in_points);
+    complete = is.complete;
+  }
+
   -- the labels of another trip
-  pub other_labels : (trip : ℕ) (points : List (Point V)) → trip ≢ (connection_at t i).trip → LabelsMatch (i + 1) trip points → LabelsMatch i trip points
-  other_labels trip points other is = record {
-    sound = λ p in_points. attained_more tags.aboard (IsLabelled t q (i + 1) trip) (IsLabelled t q i trip) (aboard_value rules t) (λ d x l. record { departed = l.departed; aboard = aboard_more t q i trip x l.aboard }) p (is.sound p in_points);
+  pub other_labels : (before after : Spelling) (trip : ℕ) (points : List (Point V)) → Keeps before after → trip ≢ (connection_at t i).trip → LabelsMatch before (i + 1) trip points → LabelsMatch after i trip points
+  other_labels before after trip points keeps other is = record {
+    sound = λ p in_points. label_stays before after trip keeps p (is.sound p in_points);
     complete = λ departure x l.
         let a = l.aboard in
         let not_here : x.last ≢ i = λ e. other (sym a.on_trip ∙ ap (λ (n : ℕ). (connection_at t n).trip) e) in
@@ -74,39 +98,46 @@ module _ {V : Type 0} (rules : Rules V) (laws : Laws rules) (t : TimetableValue)
         });
   }
 
-  -- the bag of a stop
-  pub bag_down : (stop : ℕ) (labels old new : List (Point V)) → LabelsMatch i (connection_at t i).trip labels → BagMatches (i + 1) stop old → TakesIn rules (boardings rules t tags i stop labels) old new → BagMatches i stop new
-  bag_down stop labels old new labels_are old_is takes =
+  -- the bag of a stop, its points having been spelled earlier still
+  pub bag_down : (first : Spelling) (tags : Spellings) (stop : ℕ) (labels old new : List (Point V)) → Keeps first tags.earlier → Keeps tags.earlier tags.later → LabelsMatch tags.earlier i (connection_at t i).trip labels → BagMatches first (i + 1) stop old → TakesIn rules (boardings rules t tags i stop labels) old new → BagMatches tags.later i stop new
+  bag_down first tags stop labels old new kept_first kept_then labels_are old_is takes =
       let trip = (connection_at t i).trip in
-      let sound : (p : Point V) → Contains new p → IsAttained tags.onward (IsOnward t q i stop) (onward_value rules t) p = λ p is. elim (takes.only p is) [
-        | inl was ↦ attained_more tags.onward (IsOnward t q (i + 1) stop) (IsOnward t q i stop) (onward_value rules t) (onward_more t q i stop) p (old_is.sound p was)
+      let sound : (p : Point V) → Contains new p → InBag tags.later i stop p = λ p is. elim (takes.only p is) [
+        | inl was ↦ attained_more first.onward tags.later.onward (IsOnward t q (i + 1) stop) (IsOnward t q i stop) (IsPlainOnward t q.target) (onward_value rules t) (onward_more t q i stop) p (λ x e. kept_then.onward p.tag x (kept_first.onward p.tag x e)) (old_is.sound p was)
         | inr offered ↦ boarding_attained rules t q tags i stop labels labels_are.sound p offered
       ] in
       record {
         sound = sound;
         complete = λ time x on.
-            bag_covers rules laws t q can i stop labels new (labels_admitted i trip labels labels_are.sound) (bag_admitted i stop new sound)
+            bag_covers rules laws t q can i stop labels new (labels_admitted tags.earlier i trip labels labels_are.sound) (bag_admitted tags.later i stop new sound)
             (λ y a. labels_are.complete 0 y (record { departed = refl; aboard = a }))
             (λ d y on_y. takes.kept d (onward_value rules t y) (onward_admits rules laws t q can (i + 1) stop d y on_y) (old_is.complete d y on_y))
             takes.covered time x.walk x.rides on;
       }
 
   -- the points found
-  pub found_down : (labels old new : List (Point V)) → LabelsMatch i (connection_at t i).trip labels → FoundMatches (i + 1) old → TakesIn rules (settings_out rules t q tags i labels) old new → FoundMatches i new
-  found_down labels old new labels_are old_is takes =
+  pub found_down : (first : Spelling) (tags : Spellings) (labels old new : List (Point V)) → Keeps first tags.earlier → Keeps tags.earlier tags.later → LabelsMatch tags.earlier i (connection_at t i).trip labels → FoundMatches first (i + 1) old → TakesIn rules (settings_out rules t q tags i labels) old new → FoundMatches tags.later i new
+  found_down first tags labels old new kept_first kept_then labels_are old_is takes =
       let trip = (connection_at t i).trip in
-      let sound : (p : Point V) → Contains new p → IsAttained tags.journey (CountsFrom t q i) (journey_value rules t) p = λ p is. elim (takes.only p is) [
-        | inl was ↦ attained_more tags.journey (CountsFrom t q (i + 1)) (CountsFrom t q i) (journey_value rules t) (counts_more t q i) p (old_is.sound p was)
+      let sound : (p : Point V) → Contains new p → InFound tags.later i p = λ p is. elim (takes.only p is) [
+        | inl was ↦ attained_more first.journey tags.later.journey (CountsFrom t q (i + 1)) (CountsFrom t q i) (IsPlain t q.target) (journey_value rules t) (counts_more t q i) p (λ j e. kept_then.journey p.tag j (kept_first.journey p.tag j e)) (old_is.sound p was)
         | inr offered ↦ setting_out_attained rules t q tags i labels labels_are.sound p offered
       ] in
       record {
         sound = sound;
         complete = λ departure j c.
-            found_covers rules laws t q can i labels new (labels_admitted i trip labels labels_are.sound) (found_admitted i new sound)
+            found_covers rules laws t q can i labels new (labels_admitted tags.earlier i trip labels labels_are.sound) (found_admitted tags.later i new sound)
             (λ y a. labels_are.complete 0 y (record { departed = refl; aboard = a }))
             (λ d k c_k. takes.kept d (journey_value rules t k) (journey_admits rules laws t q can d k c_k.counts) (old_is.complete d k c_k))
             takes.covered departure j.start j.rides c;
       }
+
+keeps_on : (a b c : Spelling) → Keeps a b → Keeps b c → Keeps a c
+keeps_on a b c first second = record {
+  onward = λ tag x e. second.onward tag x (first.onward tag x e);
+  aboard = λ tag x e. second.aboard tag x (first.aboard tag x e);
+  journey = λ tag j e. second.journey tag j (first.journey tag j e);
+}
 
 pub one_index_down : {V : Type 0} (rules : Rules V) → Laws rules → OneIndexDown rules (IsStep rules)
 one_index_down rules laws t q can tags i in_i old new matched step =
@@ -114,28 +145,29 @@ one_index_down rules laws t q can tags i in_i old new matched step =
     let stands = connection_at-stands t i in_i in
     let ends_at = (can.legal.stops_in_range i c stands).1 in
     let on_trip = can.legal.trips_in_range i c stands in
-    let labels = labels_down rules laws t q can tags i (old.bag c.to) (old.labels c.trip) (new.labels c.trip) in_i (matched.at_stops c.to ends_at) (matched.in_trips c.trip on_trip) step.leaves in
+    let first = from_to tags.earlier step.between in
+    let second = from_to step.between tags.later in
+    let labels = labels_down rules laws t q can i first step.kept_first (old.bag c.to) (old.labels c.trip) (new.labels c.trip) in_i (matched.at_stops c.to ends_at) (matched.in_trips c.trip on_trip) step.leaves in
     record {
-      at_stops = λ stop in_stops. bag_down rules laws t q can tags i stop (new.labels c.trip) (old.bag stop) (new.bag stop) labels (matched.at_stops stop in_stops) (step.boards stop in_stops);
+      at_stops = λ stop in_stops. bag_down rules laws t q can i tags.earlier second stop (new.labels c.trip) (old.bag stop) (new.bag stop) step.kept_first step.kept_then labels (matched.at_stops stop in_stops) (step.boards stop in_stops);
       in_trips = λ trip in_trips. elim (cases_eq trip c.trip) [
-        | inl same ↦ subst (λ (k : ℕ). Matches rules tags.aboard (IsLabelled t q i k) (aboard_value rules t) (new.labels k)) (sym same) labels
-        | inr other ↦ subst (λ points. Matches rules tags.aboard (IsLabelled t q i trip) (aboard_value rules t) points) (sym (step.other_trips trip other)) (other_labels rules laws t q can tags i trip (old.labels trip) other (matched.in_trips trip in_trips))
+        | inl same ↦ subst (λ (k : ℕ). Matches rules tags.later.aboard (IsLabelled t q i k) (IsPlainAboard t q.target) (aboard_value rules t) (new.labels k)) (sym same) (labels_kept rules laws t q can i step.between tags.later c.trip (new.labels c.trip) step.kept_then labels)
+        | inr other ↦ subst (λ points. Matches rules tags.later.aboard (IsLabelled t q i trip) (IsPlainAboard t q.target) (aboard_value rules t) points) (sym (step.other_trips trip other))
+            (other_labels rules laws t q can i tags.earlier tags.later trip (old.labels trip) (keeps_on tags.earlier step.between tags.later step.kept_first step.kept_then) other (matched.in_trips trip in_trips))
       ];
-      at_source = found_down rules laws t q can tags i (new.labels c.trip) old.found new.found labels matched.at_source step.sets_out;
+      at_source = found_down rules laws t q can i tags.earlier second (new.labels c.trip) old.found new.found step.kept_first step.kept_then labels matched.at_source step.sets_out;
     }
 
--- points match under each spelling that agrees on their tags
-respelled : {V X : Type 0} (rules : Rules V) (a b : ℕ → Option X) (IsThere : ℕ → X → Type 0) (value : X → V) (points : List (Point V)) → ((p : Point V) → Contains points p → a p.tag ≡ b p.tag) → Matches rules a IsThere value points → Matches rules b IsThere value points
-respelled rules a b IsThere value points alike is = record {
-  sound = λ p in_points.
-      let at = is.sound p in_points in
-      record { way = at.way; spells = subst (λ o. StandsFor o at.way) (alike p in_points) at.spells; there = at.there; worth = at.worth };
+-- points match under each spelling by which their tags spell the same
+respelled : {V X : Type 0} (rules : Rules V) (a b : ℕ → Option X) (IsThere : ℕ → X → Type 0) (IsPlainWay : X → Type 0) (value : X → V) (points : List (Point V)) → ((p : Point V) (x : X) → Contains points p → a p.tag ≡ Some x → b p.tag ≡ Some x) → Matches rules a IsThere IsPlainWay value points → Matches rules b IsThere IsPlainWay value points
+respelled rules a b IsThere IsPlainWay value points stay is = record {
+  sound = λ p in_points. attained_more a b IsThere IsThere IsPlainWay value (λ d x there. there) p (λ x e. stay p x in_points e) (is.sound p in_points);
   complete = is.complete;
 }
 
 pub tags_may_come : {V : Type 0} (rules : Rules V) → TagsMayCome rules
-tags_may_come rules t q a b i scan alike is = record {
-  at_stops = λ stop in_stops. respelled rules a.onward b.onward (IsOnward t q i stop) (onward_value rules t) (scan.bag stop) (alike.at_stops stop) (is.at_stops stop in_stops);
-  in_trips = λ trip in_trips. respelled rules a.aboard b.aboard (IsLabelled t q i trip) (aboard_value rules t) (scan.labels trip) (alike.in_trips trip) (is.in_trips trip in_trips);
-  at_source = respelled rules a.journey b.journey (CountsFrom t q i) (journey_value rules t) scan.found alike.at_source is.at_source;
+tags_may_come rules t q a b i scan stay is = record {
+  at_stops = λ stop in_stops. respelled rules a.onward b.onward (IsOnward t q i stop) (IsPlainOnward t q.target) (onward_value rules t) (scan.bag stop) (stay.at_stops stop) (is.at_stops stop in_stops);
+  in_trips = λ trip in_trips. respelled rules a.aboard b.aboard (IsLabelled t q i trip) (IsPlainAboard t q.target) (aboard_value rules t) (scan.labels trip) (stay.in_trips trip) (is.in_trips trip in_trips);
+  at_source = respelled rules a.journey b.journey (CountsFrom t q i) (IsPlain t q.target) (journey_value rules t) scan.found stay.at_source is.at_source;
 }

@@ -9,9 +9,9 @@ use Rattle.timetable.specs.declared.query.Query.{Query}
 use Rattle.timetable.specs.Journeys.{start_secs}
 use Rattle.profile_scan.specs.Values.{started}
 use Rattle.profile_scan.specs.Continuations.{Onward, Aboard}
-use Rattle.profile_scan.specs.Matching.{Spelling, StandsFor}
+use Rattle.profile_scan.specs.Matching.{Spellings, from_to}
 use Rattle.profile_scan.specs.Steps.{Offer, TakesIn, boarded}
-use Rattle.profile_scan.specs.Nodes.{Extends, walk_of}
+use Rattle.profile_scan.specs.Nodes.{Extends, spelling, walk_of}
 use Rattle.profile_scan.specs.declared.nodes.Node.{Node}
 
 -- one way, which is open
@@ -27,9 +27,11 @@ each_of There offer = record {
   fits_tag = λ way. (offer way.0).fits_tag way.1;
 }
 
--- a list takes an offer in, whatever nodes are still to come
-abbrev pub Takes : {A V : Type 0} → Rules V → List Node → (List Node → Offer A V) → List (Point V) → List (Point V) → Type 0
-Takes rules nodes offer old new = (all : List Node) → Extends nodes all → TakesIn rules (offer all) old new
+-- a list takes an offer in while nodes come to be kept: whichever of the nodes before it one asks, and whatever nodes are still to come
+abbrev pub Takes : {A V : Type 0} → Rules V → List Node → List Node → (Spellings → Offer A V) → List (Point V) → List (Point V) → Type 0
+Takes rules was now offer old new =
+    (before all : List Node) → Extends before was → Extends now all
+    → TakesIn rules (offer (from_to (spelling before) (spelling all))) old new
 
 -- an element stands at a place below n
 abbrev pub StandsBefore : {X : Type 0} → List X → ℕ → X → Type 0
@@ -40,30 +42,30 @@ abbrev pub StandsAtOne : {X : Type 0} → List X → List ℕ → X → Type 0
 StandsAtOne points places x = (k : ℕ) × Contains places k × (slice_get points k ≡ Some x)
 
 -- a bag is offered each label of a trip, boarded at place i after a footpath
-abbrev pub boardings_after : {V : Type 0} → Rules V → Spelling → ℕ → ℕ → Footpath → List (Point V) → Offer (Point V) V
+abbrev pub boardings_after : {V : Type 0} → Rules V → Spellings → ℕ → ℕ → Footpath → List (Point V) → Offer (Point V) V
 boardings_after rules tags i departure walk labels = record {
   is_open = Contains labels;
   departure = λ _. departure;
   value = λ label. rules.walk walk.secs (rules.ride label.value);
-  fits_tag = λ label tag. (x : Aboard) → StandsFor (tags.aboard label.tag) x → StandsFor (tags.onward tag) (record { walk = walk ∷ []; rides = boarded i x });
+  fits_tag = λ label tag. (x : Aboard) → tags.earlier.aboard label.tag ≡ Some x → tags.later.onward tag ≡ Some (record { walk = walk ∷ []; rides = boarded i x });
 }
 
 -- the points found are offered each label of a trip, boarded at place i after a start
-abbrev pub settings_out_after : {V : Type 0} → Rules V → Spelling → ℕ → ℕ → Option Footpath → List (Point V) → Offer (Point V) V
+abbrev pub settings_out_after : {V : Type 0} → Rules V → Spellings → ℕ → ℕ → Option Footpath → List (Point V) → Offer (Point V) V
 settings_out_after rules tags i departure start labels = record {
   is_open = Contains labels;
   departure = λ _. departure;
   value = λ label. started rules start (rules.ride label.value);
-  fits_tag = λ label tag. (x : Aboard) → StandsFor (tags.aboard label.tag) x → StandsFor (tags.journey tag) (record { start = start; rides = boarded i x });
+  fits_tag = λ label tag. (x : Aboard) → tags.earlier.aboard label.tag ≡ Some x → tags.later.journey tag ≡ Some (record { start = start; rides = boarded i x });
 }
 
 -- labels are offered each point of a bag that departs at a time or later, the trip being left at place i
-abbrev pub changes_from : {V : Type 0} → Spelling → ℕ → ℕ → List (Point V) → Offer (Point V) V
+abbrev pub changes_from : {V : Type 0} → Spellings → ℕ → ℕ → List (Point V) → Offer (Point V) V
 changes_from tags i time bag = record {
   is_open = λ p. Contains bag p × (time ≤ p.departure);
   departure = λ _. 0;
   value = λ p. p.value;
-  fits_tag = λ p tag. (x : Onward) → StandsFor (tags.onward p.tag) x → StandsFor (tags.aboard tag) (record { last = i; walk = x.walk; rides = x.rides });
+  fits_tag = λ p tag. (x : Onward) → tags.earlier.onward p.tag ≡ Some x → tags.later.aboard tag ≡ Some (record { last = i; walk = x.walk; rides = x.rides });
 }
 
 -- two offers together
@@ -96,16 +98,16 @@ IsEnding c q way None = (c.to ≡ q.target) × (c.arr ≤ q.by)
 IsEnding c q way (Some f) = (c.to ≢ q.target) × (way ≡ Some f.secs) × (f.from ≡ c.to) × (f.to ≡ q.target) × (c.arr + f.secs ≤ q.by)
 
 -- labels are offered each way to end there, the trip being left at place i
-abbrev pub endings : {V : Type 0} → Rules V → Spelling → ℕ → Connection → Query → Option ℕ → Offer (Option Footpath) V
+abbrev pub endings : {V : Type 0} → Rules V → Spellings → ℕ → Connection → Query → Option ℕ → Offer (Option Footpath) V
 endings rules tags i c q way = record {
   is_open = IsEnding c q way;
   departure = λ _. 0;
   value = λ walk. started rules walk (rules.arrive (c.arr + start_secs walk));
-  fits_tag = λ walk tag. StandsFor (tags.aboard tag) (record { last = i; walk = walk_of walk; rides = [] });
+  fits_tag = λ walk tag. tags.later.aboard tag ≡ Some (record { last = i; walk = walk_of walk; rides = [] });
 }
 
 -- the two ways to leave a trip where a connection ends: to end, or to change
-abbrev pub endings_and_changes : {V : Type 0} → Rules V → Spelling → ℕ → Connection → Query → Option ℕ → List (Point V) → Offer (Option Footpath ⊎ Point V) V
+abbrev pub endings_and_changes : {V : Type 0} → Rules V → Spellings → ℕ → Connection → Query → Option ℕ → List (Point V) → Offer (Option Footpath ⊎ Point V) V
 endings_and_changes rules tags i c q way bag = either (endings rules tags i c q way) (changes_from tags i c.arr bag)
 
 -- a start leads to a connection from the source in time, and departs in the window: none where the connection starts at the source, else one footpath to another stop
@@ -129,9 +131,9 @@ IsTried walks begin end None = Unit {0}
 IsTried walks begin end (Some walk) = StandsBetween walks begin end walk
 
 -- what one footpath into a connection's start offers the bag of a stop: something, if it begins there and is short enough
-abbrev pub boardings_by : {V : Type 0} → Rules V → Spelling → ℕ → Connection → ℕ → List (Point V) → Footpath → Offer (Point V) V
+abbrev pub boardings_by : {V : Type 0} → Rules V → Spellings → ℕ → Connection → ℕ → List (Point V) → Footpath → Offer (Point V) V
 boardings_by rules tags i c stop labels walk = only_if ((walk.from ≡ stop) × (walk.secs ≤ c.dep)) (boardings_after rules tags i (c.dep - walk.secs) walk labels)
 
 -- what one start offers the points found, if it is one
-abbrev pub settings_out_by : {V : Type 0} → Rules V → Spelling → ℕ → Connection → Query → List (Point V) → Option Footpath → Offer (Point V) V
+abbrev pub settings_out_by : {V : Type 0} → Rules V → Spellings → ℕ → Connection → Query → List (Point V) → Option Footpath → Offer (Point V) V
 settings_out_by rules tags i c q labels start = only_if (MayStart q c start) (settings_out_after rules tags i (c.dep - start_secs start) start labels)

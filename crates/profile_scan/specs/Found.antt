@@ -8,23 +8,29 @@ use Rattle.timetable.specs.declared.query.Query.{Query}
 use Rattle.profile_scan.specs.Points.{IsAnswer}
 use Rattle.timetable.specs.Journeys.{Counts}
 use Rattle.profile_scan.specs.Values.{journey_value}
+use Rattle.profile_scan.specs.Plain.{IsPlain}
 use Rattle.profile_scan.specs.Matching.{IsAttained}
 use Rattle.profile_scan.specs.Nodes.{spelling}
 use Rattle.profile_scan.specs.Kept.{IsWay}
 use Rattle.profile_scan.specs.declared.found.Found.{Found}
+use Rattle.profile_scan.specs.declared.nodes.Node.{Node}
 
 -- its points, at their places
 abbrev pub listed : {K V : Type 0} → Found K V → List (Point V)
 listed found = found.points.items
 
+-- its nodes, at their numbers
+abbrev pub nodes_of : {K V : Type 0} → Found K V → List Node
+nodes_of found = found.nodes.items
+
 -- the seconds of the footpath from the source to the target, if there is one
 abbrev pub walk_of_found : {K V : Type 0} → Found K V → Option ℕ
 walk_of_found found = found.walk
 
--- it is the answer of a query over a timetable, under a criterion; each point is attained by a journey that counts, the one that its tag spells by the nodes if it spells one
+-- it is the answer of a query over a timetable, under a criterion; each point's tag spells, by the nodes, a plain journey that counts, with the point's departure and value
 pub record Answers {K V : Type 0} (criterion : K) (rules : Rules V) (t : TimetableValue) (q : Query) (found : Found K V) : Type 0 where
   pub answer : IsAnswer rules t q (listed found)
-  pub attained : (p : Point V) → Contains (listed found) p → IsAttained (spelling found.nodes.items).journey (Counts t q) (journey_value rules t) p
+  pub attained : (p : Point V) → Contains (listed found) p → IsAttained (spelling (nodes_of found)).journey (Counts t q) (IsPlain t q.target) (journey_value rules t) p
   pub direct : IsWay t q.target q.source (walk_of_found found)
   pub keeps : (found.criterion ≡ criterion) × (found.timetable.value ≡ t) × (found.query.value ≡ q)
 

@@ -1,5 +1,5 @@
 -- The laws that exactness rests on, as statements over the definitions alone.
-use Rattle.std.specs.Prelude.{◌≡◌, ◌≢◌, ℕ, ◌+◌, ◌-◌, ◌<◌, ◌≤◌, List, [], ◌∷◌, length, Contains, AllPairs, All, map, reverse}
+use Rattle.std.specs.Prelude.{◌≡◌, ◌≢◌, ℕ, ◌+◌, ◌-◌, ◌<◌, ◌≤◌, List, [], ◌∷◌, length, Contains, AllPairs, All, map, reverse, Some}
 use Rattle.criteria.specs.Laws.{Rules, Admits, NoWorse}
 use Rattle.bags.specs.Dominance.{IsBag}
 use Rattle.bags.specs.declared.point.Point.{Point}
@@ -16,7 +16,8 @@ use Rattle.profile_scan.specs.Points.{IsAnswer, Before, untagged}
 use Rattle.profile_scan.specs.Window.{window, falling}
 use Rattle.sources.specs.FirstAt.{IsFirstAt}
 use Rattle.profile_scan.specs.Continuations.{Onward, Aboard, IsOnward, IsAboard, CountsFrom}
-use Rattle.profile_scan.specs.Matching.{Spelling, Matches, ScanValue, MatchesFrom}
+use Rattle.profile_scan.specs.Plain.{IsPlain}
+use Rattle.profile_scan.specs.Matching.{Spelling, Spellings, Matches, ScanValue, MatchesFrom}
 
 -- a legal timetable within the limits, and a query whose latest arrival is a time
 pub record CanScan (t : TimetableValue) (q : Query) : Type 0 where
@@ -48,24 +49,24 @@ abbrev pub TogetherNeverContinue : Type 0
 TogetherNeverContinue = (t : TimetableValue) → IsLegal t → DeparturesRise t
 
 -- what is kept of the later connections and matches all ways to go on over them still does after the step of one connection
-abbrev pub OneIndexDown : {V : Type 0} → Rules V → (TimetableValue → Query → Spelling → ℕ → ScanValue V → ScanValue V → Type 0) → Type 0
+abbrev pub OneIndexDown : {V : Type 0} → Rules V → (TimetableValue → Query → Spellings → ℕ → ScanValue V → ScanValue V → Type 0) → Type 0
 OneIndexDown {V} rules Step =
     (t : TimetableValue) (q : Query) → CanScan t q
-    → (tags : Spelling) (i : ℕ) → i < length t.connections
-    → (old new : ScanValue V) → MatchesFrom rules t q tags (i + 1) old → Step t q tags i old new
-    → MatchesFrom rules t q tags i new
+    → (tags : Spellings) (i : ℕ) → i < length t.connections
+    → (old new : ScanValue V) → MatchesFrom rules t q tags.earlier (i + 1) old → Step t q tags i old new
+    → MatchesFrom rules t q tags.later i new
 
--- two spellings agree on the tags in use
-pub record SpellAlike {V : Type 0} (a b : Spelling) (scan : ScanValue V) : Type 0 where
-  pub at_stops : (stop : ℕ) (p : Point V) → Contains (scan.bag stop) p → a.onward p.tag ≡ b.onward p.tag
-  pub in_trips : (trip : ℕ) (p : Point V) → Contains (scan.labels trip) p → a.aboard p.tag ≡ b.aboard p.tag
-  pub at_source : (p : Point V) → Contains scan.found p → a.journey p.tag ≡ b.journey p.tag
+-- what the tags in use spell by the one spelling, they spell by the other
+pub record StaySpelled {V : Type 0} (a b : Spelling) (scan : ScanValue V) : Type 0 where
+  pub at_stops : (stop : ℕ) (p : Point V) (x : Onward) → Contains (scan.bag stop) p → a.onward p.tag ≡ Some x → b.onward p.tag ≡ Some x
+  pub in_trips : (trip : ℕ) (p : Point V) (x : Aboard) → Contains (scan.labels trip) p → a.aboard p.tag ≡ Some x → b.aboard p.tag ≡ Some x
+  pub at_source : (p : Point V) (j : JourneyValue) → Contains scan.found p → a.journey p.tag ≡ Some j → b.journey p.tag ≡ Some j
 
 -- what matches still does where further tags come to spell something
 abbrev pub TagsMayCome : {V : Type 0} → Rules V → Type 0
 TagsMayCome {V} rules =
     (t : TimetableValue) (q : Query) (a b : Spelling) (i : ℕ) (scan : ScanValue V)
-    → SpellAlike a b scan → MatchesFrom rules t q a i scan → MatchesFrom rules t q b i scan
+    → StaySpelled a b scan → MatchesFrom rules t q a i scan → MatchesFrom rules t q b i scan
 
 -- the cut at the latest departure is the source's alone: what follows a stop or in a trip doesn't know it, and of a journey only its own departure is asked, however early the cut
 pub record CutIsTheSources (JourneyCounts : TimetableValue → Query → ℕ → JourneyValue → Type 0) : Type 0 where
@@ -79,7 +80,7 @@ abbrev pub MatchIsTheAnswer : {V : Type 0} → Rules V → Type 0
 MatchIsTheAnswer {V} rules =
     (t : TimetableValue) (q : Query) → CanScan t q
     → (start : ℕ) → IsFirstAt t q.from start
-    → (tags : Spelling) (found : List (Point V)) → Matches rules tags.journey (CountsFrom t q start) (journey_value rules t) found
+    → (tags : Spelling) (found : List (Point V)) → Matches rules tags.journey (CountsFrom t q start) (IsPlain t q.target) (journey_value rules t) found
     → IsBag rules found → AllPairs (Before rules) found
     → IsAnswer rules t q found
 

@@ -2,6 +2,7 @@ pub mod Values
 pub mod Points
 pub mod Window
 pub mod Continuations
+pub mod Plain
 pub mod Matching
 pub mod Steps
 pub mod LawStatements

@@ -1,5 +1,5 @@
 -- What a scan keeps, and when it matches all that may follow over the later connections.
-use Rattle.std.specs.Prelude.{◌≡◌, ℕ, ◌<◌, List, Contains, Option, Some, None}
+use Rattle.std.specs.Prelude.{◌≡◌, ℕ, ◌<◌, List, Contains, Option, Some}
 use Rattle.criteria.specs.Laws.{Rules}
 use Rattle.bags.specs.declared.point.Point.{Point}
 use Rattle.timetable.specs.TimetableValue.{TimetableValue}
@@ -8,6 +8,7 @@ use Rattle.timetable.specs.declared.query.Query.{Query}
 use Rattle.profile_scan.specs.Values.{journey_value}
 use Rattle.profile_scan.specs.Points.{Covers}
 use Rattle.profile_scan.specs.Continuations.{Onward, Aboard, IsOnward, IsAboard, CountsFrom, onward_value, aboard_value}
+use Rattle.profile_scan.specs.Plain.{IsPlainOnward, IsPlainAboard, IsPlain}
 
 -- what the tags of bags, of labels and of the points found spell: how one goes on, or nothing
 pub record Spelling : Type 0 where
@@ -15,21 +16,31 @@ pub record Spelling : Type 0 where
   pub aboard : ℕ → Option Aboard
   pub journey : ℕ → Option JourneyValue
 
--- a tag that spells nothing leaves open what it stands for
-abbrev pub StandsFor : {X : Type 0} → Option X → X → Type 0
-StandsFor None x = Unit {0}
-StandsFor (Some y) x = y ≡ x
+-- what is spelled by the one is spelled by the other too
+pub record Keeps (before after : Spelling) : Type 0 where
+  pub onward : (tag : ℕ) (x : Onward) → before.onward tag ≡ Some x → after.onward tag ≡ Some x
+  pub aboard : (tag : ℕ) (x : Aboard) → before.aboard tag ≡ Some x → after.aboard tag ≡ Some x
+  pub journey : (tag : ℕ) (j : JourneyValue) → before.journey tag ≡ Some j → after.journey tag ≡ Some j
 
--- a point is attained by what its tag spells
-pub record IsAttained {V X : Type 0} (spelled : ℕ → Option X) (IsThere : ℕ → X → Type 0) (value : X → V) (p : Point V) : Type 0 where
+-- what tags spell before something is taken in, and after it
+pub record Spellings : Type 0 where
+  pub earlier : Spelling
+  pub later : Spelling
+
+abbrev pub from_to : Spelling → Spelling → Spellings
+from_to before after = record { earlier = before; later = after }
+
+-- a point is attained by what its tag spells: a way that is there, is plain, and has the point's departure and value
+pub record IsAttained {V X : Type 0} (spelled : ℕ → Option X) (IsThere : ℕ → X → Type 0) (IsPlainWay : X → Type 0) (value : X → V) (p : Point V) : Type 0 where
   pub way : X
-  pub spells : StandsFor (spelled p.tag) way
+  pub spells : spelled p.tag ≡ Some way
   pub there : IsThere p.departure way
+  pub plain : IsPlainWay way
   pub worth : p.value ≡ value way
 
--- points match the ways that are there: each point is attained by what its tag spells, and of each way departure and value are covered
-pub record Matches {V X : Type 0} (rules : Rules V) (spelled : ℕ → Option X) (IsThere : ℕ → X → Type 0) (value : X → V) (points : List (Point V)) : Type 0 where
-  pub sound : (p : Point V) → Contains points p → IsAttained spelled IsThere value p
+-- points match the ways that are there: each point is attained by what its tag spells, and of each way, plain or not, departure and value are covered
+pub record Matches {V X : Type 0} (rules : Rules V) (spelled : ℕ → Option X) (IsThere : ℕ → X → Type 0) (IsPlainWay : X → Type 0) (value : X → V) (points : List (Point V)) : Type 0 where
+  pub sound : (p : Point V) → Contains points p → IsAttained spelled IsThere IsPlainWay value p
   pub complete : (departure : ℕ) (x : X) → IsThere departure x → Covers rules points departure (value x)
 
 -- who sits in a trip has departed: labels have departure 0
@@ -45,6 +56,6 @@ pub record ScanValue (V : Type 0) : Type 0 where
 
 -- it matches every way to go on over the connections from place i
 pub record MatchesFrom {V : Type 0} (rules : Rules V) (t : TimetableValue) (q : Query) (tags : Spelling) (i : ℕ) (scan : ScanValue V) : Type 0 where
-  pub at_stops : (stop : ℕ) → stop < t.stops → Matches rules tags.onward (IsOnward t q i stop) (onward_value rules t) (scan.bag stop)
-  pub in_trips : (trip : ℕ) → trip < t.trips → Matches rules tags.aboard (IsLabelled t q i trip) (aboard_value rules t) (scan.labels trip)
-  pub at_source : Matches rules tags.journey (CountsFrom t q i) (journey_value rules t) scan.found
+  pub at_stops : (stop : ℕ) → stop < t.stops → Matches rules tags.onward (IsOnward t q i stop) (IsPlainOnward t q.target) (onward_value rules t) (scan.bag stop)
+  pub in_trips : (trip : ℕ) → trip < t.trips → Matches rules tags.aboard (IsLabelled t q i trip) (IsPlainAboard t q.target) (aboard_value rules t) (scan.labels trip)
+  pub at_source : Matches rules tags.journey (CountsFrom t q i) (IsPlain t q.target) (journey_value rules t) scan.found

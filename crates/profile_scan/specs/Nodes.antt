@@ -1,9 +1,9 @@
 -- What nodes spell, each by what the earlier nodes spell.
-use Rattle.std.specs.Prelude.{◌≡◌, ◌⊎◌, ℕ, List, [], ◌∷◌, ◌++◌, Option, Some, None, slice_index_or}
+use Rattle.std.specs.Prelude.{◌≡◌, ℕ, List, [], ◌∷◌, ◌++◌, Option, Some, None, slice_index_or}
 use Rattle.timetable.specs.declared.network.Footpath.{Footpath}
 use Rattle.timetable.specs.JourneyValue.{JourneyValue}
 use Rattle.profile_scan.specs.Continuations.{Onward, Aboard}
-use Rattle.profile_scan.specs.Matching.{Spelling}
+use Rattle.profile_scan.specs.Matching.{Spelling, Spellings}
 use Rattle.profile_scan.specs.Steps.{boarded}
 use Rattle.profile_scan.specs.declared.nodes.Node.{Node}
 use Rattle.profile_scan.specs.declared.nodes.Node.TheVariants.{Ends, Changes, Boards, SetsOut}
@@ -62,8 +62,15 @@ spelling nodes = record { onward = λ k. (spelled nodes k).onward; aboard = λ k
 abbrev pub Extends : List Node → List Node → Type 0
 Extends nodes all = (more : List Node) × (all ≡ nodes ++ more)
 
--- a number spells what a node says, by what the earlier numbers spell
-pub record IsSpelled (all : List Node) (node : Node) (tag : ℕ) : Type 0 where
-  pub earlier : ℕ → Spelled
-  pub same : (k : ℕ) → (earlier k ≡ nothing) ⊎ (earlier k ≡ spelled all k)
-  pub is : spelled all tag ≡ spells earlier node
+-- a tag spells what a node says, by what earlier tags spelled
+abbrev pub IsSpelled : Spellings → Node → ℕ → Type 0
+IsSpelled tags (Ends last walk) tag = tags.later.aboard tag ≡ Some (record { last = last; walk = walk_of walk; rides = [] })
+IsSpelled tags (Changes last next) tag =
+    (x : Onward) → tags.earlier.onward next ≡ Some x
+    → tags.later.aboard tag ≡ Some (record { last = last; walk = x.walk; rides = x.rides })
+IsSpelled tags (Boards walk first next) tag =
+    (x : Aboard) → tags.earlier.aboard next ≡ Some x
+    → tags.later.onward tag ≡ Some (record { walk = walk ∷ []; rides = boarded first x })
+IsSpelled tags (SetsOut start first next) tag =
+    (x : Aboard) → tags.earlier.aboard next ≡ Some x
+    → tags.later.journey tag ≡ Some (record { start = start; rides = boarded first x })

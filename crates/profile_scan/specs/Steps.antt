@@ -1,5 +1,5 @@
 -- What one connection adds to what a scan keeps.
-use Rattle.std.specs.Prelude.{◌≡◌, ◌≢◌, ◌⊎◌, ℕ, ◌+◌, ◌-◌, ◌<◌, ◌≤◌, true, List, [], ◌∷◌, Contains, Option}
+use Rattle.std.specs.Prelude.{◌≡◌, ◌≢◌, ◌⊎◌, ℕ, ◌+◌, ◌-◌, ◌<◌, ◌≤◌, true, List, [], ◌∷◌, Contains, Option, Some}
 use Rattle.criteria.specs.Laws.{Rules, Admits}
 use Rattle.bags.specs.declared.point.Point.{Point}
 use Rattle.timetable.specs.declared.network.Footpath.{Footpath}
@@ -10,7 +10,7 @@ use Rattle.timetable.specs.declared.query.Query.{Query}
 use Rattle.profile_scan.specs.Values.{started}
 use Rattle.profile_scan.specs.Points.{Covers}
 use Rattle.profile_scan.specs.Continuations.{Onward, Aboard}
-use Rattle.profile_scan.specs.Matching.{Spelling, StandsFor, ScanValue}
+use Rattle.profile_scan.specs.Matching.{Spelling, Spellings, Keeps, from_to, ScanValue}
 
 -- what is offered to a list of points: of the ways A those that are open, and for each a departure, a value, and the tags that fit
 pub record Offer (A V : Type 0) : Type 1 where
@@ -56,16 +56,16 @@ leaving_value rules t i ends = rules.arrive (connection_at t i).arr
 leaving_value rules t i (ends_after f) = rules.walk f.secs (rules.arrive ((connection_at t i).arr + f.secs))
 leaving_value rules t i (changes p) = p.value
 
--- what its tag may spell
-abbrev pub LeavingTag : {V : Type 0} → Spelling → ℕ → Leaving V → ℕ → Type 0
-LeavingTag tags i ends tag = StandsFor (tags.aboard tag) (record { last = i; walk = []; rides = [] })
-LeavingTag tags i (ends_after f) tag = StandsFor (tags.aboard tag) (record { last = i; walk = f ∷ []; rides = [] })
+-- what its tag has to spell
+abbrev pub LeavingTag : {V : Type 0} → Spellings → ℕ → Leaving V → ℕ → Type 0
+LeavingTag tags i ends tag = tags.later.aboard tag ≡ Some (record { last = i; walk = []; rides = [] })
+LeavingTag tags i (ends_after f) tag = tags.later.aboard tag ≡ Some (record { last = i; walk = f ∷ []; rides = [] })
 LeavingTag tags i (changes p) tag =
-    (x : Onward) → StandsFor (tags.onward p.tag) x
-    → StandsFor (tags.aboard tag) (record { last = i; walk = x.walk; rides = x.rides })
+    (x : Onward) → tags.earlier.onward p.tag ≡ Some x
+    → tags.later.aboard tag ≡ Some (record { last = i; walk = x.walk; rides = x.rides })
 
 -- the labels of the connection's trip are offered each way to leave it, where passengers may get off
-abbrev pub leavings : {V : Type 0} → Rules V → TimetableValue → Query → Spelling → ℕ → List (Point V) → Offer (Leaving V) V
+abbrev pub leavings : {V : Type 0} → Rules V → TimetableValue → Query → Spellings → ℕ → List (Point V) → Offer (Leaving V) V
 leavings rules t q tags i bag = record {
   is_open = λ way. ((connection_at t i).alight ≡ true) × MayLeave t q i bag way;
   departure = λ _. 0;
@@ -91,12 +91,12 @@ pub record MayBoard {V : Type 0} (t : TimetableValue) (i stop : ℕ) (labels : L
   pub is_label : Contains labels way.label
 
 -- the bag of a stop is offered each label after each footpath from the stop to the connection
-abbrev pub boardings : {V : Type 0} → Rules V → TimetableValue → Spelling → ℕ → ℕ → List (Point V) → Offer (Boarding V) V
+abbrev pub boardings : {V : Type 0} → Rules V → TimetableValue → Spellings → ℕ → ℕ → List (Point V) → Offer (Boarding V) V
 boardings rules t tags i stop labels = record {
   is_open = MayBoard t i stop labels;
   departure = λ way. (connection_at t i).dep - way.walk.secs;
   value = λ way. rules.walk way.walk.secs (rules.ride way.label.value);
-  fits_tag = λ way tag. (x : Aboard) → StandsFor (tags.aboard way.label.tag) x → StandsFor (tags.onward tag) (record { walk = way.walk ∷ []; rides = boarded i x });
+  fits_tag = λ way tag. (x : Aboard) → tags.earlier.aboard way.label.tag ≡ Some x → tags.later.onward tag ≡ Some (record { walk = way.walk ∷ []; rides = boarded i x });
 }
 
 -- setting out from the source to board a connection: a start, and a label of its trip
@@ -115,17 +115,20 @@ pub record MaySetOut {V : Type 0} (t : TimetableValue) (q : Query) (i : ℕ) (la
   pub is_label : Contains labels way.label
 
 -- the points found are offered each label after each start
-abbrev pub settings_out : {V : Type 0} → Rules V → TimetableValue → Query → Spelling → ℕ → List (Point V) → Offer (SettingOut V) V
+abbrev pub settings_out : {V : Type 0} → Rules V → TimetableValue → Query → Spellings → ℕ → List (Point V) → Offer (SettingOut V) V
 settings_out rules t q tags i labels = record {
   is_open = MaySetOut t q i labels;
   departure = λ way. (connection_at t i).dep - start_secs way.start;
   value = λ way. started rules way.start (rules.ride way.label.value);
-  fits_tag = λ way tag. (x : Aboard) → StandsFor (tags.aboard way.label.tag) x → StandsFor (tags.journey tag) (record { start = way.start; rides = boarded i x });
+  fits_tag = λ way tag. (x : Aboard) → tags.earlier.aboard way.label.tag ≡ Some x → tags.later.journey tag ≡ Some (record { start = way.start; rides = boarded i x });
 }
 
--- one connection, from what a scan keeps of the later ones: first the labels of its trip, by the bag of the stop where it ends; then, by these labels, every bag and the points found
-pub record IsStep {V : Type 0} (rules : Rules V) (t : TimetableValue) (q : Query) (tags : Spelling) (i : ℕ) (old new : ScanValue V) : Type 0 where
-  pub leaves : TakesIn rules (leavings rules t q tags i (old.bag (connection_at t i).to)) (old.labels (connection_at t i).trip) (new.labels (connection_at t i).trip)
+-- one connection, from what a scan keeps of the later ones: first the labels of its trip, by the bag of the stop where it ends; then, by these labels and what their tags spell between, every bag and the points found
+pub record IsStep {V : Type 0} (rules : Rules V) (t : TimetableValue) (q : Query) (tags : Spellings) (i : ℕ) (old new : ScanValue V) : Type 0 where
+  pub between : Spelling
+  pub kept_first : Keeps tags.earlier between
+  pub kept_then : Keeps between tags.later
+  pub leaves : TakesIn rules (leavings rules t q (from_to tags.earlier between) i (old.bag (connection_at t i).to)) (old.labels (connection_at t i).trip) (new.labels (connection_at t i).trip)
   pub other_trips : (trip : ℕ) → trip ≢ (connection_at t i).trip → new.labels trip ≡ old.labels trip
-  pub boards : (stop : ℕ) → stop < t.stops → TakesIn rules (boardings rules t tags i stop (new.labels (connection_at t i).trip)) (old.bag stop) (new.bag stop)
-  pub sets_out : TakesIn rules (settings_out rules t q tags i (new.labels (connection_at t i).trip)) old.found new.found
+  pub boards : (stop : ℕ) → stop < t.stops → TakesIn rules (boardings rules t (from_to between tags.later) i stop (new.labels (connection_at t i).trip)) (old.bag stop) (new.bag stop)
+  pub sets_out : TakesIn rules (settings_out rules t q (from_to between tags.later) i (new.labels (connection_at t i).trip)) old.found new.found

@@ -8,24 +8,27 @@ use Rattle.timetable.specs.JourneyValue.{RideValue, JourneyValue}
 use Rattle.timetable.specs.Journeys.{connection_at, start_end, start_secs, Counts}
 use Rattle.timetable.specs.TimetableValue.{TimetableValue}
 use Rattle.profile_scan.specs.Continuations.{Aboard}
-use Rattle.profile_scan.specs.Matching.{Spelling, StandsFor, ScanValue}
+use Rattle.profile_scan.specs.Matching.{Spelling, Spellings, Keeps, from_to, ScanValue}
 use Rattle.profile_scan.specs.Steps.{Offer, TakesIn, leavings, boarded, Boarding, MayBoard, boardings, SettingOut, settings_out}
 
 -- a step that offers something else to the bags, or to the points found
-pub record IsStepWith {V A B : Type 0} (rules : Rules V) (t : TimetableValue) (q : Query) (tags : Spelling) (i : ℕ) (to_bag : ℕ → List (Point V) → Offer A V) (to_found : List (Point V) → Offer B V) (old new : ScanValue V) : Type 0 where
-  pub leaves : TakesIn rules (leavings rules t q tags i (old.bag (connection_at t i).to)) (old.labels (connection_at t i).trip) (new.labels (connection_at t i).trip)
+pub record IsStepWith {V A B : Type 0} (rules : Rules V) (t : TimetableValue) (q : Query) (tags : Spellings) (i : ℕ) (to_bag : Spellings → ℕ → List (Point V) → Offer A V) (to_found : Spellings → List (Point V) → Offer B V) (old new : ScanValue V) : Type 0 where
+  pub between : Spelling
+  pub kept_first : Keeps tags.earlier between
+  pub kept_then : Keeps between tags.later
+  pub leaves : TakesIn rules (leavings rules t q (from_to tags.earlier between) i (old.bag (connection_at t i).to)) (old.labels (connection_at t i).trip) (new.labels (connection_at t i).trip)
   pub other_trips : (trip : ℕ) → trip ≢ (connection_at t i).trip → new.labels trip ≡ old.labels trip
-  pub boards : (stop : ℕ) → stop < t.stops → TakesIn rules (to_bag stop (new.labels (connection_at t i).trip)) (old.bag stop) (new.bag stop)
-  pub sets_out : TakesIn rules (to_found (new.labels (connection_at t i).trip)) old.found new.found
+  pub boards : (stop : ℕ) → stop < t.stops → TakesIn rules (to_bag (from_to between tags.later) stop (new.labels (connection_at t i).trip)) (old.bag stop) (new.bag stop)
+  pub sets_out : TakesIn rules (to_found (from_to between tags.later) (new.labels (connection_at t i).trip)) old.found new.found
 
 -- the source's bag is cut at the latest departure: who comes back to the source later can't leave it again
-abbrev pub cut_boardings : {V : Type 0} → Rules V → TimetableValue → Query → Spelling → ℕ → ℕ → List (Point V) → Offer (Boarding V) V
+abbrev pub cut_boardings : {V : Type 0} → Rules V → TimetableValue → Query → Spellings → ℕ → ℕ → List (Point V) → Offer (Boarding V) V
 cut_boardings rules t q tags i stop labels = record (boardings rules t tags i stop labels) {
   is_open = λ way. MayBoard t i stop labels way × (stop ≡ q.source → (connection_at t i).dep - way.walk.secs ≤ q.until);
 }
 
-abbrev pub IsStepWithBagCut : {V : Type 0} → Rules V → TimetableValue → Query → Spelling → ℕ → ScanValue V → ScanValue V → Type 0
-IsStepWithBagCut rules t q tags i = IsStepWith rules t q tags i (cut_boardings rules t q tags i) (settings_out rules t q tags i)
+abbrev pub IsStepWithBagCut : {V : Type 0} → Rules V → TimetableValue → Query → Spellings → ℕ → ScanValue V → ScanValue V → Type 0
+IsStepWithBagCut rules t q tags i = IsStepWith rules t q tags i (λ now. cut_boardings rules t q now i) (λ now. settings_out rules t q now i)
 
 -- any footpath from the source is taken as a start, its loop too
 abbrev pub LeavesSource : TimetableValue → ℕ → Option Footpath → Type 0
@@ -41,18 +44,18 @@ pub record MaySetOutByLoop {V : Type 0} (t : TimetableValue) (q : Query) (i : �
   pub not_late : (connection_at t i).dep - start_secs way.start ≤ q.until
   pub is_label : Contains labels way.label
 
-abbrev pub loop_starts : {V : Type 0} → Rules V → TimetableValue → Query → Spelling → ℕ → List (Point V) → Offer (SettingOut V) V
+abbrev pub loop_starts : {V : Type 0} → Rules V → TimetableValue → Query → Spellings → ℕ → List (Point V) → Offer (SettingOut V) V
 loop_starts rules t q tags i labels = record (settings_out rules t q tags i labels) { is_open = MaySetOutByLoop t q i labels }
 
-abbrev pub IsStepWithLoopStart : {V : Type 0} → Rules V → TimetableValue → Query → Spelling → ℕ → ScanValue V → ScanValue V → Type 0
-IsStepWithLoopStart rules t q tags i = IsStepWith rules t q tags i (boardings rules t tags i) (loop_starts rules t q tags i)
+abbrev pub IsStepWithLoopStart : {V : Type 0} → Rules V → TimetableValue → Query → Spellings → ℕ → ScanValue V → ScanValue V → Type 0
+IsStepWithLoopStart rules t q tags i = IsStepWith rules t q tags i (λ now. boardings rules t now i) (λ now. loop_starts rules t q now i)
 
 -- who leaves a trip at a stop boards the next one there at once, without the change time: a bag is offered a label after no footpath too
 pub data Unchanged (V : Type 0) : Type 0 where
   on_foot : Boarding V → Unchanged V
   at_once : Point V → Unchanged V
 
-module _ {V : Type 0} (rules : Rules V) (t : TimetableValue) (tags : Spelling) (i stop : ℕ) (labels : List (Point V)) where
+module _ {V : Type 0} (rules : Rules V) (t : TimetableValue) (tags : Spellings) (i stop : ℕ) (labels : List (Point V)) where
   abbrev pub MayBoardAtOnce : Unchanged V → Type 0
   MayBoardAtOnce (on_foot way) = MayBoard t i stop labels way
   MayBoardAtOnce (at_once label) = ((connection_at t i).board ≡ true) × (stop ≡ (connection_at t i).from) × Contains labels label
@@ -66,14 +69,14 @@ module _ {V : Type 0} (rules : Rules V) (t : TimetableValue) (tags : Spelling) (
   at_once_value (at_once label) = rules.ride label.value
 
   abbrev pub AtOnceTag : Unchanged V → ℕ → Type 0
-  AtOnceTag (on_foot way) tag = (x : Aboard) → StandsFor (tags.aboard way.label.tag) x → StandsFor (tags.onward tag) (record { walk = way.walk ∷ []; rides = boarded i x })
-  AtOnceTag (at_once label) tag = (x : Aboard) → StandsFor (tags.aboard label.tag) x → StandsFor (tags.onward tag) (record { walk = []; rides = boarded i x })
+  AtOnceTag (on_foot way) tag = (x : Aboard) → tags.earlier.aboard way.label.tag ≡ Some x → tags.later.onward tag ≡ Some (record { walk = way.walk ∷ []; rides = boarded i x })
+  AtOnceTag (at_once label) tag = (x : Aboard) → tags.earlier.aboard label.tag ≡ Some x → tags.later.onward tag ≡ Some (record { walk = []; rides = boarded i x })
 
   abbrev pub at_once_boardings : Offer (Unchanged V) V
   at_once_boardings = record { is_open = MayBoardAtOnce; departure = at_once_departure; value = at_once_value; fits_tag = AtOnceTag }
 
-abbrev pub IsStepWithoutChange : {V : Type 0} → Rules V → TimetableValue → Query → Spelling → ℕ → ScanValue V → ScanValue V → Type 0
-IsStepWithoutChange rules t q tags i = IsStepWith rules t q tags i (at_once_boardings rules t tags i) (settings_out rules t q tags i)
+abbrev pub IsStepWithoutChange : {V : Type 0} → Rules V → TimetableValue → Query → Spellings → ℕ → ScanValue V → ScanValue V → Type 0
+IsStepWithoutChange rules t q tags i = IsStepWith rules t q tags i (λ now. at_once_boardings rules t now i) (λ now. settings_out rules t q now i)
 
 -- each leg, and not the journey alone, has to depart by the latest departure
 pub record CountsLegByLeg (t : TimetableValue) (q : Query) (departure : ℕ) (j : JourneyValue) : Type 0 where

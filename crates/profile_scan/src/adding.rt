@@ -1,4 +1,4 @@
-//! Points taken into a bag, each with a node that tells how it was reached.
+//! Points taken into a bag, each with a node that tells how one goes on from it.
 
 ghost use Rattle.std.specs.Prelude.{◌≡◌, OnOk};
 ghost use Rattle.criteria.specs.Laws.{Admits};
@@ -24,7 +24,7 @@ pub fn add<C: Criterion>(
     requires admitted { Admits (C.rules criterion.now) value }
     ensures same { criterion_of bag.new ≡ criterion.now }
     ensures nodes { Extends nodes.old.items nodes.new.items }
-    ensures takes { OnOk result (Takes (C.rules criterion.now) nodes.new.items (λ all. one_way departure value (IsSpelled all node)) (points_of bag.old) (points_of bag.new)) }
+    ensures takes { OnOk result (Takes (C.rules criterion.now) nodes.old.items nodes.new.items (λ tags. one_way departure value (IsSpelled tags node)) (points_of bag.old) (points_of bag.new)) }
 {
     let tag = nodes.len();
     let stands = bag.insert(departure, value, tag)?;

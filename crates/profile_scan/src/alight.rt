@@ -6,7 +6,7 @@ ghost use Rattle.timetable.specs.declared.network.Footpath.{Footpath};
 ghost use Rattle.timetable.specs.Journeys.{start_secs};
 ghost use Rattle.bags.specs.Bag.{criterion_of, points_of};
 ghost use Rattle.profile_scan.specs.Values.{started};
-ghost use Rattle.profile_scan.specs.Nodes.{Extends, spelling};
+ghost use Rattle.profile_scan.specs.Nodes.{Extends};
 ghost use Rattle.profile_scan.specs.Adding.{Takes, only_if, changes_from, endings, endings_and_changes, IsEnding};
 
 use crate::adding::add;
@@ -29,7 +29,7 @@ pub fn change<C: Criterion>(
     requires bag { criterion_of bag.now ≡ criterion.now }
     ensures same { criterion_of labels.new ≡ criterion.now }
     ensures nodes { Extends nodes.old.items nodes.new.items }
-    ensures takes { OnOk result (Takes (C.rules criterion.now) nodes.new.items (λ all. changes_from (spelling all) last time (points_of bag.now)) (points_of labels.old) (points_of labels.new)) }
+    ensures takes { OnOk result (Takes (C.rules criterion.now) nodes.old.items nodes.new.items (λ tags. changes_from tags last time (points_of bag.now)) (points_of labels.old) (points_of labels.new)) }
 {
     for place in bag.best_from(time) {
         let point = bag.point(place);
@@ -112,7 +112,7 @@ pub fn end<C: Criterion>(
     requires labels { criterion_of labels.old ≡ criterion.now }
     ensures same { criterion_of labels.new ≡ criterion.now }
     ensures nodes { Extends nodes.old.items nodes.new.items }
-    ensures takes { OnOk result (Takes (C.rules criterion.now) nodes.new.items (λ all. endings (C.rules criterion.now) (spelling all) last connection.now query.now way) (points_of labels.old) (points_of labels.new)) }
+    ensures takes { OnOk result (Takes (C.rules criterion.now) nodes.old.items nodes.new.items (λ tags. endings (C.rules criterion.now) tags last connection.now query.now way) (points_of labels.old) (points_of labels.new)) }
 {
     match end_of(connection, query, way) {
         None => Ok(()),
@@ -146,7 +146,7 @@ pub fn alight<C: Criterion>(
     requires bag { criterion_of bag.now ≡ criterion.now }
     ensures same { criterion_of labels.new ≡ criterion.now }
     ensures nodes { Extends nodes.old.items nodes.new.items }
-    ensures takes { OnOk result (Takes (C.rules criterion.now) nodes.new.items (λ all. only_if (connection.now.alight ≡ true) (endings_and_changes (C.rules criterion.now) (spelling all) last connection.now query.now way (points_of bag.now))) (points_of labels.old) (points_of labels.new)) }
+    ensures takes { OnOk result (Takes (C.rules criterion.now) nodes.old.items nodes.new.items (λ tags. only_if (connection.now.alight ≡ true) (endings_and_changes (C.rules criterion.now) tags last connection.now query.now way (points_of bag.now))) (points_of labels.old) (points_of labels.new)) }
 {
     if !connection.alight {
         return Ok(());

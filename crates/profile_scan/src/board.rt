@@ -7,7 +7,7 @@ ghost use Rattle.timetable.specs.declared.network.Footpath.{Footpath};
 ghost use Rattle.timetable.specs.Legal.{At};
 ghost use Rattle.timetable.specs.Journeys.{connection_at, start_secs};
 ghost use Rattle.profile_scan.specs.Values.{started};
-ghost use Rattle.profile_scan.specs.Nodes.{Extends, spelling};
+ghost use Rattle.profile_scan.specs.Nodes.{Extends};
 ghost use Rattle.profile_scan.specs.Adding.{Takes, only_if, each_of, boardings_after, settings_out_after, MayStart, StandsBetween, IsTried, boardings_by, settings_out_by};
 ghost use Rattle.profile_scan.specs.Steps.{boardings, settings_out};
 ghost use Rattle.profile_scan.specs.Kept.{points_at};
@@ -35,7 +35,7 @@ pub fn board_after<C: Criterion>(
     requires labels { criterion_of labels.now ≡ criterion.now }
     ensures same { criterion_of bag.new ≡ criterion.now }
     ensures nodes { Extends nodes.old.items nodes.new.items }
-    ensures takes { OnOk result (Takes (C.rules criterion.now) nodes.new.items (λ all. boardings_after (C.rules criterion.now) (spelling all) first departure walk (points_of labels.now)) (points_of bag.old) (points_of bag.new)) }
+    ensures takes { OnOk result (Takes (C.rules criterion.now) nodes.old.items nodes.new.items (λ tags. boardings_after (C.rules criterion.now) tags first departure walk (points_of labels.now)) (points_of bag.old) (points_of bag.new)) }
 {
     for place in 0..labels.len() {
         let label = labels.point(place);
@@ -66,7 +66,7 @@ pub fn set_out_after<C: Criterion>(
     requires labels { criterion_of labels.now ≡ criterion.now }
     ensures same { criterion_of found.new ≡ criterion.now }
     ensures nodes { Extends nodes.old.items nodes.new.items }
-    ensures takes { OnOk result (Takes (C.rules criterion.now) nodes.new.items (λ all. settings_out_after (C.rules criterion.now) (spelling all) first departure start (points_of labels.now)) (points_of found.old) (points_of found.new)) }
+    ensures takes { OnOk result (Takes (C.rules criterion.now) nodes.old.items nodes.new.items (λ tags. settings_out_after (C.rules criterion.now) tags first departure start (points_of labels.now)) (points_of found.old) (points_of found.new)) }
 {
     for place in 0..labels.len() {
         let label = labels.point(place);
@@ -131,7 +131,7 @@ pub fn set_out<C: Criterion>(
     requires labels { criterion_of labels.now ≡ criterion.now }
     ensures same { criterion_of found.new ≡ criterion.now }
     ensures nodes { Extends nodes.old.items nodes.new.items }
-    ensures takes { OnOk result (Takes (C.rules criterion.now) nodes.new.items (λ all. only_if (MayStart query.now connection.now start) (settings_out_after (C.rules criterion.now) (spelling all) first (connection.now.dep - start_secs start) start (points_of labels.now))) (points_of found.old) (points_of found.new)) }
+    ensures takes { OnOk result (Takes (C.rules criterion.now) nodes.old.items nodes.new.items (λ tags. only_if (MayStart query.now connection.now start) (settings_out_after (C.rules criterion.now) tags first (connection.now.dep - start_secs start) start (points_of labels.now))) (points_of found.old) (points_of found.new)) }
 {
     match departure_by(query, connection, start) {
         None => Ok(()),
@@ -156,7 +156,7 @@ pub fn board_from<C: Criterion>(
     ensures len { vec_len stops.new ≡ vec_len stops.old }
     ensures same { All (λ bag. criterion_of bag ≡ criterion.now) stops.new.items }
     ensures nodes { Extends nodes.old.items nodes.new.items }
-    ensures takes { OnOk result ((stop : ℕ) → Takes (C.rules criterion.now) nodes.new.items (λ all. only_if ((walk.from ≡ stop) × (walk.secs ≤ dep)) (boardings_after (C.rules criterion.now) (spelling all) first (dep - walk.secs) walk (points_of labels.now))) (points_at stops.old.items stop) (points_at stops.new.items stop)) }
+    ensures takes { OnOk result ((stop : ℕ) → Takes (C.rules criterion.now) nodes.old.items nodes.new.items (λ tags. only_if ((walk.from ≡ stop) × (walk.secs ≤ dep)) (boardings_after (C.rules criterion.now) tags first (dep - walk.secs) walk (points_of labels.now))) (points_at stops.old.items stop) (points_at stops.new.items stop)) }
 {
     if walk.secs > dep {
         return Ok(());
@@ -193,8 +193,8 @@ fn board_walks<S: ConnSource, C: Criterion>(
     ensures same { All (λ bag. criterion_of bag ≡ criterion.now) stops.new.items }
     ensures found { criterion_of found.new ≡ criterion.now }
     ensures nodes { Extends nodes.old.items nodes.new.items }
-    ensures boards { OnOk result ((stop : ℕ) → Takes (C.rules criterion.now) nodes.new.items (λ all. each_of (StandsBetween (S.timetable source.now).footpaths begin end) (boardings_by (C.rules criterion.now) (spelling all) first connection.now stop (points_of labels.now))) (points_at stops.old.items stop) (points_at stops.new.items stop)) }
-    ensures sets_out { OnOk result (Takes (C.rules criterion.now) nodes.new.items (λ all. each_of (IsTried (S.timetable source.now).footpaths begin end) (settings_out_by (C.rules criterion.now) (spelling all) first connection.now query.now (points_of labels.now))) (points_of found.old) (points_of found.new)) }
+    ensures boards { OnOk result ((stop : ℕ) → Takes (C.rules criterion.now) nodes.old.items nodes.new.items (λ tags. each_of (StandsBetween (S.timetable source.now).footpaths begin end) (boardings_by (C.rules criterion.now) tags first connection.now stop (points_of labels.now))) (points_at stops.old.items stop) (points_at stops.new.items stop)) }
+    ensures sets_out { OnOk result (Takes (C.rules criterion.now) nodes.old.items nodes.new.items (λ tags. each_of (IsTried (S.timetable source.now).footpaths begin end) (settings_out_by (C.rules criterion.now) tags first connection.now query.now (points_of labels.now))) (points_of found.old) (points_of found.new)) }
 {
     set_out(
         criterion, query, connection, first, None, found, nodes, labels,
@@ -239,8 +239,8 @@ pub fn board<S: ConnSource, C: Criterion>(
     ensures same { All (λ bag. criterion_of bag ≡ criterion.now) stops.new.items }
     ensures found { criterion_of found.new ≡ criterion.now }
     ensures nodes { Extends nodes.old.items nodes.new.items }
-    ensures boards { OnOk result ((stop : ℕ) → Takes (C.rules criterion.now) nodes.new.items (λ all. boardings (C.rules criterion.now) (S.timetable source.now) (spelling all) first stop (points_of labels.now)) (points_at stops.old.items stop) (points_at stops.new.items stop)) }
-    ensures sets_out { OnOk result (Takes (C.rules criterion.now) nodes.new.items (λ all. settings_out (C.rules criterion.now) (S.timetable source.now) query.now (spelling all) first (points_of labels.now)) (points_of found.old) (points_of found.new)) }
+    ensures boards { OnOk result ((stop : ℕ) → Takes (C.rules criterion.now) nodes.old.items nodes.new.items (λ tags. boardings (C.rules criterion.now) (S.timetable source.now) tags first stop (points_of labels.now)) (points_at stops.old.items stop) (points_at stops.new.items stop)) }
+    ensures sets_out { OnOk result (Takes (C.rules criterion.now) nodes.old.items nodes.new.items (λ tags. settings_out (C.rules criterion.now) (S.timetable source.now) query.now tags first (points_of labels.now)) (points_of found.old) (points_of found.new)) }
 {
     if !connection.board {
         return Ok(());

@@ -4,7 +4,7 @@ ghost use Rattle.std.specs.Prelude.{◌≡◌, ◌<◌, ◌≤◌, ◌⊎◌, �
 ghost use Rattle.criteria.specs.Laws.{Admits};
 ghost use Rattle.bags.specs.Bag.{criterion_of, points_of};
 ghost use Rattle.profile_scan.specs.Points.{Before};
-ghost use Rattle.profile_scan.specs.Found.{is_before, listed, walk_of_found};
+ghost use Rattle.profile_scan.specs.Found.{is_before, listed, nodes_of, walk_of_found};
 
 use crate::nodes::Node;
 use bags::{Bag, Point};
@@ -12,7 +12,8 @@ use criteria::Criterion;
 use std::alloc::{AllocError, Global};
 use timetable::{Kept, Query, Timetable};
 
-/// The answer of a profile query: the points of all best departures, by departure, then by the criterion's order.
+/// The answer of a profile query: the points of all best departures, by departure, then by the criterion's order. Each point's tag is
+/// the number of a node, and by the nodes from there on it spells a journey that attains the point.
 ///
 /// It keeps the criterion, and in fields that contracts alone see the timetable and the query that it answers.
 #[derive(Drop)]
@@ -39,6 +40,13 @@ impl<C: Criterion> Found<C> {
         ensures { slice_get (listed self.now) i ≡ Some result }
     {
         self.points[i]
+    }
+
+    /// The node of a number, if there is one. A point's tag is the number of its own.
+    pub fn node(&self, number: usize) -> Option<Node>
+        ensures { result ≡ slice_get (nodes_of self.now) number }
+    {
+        self.nodes.get(number).copied()
     }
 
     /// The seconds of the footpath from the source to the target, if there is one.

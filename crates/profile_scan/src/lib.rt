@@ -27,3 +27,4 @@ mod wrong_steps;
 
 pub use answering::profile;
 pub use found::Found;
+pub use nodes::Node;

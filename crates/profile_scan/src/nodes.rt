@@ -1,8 +1,9 @@
-//! How each label and each point was reached, in nodes that name earlier ones by number.
+//! How one goes on from each label and each point, in nodes that name earlier ones by number.
 
 use timetable::Footpath;
 
-/// How one goes on, from here to the target. Places are those of connections; `next` is the number of an earlier node.
+/// How one goes on, from here to the target. `first` and `last` are places of connections, where a leg begins and where it ends; `next`
+/// is the number of an earlier node.
 #[derive(Clone, Copy, Drop)]
 pub enum Node {
     /// Leaves the trip where a connection ends: at the target, or one footpath before it.

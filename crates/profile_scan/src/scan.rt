@@ -6,6 +6,7 @@ ghost use Rattle.bags.specs.Bag.{criterion_of, points_of};
 ghost use Rattle.sources.specs.FirstAt.{IsFirstAt};
 ghost use Rattle.profile_scan.specs.Values.{journey_value};
 ghost use Rattle.profile_scan.specs.Continuations.{CountsFrom};
+ghost use Rattle.profile_scan.specs.Plain.{IsPlain};
 ghost use Rattle.profile_scan.specs.Matching.{Matches};
 ghost use Rattle.profile_scan.specs.Nodes.{spelling};
 ghost use Rattle.profile_scan.specs.Kept.{AreWays, points_at};
@@ -60,7 +61,7 @@ pub fn scan_window<S: ConnSource, C: Criterion>(
     requires end { IsFirstAt (S.timetable source.old) query.now.by end }
     ensures timetable { S.timetable source.new ≡ S.timetable source.old }
     ensures same { IfOk result (λ scanned. criterion_of scanned.found ≡ criterion.now) }
-    ensures matches { IfOk result (λ scanned. Matches (C.rules criterion.now) (spelling scanned.nodes.items).journey (CountsFrom (S.timetable source.old) query.now start) (journey_value (C.rules criterion.now) (S.timetable source.old)) (points_of scanned.found)) }
+    ensures matches { IfOk result (λ scanned. Matches (C.rules criterion.now) (spelling scanned.nodes.items).journey (CountsFrom (S.timetable source.old) query.now start) (IsPlain (S.timetable source.old) query.now.target) (journey_value (C.rules criterion.now) (S.timetable source.old)) (points_of scanned.found)) }
     ensures log { OnOk result (S.log source.new ≡ S.log source.old ++ falling start (end - start)) }
     ensures err { OnErr result ((n : ℕ) × (S.log source.new ≡ S.log source.old ++ take n (falling start (end - start)))) }
 {

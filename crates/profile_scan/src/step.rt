@@ -6,6 +6,7 @@ ghost use Rattle.timetable.specs.Journeys.{connection_at};
 ghost use Rattle.bags.specs.Bag.{criterion_of, points_of};
 ghost use Rattle.profile_scan.specs.Steps.{leavings, boardings, settings_out, IsStep};
 ghost use Rattle.profile_scan.specs.Nodes.{Extends, spelling};
+ghost use Rattle.profile_scan.specs.Matching.{from_to};
 ghost use Rattle.profile_scan.specs.Adding.{Takes};
 ghost use Rattle.profile_scan.specs.Kept.{ArePlaced, AreWays, IsWay, kept_by, points_at};
 ghost use Rattle.profile_scan.specs.declared.nodes.Node.{Node};
@@ -46,9 +47,12 @@ fn step_in<S: ConnSource, C: Criterion>(
     ensures labels { OnOk result (criterion_of labels.new ≡ criterion.now) }
     ensures found { OnOk result (criterion_of found.new ≡ criterion.now) }
     ensures nodes { OnOk result (Extends nodes.old.items nodes.new.items) }
-    ensures leaves { OnOk result (Takes (C.rules criterion.now) nodes.new.items (λ all. leavings (C.rules criterion.now) (S.timetable source.now) query.now (spelling all) place (points_at stops.old.items (connection_at (S.timetable source.now) place).to)) (points_of labels.old) (points_of labels.new)) }
-    ensures boards { OnOk result ((stop : ℕ) → Takes (C.rules criterion.now) nodes.new.items (λ all. boardings (C.rules criterion.now) (S.timetable source.now) (spelling all) place stop (points_of labels.new)) (points_at stops.old.items stop) (points_at stops.new.items stop)) }
-    ensures sets_out { OnOk result (Takes (C.rules criterion.now) nodes.new.items (λ all. settings_out (C.rules criterion.now) (S.timetable source.now) query.now (spelling all) place (points_of labels.new)) (points_of found.old) (points_of found.new)) }
+    ensures takes { OnOk result ((mid : List Node)
+        × Extends nodes.old.items mid
+        × Extends mid nodes.new.items
+        × Takes (C.rules criterion.now) nodes.old.items mid (λ tags. leavings (C.rules criterion.now) (S.timetable source.now) query.now tags place (points_at stops.old.items (connection_at (S.timetable source.now) place).to)) (points_of labels.old) (points_of labels.new)
+        × ((stop : ℕ) → Takes (C.rules criterion.now) mid nodes.new.items (λ tags. boardings (C.rules criterion.now) (S.timetable source.now) tags place stop (points_of labels.new)) (points_at stops.old.items stop) (points_at stops.new.items stop))
+        × Takes (C.rules criterion.now) mid nodes.new.items (λ tags. settings_out (C.rules criterion.now) (S.timetable source.now) query.now tags place (points_of labels.new)) (points_of found.old) (points_of found.new)) }
 {
     let bag = &stops[connection.to as usize];
     alight(criterion, query, way, connection, place, labels, nodes, bag)?;
@@ -89,7 +93,7 @@ pub fn step<S: ConnSource, C: Criterion>(
     ensures labels { OnOk result (All (λ bag. criterion_of bag ≡ criterion.now) labels.new.bags.items) }
     ensures found { OnOk result (criterion_of found.new ≡ criterion.now) }
     ensures nodes { OnOk result (Extends nodes.old.items nodes.new.items) }
-    ensures step { OnOk result ((all : List Node) → Extends nodes.new.items all → IsStep (C.rules criterion.now) (S.timetable source.now) query.now (spelling all) place (kept_by stops.old.items labels.old.slots.items labels.old.bags.items found.old) (kept_by stops.new.items labels.new.slots.items labels.new.bags.items found.new)) }
+    ensures step { OnOk result (IsStep (C.rules criterion.now) (S.timetable source.now) query.now (from_to (spelling nodes.old.items) (spelling nodes.new.items)) place (kept_by stops.old.items labels.old.slots.items labels.old.bags.items found.old) (kept_by stops.new.items labels.new.slots.items labels.new.bags.items found.new)) }
 {
     let slot = place_of(alloc, criterion, labels, connection.trip)?;
     let way = ways[connection.to as usize];

@@ -11,5 +11,5 @@ invariant-loop-place g l =
     record {
       same : criterion_of l.labels ≡ l.criterion;
       nodes : Extends l.fn.nodes.items l.nodes.items;
-      takes : Takes rules l.nodes.items (λ all. each_of (StandsAtOne (points_of l.bag) l.yielded) (λ p. one_way 0 p.value (IsSpelled all (Changes l.last p.tag)))) (points_of l.fn.labels) (points_of l.labels);
+      takes : Takes rules l.fn.nodes.items l.nodes.items (λ tags. each_of (StandsAtOne (points_of l.bag) l.yielded) (λ p. one_way 0 p.value (IsSpelled tags (Changes l.last p.tag)))) (points_of l.fn.labels) (points_of l.labels);
     }

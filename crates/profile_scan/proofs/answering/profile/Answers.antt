@@ -3,6 +3,7 @@ use Rattle.std.proofs.lemmas.List.{get_or_default}
 use Rattle.bags.specs.Bag.{points_of}
 use Rattle.profile_scan.specs.Values.{journey_value}
 use Rattle.profile_scan.specs.Continuations.{CountsFrom}
+use Rattle.profile_scan.specs.Plain.{IsPlain}
 use Rattle.profile_scan.specs.LawStatements.{CanScan}
 use Rattle.profile_scan.specs.Nodes.{spelling}
 use Rattle.profile_scan.specs.Window.{window}
@@ -52,12 +53,12 @@ returns-clause-answers g c =
     let read : c.index.result.now ≡ get_or c.in_ok-ways.ways.items c.args.query.now.source None = c.index.ensures ∙ get_or_default c.in_ok-ways.ways.items c.args.query.now.source c.index.result.now None within in
     record {
       answer = match_is_the_answer rules laws t q can c.first_at-start.result c.first_at-start.ensures tags points
-          (listed_match rules tags.journey (CountsFrom t q c.first_at-start.result) (journey_value rules t) found points c.in_ok-points.ensures.only c.in_ok-points.ensures.each c.in_ok-scanned.ensures.matches)
+          (listed_match rules tags.journey (CountsFrom t q c.first_at-start.result) (IsPlain t q.target) (journey_value rules t) found points c.in_ok-points.ensures.only c.in_ok-points.ensures.each c.in_ok-scanned.ensures.matches)
           (listed_bag rules laws found points bag c.in_ok-points.ensures.ordered c.in_ok-points.ensures.only)
           c.in_ok-points.ensures.ordered;
       attained = λ p h.
           let a = c.in_ok-scanned.ensures.matches.sound p (c.in_ok-points.ensures.only p h) in
-          record { way = a.way; spells = a.spells; there = a.there.counts; worth = a.worth };
+          record { way = a.way; spells = a.spells; there = a.there.counts; plain = a.plain; worth = a.worth };
       direct = subst (λ (w : Option ℕ). IsWay t q.target q.source w) (sym read) (ways.each q.source c.requires.source);
       keeps = (refl, c.timetable_of.ensures ∙ c.in_ok-scanned.ensures.timetable, c.of.ensures);
     }

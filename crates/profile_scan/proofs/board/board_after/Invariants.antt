@@ -11,5 +11,5 @@ invariant-loop-place g l =
     record {
       same : criterion_of l.bag ≡ l.criterion;
       nodes : Extends l.fn.nodes.items l.nodes.items;
-      takes : Takes rules l.nodes.items (λ all. each_of (StandsBefore (points_of l.labels) l.place) (λ label. one_way l.departure (rules.walk l.walk.secs (rules.ride label.value)) (IsSpelled all (Boards l.walk l.first label.tag)))) (points_of l.fn.bag) (points_of l.bag);
+      takes : Takes rules l.fn.nodes.items l.nodes.items (λ tags. each_of (StandsBefore (points_of l.labels) l.place) (λ label. one_way l.departure (rules.walk l.walk.secs (rules.ride label.value)) (IsSpelled tags (Boards l.walk l.first label.tag)))) (points_of l.fn.bag) (points_of l.bag);
     }

@@ -3,6 +3,7 @@ use Rattle.std.proofs.lemmas.Bool.{cases_eq}
 use Rattle.bags.specs.Bag.{points_of}
 use Rattle.bags.specs.declared.point.Point.{Point}
 use Rattle.profile_scan.specs.Steps.{TakesIn}
+use Rattle.profile_scan.specs.Matching.{from_to}
 use Rattle.profile_scan.specs.Nodes.{spelling}
 use Rattle.profile_scan.specs.Adding.{only_if, boardings_after}
 use Rattle.profile_scan.specs.Kept.{points_at}
@@ -11,12 +12,12 @@ use Rattle.profile_scan.proofs.KeptLemmas.{points_at-read, points_at-set, points
 use Rattle.profile_scan.proofs.board.board_from.Goals as goal
 
 pub returns-clause-takes : goal.returns-clause-takes
-returns-clause-takes g c stop all ext =
+returns-clause-takes g c stop before all ext_before ext =
     let rules = g.C.Criterion.rules c.args.criterion.now in
     let walk = c.args.walk in
     let stops = c.args.stops.now.items in
     let bag = c.board_after.new.bag in
-    let offer = boardings_after rules (spelling all) c.args.first (c.args.dep - c.args.walk.secs) c.args.walk (points_of c.args.labels.now) in
+    let offer = boardings_after rules (from_to (spelling before) (spelling all)) c.args.first (c.args.dep - c.args.walk.secs) c.args.walk (points_of c.args.labels.now) in
     let within : c.args.walk.from < length c.args.stops.now.items = subst (λ (n : ℕ). c.args.walk.from < n) c.args.stops.now.ok.0 c.requires.stop in
     elim (cases_eq walk.from stop) [
       | inl e ↦
@@ -24,7 +25,7 @@ returns-clause-takes g c stop all ext =
           let new_is : points_of bag ≡ points_at (set stops walk.from bag) stop = sym (points_at-set stops walk.from bag within) ∙ ap (points_at (set stops walk.from bag)) e in
           subst (λ (xs : List (Point g.row.C-V.Denot)). TakesIn rules (only_if ((walk.from ≡ stop) × (walk.secs ≤ c.args.dep)) offer) xs (points_at (set stops walk.from bag) stop)) old_is
           (subst (λ (xs : List (Point g.row.C-V.Denot)). TakesIn rules (only_if ((walk.from ≡ stop) × (walk.secs ≤ c.args.dep)) offer) (points_of c.index_mut-bag.result.now) xs) new_is
-          (takes_if rules ((walk.from ≡ stop) × (walk.secs ≤ c.args.dep)) offer (points_of c.index_mut-bag.result.now) (points_of bag) (e, c.if-walk-dep.false) (c.in_ok-board_after.ensures.takes all ext)))
+          (takes_if rules ((walk.from ≡ stop) × (walk.secs ≤ c.args.dep)) offer (points_of c.index_mut-bag.result.now) (points_of bag) (e, c.if-walk-dep.false) (c.in_ok-board_after.ensures.takes before all ext_before ext)))
       | inr other ↦
           subst (λ (xs : List (Point g.row.C-V.Denot)). TakesIn rules (only_if ((walk.from ≡ stop) × (walk.secs ≤ c.args.dep)) offer) (points_at stops stop) xs)
           (sym (points_at-set_other stops walk.from stop bag (λ e. other (sym e))))

@@ -1,6 +1,6 @@
 use Rattle.std.proofs.Common.{◌≡◌, ℕ, All, vec_len}
 use Rattle.bags.specs.Bag.{criterion_of, points_of}
-use Rattle.profile_scan.specs.Nodes.{Extends, spelling}
+use Rattle.profile_scan.specs.Nodes.{Extends}
 use Rattle.profile_scan.specs.Adding.{Takes, each_of, StandsBetween, IsTried, boardings_by, settings_out_by}
 use Rattle.profile_scan.specs.Kept.{points_at}
 use Rattle.profile_scan.proofs.board.board_walks.Given as goal
@@ -14,6 +14,6 @@ invariant-loop-place g l =
       same : All (λ bag. criterion_of bag ≡ l.criterion) l.stops.items;
       found : criterion_of l.found ≡ l.criterion;
       nodes : Extends l.fn.nodes.items l.nodes.items;
-      boards : (stop : ℕ) → Takes rules l.nodes.items (λ all. each_of (StandsBetween walks l.begin l.place) (boardings_by rules (spelling all) l.first l.connection stop (points_of l.labels))) (points_at l.fn.stops.items stop) (points_at l.stops.items stop);
-      sets_out : Takes rules l.nodes.items (λ all. each_of (IsTried walks l.begin l.place) (settings_out_by rules (spelling all) l.first l.connection l.query (points_of l.labels))) (points_of l.fn.found) (points_of l.found);
+      boards : (stop : ℕ) → Takes rules l.fn.nodes.items l.nodes.items (λ tags. each_of (StandsBetween walks l.begin l.place) (boardings_by rules tags l.first l.connection stop (points_of l.labels))) (points_at l.fn.stops.items stop) (points_at l.stops.items stop);
+      sets_out : Takes rules l.fn.nodes.items l.nodes.items (λ tags. each_of (IsTried walks l.begin l.place) (settings_out_by rules tags l.first l.connection l.query (points_of l.labels))) (points_of l.fn.found) (points_of l.found);
     }

@@ -12,5 +12,5 @@ invariant-loop-place g l =
     record {
       same : criterion_of l.found ≡ l.criterion;
       nodes : Extends l.fn.nodes.items l.nodes.items;
-      takes : Takes rules l.nodes.items (λ all. each_of (StandsBefore (points_of l.labels) l.place) (λ label. one_way l.departure (started rules l.start (rules.ride label.value)) (IsSpelled all (SetsOut l.start l.first label.tag)))) (points_of l.fn.found) (points_of l.found);
+      takes : Takes rules l.fn.nodes.items l.nodes.items (λ tags. each_of (StandsBefore (points_of l.labels) l.place) (λ label. one_way l.departure (started rules l.start (rules.ride label.value)) (IsSpelled tags (SetsOut l.start l.first label.tag)))) (points_of l.fn.found) (points_of l.found);
     }

@@ -5,7 +5,8 @@ use Rattle.bags.specs.declared.bag.Bag.{Bag}
 use Rattle.timetable.specs.TimetableValue.{TimetableValue}
 use Rattle.profile_scan.specs.Values.{journey_value}
 use Rattle.profile_scan.specs.Continuations.{CountsFrom}
-use Rattle.profile_scan.specs.Matching.{MatchesFrom, Matches}
+use Rattle.profile_scan.specs.Plain.{IsPlain}
+use Rattle.profile_scan.specs.Matching.{from_to, MatchesFrom, Matches}
 use Rattle.profile_scan.specs.Steps.{IsStep}
 use Rattle.profile_scan.specs.LawStatements.{CanScan}
 use Rattle.profile_scan.specs.Nodes.{spelling}
@@ -14,7 +15,6 @@ use Rattle.profile_scan.specs.Window.{falling}
 use Rattle.profile_scan.proofs.Ends.{nothing_follows}
 use Rattle.profile_scan.proofs.StepLemmas.{one_index_down}
 use Rattle.profile_scan.proofs.StepFacts.{matches_alike}
-use Rattle.profile_scan.proofs.NodeLemmas.{extends_on, extends_none}
 use Rattle.profile_scan.proofs.LogLemmas.{log_more, log_front, log_none, on_err}
 use Rattle.profile_scan.proofs.scan.scan_window.Goals as goal
 
@@ -34,9 +34,9 @@ loop-place-init g c =
       stops = c.in_ok-stops.ensures.same;
       labels = subst (All (λ (b : Bag g.row.C.Denot g.row.C-V.Denot g.C.Criterion). criterion_of b ≡ c.args.criterion.now)) (sym c.in_ok-labels.ensures.empty) (All-nil (λ b. criterion_of b ≡ c.args.criterion.now));
       found = c.new-found.ensures.criterion;
-      matched = λ all ext. matches_alike rules t c.args.query.now (spelling all) c.args.end (record { bag = λ _. []; labels = λ _. []; found = [] }) (kept_by c.in_ok-stops.stops.items c.in_ok-labels.labels.slots.items c.in_ok-labels.labels.bags.items c.new-found.result)
+      matched = matches_alike rules t c.args.query.now (spelling c.new-nodes.result.items) c.args.end (record { bag = λ _. []; labels = λ _. []; found = [] }) (kept_by c.in_ok-stops.stops.items c.in_ok-labels.labels.slots.items c.in_ok-labels.labels.bags.items c.new-found.result)
           c.in_ok-stops.ensures.none c.in_ok-labels.ensures.none c.new-found.ensures.empty
-          (nothing_follows rules t c.args.query.now can c.args.end c.requires.end (spelling all));
+          (nothing_follows rules t c.args.query.now can c.args.end c.requires.end (spelling c.new-nodes.result.items));
     }
 
 pub loop-place-preserved : goal.loop-place-preserved
@@ -53,6 +53,7 @@ loop-place-preserved g c =
     let can : CanScan (g.S.ConnSource.timetable c.args.source.now) c.args.query.now = record { legal = g.met.S.ConnSource.legal c.args.source.now; limits = g.met.S.ConnSource.limits c.args.source.now; in_time = c.requires.by } in
     let in_range = c.requires.end.in_range in
     let in_i : c.loop-place.place - 1 < length (g.S.ConnSource.timetable c.args.source.now).connections = omega arith in
+    let tags = from_to (spelling c.loop-place.nodes.items) (spelling c.step.new.nodes.items) in
     let up : c.loop-place.place ≡ c.loop-place.place - 1 + 1 = omega arith in
     record {
       low = omega arith;
@@ -65,14 +66,14 @@ loop-place-preserved g c =
       stops = c.in_ok-step.ensures.stops;
       labels = c.in_ok-step.ensures.labels;
       found = c.in_ok-step.ensures.found;
-      matched = λ all ext.
-          one_index_down rules (g.met.C.Criterion.laws c.args.criterion.now) (g.S.ConnSource.timetable c.args.source.now) q can (spelling all) i in_i
+      matched =
+          one_index_down rules (g.met.C.Criterion.laws c.args.criterion.now) (g.S.ConnSource.timetable c.args.source.now) q can tags i in_i
           (kept_by c.loop-place.stops.items c.loop-place.labels.slots.items c.loop-place.labels.bags.items c.loop-place.found)
           (kept_by c.step.new.stops.items c.step.new.labels.slots.items c.step.new.labels.bags.items c.step.new.found)
-          (subst (λ (n : ℕ). MatchesFrom rules (g.S.ConnSource.timetable c.args.source.now) q (spelling all) n (kept_by c.loop-place.stops.items c.loop-place.labels.slots.items c.loop-place.labels.bags.items c.loop-place.found)) up
-          (inv.matched all (extends_on c.loop-place.nodes.items c.step.new.nodes.items all c.in_ok-step.ensures.nodes ext)))
-          (subst (λ (t : TimetableValue). IsStep rules t q (spelling all) i (kept_by c.loop-place.stops.items c.loop-place.labels.slots.items c.loop-place.labels.bags.items c.loop-place.found) (kept_by c.step.new.stops.items c.step.new.labels.slots.items c.step.new.labels.bags.items c.step.new.found)) same
-          (c.in_ok-step.ensures.step all ext));
+          (subst (λ (n : ℕ). MatchesFrom rules (g.S.ConnSource.timetable c.args.source.now) q (spelling c.loop-place.nodes.items) n (kept_by c.loop-place.stops.items c.loop-place.labels.slots.items c.loop-place.labels.bags.items c.loop-place.found)) up
+          inv.matched)
+          (subst (λ (t : TimetableValue). IsStep rules t q tags i (kept_by c.loop-place.stops.items c.loop-place.labels.slots.items c.loop-place.labels.bags.items c.loop-place.found) (kept_by c.step.new.stops.items c.step.new.labels.slots.items c.step.new.labels.bags.items c.step.new.found)) same
+          c.in_ok-step.ensures.step);
     }
 
 pub returns-in_err-step-clause-err : goal.returns-in_err-step-clause-err
@@ -94,5 +95,5 @@ returns-clause-matches g c =
     let t = g.S.ConnSource.timetable c.args.source.now in
     let q = c.args.query.now in
     let at : c.loop-place.place ≡ c.args.start = omega arith in
-    let m = inv.matched c.loop-place.nodes.items (extends_none c.loop-place.nodes.items) in
-    subst (λ (n : ℕ). Matches rules (spelling c.loop-place.nodes.items).journey (CountsFrom t q n) (journey_value rules t) (points_of c.loop-place.found)) at m.at_source
+    let m = inv.matched in
+    subst (λ (n : ℕ). Matches rules (spelling c.loop-place.nodes.items).journey (CountsFrom t q n) (IsPlain t q.target) (journey_value rules t) (points_of c.loop-place.found)) at m.at_source

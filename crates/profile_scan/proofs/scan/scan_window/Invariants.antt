@@ -1,10 +1,9 @@
-use Rattle.std.proofs.Common.{◌≡◌, ◌-◌, ◌≤◌, ◌++◌, List, All, length, vec_len}
+use Rattle.std.proofs.Common.{◌≡◌, ◌-◌, ◌≤◌, ◌++◌, All, length, vec_len}
 use Rattle.bags.specs.Bag.{criterion_of}
 use Rattle.profile_scan.specs.Matching.{MatchesFrom}
-use Rattle.profile_scan.specs.Nodes.{Extends, spelling}
+use Rattle.profile_scan.specs.Nodes.{spelling}
 use Rattle.profile_scan.specs.Kept.{ArePlaced, kept_by}
 use Rattle.profile_scan.specs.Window.{falling}
-use Rattle.profile_scan.specs.declared.nodes.Node.{Node}
 use Rattle.profile_scan.proofs.scan.scan_window.Given as goal
 
 abbrev pub invariant-loop-place : goal.invariant-loop-place
@@ -21,7 +20,7 @@ invariant-loop-place g l =
       stops : All (λ bag. criterion_of bag ≡ l.criterion) l.stops.items;
       labels : All (λ bag. criterion_of bag ≡ l.criterion) l.labels.bags.items;
       found : criterion_of l.found ≡ l.criterion;
-      matched : (all : List Node) → Extends l.nodes.items all → MatchesFrom (g.C.Criterion.rules l.criterion) t l.query (spelling all) l.place (kept_by l.stops.items l.labels.slots.items l.labels.bags.items l.found);
+      matched : MatchesFrom (g.C.Criterion.rules l.criterion) t l.query (spelling l.nodes.items) l.place (kept_by l.stops.items l.labels.slots.items l.labels.bags.items l.found);
     }
 
 abbrev pub decreases-loop-place : goal.decreases-loop-place

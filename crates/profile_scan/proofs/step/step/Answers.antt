@@ -2,7 +2,9 @@ use Rattle.std.proofs.Common.{◌≡◌, ◌<◌, ◌+◌, ℕ, slice_index, sym
 use Rattle.timetable.specs.declared.network.Connection.{Connection}
 use Rattle.timetable.specs.Journeys.{connection_at}
 use Rattle.timetable.proofs.LegalFacts.{connection_at-stands}
+use Rattle.profile_scan.specs.Matching.{from_to}
 use Rattle.profile_scan.specs.Nodes.{spelling}
+use Rattle.profile_scan.proofs.NodeLemmas.{extends_none, extends_keeps}
 use Rattle.profile_scan.proofs.StepFacts.{step_holds}
 use Rattle.profile_scan.proofs.step.step.Goals as goal
 
@@ -25,13 +27,18 @@ step_in-requires-clause-way g c =
     c.requires.ways.each c.args.connection.now.to (subst (λ (x : Connection). x.to < t.stops) (sym c.requires.connection) to_in)
 
 pub returns-clause-step : goal.returns-clause-step
-returns-clause-step g c all ext =
+returns-clause-step g c =
     let t = g.S.ConnSource.timetable c.args.source.now in
-    step_holds (g.C.Criterion.rules c.args.criterion.now) t c.args.query.now (spelling all) c.args.place
+    let was = c.args.nodes.now.items in
+    let now = c.step_in.new.nodes.items in
+    let taken = c.in_ok-step_in.ensures.takes in
+    let mid = taken.0 in
+    step_holds (g.C.Criterion.rules c.args.criterion.now) t c.args.query.now (from_to (spelling was) (spelling now)) c.args.place
     c.args.stops.now.items c.step_in.new.stops.items c.args.labels.now.slots.items c.place_of.new.labels.slots.items c.args.labels.now.bags.items c.place_of.new.labels.bags.items c.args.found.now c.step_in.new.found c.index_mut-trip.result.now c.step_in.new.labels c.in_ok-slot.slot
+    (spelling mid) (extends_keeps was mid taken.1) (extends_keeps mid now taken.2)
     c.in_ok-slot.ensures.same c.in_ok-slot.ensures.placed
     (subst (λ (x : Connection). slice_index c.place_of.new.labels.slots.items x.trip ≡ c.in_ok-slot.slot + 1) c.requires.connection c.in_ok-slot.ensures.place)
     c.index_mut-trip.ensures.value
-    (c.in_ok-step_in.ensures.leaves all ext)
-    (λ stop. c.in_ok-step_in.ensures.boards stop all ext)
-    (c.in_ok-step_in.ensures.sets_out all ext)
+    (taken.3 was mid (extends_none was) (extends_none mid))
+    (λ stop. taken.4 stop mid now (extends_none mid) (extends_none now))
+    (taken.5 mid now (extends_none mid) (extends_none now))

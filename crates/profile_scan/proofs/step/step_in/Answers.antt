@@ -6,9 +6,9 @@ use Rattle.timetable.specs.declared.network.Connection.{Connection}
 use Rattle.timetable.specs.Journeys.{connection_at}
 use Rattle.timetable.proofs.LegalFacts.{connection_at-stands, arrival_limit}
 use Rattle.profile_scan.specs.Steps.{leavings, TakesIn}
+use Rattle.profile_scan.specs.Matching.{from_to}
 use Rattle.profile_scan.specs.Nodes.{spelling}
 use Rattle.profile_scan.specs.Kept.{points_at}
-use Rattle.profile_scan.proofs.NodeLemmas.{extends_on}
 use Rattle.profile_scan.proofs.KeptLemmas.{points_at-read}
 use Rattle.profile_scan.proofs.LeaveLemmas.{way_secs, leavings_taken}
 use Rattle.profile_scan.proofs.step.step_in.Goals as goal
@@ -35,8 +35,8 @@ alight-requires-clause-bag g c =
     let within : c.args.connection.now.to < length c.args.stops.now.items = subst (λ (n : ℕ). c.args.connection.now.to < n) (sym c.requires.len ∙ c.args.stops.now.ok.0) (subst (λ (x : Connection). x.to < t.stops) (sym c.requires.connection) to_in) in
     ap criterion_of c.index-bag.ensures ∙ c.requires.stops c.args.connection.now.to c.index-bag.result.now within
 
-pub returns-clause-leaves : goal.returns-clause-leaves
-returns-clause-leaves g c all ext =
+pub returns-clause-takes : goal.returns-clause-takes
+returns-clause-takes g c =
     let rules = g.C.Criterion.rules c.args.criterion.now in
     let t = g.S.ConnSource.timetable c.args.source.now in
     let legal = g.met.S.ConnSource.legal c.args.source.now in
@@ -46,7 +46,14 @@ returns-clause-leaves g c all ext =
     let new = points_of c.alight.new.labels in
     let to_in = (legal.stops_in_range c.args.place (connection_at t c.args.place) (connection_at-stands t c.args.place c.requires.place)).1 in
     let within : c.args.connection.now.to < length c.args.stops.now.items = subst (λ (n : ℕ). c.args.connection.now.to < n) (sym c.requires.len ∙ c.args.stops.now.ok.0) (subst (λ (x : Connection). x.to < t.stops) (sym c.requires.connection) to_in) in
-    let bag_is : points_of c.index-bag.result.now ≡ points_at stops (connection_at t c.args.place).to = ap points_of c.index-bag.ensures ∙ sym (points_at-read stops cn.to c.index-bag.result.now within) ∙ ap (λ (x : Connection). points_at stops x.to) c.requires.connection in
-    subst (λ (bag : List (Point g.row.C-V.Denot)). TakesIn rules (leavings rules t c.args.query.now (spelling all) c.args.place bag) old new) bag_is
-    (leavings_taken rules t legal c.args.query.now (spelling all) c.args.place cn c.requires.connection c.args.way c.requires.way (points_of c.index-bag.result.now) old new
-    (c.in_ok-alight.ensures.takes all (extends_on c.alight.new.nodes.items c.board.new.nodes.items all c.in_ok-board.ensures.nodes ext)))
+    let bag_is : points_of c.index-bag.result.now ≡ points_at stops (connection_at t c.args.place).to = ap points_of c.index-bag.ensures ∙ sym (points_at-read stops cn.to c.index-bag.result.now within) ∙ ap (λ (x : Connection). points_at stops x.to) c.requires.connection in (
+      c.alight.new.nodes.items,
+      c.in_ok-alight.ensures.nodes,
+      c.in_ok-board.ensures.nodes,
+      (λ before all ext_before ext.
+          subst (λ (bag : List (Point g.row.C-V.Denot)). TakesIn rules (leavings rules t c.args.query.now (from_to (spelling before) (spelling all)) c.args.place bag) old new) bag_is
+          (leavings_taken rules t legal c.args.query.now (from_to (spelling before) (spelling all)) c.args.place cn c.requires.connection c.args.way c.requires.way (points_of c.index-bag.result.now) old new
+          (c.in_ok-alight.ensures.takes before all ext_before ext))),
+      c.in_ok-board.ensures.boards,
+      c.in_ok-board.ensures.sets_out,
+    )

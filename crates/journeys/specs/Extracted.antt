@@ -1,0 +1,42 @@
+-- The journey that a point of an answer stands for.
+use Rattle.std.specs.Prelude.{◌≡◌, ℕ, ◌<◌, List, [], Option, Some, None}
+use Rattle.criteria.specs.Laws.{Rules}
+use Rattle.bags.specs.declared.point.Point.{Point}
+use Rattle.timetable.specs.TimetableValue.{TimetableValue}
+use Rattle.timetable.specs.JourneyValue.{RideValue, JourneyValue}
+use Rattle.timetable.specs.Journeys.{Counts}
+use Rattle.timetable.specs.declared.query.Query.{Query}
+use Rattle.profile_scan.specs.Values.{journey_value}
+use Rattle.profile_scan.specs.Plain.{IsPlain}
+use Rattle.profile_scan.specs.Continuations.{Aboard}
+use Rattle.profile_scan.specs.Steps.{boarded}
+use Rattle.profile_scan.specs.Nodes.{spelled, changed_at, boarded_after, walk_of}
+use Rattle.profile_scan.specs.declared.nodes.Node.{Node}
+use Rattle.journeys.specs.declared.extraction.Boarding.{Boarding}
+use Rattle.journeys.specs.declared.extraction.Alighting.{Alighting}
+use Rattle.journeys.specs.declared.extraction.Alighting.TheVariants.{Ends, Changes}
+
+-- a journey attains a point: it counts, departing as the point says, is plain, and is worth the point's value
+pub record Attains {V : Type 0} (rules : Rules V) (t : TimetableValue) (q : Query) (p : Point V) (j : JourneyValue) : Type 0 where
+  pub counts : Counts t q p.departure j
+  pub plain : IsPlain t q.target j
+  pub worth : p.value ≡ journey_value rules t j
+
+-- a journey that is spelled; where none is, the one with no ride
+abbrev pub or_none : Option JourneyValue → JourneyValue
+or_none None = record { start = None; rides = [] }
+or_none (Some j) = j
+
+-- a node boards: how one goes on from a stop is what it says, by an earlier node
+abbrev pub IsBoarding : List Node → ℕ → Boarding → Type 0
+IsBoarding nodes number b = (b.next < number) × ((spelled nodes number).onward ≡ boarded_after b.walk b.first (spelled nodes b.next).aboard)
+
+-- a node gets off: at the end, or to board again, by an earlier node
+abbrev pub IsAlighting : List Node → ℕ → Alighting → Type 0
+IsAlighting nodes number (Ends last walk) = (spelled nodes number).aboard ≡ Some (record { last = last; walk = walk_of walk; rides = [] })
+IsAlighting nodes number (Changes last b) = (b.next < number) × ((spelled nodes number).aboard ≡ changed_at last (boarded_after b.walk b.first (spelled nodes b.next).aboard))
+
+-- the rides of one who boards at a place and goes on as is spelled
+abbrev pub rides_on : ℕ → Option Aboard → Option (List RideValue)
+rides_on first None = None
+rides_on first (Some x) = Some (boarded first x)

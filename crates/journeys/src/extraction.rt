@@ -1,0 +1,180 @@
+//! The journey that a point of an answer stands for.
+
+ghost use Rattle.std.specs.Prelude.{◌≡◌, ◌<◌, ◌++◌, ◌∷◌, [], ℕ, None, Some, IfOk, OnOk, MatchOption, MatchResult, length, slice_get};
+ghost use Rattle.timetable.specs.TimetableValue.{TimetableValue};
+ghost use Rattle.timetable.specs.declared.query.Query.{Query};
+ghost use Rattle.profile_scan.specs.Continuations.{Aboard};
+ghost use Rattle.profile_scan.specs.Found.{Answers, listed, nodes_of};
+ghost use Rattle.profile_scan.specs.Nodes.{spelled, walk_of};
+ghost use Rattle.journeys.specs.Extracted.{Attains, IsAlighting, IsBoarding, or_none, rides_on};
+
+use criteria::Criterion;
+use profile_scan::{Found, Node};
+use std::alloc::{AllocError, Global};
+use timetable::{Footpath, Journey, Leg, Ride};
+
+// A footpath to a connection that is boarded, and the node by which one goes on in its trip.
+#[derive(Clone, Copy)]
+struct Boarding {
+    walk: Footpath,
+    first: u32,
+    next: usize,
+}
+
+// Where a leg ends, and what comes after it: the last walk, or a footpath and a boarding.
+#[derive(Clone, Copy)]
+enum Alighting {
+    Ends { last: u32, walk: Option<Footpath> },
+    Changes { last: u32, boarding: Boarding },
+}
+
+// The boarding that a node is, by an earlier node.
+fn boards_at<C: Criterion>(found: &Found<C>, number: usize) -> Option<Boarding>
+    ensures { MatchOption result ((spelled (nodes_of found.now) number).onward ≡ None) (λ boarding. IsBoarding (nodes_of found.now) number boarding) }
+{
+    match found.node(number) {
+        Some(Node::Boards { walk, first, next }) => {
+            if next < number {
+                Some(Boarding { walk, first, next })
+            } else {
+                None
+            }
+        }
+        Some(Node::Ends { .. }) => None,
+        Some(Node::Changes { .. }) => None,
+        Some(Node::SetsOut { .. }) => None,
+        None => None,
+    }
+}
+
+// How one gets off by a node, and by earlier ones.
+fn gets_off_at<C: Criterion>(found: &Found<C>, number: usize) -> Option<Alighting>
+    ensures { MatchOption result ((spelled (nodes_of found.now) number).aboard ≡ None) (λ alighting. IsAlighting (nodes_of found.now) number alighting) }
+{
+    match found.node(number) {
+        Some(Node::Ends { last, walk }) => Some(Alighting::Ends { last, walk }),
+        Some(Node::Changes { last, next }) => {
+            if next >= number {
+                return None;
+            }
+            match boards_at(found, next) {
+                Some(boarding) => Some(Alighting::Changes { last, boarding }),
+                None => None,
+            }
+        }
+        Some(Node::Boards { .. }) => None,
+        Some(Node::SetsOut { .. }) => None,
+        None => None,
+    }
+}
+
+// How many rides follow the leg that one gets off by a node, where it spells any.
+fn rides_after<C: Criterion>(found: &Found<C>, from: usize) -> usize
+    ensures { (x : Aboard) → (spelled (nodes_of found.now) from).aboard ≡ Some x → result ≡ length x.rides }
+{
+    let mut rides = 0usize;
+    let mut number = from;
+    while let Some(alighting) = gets_off_at(found, number) {
+        match alighting {
+            Alighting::Ends { .. } => return rides,
+            Alighting::Changes { boarding, .. } => {
+                rides += 1;
+                number = boarding.next;
+            }
+        }
+    }
+    rides
+}
+
+// One ride more.
+fn ride(
+    alloc: Global,
+    rides: &mut Vec<Ride>,
+    leg: Leg,
+    footpath: Option<Footpath>,
+) -> Result<(), AllocError>
+    ensures { OnOk result (rides.new.items ≡ rides.old.items ++ record { leg = leg; walk = walk_of footpath } ∷ []) }
+{
+    let mut walk = Vec::new(alloc);
+    if let Some(footpath) = footpath {
+        walk.push(footpath)?;
+    }
+    rides.push(Ride { leg, walk })?;
+    Ok(())
+}
+
+// The rides of one who boards a connection and goes on by a node.
+fn rides_from<C: Criterion>(
+    alloc: Global,
+    found: &Found<C>,
+    boards: u32,
+    from: usize,
+) -> Result<Option<Vec<Ride>>, AllocError>
+    ensures { IfOk result (λ rides. MatchOption rides (rides_on boards (spelled (nodes_of found.now) from).aboard ≡ None) (λ rides. rides_on boards (spelled (nodes_of found.now) from).aboard ≡ Some rides.items)) }
+{
+    let mut rides = Vec::with_capacity(alloc, rides_after(found, from).saturating_add(1))?;
+    let mut first = boards;
+    let mut number = from;
+    while let Some(alighting) = gets_off_at(found, number) {
+        match alighting {
+            Alighting::Ends { last, walk } => {
+                ride(alloc, &mut rides, Leg { first, last }, walk)?;
+                return Ok(Some(rides));
+            }
+            Alighting::Changes { last, boarding } => {
+                ride(alloc, &mut rides, Leg { first, last }, Some(boarding.walk))?;
+                first = boarding.first;
+                number = boarding.next;
+            }
+        }
+    }
+    Ok(None)
+}
+
+// The journey that a node spells, if it spells one.
+fn spelled_at<C: Criterion>(
+    alloc: Global,
+    found: &Found<C>,
+    number: usize,
+) -> Result<Option<Journey>, AllocError>
+    ensures { IfOk result (λ journey. MatchOption journey ((spelled (nodes_of found.now) number).journey ≡ None) (λ journey. (spelled (nodes_of found.now) number).journey ≡ Some journey)) }
+{
+    match found.node(number) {
+        Some(Node::SetsOut { start, first, next }) => {
+            if next >= number {
+                return Ok(None);
+            }
+            match rides_from(alloc, found, first, next)? {
+                Some(rides) => Ok(Some(Journey { start, rides })),
+                None => Ok(None),
+            }
+        }
+        Some(Node::Ends { .. }) => Ok(None),
+        Some(Node::Changes { .. }) => Ok(None),
+        Some(Node::Boards { .. }) => Ok(None),
+        None => Ok(None),
+    }
+}
+
+/// The journey of a point of an answer, at its place: one that counts for the query, departs when the point does, and is worth the
+/// point's value. Each change is one footpath, and after the last leg there is one only where that leg ends elsewhere than at the target.
+///
+/// The only error is want of memory.
+pub fn extract<C: Criterion>(
+    alloc: Global,
+    found: &Found<C>,
+    i: usize,
+) -> Result<Journey, AllocError>
+    requires { i < length (listed found.now) }
+    ensures spelled { IfOk result (λ journey. (p : _) → slice_get (listed found.now) i ≡ Some p → journey ≡ or_none (spelled (nodes_of found.now) p.tag).journey) }
+    ensures attains { IfOk result (λ journey. (criterion : _) (t : TimetableValue) (q : Query) (p : _) → Answers criterion (C.rules criterion) t q found.now → slice_get (listed found.now) i ≡ Some p → Attains (C.rules criterion) t q p journey) }
+{
+    let point = found.point(i);
+    match spelled_at(alloc, found, point.tag)? {
+        Some(journey) => Ok(journey),
+        None => Ok(Journey {
+            start: None,
+            rides: Vec::new(alloc),
+        }),
+    }
+}
