@@ -6,6 +6,9 @@ ghost use Rattle.timetable.specs.Journeys.{Counts, IsJourney};
 ghost use Rattle.profile_scan.specs.Points.{IsAnswer};
 ghost use Rattle.profile_scan.specs.Values.{journey_value};
 ghost use Rattle.profile_scan.specs.Window.{window, falling};
+ghost use Rattle.profile_scan.specs.Plain.{IsPlain};
+ghost use Rattle.profile_scan.specs.Nodes.{spelling};
+ghost use Rattle.profile_scan.specs.declared.nodes.Node.TheVariants.{Ends, Changes, Boards, SetsOut};
 ghost use Rattle.profile_scan.specs.Examples.{asked, by_change, direct, footpath, from_start, on_foot, ride, with_chain, with_loops, with_walk};
 
 use criteria::{Arrival, ArrivalTrips, Criterion};
@@ -83,6 +86,25 @@ fn answers_are_computed(arrival: &Arrival)
     ensures none { IsAnswer (⟦<Arrival as Criterion>⟧.rules arrival.now) (with_loops 60 0) (asked 28799 36000) [] }
 {}
 
+// a change by one footpath is plain, and so is one footpath to the target; a chain isn't, nor a loop at the target, nor a change by none
+fn some_are_plain()
+    ensures change { IsPlain (with_loops 0 0) 2 (by_change 0) }
+    ensures direct { IsPlain (with_loops 0 0) 2 direct }
+    ensures walk { IsPlain with_chain 2 (from_start None (ride 0 0 (footpath 1 2 60 ∷ []) ∷ [])) }
+    ensures chain { IsPlain with_chain 2 (from_start None (ride 0 0 (footpath 1 1 0 ∷ footpath 1 2 60 ∷ []) ∷ [])) → ⊥ }
+    ensures loop_at_target { IsPlain (with_loops 0 0) 2 (from_start None (ride 0 1 (footpath 2 2 0 ∷ []) ∷ [])) → ⊥ }
+    ensures no_change { IsPlain (with_loops 0 0) 2 (from_start None (ride 0 0 [] ∷ ride 2 2 [] ∷ [])) → ⊥ }
+{}
+
+// nodes spell by the ones before them, and by no others
+fn nodes_spell()
+    ensures change { (spelling (Ends 2 None ∷ Boards (footpath 1 1 0) 2 0 ∷ Changes 0 1 ∷ SetsOut None 0 2 ∷ [])).journey 3 ≡ Some (by_change 0) }
+    ensures on_foot { (spelling (Ends 2 None ∷ SetsOut (Some (footpath 0 1 120)) 2 0 ∷ [])).journey 1 ≡ Some (on_foot 120 2) }
+    ensures no_journey { (spelling (Ends 2 None ∷ SetsOut None 2 0 ∷ [])).journey 0 ≡ None }
+    ensures forward { (spelling (SetsOut None 0 1 ∷ Ends 1 None ∷ [])).journey 0 ≡ None }
+    ensures none { (spelling []).journey 0 ≡ None }
+{}
+
 #[test]
 fn they_hold() {
     both_ways_count();
@@ -95,4 +117,6 @@ fn they_hold() {
     windows_are_computed();
     one_dominates_by_arrival_alone(&Arrival, &ArrivalTrips);
     answers_are_computed(&Arrival);
+    some_are_plain();
+    nodes_spell();
 }
