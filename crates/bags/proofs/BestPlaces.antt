@@ -1,5 +1,5 @@
 -- The places of the best points, one place on.
-use Rattle.std.proofs.Common.{◌≡◌, ℕ, zero, suc, ◌+◌, ◌<◌, ◌≤◌, ◌⊎◌, Bool, true, false, if◌then◌else◌, List, [], ◌∷◌, length, drop, slice_get, Some, Contains, inl, inr, arith, refl, sym, ◌∙◌, ap, subst, add-zero}
+use Rattle.std.proofs.Common.{◌≡◌, ℕ, zero, suc, ◌+◌, ◌-◌, ◌<◌, ◌≤◌, ◌⊎◌, Bool, true, false, if◌then◌else◌, List, [], ◌∷◌, length, drop, slice_get, Some, Contains, inl, inr, arith, refl, sym, ◌∙◌, ap, subst, add-zero}
 use Rattle.std.proofs.lemmas.List.{drop_more, drop_all}
 use Rattle.std.proofs.lemmas.Option.{get_or_from_slice_get, slice_get_within, slice_get_cases}
 use Rattle.std.proofs.lemmas.List.Elements.{Contains-append_left, Contains-append_right, Contains-append_cases, Contains-push, Contains-push_cases}
@@ -62,3 +62,17 @@ places_from-none test n [] none = refl
 places_from-none test n (x ∷ xs) none =
     ap (λ (b : Bool). if b then n ∷ places_from test (n + 1) xs else places_from test (n + 1) xs) (none x (Contains-append_left (x ∷ []) xs x (Contains-push [] x)))
     ∙ places_from-none test (n + 1) xs (λ y h. none y (Contains-append_right (x ∷ []) xs y h))
+
+-- the places before another, none of which passes, are passed over
+passed_by : {X : Type 0} (test : X → Bool) (xs : List X) (n a : ℕ) → a + n ≤ length xs → ((k : ℕ) (x : X) → a ≤ k → k < a + n → slice_get xs k ≡ Some x → test x ≡ false) → places_from test a (drop a xs) ≡ places_from test (a + n) (drop (a + n) xs)
+passed_by test xs zero a within none = ap (λ m. places_from test m (drop m xs)) (sym (add-zero a))
+passed_by test xs (suc n) a within none =
+    let on : a + 1 + n ≡ a + suc n = omega arith in
+    places_from-told test xs a false false (omega arith) (λ x is. sym (none a x (omega arith) (omega arith) is)) refl
+    ∙ (passed_by test xs n (a + 1) (omega arith) (λ k x low lt is. none k x (omega arith) (omega arith) is)
+    ∙ ap (λ m. places_from test m (drop m xs)) on)
+
+pub passed_over : {X : Type 0} (test : X → Bool) (xs : List X) (a b : ℕ) → a ≤ b → b ≤ length xs → ((k : ℕ) (x : X) → a ≤ k → k < b → slice_get xs k ≡ Some x → test x ≡ false) → places_from test a (drop a xs) ≡ places_from test b (drop b xs)
+passed_over test xs a b le within none =
+    let on : a + (b - a) ≡ b = omega arith in
+    passed_by test xs (b - a) a (omega arith) (λ k x low lt is. none k x low (omega arith) is) ∙ ap (λ m. places_from test m (drop m xs)) on

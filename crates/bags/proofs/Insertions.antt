@@ -1,16 +1,20 @@
 -- What stands in a bag after a point came that none of its points dominates.
-use Rattle.std.proofs.Common.{◌≡◌, ℕ, ◌<◌, ◌≤◌, Bool, true, false, not, ◌&&◌, nat_le, List, length, get_or, take, filter, Contains, inl, inr, arith, refl, sym, ◌∙◌, ap, subst}
+use Rattle.std.proofs.Common.{◌≡◌, ℕ, ◌<◌, ◌≤◌, Bool, true, false, not, ◌&&◌, nat_le, List, length, get_or, take, filter, Contains, MatchBool, inl, inr, arith, refl, sym, ◌∙◌, ap, subst}
 use Rattle.std.specs.List.{insert}
-use Rattle.std.proofs.lemmas.Bool.{not-true, true≢false}
+use Rattle.std.proofs.lemmas.Bool.{not-true, true≢false, cases_lt, and_from, and_parts, le-leb, leb-true}
 use Rattle.std.proofs.lemmas.Bool.Decides.{nat_tests}
 use Rattle.std.proofs.lemmas.List.{get_or-take, length-take}
+use Rattle.std.proofs.lemmas.Option.{get_or_from_slice_get, slice_get-get_or}
 use Rattle.std.proofs.lemmas.List.Elements.{Contains-get_or}
 use Rattle.std.proofs.lemmas.List.Filters.{FiltersInPlace}
 use Rattle.std.proofs.lemmas.List.Kept.{AllPairs-filter}
-use Rattle.criteria.specs.Laws.{Rules, Admits}
-use Rattle.bags.specs.Dominance.{IsBag, IsFalling, Inserted, dominates, Dominates, Apart}
+use Rattle.criteria.specs.Laws.{Rules, Admits, NoWorse}
+use Rattle.bags.specs.Dominance.{IsBag, Stands, Inserted, dominates, Dominates, Apart, comes_before}
+use Rattle.bags.specs.Arrangement.{points_in, AreListed, IsNoWorseAt}
+use Rattle.bags.specs.declared.entry.Entry.{Entry}
 use Rattle.bags.specs.declared.point.Point.{Point}
-use Rattle.bags.proofs.Lists.{from_filter, into_filter, filter_all, from_insert, into_insert, all_pairs_insert}
+use Rattle.bags.proofs.Entries.{points_long, point_at, point_stands, points_filter}
+use Rattle.bags.proofs.Lists.{from_filter, into_filter, filter_all, front_stays, from_insert, into_insert, all_pairs_insert}
 
 -- the old points that the new one doesn't dominate
 abbrev pub left_of : {V : Type 0} → Rules V → List (Point V) → Point V → List (Point V)
@@ -49,28 +53,67 @@ left_is_bag {V} rules old p place within bag admitted none =
           (λ k d low lt. let a = apart k d lt in (a.1, none (get_or left k d) a.0));
     }
 
-pub left_is_falling : {V : Type 0} (rules : Rules V) (old : List (Point V)) (p : Point V) → IsFalling old → IsFalling (left_of rules old p)
-left_is_falling rules old p falling = AllPairs-filter (λ q r. r.departure ≤ q.departure) (λ q. not (dominates rules p q)) old falling
+pub left_is_listed : {V : Type 0} (rules : Rules V) (old : List (Point V)) (p : Point V) → AreListed rules old → AreListed rules (left_of rules old p)
+left_is_listed rules old p listed = AllPairs-filter (λ q r. comes_before rules q r ≡ true) (λ q. not (dominates rules p q)) old listed
+
+-- what an old point tells of one that comes
+pub dominated_told : {V : Type 0} (rules : Rules V) (entries : List (Entry V)) (late : ℕ) (p : Point V) (result : Bool) → late ≤ length entries → ((k : ℕ) (d : Entry V) → k < late → p.departure ≤ (get_or entries k d).point.departure) → ((k : ℕ) (d : Entry V) → late ≤ k → k < length entries → (get_or entries k d).point.departure < p.departure)
+    → MatchBool result ((k : ℕ) × IsNoWorseAt rules entries 0 late p.value k) ((k : ℕ) → IsNoWorseAt rules entries 0 late p.value k → ⊥) → Stands rules (points_in entries) p (not result)
+dominated_told {V} rules entries late p true within later earlier (k, (e, low, lt, is, no_worse)) =
+    let here : get_or entries k e ≡ e = get_or_from_slice_get entries k e e is in
+    let late : p.departure ≤ e.point.departure = subst (λ (f : Entry V). p.departure ≤ f.point.departure) here (later k e lt) in
+    (e.point, point_stands entries e (k, omega arith, here), and_from (nat_le p.departure e.point.departure) (rules.no_worse e.point.value p.value) (le-leb p.departure e.point.departure late) no_worse)
+dominated_told {V} rules entries late p false within later earlier none = λ q h above.
+    let k = h.0 in
+    let lt : k < length entries = subst (λ n. k < n) (points_long entries) h.1 in
+    let d : Entry V = record { point = q; skip = 0 } in
+    let same : (get_or entries k d).point ≡ q = sym (point_at entries k d q lt) ∙ h.2 in
+    let parts = and_parts (nat_le p.departure q.departure) (rules.no_worse q.value p.value) above in
+    let in_time = leb-true p.departure q.departure parts.0 in
+    elim (cases_lt k late) [
+      | inl low ↦ none k (get_or entries k d, omega arith, low, slice_get-get_or entries k d lt, subst (λ (r : Point V). NoWorse rules r.value p.value) (sym same) parts.1)
+      | inr high ↦
+          let soon : q.departure < p.departure = subst (λ (r : Point V). r.departure < p.departure) same (earlier k d high lt) in
+          omega arith
+    ]
+
+-- the entries that the new point doesn't dominate
+abbrev pub entries_left : {V : Type 0} → Rules V → List (Entry V) → Point V → List (Entry V)
+entries_left rules entries p = filter (λ e. not (dominates rules p e.point)) entries
 
 -- a filter in place begins behind the points that depart later
 not_later : (a b : ℕ) (c : Bool) → a < b → not (nat_le b a && c) ≡ true
 not_later a b c lt = grind (arith, nat_tests)
 
-pub filters_from : {V : Type 0} (rules : Rules V) (points : List (Point V)) (first : ℕ) (p : Point V) → first ≤ length points → ((k : ℕ) (d : Point V) → k < first → p.departure < (get_or points k d).departure) → FiltersInPlace (λ q. not (dominates rules p q)) points points first first
-filters_from {V} rules points first p within later =
-    let stays : (q : Point V) → Contains (take first points) q → not (dominates rules p q) ≡ true = λ q h.
-    let len = length-take first points in
+-- the entries before a place depart later
+abbrev pub DepartLater : {V : Type 0} → List (Entry V) → ℕ → Point V → Type 0
+DepartLater {V} entries first p = (k : ℕ) (d : Entry V) → k < first → p.departure < (get_or entries k d).point.departure
+
+stays : {V : Type 0} (rules : Rules V) (entries : List (Entry V)) (first : ℕ) (p : Point V) → DepartLater entries first p → (k : ℕ) (d : Entry V) → k < first → not (dominates rules p (get_or entries k d).point) ≡ true
+stays rules entries first p later k d low = not_later p.departure (get_or entries k d).point.departure (rules.no_worse p.value (get_or entries k d).point.value) (later k d low)
+
+pub filters_from : {V : Type 0} (rules : Rules V) (entries : List (Entry V)) (first : ℕ) (p : Point V) → first ≤ length entries → DepartLater entries first p → FiltersInPlace (λ e. not (dominates rules p e.point)) entries entries first first
+filters_from {V} rules entries first p within later =
+    let all : (e : Entry V) → Contains (take first entries) e → not (dominates rules p e.point) ≡ true = λ e h.
+    let len = length-take first entries in
     let inside = h.1 in
     let low : h.0 < first = omega arith in
-    let here : get_or points h.0 q ≡ q = sym (get_or-take first points h.0 q low) ∙ h.2 in
-    not_later p.departure q.departure (rules.no_worse p.value q.value) (subst (λ (r : Point V). p.departure < r.departure) here (later h.0 q low)) in
+    let here : get_or entries h.0 e ≡ e = sym (get_or-take first entries h.0 e low) ∙ h.2 in
+    subst (λ (f : Entry V). not (dominates rules p f.point) ≡ true) here (stays rules entries first p later h.0 e low) in
     record {
-      front = sym (filter_all (λ q. not (dominates rules p q)) (take first points) stays);
+      front = sym (filter_all (λ e. not (dominates rules p e.point)) (take first entries) all);
       rest = refl;
       behind = omega arith;
       within = within;
       long = refl;
     }
+
+-- the entries before that place stay where they are
+pub front_left : {V : Type 0} (rules : Rules V) (entries : List (Entry V)) (first : ℕ) (p : Point V) → first ≤ length entries → DepartLater entries first p → (first ≤ length (entries_left rules entries p)) × ((k : ℕ) (d : Entry V) → k < first → get_or (entries_left rules entries p) k d ≡ get_or entries k d)
+front_left rules entries first p within later = front_stays (λ e. not (dominates rules p e.point)) entries first within (stays rules entries first p later)
+
+pub points_left : {V : Type 0} (rules : Rules V) (p : Point V) (old left : List (Entry V)) → left ≡ entries_left rules old p → points_in left ≡ left_of rules (points_in old) p
+points_left rules p old left is = ap points_in is ∙ points_filter (λ q. not (dominates rules p q)) old
 
 -- what stands once the point is placed among the points left
 pub placed : {V : Type 0} (rules : Rules V) (old left new : List (Point V)) (p : Point V) (place : ℕ) → left ≡ left_of rules old p → new ≡ insert left place p → place ≤ length left → IsBag rules old → Admits rules p.value → NoneAbove rules old p → IsBag rules new × Inserted rules old p true new
@@ -80,10 +123,6 @@ placed rules old left new p place is made within bag admitted none =
       subst (Inserted rules old p true) (sym e) (left_is_inserted rules old p place),
     )
 
-pub placed_falling : {V : Type 0} (left new : List (Point V)) (p : Point V) (place : ℕ) → new ≡ insert left place p → place ≤ length left → IsFalling left → ((k : ℕ) (d : Point V) → k < place → p.departure ≤ (get_or left k d).departure) → ((k : ℕ) (d : Point V) → place ≤ k → k < length left → (get_or left k d).departure ≤ p.departure) → IsFalling new
-placed_falling left new p place made within falling before after =
-    subst IsFalling (sym made) (all_pairs_insert (λ q r. r.departure ≤ q.departure) left place p within falling before after)
-
--- the points left, as they are read again
-pub left_after : {V : Type 0} (rules : Rules V) (p : Point V) (old reserved dropped read : List (Point V)) → reserved ≡ old → dropped ≡ left_of rules reserved p → read ≡ dropped → read ≡ left_of rules old p
-left_after rules p old reserved dropped read same is again = again ∙ (is ∙ ap (λ xs. left_of rules xs p) same)
+pub placed_listed : {V : Type 0} (rules : Rules V) (left new : List (Point V)) (p : Point V) (place : ℕ) → new ≡ insert left place p → place ≤ length left → AreListed rules left → ((k : ℕ) (d : Point V) → k < place → comes_before rules (get_or left k d) p ≡ true) → ((k : ℕ) (d : Point V) → place ≤ k → k < length left → comes_before rules p (get_or left k d) ≡ true) → AreListed rules new
+placed_listed rules left new p place made within listed before after =
+    subst (AreListed rules) (sym made) (all_pairs_insert (λ q r. comes_before rules q r ≡ true) left place p within listed before after)

@@ -1,5 +1,9 @@
 pub mod BestPlaces
 pub mod BestPoints
+pub mod Entries
 pub mod Insertions
+pub mod Links
 pub mod Lists
+pub mod OneInsertion
 pub mod Order
+pub mod Places

@@ -1,5 +1,5 @@
 -- Membership in lists, filtered ones and ones that a loop filters in place.
-use Rattle.std.proofs.Common.{◌≡◌, ℕ, ◌+◌, ◌-◌, ◌<◌, ◌≤◌, ◌⊎◌, Bool, true, false, cond, List, [], ◌∷◌, length, get_or, drop, filter, Contains, AllPairs, inl, inr, arith, refl, sym, ◌∙◌, ap, subst, add-zero}
+use Rattle.std.proofs.Common.{◌≡◌, ℕ, zero, suc, ◌+◌, ◌-◌, ◌<◌, ◌≤◌, ◌⊎◌, Bool, true, false, cond, List, [], ◌∷◌, length, get_or, drop, filter, Contains, AllPairs, inl, inr, arith, refl, sym, ◌∙◌, ap, subst, add-zero}
 use Rattle.std.specs.List.{list_any, insert}
 use Rattle.std.proofs.lemmas.Bool.{cases_order}
 use Rattle.std.proofs.lemmas.List.Edits.{length-insert, get_or-insert_below, get_or-insert_at, get_or-insert_above}
@@ -50,6 +50,17 @@ filter_all p [] all = refl
 filter_all p (x ∷ xs) all =
     ap (λ (b : Bool). cond b (x ∷ filter p xs) (filter p xs)) (all x (Contains-append_left (x ∷ []) xs x (Contains-push [] x)))
     ∙ ap (λ ys. x ∷ ys) (filter_all p xs (λ y h. all y (Contains-append_right (x ∷ []) xs y h)))
+
+-- where the first ones pass
+pub front_stays : {X : Type 0} (p : X → Bool) (xs : List X) (n : ℕ) → n ≤ length xs → ((k : ℕ) (d : X) → k < n → p (get_or xs k d) ≡ true) → (n ≤ length (filter p xs)) × ((k : ℕ) (d : X) → k < n → get_or (filter p xs) k d ≡ get_or xs k d)
+front_stays p xs zero within pass = (omega arith, λ k d lt. absurd (omega arith))
+front_stays p [] (suc n) within pass = absurd (omega arith)
+front_stays {X} p (x ∷ xs) (suc n) within pass =
+    let rest = front_stays p xs n (omega arith) (λ k d lt. pass (suc k) d (omega arith)) in
+    let here : filter p (x ∷ xs) ≡ x ∷ filter p xs = ap (λ (b : Bool). cond b (x ∷ filter p xs) (filter p xs)) (pass 0 x (omega arith)) in (
+      subst (λ (ys : List X). suc n ≤ length ys) (sym here) (omega (arith, rest.0)),
+      λ k d lt. ap (λ (ys : List X). get_or ys k d) here ∙ (elim k as (λ m. m < suc n → get_or (x ∷ filter p xs) m d ≡ get_or (x ∷ xs) m d) [ zero ↦ λ _. refl | suc m ↦ λ less. rest.1 m d (omega arith) ]) lt,
+    )
 
 -- what stands in a list with an element put in
 pub from_insert : {X : Type 0} (xs : List X) (n : ℕ) (y x : X) → Contains (insert xs n y) x → (y ≡ x) ⊎ Contains xs x

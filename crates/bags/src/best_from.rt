@@ -1,8 +1,7 @@
 ghost use Rattle.std.specs.Prelude.{◌≡◌, ◌+◌, ◌<◌, ◌≤◌, [], ◌∷◌, Contains, MatchOption, IfSome, length};
 ghost use Rattle.std.specs.Iterator.{YieldsFirst, item_count};
 ghost use Rattle.bags.specs.Bag.{criterion_of, points_of};
-ghost use Rattle.bags.specs.Best.{best_places, best_places_from, IsBestPlace, SomeNoWorse};
-ghost use Rattle.bags.specs.BestFrom.{places_left};
+ghost use Rattle.bags.specs.Best.{best_places, best_places_from, IsBestPlace, SomeNoWorse, AreLate};
 
 use crate::Bag;
 use criteria::Criterion;
@@ -13,9 +12,14 @@ pub struct BestFrom<'a, C: Criterion> {
     bag: &'a Bag<C>,
     time: u32,
     next: usize,
+    late: usize,
+    ghost split: { AreLate (points_of bag.now) time late },
+    ghost within: { next ≤ late },
 }
 
 impl<C: Criterion> Bag<C> {
+    ghost use Rattle.bags.specs.BestFrom.{places_left};
+
     /// The places of the best points from a time on, rising: of the points that
     /// depart at the time or later, those to whose value no such point's value
     /// is strictly better. It borrows the bag and takes no memory.
@@ -24,15 +28,19 @@ impl<C: Criterion> Bag<C> {
         ensures best { (place : _) → Contains (best_places (C.rules (criterion_of self.now)) (points_of self.now) time) place → IsBestPlace (C.rules (criterion_of self.now)) (points_of self.now) time place }
         ensures covers { (p : _) → Contains (points_of self.now) p → time ≤ p.departure → SomeNoWorse (C.rules (criterion_of self.now)) (points_of self.now) (best_places (C.rules (criterion_of self.now)) (points_of self.now) time) p.value }
     {
+        let late = self.count_from(time);
         BestFrom {
             bag: self,
             time,
             next: 0,
+            late,
         }
     }
 }
 
 impl<'a, C: Criterion> Iterator for BestFrom<'a, C> {
+    ghost use Rattle.bags.specs.BestFrom.{places_left};
+
     type Item = usize;
 
     ghost next_gives = { YieldsFirst places_left };
@@ -40,24 +48,30 @@ impl<'a, C: Criterion> Iterator for BestFrom<'a, C> {
     ghost remaining = { item_count places_left };
 
     fn next(&mut self) -> Option<usize> {
-        let place = next_best(self.bag, self.time, self.next)?;
+        let place = self.next_best()?;
         self.next = place + 1;
         Some(place)
     }
 }
 
-// The least place of a best point, from a place on. Behind a point that departs earlier all do.
-fn next_best<C: Criterion>(bag: &Bag<C>, time: u32, from: usize) -> Option<usize>
-    ensures within { IfSome result (λ place. place < length (points_of bag.now)) }
-    ensures first { MatchOption result (best_places_from (C.rules (criterion_of bag.now)) (points_of bag.now) time from ≡ []) (λ place. best_places_from (C.rules (criterion_of bag.now)) (points_of bag.now) time from ≡ place ∷ best_places_from (C.rules (criterion_of bag.now)) (points_of bag.now) time (place + 1)) }
-{
-    for place in from..bag.len() {
-        if bag.point(place).departure < time {
-            return None;
+
+impl<'a, C: Criterion> BestFrom<'a, C> {
+    ghost use Rattle.bags.specs.BestFrom.{places_left};
+
+    // The least place of a best point that is still to be given. The search goes back from the last late point.
+    fn next_best(&self) -> Option<usize>
+        ensures within { IfSome result (λ place. place < self.now.late) }
+        ensures first { MatchOption result (places_left self.now ≡ []) (λ place. places_left self.now ≡ place ∷ best_places_from (C.rules (criterion_of self.now.bag.now)) (points_of self.now.bag.now) self.now.time (place + 1)) }
+    {
+        let mut best = None;
+        let mut left = self.late;
+        while left > self.next {
+            let place = left - 1;
+            if self.bag.is_best_before(place, self.late) {
+                best = Some(place);
+            }
+            left = self.bag.skip(place).max(self.next);
         }
-        if bag.is_best_at(place, time) {
-            return Some(place);
-        }
+        best
     }
-    None
 }

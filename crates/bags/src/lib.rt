@@ -3,8 +3,10 @@
 
 pub mod bag;
 pub mod best_from;
+mod entry;
 mod insertion;
 pub mod point;
+mod search;
 
 pub use bag::Bag;
 pub use best_from::BestFrom;

@@ -1,67 +1,99 @@
-use Rattle.std.proofs.Common.{◌≡◌, ◌<◌, true, false, Contains, vec_len, vec_capacity, arith, sym, ◌∙◌, ap, subst}
+use Rattle.std.proofs.Common.{◌≡◌, false, sym, ◌∙◌, ap, refl, subst}
 use Rattle.std.specs.List.{insert}
-use Rattle.std.proofs.lemmas.Bool.{true≢false}
-use Rattle.bags.specs.Dominance.{IsFalling, Stands}
-use Rattle.bags.proofs.Insertions.{left_of, left_after, from_left, left_is_falling, placed, placed_falling}
+use Rattle.bags.specs.Dominance.{Stands}
+use Rattle.bags.specs.Arrangement.{points_in, AreFalling, AreAdmitted}
+use Rattle.bags.proofs.Entries.{falling_in, admitted_in}
+use Rattle.bags.proofs.OneInsertion.{left_by_steps, admitted_left, listed_left, undominated_left, within_left, later_left, admitted_new, linked_new, points_new, placed_new, listed_new}
 use Rattle.bags.proofs.insertion.insert_point.Goals as goal
 
+pub is_dominated-requires-clause-falling : goal.is_dominated-requires-clause-falling
+is_dominated-requires-clause-falling g c =
+    let rules = g.C.Criterion.rules c.args.criterion.now in
+    subst AreFalling (sym c.deref.ensures.value) (falling_in rules c.args.entries.now.items c.requires.listed)
+
 pub returns-then-is_dominated-clause-stands : goal.returns-then-is_dominated-clause-stands
-returns-then-is_dominated-clause-stands g c = subst (λ xs. Stands (g.C.Criterion.rules c.args.criterion.now) xs c.args.point false) c.deref.ensures.value c.if-is_dominated.ensures
+returns-then-is_dominated-clause-stands g c =
+    let rules = g.C.Criterion.rules c.args.criterion.now in
+    subst (λ es. Stands rules (points_in es) c.args.point false) c.deref.ensures.value c.if-is_dominated.ensures
 
--- the points left, before the point is placed and after it
-left_before : (g : _) (c : goal.After-point-3-1 g) → c.deref-3.result.now ≡ left_of (g.C.Criterion.rules c.args.criterion.now) c.args.points.now.items c.args.point
-left_before g c =
-    left_after (g.C.Criterion.rules c.args.criterion.now) c.args.point c.args.points.now.items c.reserve.new.self.items c.drop_dominated.new.points.items c.deref-3.result.now
-    c.reserve.ensures.items c.drop_dominated.ensures.items c.deref-3.ensures.value
+pub count_after-first-requires : goal.count_after-first-requires
+count_after-first-requires g c =
+    let rules = g.C.Criterion.rules c.args.criterion.now in
+    subst AreFalling (sym (c.deref-2.ensures.value ∙ c.reserve.ensures.items)) (falling_in rules c.args.entries.now.items c.requires.listed)
 
-left : (g : _) (c : goal.In_ok-insert g) → c.deref-3.result.now ≡ left_of (g.C.Criterion.rules c.args.criterion.now) c.args.points.now.items c.args.point
-left g c =
-    left_after (g.C.Criterion.rules c.args.criterion.now) c.args.point c.args.points.now.items c.reserve.new.self.items c.drop_dominated.new.points.items c.deref-3.result.now
-    c.reserve.ensures.items c.drop_dominated.ensures.items c.deref-3.ensures.value
+pub drop_dominated-requires-clause-admitted : goal.drop_dominated-requires-clause-admitted
+drop_dominated-requires-clause-admitted g c =
+    let rules = g.C.Criterion.rules c.args.criterion.now in
+    subst (AreAdmitted rules) (sym c.reserve.ensures.items) (admitted_in rules c.args.entries.now.items c.requires.bag)
 
 pub place_of-place-requires-clause-admitted : goal.place_of-place-requires-clause-admitted
-place_of-place-requires-clause-admitted g c = λ p h.
-    let kept = from_left (g.C.Criterion.rules c.args.criterion.now) c.args.points.now.items c.args.point p (subst (λ xs. Contains xs p) (left_before g c) h) in
-    c.requires.bag.admitted p kept.0
+place_of-place-requires-clause-admitted g c =
+    let rules = g.C.Criterion.rules c.args.criterion.now in
+    let left = left_by_steps rules c.args.point c.args.entries.now.items c.deref.result.now c.reserve.new.self.items c.deref-2.result.now c.drop_dominated.new.entries.items c.deref-3.result.now c.count_after-first.result
+    c.requires.bag c.requires.listed c.requires.linked c.requires.admitted c.deref.ensures.value c.if-is_dominated.ensures c.reserve.ensures.items c.deref-2.ensures.value c.count_after-first.ensures.within c.count_after-first.ensures.later c.drop_dominated.ensures.items c.deref-3.ensures.value in
+    admitted_left rules c.args.point c.args.entries.now.items c.deref-3.result.now c.count_after-first.result left
 
-pub place_of-place-requires-clause-falling : goal.place_of-place-requires-clause-falling
-place_of-place-requires-clause-falling g c = subst IsFalling (sym (left_before g c)) (left_is_falling (g.C.Criterion.rules c.args.criterion.now) c.args.points.now.items c.args.point c.requires.falling)
+pub place_of-place-requires-clause-listed : goal.place_of-place-requires-clause-listed
+place_of-place-requires-clause-listed g c =
+    let rules = g.C.Criterion.rules c.args.criterion.now in
+    let left = left_by_steps rules c.args.point c.args.entries.now.items c.deref.result.now c.reserve.new.self.items c.deref-2.result.now c.drop_dominated.new.entries.items c.deref-3.result.now c.count_after-first.result
+    c.requires.bag c.requires.listed c.requires.linked c.requires.admitted c.deref.ensures.value c.if-is_dominated.ensures c.reserve.ensures.items c.deref-2.ensures.value c.count_after-first.ensures.within c.count_after-first.ensures.later c.drop_dominated.ensures.items c.deref-3.ensures.value in
+    listed_left rules c.args.point c.args.entries.now.items c.deref-3.result.now c.count_after-first.result left
 
--- there is room for the point
-room : (g : _) (c : goal.After-from_residual-in_err-insert g) → vec_len c.drop_dominated.new.points < vec_capacity c.drop_dominated.new.points
-room g c =
-    let enough = c.in_ok-reserve.ensures.ok in
-    let fewer = c.drop_dominated.ensures.len in
-    let same = c.drop_dominated.ensures.capacity in
-    omega arith
+pub place_of-place-requires-clause-undominated : goal.place_of-place-requires-clause-undominated
+place_of-place-requires-clause-undominated g c =
+    let rules = g.C.Criterion.rules c.args.criterion.now in
+    let left = left_by_steps rules c.args.point c.args.entries.now.items c.deref.result.now c.reserve.new.self.items c.deref-2.result.now c.drop_dominated.new.entries.items c.deref-3.result.now c.count_after-first.result
+    c.requires.bag c.requires.listed c.requires.linked c.requires.admitted c.deref.ensures.value c.if-is_dominated.ensures c.reserve.ensures.items c.deref-2.ensures.value c.count_after-first.ensures.within c.count_after-first.ensures.later c.drop_dominated.ensures.items c.deref-3.ensures.value in
+    undominated_left rules c.args.point c.args.entries.now.items c.deref-3.result.now c.count_after-first.result left
 
-pub returns-in_err-insert-clause-bag : goal.returns-in_err-insert-clause-bag
-returns-in_err-insert-clause-bag g c = absurd (true≢false (sym (c.in_err-insert.ensures.succeeds (room g c))))
+pub place_of-place-requires-clause-within : goal.place_of-place-requires-clause-within
+place_of-place-requires-clause-within g c =
+    let rules = g.C.Criterion.rules c.args.criterion.now in
+    let left = left_by_steps rules c.args.point c.args.entries.now.items c.deref.result.now c.reserve.new.self.items c.deref-2.result.now c.drop_dominated.new.entries.items c.deref-3.result.now c.count_after-first.result
+    c.requires.bag c.requires.listed c.requires.linked c.requires.admitted c.deref.ensures.value c.if-is_dominated.ensures c.reserve.ensures.items c.deref-2.ensures.value c.count_after-first.ensures.within c.count_after-first.ensures.later c.drop_dominated.ensures.items c.deref-3.ensures.value in
+    within_left rules c.args.point c.args.entries.now.items c.deref-3.result.now c.count_after-first.result left
 
-pub returns-in_err-insert-clause-falling : goal.returns-in_err-insert-clause-falling
-returns-in_err-insert-clause-falling g c = absurd (true≢false (sym (c.in_err-insert.ensures.succeeds (room g c))))
+pub place_of-place-requires-clause-later : goal.place_of-place-requires-clause-later
+place_of-place-requires-clause-later g c =
+    let rules = g.C.Criterion.rules c.args.criterion.now in
+    let left = left_by_steps rules c.args.point c.args.entries.now.items c.deref.result.now c.reserve.new.self.items c.deref-2.result.now c.drop_dominated.new.entries.items c.deref-3.result.now c.count_after-first.result
+    c.requires.bag c.requires.listed c.requires.linked c.requires.admitted c.deref.ensures.value c.if-is_dominated.ensures c.reserve.ensures.items c.deref-2.ensures.value c.count_after-first.ensures.within c.count_after-first.ensures.later c.drop_dominated.ensures.items c.deref-3.ensures.value in
+    later_left rules c.args.point c.args.entries.now.items c.deref-3.result.now c.count_after-first.result left
 
-pub returns-in_err-insert-clause-err : goal.returns-in_err-insert-clause-err
-returns-in_err-insert-clause-err g c = absurd (true≢false (sym (c.in_err-insert.ensures.succeeds (room g c))))
+pub link-requires-clause-admitted : goal.link-requires-clause-admitted
+link-requires-clause-admitted g c =
+    let rules = g.C.Criterion.rules c.args.criterion.now in
+    let left = left_by_steps rules c.args.point c.args.entries.now.items c.deref.result.now c.reserve.new.self.items c.deref-2.result.now c.drop_dominated.new.entries.items c.deref-3.result.now c.count_after-first.result
+    c.requires.bag c.requires.listed c.requires.linked c.requires.admitted c.deref.ensures.value c.if-is_dominated.ensures c.reserve.ensures.items c.deref-2.ensures.value c.count_after-first.ensures.within c.count_after-first.ensures.later c.drop_dominated.ensures.items c.deref-3.ensures.value in
+    admitted_new rules c.args.point c.args.entries.now.items c.deref-3.result.now c.count_after-first.result left c.insert.new.self.items c.place_of-place.result (record { point = c.args.point; skip = c.place_of-place.result })
+    (c.in_ok-insert.ensures.items ∙ ap (λ es. insert es c.place_of-place.result (record { point = c.args.point; skip = c.place_of-place.result })) (sym c.deref-3.ensures.value)) refl
+
+pub link-requires-clause-linked : goal.link-requires-clause-linked
+link-requires-clause-linked g c =
+    let rules = g.C.Criterion.rules c.args.criterion.now in
+    let left = left_by_steps rules c.args.point c.args.entries.now.items c.deref.result.now c.reserve.new.self.items c.deref-2.result.now c.drop_dominated.new.entries.items c.deref-3.result.now c.count_after-first.result
+    c.requires.bag c.requires.listed c.requires.linked c.requires.admitted c.deref.ensures.value c.if-is_dominated.ensures c.reserve.ensures.items c.deref-2.ensures.value c.count_after-first.ensures.within c.count_after-first.ensures.later c.drop_dominated.ensures.items c.deref-3.ensures.value in
+    linked_new rules c.args.point c.args.entries.now.items c.deref-3.result.now c.count_after-first.result left c.insert.new.self.items c.place_of-place.result (record { point = c.args.point; skip = c.place_of-place.result })
+    (c.in_ok-insert.ensures.items ∙ ap (λ es. insert es c.place_of-place.result (record { point = c.args.point; skip = c.place_of-place.result })) (sym c.deref-3.ensures.value)) c.place_of-place.ensures.first c.place_of-place.ensures.within
 
 pub returns-clause-bag : goal.returns-clause-bag
 returns-clause-bag g c =
-    (placed (g.C.Criterion.rules c.args.criterion.now) c.args.points.now.items c.deref-3.result.now c.insert.new.self.items c.args.point c.place_of-place.result (left g c)
-    (c.in_ok-insert.ensures.items ∙ ap (λ xs. insert xs c.place_of-place.result c.args.point) (sym c.deref-3.ensures.value))
-    c.place_of-place.ensures.within c.requires.bag c.requires.admitted
-    (subst (λ xs. Stands (g.C.Criterion.rules c.args.criterion.now) xs c.args.point true) c.deref.ensures.value c.if-is_dominated.ensures)).0
+    let rules = g.C.Criterion.rules c.args.criterion.now in
+    let left = left_by_steps rules c.args.point c.args.entries.now.items c.deref.result.now c.reserve.new.self.items c.deref-2.result.now c.drop_dominated.new.entries.items c.deref-3.result.now c.count_after-first.result
+    c.requires.bag c.requires.listed c.requires.linked c.requires.admitted c.deref.ensures.value c.if-is_dominated.ensures c.reserve.ensures.items c.deref-2.ensures.value c.count_after-first.ensures.within c.count_after-first.ensures.later c.drop_dominated.ensures.items c.deref-3.ensures.value in
+    (placed_new rules c.args.point c.args.entries.now.items c.deref-3.result.now c.count_after-first.result left c.link.new.entries.items c.place_of-place.result (points_new rules c.args.point c.args.entries.now.items c.deref-3.result.now c.count_after-first.result c.insert.new.self.items c.link.new.entries.items c.place_of-place.result (record { point = c.args.point; skip = c.place_of-place.result }) (c.in_ok-insert.ensures.items ∙ ap (λ es. insert es c.place_of-place.result (record { point = c.args.point; skip = c.place_of-place.result })) (sym c.deref-3.ensures.value)) c.link.ensures.points) c.place_of-place.ensures.within).0
+
+pub returns-clause-listed : goal.returns-clause-listed
+returns-clause-listed g c =
+    let rules = g.C.Criterion.rules c.args.criterion.now in
+    let left = left_by_steps rules c.args.point c.args.entries.now.items c.deref.result.now c.reserve.new.self.items c.deref-2.result.now c.drop_dominated.new.entries.items c.deref-3.result.now c.count_after-first.result
+    c.requires.bag c.requires.listed c.requires.linked c.requires.admitted c.deref.ensures.value c.if-is_dominated.ensures c.reserve.ensures.items c.deref-2.ensures.value c.count_after-first.ensures.within c.count_after-first.ensures.later c.drop_dominated.ensures.items c.deref-3.ensures.value in
+    listed_new rules c.args.point c.args.entries.now.items c.deref-3.result.now c.count_after-first.result left c.link.new.entries.items c.place_of-place.result (points_new rules c.args.point c.args.entries.now.items c.deref-3.result.now c.count_after-first.result c.insert.new.self.items c.link.new.entries.items c.place_of-place.result (record { point = c.args.point; skip = c.place_of-place.result }) (c.in_ok-insert.ensures.items ∙ ap (λ es. insert es c.place_of-place.result (record { point = c.args.point; skip = c.place_of-place.result })) (sym c.deref-3.ensures.value)) c.link.ensures.points) c.place_of-place.ensures.within c.place_of-place.ensures.before c.place_of-place.ensures.after
 
 pub returns-clause-inserted : goal.returns-clause-inserted
 returns-clause-inserted g c =
-    (placed (g.C.Criterion.rules c.args.criterion.now) c.args.points.now.items c.deref-3.result.now c.insert.new.self.items c.args.point c.place_of-place.result (left g c)
-    (c.in_ok-insert.ensures.items ∙ ap (λ xs. insert xs c.place_of-place.result c.args.point) (sym c.deref-3.ensures.value))
-    c.place_of-place.ensures.within c.requires.bag c.requires.admitted
-    (subst (λ xs. Stands (g.C.Criterion.rules c.args.criterion.now) xs c.args.point true) c.deref.ensures.value c.if-is_dominated.ensures)).1
-
-pub returns-clause-falling : goal.returns-clause-falling
-returns-clause-falling g c =
-    placed_falling c.deref-3.result.now c.insert.new.self.items c.args.point c.place_of-place.result
-    (c.in_ok-insert.ensures.items ∙ ap (λ xs. insert xs c.place_of-place.result c.args.point) (sym c.deref-3.ensures.value))
-    c.place_of-place.ensures.within
-    (subst IsFalling (sym (left g c)) (left_is_falling (g.C.Criterion.rules c.args.criterion.now) c.args.points.now.items c.args.point c.requires.falling))
-    c.place_of-place.ensures.before c.place_of-place.ensures.after
+    let rules = g.C.Criterion.rules c.args.criterion.now in
+    let left = left_by_steps rules c.args.point c.args.entries.now.items c.deref.result.now c.reserve.new.self.items c.deref-2.result.now c.drop_dominated.new.entries.items c.deref-3.result.now c.count_after-first.result
+    c.requires.bag c.requires.listed c.requires.linked c.requires.admitted c.deref.ensures.value c.if-is_dominated.ensures c.reserve.ensures.items c.deref-2.ensures.value c.count_after-first.ensures.within c.count_after-first.ensures.later c.drop_dominated.ensures.items c.deref-3.ensures.value in
+    (placed_new rules c.args.point c.args.entries.now.items c.deref-3.result.now c.count_after-first.result left c.link.new.entries.items c.place_of-place.result (points_new rules c.args.point c.args.entries.now.items c.deref-3.result.now c.count_after-first.result c.insert.new.self.items c.link.new.entries.items c.place_of-place.result (record { point = c.args.point; skip = c.place_of-place.result }) (c.in_ok-insert.ensures.items ∙ ap (λ es. insert es c.place_of-place.result (record { point = c.args.point; skip = c.place_of-place.result })) (sym c.deref-3.ensures.value)) c.link.ensures.points) c.place_of-place.ensures.within).1

@@ -1,5 +1,7 @@
-use Rattle.std.proofs.Common.{◌-◌, arith, sym, ◌∙◌}
+use Rattle.bags.proofs.Insertions.{dominated_told}
 use Rattle.bags.proofs.insertion.is_dominated.Goals as goal
 
-pub returns-then-dominates : goal.returns-then-dominates
-returns-then-dominates g c = (c.index-points-left.result, (c.loop-left.left - 1, omega arith, sym c.index-points-left.is), sym c.dominates.ensures ∙ c.if-dominates.true)
+pub returns : goal.returns
+returns g c =
+    let late = c.count_from-late.ensures in
+    dominated_told (g.C.Criterion.rules c.args.criterion.now) c.args.entries.now c.count_from-late.result c.args.point.now c.some_no_worse.result late.within late.late late.early c.some_no_worse.ensures
