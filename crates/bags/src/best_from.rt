@@ -54,7 +54,6 @@ impl<'a, C: Criterion> Iterator for BestFrom<'a, C> {
     }
 }
 
-
 impl<'a, C: Criterion> BestFrom<'a, C> {
     ghost use Rattle.bags.specs.BestFrom.{places_left};
 

@@ -42,11 +42,7 @@ pub fn insert_point<C: Criterion>(
 }
 
 // Whether one of the points dominates a point.
-fn is_dominated<C: Criterion>(
-    criterion: &C,
-    entries: &[Entry<C::V>],
-    point: &Point<C::V>,
-) -> bool
+fn is_dominated<C: Criterion>(criterion: &C, entries: &[Entry<C::V>], point: &Point<C::V>) -> bool
     requires admitted { AreAdmitted (C.rules criterion.now) entries.now }
     requires falling { AreFalling entries.now }
     requires linked { AreLinked (C.rules criterion.now) entries.now (length entries.now) }

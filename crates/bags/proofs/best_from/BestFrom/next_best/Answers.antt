@@ -31,8 +31,8 @@ loop-left-preserved g c =
     let within : c.loop-left.left - 1 < length points = omega (arith, self.split.within) in
     let low : c.max-left.result ≤ c.loop-left.left - 1 = omega (arith, max) in
     let step = step_back rules points self.time (c.loop-left.left - 1) c.max-left.result c.is_best_before.result low within
-        (c.is_best_before.ensures self.time self.split)
-        (λ k p from before is. c.skip.ensures.passed self.time self.late in_late self.split k p (omega (arith, max)) before is) in
+    (c.is_best_before.ensures self.time self.split)
+    (λ k p from before is. c.skip.ensures.passed self.time self.late in_late self.split k p (omega (arith, max)) before is) in
     let on : c.loop-left.left - 1 + 1 ≡ c.loop-left.left = omega arith in
     elim c.if-is_best_before.branch [
       | then-is_best_before w ↦ rw w.best-is (record {
