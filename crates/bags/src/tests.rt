@@ -192,7 +192,10 @@ fn of_points_that_depart_later_the_best_are_told(rt: HostRuntime) -> Result<(), 
     }
     assert_eq!(rt; bag.len(), 80);
     assert_order(&rt, &bag);
-    assert_eq!(rt; bag.best_from(34_000).count(), 2);
+    let mut best = bag.best_from(34_000);
+    assert_eq!(rt; best.next(), Some(66));
+    assert_eq!(rt; best.next(), Some(67));
+    assert_eq!(rt; best.next(), None);
     assert_eq!(rt; bag.best_from(33_660).next(), Some(78));
     assert_eq!(rt; bag.best_from(36_001).next(), None);
     assert_best(&rt, &bag, 34_000);

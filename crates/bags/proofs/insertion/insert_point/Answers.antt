@@ -1,4 +1,4 @@
-use Rattle.std.proofs.Common.{◌≡◌, false, sym, ◌∙◌, ap, refl, subst}
+use Rattle.std.proofs.Common.{false, sym, ◌∙◌, ap, refl, subst}
 use Rattle.std.specs.List.{insert}
 use Rattle.bags.specs.Dominance.{Stands}
 use Rattle.bags.specs.Arrangement.{points_in, AreFalling, AreAdmitted}
