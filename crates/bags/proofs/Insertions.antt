@@ -56,27 +56,6 @@ left_is_bag {V} rules old p place within bag admitted none =
 pub left_is_listed : {V : Type 0} (rules : Rules V) (old : List (Point V)) (p : Point V) → AreListed rules old → AreListed rules (left_of rules old p)
 left_is_listed rules old p listed = AllPairs-filter (λ q r. comes_before rules q r ≡ true) (λ q. not (dominates rules p q)) old listed
 
--- what an old point tells of one that comes
-pub dominated_told : {V : Type 0} (rules : Rules V) (entries : List (Entry V)) (late : ℕ) (p : Point V) (result : Bool) → late ≤ length entries → ((k : ℕ) (d : Entry V) → k < late → p.departure ≤ (get_or entries k d).point.departure) → ((k : ℕ) (d : Entry V) → late ≤ k → k < length entries → (get_or entries k d).point.departure < p.departure)
-    → MatchBool result ((k : ℕ) × IsNoWorseAt rules entries 0 late p.value k) ((k : ℕ) → IsNoWorseAt rules entries 0 late p.value k → ⊥) → Stands rules (points_in entries) p (not result)
-dominated_told {V} rules entries late p true within later earlier (k, (e, low, lt, is, no_worse)) =
-    let here : get_or entries k e ≡ e = get_or_from_slice_get entries k e e is in
-    let late : p.departure ≤ e.point.departure = subst (λ (f : Entry V). p.departure ≤ f.point.departure) here (later k e lt) in
-    (e.point, point_stands entries e (k, omega arith, here), and_from (nat_le p.departure e.point.departure) (rules.no_worse e.point.value p.value) (le-leb p.departure e.point.departure late) no_worse)
-dominated_told {V} rules entries late p false within later earlier none = λ q h above.
-    let k = h.0 in
-    let lt : k < length entries = subst (λ n. k < n) (points_long entries) h.1 in
-    let d : Entry V = record { point = q; skip = 0 } in
-    let same : (get_or entries k d).point ≡ q = sym (point_at entries k d q lt) ∙ h.2 in
-    let parts = and_parts (nat_le p.departure q.departure) (rules.no_worse q.value p.value) above in
-    let in_time = leb-true p.departure q.departure parts.0 in
-    elim (cases_lt k late) [
-      | inl low ↦ none k (get_or entries k d, omega arith, low, slice_get-get_or entries k d lt, subst (λ (r : Point V). NoWorse rules r.value p.value) (sym same) parts.1)
-      | inr high ↦
-          let soon : q.departure < p.departure = subst (λ (r : Point V). r.departure < p.departure) same (earlier k d high lt) in
-          omega arith
-    ]
-
 -- the entries that the new point doesn't dominate
 abbrev pub entries_left : {V : Type 0} → Rules V → List (Entry V) → Point V → List (Entry V)
 entries_left rules entries p = filter (λ e. not (dominates rules p e.point)) entries

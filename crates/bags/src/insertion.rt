@@ -7,7 +7,7 @@ ghost use Rattle.bags.specs.Arrangement.{points_in, AreListed, AreFalling, AreAd
 
 use crate::Point;
 use crate::entry::Entry;
-use crate::search::{count_after, count_from, some_no_worse};
+use crate::search::{count_after, count_from};
 use criteria::Criterion;
 use std::alloc::AllocError;
 
@@ -41,16 +41,26 @@ pub fn insert_point<C: Criterion>(
     Ok(true)
 }
 
-// Whether one of the points dominates a point.
+// Whether one of the points dominates a point. No point before one that it's no worse than does: that one would be dominated too.
 fn is_dominated<C: Criterion>(criterion: &C, entries: &[Entry<C::V>], point: &Point<C::V>) -> bool
-    requires admitted { AreAdmitted (C.rules criterion.now) entries.now }
+    requires bag { IsBag (C.rules criterion.now) (points_in entries.now) }
     requires falling { AreFalling entries.now }
     requires linked { AreLinked (C.rules criterion.now) entries.now (length entries.now) }
     requires point { Admits (C.rules criterion.now) point.now.value }
     ensures { Stands (C.rules criterion.now) (points_in entries.now) point.now (not result) }
 {
-    let late = count_from(entries, point.departure);
-    some_no_worse(criterion, entries, 0, late, &point.value)
+    let mut left = count_from(entries, point.departure);
+    while left > 0 {
+        let other = entries[left - 1];
+        if criterion.no_worse(&other.point.value, &point.value) {
+            return true;
+        }
+        if criterion.no_worse(&point.value, &other.point.value) {
+            return false;
+        }
+        left = other.skip;
+    }
+    false
 }
 
 // Whether a point departs no earlier than another and is no worse.
