@@ -1,5 +1,5 @@
 -- Whether one of a bag's points dominates a point that comes.
-use Rattle.std.proofs.Common.{◌≡◌, ℕ, ◌-◌, ◌<◌, ◌≤◌, true, false, nat_le, List, length, get_or, Contains, inl, inr, arith, sym, ◌∙◌, ap, subst}
+use Rattle.std.proofs.Common.{◌≡◌, ℕ, ◌-◌, ◌<◌, ◌≤◌, true, false, nat_le, List, length, get_or, inl, inr, arith, sym, ◌∙◌, ap, subst}
 use Rattle.std.proofs.lemmas.Bool.{cases_order, and_from, and_parts, le-leb, leb-true, true≢false}
 use Rattle.std.proofs.lemmas.List.{get_or_default}
 use Rattle.criteria.specs.Laws.{Rules, Laws, Admits, NoWorse}
