@@ -13,6 +13,7 @@ use std::alloc::{AllocError, Global};
 #[derive(Drop)]
 pub struct Bag<C: Criterion> {
     criterion: C,
+    // by falling departure, and of equal departures by the criterion's order
     entries: Vec<Entry<C::V>>,
     pub ghost kept: { IsBag (C.rules criterion) (points_in entries.items) },
     ghost listed: { AreListed (C.rules criterion) (points_in entries.items) },
@@ -74,7 +75,8 @@ impl<C: Criterion> Bag<C> {
         insert_point(&self.criterion, &mut self.entries, point)
     }
 
-    // Whether no point behind the one at a place, up to before another place, has a value no worse.
+    // Whether the point at a place is a best one from a time on, `late` points departing then or later: none behind it has a value no
+    // worse.
     pub(crate) fn is_best_before(&self, place: usize, late: usize) -> bool
         requires place { place < late }
         requires late { late ≤ length (points_of self.now) }
@@ -91,7 +93,7 @@ impl<C: Criterion> Bag<C> {
         count_from(&self.entries, time)
     }
 
-    // A place at or before a place, from which on no point before it is a best one, as far as the points up to another place go.
+    // A place from which on no point before the one at a place is a best one, from any time on at which that one hasn't departed.
     pub(crate) fn skip(&self, place: usize) -> usize
         requires place { place < length (points_of self.now) }
         ensures back { result ≤ place }
