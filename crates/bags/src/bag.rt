@@ -1,11 +1,11 @@
-ghost use Rattle.std.specs.Prelude.{◌≡◌, Contains};
-ghost use Rattle.std.specs.List.{list_any};
-ghost use Rattle.criteria.specs.Laws.{Admits};
-ghost use Rattle.bags.specs.Dominance.{IsBag, IsFalling};
-ghost use Rattle.bags.specs.Best.{is_bettered_by};
+ghost use Rattle.std.specs.Prelude.{length};
+ghost use Rattle.bags.specs.Dominance.{IsBag};
+ghost use Rattle.bags.specs.Arrangement.{points_in, AreListed, AreLinked};
 
 use crate::Point;
+use crate::entry::Entry;
 use crate::insertion::insert_point;
+use crate::search::{count_from, some_no_worse};
 use criteria::Criterion;
 use std::alloc::{AllocError, Global};
 
@@ -13,15 +13,18 @@ use std::alloc::{AllocError, Global};
 #[derive(Drop)]
 pub struct Bag<C: Criterion> {
     criterion: C,
-    points: Vec<Point<C::V>>,
-    pub ghost kept: { IsBag (C.rules criterion) points.items },
-    ghost falling: { IsFalling points.items },
+    // by falling departure, and of equal departures by the criterion's order
+    entries: Vec<Entry<C::V>>,
+    pub ghost kept: { IsBag (C.rules criterion) (points_in entries.items) },
+    ghost listed: { AreListed (C.rules criterion) (points_in entries.items) },
+    ghost linked: { AreLinked (C.rules criterion) entries.items (length entries.items) },
 }
 
 impl<C: Criterion> Bag<C> {
-    ghost use Rattle.std.specs.Prelude.{[], ◌<◌, length, slice_get, Some, IfOk, OnErr, true};
+    ghost use Rattle.std.specs.Prelude.{◌≡◌, [], ℕ, ◌<◌, ◌≤◌, slice_get, Some, IfOk, OnErr, true, false};
+    ghost use Rattle.criteria.specs.Laws.{Admits};
     ghost use Rattle.bags.specs.Dominance.{Stands, Inserted};
-    ghost use Rattle.bags.specs.Best.{is_best};
+    ghost use Rattle.bags.specs.Best.{is_best, AreLate};
     ghost use Rattle.bags.specs.Bag.{criterion_of, points_of};
 
     /// An empty bag under a criterion. It takes no memory.
@@ -31,7 +34,7 @@ impl<C: Criterion> Bag<C> {
     {
         Bag {
             criterion,
-            points: Vec::new(alloc),
+            entries: Vec::new(alloc),
         }
     }
 
@@ -39,7 +42,7 @@ impl<C: Criterion> Bag<C> {
     pub fn len(&self) -> usize
         ensures { result ≡ length (points_of self.now) }
     {
-        self.points.len()
+        self.entries.len()
     }
 
     /// The point at a place.
@@ -47,7 +50,7 @@ impl<C: Criterion> Bag<C> {
         requires { i < length (points_of self.now) }
         ensures { slice_get (points_of self.now) i ≡ Some result }
     {
-        self.points[i]
+        self.entries[i].point
     }
 
     /// Takes a point in, unless one that stands dominates it, and drops those
@@ -69,48 +72,33 @@ impl<C: Criterion> Bag<C> {
             value,
             tag,
         };
-        insert_point(&self.criterion, &mut self.points, point)
+        insert_point(&self.criterion, &mut self.entries, point)
     }
 
-    // Whether the point at a place is a best one from a time on. Only one behind it can be better.
-    pub(crate) fn is_best_at(&self, place: usize, time: u32) -> bool
-        requires { place < length (points_of self.now) }
-        ensures { (p : _) → slice_get (points_of self.now) place ≡ Some p → result ≡ is_best (C.rules (criterion_of self.now)) (points_of self.now) time p }
+    // Whether the point at a place is a best one from a time on, `late` points departing then or later: none behind it has a value no
+    // worse.
+    pub(crate) fn is_best_before(&self, place: usize, late: usize) -> bool
+        requires place { place < late }
+        requires late { late ≤ length (points_of self.now) }
+        ensures { (time : ℕ) → AreLate (points_of self.now) time late → (p : _) → slice_get (points_of self.now) place ≡ Some p → result ≡ is_best (C.rules (criterion_of self.now)) (points_of self.now) time p }
     {
-        let point = self.points[place];
-        time <= point.departure
-            && !is_bettered(&self.criterion, &self.points[place + 1..], time, &point)
+        let value = self.entries[place].point.value;
+        !some_no_worse(&self.criterion, &self.entries, place + 1, late, &value)
     }
-}
 
-// Whether one of the points departs at a time or later with a value strictly better than a point's.
-fn is_bettered<C: Criterion>(
-    criterion: &C,
-    points: &[Point<C::V>],
-    time: u32,
-    point: &Point<C::V>,
-) -> bool
-    requires admitted { (p : _) → Contains points.now p → Admits (C.rules criterion.now) p.value }
-    requires point { Admits (C.rules criterion.now) point.now.value }
-    ensures { result ≡ list_any (is_bettered_by (C.rules criterion.now) time point.now) points.now }
-{
-    points
-        .iter()
-        .any(|other| is_better(criterion, time, other, point))
-}
+    // How many points depart at a time or later.
+    pub(crate) fn count_from(&self, time: u32) -> usize
+        ensures { AreLate (points_of self.now) time result }
+    {
+        count_from(&self.entries, time)
+    }
 
-// Whether a point departs at a time or later with a value strictly better than another's.
-fn is_better<C: Criterion>(
-    criterion: &C,
-    time: u32,
-    point: &Point<C::V>,
-    other: &Point<C::V>,
-) -> bool
-    requires point { Admits (C.rules criterion.now) point.now.value }
-    requires other { Admits (C.rules criterion.now) other.now.value }
-    ensures { result ≡ is_bettered_by (C.rules criterion.now) time other.now point.now }
-{
-    time <= point.departure
-        && (criterion.no_worse(&point.value, &other.value)
-            && !criterion.no_worse(&other.value, &point.value))
+    // A place from which on no point before the one at a place is a best one, from any time on at which that one hasn't departed.
+    pub(crate) fn skip(&self, place: usize) -> usize
+        requires place { place < length (points_of self.now) }
+        ensures back { result ≤ place }
+        ensures passed { (time late : ℕ) → place < late → AreLate (points_of self.now) time late → (k : ℕ) (p : _) → result ≤ k → k < place → slice_get (points_of self.now) k ≡ Some p → is_best (C.rules (criterion_of self.now)) (points_of self.now) time p ≡ false }
+    {
+        self.entries[place].skip
+    }
 }

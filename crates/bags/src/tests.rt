@@ -17,11 +17,11 @@ fn draw(state: &mut u32, limit: u32) -> u32
 
 // A point of few departures, times and numbers of trips, so that many tie.
 fn draw_point(state: &mut u32, tag: usize) -> Point<TimeTrips>
-    ensures time { result.value.time < 6 }
+    ensures time { result.value.time < 12 }
     ensures trips { result.value.trips < 4 }
 {
-    let departure = draw(state, 8);
-    let time = draw(state, 6);
+    let departure = draw(state, 16);
+    let time = draw(state, 12);
     let trips = draw(state, 4) as u16;
     Point {
         departure,
@@ -142,7 +142,7 @@ fn check_run(rt: &impl Abort, alloc: Global, seed: u32) -> Result<(), AllocError
         }
         assert_stands(rt, &bag, &history);
         assert_order(rt, &bag);
-        for time in 0..10 {
+        for time in 0..18 {
             assert_best(rt, &bag, time);
         }
     }
@@ -158,12 +158,47 @@ fn a_long_run_keeps_what_stands(rt: HostRuntime) -> Result<(), Fail> {
 }
 
 #[test]
+fn a_refused_growth_keeps_the_bag(rt: HostRuntime) -> Result<(), Fail> {
+    check_run(&rt, rt.alloc(), 9)?;
+    Ok(())
+}
+
+#[test]
 fn of_two_equal_points_the_first_keeps_its_tag(rt: HostRuntime) -> Result<(), Fail> {
     let mut bag = Bag::new(rt.alloc(), Arrival);
     assert!(rt; bag.insert(28_800, 30_000, 1)?);
     assert!(rt; !bag.insert(28_800, 30_000, 2)?);
     assert_eq!(rt; bag.len(), 1);
     assert_eq!(rt; bag.point(0).tag, 1);
+    Ok(())
+}
+
+#[test]
+fn of_points_that_depart_later_the_best_are_told(rt: HostRuntime) -> Result<(), Fail> {
+    let mut bag = Bag::new(rt.alloc(), ArrivalTrips);
+    for tag in 0..40 {
+        let departure = 36_000 - tag as u32 * 60;
+        let direct = TimeTrips {
+            time: departure + 3_000,
+            trips: 1,
+        };
+        let fast = TimeTrips {
+            time: departure + 600,
+            trips: 2,
+        };
+        assert!(rt; bag.insert(departure, direct, tag)?);
+        assert!(rt; bag.insert(departure, fast, tag)?);
+        assert!(rt; !bag.insert(departure, direct, 99)?);
+    }
+    assert_eq!(rt; bag.len(), 80);
+    assert_order(&rt, &bag);
+    let mut best = bag.best_from(34_000);
+    assert_eq!(rt; best.next(), Some(66));
+    assert_eq!(rt; best.next(), Some(67));
+    assert_eq!(rt; best.next(), None);
+    assert_eq!(rt; bag.best_from(33_660).next(), Some(78));
+    assert_eq!(rt; bag.best_from(36_001).next(), None);
+    assert_best(&rt, &bag, 34_000);
     Ok(())
 }
 
