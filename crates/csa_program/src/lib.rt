@@ -8,6 +8,8 @@ mod image_file;
 mod journey;
 mod opening;
 mod profile;
+#[cfg(test)]
+mod profile_tests;
 mod question;
 mod refusal;
 mod status;

@@ -7,14 +7,15 @@ use crate::question::{Question, query_of};
 use crate::status;
 use criteria::{Arrival, ArrivalTrips, Criterion, TimeTrips};
 use image_verifier::Verified;
+use journeys::{extract, journey_text};
 use profile_scan::{Found, profile};
 use sources::{ConnSource, InPlace};
 use std::alloc::{AllocError, Global};
 use std::fmt::Write as _;
 use std::io::{Read, Write};
 use std::rt::Files;
-use timetable::Query;
 use timetable::clocks::Clock;
+use timetable::{Journey, Query};
 
 /// By what departures are best.
 #[derive(Clone, Copy, Debug, PartialEq, Eq)]
@@ -33,7 +34,7 @@ pub struct ProfileRequest<'a> {
     pub criterion: CriterionName,
 }
 
-/// Prints each best departure, and then how many there are, how many connections were read, and the direct footpath.
+/// Prints each best departure with a journey, and then how many there are, how many connections were read, and the direct footpath.
 pub fn run<H: Files + AllocGlobal, I: Read, O: Write, E: Write>(
     rt: &H,
     request: ProfileRequest<'_>,
@@ -89,7 +90,9 @@ where
     let mut lines = String::new(alloc);
     for i in 0..found.len() {
         let point = found.point(i);
+        let journey = extract(alloc, &found, i)?;
         append_point(&mut lines, point.departure, &point.value)?;
+        append_journey(&mut lines, alloc, &journey)?;
     }
     let read = source
         .first_at(query.by)
@@ -104,7 +107,15 @@ fn append_point<V: ValueText>(
     value: &V,
 ) -> Result<(), AllocError> {
     write!(lines, "dep {} ", Clock(departure))?;
-    value.append_to(lines)?;
+    value.append_to(lines)
+}
+
+fn append_journey(lines: &mut String, alloc: Global, journey: &Journey) -> Result<(), AllocError> {
+    lines.push_str(" : ")?;
+    let text = journey_text(alloc, journey)?;
+    for byte in &text {
+        lines.push(char::from(*byte))?;
+    }
     lines.push_str("\n")
 }
 

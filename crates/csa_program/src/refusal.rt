@@ -25,7 +25,11 @@ pub enum Refusal {
 impl fmt::Display for Refusal {
     fn fmt<W: fmt::Write>(&self, f: &mut fmt::Formatter<W>) -> fmt::Result {
         match self {
-            Refusal::OddLength => write_fault(WordsFault::OddLength.number(), WordsFault::OddLength.name(), f),
+            Refusal::OddLength => write_fault(
+                WordsFault::OddLength.number(),
+                WordsFault::OddLength.name(),
+                f,
+            ),
             Refusal::Image(fault) => write_image_fault(*fault, f),
             Refusal::Table(fault) => write_table_fault(*fault, f),
             Refusal::FileFailed(table) => write!(f, "refused 101 FileFailed {}", table.file_name()),
@@ -37,7 +41,7 @@ impl fmt::Display for Refusal {
 }
 
 fn write_image_fault<W: fmt::Write>(fault: ImageFault, f: &mut fmt::Formatter<W>) -> fmt::Result {
-    write!(f, "refused {} {}", fault.number(), fault.name())?;
+    write_fault(fault.number(), fault.name(), f)?;
     match fault {
         ImageFault::BadMagic
         | ImageFault::BadLayout
@@ -59,15 +63,8 @@ fn write_image_fault<W: fmt::Write>(fault: ImageFault, f: &mut fmt::Formatter<W>
 }
 
 fn write_table_fault<W: fmt::Write>(fault: TableFault, f: &mut fmt::Formatter<W>) -> fmt::Result {
-    let kind = fault.kind;
-    let file = fault.table.file_name();
-    write!(
-        f,
-        "refused {} {} {file} {}",
-        kind.number(),
-        kind.name(),
-        fault.row
-    )
+    write_fault(fault.kind.number(), fault.kind.name(), f)?;
+    write!(f, " {} {}", fault.table.file_name(), fault.row)
 }
 
 // A refusal without places.
@@ -79,15 +76,14 @@ fn write_journey_fault<W: fmt::Write>(
     fault: JourneyFault,
     f: &mut fmt::Formatter<W>,
 ) -> fmt::Result {
+    write_fault(fault.number(), fault.name(), f)?;
     match fault {
-        JourneyFault::LegRange(leg) => write!(f, "refused 81 LegRange {leg}"),
-        JourneyFault::TwoTrips(leg) => write!(f, "refused 82 TwoTrips {leg}"),
-        JourneyFault::NoBoarding(leg) => write!(f, "refused 83 NoBoarding {leg}"),
-        JourneyFault::NoAlighting(leg) => write!(f, "refused 84 NoAlighting {leg}"),
-        JourneyFault::NoFootpath(walk) => write!(f, "refused 89 NoFootpath {walk}"),
-        JourneyFault::WalkBroken(walk) => write!(f, "refused 85 WalkBroken {walk}"),
-        JourneyFault::TooEarly(leg) => write!(f, "refused 86 TooEarly {leg}"),
-        JourneyFault::WrongEnds => write!(f, "refused 87 WrongEnds"),
-        JourneyFault::OutsideWindow => write!(f, "refused 88 OutsideWindow"),
+        JourneyFault::LegRange(leg)
+        | JourneyFault::TwoTrips(leg)
+        | JourneyFault::NoBoarding(leg)
+        | JourneyFault::NoAlighting(leg)
+        | JourneyFault::TooEarly(leg) => write!(f, " {leg}"),
+        JourneyFault::NoFootpath(walk) | JourneyFault::WalkBroken(walk) => write!(f, " {walk}"),
+        JourneyFault::WrongEnds | JourneyFault::OutsideWindow => Ok(()),
     }
 }

@@ -43,7 +43,7 @@ pub(crate) fn expect_line<R: Files + AllocGlobal + Abort>(
 }
 
 /// The command prints nothing but a message to the errors, and ends with the status.
-fn expect_message<R: Files + AllocGlobal + Abort>(
+pub(crate) fn expect_message<R: Files + AllocGlobal + Abort>(
     rt: &R,
     words: &[&str],
     bytes: &[u8],
@@ -141,7 +141,7 @@ fn a_hop_without_duration_is_refused(rt: HostRuntime) -> Result<(), Fail> {
 }
 
 /// The sample with footpaths A to B and B to C of 60 s, and A to C of these seconds.
-fn walks(direct: u32) -> [u32; 53] {
+pub(crate) fn walks(direct: u32) -> [u32; 53] {
     [
         0x50415343, 1, 3, 2, 3, 6, 7, 1705276800, 0, 0, 1, 28800, 29400, 0, 3, 1, 2, 29400, 30600,
         0, 3, 1, 2, 29520, 30000, 1, 3, 0, 1, 3, 6, 0, 0, 0, 60, 1, 0, 0, direct, 1, 60, 2, 0, 0,
@@ -248,7 +248,7 @@ fn judge_journey<R: Files + AllocGlobal + Abort>(
 }
 
 /// The sample with a change at B that takes 121 s.
-fn slow_change() -> [u32; 47] {
+pub(crate) fn slow_change() -> [u32; 47] {
     let mut image = sample_words();
     image[34] = 121;
     image
@@ -310,6 +310,10 @@ fn wrong_command_lines_are_told(rt: HostRuntime) {
     expect_message(&rt, &["csa", "verify", "-", "more"], b"", 64);
     expect_message(&rt, &["csa", "fly", "-"], b"", 64);
     expect_message(&rt, &["csa", "verify", "no/such/file"], b"", 3);
+    expect_message(&rt, &["csa", "tables"], b"", 64);
+    expect_message(&rt, &["csa", "tables", "folder", "more"], b"", 64);
+    expect_message(&rt, &["csa", "profile", "-"], b"", 64);
+    expect_message(&rt, &["csa", "journey", "-"], b"", 64);
 }
 
 #[test]
@@ -317,6 +321,9 @@ fn help_is_printed(rt: HostRuntime) {
     for words in [
         ["csa", "--help"].as_slice(),
         ["csa", "verify", "--help"].as_slice(),
+        ["csa", "journey", "--help"].as_slice(),
+        ["csa", "profile", "--help"].as_slice(),
+        ["csa", "tables", "--help"].as_slice(),
     ] {
         let outcome = outcome_of(&rt, words, b"");
         assert_eq!(rt; outcome.status, 0);
@@ -325,60 +332,15 @@ fn help_is_printed(rt: HostRuntime) {
     }
 }
 
-/// A profile query of the sample's stops from A to C, departing from 07:00:00, arriving by 10:00:00.
-fn profile_words<'a>(until: &'a str, criterion: &'a str) -> [&'a str; 15] {
-    [
-        "csa",
-        "profile",
-        "-",
-        "--from",
-        "A",
-        "--to",
-        "C",
-        "--after",
-        "07:00:00",
-        "--until",
-        until,
-        "--by",
-        "10:00:00",
-        "--criterion",
-        criterion,
-    ]
-}
-
-fn ask_profile<R: Files + AllocGlobal + Abort>(
-    rt: &R,
-    image: &[u32],
-    criterion: &str,
-    lines: &str,
-) -> Result<(), Fail> {
-    let bytes = Words::to_bytes(rt.alloc(), image)?;
-    expect_line(rt, &profile_words("09:00:00", criterion), &bytes, 0, lines);
-    Ok(())
-}
-
+/// A line that finds no room is told by the status.
 #[test]
-fn best_departures_are_printed(rt: HostRuntime) -> Result<(), Fail> {
-    let sample = sample_words();
-    let one = "dep 08:00:00 arr 08:20:00\npoints 1 read 3 walk none\n";
-    ask_profile(&rt, &sample, "arrival", one)?;
-    let two =
-        "dep 08:00:00 arr 08:20:00 trips 2\ndep 08:00:00 arr 08:30:00 trips 1\npoints 2 read 3 walk none\n";
-    ask_profile(&rt, &sample, "arrival+trips", two)?;
-    let slow = "dep 08:00:00 arr 08:30:00\npoints 1 read 3 walk none\n";
-    ask_profile(&rt, &slow_change(), "arrival", slow)?;
-    let walked = "dep 08:00:00 arr 08:11:00\ndep 08:11:00 arr 08:20:00\npoints 2 read 3 walk 120\n";
-    ask_profile(&rt, &walks(120), "arrival", walked)
-}
-
-#[test]
-fn profile_queries_are_judged(rt: HostRuntime) -> Result<(), Fail> {
+fn a_line_that_cannot_be_written_is_told(rt: HostRuntime) -> Result<(), Fail> {
     let bytes = Words::to_bytes(rt.alloc(), &sample_words())?;
-    let early = profile_words("06:00:00", "arrival");
-    expect_line(&rt, &early, &bytes, 2, "refused 33 BadWindow\n");
-    let until = profile_words("07:59:59", "arrival");
-    expect_line(&rt, &until, &bytes, 0, "points 0 read 3 walk none\n");
-    let walking = profile_words("09:00:00", "walking");
-    expect_message(&rt, &walking, &bytes, 64);
+    let mut room = [0u8; 4];
+    let mut output: &mut [u8] = &mut room;
+    let mut errors = Vec::new(rt.alloc());
+    let mut input: &[u8] = &bytes;
+    let status = run(&rt, &VERIFY, &mut input, &mut output, &mut errors);
+    assert_eq!(rt; status, 3);
     Ok(())
 }
