@@ -1,6 +1,7 @@
 pub mod FeedFacts
 pub mod FirstFacts
 pub mod JoinFacts
+pub mod JoinedFacts
 pub mod NameFacts
 pub mod OrderFacts
 pub mod RowFacts

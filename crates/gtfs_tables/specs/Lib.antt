@@ -1,5 +1,6 @@
 pub mod Feeds
 pub mod First
+pub mod Joined
 pub mod Names
 pub mod Order
 pub mod Rows

@@ -5,6 +5,7 @@
 #![tactic(auto)]
 
 mod joining;
+pub mod laws;
 mod links;
 mod names;
 mod order;

@@ -1,3 +1,4 @@
+pub mod Days
 pub mod Faults
 pub mod Services
 pub mod Zones

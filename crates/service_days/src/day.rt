@@ -2,6 +2,7 @@
 
 ghost use Rattle.std.specs.Prelude.{◌≡◌, IfSome, IfNone, IfOk, IfErr, false, true};
 ghost use Rattle.gtfs_rows.specs.Values.{is_civil};
+ghost use Rattle.service_days.specs.Days.{day_after as following};
 ghost use Rattle.service_days.specs.Zones.{HasNoStart, IsDate, IsDayStart};
 
 use crate::fault::DayFault;
@@ -22,6 +23,34 @@ pub fn day_start(zone: &Zone, day: Day) -> Result<i64, DayFault>
     match zone.time_zone().to_timestamp(date.at(12, 0, 0, 0)) {
         Ok(noon) => Ok(noon.as_second() - 43_200),
         Err(_) => Err(DayFault::DayOutOfRange),
+    }
+}
+
+/// The civil day that follows a civil day. The day after the last is in the year 10000, which no civil day is.
+pub fn day_after(day: Day) -> Day
+    requires { is_civil day ≡ true }
+    ensures { result ≡ following day }
+{
+    let next = Day {
+        year: day.year,
+        month: day.month,
+        day: day.day + 1,
+    };
+    if civil_date(next).is_some() {
+        return next;
+    }
+    let first = Day {
+        year: day.year,
+        month: day.month + 1,
+        day: 1,
+    };
+    if civil_date(first).is_some() {
+        return first;
+    }
+    Day {
+        year: day.year + 1,
+        month: 1,
+        day: 1,
     }
 }
 

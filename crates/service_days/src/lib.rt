@@ -9,7 +9,7 @@ mod fault;
 mod services;
 mod zone;
 
-pub use day::day_start;
+pub use day::{day_after, day_start};
 pub use fault::DayFault;
 pub use services::{Services, active};
 pub use zone::Zone;

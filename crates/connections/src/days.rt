@@ -1,0 +1,39 @@
+// The service days that are asked for.
+
+use gtfs_tables::Day;
+use service_days::{DayFault, Zone, day_after, day_start};
+use std::alloc::Global;
+
+/// Service days of a timetable, at most.
+pub const MAX_DAYS: u32 = 14;
+
+/// A service day and its start, in seconds after 1970-01-01T00:00:00Z.
+#[derive(Clone, Copy, Debug)]
+pub(crate) struct ServiceDay {
+    pub day: Day,
+    pub start: i64,
+}
+
+// So many days, from the first one on, with their starts.
+pub(crate) fn service_days(
+    alloc: Global,
+    first: Day,
+    days: u32,
+    zone: &Zone,
+) -> Result<Vec<ServiceDay>, DayFault> {
+    let Ok(mut service_days) = Vec::with_capacity(alloc, days as usize) else {
+        return Err(DayFault::OutOfMemory);
+    };
+    let mut day = first;
+    for _ in 0..days {
+        let start = match day_start(zone, day) {
+            Ok(start) => start,
+            Err(fault) => return Err(fault),
+        };
+        let Ok(()) = service_days.push(ServiceDay { day, start }) else {
+            return Err(DayFault::OutOfMemory);
+        };
+        day = day_after(day);
+    }
+    Ok(service_days)
+}

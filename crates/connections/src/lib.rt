@@ -1,0 +1,22 @@
+//! The runs of a feed's trips on some days, and the connections that they make.
+//!
+//! Times are those of the GTFS Schedule Reference; that a trip's times are lifted, so that each connection takes time, is
+//! our own.
+#![tactic(auto)]
+
+mod days;
+mod fault;
+mod listing;
+mod report;
+mod runs;
+mod times;
+
+pub use days::MAX_DAYS;
+pub use fault::RunsFault;
+pub use listing::runs_of;
+pub use report::Report;
+pub use runs::Run;
+pub use times::{RowTimes, TripTimes, trip_times};
+
+#[cfg(test)]
+mod tests;

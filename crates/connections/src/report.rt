@@ -1,0 +1,42 @@
+// What was counted.
+
+use crate::times::TripTimes;
+use gtfs_tables::Feed;
+
+/// What a feed has, and what was made of it.
+#[derive(Clone, Copy, Debug, PartialEq, Eq)]
+pub struct Report {
+    /// The stops and platforms.
+    pub stops: usize,
+    pub runs: usize,
+    pub connections: usize,
+    /// The footpaths of the closure, 0 until it is made.
+    pub footpaths: usize,
+    /// The trips, running or not, that lifting changed.
+    pub lifted: usize,
+    /// The trips, running or not, that have a row with a blank stop_id.
+    pub flex: usize,
+    /// The trips, running or not, that `frequencies.txt` names.
+    pub frequencies: usize,
+    /// The rows of `transfers.txt` that were skipped.
+    pub skipped: usize,
+}
+
+// The counts of a feed, whose trips have these times, with so many runs and connections.
+pub(crate) fn report_of(
+    feed: &Feed,
+    times: &[TripTimes],
+    runs: usize,
+    connections: usize,
+) -> Report {
+    Report {
+        stops: feed.stops.len(),
+        runs,
+        connections,
+        footpaths: 0,
+        lifted: times.iter().filter(|times| times.lifted).count(),
+        flex: feed.trips.iter().filter(|trip| trip.flex).count(),
+        frequencies: feed.trips.iter().filter(|trip| trip.repeats).count(),
+        skipped: feed.skipped,
+    }
+}

@@ -1,0 +1,38 @@
+-- The listed footpaths of a feed, and their closure.
+use Rattle.std.proofs.Common.{◌≡◌, ◌↔◌, ◌<◌, ◌⊎◌, ℕ, List, length, Result, Ok, Err, IfOk, IfErr, Some, inl, inr, Vec, sym, subst, arith}
+use Rattle.timetable.specs.Legal.{HasFootpath, AreInOrder}
+use Rattle.timetable.specs.declared.limits.TheConstants.{MAX_FOOTPATHS, MAX_WALK_SECS}
+use Rattle.timetable.specs.declared.network.Footpath.{Footpath}
+use Rattle.gtfs_tables.specs.declared.tables.Feed.{Feed}
+use Rattle.transfers.specs.Listed.{listed_secs}
+use Rattle.footpaths.specs.Closure.{HasLoops, IsClosure, IsFault}
+use Rattle.footpaths.specs.declared.fault.FootFault.{FootFault}
+use Rattle.footpaths.specs.declared.fault.FootFault.TheVariants.{OutOfMemory}
+use Rattle.feed_loader.specs.Loaded.{AreFeedPaths, IsFeedClosure}
+
+-- each stop's loop, whatever the number of stops is called
+pub loops_of_stops : (listed paths : List Footpath) (stops count : ℕ) → stops ≡ count → paths ≡ listed
+    → ((stop : ℕ) → stop < count → (secs : ℕ) × HasFootpath listed stop stop secs) → HasLoops paths stops
+loops_of_stops listed paths stops count same lent loops =
+    subst (λ (xs : List Footpath). HasLoops xs stops) (sym lent) (λ (s : ℕ) (below : s < stops). loops s (omega (arith, same, below)))
+
+module _ {Z : Type 0} (feed : Feed) (listed paths : List Footpath) (result : Result (Vec Footpath Z) FootFault) (lent : paths ≡ listed)
+    (times : (from to secs : ℕ) → HasFootpath listed from to secs ↔ (listed_secs feed from to ≡ Some secs)) (order : AreInOrder listed) where
+  are_paths : AreFeedPaths feed paths
+  are_paths = subst (λ (xs : List Footpath). AreFeedPaths feed xs) (sym lent) (record { times = times; in_order = order })
+
+  pub closure_of_feed : IfOk result (λ v. IsClosure paths v.items) → IfOk result (λ v. IsFeedClosure feed v.items)
+  closure_of_feed holds = closed result holds
+    where
+      closed : (r : Result (Vec Footpath Z) FootFault) → IfOk r (λ v. IsClosure paths v.items) → IfOk r (λ v. IsFeedClosure feed v.items)
+      closed (Ok v) is = (paths, are_paths, is)
+      closed (Err fault) is = is
+
+  pub fault_of_feed : IfErr result (IsFault paths MAX_FOOTPATHS MAX_WALK_SECS)
+      → IfErr result (λ fault. (fault ≡ OutOfMemory) ⊎ ((listed : List Footpath) × AreFeedPaths feed listed × IsFault listed MAX_FOOTPATHS MAX_WALK_SECS fault))
+  fault_of_feed holds = refused result holds
+    where
+      refused : (r : Result (Vec Footpath Z) FootFault) → IfErr r (IsFault paths MAX_FOOTPATHS MAX_WALK_SECS)
+          → IfErr r (λ fault. (fault ≡ OutOfMemory) ⊎ ((listed : List Footpath) × AreFeedPaths feed listed × IsFault listed MAX_FOOTPATHS MAX_WALK_SECS fault))
+      refused (Ok v) is = is
+      refused (Err fault) is = inr (paths, are_paths, is)

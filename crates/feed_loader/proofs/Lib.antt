@@ -1,0 +1,4 @@
+pub mod ClosedLemmas
+pub mod LoadLemmas
+pub mod MadeLemmas
+pub mod NameLemmas

@@ -1,0 +1,29 @@
+// The closed footpaths of a feed.
+
+ghost use Rattle.std.specs.Prelude.{◌≡◌, ◌≤◌, ◌⊎◌, length, All, IfOk, IfErr};
+ghost use Rattle.timetable.specs.declared.limits.TheConstants.{MAX_FOOTPATHS, MAX_WALK_SECS};
+ghost use Rattle.gtfs_tables.specs.Joined.{NamesItsStops};
+ghost use Rattle.footpaths.specs.Closure.{HasLegalFootpaths, IsFault};
+ghost use Rattle.feed_loader.specs.Loaded.{AreFeedPaths, IsFeedClosure};
+
+use footpaths::{FootFault, close};
+use gtfs_tables::Feed;
+use std::alloc::Global;
+use timetable::Footpath;
+use transfers::listed;
+
+/// The closure of the footpaths that a feed lists.
+pub fn closed_footpaths(alloc: Global, feed: &Feed, stops: u32) -> Result<Vec<Footpath>, FootFault>
+    requires names { NamesItsStops feed.now }
+    requires stops { stops ≡ length feed.now.stops.items }
+    ensures closure { IfOk result (λ v. IsFeedClosure feed.now v.items) }
+    ensures legal { IfOk result (λ v. HasLegalFootpaths stops v.items) }
+    ensures few { IfOk result (λ v. length v.items ≤ MAX_FOOTPATHS) }
+    ensures short { IfOk result (λ v. All (λ f. f.secs ≤ MAX_WALK_SECS) v.items) }
+    ensures fault { IfErr result (λ fault. (fault ≡ FootFault.OutOfMemory) ⊎ ((paths : _) × AreFeedPaths feed.now paths × IsFault paths MAX_FOOTPATHS MAX_WALK_SECS fault)) }
+{
+    let Ok(listed) = listed(alloc, feed) else {
+        return Err(FootFault::OutOfMemory);
+    };
+    close(alloc, stops, &listed)
+}

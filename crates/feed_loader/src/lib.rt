@@ -1,0 +1,16 @@
+//! From a feed's files to the image of its stops, runs, connections and footpaths.
+#![tactic(auto)]
+
+mod closed;
+mod fault;
+mod loading;
+mod made;
+mod names;
+mod plan;
+mod writing;
+
+pub use connections::Report;
+pub use fault::LoadFault;
+pub use loading::load;
+pub use made::image_of;
+pub use plan::Plan;

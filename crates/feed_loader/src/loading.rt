@@ -1,0 +1,48 @@
+//! From files to tables, from tables to a feed, from a feed to its image.
+
+ghost use Rattle.std.specs.Prelude.{◌≡◌, ◌≤◌, ◌<◌, ◌+◌, ◌-◌, ◌^◌, IfOk, IfErr};
+ghost use Rattle.feed_files.specs.Reading.{Content, Tells};
+ghost use Rattle.feed_loader.specs.Faults.{failed_in};
+ghost use Rattle.feed_loader.specs.Refused.{IsLoadRefusal, IsLoaded, IsWantOfMemory};
+
+use crate::fault::{LoadFault, of_read};
+use crate::made::image_of;
+use crate::plan::Plan;
+use connections::Report;
+use feed_files::{FeedFiles, read_tables};
+use gtfs_tables::join;
+use gtfs_tables::laws::{joined_is_runnable, joined_names_its_stops};
+use image_verifier::Verified;
+use std::alloc::Global;
+
+/// The image of a feed's files (GTFS Schedule Reference), and what was counted. Each file is read and judged before the next is
+/// read; then the tables are joined, and the image is made of the feed.
+///
+/// # Errors
+///
+/// The first thing that is wrong, in that order. A file that can't be read is told only where the count of failures rose in this
+/// call. Want of memory may be told at any time.
+pub fn load<F: FeedFiles>(
+    alloc: Global,
+    files: &mut F,
+    plan: &Plan,
+) -> Result<(Verified, Report), LoadFault>
+    requires failures { F.failures files.old < 2 ^ 64 - 1 }
+    requires days { 1 ≤ plan.now.days }
+    ensures same { F.holds files.new ≡ F.holds files.old }
+    ensures failures { F.failures files.new ≡ F.failures files.old + failed_in result }
+    ensures ok { (content : Content) → Tells (F.holds files.old) content → IfOk result (λ loaded. IsLoaded content plan.now loaded.0.timetable loaded.0.names loaded.1) }
+    ensures err { (content : Content) → Tells (F.holds files.old) content → IfErr result (λ fault. ¬ (IsWantOfMemory fault) → IsLoadRefusal content plan.now fault) }
+{
+    joined_is_runnable();
+    joined_names_its_stops();
+    let tables = match read_tables(alloc, files) {
+        Ok(tables) => tables,
+        Err(fault) => return Err(of_read(fault)),
+    };
+    let feed = match join(alloc, tables, plan.strict) {
+        Ok(feed) => feed,
+        Err(fault) => return Err(LoadFault::Table(fault)),
+    };
+    image_of(alloc, &feed, plan)
+}

@@ -1,0 +1,93 @@
+// What is made of a joined feed.
+
+ghost use Rattle.std.specs.Prelude.{◌≡◌, ◌≤◌, ◌<◌, ◌+◌, ◌⊎◌, length, IfOk, IfErr};
+ghost use Rattle.timetable.specs.declared.limits.TheConstants.{MAX_NAME_BYTES};
+ghost use Rattle.image_layout.specs.Spelling.{text};
+ghost use Rattle.gtfs_tables.specs.Joined.{IsRunnable, NamesItsStops};
+ghost use Rattle.feed_loader.specs.Loaded.{AreNames, IsMade};
+ghost use Rattle.feed_loader.specs.Refused.{AreNamesRefused, IsFeedRefusal, IsWantOfMemory};
+
+use crate::closed::closed_footpaths;
+use crate::fault::{LoadFault, of_runs, out_of_memory, too_many};
+use crate::names::{count_name_bytes, run_names, stop_names};
+use crate::plan::Plan;
+use crate::writing::written;
+use connections::{Report, Run, runs_of};
+use gtfs_tables::{Feed, Table};
+use image_verifier::Verified;
+use service_days::day_start;
+use std::alloc::Global;
+use timetable::limits::{MAX_NAME_BYTES, MAX_STOPS};
+use timetable::{Names, Timetable};
+
+// The names of a feed's stops and runs, if they aren't too long together. Times count from the start of the first day.
+fn short_names(alloc: Global, feed: &Feed, plan: &Plan, runs: &[Run]) -> Result<Names, LoadFault>
+    ensures ok { IfOk result (AreNames feed.now plan.now runs.now) }
+    ensures short { IfOk result (λ names. length (text names) ≤ MAX_NAME_BYTES) }
+    ensures err { IfErr result (AreNamesRefused feed.now plan.now runs.now) }
+{
+    let base = match day_start(&plan.zone, plan.first_day) {
+        Ok(base) => base,
+        Err(fault) => return Err(LoadFault::Day(fault)),
+    };
+    if count_name_bytes(feed, runs) > MAX_NAME_BYTES as usize {
+        return Err(too_many(Table::Trips));
+    }
+    let Ok(stops) = stop_names(alloc, &feed.stops) else {
+        return Err(out_of_memory(Table::Stops));
+    };
+    let Ok(trips) = run_names(alloc, &feed.trips, runs) else {
+        return Err(out_of_memory(Table::Trips));
+    };
+    Ok(Names { base, stops, trips })
+}
+
+/// The image of a joined feed: its stops with their stop_ids as names; each run on the days of the plan as a trip, with its
+/// trip_id and its day as name; the runs' connections; and the closure of the footpaths that the feed lists. Times count from the
+/// start of the first day. The report counts what was made.
+///
+/// # Errors
+///
+/// The first thing that is wrong: too many stops (`TooMany` of `stops.txt`), then what `runs_of` refuses, then names that are too
+/// long together (`TooMany` of `trips.txt`), then a closure that is too large. Want of memory may be told at any time.
+pub fn image_of(
+    alloc: Global,
+    feed: &Feed,
+    plan: &Plan,
+) -> Result<(Verified, Report), LoadFault>
+    requires feed { IsRunnable feed.now }
+    requires names { NamesItsStops feed.now }
+    requires days { 1 ≤ plan.now.days }
+    ensures ok { IfOk result (λ made. IsMade feed.now plan.now made.0.timetable made.0.names made.1) }
+    ensures err { IfErr result (λ fault. IsWantOfMemory fault ⊎ IsFeedRefusal feed.now plan.now fault) }
+{
+    if feed.stops.len() > MAX_STOPS as usize {
+        return Err(too_many(Table::Stops));
+    }
+    let (connections, runs, report) = match runs_of(alloc, feed, plan.first_day, plan.days, &plan.zone) {
+        Ok(listing) => listing,
+        Err(fault) => return Err(of_runs(fault)),
+    };
+    let names = match short_names(alloc, feed, plan, &runs) {
+        Ok(names) => names,
+        Err(fault) => return Err(fault),
+    };
+    let footpaths = match closed_footpaths(alloc, feed, feed.stops.len() as u32) {
+        Ok(footpaths) => footpaths,
+        Err(fault) => return Err(LoadFault::Footpaths(fault)),
+    };
+    let report = Report {
+        footpaths: footpaths.len(),
+        ..report
+    };
+    let timetable = Timetable {
+        stops: feed.stops.len() as u32,
+        trips: runs.len() as u32,
+        connections,
+        footpaths,
+    };
+    match written(alloc, &timetable, &names) {
+        Ok(image) => Ok((image, report)),
+        Err(fault) => Err(fault),
+    }
+}

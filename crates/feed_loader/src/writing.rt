@@ -1,0 +1,30 @@
+// The image of a timetable and its names.
+
+ghost use Rattle.std.specs.Prelude.{◌≡◌, IfOk, IfErr};
+ghost use Rattle.image_writer.specs.Writable.{IsWritable};
+ghost use Rattle.feed_loader.specs.Refused.{IsWantOfMemory};
+
+use crate::fault::{LoadFault, out_of_memory};
+use gtfs_tables::Table;
+use image_layout::laws::one_timetable;
+use image_verifier::{Verified, verify};
+use image_writer::write;
+use std::alloc::Global;
+use timetable::{Names, Timetable};
+
+/// Writes the image and judges it. It has no fault, so want of memory is the only error.
+pub fn written(alloc: Global, timetable: &Timetable, names: &Names) -> Result<Verified, LoadFault>
+    requires { IsWritable timetable.now names.now }
+    ensures timetable { IfOk result (λ image. image.timetable ≡ timetable.now) }
+    ensures names { IfOk result (λ image. image.names ≡ names.now) }
+    ensures err { IfErr result IsWantOfMemory }
+{
+    one_timetable();
+    let Ok(words) = write(alloc, timetable, names) else {
+        return Err(out_of_memory(Table::Trips));
+    };
+    match verify(alloc, words) {
+        Ok(image) => Ok(image),
+        Err((_words, fault)) => Err(LoadFault::Image(fault)),
+    }
+}

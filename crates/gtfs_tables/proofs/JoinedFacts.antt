@@ -1,0 +1,305 @@
+-- What holds of a joined feed.
+use Rattle.std.proofs.Common.{◌≡◌, ◌≢◌, ℕ, zero, suc, ◌+◌, ◌-◌, ◌<◌, ◌≤◌, ◌⊎◌, inl, inr, ◌∙◌, sym, ap, refl, subst, arith, Bool, true, false, not, ◌&&◌, ◌||◌, List, [], ◌∷◌, ◌++◌, length, map, take, drop, get_or, Option, Some, None, IsSome, IsSomeAnd, All, cond}
+use Rattle.std.specs.Prelude.{count_by, filter, is_none, nat_le, nat_lt, option_and_then, option_map, if◌then◌else◌}
+use Rattle.std.specs.List.{AllZip, list_any, slice_get, slice_index_or, slice_range}
+use Rattle.std.specs.Option.{option_or}
+use Rattle.std.specs.Str.{bytes_eq}
+use Rattle.std.specs.String.{string_bytes}
+use Rattle.std.proofs.lemmas.Bool.{and_parts, cases_Bool, cases_eq, false≢true, leb-true, ltb-true, le-ltb, lt-ltb}
+use Rattle.std.proofs.lemmas.List.{get_or-drop, get_or-take, get_or_default, get_or_past, length-drop, length-map, length-take}
+use Rattle.std.proofs.lemmas.List.Folds.{list_any_at}
+use Rattle.std.proofs.lemmas.List.Sums.{count_by-le-length, length-filter}
+use Rattle.std.proofs.lemmas.Option.{slice_get_within}
+use Rattle.gtfs_rows.specs.Tables.{is_stop}
+use Rattle.gtfs_rows.specs.declared.fault.FaultKind.{FaultKind}
+use Rattle.gtfs_rows.specs.declared.fault.Table.TheVariants as tables
+use Rattle.gtfs_rows.specs.declared.fault.TableFault.{TableFault}
+use Rattle.gtfs_rows.specs.declared.rows.Location.{Location}
+use Rattle.gtfs_rows.specs.declared.rows.Location.TheVariants as locations
+use Rattle.gtfs_rows.specs.declared.rows.StopRow.{StopRow}
+use Rattle.gtfs_rows.specs.declared.rows.StopTimeRow.{StopTimeRow}
+use Rattle.gtfs_rows.specs.declared.rows.TransferRow.{TransferRow}
+use Rattle.gtfs_rows.specs.declared.rows.TripRow.{TripRow}
+use Rattle.gtfs_tables.specs.Feeds.{IsFeed, IsJoined, feed_stop, feed_trip, feed_trips, first_fault, link_by, naming_fault, rows_by, told_of, stops_by, trip_fault, trips_by}
+use Rattle.gtfs_tables.specs.First.{first_below, first_fault_of}
+use Rattle.gtfs_tables.specs.Joined.{HasStopsBelow, HasTimedEnds, IsRunnableTrip, NamesBelow, makes_connections, rows_of}
+use Rattle.gtfs_tables.specs.Names.{named_as, named_at, stop_named, stop_with, trip_named}
+use Rattle.gtfs_tables.specs.Order.{first_turn, of_trip, row_of}
+use Rattle.gtfs_tables.specs.Rows.{IsTransferOf, is_flex_id, is_kept, is_repeated, linked_row, named_by, stop_number, stop_of, transfer_fault}
+use Rattle.gtfs_tables.specs.Times.{first_wrong, is_flex, wrong_given, wrong_times}
+use Rattle.gtfs_tables.specs.declared.names.Named.{Named}
+use Rattle.gtfs_tables.specs.declared.names.Named.TheVariants as names
+use Rattle.gtfs_tables.specs.declared.order.Turn.{Turn}
+use Rattle.gtfs_tables.specs.declared.tables.Feed.{Feed}
+use Rattle.gtfs_tables.specs.declared.tables.Place.{Place}
+use Rattle.gtfs_tables.specs.declared.tables.Place.TheVariants as places
+use Rattle.gtfs_tables.specs.declared.tables.Tables.{Tables}
+use Rattle.gtfs_tables.specs.declared.tables.Transfer.{Transfer}
+use Rattle.gtfs_tables.specs.declared.tables.Trip.{Trip}
+use Rattle.gtfs_tables.proofs.FirstFacts.{option_or-none, option_or-some}
+use Rattle.gtfs_tables.proofs.TimeFacts.{ends_timed}
+
+-- ---- what an id names is one of the stops
+
+option_cases : {X : Type 0} (o : Option X) → (o ≡ None) ⊎ ((x : X) × (o ≡ Some x))
+option_cases None = inl refl
+option_cases (Some x) = inr (x, refl)
+
+-- what is found below a place is found at one
+found_at : {X : Type 0} (f : ℕ → Option X) (n : ℕ) (x : X) → first_below f n ≡ Some x → (k : ℕ) × (k < n) × (f k ≡ Some x)
+unfolding first_below
+found_at f zero x e = absurd cc
+found_at f (suc n) x e = elim (option_cases (first_below f n)) [
+  | inl none ↦ (n, omega arith, sym (option_or-none (first_below f n) (f n) none) ∙ e)
+  | inr some ↦
+      let same : Some some.0 ≡ Some x = sym (option_or-some (first_below f n) (f n) some.0 some.1) ∙ e in
+      let rest = found_at f n x (some.1 ∙ same) in
+      (rest.0, (let lt = rest.1 in omega arith), rest.2)
+]
+
+-- a stop has fewer before it than there are
+fewer_kept : (stops : List StopRow) (k : ℕ) (row : StopRow) → slice_get stops k ≡ Some row → is_stop row ≡ true → length (filter is_stop (take k stops)) < length (filter is_stop stops)
+fewer_kept [] k row e s = absurd cc
+fewer_kept (first ∷ stops) zero row e s =
+    let same : first ≡ row = cc in
+    let here : is_stop first ≡ true = rw same s in
+    rw here (omega arith)
+fewer_kept (first ∷ stops) (suc k) row e s =
+    let fewer : length (filter is_stop (take k stops)) < length (filter is_stop stops) = fewer_kept stops k row e s in
+    elim (cases_Bool (is_stop first)) [ inl t ↦ rw t (omega arith) | inr f ↦ rw f fewer ]
+
+fewer_before : (stops : List StopRow) (k : ℕ) (row : StopRow) → slice_get stops k ≡ Some row → is_stop row ≡ true → count_by is_stop (take k stops) < count_by is_stop stops
+fewer_before stops k row e s =
+    let fewer = fewer_kept stops k row e s in
+    omega (arith, length-filter is_stop (take k stops), length-filter is_stop stops)
+
+stop_as : (location : Location) (number place s : ℕ) → named_as location number place ≡ names.Stop s → (location ≡ locations.Stop) × (number ≡ s)
+stop_as locations.Stop number place s e = (refl, cc)
+stop_as locations.Station number place s e = absurd cc
+stop_as locations.Entrance number place s e = absurd cc
+stop_as locations.Node number place s e = absurd cc
+stop_as locations.BoardingArea number place s e = absurd cc
+
+stop_here : (b : Bool) (x y : Named) → (if b then Some x else None) ≡ Some y → x ≡ y
+stop_here true x y e = cc
+stop_here false x y e = absurd cc
+
+with_below : (stops : List StopRow) (id : List ℕ) (k s : ℕ) (o : Option StopRow) → slice_get stops k ≡ o
+    → option_and_then (λ row. if bytes_eq id (string_bytes row.id) then Some (named_as row.location (count_by is_stop (take k stops)) k) else None) o ≡ Some (names.Stop s)
+    → s < count_by is_stop stops
+with_below stops id k s None found e = absurd cc
+with_below stops id k s (Some row) found e =
+    let here = stop_as row.location (count_by is_stop (take k stops)) k s (stop_here (bytes_eq id (string_bytes row.id)) (named_as row.location (count_by is_stop (take k stops)) k) (names.Stop s) e) in
+    let stands : is_stop row ≡ true = rw here.0 refl in
+    let fewer = fewer_before stops k row found stands in
+    subst (λ n. n < count_by is_stop stops) here.1 fewer
+
+pub named_below : (stops : List StopRow) (id : List ℕ) (s : ℕ) → stop_named stops id ≡ Some (names.Stop s) → s < count_by is_stop stops
+named_below stops id s e =
+    let found = found_at (stop_with stops id) (length stops) (names.Stop s) e in
+    with_below stops id found.0 s (slice_get stops found.0) refl found.2
+
+-- ---- transfers
+
+stop_place : (place : Place) (s : ℕ) → place ≡ places.Stop s → named_by place ≡ names.Stop s
+stop_place place s e = rw e refl
+
+place_below : (stops : List StopRow) (id : List ℕ) (place : Place) → stop_named stops id ≡ Some (named_by place) → NamesBelow (count_by is_stop stops) place
+place_below stops id (places.Stop s) e = named_below stops id s e
+place_below stops id (places.Station p) e = tt
+
+-- the feed has as many stops as stops.txt has rows that stand for one
+stops_counted : (t : Tables) (feed : Feed) (named : List ℕ → Option Named) → feed.stops.items ≡ map (feed_stop named) (filter is_stop t.stops.items) → length feed.stops.items ≡ count_by is_stop t.stops.items
+stops_counted t feed named e = ap length e ∙ length-map (filter is_stop t.stops.items) (feed_stop named) ∙ length-filter is_stop t.stops.items
+
+zip_at : {A B : Type 0} (R : A → B → Type 0) (xs : List A) (ys : List B) (k : ℕ) (e : B) → AllZip R xs ys → k < length ys → (x : A) × R x (slice_index_or ys k e)
+zip_at R [] [] k e zipped lt = absurd (omega (arith, lt))
+zip_at R [] (y ∷ ys) k e zipped lt = absurd zipped
+zip_at R (x ∷ xs) [] k e zipped lt = absurd zipped
+zip_at R (x ∷ xs) (y ∷ ys) zero e zipped lt = (x, zipped.0)
+zip_at R (x ∷ xs) (y ∷ ys) (suc k) e zipped lt = zip_at R xs ys k e zipped.1 (omega (arith, lt))
+
+pub joined_names : (strict : Bool) (t : Tables) (feed : Feed) → IsJoined strict t feed → (k : ℕ) (d : Transfer) → k < length feed.transfers.items
+    → NamesBelow (length feed.stops.items) (slice_index_or feed.transfers.items k d).from × NamesBelow (length feed.stops.items) (slice_index_or feed.transfers.items k d).to
+joined_names strict t feed joined k d lt =
+    let count = stops_counted t feed (stop_named t.stops.items) joined.feed_is.stops in
+    let row = zip_at (IsTransferOf (stop_named t.stops.items)) (filter is_kept t.transfers.items) feed.transfers.items k d joined.feed_is.transfers lt in
+    rw count (place_below t.stops.items (string_bytes row.0.from) (slice_index_or feed.transfers.items k d).from row.1.from,
+    place_below t.stops.items (string_bytes row.0.to) (slice_index_or feed.transfers.items k d).to row.1.to)
+
+-- ---- where the rows of a trip stand
+
+test_more : (trip t u : ℕ) → t ≤ u → nat_lt trip t ≡ true → nat_lt trip u ≡ true
+test_more trip t u le e = lt-ltb trip u (let less = ltb-true trip t e in omega arith)
+
+kept_more : {X : Type 0} (p q : X → Bool) (xs : List X) → ((x : X) → p x ≡ true → q x ≡ true) → length (filter p xs) ≤ length (filter q xs)
+kept_more p q [] h = omega arith
+kept_more p q (x ∷ xs) h =
+    let rest : length (filter p xs) ≤ length (filter q xs) = kept_more p q xs h in
+    elim (cases_Bool (p x)) [
+      | inl t ↦ let u : q x ≡ true = h x t in rw (t, u) (omega arith)
+      | inr t ↦ elim (cases_Bool (q x)) [ inl u ↦ rw (t, u) (omega arith) | inr u ↦ rw (t, u) rest ]
+    ]
+
+turn_rises : (turns : List Turn) (t : ℕ) → first_turn turns t ≤ first_turn turns (t + 1)
+turn_rises turns t =
+    let more = kept_more (λ (turn : Turn). nat_lt turn.trip t) (λ (turn : Turn). nat_lt turn.trip (t + 1)) turns (λ turn e. test_more turn.trip t (t + 1) (omega arith) e) in
+    omega (arith, length-filter (λ (turn : Turn). nat_lt turn.trip t) turns, length-filter (λ (turn : Turn). nat_lt turn.trip (t + 1)) turns)
+
+turn_within : (turns : List Turn) (t : ℕ) → first_turn turns t ≤ length turns
+turn_within turns t = count_by-le-length (λ turn. nat_lt turn.trip t) turns
+
+trip_at : (turns : List Turn) (rows : List StopTimeRow) (repeats : ℕ → Bool) (from k : ℕ) (trips : List TripRow) (d : Trip) → k < length trips
+    → (row : TripRow) × (get_or (feed_trips turns rows repeats from trips) k d ≡ feed_trip turns rows repeats (from + k) row)
+trip_at turns rows repeats from k [] d lt = absurd (omega (arith, lt))
+trip_at turns rows repeats from zero (row ∷ trips) d lt = (row, let e : from + zero ≡ from = omega arith in rw e refl)
+trip_at turns rows repeats from (suc k) (row ∷ trips) d lt =
+    let rest = trip_at turns rows repeats (from + 1) k trips d (omega (arith, lt)) in
+    (rest.0, let e : from + suc k ≡ from + 1 + k = omega arith in rw e rest.1)
+
+trips_counted : (turns : List Turn) (rows : List StopTimeRow) (repeats : ℕ → Bool) (from : ℕ) (trips : List TripRow) → length (feed_trips turns rows repeats from trips) ≡ length trips
+trips_counted turns rows repeats from [] = refl
+trips_counted turns rows repeats from (row ∷ trips) = ap (λ n. suc n) (trips_counted turns rows repeats (from + 1) trips)
+
+-- ---- their times and stops
+
+none_left : {X : Type 0} (x y : Option X) → option_or x y ≡ None → x ≡ None
+none_left None y e = refl
+none_left (Some x) y e = absurd cc
+
+none_right : {X : Type 0} (x y : Option X) → option_or x y ≡ None → y ≡ None
+none_right None y e = e
+none_right (Some x) y e = absurd cc
+
+none_below : {X : Type 0} (f : ℕ → Option X) (n k : ℕ) → first_below f n ≡ None → k < n → f k ≡ None
+unfolding first_below
+none_below f zero k e lt = absurd (omega (arith, lt))
+none_below f (suc n) k e lt = elim (cases_eq k n) [
+  | inl same ↦ rw same (none_right (first_below f n) (f n) e)
+  | inr other ↦ none_below f n k (none_left (first_below f n) (f n) e) (omega arith)
+]
+
+unmapped : {X Y : Type 0} (f : X → Y) (o : Option X) → option_map f o ≡ None → o ≡ None
+unmapped f None e = refl
+unmapped f (Some x) e = absurd cc
+
+judged : (short flex : Bool) (x : Option (ℕ × FaultKind)) → short ≡ false → flex ≡ false → (if short || flex then None else x) ≡ None → x ≡ None
+judged short flex x s f e = rw (s, f) at e
+
+timed_by : (strict : Bool) (rows : List StopTimeRow) → nat_lt (length rows) 2 ≡ false → is_flex rows ≡ false → first_wrong strict rows ≡ None → HasTimedEnds rows
+timed_by strict rows long steady e =
+    let fine : wrong_times strict rows ≡ None = judged (nat_lt (length rows) 2) (is_flex rows) (wrong_times strict rows) long steady e in
+    ends_timed rows (none_left (wrong_given rows) _ fine)
+
+slice_length : {X : Type 0} (xs : List X) (first end : ℕ) → end ≤ length xs → length (slice_range xs first end) ≡ end - first
+slice_length xs first end le = omega (arith, length-take (end - first) (drop first xs), length-drop first xs)
+
+slice_at : {X : Type 0} (xs : List X) (first end k : ℕ) (d : X) → k < end - first → get_or (slice_range xs first end) k d ≡ get_or xs (first + k) d
+slice_at xs first end k d lt = get_or-take (end - first) (drop first xs) k d lt ∙ get_or-drop first xs k d
+
+mapped_at : {A B : Type 0} (f : A → B) (xs : List A) (k : ℕ) (d : B) → k < length xs → (x : A) × (get_or (map f xs) k d ≡ f x)
+mapped_at f [] k d lt = absurd (omega (arith, lt))
+mapped_at f (x ∷ xs) zero d lt = (x, refl)
+mapped_at f (x ∷ xs) (suc k) d lt = mapped_at f xs k d (omega (arith, lt))
+
+mapped_some : {A B : Type 0} (f : A → Option B) (xs : List A) (k : ℕ) (y : B) → get_or (map f xs) k None ≡ Some y → (x : A) × (f x ≡ Some y)
+mapped_some f [] k y e = absurd cc
+mapped_some f (x ∷ xs) zero y e = (x, e)
+mapped_some f (x ∷ xs) (suc k) y e = mapped_some f xs k y e
+
+none_any : {X : Type 0} (p : X → Bool) (xs : List X) (k : ℕ) (d : X) → list_any p xs ≡ false → k < length xs → p (get_or xs k d) ≡ false
+none_any p xs k d e lt = elim (cases_Bool (p (get_or xs k d))) [
+  | inl t ↦ absurd (false≢true (sym e ∙ list_any_at p xs k d lt t))
+  | inr f ↦ f
+]
+
+numbered : (o : Option Named) (s : ℕ) → stop_number o ≡ Some s → o ≡ Some (names.Stop s)
+numbered (Some (names.Stop n)) s e = cc
+numbered (Some (names.Station p)) s e = absurd cc
+numbered (Some names.Elsewhere) s e = absurd cc
+numbered None s e = absurd cc
+
+placed_at : {Y : Type 0} (f : ℕ → Option Y) (place : Option ℕ) (y : Y) → option_and_then f place ≡ Some y → (k : ℕ) × (f k ≡ Some y)
+placed_at f None y e = absurd cc
+placed_at f (Some k) y e = (k, e)
+
+-- a row that is replaced has one of the stops, if any
+linked_below : {K : Type 0} (stops : List StopRow) (bytes : K → List ℕ) (keys : List K) (row : StopTimeRow) (s : ℕ)
+    → stop_number (stop_of (map (λ id. stop_named stops (bytes id)) keys) row) ≡ Some s → s < count_by is_stop stops
+linked_below stops bytes keys row s e =
+    let named = numbered (stop_of (map (λ id. stop_named stops (bytes id)) keys) row) s e in
+    let place = placed_at (named_at (map (λ id. stop_named stops (bytes id)) keys)) row.stop (names.Stop s) named in
+    let id = mapped_some (λ id. stop_named stops (bytes id)) keys place.0 (names.Stop s) place.1 in
+    named_below stops (bytes id.0) s id.1
+
+unless : (b : Bool) (x : Option ℕ) (s : ℕ) → (if b then None else x) ≡ Some s → x ≡ Some s
+unless true x s e = absurd cc
+unless false x s e = e
+
+stop_below : (n : ℕ) (o : Option ℕ) → is_none o ≡ false → ((s : ℕ) → o ≡ Some s → s < n) → IsSomeAnd o (λ s. s < n)
+stop_below n None e h = absurd (false≢true (sym e))
+stop_below n (Some s) e h = h s refl
+
+-- a row of the feed has one of the stops, if any
+row_below : (t : Tables) (turns : List Turn) (k s : ℕ) (d : StopTimeRow) → k < length turns
+    → (get_or (rows_by (stop_named t.stops.items) (trip_named t.trips.items) t turns) k d).stop ≡ Some s → s < count_by is_stop t.stops.items
+row_below t turns k s d lt e =
+    let turn = mapped_at (λ (turn : Turn). link_by (stop_named t.stops.items) (trip_named t.trips.items) t (row_of t.stop_times.rows.items turn.number)) turns k d lt in
+    let raw = row_of t.stop_times.rows.items turn.0.number in
+    let here = sym (ap (λ (row : StopTimeRow). row.stop) turn.1) ∙ e in
+    let some = unless (is_none (named_at (trips_by (trip_named t.trips.items) t) raw.trip) || is_flex_id t.stop_times.rows.items raw.trip) (stop_number (stop_of (stops_by (stop_named t.stops.items) t) raw)) s here in
+    linked_below t.stops.items string_bytes t.stop_times.stops.keys raw s some
+
+-- ---- the trips of a joined feed
+
+fault_none : (strict : Bool) (t : Tables) (turns : List Turn) (k : ℕ) → first_fault (stop_named t.stops.items) (trip_named t.trips.items) strict t turns ≡ None → k < length t.trips.items
+    → first_wrong strict (of_trip turns k (rows_by (stop_named t.stops.items) (trip_named t.trips.items) t turns)) ≡ None
+fault_none strict t turns k e lt =
+    let rows = rows_by (stop_named t.stops.items) (trip_named t.trips.items) t turns in
+    let behind = none_right (naming_fault (stop_named t.stops.items) (trip_named t.trips.items) t) (option_or (first_below (trip_fault strict turns rows) (length t.trips.items)) (first_fault_of tables.Transfers (transfer_fault (stop_named t.stops.items)) t.transfers.items)) e in
+    let trips = none_left (first_below (trip_fault strict turns rows) (length t.trips.items)) (first_fault_of tables.Transfers (transfer_fault (stop_named t.stops.items)) t.transfers.items) behind in
+    unmapped (told_of (of_trip turns k turns)) (first_wrong strict (of_trip turns k rows)) (none_below (trip_fault strict turns rows) (length t.trips.items) k trips lt)
+
+not_true : (b : Bool) → not b ≡ true → b ≡ false
+not_true true e = absurd (false≢true e)
+not_true false e = refl
+
+-- the trip at a place, as it is made, is runnable
+made_runnable : (strict : Bool) (t : Tables) (feed : Feed) (joined : IsJoined strict t feed) (k : ℕ) (row : TripRow) → k < length t.trips.items
+    → IsRunnableTrip (count_by is_stop t.stops.items) (rows_by (stop_named t.stops.items) (trip_named t.trips.items) t joined.turns)
+    (feed_trip joined.turns (rows_by (stop_named t.stops.items) (trip_named t.trips.items) t joined.turns) (is_repeated (trip_named t.trips.items) t.frequencies.items) k row)
+made_runnable strict t feed joined k row lt =
+    let turns = joined.turns in
+    let rows = rows_by (stop_named t.stops.items) (trip_named t.trips.items) t turns in
+    let up = turn_rises turns k in
+    let len : length rows ≡ length turns = length-map turns (λ (turn : Turn). link_by (stop_named t.stops.items) (trip_named t.trips.items) t (row_of t.stop_times.rows.items turn.number)) in
+    let inside : first_turn turns (k + 1) ≤ length rows = let w = turn_within turns (k + 1) in omega arith in
+    let count : length (of_trip turns k rows) ≡ first_turn turns (k + 1) - first_turn turns k = slice_length rows (first_turn turns k) (first_turn turns (k + 1)) inside in
+    record {
+      rising = up;
+      within = inside;
+      timed = λ makes.
+      let parts = and_parts (not (is_flex (of_trip turns k rows))) (nat_le 2 (first_turn turns (k + 1) - first_turn turns k)) makes in
+      let two = leb-true 2 (first_turn turns (k + 1) - first_turn turns k) parts.1 in
+      timed_by strict (of_trip turns k rows) (le-ltb (length (of_trip turns k rows)) 2 (omega arith)) (not_true (is_flex (of_trip turns k rows)) parts.0) (fault_none strict t turns k joined.faultless lt);
+      stops_below = λ makes i d less.
+      let parts = and_parts (not (is_flex (of_trip turns k rows))) (nat_le 2 (first_turn turns (k + 1) - first_turn turns k)) makes in
+      let steady = not_true (is_flex (of_trip turns k rows)) parts.0 in
+      let at : get_or (of_trip turns k rows) i d ≡ get_or rows (first_turn turns k + i) d = slice_at rows (first_turn turns k) (first_turn turns (k + 1)) i d (omega arith) in
+      stop_below (count_by is_stop t.stops.items) (get_or (of_trip turns k rows) i d).stop (none_any (λ (row : StopTimeRow). is_none row.stop) (of_trip turns k rows) i d steady less)
+      (λ s e. row_below t turns (first_turn turns k + i) s d (omega arith) (sym (ap (λ (row : StopTimeRow). row.stop) at) ∙ e));
+    }
+
+pub joined_trips : (strict : Bool) (t : Tables) (feed : Feed) → IsJoined strict t feed → All (IsRunnableTrip (length feed.stops.items) feed.stop_times.items) feed.trips.items
+joined_trips strict t feed joined k d lt =
+    let turns = joined.turns in
+    let rows = rows_by (stop_named t.stops.items) (trip_named t.trips.items) t turns in
+    let repeats = is_repeated (trip_named t.trips.items) t.frequencies.items in
+    let trips_are : feed.trips.items ≡ feed_trips turns rows repeats 0 t.trips.items = joined.feed_is.trips in
+    let times_are : feed.stop_times.items ≡ rows = joined.feed_is.stop_times in
+    let count = stops_counted t feed (stop_named t.stops.items) joined.feed_is.stops in
+    let many : length feed.trips.items ≡ length t.trips.items = ap length trips_are ∙ trips_counted turns rows repeats 0 t.trips.items in
+    let made = trip_at turns rows repeats 0 k t.trips.items d (omega arith) in
+    let place : 0 + k ≡ k = omega arith in
+    let is : get_or feed.trips.items k d ≡ feed_trip turns rows repeats k made.0 = ap (λ trips. get_or trips k d) trips_are ∙ made.1 ∙ ap (λ n. feed_trip turns rows repeats n made.0) place in
+    rw (is, times_are, count) (made_runnable strict t feed joined k made.0 (omega arith))

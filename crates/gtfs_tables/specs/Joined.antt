@@ -1,0 +1,45 @@
+-- What holds of a feed that was joined: the rows of its trips, and what its transfers name.
+use Rattle.std.specs.Prelude.{◌≡◌, ◌-◌, ◌<◌, ◌≤◌, ◌&&◌, not, nat_le, ℕ, List, length, Bool, true, IsSome, IsSomeAnd, All}
+use Rattle.std.specs.List.{slice_range}
+use Rattle.gtfs_rows.specs.declared.rows.StopTimeRow.{StopTimeRow}
+use Rattle.gtfs_tables.specs.Spread.{arrival_at}
+use Rattle.gtfs_tables.specs.declared.tables.Feed.{Feed}
+use Rattle.gtfs_tables.specs.declared.tables.Place.{Place}
+use Rattle.gtfs_tables.specs.declared.tables.Place.TheVariants as places
+use Rattle.gtfs_tables.specs.declared.tables.Trip.{Trip}
+
+-- the rows of a trip among the stop times
+abbrev pub rows_of : List StopTimeRow → Trip → List StopTimeRow
+rows_of stop_times trip = slice_range stop_times trip.first trip.end
+
+-- a trip makes connections: it isn't a flex trip, and has two rows or more
+abbrev pub makes_connections : Trip → Bool
+makes_connections trip = not trip.flex && nat_le 2 (trip.end - trip.first)
+
+-- the first and the last row have a time
+abbrev pub HasTimedEnds : List StopTimeRow → Type 0
+HasTimedEnds rows = IsSome (arrival_at rows 0) × IsSome (arrival_at rows (length rows - 1))
+
+-- each row has one of so many stops
+abbrev pub HasStopsBelow : ℕ → List StopTimeRow → Type 0
+HasStopsBelow stops rows = All (λ row. IsSomeAnd row.stop (λ stop. stop < stops)) rows
+
+-- a trip's rows are among the stop times; where it makes connections, they have times at both ends and stops
+pub record IsRunnableTrip (stops : ℕ) (stop_times : List StopTimeRow) (trip : Trip) : Type 0 where
+  pub rising : trip.first ≤ trip.end
+  pub within : trip.end ≤ length stop_times
+  pub timed : makes_connections trip ≡ true → HasTimedEnds (rows_of stop_times trip)
+  pub stops_below : makes_connections trip ≡ true → HasStopsBelow stops (rows_of stop_times trip)
+
+-- each trip of a feed is so
+pub record IsRunnable (feed : Feed) : Type 0 where
+  pub trips : All (IsRunnableTrip (length feed.stops.items) feed.stop_times.items) feed.trips.items
+
+-- a stop that the place names is one of so many
+abbrev pub NamesBelow : ℕ → Place → Type 0
+NamesBelow stops (places.Stop stop) = stop < stops
+NamesBelow stops (places.Station station) = Unit {0}
+
+-- each stop that a transfer names is one of the feed's
+abbrev pub NamesItsStops : Feed → Type 0
+NamesItsStops feed = All (λ row. NamesBelow (length feed.stops.items) row.from × NamesBelow (length feed.stops.items) row.to) feed.transfers.items

@@ -1,0 +1,11 @@
+-- The days in a row.
+use Rattle.std.specs.Prelude.{◌+◌, if◌then◌else◌}
+use Rattle.gtfs_rows.specs.Values.{is_civil}
+use Rattle.gtfs_rows.specs.declared.values.Day.{Day}
+
+-- a day on in the month, the first of the next month, the first of the next year: the first of them that is a civil date
+abbrev pub day_after : Day → Day
+day_after d =
+    if is_civil (record d { day = d.day + 1 }) then record d { day = d.day + 1 }
+    else (if is_civil (record { year = d.year; month = d.month + 1; day = 1 }) then record { year = d.year; month = d.month + 1; day = 1 }
+    else record { year = d.year + 1; month = 1; day = 1 })
