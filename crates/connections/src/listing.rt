@@ -3,7 +3,7 @@
 use crate::days::{ServiceDay, service_days};
 use crate::fault::{RunsFault, out_of_memory, out_of_range, too_many};
 use crate::report::{Report, report_of};
-use crate::runs::{Run, gives, runs_on};
+use crate::runs::{Run, makes_connections, runs_on};
 use crate::times::{RowTimes, TripTimes, trip_times};
 use gtfs_tables::{Day, Feed, StopTimeRow, Table, Trip};
 use service_days::Zone;
@@ -41,7 +41,7 @@ fn times_of(
     stop_times: &[StopTimeRow],
     trip: &Trip,
 ) -> Result<TripTimes, AllocError> {
-    if gives(trip) {
+    if makes_connections(trip) {
         trip_times(alloc, rows_of(stop_times, trip))
     } else {
         Ok(TripTimes {

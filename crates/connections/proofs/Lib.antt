@@ -1,0 +1,3 @@
+pub mod DaySteps
+pub mod RunSteps
+pub mod TimeSteps
