@@ -1,14 +1,50 @@
 -- Days in a row, one on.
-use Rattle.std.proofs.Common.{◌≡◌, ℕ, suc, ◌+◌, ◌<◌, List, [], ◌∷◌, ◌++◌, length, get_or, refl, sym, ap, ◌∙◌, arith, append_assoc}
+use Rattle.std.proofs.Common.{◌≡◌, ℕ, zero, suc, ℤ, ◌+◌, ◌<◌, List, [], ◌∷◌, ◌++◌, length, map, get_or, All, refl, sym, ap, ◌∙◌, subst, arith, append_assoc, length-append}
+use Rattle.std.specs.Prelude.{Any}
+use Rattle.std.proofs.lemmas.List.{append-nil, get_or_at, length-map, map-append}
+use Rattle.std.proofs.lemmas.List.Elements.{All-nil, All-push}
 use Rattle.gtfs_rows.specs.declared.values.Day.{Day}
 use Rattle.service_days.specs.Days.{day_after}
-use Rattle.connections.specs.Days.{days_from}
+use Rattle.service_days.specs.Zones.{HasNoStart, IsDayStart}
+use Rattle.service_days.specs.declared.zone.Zone.{Zone}
+use Rattle.connections.specs.Days.{AreStarted, HasNoStartAmong, days_from}
+use Rattle.connections.specs.declared.days.ServiceDay.{ServiceDay}
 
-pub days_none : (day : Day) → days_from day 0 ≡ []
-unfolding days_from
-days_none day = refl
+-- so many days are left, from a day on
+pub record IsStartedTo (zone : Zone) (first : Day) (days : ℕ) (started : List ServiceDay) (day : Day) (left : ℕ) : Type 0 where
+  pub days_are : map (λ d. d.day) started ++ days_from day left ≡ days_from first days
+  pub starts : All (λ d. IsDayStart zone d.day d.start) started
 
--- the first of the days that are left
-pub days_next : (day : Day) (n m : ℕ) → n ≡ m + 1 → days_from day n ≡ day ∷ days_from (day_after day) m
+pub started_none : (zone : Zone) (first : Day) (days : ℕ) → IsStartedTo zone first days [] first days
+started_none zone first days = record { days_are = refl; starts = All-nil (λ (d : ServiceDay). IsDayStart zone d.day d.start) }
+
+days_next : (day : Day) (n m : ℕ) → n ≡ m + 1 → days_from day n ≡ day ∷ days_from (day_after day) m
 unfolding days_from
 days_next day n m e = let s : n ≡ suc m = omega (arith, e) in rw s refl
+
+pub started_more : (zone : Zone) (first : Day) (days : ℕ) (started : List ServiceDay) (day : Day) (start : ℤ) (left less : ℕ) → IsStartedTo zone first days started day left → IsDayStart zone day start → left ≡ less + 1
+    → IsStartedTo zone first days (started ++ record { day = day; start = start } ∷ []) (day_after day) less
+started_more zone first days started day start left less was starts e = record {
+  days_are =
+      ap (λ ds. ds ++ days_from (day_after day) less) (map-append (λ (d : ServiceDay). d.day) started (record { day = day; start = start } ∷ []))
+      ∙ append_assoc (map (λ (d : ServiceDay). d.day) started) (day ∷ []) (days_from (day_after day) less)
+      ∙ ap (λ ds. map (λ (d : ServiceDay). d.day) started ++ ds) (sym (days_next day left less e)) ∙ was.days_are;
+  starts = All-push (λ (d : ServiceDay). IsDayStart zone d.day d.start) started (record { day = day; start = start }) was.starts starts;
+}
+
+pub started_all : (zone : Zone) (first : Day) (days : ℕ) (started : List ServiceDay) (day : Day) (left : ℕ) → IsStartedTo zone first days started day left → left ≡ 0 → AreStarted zone (days_from first days) started
+unfolding days_from
+started_all zone first days started day left was none = record {
+  days_are = sym (append-nil (map (λ (d : ServiceDay). d.day) started)) ∙ ap (λ n. map (λ (d : ServiceDay). d.day) started ++ days_from day n) (sym none) ∙ was.days_are;
+  starts = was.starts;
+}
+
+pub one_missing : (zone : Zone) (first : Day) (days : ℕ) (started : List ServiceDay) (day : Day) (left less : ℕ) → IsStartedTo zone first days started day left → left ≡ less + 1 → HasNoStart zone day
+    → HasNoStartAmong zone (days_from first days)
+one_missing zone first days started day left less was e missing =
+    let next = days_next day left less e in
+    let front = map (λ (d : ServiceDay). d.day) started in
+    let all : front ++ (day ∷ days_from (day_after day) less) ≡ days_from first days = ap (λ ds. front ++ ds) (sym next) ∙ was.days_are in
+    let within : length front < length (front ++ (day ∷ days_from (day_after day) less)) = omega (arith, length-append front (day ∷ days_from (day_after day) less)) in
+    subst (λ (ds : List Day). HasNoStartAmong zone ds) all
+    (length front, day, within, get_or_at front day (days_from (day_after day) less) day (length front) refl, missing)
