@@ -1,3 +1,4 @@
 pub mod DaySteps
+pub mod HopSteps
 pub mod RunSteps
 pub mod TimeSteps

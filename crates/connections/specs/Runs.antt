@@ -1,5 +1,5 @@
 -- The runs of a feed on some days.
-use Rattle.std.specs.Prelude.{◌≡◌, ◌&&◌, ◌+◌, ◌-◌, ℕ, List, [], ◌∷◌, ◌++◌, Bool, if◌then◌else◌}
+use Rattle.std.specs.Prelude.{◌≡◌, ◌&&◌, ◌+◌, ◌-◌, ℕ, List, [], ◌∷◌, ◌++◌, Bool, true, Some, if◌then◌else◌}
 use Rattle.std.specs.List.{flat_map, sum_by, slice_get}
 use Rattle.std.specs.Option.{option_map_or}
 use Rattle.std.specs.String.{string_bytes}
@@ -25,6 +25,12 @@ runs_from feed day t (trip ∷ trips) = run_if (runs_on feed day trip) day t ++ 
 -- the runs on the days, by day, then by the order of the trips
 abbrev pub runs_of_days : Feed → List Day → List Run
 runs_of_days feed days = flat_map (λ day. runs_from feed day 0 feed.trips.items) days
+
+-- the run is one of a trip that makes connections
+pub record IsTripRun (trips : List Trip) (run : Run) : Type 0 where
+  pub trip : Trip
+  pub is_trip : slice_get trips run.trip ≡ Some trip
+  pub makes : makes_connections trip ≡ true
 
 -- how many connections a run makes: one fewer than it has rows
 abbrev pub hops_of : Trip → ℕ

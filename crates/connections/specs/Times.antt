@@ -1,7 +1,9 @@
 -- When the rows of a trip arrive and depart: their times are spread over the blank rows, and then lifted, so that no vehicle
 -- arrives before a second has passed. (Lifting is our own.)
-use Rattle.std.specs.Prelude.{◌≡◌, ◌==◌, ◌&&◌, ◌||◌, ◌+◌, ◌<◌, not, max, ℕ, zero, suc, List, length, Bool, false, Option, Some, None, slice_index_or}
+use Rattle.std.specs.Prelude.{◌≡◌, ◌==◌, ◌&&◌, ◌||◌, ◌+◌, ◌<◌, not, max, ℕ, zero, suc, List, length, Bool, true, false, Option, Some, None, slice_get, slice_index_or}
 use Rattle.gtfs_rows.specs.declared.rows.StopTimeRow.{StopTimeRow}
+use Rattle.gtfs_tables.specs.Joined.{makes_connections, rows_of}
+use Rattle.gtfs_tables.specs.declared.tables.Trip.{Trip}
 use Rattle.gtfs_tables.specs.Times.{arrives_spread, departs_spread}
 use Rattle.connections.specs.declared.times.RowTimes.{RowTimes}
 use Rattle.connections.specs.declared.times.TripTimes.{TripTimes}
@@ -48,3 +50,13 @@ pub record AreTimes (rows : List StopTimeRow) (times : TripTimes) : Type 0 where
   pub same_length : length times.rows.items ≡ length rows
   pub times_are : AreTimesBefore rows times.rows.items (length rows)
   pub lifted : times.lifted ≡ is_lifted rows
+
+-- the times of a trip, which has none where it makes no connections
+pub record AreTripTimes (stop_times : List StopTimeRow) (trip : Trip) (times : TripTimes) : Type 0 where
+  pub made : makes_connections trip ≡ true → AreTimes (rows_of stop_times trip) times
+  pub lifted : times.lifted ≡ (makes_connections trip && is_lifted (rows_of stop_times trip))
+
+-- the times of each of the trips
+pub record AreTimesOf (stop_times : List StopTimeRow) (trips : List Trip) (times : List TripTimes) : Type 0 where
+  pub same_length : length times ≡ length trips
+  pub each : (k : ℕ) (trip : Trip) (d : TripTimes) → slice_get trips k ≡ Some trip → AreTripTimes stop_times trip (slice_index_or times k d)

@@ -6,6 +6,7 @@
 
 mod days;
 mod fault;
+mod hops;
 mod listing;
 mod report;
 mod runs;
