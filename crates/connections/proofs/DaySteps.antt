@@ -1,6 +1,7 @@
 -- Days in a row, one on.
-use Rattle.std.proofs.Common.{◌≡◌, ℕ, zero, suc, ℤ, ◌+◌, ◌<◌, List, [], ◌∷◌, ◌++◌, length, map, get_or, All, refl, sym, ap, ◌∙◌, subst, arith, append_assoc, length-append}
+use Rattle.std.proofs.Common.{◌≡◌, ℕ, zero, suc, ℤ, ◌+◌, ◌<◌, List, [], ◌∷◌, ◌++◌, length, map, get_or, All, Contains, Bool, true, false, ◌==◌, ◌&&◌, refl, sym, ap, ◌∙◌, subst, arith, append_assoc, length-append}
 use Rattle.std.specs.Prelude.{Any}
+use Rattle.std.proofs.lemmas.Bool.{and_parts, eqb-true, eq-eqb, false≢true}
 use Rattle.std.proofs.lemmas.List.{append-nil, get_or_at, length-map, map-append}
 use Rattle.std.proofs.lemmas.List.Elements.{All-nil, All-push}
 use Rattle.gtfs_rows.specs.declared.values.Day.{Day}
@@ -48,3 +49,34 @@ one_missing zone first days started day left less was e missing =
     let within : length front < length (front ++ (day ∷ days_from (day_after day) less)) = omega (arith, length-append front (day ∷ days_from (day_after day) less)) in
     subst (λ (ds : List Day). HasNoStartAmong zone ds) all
     (length front, day, within, get_or_at front day (days_from (day_after day) less) day (length front) refl, missing)
+
+-- two days with the same year, month and day
+same_day : (a b : Day) → true ≡ ((a.year == b.year) && ((a.month == b.month) && (a.day == b.day))) → a ≡ b
+same_day a b e =
+    let outer = and_parts (a.year == b.year) ((a.month == b.month) && (a.day == b.day)) (sym e) in
+    let inner = and_parts (a.month == b.month) (a.day == b.day) outer.1 in
+    let year = eqb-true a.year b.year outer.0 in
+    let month = eqb-true a.month b.month inner.0 in
+    let day = eqb-true a.day b.day inner.1 in
+    λ i. record { year = year i; month = month i; day = day i }
+
+tested_itself : (a : Day) → ((a.year == a.year) && ((a.month == a.month) && (a.day == a.day))) ≡ true
+tested_itself a = rw (eq-eqb a.year a.year refl, eq-eqb a.month a.month refl, eq-eqb a.day a.day refl) refl
+
+pub other_day : (a b : Day) → false ≡ ((a.year == b.year) && ((a.month == b.month) && (a.day == b.day))) → a ≡ b → ⊥
+other_day a b e same = false≢true (e ∙ ap (λ (x : Day). (a.year == x.year) && ((a.month == x.month) && (a.day == x.day))) (sym same) ∙ tested_itself a)
+
+pub found_start : (zone : Zone) (days : List ServiceDay) (i : ℕ) (d : ServiceDay) (day : Day) → i < length days → All (λ d. IsDayStart zone d.day d.start) days
+    → true ≡ (((get_or days i d).day.year == day.year) && (((get_or days i d).day.month == day.month) && ((get_or days i d).day.day == day.day))) → IsDayStart zone day (get_or days i d).start
+found_start zone days i d day lt starts e = subst (λ (x : Day). IsDayStart zone x (get_or days i d).start) (same_day (get_or days i d).day day e) (starts i d lt)
+
+-- a day that is among them is at a place
+place_of : (days : List ServiceDay) (day : Day) (k : ℕ) (d : ServiceDay) → k < length days → get_or (map (λ (d : ServiceDay). d.day) days) k day ≡ (get_or days k d).day
+place_of [] day k d lt = absurd (omega (arith, lt))
+place_of (x ∷ days) day zero d lt = refl
+place_of (x ∷ days) day (suc k) d lt = place_of days day k d (omega (arith, lt))
+
+pub never_missing : (days : List ServiceDay) (day : Day) (d : ServiceDay) → Contains (map (λ d. d.day) days) day → ((k : ℕ) (d : ServiceDay) → k < length days → (get_or days k d).day ≡ day → ⊥) → ⊥
+never_missing days day d (k, lt, is) none =
+    let within : k < length days = omega (arith, lt, length-map days (λ (d : ServiceDay). d.day)) in
+    none k d within (sym (place_of days day k d within) ∙ is)

@@ -1,4 +1,7 @@
 pub mod DaySteps
 pub mod HopSteps
+pub mod ListSteps
+pub mod OrderSteps
+pub mod ReadySteps
 pub mod RunSteps
 pub mod TimeSteps

@@ -1,3 +1,4 @@
+pub mod Building
 pub mod Days
 pub mod Faults
 pub mod Hops

@@ -1,5 +1,9 @@
 // What was counted.
 
+ghost use Rattle.std.specs.Prelude.{◌≡◌, length};
+ghost use Rattle.connections.specs.Outcome.{IsReport};
+ghost use Rattle.connections.specs.Times.{AreTimesOf};
+
 use crate::times::TripTimes;
 use gtfs_tables::Feed;
 
@@ -28,7 +32,10 @@ pub(crate) fn report_of(
     times: &[TripTimes],
     runs: usize,
     connections: usize,
-) -> Report {
+) -> Report
+    requires { AreTimesOf feed.now.stop_times.items feed.now.trips.items times.now }
+    ensures { IsReport feed.now runs connections result }
+{
     Report {
         stops: feed.stops.len(),
         runs,
