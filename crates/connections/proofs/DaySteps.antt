@@ -1,5 +1,5 @@
 -- Days in a row, one on.
-use Rattle.std.proofs.Common.{◌≡◌, ℕ, zero, suc, ℤ, ◌+◌, ◌<◌, List, [], ◌∷◌, ◌++◌, length, map, get_or, All, Contains, Bool, true, false, ◌==◌, ◌&&◌, refl, sym, ap, ◌∙◌, subst, arith, append_assoc, length-append}
+use Rattle.std.proofs.Common.{◌≡◌, ℕ, zero, suc, ℤ, ◌+◌, ◌-◌, ◌<◌, ◌≤◌, List, [], ◌∷◌, ◌++◌, length, map, get_or, All, Contains, Bool, true, false, ◌==◌, ◌&&◌, refl, sym, ap, ◌∙◌, subst, arith, append_assoc, length-append}
 use Rattle.std.specs.Prelude.{Any}
 use Rattle.std.proofs.lemmas.Bool.{and_parts, eqb-true, eq-eqb, false≢true}
 use Rattle.std.proofs.lemmas.List.{append-nil, get_or_at, length-map, map-append}
@@ -80,3 +80,25 @@ pub never_missing : (days : List ServiceDay) (day : Day) (d : ServiceDay) → Co
 never_missing days day d (k, lt, is) none =
     let within : k < length days = omega (arith, lt, length-map days (λ (d : ServiceDay). d.day)) in
     none k d within (sym (place_of days day k d within) ∙ is)
+
+-- the day at a place, and who started it
+pub place_at : (started : List ServiceDay) (k : ℕ) (day : Day) → k < length (map (λ d. d.day) started)
+    → (x : ServiceDay) × (k < length started) × (x.day ≡ get_or (map (λ d. d.day) started) k day) × (get_or started k x ≡ x)
+place_at [] k day lt = absurd (omega (arith, lt))
+place_at (x ∷ started) zero day lt = (x, omega arith, refl, refl)
+place_at (x ∷ started) (suc k) day lt =
+    let rest = place_at started k day (omega (arith, lt)) in
+    (rest.0, (let less = rest.1 in omega (arith, less)), rest.2, rest.3)
+
+-- the first of the days is the first
+pub first_day : (zone : Zone) (first : Day) (days : ℕ) (started : List ServiceDay) (d : ServiceDay) → AreStarted zone (days_from first days) started → 1 ≤ days → (0 < length started) × IsDayStart zone first (get_or started 0 d).start
+first_day zone first days started d s some =
+    let next : days_from first days ≡ first ∷ days_from (day_after first) (days - 1) = days_next first days (days - 1) (omega (arith, some)) in
+    by started (s.days_are ∙ next) s.starts
+  where
+    by : (started : List ServiceDay) → map (λ (d : ServiceDay). d.day) started ≡ first ∷ days_from (day_after first) (days - 1) → All (λ (d : ServiceDay). IsDayStart zone d.day d.start) started
+        → (0 < length started) × IsDayStart zone first (get_or started 0 d).start
+    by [] e starts = absurd cc
+    by (x ∷ rest) e starts =
+        let is : x.day ≡ first = cc in
+        (omega arith, subst (λ (day : Day). IsDayStart zone day x.start) is (starts 0 x (omega arith)))

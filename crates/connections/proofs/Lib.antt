@@ -1,4 +1,5 @@
 pub mod DaySteps
+pub mod FinalSteps
 pub mod HopSteps
 pub mod ListSteps
 pub mod OrderSteps

@@ -122,7 +122,6 @@ fn list_run(
 }
 
 // The connections of the runs, by run, for so many of which room is made.
-#[tactic(none)]
 fn connections_by_run(
     alloc: Global,
     feed: &Feed,
@@ -172,7 +171,6 @@ fn put_in_order(connections: &mut Vec<Connection>)
 
 /// The connections and the runs of a feed on so many days from the first one on, in the zone in which its times are
 /// told, and what was counted.
-#[tactic(none)]
 pub fn runs_of(
     alloc: Global,
     feed: &Feed,
