@@ -19,7 +19,7 @@ pub record IsStartedTo (zone : Zone) (first : Day) (days : ℕ) (started : List 
 pub started_none : (zone : Zone) (first : Day) (days : ℕ) → IsStartedTo zone first days [] first days
 started_none zone first days = record { days_are = refl; starts = All-nil (λ (d : ServiceDay). IsDayStart zone d.day d.start) }
 
-days_next : (day : Day) (n m : ℕ) → n ≡ m + 1 → days_from day n ≡ day ∷ days_from (day_after day) m
+pub days_next : (day : Day) (n m : ℕ) → n ≡ m + 1 → days_from day n ≡ day ∷ days_from (day_after day) m
 unfolding days_from
 days_next day n m e = let s : n ≡ suc m = omega (arith, e) in rw s refl
 

@@ -1,6 +1,7 @@
 pub mod DaySteps
 pub mod FinalSteps
 pub mod HopSteps
+pub mod LegalSteps
 pub mod ListSteps
 pub mod OrderSteps
 pub mod ReadySteps

@@ -75,7 +75,7 @@ same_run_at feed zone runs r start other rows rest x y =
     let starts : IsDayStart zone y.run.day start = subst (λ (t : Run). IsDayStart zone t.day start) run x.starts in
     (same_start zone y.run.day start other starts y.starts, x.rows_are ∙ ap (rows_of feed.stop_times.items) trip ∙ sym y.rows_are)
 
-hop_along : (base s t : ℤ) (xs ys : List StopTimeRow) (r p : ℕ) (c : Connection) → s ≡ t → xs ≡ ys → IsHop base s xs r p c → IsHop base t ys r p c
+pub hop_along : (base s t : ℤ) (xs ys : List StopTimeRow) (r p : ℕ) (c : Connection) → s ≡ t → xs ≡ ys → IsHop base s xs r p c → IsHop base t ys r p c
 hop_along base s t xs ys r p c e f x = subst (λ (z : ℤ). IsHop base z ys r p c) e (subst (λ (zs : List StopTimeRow). IsHop base s zs r p c) f x)
 
 inside_along : (base s t : ℤ) (xs ys : List StopTimeRow) → s ≡ t → xs ≡ ys → AreInside base s xs → AreInside base t ys

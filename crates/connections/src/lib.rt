@@ -7,6 +7,7 @@
 mod days;
 mod fault;
 mod hops;
+pub mod laws;
 mod listing;
 mod report;
 mod runs;

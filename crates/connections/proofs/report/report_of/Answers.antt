@@ -6,7 +6,7 @@ use Rattle.connections.proofs.report.report_of.Goals as goal
 
 pub returns : goal.returns
 returns c = record {
-  stops = c.len.ensures;
+  stops = c.len.ensures ∙ c.args.feed.now.stops.ok.0;
   runs = refl;
   connections = refl;
   footpaths = refl;
