@@ -26,7 +26,7 @@ use Rattle.connections.specs.declared.runs.Run.{Run}
 use Rattle.connections.proofs.DaySteps.{days_next}
 use Rattle.connections.proofs.FinalSteps.{runs_are_of}
 use Rattle.connections.proofs.ListSteps.{hop_along, hop_within, hops_rise, same_hop, same_run_at}
-use Rattle.connections.proofs.ReadySteps.{runnable_at, some_stop}
+use Rattle.connections.proofs.ReadySteps.{runnable_at}
 
 -- the first of the days starts
 pub base_of : (zone : Zone) (first : Day) (days : ℕ) → 1 ≤ days → HaveStarts zone (days_from first days) → (base : ℤ) × IsDayStart zone first base
@@ -44,10 +44,10 @@ stays : (rows : List StopTimeRow) (k : ℕ) → arrives rows (k + 1) ≤ departs
 unfolding arrives departs
 stays rows k = let e : k + 1 ≡ suc k = omega arith in rw e (omega arith)
 
-at_inside : (cs : List Connection) (i : ℕ) (c : Connection) → At cs i c → Contains cs c
+pub at_inside : (cs : List Connection) (i : ℕ) (c : Connection) → At cs i c → Contains cs c
 at_inside cs i c at = (i, slice_get_within cs i c at, get_or_from_slice_get cs i c c at)
 
-inside_at : (cs : List Connection) (c : Connection) → Contains cs c → (k : ℕ) × At cs k c
+pub inside_at : (cs : List Connection) (c : Connection) → Contains cs c → (k : ℕ) × At cs k c
 inside_at cs c inside = (inside.0, slice_get-get_or cs inside.0 c inside.1 ∙ ap (λ (x : Connection). Some x) inside.2)
 
 known_below : (o : Option ℕ) (s n : ℕ) → o ≡ Some s → IsSomeAnd o (λ x. x < n) → s < n
@@ -164,7 +164,7 @@ module _ (feed : Feed) (zone : Zone) (base : ℤ) (runs : List Run) (cs : List C
             let place = inside_at cs e.0 (listed.each r (p + 1) e.0 (record { start = start; rows = rows; run_at = at; hop = e.1 })) in
             let low = stands_before i place.0 r p (p + 1) start rows c e.0 before.first place.1 at x e.1 (omega arith) in
             let high = stands_before place.0 j r (p + 1) q start rows e.0 d place.1 before.second at e.1 y above in
-            absurd (before.none_between place.0 e.0 place.1 low high (e.1.trip ∙ sym x.trip))
+            absurd (before.none_between place.0 e.0 place.1 low high (e.1.trip ∙ sym y.trip))
       ]
 
   unbroken : (i j : ℕ) (c d : Connection) → IsJustBefore cs i j c d → (c.to ≡ d.from) × (c.arr ≤ d.dep)

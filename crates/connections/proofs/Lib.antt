@@ -3,6 +3,7 @@ pub mod FinalSteps
 pub mod HopSteps
 pub mod LegalSteps
 pub mod ListSteps
+pub mod OneSteps
 pub mod OrderSteps
 pub mod ReadySteps
 pub mod RunSteps

@@ -19,6 +19,12 @@ pub fn limits()
     ensures { MAX_DAYS ≡ 14 }
 {}
 
+/// A feed makes one list of runs and one list of connections on some days.
+pub fn one_listing()
+    ensures { (feed : Feed) (zone : Zone) (first : Day) (days : ℕ) (connections others : List Connection) (runs rest : List Run) → 1 ≤ days → IsListing feed zone first days connections runs
+        → IsListing feed zone first days others rest → (connections ≡ others) × (runs ≡ rest) }
+{}
+
 /// The connections of a feed are those that a legal timetable may have, over the feed's stops and the runs as its trips.
 pub fn listing_is_legal()
     ensures { (feed : Feed) (zone : Zone) (first : Day) (days : ℕ) (connections : List Connection) (runs : List Run) → IsRunnable feed → 1 ≤ days → IsListing feed zone first days connections runs
