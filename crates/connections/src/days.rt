@@ -1,5 +1,8 @@
 // The service days that are asked for.
 
+ghost use Rattle.std.specs.Prelude.{◌≡◌, ◌≤◌, IfOk, IfErr, ◌⊎◌};
+ghost use Rattle.connections.specs.Days.{AreStarted, HasNoStartAmong, days_from};
+
 use gtfs_tables::Day;
 use service_days::{DayFault, Zone, day_after, day_start};
 use std::alloc::Global;
@@ -20,12 +23,15 @@ pub(crate) fn service_days(
     first: Day,
     days: u32,
     zone: &Zone,
-) -> Result<Vec<ServiceDay>, DayFault> {
+) -> Result<Vec<ServiceDay>, DayFault>
+    ensures ok { IfOk result (λ started. AreStarted zone.now (days_from first days) started.items) }
+    ensures err { IfErr result (λ fault. (fault ≡ DayFault.OutOfMemory) ⊎ ((fault ≡ DayFault.DayOutOfRange) × HasNoStartAmong zone.now (days_from first days))) }
+{
     let Ok(mut service_days) = Vec::with_capacity(alloc, days as usize) else {
         return Err(DayFault::OutOfMemory);
     };
     let mut day = first;
-    for _ in 0..days {
+    for done in 0..days {
         let start = match day_start(zone, day) {
             Ok(start) => start,
             Err(fault) => return Err(fault),

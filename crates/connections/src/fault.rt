@@ -1,5 +1,8 @@
 // Why there are no connections.
 
+ghost use Rattle.std.specs.Prelude.{◌≡◌};
+ghost use Rattle.connections.specs.Faults.{IsWantOfMemory, range_fault, too_many_of};
+
 use gtfs_tables::{FaultKind, Table, TableFault};
 use service_days::DayFault;
 use thiserror::Error;
@@ -16,7 +19,9 @@ pub enum RunsFault {
 }
 
 // There are too many of what the table gives.
-pub(crate) fn too_many(table: Table) -> RunsFault {
+pub(crate) fn too_many(table: Table) -> RunsFault
+    ensures { result ≡ too_many_of table }
+{
     RunsFault::Table(TableFault {
         table,
         row: 0,
@@ -25,7 +30,9 @@ pub(crate) fn too_many(table: Table) -> RunsFault {
 }
 
 // Memory is wanting.
-pub(crate) fn out_of_memory() -> RunsFault {
+pub(crate) fn out_of_memory() -> RunsFault
+    ensures { IsWantOfMemory result }
+{
     RunsFault::Table(TableFault {
         table: Table::StopTimes,
         row: 0,
@@ -34,6 +41,8 @@ pub(crate) fn out_of_memory() -> RunsFault {
 }
 
 // A day or a time lies out of range.
-pub(crate) fn out_of_range() -> RunsFault {
+pub(crate) fn out_of_range() -> RunsFault
+    ensures { result ≡ range_fault }
+{
     RunsFault::Day(DayFault::DayOutOfRange)
 }

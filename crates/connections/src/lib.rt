@@ -6,6 +6,8 @@
 
 mod days;
 mod fault;
+mod hops;
+pub mod laws;
 mod listing;
 mod report;
 mod runs;

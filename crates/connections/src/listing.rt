@@ -1,67 +1,77 @@
 // The connections of runs, in order.
 
-use crate::days::{ServiceDay, service_days};
+ghost use Rattle.std.specs.Prelude.{◌≡◌, ◌≤◌, ◌<◌, ◌-◌, ◌^◌, ◌⊎◌, ℤ, min, length, map, IfOk, IfErr, OnOk, OnErr, All, Contains, IsPermutation, true, slice_index_or};
+ghost use Rattle.gtfs_tables.specs.Joined.{HasTimedEnds, IsRunnable, makes_connections as makes, rows_of as rows_between};
+ghost use Rattle.service_days.specs.Zones.{IsDayStart};
+ghost use Rattle.service_days.specs.declared.zone.Zone.{Zone as DayZone};
+ghost use Rattle.connections.specs.Building.{AddsRun, AreByRun, AreSorted, LeavesRange};
+ghost use Rattle.connections.specs.Faults.{IsWantOfMemory, range_fault};
+ghost use Rattle.connections.specs.Listed.{AreListed, AreRunsInside, HasRunOutside};
+ghost use Rattle.connections.specs.Outcome.{IsFirstRefusal, IsListing, IsReport};
+ghost use Rattle.connections.specs.Runs.{IsTripRun, count_hops, runs_of_days};
+ghost use Rattle.connections.specs.Times.{AreTimesOf, AreTripTimes};
+
+use crate::days::{MAX_DAYS, ServiceDay, service_days};
 use crate::fault::{RunsFault, out_of_memory, out_of_range, too_many};
+use crate::hops::{DayClock, add_hops, are_inside};
 use crate::report::{Report, report_of};
-use crate::runs::{Run, gives, runs_on};
-use crate::times::{RowTimes, TripTimes, trip_times};
+use crate::runs::{Run, makes_connections, runs_on};
+use crate::times::{TripTimes, trip_times};
 use gtfs_tables::{Day, Feed, StopTimeRow, Table, Trip};
 use service_days::Zone;
 use std::alloc::{AllocError, Global};
 use timetable::Connection;
-use timetable::limits::{MAX_CONNECTIONS, TIME_END};
-
-// A day's clock: seconds after its start as seconds after the base.
-#[derive(Clone, Copy, Debug)]
-struct DayClock {
-    base: i64,
-    start: i64,
-}
-
-impl DayClock {
-    // The seconds after the base of a time of the day; none before the base and from the end of time on.
-    fn at(&self, time: u64) -> Option<u32> {
-        let after = self.start as i128 + time as i128 - self.base as i128;
-        if 0 <= after && after < TIME_END as i128 {
-            Some(after as u32)
-        } else {
-            None
-        }
-    }
-}
+use timetable::limits::MAX_CONNECTIONS;
 
 // The rows of a trip.
-fn rows_of<'a>(stop_times: &'a [StopTimeRow], trip: &Trip) -> &'a [StopTimeRow] {
+fn rows_of<'a>(stop_times: &'a [StopTimeRow], trip: &Trip) -> &'a [StopTimeRow]
+    requires rising { trip.now.first ≤ trip.now.end }
+    requires within { trip.now.end ≤ length stop_times.now }
+    ensures rows { result.now ≡ rows_between stop_times.now trip.now }
+    ensures len { length result.now ≡ trip.now.end - trip.now.first }
+{
     &stop_times[trip.first..trip.end]
 }
 
-// The times of a trip, none where it gives no connections.
+// The times of a trip, none where it makes no connections.
 fn times_of(
     alloc: Global,
     stop_times: &[StopTimeRow],
     trip: &Trip,
-) -> Result<TripTimes, AllocError> {
-    if gives(trip) {
-        trip_times(alloc, rows_of(stop_times, trip))
-    } else {
-        Ok(TripTimes {
-            rows: Vec::new(alloc),
-            lifted: false,
-        })
+) -> Result<TripTimes, AllocError>
+    requires rising { trip.now.first ≤ trip.now.end }
+    requires within { trip.now.end ≤ length stop_times.now }
+    requires timed { makes trip.now ≡ true → HasTimedEnds (rows_between stop_times.now trip.now) }
+    ensures { IfOk result (AreTripTimes stop_times.now trip.now) }
+{
+    if makes_connections(trip) {
+        let rows = rows_of(stop_times, trip);
+        return trip_times(alloc, rows);
     }
+    Ok(TripTimes {
+        rows: Vec::new(alloc),
+        lifted: false,
+    })
 }
 
 // The times of each trip.
-fn times_of_trips(alloc: Global, feed: &Feed) -> Result<Vec<TripTimes>, AllocError> {
+fn times_of_trips(alloc: Global, feed: &Feed) -> Result<Vec<TripTimes>, AllocError>
+    requires { IsRunnable feed.now }
+    ensures { IfOk result (λ times. AreTimesOf feed.now.stop_times.items feed.now.trips.items times.items) }
+{
     let mut times = Vec::with_capacity(alloc, feed.trips.len())?;
     for trip in &feed.trips {
-        times.push(times_of(alloc, &feed.stop_times, trip)?)?;
+        let made = times_of(alloc, &feed.stop_times, trip)?;
+        times.push(made)?;
     }
     Ok(times)
 }
 
 // How many connections runs make, the greatest number where they are more.
-fn count_connections(trips: &[Trip], runs: &[Run]) -> usize {
+fn count_connections(trips: &[Trip], runs: &[Run]) -> usize
+    requires { All (IsTripRun trips.now) runs.now }
+    ensures { result ≡ min (count_hops trips.now runs.now) usize.MAX }
+{
     let mut count = 0usize;
     for run in runs {
         let trip = &trips[run.trip as usize];
@@ -70,65 +80,11 @@ fn count_connections(trips: &[Trip], runs: &[Run]) -> usize {
     count
 }
 
-// Whether each time lies from the base to before the end of time.
-fn are_inside(clock: DayClock, times: &[RowTimes]) -> bool {
-    for time in times {
-        if clock.at(time.arrival).is_none() || clock.at(time.departure).is_none() {
-            return false;
-        }
-    }
-    true
-}
-
-// The connection from a row of a run to the next.
-fn connection(
-    clock: DayClock,
-    rows: &[StopTimeRow],
-    times: &[RowTimes],
-    place: usize,
-    run: u32,
-) -> Connection {
-    let row = &rows[place];
-    let next = &rows[place + 1];
-    let Some(from) = row.stop else {
-        unreachable!();
-    };
-    let Some(to) = next.stop else {
-        unreachable!();
-    };
-    let Some(dep) = clock.at(times[place].departure) else {
-        unreachable!();
-    };
-    let Some(arr) = clock.at(times[place + 1].arrival) else {
-        unreachable!();
-    };
-    Connection {
-        from,
-        to,
-        dep,
-        arr,
-        trip: run,
-        board: row.board,
-        alight: next.alight,
-    }
-}
-
-// Adds the connections of a run, whose times lie inside.
-fn add_connections(
-    connections: &mut Vec<Connection>,
-    clock: DayClock,
-    rows: &[StopTimeRow],
-    times: &[RowTimes],
-    run: u32,
-) -> Result<(), AllocError> {
-    for place in 0..rows.len() - 1 {
-        connections.push(connection(clock, rows, times, place, run))?;
-    }
-    Ok(())
-}
-
 // The start of a day, which is one of these.
-fn start_of(days: &[ServiceDay], day: Day) -> i64 {
+fn start_of(days: &[ServiceDay], day: Day) -> i64
+    requires { Contains (map (λ d. d.day) days.now) day }
+    ensures { (zone : DayZone) → All (λ d. IsDayStart zone d.day d.start) days.now → IsDayStart zone day result }
+{
     for service_day in days {
         if service_day.day == day {
             return service_day.start;
@@ -138,30 +94,34 @@ fn start_of(days: &[ServiceDay], day: Day) -> i64 {
 }
 
 // Adds the connections of a run.
-fn add_run(
+fn list_run(
     connections: &mut Vec<Connection>,
     feed: &Feed,
     times: &[TripTimes],
-    days: &[ServiceDay],
+    clock: DayClock,
     run: &Run,
     number: u32,
-) -> Result<(), RunsFault> {
-    let clock = DayClock {
-        base: days[0].start,
-        start: start_of(days, run.day),
-    };
-    let rows = rows_of(&feed.stop_times, &feed.trips[run.trip as usize]);
-    let times = &times[run.trip as usize];
-    if !are_inside(clock, &times.rows) {
+) -> Result<(), RunsFault>
+    requires runnable { IsRunnable feed.now }
+    requires times { AreTimesOf feed.now.stop_times.items feed.now.trips.items times.now }
+    requires trip { IsTripRun feed.now.trips.items run.now }
+    ensures ok { (zone : DayZone) → IsDayStart zone run.now.day clock.start → OnOk result (AddsRun feed.now zone clock.base run.now number connections.old.items connections.new.items) }
+    ensures err { (zone : DayZone) → IsDayStart zone run.now.day clock.start → IfErr result (λ fault. IsWantOfMemory fault ⊎ ((fault ≡ range_fault) × LeavesRange feed.now zone clock.base run.now)) }
+{
+    let place = run.trip as usize;
+    let trip = &feed.trips[place];
+    let rows = rows_of(&feed.stop_times, trip);
+    let row_times = &times[place].rows;
+    if !are_inside(clock, row_times) {
         return Err(out_of_range());
     }
-    match add_connections(connections, clock, rows, &times.rows, number) {
+    match add_hops(connections, clock, rows, row_times, number) {
         Ok(()) => Ok(()),
         Err(_) => Err(out_of_memory()),
     }
 }
 
-// The connections of the runs in the order of the runs, for so many of which room is made.
+// The connections of the runs, by run, for so many of which room is made.
 fn connections_by_run(
     alloc: Global,
     feed: &Feed,
@@ -169,28 +129,44 @@ fn connections_by_run(
     days: &[ServiceDay],
     runs: &[Run],
     count: usize,
-) -> Result<Vec<Connection>, RunsFault> {
+) -> Result<Vec<Connection>, RunsFault>
+    requires runnable { IsRunnable feed.now }
+    requires times { AreTimesOf feed.now.stop_times.items feed.now.trips.items times.now }
+    requires trips { All (IsTripRun feed.now.trips.items) runs.now }
+    requires days { All (λ run. Contains (map (λ d. d.day) days.now) run.day) runs.now }
+    requires few { length runs.now < 2 ^ 32 }
+    requires some { 0 < length days.now }
+    ensures ok { (zone : DayZone) (base : ℤ) (d : ServiceDay) → base ≡ (slice_index_or days.now 0 d).start → All (λ d. IsDayStart zone d.day d.start) days.now
+        → IfOk result (λ connections. AreByRun feed.now zone base runs.now (length runs.now) connections.items) }
+    ensures err { (zone : DayZone) (base : ℤ) (d : ServiceDay) → base ≡ (slice_index_or days.now 0 d).start → All (λ d. IsDayStart zone d.day d.start) days.now
+        → IfErr result (λ fault. IsWantOfMemory fault ⊎ ((fault ≡ range_fault) × HasRunOutside feed.now zone base runs.now)) }
+{
     let Ok(mut connections) = Vec::with_capacity(alloc, count) else {
         return Err(out_of_memory());
     };
+    let first = days[0];
     for (number, run) in runs.iter().enumerate() {
-        add_run(&mut connections, feed, times, days, run, number as u32)?;
+        let start = start_of(days, run.day);
+        let clock = DayClock {
+            base: first.start,
+            start,
+        };
+        match list_run(&mut connections, feed, times, clock, run, number as u32) {
+            Ok(()) => {}
+            Err(fault) => return Err(fault),
+        }
     }
     Ok(connections)
 }
 
-// The connections of the runs, in order.
-fn connections_of(
-    alloc: Global,
-    feed: &Feed,
-    times: &[TripTimes],
-    days: &[ServiceDay],
-    runs: &[Run],
-    count: usize,
-) -> Result<Vec<Connection>, RunsFault> {
-    let mut connections = connections_by_run(alloc, feed, times, days, runs, count)?;
-    connections.sort_unstable_by_key(|connection| (connection.dep, connection.arr, connection.trip));
-    Ok(connections)
+// Puts connections in order: by departure, arrival and run.
+fn put_in_order(connections: &mut Vec<Connection>)
+    ensures permutation { IsPermutation connections.old.items connections.new.items }
+    ensures sorted { AreSorted connections.new.items }
+{
+    connections.sort_unstable_by_key(|connection| {
+        (connection.dep, connection.arr, connection.trip)
+    });
 }
 
 /// The connections and the runs of a feed on so many days from the first one on, in the zone in which its times are
@@ -201,12 +177,22 @@ pub fn runs_of(
     first_day: Day,
     days: u32,
     zone: &Zone,
-) -> Result<(Vec<Connection>, Vec<Run>, Report), RunsFault> {
+) -> Result<(Vec<Connection>, Vec<Run>, Report), RunsFault>
+    requires runnable { IsRunnable feed.now }
+    requires some { 1 ≤ days }
+    requires few { days ≤ MAX_DAYS }
+    ensures ok { IfOk result (λ made. IsListing feed.now zone.now first_day days made.0.items made.1.items) }
+    ensures report { IfOk result (λ made. IsReport feed.now (length made.1.items) (length made.0.items) made.2) }
+    ensures err { IfErr result (λ fault. IsWantOfMemory fault ⊎ IsFirstRefusal feed.now zone.now first_day days fault) }
+{
     let days = match service_days(alloc, first_day, days, zone) {
         Ok(days) => days,
         Err(fault) => return Err(RunsFault::Day(fault)),
     };
-    let runs = runs_on(alloc, feed, &days)?;
+    let runs = match runs_on(alloc, feed, &days) {
+        Ok(runs) => runs,
+        Err(fault) => return Err(fault),
+    };
     let count = count_connections(&feed.trips, &runs);
     if count > MAX_CONNECTIONS as usize {
         return Err(too_many(Table::StopTimes));
@@ -214,7 +200,11 @@ pub fn runs_of(
     let Ok(times) = times_of_trips(alloc, feed) else {
         return Err(out_of_memory());
     };
-    let connections = connections_of(alloc, feed, &times, &days, &runs, count)?;
+    let mut connections = match connections_by_run(alloc, feed, &times, &days, &runs, count) {
+        Ok(connections) => connections,
+        Err(fault) => return Err(fault),
+    };
+    put_in_order(&mut connections);
     let report = report_of(feed, &times, runs.len(), connections.len());
     Ok((connections, runs, report))
 }

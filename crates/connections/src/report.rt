@@ -1,7 +1,11 @@
 // What was counted.
 
+ghost use Rattle.std.specs.Prelude.{◌≡◌, length, count_by};
+ghost use Rattle.connections.specs.Outcome.{IsReport};
+ghost use Rattle.connections.specs.Times.{AreTimesOf};
+
 use crate::times::TripTimes;
-use gtfs_tables::Feed;
+use gtfs_tables::{Feed, Trip};
 
 /// What a feed has, and what was made of it.
 #[derive(Clone, Copy, Debug, PartialEq, Eq)]
@@ -22,21 +26,45 @@ pub struct Report {
     pub skipped: usize,
 }
 
+// How many trips were lifted.
+fn lifted_in(times: &[TripTimes]) -> usize
+    ensures { result ≡ count_by (λ trip. trip.lifted) times.now }
+{
+    times.iter().filter(|trip| trip.lifted).count()
+}
+
+// How many trips are flex trips.
+fn flex_in(trips: &[Trip]) -> usize
+    ensures { result ≡ count_by (λ trip. trip.flex) trips.now }
+{
+    trips.iter().filter(|trip| trip.flex).count()
+}
+
+// How many trips repeat.
+fn repeats_in(trips: &[Trip]) -> usize
+    ensures { result ≡ count_by (λ trip. trip.repeats) trips.now }
+{
+    trips.iter().filter(|trip| trip.repeats).count()
+}
+
 // The counts of a feed, whose trips have these times, with so many runs and connections.
 pub(crate) fn report_of(
     feed: &Feed,
     times: &[TripTimes],
     runs: usize,
     connections: usize,
-) -> Report {
+) -> Report
+    requires { AreTimesOf feed.now.stop_times.items feed.now.trips.items times.now }
+    ensures { IsReport feed.now runs connections result }
+{
     Report {
         stops: feed.stops.len(),
         runs,
         connections,
         footpaths: 0,
-        lifted: times.iter().filter(|times| times.lifted).count(),
-        flex: feed.trips.iter().filter(|trip| trip.flex).count(),
-        frequencies: feed.trips.iter().filter(|trip| trip.repeats).count(),
+        lifted: lifted_in(times),
+        flex: flex_in(&feed.trips),
+        frequencies: repeats_in(&feed.trips),
         skipped: feed.skipped,
     }
 }

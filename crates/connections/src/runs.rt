@@ -1,5 +1,12 @@
 // Which trips run on which days.
 
+ghost use Rattle.std.specs.Prelude.{◌≡◌, ◌≤◌, ◌<◌, ◌^◌, ◌-◌, ◌+◌, ◌++◌, min, length, map, IfOk, IfErr, OnOk, All, ◌⊎◌};
+ghost use Rattle.gtfs_tables.specs.Joined.{makes_connections as makes};
+ghost use Rattle.gtfs_tables.specs.declared.tables.Feed.{Feed as JoinedFeed};
+ghost use Rattle.service_days.specs.Services.{HoldsServices};
+ghost use Rattle.connections.specs.Faults.{IsWantOfMemory, too_many_of};
+ghost use Rattle.connections.specs.Runs.{run_if, runs_from, runs_of_days, runs_on as runs_then};
+
 use crate::days::ServiceDay;
 use crate::fault::{RunsFault, out_of_memory, too_many};
 use gtfs_tables::{Day, Feed, Table, Trip};
@@ -16,17 +23,26 @@ pub struct Run {
 }
 
 // Whether a trip gives connections: it isn't a flex trip, and has two rows or more.
-pub(crate) fn gives(trip: &Trip) -> bool {
+pub(crate) fn makes_connections(trip: &Trip) -> bool
+    requires { trip.now.first ≤ trip.now.end }
+    ensures { result ≡ makes trip.now }
+{
     !trip.flex && trip.end - trip.first >= 2
 }
 
 // Whether a trip gives connections on a day.
-fn is_running(services: &Services, day: Day, trip: &Trip) -> bool {
-    gives(trip) && active(services, &trip.service, day)
+fn is_running(services: &Services, day: Day, trip: &Trip) -> bool
+    requires { trip.now.first ≤ trip.now.end }
+    ensures { (feed : JoinedFeed) → HoldsServices feed.calendar.items feed.calendar_dates.items services.now → result ≡ runs_then feed day trip.now }
+{
+    makes_connections(trip) && active(services, &trip.service, day)
 }
 
 // How many trips run on a day.
-fn count_on(services: &Services, day: Day, trips: &[Trip]) -> usize {
+fn count_on(services: &Services, day: Day, trips: &[Trip]) -> usize
+    requires { All (λ trip. trip.first ≤ trip.end) trips.now }
+    ensures { (feed : JoinedFeed) → HoldsServices feed.calendar.items feed.calendar_dates.items services.now → result ≡ length (runs_from feed day 0 trips.now) }
+{
     let mut count = 0;
     for trip in trips {
         if is_running(services, day, trip) {
@@ -37,7 +53,11 @@ fn count_on(services: &Services, day: Day, trips: &[Trip]) -> usize {
 }
 
 // How many runs the days have, the greatest number where they are more.
-fn count_runs(services: &Services, days: &[ServiceDay], trips: &[Trip]) -> usize {
+fn count_runs(services: &Services, days: &[ServiceDay], trips: &[Trip]) -> usize
+    requires { All (λ trip. trip.first ≤ trip.end) trips.now }
+    ensures { (feed : JoinedFeed) → feed.trips.items ≡ trips.now → HoldsServices feed.calendar.items feed.calendar_dates.items services.now
+        → result ≡ min (length (runs_of_days feed (map (λ d. d.day) days.now))) usize.MAX }
+{
     let mut count = 0usize;
     for day in days {
         count = count.saturating_add(count_on(services, day.day, trips));
@@ -52,7 +72,11 @@ fn add_run(
     day: Day,
     trip: &Trip,
     place: usize,
-) -> Result<(), AllocError> {
+) -> Result<(), AllocError>
+    requires { trip.now.first ≤ trip.now.end }
+    ensures { (feed : JoinedFeed) → HoldsServices feed.calendar.items feed.calendar_dates.items services.now
+        → OnOk result (runs.new.items ≡ runs.old.items ++ run_if (runs_then feed day trip.now) day place) }
+{
     if is_running(services, day, trip) {
         let Ok(trip) = u32::try_from(place) else {
             return Err(AllocError);
@@ -68,7 +92,11 @@ fn add_runs_on(
     services: &Services,
     day: Day,
     trips: &[Trip],
-) -> Result<(), AllocError> {
+) -> Result<(), AllocError>
+    requires { All (λ trip. trip.first ≤ trip.end) trips.now }
+    ensures { (feed : JoinedFeed) → HoldsServices feed.calendar.items feed.calendar_dates.items services.now
+        → OnOk result (runs.new.items ≡ runs.old.items ++ runs_from feed day 0 trips.now) }
+{
     for (place, trip) in trips.iter().enumerate() {
         add_run(runs, services, day, trip, place)?;
     }
@@ -82,7 +110,11 @@ fn list_runs(
     days: &[ServiceDay],
     trips: &[Trip],
     count: usize,
-) -> Result<Vec<Run>, AllocError> {
+) -> Result<Vec<Run>, AllocError>
+    requires { All (λ trip. trip.first ≤ trip.end) trips.now }
+    ensures { (feed : JoinedFeed) → feed.trips.items ≡ trips.now → HoldsServices feed.calendar.items feed.calendar_dates.items services.now
+        → IfOk result (λ runs. runs.items ≡ runs_of_days feed (map (λ d. d.day) days.now)) }
+{
     let mut runs = Vec::with_capacity(alloc, count)?;
     for day in days {
         add_runs_on(&mut runs, services, day.day, trips)?;
@@ -95,7 +127,12 @@ pub(crate) fn runs_on(
     alloc: Global,
     feed: &Feed,
     days: &[ServiceDay],
-) -> Result<Vec<Run>, RunsFault> {
+) -> Result<Vec<Run>, RunsFault>
+    requires { All (λ trip. trip.first ≤ trip.end) feed.now.trips.items }
+    ensures ok { IfOk result (λ runs. runs.items ≡ runs_of_days feed.now (map (λ d. d.day) days.now)) }
+    ensures few { IfOk result (λ runs. length runs.items ≤ MAX_TRIPS) }
+    ensures err { IfErr result (λ fault. IsWantOfMemory fault ⊎ ((fault ≡ too_many_of Table.Trips) × (MAX_TRIPS < length (runs_of_days feed.now (map (λ d. d.day) days.now))))) }
+{
     let Ok(services) = Services::new(alloc, &feed.calendar, &feed.calendar_dates) else {
         return Err(out_of_memory());
     };

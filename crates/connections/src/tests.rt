@@ -1,87 +1,54 @@
 //! Small feeds and what they make.
 
+ghost use Rattle.std.specs.Prelude.{◌≤◌};
+
 use super::*;
+use gtfs_tables::laws::joined_is_runnable;
 use gtfs_tables::{
-    CalendarDateRow, CalendarRow, Day, Exception, FaultKind, Feed, Stop, StopTimeRow, Table,
-    TableFault, Trip,
+    Day, FaultKind, Table, TableFault, Tables, join, read_agency, read_calendar_dates,
+    read_frequencies, read_stop_times, read_stops, read_transfers, read_trips,
 };
 use service_days::{DayFault, Zone};
 use std::alloc::Global;
-use std::process::Abort;
 use std::test::Fail;
 use timetable::Connection;
 
-fn day(text: &str) -> Result<Day, Fail> {
-    Ok(Day::parse(text.as_bytes())?)
+const STOPS: &[u8] = b"stop_id\nA\nB\nC\nD\n";
+
+// A feed without a calendar: its trips, the rows of its trips, and the days that are added and removed.
+#[derive(Clone, Copy)]
+struct Texts {
+    trips: &'static [u8],
+    stop_times: &'static [u8],
+    dates: &'static [u8],
+    frequencies: &'static [u8],
 }
 
-// A row of a trip at a stop, which arrives and departs then.
-fn row(trip: u32, stop: u32, sequence: u32, time: Option<u32>) -> StopTimeRow {
-    StopTimeRow {
-        trip,
-        arrival: time,
-        departure: time,
-        stop: Some(stop),
-        sequence,
-        board: true,
-        alight: true,
-    }
-}
-
-fn trip(
+// What the feed makes on so many days from the first one on.
+fn made(
     alloc: Global,
-    id: &str,
-    service: &str,
-    first: usize,
-    end: usize,
-) -> Result<Trip, Fail> {
-    Ok(Trip {
-        id: String::from_str(alloc, id)?,
-        service: String::from_str(alloc, service)?,
-        first,
-        end,
-        repeats: false,
-        flex: false,
-    })
-}
-
-fn date(
-    alloc: Global,
-    service: &str,
-    text: &str,
-    exception: Exception,
-) -> Result<CalendarDateRow, Fail> {
-    Ok(CalendarDateRow {
-        service: String::from_str(alloc, service)?,
-        day: day(text)?,
-        exception,
-    })
-}
-
-// A feed of so many stops, with these trips, rows and added or removed days.
-fn feed_of(
-    alloc: Global,
-    stops: usize,
-    trips: Vec<Trip>,
-    rows: &[StopTimeRow],
-    dates: Vec<CalendarDateRow>,
-) -> Result<Feed, Fail> {
-    let mut all = Vec::new(alloc);
-    for _ in 0..stops {
-        all.push(Stop {
-            id: String::new(alloc),
-            station: None,
-        })?;
-    }
-    Ok(Feed {
-        stops: all,
-        trips,
-        stop_times: Vec::from_slice(alloc, rows)?,
-        transfers: Vec::new(alloc),
-        skipped: 0,
+    texts: Texts,
+    first: &str,
+    days: u32,
+    zone: &Zone,
+) -> Result<Result<(Vec<Connection>, Vec<Run>, Report), RunsFault>, Fail>
+    requires some { 1 ≤ days }
+    requires few { days ≤ MAX_DAYS }
+{
+    let tables = Tables {
+        agencies: read_agency(alloc, b"agency_timezone\nEtc/UTC\n")?,
+        stops: read_stops(alloc, STOPS)?,
+        trips: read_trips(alloc, texts.trips)?,
+        stop_times: read_stop_times(alloc, texts.stop_times)?,
         calendar: Vec::new(alloc),
-        calendar_dates: dates,
-    })
+        calendar_dates: read_calendar_dates(alloc, texts.dates)?,
+        transfers: read_transfers(alloc, b"from_stop_id,to_stop_id,transfer_type\nA,B,9\n")?,
+        frequencies: read_frequencies(alloc, texts.frequencies)?,
+    };
+    let feed = join(alloc, tables, false)?;
+    joined_is_runnable();
+    let first = Day::parse(first.as_bytes())?;
+    Ok(runs_of(alloc, &feed, first, days, zone))
 }
 
 fn ride(from: u32, to: u32, dep: u32, arr: u32, trip: u32) -> Connection {
@@ -96,33 +63,34 @@ fn ride(from: u32, to: u32, dep: u32, arr: u32, trip: u32) -> Connection {
     }
 }
 
-// One trip on one day, three rows at 08:00:00 and one at 08:01:00.
+fn run(text: &str, trip: u32) -> Result<Run, Fail> {
+    Ok(Run {
+        day: Day::parse(text.as_bytes())?,
+        trip,
+    })
+}
+
+// One trip on one day: three rows at 08:00:00 and one at 08:01:00.
+fn level() -> Texts {
+    Texts {
+        trips: b"service_id,trip_id\nS,T\n",
+        stop_times: b"trip_id,arrival_time,departure_time,stop_id,stop_sequence\nT,08:00:00,08:00:00,A,1\nT,08:00:00,08:00:00,B,2\nT,08:00:00,08:00:00,C,3\nT,08:01:00,08:01:00,D,4\n",
+        dates: b"service_id,date,exception_type\nS,20240115,1\n",
+        frequencies: b"trip_id\nT\n",
+    }
+}
+
 #[test]
 fn times_are_lifted(rt: HostRuntime) -> Result<(), Fail> {
-    let alloc = rt.alloc();
-    let mut trips = Vec::new(alloc);
-    trips.push(trip(alloc, "T", "S", 0, 4)?)?;
-    let rows = [
-        row(0, 0, 1, Some(28_800)),
-        row(0, 1, 2, Some(28_800)),
-        row(0, 2, 3, Some(28_800)),
-        row(0, 3, 4, Some(28_860)),
-    ];
-    let mut dates = Vec::new(alloc);
-    dates.push(date(alloc, "S", "20240115", Exception::Added)?)?;
-    let feed = feed_of(alloc, 4, trips, &rows, dates)?;
-    let (connections, runs, report) = runs_of(alloc, &feed, day("20240115")?, 1, &Zone::fixed(0))?;
+    let (connections, runs, report) =
+        made(rt.alloc(), level(), "20240115", 1, &Zone::fixed(0))??;
     let wanted = [
         ride(0, 1, 28_800, 28_801, 0),
         ride(1, 2, 28_801, 28_802, 0),
         ride(2, 3, 28_802, 28_860, 0),
     ];
     assert!(rt; connections.as_slice() == wanted.as_slice());
-    let run = Run {
-        day: day("20240115")?,
-        trip: 0,
-    };
-    assert!(rt; runs.as_slice() == [run].as_slice());
+    assert!(rt; runs.as_slice() == [run("20240115", 0)?].as_slice());
     let counts = Report {
         stops: 4,
         runs: 1,
@@ -130,48 +98,103 @@ fn times_are_lifted(rt: HostRuntime) -> Result<(), Fail> {
         footpaths: 0,
         lifted: 1,
         flex: 0,
-        frequencies: 0,
-        skipped: 0,
+        frequencies: 1,
+        skipped: 1,
     };
     assert!(rt; report == counts);
     Ok(())
 }
 
-// The clocks are changed in the night to the second day.
+// The clocks are changed in the night to the second day; the base stays that of the first.
 #[test]
-fn the_base_is_the_start_of_the_first_day(rt: HostRuntime) -> Result<(), Fail> {
-    let alloc = rt.alloc();
-    let mut trips = Vec::new(alloc);
-    trips.push(trip(alloc, "T", "first", 0, 2)?)?;
-    trips.push(trip(alloc, "U", "second", 2, 4)?)?;
-    let rows = [
-        row(0, 0, 1, Some(90_600)),
-        row(0, 1, 2, Some(90_660)),
-        row(1, 0, 1, Some(28_800)),
-        row(1, 1, 2, Some(28_860)),
-    ];
-    let mut dates = Vec::new(alloc);
-    dates.push(date(alloc, "first", "20240330", Exception::Added)?)?;
-    dates.push(date(alloc, "second", "20240331", Exception::Added)?)?;
-    let feed = feed_of(alloc, 2, trips, &rows, dates)?;
+fn times_are_counted_from_the_first_day(rt: HostRuntime) -> Result<(), Fail> {
+    let texts = Texts {
+        trips: b"service_id,trip_id\nfirst,T\nsecond,U\n",
+        stop_times: b"trip_id,arrival_time,departure_time,stop_id,stop_sequence\nT,25:10:00,25:10:00,A,1\nT,25:11:00,25:11:00,B,2\nU,08:00:00,08:00:00,A,1\nU,08:01:00,08:01:00,B,2\n",
+        dates: b"service_id,date,exception_type\nfirst,20240330,1\nsecond,20240331,1\n",
+        frequencies: b"trip_id\n",
+    };
     let zone = Zone::posix("CET-1CEST,M3.5.0,M10.5.0/3")?;
-    let (connections, runs, _) = runs_of(alloc, &feed, day("20240330")?, 2, &zone)?;
-    // 1711843800 and 1711864800 after 1711753200
+    let (connections, runs, _report) = made(rt.alloc(), texts, "20240330", 2, &zone)??;
+    // 25:10:00 of the first day is 1711843800, 08:00:00 of the second 1711864800; the base is 1711753200
     let wanted = [
         ride(0, 1, 90_600, 90_660, 0),
         ride(0, 1, 111_600, 111_660, 1),
     ];
     assert!(rt; connections.as_slice() == wanted.as_slice());
-    let wanted = [
-        Run {
-            day: day("20240330")?,
-            trip: 0,
-        },
-        Run {
-            day: day("20240331")?,
-            trip: 1,
-        },
-    ];
-    assert!(rt; runs.as_slice() == wanted.as_slice());
+    assert!(rt;
+        runs.as_slice() == [run("20240330", 0)?, run("20240331", 1)?].as_slice()
+    );
     Ok(())
+}
+
+// X runs on its one day, Y never; a flex trip, and a trip of one row, run on no day.
+#[test]
+fn trips_run_with_their_services(rt: HostRuntime) -> Result<(), Fail> {
+    let texts = Texts {
+        trips: b"service_id,trip_id\nY,T\nX,U\nX,F\nX,V\n",
+        stop_times: b"trip_id,arrival_time,departure_time,stop_id,stop_sequence,pickup_type,drop_off_type\nT,08:00:00,08:00:00,A,1,,\nT,08:10:00,08:10:00,B,2,,\nU,08:00:00,08:00:00,A,1,1,\nU,,,B,2,,1\nU,08:10:00,08:12:00,C,3,,\nF,08:00:00,08:00:00,A,1,,\nF,08:10:00,08:10:00,,2,,\nV,08:00:00,08:00:00,A,1,,\n",
+        dates: b"service_id,date,exception_type\nX,20240115,1\nX,20240116,2\n",
+        frequencies: b"trip_id\n",
+    };
+    let (connections, runs, report) =
+        made(rt.alloc(), texts, "20240115", 2, &Zone::fixed(0))??;
+    let mut first = ride(0, 1, 28_800, 29_100, 0);
+    first.board = false;
+    first.alight = false;
+    let wanted = [first, ride(1, 2, 29_100, 29_400, 0)];
+    assert!(rt; connections.as_slice() == wanted.as_slice());
+    assert!(rt; runs.as_slice() == [run("20240115", 1)?].as_slice());
+    assert_eq!(rt; report.flex, 1);
+    assert_eq!(rt; report.lifted, 0);
+    Ok(())
+}
+
+// By departure, then by arrival, then by run: of two runs on each of two days.
+#[test]
+fn connections_are_in_order(rt: HostRuntime) -> Result<(), Fail> {
+    let texts = Texts {
+        trips: b"service_id,trip_id\nS,T\nS,U\n",
+        stop_times: b"trip_id,arrival_time,departure_time,stop_id,stop_sequence\nT,08:00:00,08:00:00,A,1\nT,08:20:00,08:20:00,B,2\nU,08:00:00,08:00:00,A,1\nU,08:10:00,08:10:00,B,2\nU,32:00:00,32:00:00,C,3\nU,32:20:00,32:20:00,D,4\n",
+        dates: b"service_id,date,exception_type\nS,20240115,1\nS,20240116,1\n",
+        frequencies: b"trip_id\n",
+    };
+    let (connections, runs, _report) =
+        made(rt.alloc(), texts, "20240115", 2, &Zone::fixed(3600))??;
+    let wanted = [
+        ride(0, 1, 28_800, 29_400, 1),
+        ride(0, 1, 28_800, 30_000, 0),
+        ride(1, 2, 29_400, 115_200, 1),
+        ride(0, 1, 115_200, 115_800, 3),
+        ride(2, 3, 115_200, 116_400, 1),
+        ride(0, 1, 115_200, 116_400, 2),
+        ride(1, 2, 115_800, 201_600, 3),
+        ride(2, 3, 201_600, 202_800, 3),
+    ];
+    assert_eq!(rt; runs.len(), 4);
+    assert!(rt; connections.as_slice() == wanted.as_slice());
+    Ok(())
+}
+
+#[test]
+fn days_without_a_start_are_refused(rt: HostRuntime) -> Result<(), Fail> {
+    let range = RunsFault::Day(DayFault::DayOutOfRange);
+    let last = made(rt.alloc(), level(), "99991231", 1, &Zone::fixed(0))?;
+    assert!(rt; matches!(last, Err(fault) if fault == range));
+    let second = made(rt.alloc(), level(), "99991230", 2, &Zone::fixed(0))?;
+    assert!(rt; matches!(second, Err(fault) if fault == range));
+    let first = made(rt.alloc(), level(), "99991230", 1, &Zone::fixed(0))?;
+    assert!(rt; first.is_ok());
+    Ok(())
+}
+
+#[test]
+fn faults_name_their_tables(rt: HostRuntime) {
+    let fault = TableFault {
+        table: Table::Trips,
+        row: 0,
+        kind: FaultKind::TooMany,
+    };
+    assert!(rt; crate::fault::too_many(Table::Trips) == RunsFault::Table(fault));
+    assert!(rt; MAX_DAYS == 14);
 }

@@ -1,6 +1,11 @@
 // The times of a trip's rows, spread and lifted.
 
+ghost use Rattle.std.specs.Prelude.{◌≡◌, ◌≤◌, ◌<◌, ◌+◌, ◌-◌, ◌^◌, max, not, ◌&&◌, ◌==◌, length, IfOk, IfSome, MatchOption, IsSome};
+ghost use Rattle.gtfs_tables.specs.Spread.{arrival_at};
+ghost use Rattle.connections.specs.Times.{AreTimes, lifted_by};
+
 use gtfs_tables::StopTimeRow;
+use gtfs_tables::laws::spread_times;
 use gtfs_tables::spread::spread;
 use std::alloc::{AllocError, Global};
 
@@ -23,18 +28,20 @@ pub struct TripTimes {
 /// each arrival is after the departure before it. An arrival becomes the greater of itself and one second after the
 /// departure before it as lifted, a departure the greater of itself and its arrival as lifted; the first row's times stay.
 ///
-/// The only error is want of memory; more rows than a `u32` can number count as that.
-pub fn trip_times(alloc: Global, rows: &[StopTimeRow]) -> Result<TripTimes, AllocError> {
-    if rows.len() > u32::MAX as usize {
-        return Err(AllocError);
-    }
+/// The only error is want of memory.
+pub fn trip_times(alloc: Global, rows: &[StopTimeRow]) -> Result<TripTimes, AllocError>
+    requires first { IsSome (arrival_at rows.now 0) }
+    requires last { IsSome (arrival_at rows.now (length rows.now - 1)) }
+    ensures { IfOk result (AreTimes rows.now) }
+{
     let given = spread(alloc, rows)?;
+    spread_times();
     let mut times = Vec::with_capacity(alloc, rows.len())?;
     let mut lifted = false;
     let mut left = None;
     for (arrival, departure) in given.iter() {
         let time = lift(left, *arrival, *departure);
-        lifted = lifted || is_lifted(time, *arrival, *departure);
+        lifted |= is_lifted(time, *arrival, *departure);
         left = Some(time.departure);
         times.push(time)?;
     }
@@ -45,7 +52,11 @@ pub fn trip_times(alloc: Global, rows: &[StopTimeRow]) -> Result<TripTimes, Allo
 }
 
 // A row's times as lifted, behind the departure before it.
-fn lift(left: Option<u64>, arrival: u32, departure: u32) -> RowTimes {
+fn lift(left: Option<u64>, arrival: u32, departure: u32) -> RowTimes
+    requires { IfSome left (λ time. time + 1 < 2 ^ 64) }
+    ensures value { result ≡ lifted_by left arrival departure }
+    ensures range { (arrival < 2 ^ 32) × (departure < 2 ^ 32) }
+{
     match left {
         None => RowTimes {
             arrival: arrival as u64,
@@ -62,6 +73,8 @@ fn lift(left: Option<u64>, arrival: u32, departure: u32) -> RowTimes {
 }
 
 // Whether lifting changed a row's times.
-fn is_lifted(time: RowTimes, arrival: u32, departure: u32) -> bool {
+fn is_lifted(time: RowTimes, arrival: u32, departure: u32) -> bool
+    ensures { result ≡ not ((time.arrival == arrival) && (time.departure == departure)) }
+{
     time.arrival != arrival as u64 || time.departure != departure as u64
 }

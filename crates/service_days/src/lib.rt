@@ -6,6 +6,7 @@
 
 mod day;
 mod fault;
+pub mod laws;
 mod services;
 mod zone;
 

@@ -1,0 +1,10 @@
+pub mod DaySteps
+pub mod FinalSteps
+pub mod HopSteps
+pub mod LegalSteps
+pub mod ListSteps
+pub mod OneSteps
+pub mod OrderSteps
+pub mod ReadySteps
+pub mod RunSteps
+pub mod TimeSteps

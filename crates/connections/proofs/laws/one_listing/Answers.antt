@@ -1,0 +1,5 @@
+use Rattle.connections.proofs.OneSteps.{one_listing}
+use Rattle.connections.proofs.laws.one_listing.Goals as goal
+
+pub returns : goal.returns
+returns c = one_listing

@@ -1,0 +1,22 @@
+-- The refusals of runs.
+use Rattle.std.specs.Prelude.{◌≡◌}
+use Rattle.gtfs_rows.specs.declared.fault.FaultKind.TheVariants.{OutOfMemory as TableMemory, TooMany}
+use Rattle.gtfs_rows.specs.declared.fault.Table.{Table}
+use Rattle.gtfs_rows.specs.declared.fault.TableFault.{TableFault}
+use Rattle.service_days.specs.declared.fault.DayFault.{DayFault}
+use Rattle.service_days.specs.declared.fault.DayFault.TheVariants.{DayOutOfRange, OutOfMemory as DayMemory}
+use Rattle.connections.specs.declared.fault.RunsFault.{RunsFault}
+use Rattle.connections.specs.declared.fault.RunsFault.TheVariants as faults
+
+-- there are too many of what a table gives
+abbrev pub too_many_of : Table → RunsFault
+too_many_of table = faults.Table (record { table = table; row = 0; kind = TooMany })
+
+-- a day or a time is out of range
+abbrev pub range_fault : RunsFault
+range_fault = faults.Day DayOutOfRange
+
+-- memory was wanting
+abbrev pub IsWantOfMemory : RunsFault → Type 0
+IsWantOfMemory (faults.Table fault) = fault.kind ≡ TableMemory
+IsWantOfMemory (faults.Day fault) = fault ≡ DayMemory

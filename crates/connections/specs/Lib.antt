@@ -1,0 +1,9 @@
+pub mod Building
+pub mod Days
+pub mod Faults
+pub mod Hops
+pub mod Legal
+pub mod Listed
+pub mod Outcome
+pub mod Runs
+pub mod Times

@@ -1,0 +1,46 @@
+//! Laws of listed connections. The functions do nothing: their contracts are the laws.
+
+ghost use Rattle.std.specs.Prelude.{◌≡◌, ◌≤◌, ℕ, List, length};
+ghost use Rattle.gtfs_rows.specs.declared.values.Day.{Day};
+ghost use Rattle.gtfs_tables.specs.Joined.{IsRunnable};
+ghost use Rattle.gtfs_tables.specs.declared.tables.Feed.{Feed};
+ghost use Rattle.service_days.specs.declared.zone.Zone.{Zone};
+ghost use Rattle.timetable.specs.Legal.{IsLegal};
+ghost use Rattle.timetable.specs.TimetableValue.{TimetableValue};
+ghost use Rattle.timetable.specs.declared.network.Connection.{Connection};
+ghost use Rattle.connections.specs.Legal.{AreWithinLimits, HasLegalConnections};
+ghost use Rattle.connections.specs.Outcome.{IsListing};
+ghost use Rattle.connections.specs.declared.runs.Run.{Run};
+
+use crate::days::MAX_DAYS;
+
+/// The limit of days, in numbers: definitions and code cite the constant.
+pub fn limits()
+    ensures { MAX_DAYS ≡ 14 }
+{}
+
+/// A feed makes one list of runs and one list of connections on some days.
+pub fn one_listing()
+    ensures { (feed : Feed) (zone : Zone) (first : Day) (days : ℕ) (connections others : List Connection) (runs rest : List Run) → 1 ≤ days → IsListing feed zone first days connections runs
+        → IsListing feed zone first days others rest → (connections ≡ others) × (runs ≡ rest) }
+{}
+
+/// The connections of a feed are those that a legal timetable may have, over the feed's stops and the runs as its trips.
+pub fn listing_is_legal()
+    ensures { (feed : Feed) (zone : Zone) (first : Day) (days : ℕ) (connections : List Connection) (runs : List Run) → IsRunnable feed → 1 ≤ days → IsListing feed zone first days connections runs
+        → HasLegalConnections (length feed.stops.items) (length runs) connections }
+{}
+
+/// They are within the limits of an image.
+pub fn listing_is_within_limits()
+    ensures { (feed : Feed) (zone : Zone) (first : Day) (days : ℕ) (connections : List Connection) (runs : List Run) → 1 ≤ days → IsListing feed zone first days connections runs
+        → AreWithinLimits (length runs) connections }
+{}
+
+/// What is asked of connections is what a legal timetable asks: a legal timetable has such connections, and with others of that
+/// kind it is legal too.
+pub fn legal_connections()
+    ensures has { (t : TimetableValue) → IsLegal t → HasLegalConnections t.stops t.trips t.connections }
+    ensures takes { (t : TimetableValue) (trips : ℕ) (connections : List Connection) → IsLegal t → HasLegalConnections t.stops trips connections
+        → IsLegal (record t { trips = trips; connections = connections }) }
+{}
