@@ -1,10 +1,12 @@
 //! What the words of a command line ask for.
 
+use crate::build::{BuildRequest, ZoneText};
 use crate::journey::JourneyRequest;
 use crate::profile::{CriterionName, ProfileRequest};
 use crate::question::Question;
 use clap::error::ErrorKind;
 use clap::{Arg, ArgAction, ArgMatches, Command, Error};
+use gtfs_tables::Day;
 use std::alloc::{AllocError, Global};
 use std::convert::AsStr;
 use timetable::clocks::clock_parse;
@@ -20,6 +22,8 @@ pub enum Request<'a> {
     Profile(ProfileRequest<'a>),
     /// To read the tables of a feed's folder.
     Tables(&'a str),
+    /// To make the image of a feed's folder.
+    Build(BuildRequest<'a>),
 }
 
 /// Why the words ask for no command.
@@ -46,8 +50,15 @@ const PROFILE_EXAMPLE: &str =
 
 const CRITERIA: [&str; 2] = ["arrival", "arrival+trips"];
 
+const BUILD_EXAMPLE: &str =
+    "Example: csa build examples/base base.csa --first 20240115 --days 1 --zone fixed:0";
+
 const WRONG_FORM: &str =
     "error: a clock is HH:MM:SS: hours of one to six digits, minutes and seconds below 60\n";
+
+/// What is said where the words of `build` have a wrong form.
+pub const WRONG_BUILD_FORM: &str =
+    "error: a day is YYYYMMDD, the number of days 1 to 14, a zone fixed:SECS with at most 86399 seconds either way, posix:TEXT or file:PATH\n";
 
 fn word<'a>(alloc: Global, id: &'a str, name: &'a str, help: &'a str) -> Arg<'a> {
     Arg::new(alloc, id)
@@ -139,6 +150,38 @@ fn tables<'a>(alloc: Global) -> Result<Command<'a>, AllocError> {
         ))
 }
 
+fn build<'a>(alloc: Global) -> Result<Command<'a>, AllocError> {
+    Command::new(alloc, "build")
+        .about("Makes the image of a GTFS feed, and prints what was counted")
+        .after_help(BUILD_EXAMPLE)
+        .arg(word(
+            alloc,
+            "folder",
+            "FOLDER",
+            "The folder with the feed's unpacked files",
+        ))?
+        .arg(word(
+            alloc,
+            "out",
+            "OUT",
+            "The file to which the image is written",
+        ))?
+        .arg(option(alloc, "first", "DAY", "The first service day, YYYYMMDD"))?
+        .arg(option(alloc, "days", "N", "How many service days, 1 to 14"))?
+        .arg(option(
+            alloc,
+            "zone",
+            "ZONE",
+            "The zone of the feed's times: fixed:SECS, posix:TEXT or file:PATH",
+        ))?
+        .arg(
+            Arg::new(alloc, "strict")
+                .long("strict")
+                .help("Refuses an arrival that isn't after the departure before it")
+                .action(ArgAction::SetTrue),
+        )
+}
+
 fn program<'a>(alloc: Global) -> Result<Command<'a>, AllocError> {
     Command::new(alloc, "csa")
         .about("Every best departure over verified public transport timetables")
@@ -147,7 +190,8 @@ fn program<'a>(alloc: Global) -> Result<Command<'a>, AllocError> {
         .subcommand(verify(alloc)?)?
         .subcommand(journey(alloc)?)?
         .subcommand(profile(alloc)?)?
-        .subcommand(tables(alloc)?)
+        .subcommand(tables(alloc)?)?
+        .subcommand(build(alloc)?)
 }
 
 fn unread_of(alloc: Global, error: &Error) -> Unread {
@@ -175,17 +219,21 @@ pub fn read<'a, S: AsStr>(alloc: Global, words: &'a [S]) -> Result<Request<'a>, 
         Some(("journey", inner)) => journey_request(inner).map(Request::Journey),
         Some(("profile", inner)) => profile_request(inner).map(Request::Profile),
         Some(("tables", inner)) => inner.get_str("folder").map(Request::Tables),
+        Some(("build", inner)) => match build_request(inner) {
+            Some(request) => Some(Request::Build(request)),
+            None => return Err(mistake(alloc, WRONG_BUILD_FORM)),
+        },
         _ => None,
     };
     match request {
         Some(request) => Ok(request),
-        None => Err(mistake(alloc)),
+        None => Err(mistake(alloc, WRONG_FORM)),
     }
 }
 
-/// A text that clap takes and no clock, or another argument of a wrong form.
-fn mistake(alloc: Global) -> Unread {
-    match String::from_str(alloc, WRONG_FORM) {
+/// A text that clap takes, of a wrong form.
+fn mistake(alloc: Global, form: &str) -> Unread {
+    match String::from_str(alloc, form) {
         Ok(text) => Unread::Mistake(text),
         Err(_) => Unread::OutOfMemory,
     }
@@ -227,4 +275,45 @@ fn question<'a>(matches: &ArgMatches<'a>) -> Option<Question<'a>> {
 
 fn clock(matches: &ArgMatches<'_>, id: &str) -> Option<u32> {
     clock_parse(matches.get_str(id)?.as_bytes())
+}
+
+fn build_request<'a>(matches: &ArgMatches<'a>) -> Option<BuildRequest<'a>> {
+    Some(BuildRequest {
+        folder: matches.get_str("folder")?,
+        out: matches.get_str("out")?,
+        first_day: day(matches.get_str("first")?)?,
+        days: number(matches.get_str("days")?)?,
+        zone: zone(matches.get_str("zone")?)?,
+        strict: matches.get_flag("strict"),
+    })
+}
+
+fn day(text: &str) -> Option<Day> {
+    Day::parse(text.as_bytes()).ok()
+}
+
+/// Decimal digits, and nothing else.
+fn number(text: &str) -> Option<u32> {
+    if text.bytes().all(|byte| byte.is_ascii_digit()) {
+        text.parse().ok()
+    } else {
+        None
+    }
+}
+
+fn zone(text: &str) -> Option<ZoneText<'_>> {
+    match text.split_once(':')? {
+        ("fixed", seconds) => offset(seconds).map(ZoneText::Fixed),
+        ("posix", rule) => Some(ZoneText::Posix(rule)),
+        ("file", path) => Some(ZoneText::File(path)),
+        _ => None,
+    }
+}
+
+/// Decimal digits, with a hyphen before them for a zone west of Greenwich.
+fn offset(text: &str) -> Option<i32> {
+    match text.strip_prefix('-') {
+        Some(digits) => i32::try_from(number(digits)?).ok().map(|seconds| -seconds),
+        None => i32::try_from(number(text)?).ok(),
+    }
 }

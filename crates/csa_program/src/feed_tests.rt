@@ -15,7 +15,7 @@ const STOP_TIMES: usize = 3;
 const CALENDAR: usize = 4;
 
 /// The files of examples/base.
-fn base_feed() -> [(&'static str, &'static str); 5] {
+pub(crate) fn base_feed() -> [(&'static str, &'static str); 5] {
     [
         (
             "agency.txt",
@@ -37,7 +37,35 @@ fn base_feed() -> [(&'static str, &'static str); 5] {
 const BASE_COUNTS: &str =
     "tables agencies 1 stops 3 trips 2 stop_times 5 calendar 1 calendar_dates 0 transfers 0\n";
 
-/// Writes the files into a new folder, has its tables judged, and takes the files and the folder away.
+/// Writes files into a new folder.
+pub(crate) fn lay_feed<R: Files + AllocGlobal + Abort>(
+    rt: &R,
+    folder: &str,
+    files: &[(&str, &str)],
+) -> Result<(), Fail> {
+    fs::create_dir(rt, folder)?;
+    for (name, text) in files {
+        let path = format!(in rt.alloc(); "{folder}/{name}")?;
+        fs::write(rt, path.as_str(), *text)?;
+    }
+    Ok(())
+}
+
+/// Takes the files and the folder away.
+pub(crate) fn clear_feed<R: Files + AllocGlobal + Abort>(
+    rt: &R,
+    folder: &str,
+    files: &[(&str, &str)],
+) -> Result<(), Fail> {
+    for (name, _text) in files {
+        let path = format!(in rt.alloc(); "{folder}/{name}")?;
+        fs::remove_file(rt, path.as_str())?;
+    }
+    fs::remove_dir(rt, folder)?;
+    Ok(())
+}
+
+/// Has the tables of a new folder with these files judged.
 fn judge_feed<R: Files + AllocGlobal + Abort>(
     rt: &R,
     folder: &str,
@@ -45,18 +73,9 @@ fn judge_feed<R: Files + AllocGlobal + Abort>(
     status: u8,
     line: &str,
 ) -> Result<(), Fail> {
-    fs::create_dir(rt, folder)?;
-    for (name, text) in files {
-        let path = format!(in rt.alloc(); "{folder}/{name}")?;
-        fs::write(rt, path.as_str(), *text)?;
-    }
+    lay_feed(rt, folder, files)?;
     expect_line(rt, &["csa", "tables", folder], b"", status, line);
-    for (name, _text) in files {
-        let path = format!(in rt.alloc(); "{folder}/{name}")?;
-        fs::remove_file(rt, path.as_str())?;
-    }
-    fs::remove_dir(rt, folder)?;
-    Ok(())
+    clear_feed(rt, folder, files)
 }
 
 /// The base feed with another text in the place of a file's.

@@ -1,6 +1,9 @@
 //! The body of the program `csa`: words, a reader and two writers in, an exit status out.
 #![tactic(auto)]
 
+mod build;
+#[cfg(test)]
+mod build_tests;
 mod command_line;
 #[cfg(test)]
 mod feed_tests;
@@ -40,6 +43,7 @@ pub fn run<H: Files + AllocGlobal, S: AsStr, I: Read, O: Write, E: Write>(
         Ok(Request::Journey(request)) => journey::run(rt, request, input, output, errors),
         Ok(Request::Profile(request)) => profile::run(rt, request, input, output, errors),
         Ok(Request::Tables(folder)) => tables::run(rt, folder, output),
+        Ok(Request::Build(request)) => build::run(rt, request, output, errors),
         Err(Unread::Help(text)) => status::written(output, text.as_str(), status::ACCEPTED),
         Err(Unread::Mistake(text)) => status::written(errors, text.as_str(), status::COMMAND_LINE),
         Err(Unread::OutOfMemory) => status::OUT_OF_MEMORY,

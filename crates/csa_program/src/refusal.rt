@@ -1,9 +1,11 @@
 //! Refusals as they are printed: a number, a name and the places, each after a space.
 
+use footpaths::FootFault;
 use gtfs_tables::{Table, TableFault};
 use image_layout::WordsFault;
 use image_verifier::ImageFault;
 use journeys::JourneyFault;
+use service_days::DayFault;
 use std::fmt;
 use timetable::query::QueryFault;
 
@@ -20,6 +22,8 @@ pub enum Refusal {
     /// A text that spells no journey.
     BadText,
     Journey(JourneyFault),
+    Day(DayFault),
+    Footpaths(FootFault),
 }
 
 impl fmt::Display for Refusal {
@@ -36,6 +40,8 @@ impl fmt::Display for Refusal {
             Refusal::Query(fault) => write_fault(fault.number(), fault.name(), f),
             Refusal::BadText => write!(f, "refused 80 BadText"),
             Refusal::Journey(fault) => write_journey_fault(*fault, f),
+            Refusal::Day(fault) => write_fault(fault.number(), fault.name(), f),
+            Refusal::Footpaths(fault) => write_fault(fault.number(), fault.name(), f),
         }
     }
 }

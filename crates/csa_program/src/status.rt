@@ -44,3 +44,17 @@ pub fn unreadable<E: Write>(alloc: Global, errors: &mut E, path: &str) -> u8 {
         INPUT_OUTPUT,
     )
 }
+
+/// Tells that a file of a feed can't be read.
+pub fn unread<O: Write>(alloc: Global, output: &mut O, refusal: &Refusal) -> u8 {
+    line_written(output, format!(in alloc; "{refusal}\n"), INPUT_OUTPUT)
+}
+
+/// Tells of a file that can't be written.
+pub fn unwritable<E: Write>(alloc: Global, errors: &mut E, path: &str) -> u8 {
+    line_written(
+        errors,
+        format!(in alloc; "csa: {path} can't be written\n"),
+        INPUT_OUTPUT,
+    )
+}

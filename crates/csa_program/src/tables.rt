@@ -3,7 +3,7 @@
 use crate::refusal::Refusal;
 use crate::status;
 use feed_files::{FolderFiles, ReadFault, read_tables};
-use gtfs_tables::{FaultKind, Table, TableFault, Tables, join};
+use gtfs_tables::{FaultKind, TableFault, Tables, join};
 use std::alloc::{AllocError, Global};
 use std::io::Write;
 use std::rt::Files;
@@ -15,7 +15,11 @@ pub fn run<H: Files + AllocGlobal, O: Write>(rt: &H, folder: &str, output: &mut 
     let tables = match read_tables(alloc, &mut files) {
         Ok(tables) => tables,
         Err(ReadFault::Table(fault)) => return refused(alloc, output, fault),
-        Err(ReadFault::FileFailed(table)) => return unreadable(alloc, output, table),
+        Err(ReadFault::FileFailed(table)) => return status::unread(
+            alloc,
+            output,
+            &Refusal::FileFailed(table),
+        ),
     };
     let line = counts(alloc, &tables);
     match join(alloc, tables, false) {
@@ -29,15 +33,6 @@ fn refused<O: Write>(alloc: Global, output: &mut O, fault: TableFault) -> u8 {
         return status::OUT_OF_MEMORY;
     }
     status::refused(alloc, output, &Refusal::Table(fault))
-}
-
-fn unreadable<O: Write>(alloc: Global, output: &mut O, table: Table) -> u8 {
-    let refusal = Refusal::FileFailed(table);
-    status::line_written(
-        output,
-        format!(in alloc; "{refusal}\n"),
-        status::INPUT_OUTPUT,
-    )
 }
 
 fn counts(alloc: Global, tables: &Tables) -> Result<String, AllocError> {

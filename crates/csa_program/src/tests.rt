@@ -313,6 +313,7 @@ fn wrong_command_lines_are_told(rt: HostRuntime) {
     expect_message(&rt, &["csa", "tables"], b"", 64);
     expect_message(&rt, &["csa", "tables", "folder", "more"], b"", 64);
     expect_message(&rt, &["csa", "profile", "-"], b"", 64);
+    expect_message(&rt, &["csa", "build", "folder", "out"], b"", 64);
     expect_message(&rt, &["csa", "journey", "-"], b"", 64);
 }
 
@@ -324,6 +325,7 @@ fn help_is_printed(rt: HostRuntime) {
         ["csa", "journey", "--help"].as_slice(),
         ["csa", "profile", "--help"].as_slice(),
         ["csa", "tables", "--help"].as_slice(),
+        ["csa", "build", "--help"].as_slice(),
     ] {
         let outcome = outcome_of(&rt, words, b"");
         assert_eq!(rt; outcome.status, 0);

@@ -32,6 +32,51 @@ pub enum LoadFault {
     FileFailed(Table),
 }
 
+impl LoadFault {
+    ghost use Rattle.std.specs.Prelude.{◌≡◌, MatchBool};
+    ghost use Rattle.feed_loader.specs.Faults.{fault_name, fault_number};
+    ghost use Rattle.feed_loader.specs.Refused.{IsWantOfMemory};
+
+    /// The number by which the fault is told: that of the fault within, 101 for a file that can't be read.
+    pub fn number(self) -> u8
+        ensures { result ≡ fault_number self }
+    {
+        match self {
+            LoadFault::Table(fault) => fault.kind.number(),
+            LoadFault::Day(fault) => fault.number(),
+            LoadFault::Footpaths(fault) => fault.number(),
+            LoadFault::Image(fault) => fault.number(),
+            LoadFault::FileFailed(_) => 101,
+        }
+    }
+
+    /// The name by which the fault is told, as `FileFailed`.
+    pub fn name(self) -> &'static str
+        ensures { result.now ≡ fault_name self }
+    {
+        match self {
+            LoadFault::Table(fault) => fault.kind.name(),
+            LoadFault::Day(fault) => fault.name(),
+            LoadFault::Footpaths(fault) => fault.name(),
+            LoadFault::Image(fault) => fault.name(),
+            LoadFault::FileFailed(_) => "FileFailed",
+        }
+    }
+
+    /// Whether memory was wanting.
+    pub fn is_want_of_memory(self) -> bool
+        ensures { MatchBool result (IsWantOfMemory self) (¬ (IsWantOfMemory self)) }
+    {
+        match self {
+            LoadFault::Table(fault) => fault.kind == FaultKind::OutOfMemory,
+            LoadFault::Day(fault) => fault == DayFault::OutOfMemory,
+            LoadFault::Footpaths(fault) => fault == FootFault::OutOfMemory,
+            LoadFault::Image(fault) => fault == ImageFault::OutOfMemory,
+            LoadFault::FileFailed(_) => false,
+        }
+    }
+}
+
 // A fault of reading, as one of loading.
 pub(crate) fn of_read(fault: ReadFault) -> LoadFault
     ensures { result ≡ load_fault_of_read fault }

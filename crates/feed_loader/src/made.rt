@@ -50,11 +50,7 @@ fn short_names(alloc: Global, feed: &Feed, plan: &Plan, runs: &[Run]) -> Result<
 ///
 /// The first thing that is wrong: too many stops (`TooMany` of `stops.txt`), then what `runs_of` refuses, then names that are too
 /// long together (`TooMany` of `trips.txt`), then a closure that is too large. Want of memory may be told at any time.
-pub fn image_of(
-    alloc: Global,
-    feed: &Feed,
-    plan: &Plan,
-) -> Result<(Verified, Report), LoadFault>
+pub fn image_of(alloc: Global, feed: &Feed, plan: &Plan) -> Result<(Verified, Report), LoadFault>
     requires feed { IsRunnable feed.now }
     requires names { NamesItsStops feed.now }
     requires days { 1 ≤ plan.now.days }
@@ -64,7 +60,13 @@ pub fn image_of(
     if feed.stops.len() > MAX_STOPS as usize {
         return Err(too_many(Table::Stops));
     }
-    let (connections, runs, report) = match runs_of(alloc, feed, plan.first_day, plan.days, &plan.zone) {
+    let (connections, runs, report) = match runs_of(
+        alloc,
+        feed,
+        plan.first_day,
+        plan.days,
+        &plan.zone,
+    ) {
         Ok(listing) => listing,
         Err(fault) => return Err(of_runs(fault)),
     };

@@ -1,7 +1,7 @@
 // What can be wrong with a zone or with a day.
 
 ghost use Rattle.std.specs.Prelude.{◌≡◌};
-ghost use Rattle.service_days.specs.Faults.{number_of};
+ghost use Rattle.service_days.specs.Faults.{name_of, number_of};
 
 use thiserror::Error;
 
@@ -25,6 +25,17 @@ impl DayFault {
             DayFault::BadZone => 21,
             DayFault::DayOutOfRange => 22,
             DayFault::OutOfMemory => 23,
+        }
+    }
+
+    /// The name by which refusals are told, as `BadZone`.
+    pub fn name(self) -> &'static str
+        ensures { result.now ≡ name_of self }
+    {
+        match self {
+            DayFault::BadZone => "BadZone",
+            DayFault::DayOutOfRange => "DayOutOfRange",
+            DayFault::OutOfMemory => "OutOfMemory",
         }
     }
 }

@@ -1,0 +1,171 @@
+//! Feeds in memory and their images.
+
+use super::*;
+use feed_files::{FeedFiles, FileFault, MemoryFiles};
+use gtfs_tables::{Day, FaultKind, Table, TableFault};
+use image_layout::sample_words;
+use service_days::Zone;
+use std::alloc::{AllocError, Global};
+use std::test::*;
+
+/// The files of a small feed: three stops, a trip over all of them, and one from the second to the third.
+const FILES: [(&str, &[u8]); 5] = [
+    ("agency.txt", b"agency_timezone\nEtc/UTC\n"),
+    ("stops.txt", b"stop_id\nA\nB\nC\n"),
+    ("trips.txt", b"service_id,trip_id\nS,T1\nS,T2\n"),
+    (
+        "stop_times.txt",
+        b"trip_id,arrival_time,departure_time,stop_id,stop_sequence\nT1,08:00:00,08:00:00,A,1\nT1,08:10:00,08:10:00,B,2\nT1,08:30:00,08:30:00,C,3\nT2,08:12:00,08:12:00,B,1\nT2,08:20:00,08:20:00,C,2\n",
+    ),
+    (
+        "calendar.txt",
+        b"service_id,monday,tuesday,wednesday,thursday,friday,saturday,sunday,start_date,end_date\nS,1,1,1,1,1,1,1,20240115,20240115\n",
+    ),
+];
+
+fn one_day() -> Plan
+    ensures { result.days ≡ 1 }
+{
+    Plan {
+        first_day: Day {
+            year: 2024,
+            month: 1,
+            day: 15,
+        },
+        days: 1,
+        zone: Zone::fixed(0),
+        strict: false,
+    }
+}
+
+#[test]
+fn a_feed_makes_its_image(rt: HostRuntime) -> Result<(), Fail> {
+    let mut files = MemoryFiles { files: &FILES };
+    let Ok((image, report)) = load(rt.alloc(), &mut files, &one_day()) else {
+        panic!(rt; "the feed is refused");
+    };
+    assert!(rt; image.words() == sample_words().as_slice());
+    let counted = Report {
+        stops: 3,
+        runs: 2,
+        connections: 3,
+        footpaths: 3,
+        lifted: 0,
+        flex: 0,
+        frequencies: 0,
+        skipped: 0,
+    };
+    assert_eq!(rt; report, counted);
+    Ok(())
+}
+
+/// On a day on which nothing runs there are no trips.
+#[test]
+fn a_day_without_runs_has_an_image(rt: HostRuntime) -> Result<(), Fail> {
+    let mut files = MemoryFiles { files: &FILES };
+    let next = Plan {
+        first_day: Day {
+            year: 2024,
+            month: 1,
+            day: 16,
+        },
+        ..one_day()
+    };
+    let Ok((image, report)) = load(rt.alloc(), &mut files, &next) else {
+        panic!(rt; "the feed is refused");
+    };
+    assert_eq!(rt; report.runs, 0);
+    assert_eq!(rt; image.trips(), 0);
+    assert_eq!(rt; image.stops(), 3);
+    assert_eq!(rt; image.base(), 1_705_363_200);
+    Ok(())
+}
+
+#[test]
+fn what_is_wrong_is_told(rt: HostRuntime) -> Result<(), Fail> {
+    let mut none = MemoryFiles { files: &[] };
+    let missing = TableFault {
+        table: Table::Agency,
+        row: 0,
+        kind: FaultKind::MissingFile,
+    };
+    match load(rt.alloc(), &mut none, &one_day()) {
+        Ok(_) => panic!(rt; "a feed without files is loaded"),
+        Err(fault) => {
+            assert_eq!(rt; fault, LoadFault::Table(missing));
+        }
+    }
+    Ok(())
+}
+
+/// Files of which the read of one fails.
+struct Failing<'a> {
+    held: MemoryFiles<'a>,
+    name: &'a str,
+    failures: u64,
+}
+
+impl<'a> FeedFiles for Failing<'a> {
+    ghost use Rattle.std.specs.Prelude.{None};
+
+    ghost failures = { λ files. files.failures };
+
+    ghost holds = { λ files name. None };
+
+    fn read(&mut self, alloc: Global, name: &str) -> Result<Option<Vec<u8>>, FileFault> {
+        if name == self.name {
+            self.failures = self.failures.saturating_add(1);
+            return Err(FileFault::Failed);
+        }
+        self.held.read(alloc, name)
+    }
+}
+
+/// Whichever read fails, that file is told, and nothing else.
+#[test]
+fn a_read_that_fails_is_told(rt: HostRuntime) -> Result<(), Fail> {
+    for table in [
+        Table::Agency,
+        Table::Stops,
+        Table::Trips,
+        Table::StopTimes,
+        Table::Calendar,
+        Table::CalendarDates,
+        Table::Transfers,
+        Table::Frequencies,
+    ] {
+        let mut files = Failing {
+            held: MemoryFiles { files: &FILES },
+            name: table.file_name(),
+            failures: 0,
+        };
+        match load(rt.alloc(), &mut files, &one_day()) {
+            Ok(_) => panic!(rt; "a feed that can't be read is loaded"),
+            Err(fault) => {
+                assert_eq!(rt; fault, LoadFault::FileFailed(table));
+            }
+        }
+        assert_eq!(rt; files.failures, 1);
+    }
+    Ok(())
+}
+
+/// Whichever growth is refused, want of memory is told.
+#[test]
+fn refused_growth_is_told(rt: HostRuntime) -> Result<(), Fail> {
+    let mut files = MemoryFiles { files: &FILES };
+    match load(rt.alloc(), &mut files, &one_day()) {
+        Ok((image, _report)) => {
+            assert!(rt; image.words() == sample_words().as_slice());
+            Ok(())
+        }
+        Err(LoadFault::Table(fault)) => {
+            assert_eq!(rt; fault.kind, FaultKind::OutOfMemory);
+            Err(Fail::from(AllocError))
+        }
+        Err(fault) => {
+            assert!(rt; fault.is_want_of_memory());
+            Err(Fail::from(AllocError))
+        }
+    }
+}
