@@ -21,8 +21,10 @@ overflow_add-result-then-seconds-lt-SECONDS_END c =
 
 pub returns-then-seconds-lt-SECONDS_END : goal.returns-then-seconds-lt-SECONDS_END
 returns-then-seconds-lt-SECONDS_END c =
+    let minutes : c.in_ok-minutes.minutes < 60 = omega (arith, c.if-minutes-lt-MINUTES_END.true) in
+    let seconds : c.in_ok-seconds.seconds < 60 = omega (arith, c.if-seconds-lt-SECONDS_END.true) in
     parts_spell _ _ _ _ _ _ c.split_at.ensures.by_index.0 (omega arith) (omega arith) c.if-rest-ne58.false c.if-rest-ne58-2.false
-    c.in_ok-hours.ensures c.in_ok-minutes.ensures c.in_ok-seconds.ensures c.if-minutes-lt-MINUTES_END.true c.if-seconds-lt-SECONDS_END.true
+    c.in_ok-hours.ensures c.in_ok-minutes.ensures c.in_ok-seconds.ensures minutes seconds
 
 pub returns-else-minutes-lt-MINUTES_END : goal.returns-else-minutes-lt-MINUTES_END
 returns-else-minutes-lt-MINUTES_END c = λ time s.
