@@ -1,7 +1,7 @@
 use Rattle.std.proofs.Common.{◌≡◌, ◌<◌, ◌+◌, ◌∷◌, [], List, length, take, arith, ap, sym, ◌∙◌, subst}
 use Rattle.std.proofs.lemmas.List.{length-append}
 use Rattle.timetable.specs.declared.network.Footpath.{Footpath}
-use Rattle.sources.specs.FootStarts.{IsStart}
+use Rattle.sources.specs.FootStarts.{IsStartPlace}
 use Rattle.sources.proofs.StartLemmas.{start_next, start_order, between_starts, taken_more}
 use Rattle.sources.proofs.decoded.decode_walks_into.Goals as goal
 
@@ -29,5 +29,5 @@ returns c =
     let there : length c.loop-place.footpaths.items ≡ c.walks_into-end.result.1 = omega (arith, c.loop-place.invariant.long, c.loop-place-test.false, c.loop-place.auto, c.len-place.ensures, order) in
     record {
       first = c.loop-place.invariant.first ∙ ap (λ n. take n t.footpaths) (sym c.loop-place.invariant.long);
-      start = subst (λ n. IsStart t (c.args.stop + 1) n) (sym there) end;
+      start = subst (λ n. IsStartPlace t (c.args.stop + 1) n) (sym there) end;
     }
