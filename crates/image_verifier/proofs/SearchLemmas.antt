@@ -80,16 +80,6 @@ found_by_few t first high before now h over = record {
   has_last_before = h.has_low;
 }
 
--- what was noted behind nothing is noted behind others
-pub noted_behind : (t : TimetableValue) (first : ℕ) (start before now : List ℕ) → start ≡ [] → FindsByFew t first start now → FindsByFew t first before (before ++ now)
-noted_behind t first start before now none by = record {
-  read = by.read;
-  noted = ap (λ (xs : List ℕ). before ++ xs) (by.noted ∙ ap (λ (xs : List ℕ). xs ++ by.read) none);
-  few = by.few;
-  has_first = by.has_first;
-  has_last_before = by.has_last_before;
-}
-
 -- what stands before a connection departs no later, what stands behind it no earlier
 pub departs_before : (t : TimetableValue) (middle time k : ℕ) → IsLegal t → middle < length t.connections → (connection_at t middle).dep < time → k < middle + 1 → (connection_at t k).dep < time
 departs_before t middle time k legal within early below = omega (arith, departures_rise t legal middle k (omega (arith, below)) within, early)
