@@ -9,7 +9,8 @@ pub footpath_into-requires-clause-into : goal.footpath_into-requires-clause-into
 footpath_into-requires-clause-into c =
     let t = c.args.image.now.timetable in
     let end = start_next t c.args.stop c.walks_into-end.result.0 c.walks_into-end.result.1 c.requires.legal c.requires.stop (record { within = c.walks_into-end.ensures.within; exact = c.walks_into-end.ensures.exact }) in
-    between_starts t c.args.stop _ _ c.loop-place.place c.requires.below.start end (omega (arith, c.loop-place.auto, c.len-place.ensures)) c.loop-place-test.true
+    let before_end : c.loop-place.place < c.walks_into-end.result.1 = omega (arith, c.loop-place-test.true) in
+    between_starts t c.args.stop _ _ c.loop-place.place c.requires.below.start end (omega (arith, c.loop-place.auto, c.len-place.ensures)) before_end
 
 pub loop-place-preserved : goal.loop-place-preserved
 loop-place-preserved c =
