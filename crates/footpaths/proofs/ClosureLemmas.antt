@@ -40,12 +40,12 @@ pub option_cases : (o : Option ℕ) → (o ≡ None) ⊎ ((d : ℕ) × (o ≡ So
 option_cases None = inl refl
 option_cases (Some d) = inr (d, refl)
 
-HasFootpath-append : (xs ys : List Footpath) (a b secs : ℕ) → HasFootpath xs a b secs → HasFootpath (xs ++ ys) a b secs
+pub HasFootpath-append : (xs ys : List Footpath) (a b secs : ℕ) → HasFootpath xs a b secs → HasFootpath (xs ++ ys) a b secs
 HasFootpath-append xs ys a b secs (i, at) =
     let has = Contains-at xs i (record { from = a; to = b; secs = secs }) at in
     at_Contains (xs ++ ys) (record { from = a; to = b; secs = secs }) (Contains-append_left xs ys (record { from = a; to = b; secs = secs }) has)
 
-HasFootpath-push : (xs : List Footpath) (a b secs : ℕ) → HasFootpath (xs ++ record { from = a; to = b; secs = secs } ∷ []) a b secs
+pub HasFootpath-push : (xs : List Footpath) (a b secs : ℕ) → HasFootpath (xs ++ record { from = a; to = b; secs = secs } ∷ []) a b secs
 HasFootpath-push xs a b secs = (length xs, get-end xs (record { from = a; to = b; secs = secs }))
 
 -- a stop's time is taken out

@@ -20,15 +20,15 @@ Contains-has : (paths : List Footpath) (a b secs : ℕ) → HasFootpath paths a 
 Contains-has paths a b secs (i, at) = Contains-at paths i (record { from = a; to = b; secs = secs }) at
 
 -- a walk and a walk from where it ends are one walk
-joined_leads : (listed first second : List Footpath) (a : ℕ) → IsWalk (on_foot listed) a first → IsWalk (on_foot listed) (walk_end a first) second → IsWalk (on_foot listed) a (first ++ second)
+pub joined_leads : (listed first second : List Footpath) (a : ℕ) → IsWalk (on_foot listed) a first → IsWalk (on_foot listed) (walk_end a first) second → IsWalk (on_foot listed) a (first ++ second)
 joined_leads listed [] second a leads more = more
 joined_leads listed (f ∷ first) second a (in_list, start, rest) more = (in_list, start, joined_leads listed first second f.to rest more)
 
-joined_end : (first second : List Footpath) (a : ℕ) → walk_end a (first ++ second) ≡ walk_end (walk_end a first) second
+pub joined_end : (first second : List Footpath) (a : ℕ) → walk_end a (first ++ second) ≡ walk_end (walk_end a first) second
 joined_end [] second a = refl
 joined_end (f ∷ first) second a = joined_end first second f.to
 
-joined_secs : (first second : List Footpath) → walk_secs (first ++ second) ≡ walk_secs first + walk_secs second
+pub joined_secs : (first second : List Footpath) → walk_secs (first ++ second) ≡ walk_secs first + walk_secs second
 joined_secs [] second = omega arith
 joined_secs (f ∷ first) second = let e = joined_secs first second in omega (arith, e)
 
@@ -44,7 +44,7 @@ joined_walk listed first second a b c one two = record {
 }
 
 -- the stop that a walk leaves is one of the stops
-leaves_in_range : (listed : List Footpath) (stops : ℕ) → AreInRange listed stops → (walk : List Footpath) (from : ℕ) → IsWalk (on_foot listed) from walk → walk ≢ [] → from < stops
+pub leaves_in_range : (listed : List Footpath) (stops : ℕ) → AreInRange listed stops → (walk : List Footpath) (from : ℕ) → IsWalk (on_foot listed) from walk → walk ≢ [] → from < stops
 leaves_in_range listed stops in_range [] from leads some = absurd (some refl)
 leaves_in_range listed stops in_range (f ∷ rest) from (in_list, start, more) some =
     subst (λ (n : ℕ). n < stops) start (All-contains (λ (g : Footpath). (g.from < stops) × (g.to < stops)) listed f in_range in_list).0

@@ -4,3 +4,4 @@ pub mod IndexLemmas
 pub mod OrderLemmas
 pub mod ClosureLemmas
 pub mod LawLemmas
+pub mod ExistenceLemmas

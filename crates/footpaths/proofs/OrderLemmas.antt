@@ -18,7 +18,7 @@ get-end [] f = refl
 get-end (x ∷ xs) f = get-end xs f
 
 -- nothing stands in an empty list
-at_nothing : (i : ℕ) (f : Footpath) → At [] i f → ⊥
+pub at_nothing : (i : ℕ) (f : Footpath) → At [] i f → ⊥
 at_nothing i f at = none-some f at
 
 -- a footpath behind all others

@@ -3,12 +3,12 @@ use Rattle.std.specs.Prelude.{ℕ, List, codes}
 use Rattle.footpaths.specs.declared.fault.FootFault.{FootFault}
 use Rattle.footpaths.specs.declared.fault.FootFault.TheVariants.{WalkTooLong, TooManyFootpaths, OutOfMemory}
 
-abbrev pub number_of : FootFault → ℕ
-number_of WalkTooLong = 41
-number_of TooManyFootpaths = 42
-number_of OutOfMemory = 43
+abbrev pub fault_number : FootFault → ℕ
+fault_number WalkTooLong = 41
+fault_number TooManyFootpaths = 42
+fault_number OutOfMemory = 43
 
-abbrev pub name_of : FootFault → List ℕ
-name_of WalkTooLong = codes "WalkTooLong"
-name_of TooManyFootpaths = codes "TooManyFootpaths"
-name_of OutOfMemory = codes "OutOfMemory"
+abbrev pub fault_name : FootFault → List ℕ
+fault_name WalkTooLong = codes "WalkTooLong"
+fault_name TooManyFootpaths = codes "TooManyFootpaths"
+fault_name OutOfMemory = codes "OutOfMemory"

@@ -21,11 +21,11 @@ pub enum FootFault {
 
 impl FootFault {
     ghost use Rattle.std.specs.Prelude.{codes};
-    ghost use Rattle.footpaths.specs.FaultNumber.{number_of, name_of};
+    ghost use Rattle.footpaths.specs.FaultNumber.{fault_number, fault_name};
 
     /// The number by which the fault is told, from 41 to 43.
     pub fn number(self) -> u8
-        ensures { result ≡ number_of self }
+        ensures { result ≡ fault_number self }
     {
         match self {
             FootFault::WalkTooLong => 41,
@@ -36,7 +36,7 @@ impl FootFault {
 
     /// The name by which the fault is told.
     pub fn name(self) -> &'static str
-        ensures { result.now ≡ name_of self }
+        ensures { result.now ≡ fault_name self }
     {
         match self {
             FootFault::WalkTooLong => "WalkTooLong",

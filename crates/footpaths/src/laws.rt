@@ -11,6 +11,12 @@ pub fn closure_is_legal()
     ensures { (stops : ℕ) (listed closure : List Footpath) → AreInRange listed stops → HasLoops listed stops → IsClosure listed closure → HasLegalFootpaths stops closure }
 {}
 
+/// Listed footpaths between so many stops have a closure, however many footpaths it has and however long they take: also where
+/// none is given.
+pub fn has_closure()
+    ensures { (listed : List Footpath) (stops : ℕ) → AreInRange listed stops → (closure : List Footpath) × IsClosure listed closure }
+{}
+
 /// Listed footpaths have one closure at most.
 pub fn one_closure()
     ensures { (listed closure other : List Footpath) → IsClosure listed closure → IsClosure listed other → closure ≡ other }

@@ -4,7 +4,7 @@ ghost use Rattle.footpaths.specs.Closure.{AreInRange, HasLoops};
 
 use super::*;
 use crate::closure::close_within;
-use std::alloc::Global;
+use std::alloc::{AllocError, Global};
 use std::process::Abort;
 use std::test::Fail;
 use timetable::Footpath;
@@ -229,5 +229,26 @@ fn faults_are_told(rt: HostRuntime) -> Result<(), Fail> {
     assert!(rt; FootFault::TooManyFootpaths.name() == "TooManyFootpaths");
     let text = format!(in rt.alloc(); "{}", FootFault::OutOfMemory)?;
     assert!(rt; text.as_str() == "out of memory");
+    Ok(())
+}
+
+// Whichever growth is refused, want of memory is told and nothing else, and else the closure comes. A refused growth ends the
+// test with `AllocError`.
+#[test]
+fn refused_growth_is_told(rt: HostRuntime) -> Result<(), Fail> {
+    let listed = [
+        path(0, 0, 0),
+        path(1, 1, 0),
+        path(2, 2, 0),
+        path(0, 1, 60),
+        path(1, 2, 60),
+    ];
+    match closed(&rt, rt.alloc(), 3, &listed) {
+        Ok(closure) => assert_eq!(rt; closure.len(), 6),
+        Err(fault) => {
+            assert_eq!(rt; fault, FootFault::OutOfMemory);
+            return Err(AllocError.into());
+        }
+    }
     Ok(())
 }

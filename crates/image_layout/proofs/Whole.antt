@@ -14,6 +14,7 @@ use Rattle.timetable.specs.declared.network.Footpath.{Footpath}
 use Rattle.image_layout.specs.Places.{header_of, foot_index_place, footpath_place, name_index_place, day_place, text_place, IsWhole}
 use Rattle.image_layout.specs.Fields.{flags_of}
 use Rattle.image_layout.specs.Text.{bytes_of, padded_text_of}
+use Rattle.image_layout.specs.declared.layout.TheConstants.{MAGIC, LAYOUT}
 use Rattle.image_layout.specs.Spelling.{footpath_words, text, text_words, header, image}
 use Rattle.image_layout.specs.Shown.{name_count, connection_of, connections_of, footpaths_of, timetable_of, names_of}
 use Rattle.image_layout.proofs.Sections.{take_next, take_six, connections_again}
@@ -68,8 +69,8 @@ text_words_again (x ∷ xs) (suc (suc (suc (suc n)))) fits long spare =
 pub record IsWellFormed (w : List ℕ) : Type 0 where
   pub whole : IsWhole w
   pub fits : (i : ℕ) → get_or w i 0 < 2 ^ 32
-  pub magic : slice_index w 0 ≡ 1346458435
-  pub layout : slice_index w 1 ≡ 1
+  pub magic : slice_index w 0 ≡ MAGIC
+  pub layout : slice_index w 1 ≡ LAYOUT
   pub flags : (i : ℕ) → i < (header_of w).connections → flags_of w i ≤ 3
   pub feet : IsFootIndex w
   pub names : IsNameIndex w

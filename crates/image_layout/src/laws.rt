@@ -3,11 +3,20 @@
 ghost use Rattle.std.specs.Prelude.{◌≡◌, ℕ, ◌<◌, ◌^◌, List, All};
 ghost use Rattle.timetable.specs.TimetableValue.{TimetableValue};
 ghost use Rattle.timetable.specs.NamesValue.{NamesValue};
+ghost use Rattle.image_layout.specs.Places.{IsWhole};
 ghost use Rattle.image_layout.specs.Text.{bytes_of};
 ghost use Rattle.image_layout.specs.Spelling.{image};
 ghost use Rattle.image_layout.specs.Shown.{timetable_of, names_of};
 ghost use Rattle.image_layout.specs.Image.{IsImage};
 ghost use Rattle.image_layout.specs.Sample.{early_timetable, early_names, early_words};
+
+/// Words that are the image of a timetable and its names are as many as their header says, and show that timetable and those names:
+/// so the readers tell of it.
+pub fn image_shows()
+    ensures whole { (w : List ℕ) (t : TimetableValue) (n : NamesValue) → IsImage w t n → IsWhole w }
+    ensures timetable { (w : List ℕ) (t : TimetableValue) (n : NamesValue) → IsImage w t n → timetable_of w ≡ t }
+    ensures names { (w : List ℕ) (t : TimetableValue) (n : NamesValue) → IsImage w t n → names_of w ≡ n }
+{}
 
 /// Words are the image of one timetable and its names at most.
 pub fn one_timetable()

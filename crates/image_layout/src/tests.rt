@@ -135,7 +135,7 @@ fn sample_is_given(rt: HostRuntime) -> Result<(), Fail> {
 }
 
 #[test]
-fn faults_have_numbers_and_names(rt: HostRuntime) {
+fn faults_have_numbers_names_and_messages(rt: HostRuntime) -> Result<(), Fail> {
     for (fault, number, name) in [
         (WordsFault::OddLength, 51, "OddLength"),
         (WordsFault::OutOfMemory, 52, "OutOfMemory"),
@@ -143,6 +143,12 @@ fn faults_have_numbers_and_names(rt: HostRuntime) {
         assert_eq!(rt; fault.number(), number);
         assert_eq!(rt; fault.name(), name);
     }
+    let message = format!(in rt.alloc(); "{}", WordsFault::OddLength)?;
+    assert_eq!(rt;
+        message.as_str(),
+        "the number of bytes is not a multiple of four"
+    );
+    Ok(())
 }
 
 /// Whichever growth is refused, want of memory is told, and else the words come back. A refused growth ends the test with

@@ -16,6 +16,7 @@ use Rattle.image_verifier.specs.ConnectionFaults.{own_fault, place_fault, connec
 use Rattle.image_verifier.specs.FootFaults.{foot_fault, foot_end_fault, footpaths_fault}
 use Rattle.image_verifier.specs.ClosureFaults.{into_fault, closure_fault}
 use Rattle.image_verifier.specs.NameFaults.{is_bad_name_range, name_fault, names_end_fault, names_fault}
+use Rattle.image_layout.specs.declared.layout.TheConstants.{MAGIC, LAYOUT}
 use Rattle.image_verifier.specs.FirstFault.{is_too_large, header_fault, section_fault, first_fault}
 use Rattle.timetable.proofs.FirstLemmas.{or_else_parts, no_fault, first_below-none}
 use Rattle.image_verifier.proofs.ConnectionLemmas.{IsSound-from}
@@ -56,8 +57,8 @@ AreFaultless-from w e =
 
 -- the header of faultless words
 pub record IsHeader (w : List ℕ) : Type 0 where
-  pub magic : slice_index w 0 ≡ 1346458435
-  pub layout : slice_index w 1 ≡ 1
+  pub magic : slice_index w 0 ≡ MAGIC
+  pub layout : slice_index w 1 ≡ LAYOUT
   pub limits : is_too_large (header_of w) ≡ false
   pub whole : IsWhole w
 
@@ -65,8 +66,8 @@ pub IsHeader-from : (w : List ℕ) → header_fault w ≡ None → IsHeader w
 unfolding header_fault
 IsHeader-from w e =
     let a = no_fault (ltb (length w) 9) BadLength _ e in
-    let b = no_fault (not (eqb (slice_index w 0) 1346458435)) BadMagic _ a.1 in
-    let d = no_fault (not (eqb (slice_index w 1) 1)) BadLayout _ b.1 in
+    let b = no_fault (not (eqb (slice_index w 0) MAGIC)) BadMagic _ a.1 in
+    let d = no_fault (not (eqb (slice_index w 1) LAYOUT)) BadLayout _ b.1 in
     let f = no_fault (is_too_large (header_of w) || not (eqb (length w) (word_count (header_of w)))) BadLength None d.1 in
     record {
       magic = eqb-true _ _ (not-false _ b.0);

@@ -9,3 +9,5 @@ pub mod FaultlessLemmas
 pub mod OnlyLemmas
 pub mod ShownLemmas
 pub mod NameReads
+pub mod ImageReads
+pub mod SearchLemmas

@@ -5,3 +5,6 @@ pub mod NameFaults
 pub mod FirstFault
 pub mod Accepted
 pub mod FaultNumber
+pub mod FirstAt
+pub mod Departing
+pub mod Searches

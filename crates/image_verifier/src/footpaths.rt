@@ -10,8 +10,6 @@ use crate::fault::ImageFault;
 use image_layout::{Header, foot_from_at, foot_index_at, foot_secs_at};
 use timetable::limits::MAX_WALK_SECS;
 
-/// No footpath takes longer.
-
 fn is_bad_footpath(words: &[u32], place: usize) -> bool
     requires whole { IsWhole words.now }
     requires within { place < (header_of words.now).footpaths }

@@ -6,7 +6,7 @@ ghost use Rattle.timetable.specs.Legal.{At};
 ghost use Rattle.timetable.specs.declared.network.Connection.{Connection};
 ghost use Rattle.timetable.specs.declared.network.Footpath.{Footpath};
 ghost use Rattle.image_layout.specs.Places.{IsWhole, header_of};
-ghost use Rattle.image_layout.specs.Fields.{dep_of, foot_index_of};
+ghost use Rattle.image_layout.specs.Fields.{foot_index_of};
 ghost use Rattle.image_layout.specs.Shown.{footpaths_of};
 ghost use Rattle.image_verifier.specs.Accepted.{IsAccepted};
 ghost use Rattle.timetable.specs.NamesValue.{NamesValue};
@@ -15,11 +15,13 @@ ghost use Rattle.image_layout.specs.Image.{HasImage, IsImage};
 ghost use Rattle.image_verifier.specs.declared.fault.ImageFault.TheVariants.{OutOfMemory};
 ghost use Rattle.image_verifier.specs.FirstFault.{Tells};
 
+use crate::departures::Departures;
 use crate::fault::ImageFault;
 use crate::find::{name_len_at, stop_named};
 use crate::judge::judge;
+use crate::search::first_departure;
 use image_layout::{
-    Header, base_at, connection_at, dep_at, foot_from_at, foot_index_at, foot_secs_at, name_byte_at,
+    Header, base_at, connection_at, foot_from_at, foot_index_at, foot_secs_at, name_byte_at,
 };
 use std::alloc::Global;
 use std::marker::Model;
@@ -56,27 +58,6 @@ pub fn verify(alloc: Global, words: Vec<u32>) -> Result<Verified, (Vec<u32>, Ima
         Ok(()) => Ok(Verified { words }),
         Err(fault) => Err((words, fault)),
     }
-}
-
-/// The first place from which on connections depart at the time or later.
-#[tactic(auto, using(crate::proofs::ShownLemmas::departures_before))]
-fn first_departure(words: &[u32], time: u32) -> usize
-    requires { IsAccepted words.now }
-    ensures within { result ≤ (header_of words.now).connections }
-    ensures before { (k : ℕ) → k < result → dep_of words.now k < time }
-    ensures here { result < (header_of words.now).connections → time ≤ dep_of words.now result }
-{
-    let mut low = 0;
-    let mut high = Header::of(words).connections as usize;
-    'halve: while low < high {
-        let middle = low + (high - low) / 2;
-        if dep_at(words, middle) < time {
-            low = middle + 1;
-        } else {
-            high = middle;
-        }
-    }
-    low
 }
 
 /// The stop whose footpaths have the place among them.
@@ -182,13 +163,14 @@ impl Verified {
         )
     }
 
-    /// The first place from which on connections depart at the time or later, else the number of connections.
+    /// The first place from which on connections depart at the time or later, else the number of connections. Few departures are
+    /// read: see `first_departure`.
     pub fn first_at(&self, time: u32) -> usize
         ensures within { result ≤ length self.now.timetable.connections }
         ensures before { (k : ℕ) (c : Connection) → k < result → At self.now.timetable.connections k c → c.dep < time }
         ensures from { (k : ℕ) (c : Connection) → result ≤ k → At self.now.timetable.connections k c → time ≤ c.dep }
     {
-        first_departure(&self.words, time)
+        first_departure(&mut Departures::of(self), time)
     }
 
     /// How many footpaths there are.

@@ -13,7 +13,7 @@ use Rattle.timetable.specs.Legal.{At, IsLegal}
 use Rattle.timetable.specs.LegalProp.{in_order_later}
 use Rattle.timetable.specs.Journeys.{connection_at}
 use Rattle.timetable.proofs.LegalFacts.{connection_at-stands, departures_rise}
-use Rattle.sources.specs.FootStarts.{IsStart, HoldsBelow}
+use Rattle.sources.specs.FootStarts.{IsStartPlace, HoldsBelow}
 
 no_path : Footpath
 no_path = record { from = 0; to = 0; secs = 0 }
@@ -28,7 +28,7 @@ pub record AreInto (t : TimetableValue) (stop first end : ℕ) : Type 0 where
   pub exact : (k : ℕ) (f : Footpath) → At t.footpaths k f → (f.to ≡ stop) ↔ ((first ≤ k) × (k < end))
 
 -- the next ones start at that end
-pub start_next : (t : TimetableValue) (stop first end : ℕ) → IsLegal t → stop < t.stops → AreInto t stop first end → IsStart t (stop + 1) end
+pub start_next : (t : TimetableValue) (stop first end : ℕ) → IsLegal t → stop < t.stops → AreInto t stop first end → IsStartPlace t (stop + 1) end
 start_next t stop first end legal lt into =
     let loop = legal.loops stop lt in
     let place = loop.1.0 in
@@ -60,7 +60,7 @@ start_next t stop first end legal lt into =
     }
 
 -- starts rise from stop to stop
-pub start_order : (t : TimetableValue) (stop first end : ℕ) → IsStart t stop first → IsStart t (stop + 1) end → first ≤ end
+pub start_order : (t : TimetableValue) (stop first end : ℕ) → IsStartPlace t stop first → IsStartPlace t (stop + 1) end → first ≤ end
 start_order t stop first end at_first at_end =
     elim (cases_lt end first) [
       | inl less ↦
@@ -72,7 +72,7 @@ start_order t stop first end at_first at_end =
     ]
 
 -- between two starts stand footpaths into the stop
-pub between_starts : (t : TimetableValue) (stop first end place : ℕ) → IsStart t stop first → IsStart t (stop + 1) end → first ≤ place → place < end → (f : Footpath) → At t.footpaths place f → f.to ≡ stop
+pub between_starts : (t : TimetableValue) (stop first end place : ℕ) → IsStartPlace t stop first → IsStartPlace t (stop + 1) end → first ≤ place → place < end → (f : Footpath) → At t.footpaths place f → f.to ≡ stop
 between_starts t stop first end place at_first at_end low high f at =
     let below = (at_end.exact place f at).1 high in
     elim (cases_lt f.to stop) [
@@ -80,7 +80,7 @@ between_starts t stop first end place at_first at_end low high f at =
       | inr more ↦ omega (arith, below, more)
     ]
 
-pub start_of_first : (t : TimetableValue) → IsStart t 0 0
+pub start_of_first : (t : TimetableValue) → IsStartPlace t 0 0
 start_of_first t = record { within = omega arith; exact = λ k f at. (λ lt. absurd (omega (arith, lt)), λ lt. absurd (omega (arith, lt))) }
 
 pub none_below : (t : TimetableValue) → HoldsBelow t 0 []
@@ -112,19 +112,19 @@ all_held t paths legal holds =
 
 -- a start for each stop below a stop
 abbrev pub AreStartsBelow : TimetableValue → ℕ → List ℕ → Type 0
-AreStartsBelow t stop places = (s : ℕ) → s < stop → IsStart t s (slice_index places s)
+AreStartsBelow t stop places = (s : ℕ) → s < stop → IsStartPlace t s (slice_index places s)
 
-pub starts_more : (t : TimetableValue) (stop place : ℕ) (places : List ℕ) → length places ≡ stop → AreStartsBelow t stop places → IsStart t stop place → AreStartsBelow t (stop + 1) (places ++ place ∷ [])
+pub starts_more : (t : TimetableValue) (stop place : ℕ) (places : List ℕ) → length places ≡ stop → AreStartsBelow t stop places → IsStartPlace t stop place → AreStartsBelow t (stop + 1) (places ++ place ∷ [])
 starts_more t stop place places long starts next s lt =
     elim (cases_eq s stop) [
       | inl same ↦
           let here : get_or (places ++ place ∷ []) (length places) 0 ≡ place = get_or-append_seam places place [] 0 in
           let at : get_or (places ++ place ∷ []) s 0 ≡ place = ap (λ (i : ℕ). get_or (places ++ place ∷ []) i 0) (same ∙ sym long) ∙ here in
-          subst (λ (x : ℕ). IsStart t s x) (sym at) (subst (λ (x : ℕ). IsStart t x place) (sym same) next)
+          subst (λ (x : ℕ). IsStartPlace t s x) (sym at) (subst (λ (x : ℕ). IsStartPlace t x place) (sym same) next)
       | inr other ↦
           let below : s < stop = omega (arith, lt, other) in
           let at : get_or (places ++ place ∷ []) s 0 ≡ get_or places s 0 = get_or_append_left places (place ∷ []) 0 s (omega (arith, below, long)) in
-          subst (λ (x : ℕ). IsStart t s x) (sym at) (starts s below)
+          subst (λ (x : ℕ). IsStartPlace t s x) (sym at) (starts s below)
     ]
 
 -- departures never fall

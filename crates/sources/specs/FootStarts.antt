@@ -6,20 +6,20 @@ use Rattle.timetable.specs.TimetableValue.{TimetableValue}
 use Rattle.timetable.specs.Legal.{At}
 
 -- a timetable by its lists
-abbrev pub listed : ℕ → ℕ → List Connection → List Footpath → TimetableValue
-listed stops trips connections footpaths = record { stops = stops; trips = trips; connections = connections; footpaths = footpaths }
+abbrev pub of_lists : ℕ → ℕ → List Connection → List Footpath → TimetableValue
+of_lists stops trips connections footpaths = record { stops = stops; trips = trips; connections = connections; footpaths = footpaths }
 
 -- the footpaths into stops below a stop are those before the place
-pub record IsStart (t : TimetableValue) (stop place : ℕ) : Type 0 where
+pub record IsStartPlace (t : TimetableValue) (stop place : ℕ) : Type 0 where
   pub within : place ≤ length t.footpaths
   pub exact : (k : ℕ) (f : Footpath) → At t.footpaths k f → (f.to < stop) ↔ (k < place)
 
 -- a place for each stop, and one past them all
 pub record AreStarts (t : TimetableValue) (places : List ℕ) : Type 0 where
   pub each : length places ≡ t.stops + 1
-  pub start : (stop : ℕ) → stop ≤ t.stops → IsStart t stop (slice_index places stop)
+  pub start : (stop : ℕ) → stop ≤ t.stops → IsStartPlace t stop (slice_index places stop)
 
 -- the first footpaths: all those into stops below a stop
 pub record HoldsBelow (t : TimetableValue) (stop : ℕ) (footpaths : List Footpath) : Type 0 where
   pub first : footpaths ≡ take (length footpaths) t.footpaths
-  pub start : IsStart t stop (length footpaths)
+  pub start : IsStartPlace t stop (length footpaths)

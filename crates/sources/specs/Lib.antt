@@ -1,4 +1,2 @@
-pub mod Departing
 pub mod FirstAt
-pub mod Searches
 pub mod FootStarts

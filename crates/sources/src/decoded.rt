@@ -7,7 +7,7 @@ ghost use Rattle.timetable.specs.declared.network.Connection.{Connection};
 ghost use Rattle.timetable.specs.Legal.{IsLegal};
 ghost use Rattle.timetable.specs.LegalProp.{IsLegal-prop};
 ghost use Rattle.timetable.specs.Limits.{IsWithinLimits};
-ghost use Rattle.sources.specs.FootStarts.{listed, AreStarts, HoldsBelow};
+ghost use Rattle.sources.specs.FootStarts.{of_lists, AreStarts, HoldsBelow};
 
 use crate::source::ConnSource;
 use image_verifier::Verified;
@@ -23,9 +23,9 @@ pub struct Decoded {
     footpaths: Vec<Footpath>,
     starts: Vec<usize>,
     log: Trace<usize>,
-    ghost legal: { IsLegal (listed stops trips connections.items footpaths.items) } by { IsLegal-prop (listed stops trips connections.items footpaths.items) },
-    ghost limits: { IsWithinLimits (listed stops trips connections.items footpaths.items) } by { Prim.hlevel props },
-    ghost indexed: { AreStarts (listed stops trips connections.items footpaths.items) starts.items } by { Prim.hlevel props },
+    ghost legal: { IsLegal (of_lists stops trips connections.items footpaths.items) } by { IsLegal-prop (of_lists stops trips connections.items footpaths.items) },
+    ghost limits: { IsWithinLimits (of_lists stops trips connections.items footpaths.items) } by { Prim.hlevel props },
+    ghost indexed: { AreStarts (of_lists stops trips connections.items footpaths.items) starts.items } by { Prim.hlevel props },
 }
 
 /// The connections of an image.
@@ -107,7 +107,7 @@ impl Decoded {
 }
 
 impl ConnSource for Decoded {
-    ghost timetable = { λ source. listed source.stops source.trips source.connections.items source.footpaths.items };
+    ghost timetable = { λ source. of_lists source.stops source.trips source.connections.items source.footpaths.items };
 
     ghost log = { λ source. source.log };
 

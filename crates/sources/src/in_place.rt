@@ -6,10 +6,8 @@ ghost use Rattle.timetable.specs.Legal.{IsLegal};
 ghost use Rattle.timetable.specs.LegalProp.{IsLegal-prop};
 ghost use Rattle.timetable.specs.Limits.{IsWithinLimits};
 
-use crate::departures::Departures;
-use crate::search::first_departure;
 use crate::source::ConnSource;
-use image_verifier::Verified;
+use image_verifier::{Departures, Verified, first_departure};
 use timetable::{Connection, Footpath, Trace};
 
 /// An image that is read in place: it is borrowed, and nothing of it is copied.

@@ -2,15 +2,12 @@
 #![tactic(auto)]
 
 mod decoded;
-mod departures;
 mod in_place;
-mod search;
 mod source;
 
 pub use decoded::Decoded;
-pub use departures::Departures;
+pub use image_verifier::{Departures, first_departure};
 pub use in_place::InPlace;
-pub use search::first_departure;
 pub use source::ConnSource;
 
 #[cfg(test)]

@@ -4,8 +4,8 @@ ghost use Rattle.std.specs.Prelude.{◌<◌};
 
 use super::*;
 use image_layout::sample_words;
-use image_verifier::{Verified, verify};
-use std::alloc::Global;
+use image_verifier::{ImageFault, Verified, verify};
+use std::alloc::{AllocError, Global};
 use std::mem::size_of;
 use std::test::*;
 use timetable::{Connection, Footpath, Trace};
@@ -137,5 +137,22 @@ fn departures_at_a_time_or_later(rt: HostRuntime) -> Result<(), Fail> {
         let mut departures = Departures::of(&image);
         assert_eq!(rt; first_departure(&mut departures, time), first);
     }
+    Ok(())
+}
+
+/// Whichever growth is refused, want of memory is told, and else the lists come. A refused growth ends the test with
+/// `AllocError`.
+#[test]
+fn refused_growth_is_told(rt: HostRuntime) -> Result<(), Fail> {
+    let image = match verify(rt.alloc(), EARLY.to_vec(rt.alloc())?) {
+        Ok(image) => image,
+        Err((_, fault)) => {
+            assert_eq!(rt; fault, ImageFault::OutOfMemory);
+            return Err(AllocError.into());
+        }
+    };
+    let mut source = Decoded::of(rt.alloc(), &image)?;
+    assert_eq!(rt; source.len(), 3);
+    assert_eq!(rt; last_departure(&mut source), Some(40));
     Ok(())
 }

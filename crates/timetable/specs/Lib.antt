@@ -8,4 +8,4 @@ pub mod First
 pub mod Journeys
 pub mod Queries
 pub mod Clocks
-pub mod Listed
+pub mod NodeItems

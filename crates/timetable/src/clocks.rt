@@ -11,6 +11,12 @@ use std::fmt;
 /// Clock texts spell times below it, in seconds: hours have six digits at most.
 pub const CLOCK_END: u32 = 3_600_000_000;
 
+// The minutes of a clock text are below it.
+const MINUTES_END: u32 = 60;
+
+// The seconds of a clock text are below it.
+const SECONDS_END: u32 = 60;
+
 /// A time in seconds, which is shown as a clock text.
 #[derive(Clone, Copy, Debug, PartialEq, Eq)]
 pub struct Clock(pub u32);
@@ -47,7 +53,7 @@ pub fn clock_parse(text: &[u8]) -> Option<u32>
     let hours = numeral(hours)?;
     let minutes = numeral(&rest[1..3])?;
     let seconds = numeral(&rest[4..6])?;
-    if minutes < 60 && seconds < 60 {
+    if minutes < MINUTES_END && seconds < SECONDS_END {
         Some(hours * 3600 + minutes * 60 + seconds)
     } else {
         None

@@ -26,9 +26,9 @@ impl<T> Model for Trace<T> {
 
     ghost Value = { List T };
 
-    ghost use Rattle.timetable.specs.Listed.{listed};
+    ghost use Rattle.timetable.specs.NodeItems.{items_of};
 
-    ghost view = { λ t. listed t.node.value };
+    ghost view = { λ t. items_of t.node.value };
 }
 
 impl<T> Trace<T> {

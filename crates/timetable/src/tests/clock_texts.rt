@@ -48,3 +48,12 @@ fn clocks_are_written(rt: HostRuntime) -> Result<(), Fail> {
     }
     Ok(())
 }
+
+/// Whichever growth is refused, want of memory is told, and else the text comes. A refused growth ends the test with
+/// `AllocError`.
+#[test]
+fn refused_growth_is_told(rt: HostRuntime) -> Result<(), Fail> {
+    let text = clock_text(rt.alloc(), u32::MAX)?;
+    assert_eq!(rt; text.as_str(), "1193046:28:15");
+    Ok(())
+}

@@ -1,6 +1,6 @@
 use Rattle.std.proofs.Common.{rules, ◌≡◌, ◌+◌, ◌++◌, ◌∷◌, [], ℕ, List, arith, ap, sym, ◌∙◌, subst}
 use Rattle.std.proofs.lemmas.List.{length-append}
-use Rattle.sources.specs.FootStarts.{IsStart, AreStarts, HoldsBelow}
+use Rattle.sources.specs.FootStarts.{IsStartPlace, AreStarts, HoldsBelow}
 use Rattle.sources.proofs.StartLemmas.{starts_more, all_held}
 use Rattle.sources.proofs.decoded.decode_footpaths.Goals as goal
 
@@ -17,7 +17,7 @@ returns-clause-starts c =
     let items = c.loop-stop.starts.items in
     let place = c.len-2.result in
     let done : stop ≡ t.stops = omega (arith, c.loop-stop-test.false, c.loop-stop.auto, c.stops-stops.ensures.stops) in
-    let start : IsStart t stop place = subst (λ (x : ℕ). IsStart t stop x) (search rules) c.loop-stop.invariant.holds.start in
+    let start : IsStartPlace t stop place = subst (λ (x : ℕ). IsStartPlace t stop x) (search rules) c.loop-stop.invariant.holds.start in
     let more = starts_more t stop place items c.loop-stop.invariant.long c.loop-stop.invariant.starts start in
     let all : AreStarts t (items ++ place ∷ []) = record {
       each = length-append items (place ∷ []) ∙ ap (λ n. n + 1) (c.loop-stop.invariant.long ∙ done);

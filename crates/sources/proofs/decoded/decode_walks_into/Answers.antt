@@ -1,7 +1,7 @@
 use Rattle.std.proofs.Common.{◌≡◌, ◌<◌, ◌+◌, ◌∷◌, [], List, length, take, arith, ap, sym, ◌∙◌, subst}
 use Rattle.std.proofs.lemmas.List.{length-append}
 use Rattle.timetable.specs.declared.network.Footpath.{Footpath}
-use Rattle.sources.specs.FootStarts.{IsStart}
+use Rattle.sources.specs.FootStarts.{IsStartPlace}
 use Rattle.sources.proofs.StartLemmas.{start_next, start_order, between_starts, taken_more}
 use Rattle.sources.proofs.decoded.decode_walks_into.Goals as goal
 
@@ -9,7 +9,8 @@ pub footpath_into-requires-clause-into : goal.footpath_into-requires-clause-into
 footpath_into-requires-clause-into c =
     let t = c.args.image.now.timetable in
     let end = start_next t c.args.stop c.walks_into-end.result.0 c.walks_into-end.result.1 c.requires.legal c.requires.stop (record { within = c.walks_into-end.ensures.within; exact = c.walks_into-end.ensures.exact }) in
-    between_starts t c.args.stop _ _ c.loop-place.place c.requires.below.start end (omega (arith, c.loop-place.auto, c.len-place.ensures)) c.loop-place-test.true
+    let before_end : c.loop-place.place < c.walks_into-end.result.1 = omega (arith, c.loop-place-test.true) in
+    between_starts t c.args.stop _ _ c.loop-place.place c.requires.below.start end (omega (arith, c.loop-place.auto, c.len-place.ensures)) before_end
 
 pub loop-place-preserved : goal.loop-place-preserved
 loop-place-preserved c =
@@ -29,5 +30,5 @@ returns c =
     let there : length c.loop-place.footpaths.items ≡ c.walks_into-end.result.1 = omega (arith, c.loop-place.invariant.long, c.loop-place-test.false, c.loop-place.auto, c.len-place.ensures, order) in
     record {
       first = c.loop-place.invariant.first ∙ ap (λ n. take n t.footpaths) (sym c.loop-place.invariant.long);
-      start = subst (λ n. IsStart t (c.args.stop + 1) n) (sym there) end;
+      start = subst (λ n. IsStartPlace t (c.args.stop + 1) n) (sym there) end;
     }

@@ -1,6 +1,6 @@
 use Rattle.std.proofs.Common.{◌∙◌}
-use Rattle.sources.proofs.ImageReads.{image_whole, image_within, image_departure}
-use Rattle.sources.proofs.departures.Departures.read.Goals as goal
+use Rattle.image_verifier.proofs.ImageReads.{image_whole, image_within, image_departure}
+use Rattle.image_verifier.proofs.departures.Departures.read.Goals as goal
 
 pub dep_at-requires-clause-whole : goal.dep_at-requires-clause-whole
 dep_at-requires-clause-whole c = image_whole _ _ _ c.words.ensures

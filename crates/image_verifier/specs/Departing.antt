@@ -1,7 +1,7 @@
 -- The departures of an image, and those that were read.
 use Rattle.std.specs.Prelude.{ℕ, List}
 use Rattle.image_layout.specs.Image.{ImageValue}
-use Rattle.sources.specs.declared.departures.Departures.{Departures}
+use Rattle.image_verifier.specs.declared.departures.Departures.{Departures}
 
 -- the image whose departures they are
 abbrev pub image_of : Departures → ImageValue

@@ -5,8 +5,8 @@ ghost use Rattle.timetable.specs.Legal.{IsLegal};
 ghost use Rattle.timetable.specs.LegalProp.{IsLegal-prop};
 ghost use Rattle.timetable.specs.Journeys.{connection_at};
 
+use crate::verified::Verified;
 use image_layout::dep_at;
-use image_verifier::Verified;
 use timetable::Trace;
 
 /// The departures of an image. No code but `read` gets at them, so that none is read unseen.
@@ -18,7 +18,7 @@ pub struct Departures<'a> {
 }
 
 impl<'a> Departures<'a> {
-    ghost use Rattle.sources.specs.Departing.{image_of, reads_of};
+    ghost use Rattle.image_verifier.specs.Departing.{image_of, reads_of};
 
     /// Those of the image, of which none was read.
     pub fn of(image: &'a Verified) -> Departures<'a>

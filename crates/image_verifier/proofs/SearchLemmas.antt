@@ -3,11 +3,14 @@ use Rattle.std.proofs.Common.{◌≡◌, ℕ, zero, suc, ◌+◌, ◌*◌, ◌/�
 use Rattle.std.proofs.Math.Nat.{pow-suc}
 use Rattle.std.proofs.lemmas.List.Elements.{Contains-append_left, Contains-append_right}
 use Rattle.std.proofs.lemmas.List.{append_assoc, append-nil, length-append}
+use Rattle.std.proofs.lemmas.Option.{slice_get_within}
+use Rattle.timetable.specs.declared.network.Connection.{Connection}
 use Rattle.timetable.specs.TimetableValue.{TimetableValue}
-use Rattle.timetable.specs.Legal.{IsLegal}
+use Rattle.timetable.specs.Legal.{At, IsLegal}
 use Rattle.timetable.specs.Journeys.{connection_at}
-use Rattle.timetable.proofs.LegalFacts.{departures_rise}
-use Rattle.sources.specs.Searches.{HasDigits, FindsByFew}
+use Rattle.timetable.proofs.LegalFacts.{connection_at-is, departures_rise}
+use Rattle.image_verifier.specs.FirstAt.{IsFirstAt}
+use Rattle.image_verifier.specs.Searches.{HasDigits, FindsByFew}
 
 -- what a search has read that has the places from low up to before high left: of the digits of the number enough are left for them, and both ends were read
 pub record IsHalving (number low high : ℕ) (before now : List ℕ) : Type 0 where
@@ -77,19 +80,16 @@ found_by_few t first high before now h over = record {
   has_last_before = h.has_low;
 }
 
--- what was noted behind nothing is noted behind others
-pub noted_behind : (t : TimetableValue) (first : ℕ) (start before now : List ℕ) → start ≡ [] → FindsByFew t first start now → FindsByFew t first before (before ++ now)
-noted_behind t first start before now none by = record {
-  read = by.read;
-  noted = ap (λ (xs : List ℕ). before ++ xs) (by.noted ∙ ap (λ (xs : List ℕ). xs ++ by.read) none);
-  few = by.few;
-  has_first = by.has_first;
-  has_last_before = by.has_last_before;
-}
-
 -- what stands before a connection departs no later, what stands behind it no earlier
 pub departs_before : (t : TimetableValue) (middle time k : ℕ) → IsLegal t → middle < length t.connections → (connection_at t middle).dep < time → k < middle + 1 → (connection_at t k).dep < time
 departs_before t middle time k legal within early below = omega (arith, departures_rise t legal middle k (omega (arith, below)) within, early)
 
 pub departs_after : (t : TimetableValue) (middle time k : ℕ) → IsLegal t → time ≤ (connection_at t middle).dep → middle ≤ k → k < length t.connections → time ≤ (connection_at t k).dep
 departs_after t middle time k legal late above within = omega (arith, departures_rise t legal k middle above within, late)
+
+-- the least place that departs at a time or later, told over the connections themselves
+pub before_first : (t : TimetableValue) (time first : ℕ) → IsFirstAt t time first → (k : ℕ) (c : Connection) → k < first → At t.connections k c → c.dep < time
+before_first t time first is k c lt at = subst (λ (x : Connection). x.dep < time) (connection_at-is t k c at) (is.before k lt)
+
+pub from_first : (t : TimetableValue) (time first : ℕ) → IsFirstAt t time first → (k : ℕ) (c : Connection) → first ≤ k → At t.connections k c → time ≤ c.dep
+from_first t time first is k c le at = subst (λ (x : Connection). time ≤ x.dep) (connection_at-is t k c at) (is.after k le (slice_get_within t.connections k c at))

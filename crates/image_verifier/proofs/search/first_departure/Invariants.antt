@@ -1,7 +1,7 @@
 use Rattle.std.proofs.Common.{◌≡◌, ℕ, ◌<◌, ◌≤◌, ◌-◌, length}
 use Rattle.timetable.specs.Journeys.{connection_at}
-use Rattle.sources.proofs.SearchLemmas.{IsHalving}
-use Rattle.sources.proofs.search.first_departure.Given as goal
+use Rattle.image_verifier.proofs.SearchLemmas.{IsHalving}
+use Rattle.image_verifier.proofs.search.first_departure.Given as goal
 
 abbrev pub invariant-halve : goal.invariant-halve
 invariant-halve l =

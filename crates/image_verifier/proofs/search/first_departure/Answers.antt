@@ -1,8 +1,8 @@
 use Rattle.std.proofs.Common.{◌≡◌, ℕ, ◌+◌, ◌-◌, ◌/◌, ◌<◌, ◌≤◌, List, length, ap, ◌∙◌, sym, subst, arith}
 use Rattle.timetable.specs.Journeys.{connection_at}
 use Rattle.image_layout.specs.Image.{ImageValue}
-use Rattle.sources.proofs.SearchLemmas.{IsHalving, goes_on_above, goes_on_below, departs_before, departs_after}
-use Rattle.sources.proofs.search.first_departure.Goals as goal
+use Rattle.image_verifier.proofs.SearchLemmas.{IsHalving, goes_on_above, goes_on_below, departs_before, departs_after}
+use Rattle.image_verifier.proofs.search.first_departure.Goals as goal
 
 pub halve-preserved-then-read-time : goal.halve-preserved-then-read-time
 halve-preserved-then-read-time c =

@@ -1,9 +1,9 @@
 //! The first departure at a time or later, by few reads.
 
 ghost use Rattle.std.specs.Prelude.{◌≡◌};
-ghost use Rattle.sources.specs.Departing.{image_of, reads_of};
-ghost use Rattle.sources.specs.FirstAt.{IsFirstAt};
-ghost use Rattle.sources.specs.Searches.{FindsByFew};
+ghost use Rattle.image_verifier.specs.Departing.{image_of, reads_of};
+ghost use Rattle.image_verifier.specs.FirstAt.{IsFirstAt};
+ghost use Rattle.image_verifier.specs.Searches.{FindsByFew};
 
 use crate::departures::Departures;
 
