@@ -1,10 +1,6 @@
-ghost use Rattle.std.specs.Prelude.{◌≡◌, true, All};
-ghost use Rattle.transfers.specs.Listed.{NamesBelow, NamesStops};
-
 use super::*;
 use gtfs_tables::{Feed, Place, Stop, StopTimeRow, Transfer, TransferKind};
 use std::alloc::Global;
-use std::process::Abort;
 use std::test::Fail;
 use timetable::Footpath;
 
@@ -41,43 +37,9 @@ fn feed_of(alloc: Global, transfers: &[Transfer]) -> Result<Feed, Fail> {
     })
 }
 
-// Whether a place is a station, or one of so many stops.
-fn is_named(place: Place, stops: usize) -> bool
-    ensures { result ≡ true → NamesBelow stops place }
-{
-    match place {
-        Place::Stop(stop) => (stop as usize) < stops,
-        Place::Station(_) => true,
-    }
-}
-
-// Whether each stop that a transfer names is one of so many.
-fn are_named(transfers: &[Transfer], stops: usize) -> bool
-    ensures { result ≡ true → All (λ row. NamesBelow stops row.from × NamesBelow stops row.to) transfers.now }
-{
-    for row in transfers {
-        if !is_named(row.from, stops) || !is_named(row.to, stops) {
-            return false;
-        }
-    }
-    true
-}
-
-// Whether each stop that a transfer of the feed names is one of its stops.
-fn names_stops(feed: &Feed) -> bool
-    ensures { result ≡ true → NamesStops feed.now }
-{
-    are_named(&feed.transfers, feed.stops.len())
-}
-
 // The footpaths that the feed with these transfers lists.
-fn listed_with(
-    rt: &impl Abort,
-    alloc: Global,
-    transfers: &[Transfer],
-) -> Result<Vec<Footpath>, Fail> {
+fn listed_with(alloc: Global, transfers: &[Transfer]) -> Result<Vec<Footpath>, Fail> {
     let feed = feed_of(alloc, transfers)?;
-    assert!(rt; names_stops(&feed));
     Ok(listed(alloc, &feed)?)
 }
 
@@ -90,7 +52,7 @@ fn stops_of_a_station_are_siblings(rt: HostRuntime) -> Result<(), Fail> {
         path(1, 2, 120),
         path(2, 2, 0),
     ];
-    let got = listed_with(&rt, rt.alloc(), &[])?;
+    let got = listed_with(rt.alloc(), &[])?;
     assert!(rt; got.as_slice() == wanted.as_slice());
     let childless = row(
         Place::Station(4),
@@ -98,7 +60,7 @@ fn stops_of_a_station_are_siblings(rt: HostRuntime) -> Result<(), Fail> {
         TransferKind::Minimum,
         None,
     );
-    let got = listed_with(&rt, rt.alloc(), &[childless])?;
+    let got = listed_with(rt.alloc(), &[childless])?;
     assert!(rt; got.as_slice() == wanted.as_slice());
     Ok(())
 }
@@ -114,7 +76,7 @@ fn a_station_stands_for_its_stops(rt: HostRuntime) -> Result<(), Fail> {
         path(1, 2, 180),
         path(2, 2, 180),
     ];
-    let got = listed_with(&rt, rt.alloc(), &[all])?;
+    let got = listed_with(rt.alloc(), &[all])?;
     assert!(rt; got.as_slice() == wanted.as_slice());
     let none = row(
         Place::Stop(1),
@@ -128,7 +90,7 @@ fn a_station_stands_for_its_stops(rt: HostRuntime) -> Result<(), Fail> {
         path(2, 1, 180),
         path(2, 2, 180),
     ];
-    let got = listed_with(&rt, rt.alloc(), &[all, none])?;
+    let got = listed_with(rt.alloc(), &[all, none])?;
     assert!(rt; got.as_slice() == wanted.as_slice());
     Ok(())
 }
@@ -155,7 +117,7 @@ fn a_loop_cannot_be_impossible(rt: HostRuntime) -> Result<(), Fail> {
         path(1, 2, 7),
         path(2, 2, 7),
     ];
-    let got = listed_with(&rt, rt.alloc(), &transfers)?;
+    let got = listed_with(rt.alloc(), &transfers)?;
     assert!(rt; got.as_slice() == wanted.as_slice());
     Ok(())
 }
@@ -186,7 +148,7 @@ fn each_kind_has_its_times(rt: HostRuntime) -> Result<(), Fail> {
         path(1, 2, 120),
         path(2, 2, 50),
     ];
-    let got = listed_with(&rt, rt.alloc(), &transfers)?;
+    let got = listed_with(rt.alloc(), &transfers)?;
     assert!(rt; got.as_slice() == wanted.as_slice());
     Ok(())
 }
@@ -213,7 +175,7 @@ fn both_stops_before_a_station(rt: HostRuntime) -> Result<(), Fail> {
         path(1, 2, 120),
         path(2, 2, 0),
     ];
-    let got = listed_with(&rt, rt.alloc(), &transfers)?;
+    let got = listed_with(rt.alloc(), &transfers)?;
     assert!(rt; got.as_slice() == wanted.as_slice());
     Ok(())
 }
