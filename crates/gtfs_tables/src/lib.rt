@@ -22,4 +22,6 @@ pub use joining::join;
 pub use tables::{Feed, Place, Stop, Tables, Transfer, Trip};
 
 #[cfg(test)]
+mod memory_tests;
+#[cfg(test)]
 mod tests;
