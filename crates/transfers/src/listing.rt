@@ -76,6 +76,8 @@ fn paths_of(alloc: Global, claims: &[Claim]) -> Result<Vec<Footpath>, AllocError
 /// recommended one from a stop to itself; any other takes 120 seconds. That no transfer is possible from a stop to itself
 /// isn't heard, and neither are skipped transfers.
 ///
+/// Where the feed's transfers name its own stops, the footpaths join its stops.
+///
 /// The only error is want of memory; more stops than a `u32` can number count as that.
 pub fn listed(alloc: Global, feed: &Feed) -> Result<Vec<Footpath>, AllocError>
     ensures times { IfOk result (λ v. (from to secs : ℕ) → HasFootpath v.items from to secs ↔ (listed_secs feed.now from to ≡ Some secs)) }

@@ -1,5 +1,8 @@
 use super::*;
-use gtfs_tables::{Feed, Place, Stop, StopTimeRow, Transfer, TransferKind};
+use gtfs_tables::{
+    Feed, Place, Stop, Tables, Transfer, TransferKind, join, read_agency, read_calendar_dates,
+    read_stop_times, read_stops, read_transfers, read_trips,
+};
 use std::alloc::Global;
 use std::test::Fail;
 use timetable::Footpath;
@@ -177,5 +180,50 @@ fn both_stops_before_a_station(rt: HostRuntime) -> Result<(), Fail> {
     ];
     let got = listed_with(rt.alloc(), &transfers)?;
     assert!(rt; got.as_slice() == wanted.as_slice());
+    Ok(())
+}
+
+// The feed of these two files. It has no trips.
+fn joined(alloc: Global, stops: &[u8], transfers: &[u8]) -> Result<Feed, Fail> {
+    let tables = Tables {
+        agencies: read_agency(alloc, b"agency_timezone\nUTC\n")?,
+        stops: read_stops(alloc, stops)?,
+        trips: read_trips(alloc, b"service_id,trip_id\n")?,
+        stop_times: read_stop_times(
+            alloc,
+            b"trip_id,arrival_time,departure_time,stop_id,stop_sequence\n",
+        )?,
+        calendar: Vec::new(alloc),
+        calendar_dates: read_calendar_dates(alloc, b"service_id,date,exception_type\n")?,
+        transfers: read_transfers(alloc, transfers)?,
+        frequencies: Vec::new(alloc),
+    };
+    Ok(join(alloc, tables, true)?)
+}
+
+// A transfer from a station to itself, from the bytes of the files on: each of its two stops is left for each.
+#[test]
+fn the_files_of_a_station(rt: HostRuntime) -> Result<(), Fail> {
+    let stops = b"stop_id,location_type,parent_station\nS,1,\nP,0,S\nQ,0,S\n";
+    let transfers = b"from_stop_id,to_stop_id,transfer_type,min_transfer_time\nS,S,2,180\n";
+    let feed = joined(rt.alloc(), stops, transfers)?;
+    let wanted = [
+        path(0, 0, 180),
+        path(1, 0, 180),
+        path(0, 1, 180),
+        path(1, 1, 180),
+    ];
+    let got = listed(rt.alloc(), &feed)?;
+    assert!(rt; got.as_slice() == wanted.as_slice());
+    Ok(())
+}
+
+// Whichever growth is refused, want of memory is told. A refused growth ends the test with `AllocError`.
+#[test]
+fn refused_growth_is_told(rt: HostRuntime) -> Result<(), Fail> {
+    let station = Place::Station(5);
+    let all = row(station, station, TransferKind::Minimum, Some(180));
+    let got = listed_with(rt.alloc(), &[all])?;
+    assert_eq!(rt; got.len(), 5);
     Ok(())
 }
