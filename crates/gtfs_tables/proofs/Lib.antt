@@ -2,6 +2,8 @@ pub mod FeedFacts
 pub mod FirstFacts
 pub mod JoinFacts
 pub mod NameFacts
+pub mod OneOrder
+pub mod OneOutcome
 pub mod OrderFacts
 pub mod RowFacts
 pub mod SpreadFacts

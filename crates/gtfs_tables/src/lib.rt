@@ -8,6 +8,7 @@ mod joining;
 mod links;
 mod names;
 mod order;
+pub mod outcome;
 pub mod spread;
 pub mod tables;
 mod times;
