@@ -3,7 +3,7 @@ use gtfs_tables::{
     Feed, Place, Stop, Tables, Transfer, TransferKind, join, read_agency, read_calendar_dates,
     read_stop_times, read_stops, read_transfers, read_trips,
 };
-use std::alloc::Global;
+use std::alloc::{AllocError, Global};
 use std::test::Fail;
 use timetable::Footpath;
 
@@ -21,7 +21,7 @@ fn row(from: Place, to: Place, kind: TransferKind, seconds: Option<u32>) -> Tran
 }
 
 // A feed of a stop without a station, then two stops of station 5, with these transfers.
-fn feed_of(alloc: Global, transfers: &[Transfer]) -> Result<Feed, Fail> {
+fn feed_of(alloc: Global, transfers: &[Transfer]) -> Result<Feed, AllocError> {
     let mut stops = Vec::new(alloc);
     for station in [None, Some(5), Some(5)] {
         stops.push(Stop {
@@ -41,9 +41,9 @@ fn feed_of(alloc: Global, transfers: &[Transfer]) -> Result<Feed, Fail> {
 }
 
 // The footpaths that the feed with these transfers lists.
-fn listed_with(alloc: Global, transfers: &[Transfer]) -> Result<Vec<Footpath>, Fail> {
+fn listed_with(alloc: Global, transfers: &[Transfer]) -> Result<Vec<Footpath>, AllocError> {
     let feed = feed_of(alloc, transfers)?;
-    Ok(listed(alloc, &feed)?)
+    listed(alloc, &feed)
 }
 
 #[test]
