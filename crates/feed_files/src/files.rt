@@ -6,8 +6,8 @@ ghost use Rattle.feed_files.specs.Files.{counted};
 use std::alloc::Global;
 use thiserror::Error;
 
-/// The longest file that is read, in bytes. A longer one counts as one that can't be read.
-pub const LONGEST_FILE: u64 = 2_000_000_000;
+/// The longest file that is read from a folder, in bytes. A longer one counts as one that can't be read.
+pub const LONGEST_FILE: u32 = 2_000_000_000;
 
 /// Why the bytes of a file can't be had.
 #[derive(Clone, Copy, Debug, PartialEq, Eq, Error)]

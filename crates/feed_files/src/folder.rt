@@ -1,6 +1,6 @@
 //! The files of a folder.
 
-ghost use Rattle.std.specs.Prelude.{◌≡◌, None};
+ghost use Rattle.std.specs.Prelude.{◌≡◌, ◌≤◌, length, None, IfOk, IfSome};
 ghost use Rattle.feed_files.specs.Files.{one_more};
 
 use crate::files::{FeedFiles, FileFault, LONGEST_FILE};
@@ -40,37 +40,50 @@ fn fault_of(error: &io::Error) -> FileFault {
     }
 }
 
-// The bytes of an open file. Room is made for them at once, as far as its length is told.
-fn bytes_of<F: OpenFile + Read + Drop>(alloc: Global, file: F) -> Result<Vec<u8>, FileFault> {
-    let length = match file.metadata() {
+// The bytes of an open file, at most so many. Room is made for them at once, as far as its length is told; a file of
+// which less is told than it has, as those of `/proc`, is read all the same.
+fn bytes_up_to<F: OpenFile + Read + Drop>(
+    limit: u32,
+    alloc: Global,
+    file: F,
+) -> Result<Vec<u8>, FileFault>
+    ensures { IfOk result (λ bytes. length bytes.items ≤ limit) }
+{
+    let told = match file.metadata() {
         Ok(metadata) => metadata.len(),
         Err(error) => return Err(fault_of(&error)),
     };
-    if length > LONGEST_FILE {
+    if told > limit as u64 {
         return Err(FileFault::Failed);
     }
-    let Ok(mut bytes) = Vec::with_capacity(alloc, length as usize + 1) else {
+    let Ok(mut bytes) = Vec::with_capacity(alloc, told as usize + 1) else {
         return Err(FileFault::OutOfMemory);
     };
-    match file.take(LONGEST_FILE + 1).read_to_end(&mut bytes) {
-        Ok(_) if bytes.len() as u64 <= LONGEST_FILE => Ok(bytes),
+    match file.take(limit as u64 + 1).read_to_end(&mut bytes) {
+        Ok(_) if bytes.len() as u64 <= limit as u64 => Ok(bytes),
         Ok(_) => Err(FileFault::Failed),
         Err(error) => Err(fault_of(&error)),
     }
 }
 
-// The bytes of a file of a folder. There is no such file where the folder isn't there, or is no folder.
-fn read_file<H: Files>(
+// The bytes of a file of a folder, at most so many. There is no such file where the folder isn't there, or is no folder.
+pub(crate) fn file_up_to<H: Files>(
+    limit: u32,
     rt: &H,
     alloc: Global,
     folder: &str,
     name: &str,
-) -> Result<Option<Vec<u8>>, FileFault> {
+) -> Result<Option<Vec<u8>>, FileFault>
+    ensures { IfOk result (λ file. IfSome file (λ bytes. length bytes.items ≤ limit)) }
+{
     let Ok(path) = Path::new(folder).join(alloc, name) else {
         return Err(FileFault::OutOfMemory);
     };
     match File::open(rt, path.as_path()) {
-        Ok(file) => Ok(Some(bytes_of(alloc, file)?)),
+        Ok(file) => match bytes_up_to(limit, alloc, file) {
+            Ok(bytes) => Ok(Some(bytes)),
+            Err(fault) => Err(fault),
+        },
         Err(error) => match error.kind() {
             ErrorKind::NotFound | ErrorKind::NotADirectory => Ok(None),
             _ => Err(fault_of(&error)),
@@ -84,7 +97,7 @@ impl<'a, H: Files + AllocGlobal> FeedFiles for FolderFiles<'a, H> {
     ghost holds = { λ files name. None };
 
     fn read(&mut self, alloc: Global, name: &str) -> Result<Option<Vec<u8>>, FileFault> {
-        let read = read_file(self.rt, alloc, self.folder, name);
+        let read = file_up_to(LONGEST_FILE, self.rt, alloc, self.folder, name);
         if let Err(FileFault::Failed) = read {
             self.failures = self.failures.saturating_add(1);
         }

@@ -151,8 +151,8 @@ fn required_tables<F: FeedFiles>(alloc: Global, files: &mut F) -> Result<Require
 
 /// The tables of a feed's files (GTFS Schedule Reference). Each file is read and judged before the next is read, in the
 /// order of [`Table`]; `transfers.txt` and `frequencies.txt` may be missing, and one of the two calendars. The fault is
-/// the first; want of memory is told of the file at which it was met. A file that can't be read is told where nothing
-/// was wrong with those before it, and the count of failures is then one more; else it stays.
+/// the first. A file that can't be read is told where nothing was wrong with those before it, and the count of failures
+/// is then one more; else it stays.
 pub fn read_tables<F: FeedFiles>(alloc: Global, files: &mut F) -> Result<Tables, ReadFault>
     requires { F.failures files.old < 2 ^ 64 - 1 }
     ensures same { F.holds files.new ≡ F.holds files.old }

@@ -1,7 +1,7 @@
 //! A small feed in memory and in a folder, and what stops its reading.
 
 use crate::files::{FeedFiles, FileFault};
-use crate::folder::FolderFiles;
+use crate::folder::{FolderFiles, file_up_to};
 use crate::memory::MemoryFiles;
 use crate::reading::{ReadFault, read_tables};
 use gtfs_tables::{FaultKind, Table, TableFault, Tables};
@@ -165,6 +165,54 @@ fn a_read_that_fails_is_told(rt: HostRuntime) {
     }
 }
 
+// Where a file before the one that can't be read is at fault, that one isn't read, and the count stays.
+#[test]
+fn a_fault_before_a_read_that_fails_is_told(rt: HostRuntime) {
+    let mut feed = feed();
+    feed[1].1 = b"stop_id\nA\nA\n";
+    let mut files = Failing {
+        files: MemoryFiles { files: &feed },
+        left: 2,
+        failures: 0,
+    };
+    let answer = read_tables(rt.alloc(), &mut files);
+    assert!(rt; tells(answer, Table::Stops, 2, FaultKind::IdTwice));
+    assert_eq!(rt; files.failures, 0);
+}
+
+// That both calendars are missing is told once both were asked for.
+#[test]
+fn a_read_that_fails_behind_a_missing_calendar_is_told(rt: HostRuntime) {
+    let mut feed = feed();
+    feed[4].0 = "elsewhere.txt";
+    let mut files = Failing {
+        files: MemoryFiles { files: &feed },
+        left: 5,
+        failures: 0,
+    };
+    let answer = read_tables(rt.alloc(), &mut files);
+    assert!(rt; matches!(answer, Err(ReadFault::FileFailed(Table::CalendarDates))));
+    assert_eq!(rt; files.failures, 1);
+}
+
+// A file as long as the limit is read, a longer one isn't; files of `/proc` are longer than is told of them.
+#[test]
+fn longer_files_are_refused(rt: HostRuntime) -> Result<(), Fail> {
+    fs::create_dir(&rt, "long_files")?;
+    fs::write(&rt, "long_files/agency.txt", "12345")?;
+    match file_up_to(5, &rt, rt.alloc(), "long_files", "agency.txt")? {
+        Some(bytes) => assert!(rt; bytes.as_slice() == b"12345".as_slice()),
+        None => assert!(rt; false),
+    }
+    let longer = file_up_to(4, &rt, rt.alloc(), "long_files", "agency.txt");
+    assert!(rt; matches!(longer, Err(FileFault::Failed)));
+    let untold = file_up_to(4, &rt, rt.alloc(), "/proc/self", "stat");
+    assert!(rt; matches!(untold, Err(FileFault::Failed)));
+    fs::remove_file(&rt, "long_files/agency.txt")?;
+    fs::remove_dir(&rt, "long_files")?;
+    Ok(())
+}
+
 #[test]
 fn a_folder_that_is_missing_has_no_files(rt: HostRuntime) {
     let mut files = FolderFiles::new(&rt, "no_such_folder");
@@ -226,13 +274,35 @@ fn a_folder_is_read_whole(rt: HostRuntime) -> Result<(), Fail> {
 // Whichever growth is refused, want of memory is told and nothing else. A refused growth ends the test with `AllocError`.
 #[test]
 fn refused_growth_is_told(rt: HostRuntime) -> Result<(), Fail> {
-    match tables_of(rt.alloc(), &feed()) {
-        Ok(tables) => assert_eq!(rt; tables.stops.len(), 3),
-        Err(ReadFault::Table(fault)) => {
-            assert!(rt; fault.kind == FaultKind::OutOfMemory);
+    let files: [(&str, &[u8]); 1] = [("agency.txt", b"agency_timezone\n")];
+    match tables_of(rt.alloc(), &files) {
+        Ok(_) => assert!(rt; false),
+        Err(fault) => {
+            let missing = ReadFault::Table(Table::Stops.missing());
+            let wanting = ReadFault::Table(TableFault {
+                table: Table::Agency,
+                row: 0,
+                kind: FaultKind::OutOfMemory,
+            });
+            if fault != missing {
+                assert!(rt; fault == wanting);
+                return Err(AllocError.into());
+            }
+        }
+    }
+    Ok(())
+}
+
+#[test]
+fn refused_growth_of_a_folders_file(rt: HostRuntime) -> Result<(), Fail> {
+    let mut files = FolderFiles::new(&rt, "/proc/self");
+    match files.read(rt.alloc(), "stat") {
+        Ok(Some(bytes)) => assert!(rt; !bytes.is_empty()),
+        Ok(None) => assert!(rt; false),
+        Err(fault) => {
+            assert!(rt; fault == FileFault::OutOfMemory);
             return Err(AllocError.into());
         }
-        Err(ReadFault::FileFailed(_)) => assert!(rt; false),
     }
     Ok(())
 }

@@ -1,6 +1,7 @@
 pub mod CellFacts
 pub mod FaultFacts
 pub mod KeyFacts
+pub mod OneFault
 pub mod SeenFacts
 pub mod SourceFacts
 pub mod TextFacts

@@ -96,6 +96,11 @@ fn a_header_alone(rt: HostRuntime) -> Result<(), Fail> {
         b"trip_id,arrival_time,departure_time,stop_id,stop_sequence\n",
     )?;
     assert!(rt; times.rows.is_empty() && times.trips.is_empty() && times.stops.is_empty());
+    let calendar = read_calendar(
+        alloc,
+        b"service_id,monday,tuesday,wednesday,thursday,friday,saturday,sunday,start_date,end_date\n",
+    )?;
+    assert!(rt; calendar.is_empty());
     assert!(rt; read_calendar_dates(alloc, b"date,service_id,exception_type\n")?.is_empty());
     assert!(rt; read_transfers(alloc, b"to_stop_id,from_stop_id\n\n\n")?.is_empty());
     assert!(rt; read_frequencies(alloc, b"\"trip_id\"\n")?.is_empty());
@@ -117,6 +122,15 @@ fn text_before_all_else(rt: HostRuntime) {
         assert!(rt; tells(read_trips(alloc, bytes), Table::Trips, 0, kind));
         assert!(rt; tells(read_stop_times(alloc, bytes), Table::StopTimes, 0, kind));
         assert!(rt; tells(read_calendar(alloc, bytes), Table::Calendar, 0, kind));
+        assert!(rt;
+            tells(
+                read_calendar_dates(alloc, bytes),
+                Table::CalendarDates,
+                0,
+                kind
+            )
+        );
+        assert!(rt; tells(read_transfers(alloc, bytes), Table::Transfers, 0, kind));
         assert!(rt; tells(read_frequencies(alloc, bytes), Table::Frequencies, 0, kind));
     }
 }

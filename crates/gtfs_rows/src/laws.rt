@@ -1,10 +1,38 @@
 //! Laws of the rows, each a function without code whose contract is the law.
 
-ghost use Rattle.std.specs.Prelude.{◌≡◌};
+ghost use Rattle.std.specs.Prelude.{◌≡◌, ℕ, List};
+ghost use Rattle.gtfs_rows.specs.Faults.{IsFaultOf, Shape};
+ghost use Rattle.gtfs_rows.specs.Tables.{HoldsAgencies, HoldsCalendar, HoldsCalendarDates, HoldsFrequencies, HoldsStopTimes, HoldsStops, HoldsTransfers, HoldsTrips, agency_shape, calendar_dates_shape, calendar_shape, frequencies_shape, stop_times_shape, stops_shape, transfers_shape, trips_shape};
+ghost use Rattle.gtfs_rows.specs.declared.fault.FaultKind.{FaultKind as Kind};
+ghost use Rattle.gtfs_rows.specs.declared.rows.AgencyRow.{AgencyRow};
+ghost use Rattle.gtfs_rows.specs.declared.rows.CalendarDateRow.{CalendarDateRow};
+ghost use Rattle.gtfs_rows.specs.declared.rows.CalendarRow.{CalendarRow};
+ghost use Rattle.gtfs_rows.specs.declared.rows.FrequencyRow.{FrequencyRow};
+ghost use Rattle.gtfs_rows.specs.declared.rows.StopRow.{StopRow};
+ghost use Rattle.gtfs_rows.specs.declared.rows.TransferRow.{TransferRow};
+ghost use Rattle.gtfs_rows.specs.declared.rows.TripRow.{TripRow};
+ghost use Rattle.gtfs_rows.specs.declared.stop_times.StopTimes.{StopTimes};
 ghost use Rattle.gtfs_rows.specs.declared.read.TheConstants.{MAX_STOPS, MAX_TRIPS};
 
 /// The limits of a feed in numbers: a million stops, twenty million trips.
 pub fn limits()
     ensures stops { MAX_STOPS ≡ 1000000 }
     ensures trips { MAX_TRIPS ≡ 20000000 }
+{}
+
+/// A file has one fault at most.
+pub fn one_fault()
+    ensures { (s : Shape) (bytes : List ℕ) (n m : ℕ) (a b : Kind) → IsFaultOf s bytes n a → IsFaultOf s bytes m b → (n ≡ m) × (a ≡ b) }
+{}
+
+/// A file whose rows are held has no fault.
+pub fn held_without_fault()
+    ensures agency { (bytes : List ℕ) (held : List AgencyRow) (n : ℕ) (kind : Kind) → HoldsAgencies bytes held → ¬ (IsFaultOf agency_shape bytes n kind) }
+    ensures stops { (bytes : List ℕ) (held : List StopRow) (n : ℕ) (kind : Kind) → HoldsStops bytes held → ¬ (IsFaultOf stops_shape bytes n kind) }
+    ensures trips { (bytes : List ℕ) (held : List TripRow) (n : ℕ) (kind : Kind) → HoldsTrips bytes held → ¬ (IsFaultOf trips_shape bytes n kind) }
+    ensures stop_times { (bytes : List ℕ) (held : StopTimes) (n : ℕ) (kind : Kind) → HoldsStopTimes bytes held → ¬ (IsFaultOf stop_times_shape bytes n kind) }
+    ensures calendar { (bytes : List ℕ) (held : List CalendarRow) (n : ℕ) (kind : Kind) → HoldsCalendar bytes held → ¬ (IsFaultOf calendar_shape bytes n kind) }
+    ensures calendar_dates { (bytes : List ℕ) (held : List CalendarDateRow) (n : ℕ) (kind : Kind) → HoldsCalendarDates bytes held → ¬ (IsFaultOf calendar_dates_shape bytes n kind) }
+    ensures transfers { (bytes : List ℕ) (held : List TransferRow) (n : ℕ) (kind : Kind) → HoldsTransfers bytes held → ¬ (IsFaultOf transfers_shape bytes n kind) }
+    ensures frequencies { (bytes : List ℕ) (held : List FrequencyRow) (n : ℕ) (kind : Kind) → HoldsFrequencies bytes held → ¬ (IsFaultOf frequencies_shape bytes n kind) }
 {}

@@ -3,6 +3,8 @@ pub mod FirstFacts
 pub mod JoinFacts
 pub mod JoinedFacts
 pub mod NameFacts
+pub mod OneOrder
+pub mod OneOutcome
 pub mod OrderFacts
 pub mod RowFacts
 pub mod SpreadFacts

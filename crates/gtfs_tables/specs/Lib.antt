@@ -3,6 +3,7 @@ pub mod First
 pub mod Joined
 pub mod Names
 pub mod Order
+pub mod Outcome
 pub mod Rows
 pub mod Spread
 pub mod Times

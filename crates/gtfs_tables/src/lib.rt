@@ -9,6 +9,7 @@ pub mod laws;
 mod links;
 mod names;
 mod order;
+pub mod outcome;
 pub mod spread;
 pub mod tables;
 mod times;
@@ -22,5 +23,7 @@ pub use gtfs_rows::{
 pub use joining::join;
 pub use tables::{Feed, Place, Stop, Tables, Transfer, Trip};
 
+#[cfg(test)]
+mod memory_tests;
 #[cfg(test)]
 mod tests;

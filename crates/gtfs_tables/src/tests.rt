@@ -4,7 +4,7 @@ use crate::{
     FaultKind, Feed, Place, Table, TableFault, Tables, join, read_agency, read_calendar,
     read_calendar_dates, read_frequencies, read_stop_times, read_stops, read_transfers, read_trips,
 };
-use std::alloc::{AllocError, Global};
+use std::alloc::Global;
 use std::test::Fail;
 
 const STOPS: &[u8] = b"stop_id,location_type,parent_station\nA,0,\nB,0,\nC,0,\n";
@@ -240,19 +240,5 @@ fn the_first_of_two_faults(rt: HostRuntime) -> Result<(), Fail> {
         b"trip_id,arrival_time,departure_time,stop_id,stop_sequence\nT1,08:01:00,,C,9\nT1,08:00:00,,B,5\nT1,08:00:00,,A,1\n";
     let hop = joined(alloc, STOPS, times, true);
     assert!(rt; is_fault(hop, Table::StopTimes, 2, FaultKind::HopWithoutDuration));
-    Ok(())
-}
-
-// Whichever growth is refused, want of memory is told and nothing else. A refused growth ends the test with `AllocError`.
-#[test]
-fn refused_growth_is_told(rt: HostRuntime) -> Result<(), Fail> {
-    let transfers = b"from_stop_id,to_stop_id\nA,B\n";
-    match joined_with(rt.alloc(), STOPS, TIMES, transfers, b"trip_id\nT2\n", true) {
-        Ok(feed) => assert_eq!(rt; feed.trips.len(), 2),
-        Err(fault) => {
-            assert!(rt; fault.kind == FaultKind::OutOfMemory);
-            return Err(AllocError.into());
-        }
-    }
     Ok(())
 }

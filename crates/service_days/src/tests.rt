@@ -5,7 +5,7 @@ use crate::fault::DayFault;
 use crate::services::{Services, active};
 use crate::zone::Zone;
 use gtfs_rows::{CalendarDateRow, CalendarRow, Day, Exception};
-use std::alloc::Global;
+use std::alloc::{AllocError, Global};
 use std::test::Fail;
 
 // A zone file: Central European Time until 2024-03-31T01:00:00Z, then Central European Summer Time, and from there on
@@ -250,6 +250,30 @@ fn each_weekday(rt: HostRuntime) -> Result<(), Fail> {
         let services = Services::new(alloc, &[calendar("S", weekdays, alloc)?], &[])?;
         for (i, text) in days.iter().enumerate() {
             assert!(rt; active(&services, "S", day(text)?) == (i == weekday));
+        }
+    }
+    Ok(())
+}
+
+// Whichever growth is refused, want of memory is told and nothing else. A refused growth ends the test with `AllocError`.
+#[test]
+fn refused_growth_of_services(rt: HostRuntime) -> Result<(), Fail> {
+    let alloc = rt.alloc();
+    let rows = [calendar("S", [true; 7], alloc)?];
+    let dates = [date("S", "20240112", Exception::Removed, alloc)?];
+    let services = Services::new(alloc, &rows, &dates)?;
+    assert!(rt; active(&services, "S", day("20240111")?));
+    assert!(rt; !active(&services, "S", day("20240112")?));
+    Ok(())
+}
+
+#[test]
+fn refused_growth_of_a_zone(rt: HostRuntime) -> Result<(), Fail> {
+    match Zone::file_bytes(rt.alloc(), CENTRAL_EUROPE) {
+        Ok(zone) => assert!(rt; starts(&zone, &[("20240331", 1_711_836_000)])?),
+        Err(fault) => {
+            assert!(rt; fault == DayFault::OutOfMemory);
+            return Err(AllocError.into());
         }
     }
     Ok(())

@@ -76,12 +76,13 @@ fn paths_of(alloc: Global, claims: &[Claim]) -> Result<Vec<Footpath>, AllocError
 /// recommended one from a stop to itself; any other takes 120 seconds. That no transfer is possible from a stop to itself
 /// isn't heard, and neither are skipped transfers.
 ///
+/// Where the feed's transfers name its own stops, the footpaths join its stops.
+///
 /// The only error is want of memory; more stops than a `u32` can number count as that.
 pub fn listed(alloc: Global, feed: &Feed) -> Result<Vec<Footpath>, AllocError>
-    requires { NamesStops feed.now }
     ensures times { IfOk result (λ v. (from to secs : ℕ) → HasFootpath v.items from to secs ↔ (listed_secs feed.now from to ≡ Some secs)) }
     ensures order { IfOk result (λ v. AreInOrder v.items) }
-    ensures in_range { IfOk result (λ v. All (λ f. (f.from < length feed.now.stops.items) × (f.to < length feed.now.stops.items)) v.items) }
+    ensures in_range { NamesStops feed.now → IfOk result (λ v. All (λ f. (f.from < length feed.now.stops.items) × (f.to < length feed.now.stops.items)) v.items) }
     ensures loops { IfOk result (λ v. (stop : ℕ) → stop < length feed.now.stops.items → (secs : ℕ) × HasFootpath v.items stop stop secs) }
 {
     let Ok(stops) = u32::try_from(feed.stops.len()) else {

@@ -1,10 +1,9 @@
-ghost use Rattle.std.specs.Prelude.{◌≡◌, true, All};
-ghost use Rattle.transfers.specs.Listed.{NamesBelow, NamesStops};
-
 use super::*;
-use gtfs_tables::{Feed, Place, Stop, StopTimeRow, Transfer, TransferKind};
-use std::alloc::Global;
-use std::process::Abort;
+use gtfs_tables::{
+    Feed, Place, Stop, Tables, Transfer, TransferKind, join, read_agency, read_calendar_dates,
+    read_stop_times, read_stops, read_transfers, read_trips,
+};
+use std::alloc::{AllocError, Global};
 use std::test::Fail;
 use timetable::Footpath;
 
@@ -22,7 +21,7 @@ fn row(from: Place, to: Place, kind: TransferKind, seconds: Option<u32>) -> Tran
 }
 
 // A feed of a stop without a station, then two stops of station 5, with these transfers.
-fn feed_of(alloc: Global, transfers: &[Transfer]) -> Result<Feed, Fail> {
+fn feed_of(alloc: Global, transfers: &[Transfer]) -> Result<Feed, AllocError> {
     let mut stops = Vec::new(alloc);
     for station in [None, Some(5), Some(5)] {
         stops.push(Stop {
@@ -41,44 +40,10 @@ fn feed_of(alloc: Global, transfers: &[Transfer]) -> Result<Feed, Fail> {
     })
 }
 
-// Whether a place is a station, or one of so many stops.
-fn is_named(place: Place, stops: usize) -> bool
-    ensures { result ≡ true → NamesBelow stops place }
-{
-    match place {
-        Place::Stop(stop) => (stop as usize) < stops,
-        Place::Station(_) => true,
-    }
-}
-
-// Whether each stop that a transfer names is one of so many.
-fn are_named(transfers: &[Transfer], stops: usize) -> bool
-    ensures { result ≡ true → All (λ row. NamesBelow stops row.from × NamesBelow stops row.to) transfers.now }
-{
-    for row in transfers {
-        if !is_named(row.from, stops) || !is_named(row.to, stops) {
-            return false;
-        }
-    }
-    true
-}
-
-// Whether each stop that a transfer of the feed names is one of its stops.
-fn names_stops(feed: &Feed) -> bool
-    ensures { result ≡ true → NamesStops feed.now }
-{
-    are_named(&feed.transfers, feed.stops.len())
-}
-
 // The footpaths that the feed with these transfers lists.
-fn listed_with(
-    rt: &impl Abort,
-    alloc: Global,
-    transfers: &[Transfer],
-) -> Result<Vec<Footpath>, Fail> {
+fn listed_with(alloc: Global, transfers: &[Transfer]) -> Result<Vec<Footpath>, AllocError> {
     let feed = feed_of(alloc, transfers)?;
-    assert!(rt; names_stops(&feed));
-    Ok(listed(alloc, &feed)?)
+    listed(alloc, &feed)
 }
 
 #[test]
@@ -90,7 +55,7 @@ fn stops_of_a_station_are_siblings(rt: HostRuntime) -> Result<(), Fail> {
         path(1, 2, 120),
         path(2, 2, 0),
     ];
-    let got = listed_with(&rt, rt.alloc(), &[])?;
+    let got = listed_with(rt.alloc(), &[])?;
     assert!(rt; got.as_slice() == wanted.as_slice());
     let childless = row(
         Place::Station(4),
@@ -98,7 +63,7 @@ fn stops_of_a_station_are_siblings(rt: HostRuntime) -> Result<(), Fail> {
         TransferKind::Minimum,
         None,
     );
-    let got = listed_with(&rt, rt.alloc(), &[childless])?;
+    let got = listed_with(rt.alloc(), &[childless])?;
     assert!(rt; got.as_slice() == wanted.as_slice());
     Ok(())
 }
@@ -114,7 +79,7 @@ fn a_station_stands_for_its_stops(rt: HostRuntime) -> Result<(), Fail> {
         path(1, 2, 180),
         path(2, 2, 180),
     ];
-    let got = listed_with(&rt, rt.alloc(), &[all])?;
+    let got = listed_with(rt.alloc(), &[all])?;
     assert!(rt; got.as_slice() == wanted.as_slice());
     let none = row(
         Place::Stop(1),
@@ -128,7 +93,7 @@ fn a_station_stands_for_its_stops(rt: HostRuntime) -> Result<(), Fail> {
         path(2, 1, 180),
         path(2, 2, 180),
     ];
-    let got = listed_with(&rt, rt.alloc(), &[all, none])?;
+    let got = listed_with(rt.alloc(), &[all, none])?;
     assert!(rt; got.as_slice() == wanted.as_slice());
     Ok(())
 }
@@ -155,7 +120,7 @@ fn a_loop_cannot_be_impossible(rt: HostRuntime) -> Result<(), Fail> {
         path(1, 2, 7),
         path(2, 2, 7),
     ];
-    let got = listed_with(&rt, rt.alloc(), &transfers)?;
+    let got = listed_with(rt.alloc(), &transfers)?;
     assert!(rt; got.as_slice() == wanted.as_slice());
     Ok(())
 }
@@ -186,7 +151,7 @@ fn each_kind_has_its_times(rt: HostRuntime) -> Result<(), Fail> {
         path(1, 2, 120),
         path(2, 2, 50),
     ];
-    let got = listed_with(&rt, rt.alloc(), &transfers)?;
+    let got = listed_with(rt.alloc(), &transfers)?;
     assert!(rt; got.as_slice() == wanted.as_slice());
     Ok(())
 }
@@ -213,7 +178,52 @@ fn both_stops_before_a_station(rt: HostRuntime) -> Result<(), Fail> {
         path(1, 2, 120),
         path(2, 2, 0),
     ];
-    let got = listed_with(&rt, rt.alloc(), &transfers)?;
+    let got = listed_with(rt.alloc(), &transfers)?;
     assert!(rt; got.as_slice() == wanted.as_slice());
+    Ok(())
+}
+
+// The feed of these two files. It has no trips.
+fn joined(alloc: Global, stops: &[u8], transfers: &[u8]) -> Result<Feed, Fail> {
+    let tables = Tables {
+        agencies: read_agency(alloc, b"agency_timezone\nUTC\n")?,
+        stops: read_stops(alloc, stops)?,
+        trips: read_trips(alloc, b"service_id,trip_id\n")?,
+        stop_times: read_stop_times(
+            alloc,
+            b"trip_id,arrival_time,departure_time,stop_id,stop_sequence\n",
+        )?,
+        calendar: Vec::new(alloc),
+        calendar_dates: read_calendar_dates(alloc, b"service_id,date,exception_type\n")?,
+        transfers: read_transfers(alloc, transfers)?,
+        frequencies: Vec::new(alloc),
+    };
+    Ok(join(alloc, tables, true)?)
+}
+
+// A transfer from a station to itself, from the bytes of the files on: each of its two stops is left for each.
+#[test]
+fn the_files_of_a_station(rt: HostRuntime) -> Result<(), Fail> {
+    let stops = b"stop_id,location_type,parent_station\nS,1,\nP,0,S\nQ,0,S\n";
+    let transfers = b"from_stop_id,to_stop_id,transfer_type,min_transfer_time\nS,S,2,180\n";
+    let feed = joined(rt.alloc(), stops, transfers)?;
+    let wanted = [
+        path(0, 0, 180),
+        path(1, 0, 180),
+        path(0, 1, 180),
+        path(1, 1, 180),
+    ];
+    let got = listed(rt.alloc(), &feed)?;
+    assert!(rt; got.as_slice() == wanted.as_slice());
+    Ok(())
+}
+
+// Whichever growth is refused, want of memory is told. A refused growth ends the test with `AllocError`.
+#[test]
+fn refused_growth_is_told(rt: HostRuntime) -> Result<(), Fail> {
+    let station = Place::Station(5);
+    let all = row(station, station, TransferKind::Minimum, Some(180));
+    let got = listed_with(rt.alloc(), &[all])?;
+    assert_eq!(rt; got.len(), 5);
     Ok(())
 }

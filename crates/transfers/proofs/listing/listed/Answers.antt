@@ -41,11 +41,11 @@ returns-clause-times c =
     (λ v h. as_listed c.args.feed.now c.deref-3.result.now v.items (in_order c) (all_claims c) h) c.paths_of.ensures.paths
 
 pub returns-clause-in_range : goal.returns-clause-in_range
-returns-clause-in_range c =
+returns-clause-in_range c names =
     IfOk-weaker c.paths_of.result (λ v. ArePathsBelow c.deref-3.result.now (length c.deref-3.result.now) v.items)
     (λ v. All (λ (f : Footpath). (f.from < length c.args.feed.now.stops.items) × (f.to < length c.args.feed.now.stops.items)) v.items)
     (λ v h. All-weaker (Contains v.items) (λ (f : Footpath). (f.from < length c.args.feed.now.stops.items) × (f.to < length c.args.feed.now.stops.items))
-    (λ f is_in. paths_below c.args.feed.now c.deref-3.result.now v.items (in_order c) (all_claims c) h c.requires f is_in) v.items (All-contains_itself v.items))
+    (λ f is_in. paths_below c.args.feed.now c.deref-3.result.now v.items (in_order c) (all_claims c) h names f is_in) v.items (All-contains_itself v.items))
     c.paths_of.ensures.paths
 
 pub returns-clause-loops : goal.returns-clause-loops

@@ -1,0 +1,87 @@
+-- Tables have one feed, or one first fault, and never both.
+use Rattle.std.proofs.Common.{◌≡◌, ◌∙◌, ℕ, List, [], ◌∷◌, Option, Some, None, Bool, refl, sym, ap, subst}
+use Rattle.std.specs.Prelude.{filter}
+use Rattle.std.specs.List.{AllZip}
+use Rattle.std.specs.String.{string_bytes}
+use Rattle.std.proofs.lemmas.Option.{none-some, same_Some}
+use Rattle.gtfs_rows.specs.declared.fault.TableFault.{TableFault}
+use Rattle.gtfs_rows.specs.declared.rows.TransferRow.{TransferRow}
+use Rattle.gtfs_tables.specs.Names.{stop_named, trip_named}
+use Rattle.gtfs_tables.specs.Feeds.{IsFirstFault, IsJoined, first_fault, trips_by}
+use Rattle.gtfs_tables.specs.Rows.{IsTransferOf, is_kept, named_by}
+use Rattle.gtfs_tables.specs.Outcome.{IsSameFeed}
+use Rattle.gtfs_tables.specs.declared.names.Named.{Named}
+use Rattle.gtfs_tables.specs.declared.names.Named.TheVariants as names
+use Rattle.gtfs_tables.specs.declared.order.Turn.{Turn}
+use Rattle.gtfs_tables.specs.declared.tables.Feed.{Feed}
+use Rattle.gtfs_tables.specs.declared.tables.Place.{Place}
+use Rattle.gtfs_tables.specs.declared.tables.Place.TheVariants as places
+use Rattle.gtfs_tables.specs.declared.tables.Tables.{Tables}
+use Rattle.gtfs_tables.specs.declared.tables.Transfer.{Transfer}
+use Rattle.gtfs_tables.proofs.OneOrder.{one_order}
+
+-- the tables' first fault by the turns of the one and of the other
+found : Bool → Tables → List Turn → Option TableFault
+found strict t turns = first_fault (stop_named t.stops.items) (trip_named t.trips.items) strict t turns
+
+pub one_fault : (strict : Bool) (t : Tables) (x y : TableFault) → IsFirstFault strict t x → IsFirstFault strict t y → x ≡ y
+unfolding found
+one_fault strict t x y a b =
+    let turns : a.turns ≡ b.turns = one_order (trips_by (trip_named t.trips.items) t) t.stop_times.rows.items a.turns b.turns a.in_order b.in_order in
+    let first : found strict t a.turns ≡ Some x = a.first in
+    let also : found strict t b.turns ≡ Some y = b.first in
+    same_Some x y (sym first ∙ ap (found strict t) turns ∙ also)
+
+pub no_fault : (strict : Bool) (t : Tables) (feed : Feed) (x : TableFault) → IsJoined strict t feed → IsFirstFault strict t x → ⊥
+unfolding found
+no_fault strict t feed x a b =
+    let turns : a.turns ≡ b.turns = one_order (trips_by (trip_named t.trips.items) t) t.stop_times.rows.items a.turns b.turns a.in_order b.in_order in
+    let none : found strict t a.turns ≡ None = a.faultless in
+    let first : found strict t b.turns ≡ Some x = b.first in
+    none-some x (sym none ∙ ap (found strict t) turns ∙ first)
+
+-- what stands at an end is known by its name
+abbrev place_of : Option Named → Place
+place_of None = places.Stop 0
+place_of (Some (names.Stop number)) = places.Stop number
+place_of (Some (names.Station place)) = places.Station place
+place_of (Some names.Elsewhere) = places.Stop 0
+
+place_back : (p : Place) → place_of (Some (named_by p)) ≡ p
+place_back (places.Stop number) = refl
+place_back (places.Station place) = refl
+
+one_end : (o : Option Named) (p q : Place) → o ≡ Some (named_by p) → o ≡ Some (named_by q) → p ≡ q
+one_end o p q a b = sym (place_back p) ∙ ap place_of (sym a ∙ b) ∙ place_back q
+
+one_transfer : (named : List ℕ → Option Named) (row : TransferRow) (a b : Transfer) → IsTransferOf named row a → IsTransferOf named row b → a ≡ b
+one_transfer named row a b x y =
+    let from : a.from ≡ b.from = one_end (named (string_bytes row.from)) a.from b.from x.from y.from in
+    let to : a.to ≡ b.to = one_end (named (string_bytes row.to)) a.to b.to x.to y.to in
+    let kind : a.kind ≡ b.kind = x.kind ∙ sym y.kind in
+    let seconds : a.seconds ≡ b.seconds = x.seconds ∙ sym y.seconds in
+    λ i. record { from = from i; to = to i; kind = kind i; seconds = seconds i }
+
+one_list : (named : List ℕ → Option Named) (rows : List TransferRow) (xs ys : List Transfer) → AllZip (IsTransferOf named) rows xs → AllZip (IsTransferOf named) rows ys → xs ≡ ys
+one_list named [] [] [] a b = refl
+one_list named [] [] (y ∷ ys) a b = absurd b
+one_list named [] (x ∷ xs) ys a b = absurd a
+one_list named (row ∷ rows) [] ys a b = absurd a
+one_list named (row ∷ rows) (x ∷ xs) [] a b = absurd b
+one_list named (row ∷ rows) (x ∷ xs) (y ∷ ys) a b =
+    let first : x ≡ y = one_transfer named row x y a.0 b.0 in
+    let rest : xs ≡ ys = one_list named rows xs ys a.1 b.1 in
+    λ i. first i ∷ rest i
+
+pub one_feed : (strict : Bool) (t : Tables) (f g : Feed) → IsJoined strict t f → IsJoined strict t g → IsSameFeed f g
+one_feed strict t f g a b =
+    let turns : a.turns ≡ b.turns = one_order (trips_by (trip_named t.trips.items) t) t.stop_times.rows.items a.turns b.turns a.in_order b.in_order in
+    record {
+      stops = a.feed_is.stops ∙ sym b.feed_is.stops;
+      trips = a.feed_is.trips ∙ rw turns (sym b.feed_is.trips);
+      stop_times = a.feed_is.stop_times ∙ rw turns (sym b.feed_is.stop_times);
+      transfers = one_list (stop_named t.stops.items) (filter is_kept t.transfers.items) f.transfers.items g.transfers.items a.feed_is.transfers b.feed_is.transfers;
+      skipped = a.feed_is.skipped ∙ sym b.feed_is.skipped;
+      calendar = a.feed_is.calendar ∙ sym b.feed_is.calendar;
+      calendar_dates = a.feed_is.calendar_dates ∙ sym b.feed_is.calendar_dates;
+    }

@@ -1,0 +1,31 @@
+//! Laws of what joining tables can tell. The functions do nothing: their contracts are the laws.
+
+ghost use Rattle.std.specs.Prelude.{◌≡◌, ℕ, List, Option, Bool};
+ghost use Rattle.gtfs_rows.specs.declared.fault.TableFault.{TableFault as Fault};
+ghost use Rattle.gtfs_rows.specs.declared.rows.StopTimeRow.{StopTimeRow};
+ghost use Rattle.gtfs_tables.specs.Feeds.{IsFirstFault, IsJoined};
+ghost use Rattle.gtfs_tables.specs.Order.{IsInOrder};
+ghost use Rattle.gtfs_tables.specs.Outcome.{IsSameFeed};
+ghost use Rattle.gtfs_tables.specs.declared.order.Turn.{Turn};
+ghost use Rattle.gtfs_tables.specs.declared.tables.Feed.{Feed};
+ghost use Rattle.gtfs_tables.specs.declared.tables.Tables.{Tables};
+
+/// The rows of stop times have one order.
+pub fn one_order()
+    ensures { (trips : List (Option ℕ)) (rows : List StopTimeRow) (a b : List Turn) → IsInOrder trips rows a → IsInOrder trips rows b → a ≡ b }
+{}
+
+/// Tables have one first fault at most.
+pub fn one_fault()
+    ensures { (strict : Bool) (t : Tables) (a b : Fault) → IsFirstFault strict t a → IsFirstFault strict t b → a ≡ b }
+{}
+
+/// Tables that can be joined have no fault.
+pub fn joined_without_fault()
+    ensures { (strict : Bool) (t : Tables) (feed : Feed) (fault : Fault) → IsJoined strict t feed → ¬ (IsFirstFault strict t fault) }
+{}
+
+/// Tables have one feed at most.
+pub fn one_feed()
+    ensures { (strict : Bool) (t : Tables) (a b : Feed) → IsJoined strict t a → IsJoined strict t b → IsSameFeed a b }
+{}
