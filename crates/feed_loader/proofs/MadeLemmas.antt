@@ -19,7 +19,7 @@ use Rattle.service_days.specs.declared.fault.DayFault.TheVariants.{DayOutOfRange
 use Rattle.footpaths.specs.Closure.{HasLegalFootpaths}
 use Rattle.connections.specs.Days.{HasNoStartAmong, days_from}
 use Rattle.connections.specs.Faults.{IsWantOfMemory as RunsWantMemory}
-use Rattle.connections.specs.Legal.{HasLegalConnections}
+use Rattle.connections.specs.Legal.{AreWithinLimits, HasLegalConnections}
 use Rattle.connections.specs.Outcome.{IsFirstRefusal, IsListing}
 use Rattle.connections.specs.declared.fault.RunsFault.{RunsFault}
 use Rattle.connections.specs.declared.fault.RunsFault.TheVariants as runs
@@ -74,10 +74,10 @@ same_value t stops trips connections footpaths a b c d = λ i. record { stops = 
 -- the timetable and the names of a feed can be written
 pub is_writable : (feed : Feed) (plan : Plan) (t : TimetableValue) (names : NamesValue) (connections : List Connection) (runs_are : List Run) (footpaths : List Footpath)
     → t.stops ≡ length feed.stops.items → t.trips ≡ length runs_are → t.connections ≡ connections → t.footpaths ≡ footpaths
-    → length feed.stops.items ≤ MAX_STOPS → IsListing feed plan.zone plan.first_day plan.days connections runs_are → HasLegalConnections (length feed.stops.items) (length runs_are) connections
+    → length feed.stops.items ≤ MAX_STOPS → IsListing feed plan.zone plan.first_day plan.days connections runs_are → HasLegalConnections (length feed.stops.items) (length runs_are) connections → AreWithinLimits (length runs_are) connections
     → HasLegalFootpaths (length feed.stops.items) footpaths → length footpaths ≤ MAX_FOOTPATHS → ((i : ℕ) (f : Footpath) → At footpaths i f → f.secs ≤ MAX_WALK_SECS)
     → AreNames feed plan runs_are names → length (text names) ≤ MAX_NAME_BYTES → IsWritable t names
-is_writable feed plan t names connections runs_are footpaths stops trips same_connections same_footpaths few listing legal paths few_paths short named text_fits =
+is_writable feed plan t names connections runs_are footpaths stops trips same_connections same_footpaths few listing legal within paths few_paths short named text_fits =
     subst (λ (x : TimetableValue). IsWritable x names) (sym (same_value t _ _ _ _ stops trips same_connections same_footpaths)) (record {
       legal = record {
         stops_in_range = legal.stops_in_range;
@@ -90,7 +90,7 @@ is_writable feed plan t names connections runs_are footpaths stops trips same_co
         loops = paths.loops;
         closed = paths.closed;
       };
-      limits = record { stops = few; trips = listing.few_runs; connections = listing.few; footpaths = few_paths; times = legal.times; walks = short };
+      limits = record { stops = few; trips = within.trips; connections = within.few; footpaths = few_paths; times = within.times; walks = short };
       stop_names = ap length named.stops ∙ length-map feed.stops.items _;
       trip_names = ap length named.trips ∙ length-map runs_are _;
       bytes = text_fits;

@@ -14,3 +14,6 @@ pub use fault::LoadFault;
 pub use loading::load;
 pub use made::image_of;
 pub use plan::Plan;
+
+#[cfg(test)]
+mod tests;

@@ -2,6 +2,7 @@
 
 ghost use Rattle.std.specs.Prelude.{◌≡◌, ◌≤◌, ◌<◌, ◌+◌, ◌-◌, ◌^◌, IfOk, IfErr};
 ghost use Rattle.feed_files.specs.Reading.{Content, Tells};
+ghost use Rattle.connections.specs.declared.days.TheConstants.{MAX_DAYS};
 ghost use Rattle.feed_loader.specs.Faults.{failed_in};
 ghost use Rattle.feed_loader.specs.Refused.{IsLoadRefusal, IsLoaded, IsWantOfMemory};
 
@@ -28,7 +29,8 @@ pub fn load<F: FeedFiles>(
     plan: &Plan,
 ) -> Result<(Verified, Report), LoadFault>
     requires failures { F.failures files.old < 2 ^ 64 - 1 }
-    requires days { 1 ≤ plan.now.days }
+    requires some { 1 ≤ plan.now.days }
+    requires few { plan.now.days ≤ MAX_DAYS }
     ensures same { F.holds files.new ≡ F.holds files.old }
     ensures failures { F.failures files.new ≡ F.failures files.old + failed_in result }
     ensures ok { (content : Content) → Tells (F.holds files.old) content → IfOk result (λ loaded. IsLoaded content plan.now loaded.0.timetable loaded.0.names loaded.1) }

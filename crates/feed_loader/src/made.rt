@@ -4,6 +4,7 @@ ghost use Rattle.std.specs.Prelude.{◌≡◌, ◌≤◌, ◌<◌, ◌+◌, ◌�
 ghost use Rattle.timetable.specs.declared.limits.TheConstants.{MAX_NAME_BYTES};
 ghost use Rattle.image_layout.specs.Spelling.{text};
 ghost use Rattle.gtfs_tables.specs.Joined.{IsRunnable, NamesItsStops};
+ghost use Rattle.connections.specs.declared.days.TheConstants.{MAX_DAYS};
 ghost use Rattle.feed_loader.specs.Loaded.{AreNames, IsMade};
 ghost use Rattle.feed_loader.specs.Refused.{AreNamesRefused, IsFeedRefusal, IsWantOfMemory};
 
@@ -12,6 +13,7 @@ use crate::fault::{LoadFault, of_runs, out_of_memory, too_many};
 use crate::names::{count_name_bytes, run_names, stop_names};
 use crate::plan::Plan;
 use crate::writing::written;
+use connections::laws::{listing_is_legal, listing_is_within_limits};
 use connections::{Report, Run, runs_of};
 use gtfs_tables::{Feed, Table};
 use image_verifier::Verified;
@@ -53,10 +55,13 @@ fn short_names(alloc: Global, feed: &Feed, plan: &Plan, runs: &[Run]) -> Result<
 pub fn image_of(alloc: Global, feed: &Feed, plan: &Plan) -> Result<(Verified, Report), LoadFault>
     requires feed { IsRunnable feed.now }
     requires names { NamesItsStops feed.now }
-    requires days { 1 ≤ plan.now.days }
+    requires some { 1 ≤ plan.now.days }
+    requires few { plan.now.days ≤ MAX_DAYS }
     ensures ok { IfOk result (λ made. IsMade feed.now plan.now made.0.timetable made.0.names made.1) }
     ensures err { IfErr result (λ fault. IsWantOfMemory fault ⊎ IsFeedRefusal feed.now plan.now fault) }
 {
+    listing_is_legal();
+    listing_is_within_limits();
     if feed.stops.len() > MAX_STOPS as usize {
         return Err(too_many(Table::Stops));
     }

@@ -1,5 +1,7 @@
 //! Feeds in memory and their images.
 
+ghost use Rattle.std.specs.Prelude.{◌≡◌};
+
 use super::*;
 use feed_files::{FeedFiles, FileFault, MemoryFiles};
 use gtfs_tables::{Day, FaultKind, Table, TableFault};
@@ -99,6 +101,7 @@ fn what_is_wrong_is_told(rt: HostRuntime) -> Result<(), Fail> {
 }
 
 /// Files of which the read of one fails.
+#[derive(Drop)]
 struct Failing<'a> {
     held: MemoryFiles<'a>,
     name: &'a str,
