@@ -1,0 +1,3 @@
+pub mod FaultNumber
+pub mod Seats
+pub mod Table
