@@ -1,5 +1,5 @@
 -- What keeps the history beside the table.
-use Rattle.std.proofs.Common.{◌≡◌, ◌≢◌, ℕ, ◌+◌, ◌<◌, ◌≤◌, List, [], ◌∷◌, ◌++◌, length, Option, Some, None, slice_get, get_or, refl, ap, sym, ◌∙◌, subst, arith}
+use Rattle.std.proofs.Common.{◌≡◌, ◌≢◌, ℕ, ◌≤◌, List, [], ◌∷◌, ◌++◌, length, Option, Some, slice_get, get_or, refl, ap, sym, ◌∙◌, subst, arith}
 use Rattle.std.specs.Arc.{arc_value}
 use Rattle.std.proofs.lemmas.Option.{get_or_from_slice_get, slice_get_within, slice_get-get_or}
 use Rattle.image_layout.specs.Image.{ImageValue}
@@ -7,15 +7,14 @@ use Rattle.version_core.specs.declared.event.Event.{Event}
 use Rattle.version_core.specs.declared.event.Reply.{Reply}
 use Rattle.version_core.specs.declared.state.Worker.{Worker}
 use Rattle.version_core.specs.declared.state.Shelf.{Shelf}
-use Rattle.version_core.specs.State.{State, start, newest, looked, arrived, departed}
+use Rattle.version_core.specs.State.{State, start, looked}
 use Rattle.version_core.specs.Steps.{Step, LookStep, TakeStep, DropStep, IsIdle, Holds}
 use Rattle.version_core.specs.Kept.{Kept}
-use Rattle.version_core.specs.Rest.{IsAtRest, IsNoLoad, RestStays}
+use Rattle.version_core.specs.Rest.{IsNoLoad, RestStays}
 use Rattle.version_core.specs.Laws.{RunsGrow, LooksAndTakesHold, DropsLetGo}
 use Rattle.version_core.proofs.Lists.{slice_get-set_same}
 use Rattle.epochs.specs.declared.edition.Edition.{Edition}
-use Rattle.epochs.specs.Table.{IsHistory, AreShelved, IsEdition, IsCurrent, IsLookAndTake, IsDrop, image_of, SeatFits}
-use Rattle.epochs.specs.Seats.{WorkerSeatValue}
+use Rattle.epochs.specs.Table.{IsHistory, AreShelved, IsEdition, IsCurrent, IsLookAndTake, IsDrop}
 
 -- what a worker's event leaves alone
 pub record SameShelves (s t : State) : Type 0 where

@@ -4,7 +4,6 @@ use Rattle.std.specs.declared.snapshot.Snapshot.{Snapshot}
 use Rattle.std.specs.Arc.{arc_value}
 use Rattle.image_layout.specs.Image.{ImageValue}
 use Rattle.version_core.specs.declared.state.Worker.{Worker}
-use Rattle.epochs.specs.declared.edition.Edition.{Edition}
 use Rattle.epochs.specs.declared.faults.PinFault.{PinFault}
 use Rattle.epochs.specs.declared.seats.Answer.{Answer}
 use Rattle.epochs.specs.declared.seats.Pin.{Pin}

@@ -42,6 +42,10 @@ pub record IsHistory (state : State) (events : List Event) (images : List ImageV
   pub as_many : length images ≡ newest state
   pub numbered : (i edition : ℕ) → slice_get state.editions i ≡ Some edition → edition ≡ i
 
+-- what a worker holds has an image
+abbrev pub HeldHaveImages : State → List ImageValue → Type 0
+HeldHaveImages s images = (w k v : ℕ) → Holds s w k v → (image : ImageValue) × (image_of images v ≡ Some image)
+
 -- each shelf has the image of its version, and a free one has none
 pub record AreShelved (shelves : List Shelf) (editions : List (Option Edition)) (images : List ImageValue) : Type 0 where
   pub eight : length editions ≡ 8
@@ -134,9 +138,21 @@ abbrev pub after_try : Shelf → ℕ → Shelf
 after_try (Shelf.Closing v) zero = Shelf.Free
 after_try shelf _ = shelf
 
+-- a try at the shelf, where it is closing, and what it found
+pub record TriesShelf (a : TableValue) (k : ℕ) (freed : Bool) (busy : ℕ) (b : TableValue) : Type 0 where
+  pub run : IsRun a.state (try_at k (slice_get a.state.shelves k)) b.state
+  pub events : b.events ≡ a.events ++ try_at k (slice_get a.state.shelves k)
+  pub images : b.images ≡ a.images
+  pub state : b.state ≡ record a.state { shelves = b.state.shelves }
+  pub others : (j : ℕ) → j ≢ k → slice_get b.state.shelves j ≡ slice_get a.state.shelves j
+  pub found : (shelf : Shelf) → slice_get a.state.shelves k ≡ Some shelf
+      → (freed ≡ is_freed shelf (slice_index a.state.counts k))
+      × (busy ≡ busy_count shelf (slice_index a.state.counts k))
+      × (slice_get b.state.shelves k ≡ Some (after_try shelf (slice_index a.state.counts k)))
+
 -- a try at each closing shelf, and what they found
 pub record Collects (a : TableValue) (found : Collected) (b : TableValue) : Type 0 where
-  pub run : (replies : List Reply) × Run a.state (tries a.state.shelves 8) replies b.state
+  pub run : IsRun a.state (tries a.state.shelves 8) b.state
   pub events : b.events ≡ a.events ++ tries a.state.shelves 8
   pub images : b.images ≡ a.images
   pub state : b.state ≡ record a.state { shelves = b.state.shelves }
@@ -165,7 +181,6 @@ pub record Publishes (a : TableValue) (image : ImageValue) (version : ℕ) (b : 
 
 -- so many workers at each shelf but the current one
 pub record AreFull (s : State) (counts : List ℕ) : Type 0 where
-  pub eight : length counts ≡ 8
   pub current : slice_index counts s.current_shelf ≡ 0
   pub others : (k : ℕ) → k < 8 → k ≢ s.current_shelf → 0 < slice_index counts k
 

@@ -2,22 +2,23 @@
 
 ghost use Rattle.std.specs.Prelude.{◌≡◌, ◌≢◌, ℕ, ◌+◌, ◌<◌, ◌≤◌, Ok, Err, ◌++◌, ◌∷◌, [], IfOk, IfErr, OnOk, OnErr, MatchBool};
 ghost use Rattle.std.specs.Arc.{arc_value};
-ghost use Rattle.version_core.specs.State.{start};
-ghost use Rattle.version_core.specs.Steps.{IsIdle, Holds};
+ghost use Rattle.version_core.specs.State.{start, newest};
+ghost use Rattle.version_core.specs.Steps.{IsIdle, Holds, IsClosing};
 ghost use Rattle.version_core.specs.Kept.{Kept};
 ghost use Rattle.version_core.specs.declared.state.Worker.{Worker};
 ghost use Rattle.epochs.specs.Seats.{PinStep, ReleaseStep};
-ghost use Rattle.epochs.specs.Table.{SeatFits, Pins, RefusesPin, Releases, RefusesRelease, IsOffer, IsCurrent, IsLookAndTake, IsDrop};
+ghost use Rattle.epochs.specs.Table.{IsHistory, HeldHaveImages, SeatFits, Pins, RefusesPin, Releases, RefusesRelease, IsOffer, IsCurrent, IsLookAndTake, IsDrop, TableValue, TriesShelf, Collects, HasFree, MakesRoom, Publishes, RefusesPublish};
+ghost use Rattle.epochs.specs.declared.faults.PublishFault.{PublishFault};
 
 use crate::edition::Edition;
-use crate::faults::PinFault;
+use crate::faults::{PinFault, PublishFault};
 use crate::seats::{Answer, WorkerSeat};
 use image_verifier::Verified;
 use std::alloc::{AllocError, Global};
 use std::marker::Model;
 use std::sync::Arc;
 use timetable::Trace;
-use version_core::{Core, Event, at_rest, holding, runs_in_parts};
+use version_core::{Core, Event, Reply, Shelf, at_rest, every_run, holding, runs_in_parts};
 
 /// What the tries at the closing shelves found.
 #[derive(Clone, Copy, Debug, PartialEq, Eq)]
@@ -72,6 +73,16 @@ impl VersionTable {
             events: Trace::new(),
             images,
         })
+    }
+
+    /// What holds of every table, whatever was done to it. It does nothing: its contract is the promise.
+    pub fn history(&self)
+        ensures history { IsHistory self.now.state self.now.events self.now.images }
+        ensures kept { Kept self.now.state }
+        ensures held { HeldHaveImages self.now.state self.now.images }
+    {
+        every_run();
+        let _ = self.core.current();
     }
 
     /// The seat's worker looks and takes, and the seat holds the current version.
@@ -185,5 +196,147 @@ impl VersionTable {
         let _ = self.core.current();
         let _dropped = self.core.leave(worker);
         self.events.note(&Event::Drop { worker });
+    }
+
+    /// Tries each closing shelf: it is freed, if no worker is there.
+    pub fn collect(&mut self) -> Collected
+        ensures { Collects self.old result self.new }
+    {
+        runs_in_parts();
+        self.history();
+        let mut found = Collected {
+            freed: [false; 8],
+            busy: [0; 8],
+        };
+        for shelf in 0..8 {
+            let (freed, busy) = self.try_shelf(shelf);
+            found.freed[shelf] = freed;
+            found.busy[shelf] = busy;
+        }
+        found
+    }
+
+    // Frees the shelf, if it is closing and no worker is there: whether it did, and how many workers are there else.
+    fn try_shelf(&mut self, shelf: usize) -> (bool, u8)
+        requires { shelf < 8 }
+        ensures { TriesShelf self.old shelf result.0 result.1 self.new }
+    {
+        if self.is_closing(shelf) {
+            self.try_closing(shelf)
+        } else {
+            (false, 0)
+        }
+    }
+
+    fn is_closing(&self, shelf: usize) -> bool
+        ensures { MatchBool result ((v : ℕ) × IsClosing self.now.state shelf v) ((v : ℕ) → ¬ (IsClosing self.now.state shelf v)) }
+    {
+        match self.core.shelf(shelf) {
+            Some(Shelf::Closing { version: _ }) => true,
+            Some(Shelf::Free | Shelf::Open { .. }) | None => false,
+        }
+    }
+
+    fn try_closing(&mut self, shelf: usize) -> (bool, u8)
+        requires small { shelf < 8 }
+        requires closing { (v : ℕ) × IsClosing self.old.state shelf v }
+        ensures { TriesShelf self.old shelf result.0 result.1 self.new }
+    {
+        runs_in_parts();
+        at_rest();
+        let reply = self.core.collect(shelf);
+        self.events.note(&Event::Collect { shelf });
+        match reply {
+            Reply::Freed => {
+                self.editions[shelf] = None;
+                (true, 0)
+            }
+            Reply::Busy { count } => (false, count),
+            _ => unreachable!(),
+        }
+    }
+
+    /// The image becomes the next version, which is current, on the least free shelf. Where no shelf is free, each closing
+    /// one is tried first. A refusal gives the image back, and the current version stays.
+    pub fn publish(
+        &mut self,
+        image: Arc<Verified, Global>,
+    ) -> Result<u64, (Arc<Verified, Global>, PublishFault)>
+        ensures published { IfOk result (λ v. (room : TableValue) × MakesRoom self.old room × Publishes room (arc_value image) v self.new) }
+        ensures refused { IfErr result (λ e. RefusesPublish self.old e.1 self.new) }
+        ensures back { IfErr result (λ e. e.0 ≡ image) }
+    {
+        if !self.may_open() {
+            return Err((image, PublishFault::VersionsSpent));
+        }
+        if let Err(counts) = self.make_room() {
+            return Err((image, PublishFault::ShelvesFull { counts }));
+        }
+        self.load(image)
+    }
+
+    // Whether a version is left.
+    fn may_open(&self) -> bool
+        ensures { MatchBool result (newest self.now.state < 1000000000) (newest self.now.state ≡ 1000000000) }
+    {
+        at_rest();
+        let _ = self.core.current();
+        self.core.may_open()
+    }
+
+    // A shelf is free, or is after a try at each closing one. Else so many workers are at each.
+    fn make_room(&mut self) -> Result<(), [u8; 8]>
+        requires { newest self.old.state < 1000000000 }
+        ensures room { OnOk result (MakesRoom self.old self.new × HasFree self.new.state) }
+        ensures full { IfErr result (λ counts. RefusesPublish self.old (PublishFault.ShelvesFull counts) self.new) }
+    {
+        at_rest();
+        self.history();
+        if self.has_free() {
+            return Ok(());
+        }
+        let found = self.collect();
+        if self.has_free() {
+            Ok(())
+        } else {
+            Err(found.busy)
+        }
+    }
+
+    fn has_free(&self) -> bool
+        ensures { MatchBool result (HasFree self.now.state) (¬ (HasFree self.now.state)) }
+    {
+        match self.core.free_shelf() {
+            Some(_) => true,
+            None => false,
+        }
+    }
+
+    fn load(
+        &mut self,
+        image: Arc<Verified, Global>,
+    ) -> Result<u64, (Arc<Verified, Global>, PublishFault)>
+        requires room { HasFree self.old.state }
+        requires left { newest self.old.state < 1000000000 }
+        ensures published { IfOk result (λ v. Publishes self.old (arc_value image) v self.new) }
+        ensures refused { IfErr result (λ e. (e.0 ≡ image) × (e.1 ≡ PublishFault.OutOfMemory) × (self.new ≡ self.old)) }
+    {
+        runs_in_parts();
+        at_rest();
+        // Nothing waits to be published, so the current version is the newest, and its number the next place.
+        let (number, before) = self.core.current();
+        let (version, shelf) = match self.core.open(number) {
+            Ok(Reply::Opened { version, shelf }) => (version, shelf),
+            Ok(_) => unreachable!(),
+            Err(_) => return Err((image, PublishFault::OutOfMemory)),
+        };
+        let _published = self.core.publish();
+        let _closing = self.core.close(before);
+        self.events.note(&Event::Open { edition: number });
+        self.events.note(&Event::Publish);
+        self.events.note(&Event::Close { shelf: before });
+        self.images.note(&*image);
+        self.editions[shelf] = Some(Edition { version, image });
+        Ok(version)
     }
 }

@@ -1,6 +1,5 @@
-use Rattle.std.proofs.Common.{refl}
 use Rattle.version_core.specs.declared.event.Event.{Event}
-use Rattle.epochs.proofs.Histories.{drop_same, history_goes_on, still_shelved, drops}
+use Rattle.epochs.proofs.Histories.{drop_same, history_goes_on, still_shelved}
 use Rattle.epochs.proofs.table.VersionTable.leave.Goals as goal
 
 pub invariant_of-self : goal.invariant_of-self

@@ -1,6 +1,5 @@
-use Rattle.std.proofs.Common.{refl, ◌≡◌, sym, ◌∙◌, ap, subst, List, [], ◌∷◌, ◌++◌, append_assoc}
+use Rattle.std.proofs.Common.{◌∙◌, ap, List, [], ◌∷◌, ◌++◌, append_assoc}
 use Rattle.version_core.specs.declared.event.Event.{Event}
-use Rattle.version_core.specs.Steps.{IsIdle}
 use Rattle.epochs.proofs.Histories.{look_same, take_same, history_goes_on, still_shelved, looks_and_takes}
 use Rattle.epochs.proofs.table.VersionTable.look_and_take.Goals as goal
 

@@ -1,4 +1,4 @@
-use Rattle.std.proofs.Common.{◌≡◌, ap, sym, ◌∙◌, Option, Some, arith}
+use Rattle.std.proofs.Common.{ap, ◌∙◌, Some, arith}
 use Rattle.version_core.specs.declared.state.Worker.{Worker}
 use Rattle.epochs.proofs.Histories.{idle_seen}
 use Rattle.epochs.proofs.table.VersionTable.offer.Goals as goal
