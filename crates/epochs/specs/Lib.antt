@@ -1,3 +1,5 @@
 pub mod FaultNumber
 pub mod Seats
-pub mod Table
+pub mod History
+pub mod Pins
+pub mod Publishing

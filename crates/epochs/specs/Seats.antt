@@ -1,11 +1,14 @@
 -- What a seat shows, and what it may be answered.
-use Rattle.std.specs.Prelude.{◌≡◌, ◌≢◌, ℕ, ◌+◌, ◌≤◌, List, [], ◌∷◌, ◌++◌, Option, Some, None, Result, Ok, Err}
+use Rattle.std.specs.Prelude.{◌≡◌, ◌≢◌, ℕ, zero, suc, ◌+◌, ◌<◌, ◌≤◌, true, slice_get, slice_index, List, [], ◌∷◌, ◌++◌, Option, Some, None, Result, Ok, Err}
 use Rattle.std.specs.declared.snapshot.Snapshot.{Snapshot}
 use Rattle.std.specs.Arc.{arc_value}
 use Rattle.image_layout.specs.Image.{ImageValue}
 use Rattle.version_core.specs.declared.state.Worker.{Worker}
+use Rattle.epochs.specs.declared.collected.Collected.{Collected}
 use Rattle.epochs.specs.declared.faults.PinFault.{PinFault}
+use Rattle.epochs.specs.declared.faults.PublishFault.{PublishFault}
 use Rattle.epochs.specs.declared.seats.Answer.{Answer}
+use Rattle.epochs.specs.declared.seats.LoaderAnswer.{LoaderAnswer}
 use Rattle.epochs.specs.declared.seats.Pin.{Pin}
 
 pub record SeatValue : Type 0 where
@@ -40,6 +43,23 @@ ReleaseStep a (Err PinFault.NotPinned) b = (a.held ≡ None) × (b ≡ told a (A
 ReleaseStep a (Err PinFault.SeatLost) b = (a.held ≢ None) × (b ≡ emptied a (Answer.ReleaseRefused PinFault.SeatLost))
 ReleaseStep a (Err _) b = ⊥
 
+-- a loader's seat shows its answers so far. From one list to the next, by a publish of this image as this version
+abbrev pub PublishStep : List LoaderAnswer → ImageValue → ℕ → List LoaderAnswer → Type 0
+PublishStep a image version b = (1 < version) × (version ≤ 1000000000) × ((shown : Snapshot ImageValue) × (shown.value ≡ image) × (b ≡ a ++ LoaderAnswer.Published version shown ∷ []))
+
+-- workers are at every shelf but one, the current one
+abbrev pub AreBusyButOne : List ℕ → Type 0
+AreBusyButOne counts = (k : ℕ) × (k < 8) × (slice_index counts k ≡ 0) × ((j : ℕ) → j < 8 → j ≢ k → 0 < slice_index counts j)
+
+abbrev pub RefuseStep : List LoaderAnswer → PublishFault → List LoaderAnswer → Type 0
+RefuseStep a (PublishFault.ShelvesFull counts) b = AreBusyButOne counts × (b ≡ a ++ LoaderAnswer.PublishRefused (PublishFault.ShelvesFull counts) ∷ [])
+RefuseStep a PublishFault.VersionsSpent b = b ≡ a ++ LoaderAnswer.PublishRefused PublishFault.VersionsSpent ∷ []
+RefuseStep a PublishFault.OutOfMemory b = b ≡ a ++ LoaderAnswer.PublishRefused PublishFault.OutOfMemory ∷ []
+
+-- by a collection: no shelf was freed with workers there
+abbrev pub CollectStep : List LoaderAnswer → Collected → List LoaderAnswer → Type 0
+CollectStep a found b = ((k : ℕ) → k < 8 → slice_get found.freed k ≡ Some true → slice_get found.busy k ≡ Some 0) × (b ≡ a ++ LoaderAnswer.Collected found ∷ [])
+
 -- a worker's seat at a table under a lock: the worker's number, and what the seat says that it is doing
 pub record WorkerSeatValue : Type 0 where
   pub number : ℕ
@@ -64,3 +84,8 @@ IsEmpty seat = (seat.shown.held ≡ None) × (seat.worker ≡ Worker.Idle)
 -- a new seat
 abbrev pub idle_seat : ℕ → WorkerSeatValue
 idle_seat number = record { number = number; worker = Worker.Idle; shown = record { answers = []; held = None; seen = 0 } }
+
+-- the seats of idle workers, one for each of the first numbers
+abbrev pub idle_seats : ℕ → List WorkerSeatValue
+idle_seats zero = []
+idle_seats (suc n) = idle_seats n ++ idle_seat n ∷ []

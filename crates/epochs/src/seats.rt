@@ -1,4 +1,4 @@
-//! The seats from which workers pin versions.
+//! The seats from which workers pin versions and a loader publishes them.
 
 ghost use Rattle.std.specs.Prelude.{◌≡◌, ◌≢◌, ◌≤◌, Ok, Err, None, Some, MatchOption, MatchBool};
 ghost use Rattle.std.specs.Arc.{arc_value};
@@ -6,8 +6,9 @@ ghost use Rattle.version_core.specs.declared.state.Worker.{Worker};
 ghost use Rattle.epochs.specs.declared.faults.PinFault.{PinFault};
 ghost use Rattle.epochs.specs.Seats.{PinStep, IsHolding, IsEmpty, idle_seat, told, emptied};
 
+use crate::collected::Collected;
 use crate::edition::Edition;
-use crate::faults::PinFault;
+use crate::faults::{PinFault, PublishFault};
 use image_verifier::Verified;
 use std::marker::Model;
 use std::snapshot::Snapshot;
@@ -147,5 +148,53 @@ impl WorkerSeat {
     {
         self.answers.note(&answer);
         self.held = None;
+    }
+}
+
+/// What a loader's seat was answered. Contracts alone see these.
+#[derive(Drop)]
+pub enum LoaderAnswer {
+    Published {
+        version: u64,
+        image: Snapshot<Verified>,
+    },
+    PublishRefused {
+        fault: PublishFault,
+    },
+    Collected {
+        found: Collected,
+    },
+}
+
+/// The loader's seat at shelves under one lock. Contracts see what it was answered so far.
+#[derive(Drop)]
+pub struct LoaderSeat {
+    answers: Trace<LoaderAnswer>,
+}
+
+impl Model for LoaderSeat {
+    ghost use Rattle.std.specs.Prelude.{List};
+    ghost use Rattle.epochs.specs.declared.seats.LoaderAnswer.{LoaderAnswer};
+
+    ghost Value = { List LoaderAnswer };
+
+    ghost view = { λ s. s.answers };
+}
+
+impl LoaderSeat {
+    ghost use Rattle.std.specs.Prelude.{◌++◌, ◌∷◌, []};
+
+    pub(crate) fn new() -> LoaderSeat
+        ensures { result ≡ [] }
+    {
+        LoaderSeat {
+            answers: Trace::new(),
+        }
+    }
+
+    pub(crate) fn tell(&mut self, answer: LoaderAnswer)
+        ensures { self.new ≡ self.old ++ answer ∷ [] }
+    {
+        self.answers.note(&answer);
     }
 }

@@ -1,33 +1,28 @@
 //! The table of versions beside the editions on its shelves.
 
-ghost use Rattle.std.specs.Prelude.{◌≡◌, ◌≢◌, ℕ, ◌+◌, ◌<◌, ◌≤◌, Ok, Err, ◌++◌, ◌∷◌, [], IfOk, IfErr, OnOk, OnErr, MatchBool};
+ghost use Rattle.std.specs.Prelude.{◌≡◌, ◌≢◌, ℕ, ◌+◌, ◌<◌, ◌≤◌, Ok, Err, ◌++◌, ◌∷◌, [], IfOk, IfErr, OnOk, OnErr, MatchBool, MatchResult};
 ghost use Rattle.std.specs.Arc.{arc_value};
 ghost use Rattle.version_core.specs.State.{start, newest};
 ghost use Rattle.version_core.specs.Steps.{IsIdle, Holds, IsClosing};
 ghost use Rattle.version_core.specs.Kept.{Kept};
 ghost use Rattle.version_core.specs.declared.state.Worker.{Worker};
-ghost use Rattle.epochs.specs.Seats.{PinStep, ReleaseStep};
-ghost use Rattle.epochs.specs.Table.{IsHistory, HeldHaveImages, SeatFits, Pins, RefusesPin, Releases, RefusesRelease, IsOffer, IsCurrent, IsLookAndTake, IsDrop, TableValue, TriesShelf, Collects, HasFree, MakesRoom, Publishes, RefusesPublish};
+ghost use Rattle.epochs.specs.Seats.{PinStep, ReleaseStep, PublishStep, RefuseStep, CollectStep};
+ghost use Rattle.epochs.specs.History.{IsHistory, HeldHaveImages, TableValue};
+ghost use Rattle.epochs.specs.Pins.{SeatFits, Pins, RefusesPin, Releases, RefusesRelease, IsOffer, IsCurrent, IsLookAndTake, IsDrop};
+ghost use Rattle.epochs.specs.Publishing.{TriesShelf, Collects, HasFree, MakesRoom, Publishes, RefusesPublish};
 ghost use Rattle.epochs.specs.declared.faults.PublishFault.{PublishFault};
 
+use crate::collected::Collected;
 use crate::edition::Edition;
 use crate::faults::{PinFault, PublishFault};
-use crate::seats::{Answer, WorkerSeat};
+use crate::seats::{Answer, LoaderAnswer, LoaderSeat, WorkerSeat};
 use image_verifier::Verified;
 use std::alloc::{AllocError, Global};
 use std::marker::Model;
+use std::snapshot::Snapshot;
 use std::sync::Arc;
 use timetable::Trace;
 use version_core::{Core, Event, Reply, Shelf, at_rest, every_run, holding, runs_in_parts};
-
-/// What the tries at the closing shelves found.
-#[derive(Clone, Copy, Debug, PartialEq, Eq)]
-pub struct Collected {
-    /// The shelves that are free now.
-    pub freed: [bool; 8],
-    /// How many workers are still at each closing shelf. 0 for the others.
-    pub busy: [u8; 8],
-}
 
 /// Eight shelves with the editions on them, and the table that says which version is current and who is where.
 #[derive(Drop)]
@@ -39,7 +34,7 @@ pub struct VersionTable {
 }
 
 impl Model for VersionTable {
-    ghost use Rattle.epochs.specs.Table.{TableValue, IsHistory, AreShelved};
+    ghost use Rattle.epochs.specs.History.{TableValue, IsHistory, AreShelved};
 
     ghost Value = { TableValue };
 
@@ -199,7 +194,17 @@ impl VersionTable {
     }
 
     /// Tries each closing shelf: it is freed, if no worker is there.
-    pub fn collect(&mut self) -> Collected
+    pub fn collect(&mut self, loader: &mut LoaderSeat) -> Collected
+        ensures collected { Collects self.old result self.new }
+        ensures loader { CollectStep loader.old result loader.new }
+    {
+        self.history();
+        let found = self.try_shelves();
+        loader.tell(LoaderAnswer::Collected { found });
+        found
+    }
+
+    fn try_shelves(&mut self) -> Collected
         ensures { Collects self.old result self.new }
     {
         runs_in_parts();
@@ -260,6 +265,34 @@ impl VersionTable {
     /// one is tried first. A refusal gives the image back, and the current version stays.
     pub fn publish(
         &mut self,
+        loader: &mut LoaderSeat,
+        image: Arc<Verified, Global>,
+    ) -> Result<u64, (Arc<Verified, Global>, PublishFault)>
+        ensures published { IfOk result (λ v. (room : TableValue) × MakesRoom self.old room × Publishes room (arc_value image) v self.new) }
+        ensures refused { IfErr result (λ e. RefusesPublish self.old e.1 self.new) }
+        ensures back { IfErr result (λ e. e.0 ≡ image) }
+        ensures loader { MatchResult result (λ v. PublishStep loader.old (arc_value image) v loader.new) (λ e. RefuseStep loader.old e.1 loader.new) }
+    {
+        self.history();
+        let shown = Snapshot::of(&*image);
+        match self.publish_next(image) {
+            Ok(version) => {
+                self.history();
+                loader.tell(LoaderAnswer::Published {
+                    version,
+                    image: shown,
+                });
+                Ok(version)
+            }
+            Err((image, fault)) => {
+                loader.tell(LoaderAnswer::PublishRefused { fault });
+                Err((image, fault))
+            }
+        }
+    }
+
+    fn publish_next(
+        &mut self,
         image: Arc<Verified, Global>,
     ) -> Result<u64, (Arc<Verified, Global>, PublishFault)>
         ensures published { IfOk result (λ v. (room : TableValue) × MakesRoom self.old room × Publishes room (arc_value image) v self.new) }
@@ -295,7 +328,7 @@ impl VersionTable {
         if self.has_free() {
             return Ok(());
         }
-        let found = self.collect();
+        let found = self.try_shelves();
         if self.has_free() {
             Ok(())
         } else {

@@ -1,9 +1,5 @@
-use Rattle.epochs.proofs.Tries.{one_more_tried, all_tried}
+use Rattle.epochs.proofs.SeatLemmas.{freed_never_busy}
 use Rattle.epochs.proofs.table.VersionTable.collect.Goals as goal
 
-pub loop-shelf-preserved : goal.loop-shelf-preserved
-loop-shelf-preserved c =
-    one_more_tried c.loop-shelf.shelf _ c.loop-shelf.self c.try_shelf-freed.new.self c.loop-shelf.found.freed c.loop-shelf.found.busy c.try_shelf-freed.result.0 c.try_shelf-freed.result.1 c.runs_in_parts.ensures.join c.loop-shelf-test.true c.loop-shelf.invariant c.try_shelf-freed.ensures
-
-pub returns : goal.returns
-returns c = all_tried c.loop-shelf.shelf c.args.self.now c.loop-shelf.found c.loop-shelf.self c.history.ensures.kept c.loop-shelf-test.false c.loop-shelf.invariant
+pub returns-clause-loader : goal.returns-clause-loader
+returns-clause-loader c = (freed_never_busy c.args.self.now c.try_shelves-found.result c.try_shelves-found.new.self c.history.ensures.kept c.try_shelves-found.ensures, c.tell.ensures)

@@ -1,5 +1,5 @@
 use Rattle.std.proofs.Common.{sym, ◌∙◌}
-use Rattle.epochs.proofs.Histories.{current_there, current_is, never_none}
+use Rattle.epochs.proofs.HistoryLemmas.{current_there, current_is, never_none}
 use Rattle.epochs.proofs.table.VersionTable.current_edition.Goals as goal
 
 pub unreachable-requires : goal.unreachable-requires

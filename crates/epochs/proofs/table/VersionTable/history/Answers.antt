@@ -1,4 +1,4 @@
-use Rattle.epochs.proofs.Loads.{held_have_images}
+use Rattle.epochs.proofs.LoadLemmas.{held_have_images}
 use Rattle.epochs.proofs.table.VersionTable.history.Goals as goal
 
 pub returns-clause-held : goal.returns-clause-held

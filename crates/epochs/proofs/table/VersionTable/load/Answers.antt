@@ -1,7 +1,7 @@
 use Rattle.std.proofs.Common.{refl, ap, ◌∙◌, subst, [], ◌∷◌, ◌++◌}
 use Rattle.version_core.specs.declared.event.Event.{Event}
 use Rattle.version_core.specs.Steps.{OpenStep, CloseStep, OpensLeast}
-use Rattle.epochs.proofs.Loads.{load_kept, load_publishes, three_more}
+use Rattle.epochs.proofs.LoadLemmas.{load_kept, load_publishes, three_more}
 use Rattle.epochs.proofs.table.VersionTable.load.Goals as goal
 
 pub invariant_of-self-2 : goal.invariant_of-self-2
@@ -27,5 +27,5 @@ returns-clause-published c =
     let least = subst (λ r. OpensLeast c.self.inside.core (Event.Open c.current-number.result.0) r) c.in-Ok-Opened.field-0-is c.in-Ok-Opened.ensures.least in
     rw (← c.self.view_is)
     (load_publishes c.self.inside.core c.close-closing.new.self c.current-number.result.0 c.in-Ok-Opened.version c.in-Ok-Opened.shelf c.publish-published.result c.close-closing.result c.self.inside.events c.note-3.new.self c.self.inside.images c.note-4.new.self _
-      c.at_rest.ensures.loads now.kept c.self.invariant.0
-      (record { opened = c.open.new.self; published = c.publish-published.new.self; first = first; then = c.publish-published.ensures; last = last }) least now.version events added)
+    c.at_rest.ensures.loads now.kept c.self.invariant.0
+    (record { opened = c.open.new.self; published = c.publish-published.new.self; first = first; then = c.publish-published.ensures; last = last }) least now.version events added)

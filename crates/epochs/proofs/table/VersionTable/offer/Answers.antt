@@ -1,6 +1,6 @@
 use Rattle.std.proofs.Common.{ap, ◌∙◌, Some, arith}
 use Rattle.version_core.specs.declared.state.Worker.{Worker}
-use Rattle.epochs.proofs.Histories.{idle_seen}
+use Rattle.epochs.proofs.HistoryLemmas.{idle_seen}
 use Rattle.epochs.proofs.table.VersionTable.offer.Goals as goal
 
 pub returns-in-Ok-clause-offered : goal.returns-in-Ok-clause-offered

@@ -15,8 +15,9 @@ use Rattle.version_core.specs.Rest.{IsAtRest, RestIsFull}
 use Rattle.version_core.specs.Laws.{RunsJoin}
 use Rattle.version_core.proofs.Lists.{slice_get-set, slice_get-set_same, slice_get-set_other}
 use Rattle.epochs.specs.declared.edition.Edition.{Edition}
-use Rattle.epochs.specs.declared.table.Collected.{Collected}
-use Rattle.epochs.specs.Table.{TableValue, AreShelved, StandsOn, TriesShelf, Collects, tries, try_at, is_freed, busy_count, after_try, HasFree, AreFull}
+use Rattle.epochs.specs.declared.collected.Collected.{Collected}
+use Rattle.epochs.specs.History.{TableValue, AreShelved, StandsOn}
+use Rattle.epochs.specs.Publishing.{TriesShelf, Collects, tries, try_at, is_freed, busy_count, after_try, HasFree, AreFull}
 
 -- a closing shelf with nobody there is freed
 pub tries_freed : (s t : State) (k v : ℕ) (before events : List Event) (images : List ImageValue) → IsClosing s k v → get_or s.counts k 0 ≡ 0 → t ≡ shelved s k Shelf.Free → CollectStep s k Reply.Freed t → events ≡ before ++ Event.Collect k ∷ []
@@ -34,7 +35,7 @@ tries_freed s t k v before events images closing none is step more =
           let one : Shelf.Closing v ≡ shelf = cc in
           subst (λ (x : Shelf). (true ≡ is_freed x (get_or s.counts k 0)) × (0 ≡ busy_count x (get_or s.counts k 0)) × (slice_get t.shelves k ≡ Some (after_try x (get_or s.counts k 0)))) one
           (subst (λ n. (true ≡ is_freed (Shelf.Closing v) n) × (0 ≡ busy_count (Shelf.Closing v) n) × (slice_get t.shelves k ≡ Some (after_try (Shelf.Closing v) n))) (sym none)
-            (refl, refl, ap (λ (x : State). slice_get x.shelves k) is ∙ slice_get-set_same s.shelves k Shelf.Free (slice_get_within s.shelves k _ closing)));
+          (refl, refl, ap (λ (x : State). slice_get x.shelves k) is ∙ slice_get-set_same s.shelves k Shelf.Free (slice_get_within s.shelves k _ closing)));
     }
 
 -- one with workers there stays
@@ -54,7 +55,7 @@ tries_busy s t k v (suc n) before events images closing some more_than is step m
           let one : Shelf.Closing v ≡ shelf = cc in
           subst (λ (x : Shelf). (false ≡ is_freed x (get_or s.counts k 0)) × (suc n ≡ busy_count x (get_or s.counts k 0)) × (slice_get t.shelves k ≡ Some (after_try x (get_or s.counts k 0)))) one
           (subst (λ m. (false ≡ is_freed (Shelf.Closing v) m) × (suc n ≡ busy_count (Shelf.Closing v) m) × (slice_get t.shelves k ≡ Some (after_try (Shelf.Closing v) m))) (sym some)
-            (refl, refl, ap (λ (x : State). slice_get x.shelves k) is ∙ closing));
+          (refl, refl, ap (λ (x : State). slice_get x.shelves k) is ∙ closing));
     }
 
 -- a shelf that is freed lets its edition go
@@ -128,18 +129,16 @@ one_more n a m b freed busy f c law small h t =
       eight_busy = length-set busy n c ∙ h.eight_busy;
       later = λ k more. t.others k (λ e. let z = e in omega arith) ∙ h.later k (omega arith);
       each = λ k shelf here less. dite (ℕ_discrete k n)
-        (λ e.
+          (λ e.
           let at_n : slice_get m.state.shelves n ≡ Some shelf = same ∙ (ap (λ i. slice_get a.state.shelves i) (sym e) ∙ here) in
           let found = t.found shelf at_n in
-          let at_count : get_or m.state.counts n 0 ≡ get_or a.state.counts k 0 = ap (λ (x : List ℕ). get_or x n 0) counts ∙ ap (λ i. get_or a.state.counts i 0) (sym e) in
-          (
+          let at_count : get_or m.state.counts n 0 ≡ get_or a.state.counts k 0 = ap (λ (x : List ℕ). get_or x n 0) counts ∙ ap (λ i. get_or a.state.counts i 0) (sym e) in (
             ap (λ i. slice_get (set freed n f) i) e ∙ (slice_get-set_same freed n f (omega arith) ∙ (ap (λ (x : Bool). Some x) found.0 ∙ ap (λ i. Some (is_freed shelf i)) at_count)),
             ap (λ i. slice_get (set busy n c) i) e ∙ (slice_get-set_same busy n c (omega arith) ∙ (ap (λ (x : ℕ). Some x) found.1 ∙ ap (λ i. Some (busy_count shelf i)) at_count)),
             ap (λ i. slice_get b.state.shelves i) e ∙ (found.2 ∙ ap (λ i. Some (after_try shelf i)) at_count),
           ))
-        (λ other.
-          let before = h.each k shelf here (omega arith) in
-          (
+          (λ other.
+          let before = h.each k shelf here (omega arith) in (
             slice_get-set_other freed n k f other ∙ before.0,
             slice_get-set_other busy n k c other ∙ before.1,
             t.others k other ∙ before.2,

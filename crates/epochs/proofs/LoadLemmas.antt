@@ -15,7 +15,8 @@ use Rattle.version_core.specs.Rest.{IsAtRest, LoadsRest, loaded}
 use Rattle.version_core.specs.Laws.{RunsGrowByRuns}
 use Rattle.version_core.proofs.Lists.{slice_get-set, slice_get-append, slice_get-last}
 use Rattle.epochs.specs.declared.edition.Edition.{Edition}
-use Rattle.epochs.specs.Table.{IsHistory, AreShelved, StandsOn, IsEdition, HeldHaveImages, Publishes, image_of}
+use Rattle.epochs.specs.History.{IsHistory, AreShelved, StandsOn, IsEdition, HeldHaveImages, image_of}
+use Rattle.epochs.specs.Publishing.{Publishes}
 
 there : {X : Type 0} (xs : List X) (n : ℕ) → n < length xs → (x : X) × (slice_get xs n ≡ Some x)
 there [] n small = absurd (omega arith)
@@ -74,13 +75,13 @@ loaded_shelves s k e editions images new kept free h many version =
               | inl a ↦ absurd (apart (sym b.0 ∙ a.0))
               | inr a ↦ elim (slice_get-set s.shelves k j (Shelf.Open n) shelf small a.1) [
                 | inl d ↦ subst (λ (x : Shelf). StandsOn (images ++ more) x edition) (sym d.1)
-                  (new, b.1, version, image_last images (arc_value new.image) n (omega (arith, many)))
+                    (new, b.1, version, image_last images (arc_value new.image) n (omega (arith, many)))
                 | inr d ↦ absurd (d.0 b.0)
               ]
             ]
             | inr b ↦ elim (slice_get-set xs s.current_shelf j (Shelf.Closing s.current) shelf (omega arith) at_shelf) [
               | inl a ↦ subst (λ (x : Shelf). StandsOn (images ++ more) x edition) (sym a.1)
-                (edition_stays images more s.current edition (h.each j (Shelf.Open s.current) edition (ap (λ i. slice_get s.shelves i) a.0 ∙ kept.shelves.current_open) b.1))
+                  (edition_stays images more s.current edition (h.each j (Shelf.Open s.current) edition (ap (λ i. slice_get s.shelves i) a.0 ∙ kept.shelves.current_open) b.1))
               | inr a ↦ elim (slice_get-set s.shelves k j (Shelf.Open n) shelf small a.1) [
                 | inl d ↦ absurd (b.0 d.0)
                 | inr d ↦ stands_still images more shelf edition (h.each j shelf edition d.1 b.1)
@@ -120,11 +121,10 @@ load_kept s t e v k second third before events editions images now new laws kept
       rest = subst (λ (x : State). IsAtRest x) is rest.4;
       as_many = many;
       numbered = λ i x at. numbered_still s.editions e i x h.numbered last at;
-    } in
-    (
+    } in (
       subst (λ (l : List ImageValue). IsHistory t events l) (sym added) (subst (λ (x : State). IsHistory x events (images ++ arc_value new.image ∷ [])) (sym is) history),
       subst (λ (l : List ImageValue). AreShelved t.shelves (set editions k (Some new)) l) (sym added)
-      (subst (λ (x : State). AreShelved x.shelves (set editions k (Some new)) (images ++ arc_value new.image ∷ [])) (sym is) (loaded_shelves s k e editions images new kept steps.first.1 shelved h.as_many (version ∙ rest.0))),
+          (subst (λ (x : State). AreShelved x.shelves (set editions k (Some new)) (images ++ arc_value new.image ∷ [])) (sym is) (loaded_shelves s k e editions images new kept steps.first.1 shelved h.as_many (version ∙ rest.0))),
     )
 
 pub load_publishes : (s t : State) (e v k : ℕ) (second third : Reply) (before events : List Event) (images now : List ImageValue) (image : ImageValue) → LoadsRest → Kept s → IsHistory s before images
@@ -141,7 +141,7 @@ load_publishes s t e v k second third before events images now image law kept h 
       next = rest.0;
       run = subst (λ i. Run s (Event.Open i ∷ Event.Publish ∷ Event.Close s.current_shelf ∷ []) (Reply.Opened v k ∷ Reply.Published v ∷ Reply.Closing ∷ []) t) last
           (subst (λ (r : Reply). Run s (Event.Open e ∷ Event.Publish ∷ Event.Close s.current_shelf ∷ []) (Reply.Opened v k ∷ Reply.Published v ∷ r ∷ []) t) rest.2
-            (subst (λ (r : Reply). Run s (Event.Open e ∷ Event.Publish ∷ Event.Close s.current_shelf ∷ []) (Reply.Opened v k ∷ r ∷ third ∷ []) t) rest.1 run));
+          (subst (λ (r : Reply). Run s (Event.Open e ∷ Event.Publish ∷ Event.Close s.current_shelf ∷ []) (Reply.Opened v k ∷ r ∷ third ∷ []) t) rest.1 run));
       events = more ∙ ap (λ i. before ++ Event.Open i ∷ Event.Publish ∷ Event.Close s.current_shelf ∷ []) last;
       images = added;
       current = ap (λ (x : State). x.current) rest.3 ∙ sym rest.0;

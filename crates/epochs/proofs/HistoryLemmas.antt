@@ -14,7 +14,8 @@ use Rattle.version_core.specs.Rest.{IsNoLoad, RestStays}
 use Rattle.version_core.specs.Laws.{RunsGrow, LooksAndTakesHold, DropsLetGo}
 use Rattle.version_core.proofs.Lists.{slice_get-set_same}
 use Rattle.epochs.specs.declared.edition.Edition.{Edition}
-use Rattle.epochs.specs.Table.{IsHistory, AreShelved, IsEdition, IsCurrent, IsLookAndTake, IsDrop}
+use Rattle.epochs.specs.History.{IsHistory, AreShelved, IsEdition}
+use Rattle.epochs.specs.Pins.{IsCurrent, IsLookAndTake, IsDrop}
 
 -- what a worker's event leaves alone
 pub record SameShelves (s t : State) : Type 0 where
