@@ -3,3 +3,4 @@ pub mod Seats
 pub mod History
 pub mod Pins
 pub mod Publishing
+pub mod SeatLaws

@@ -86,3 +86,9 @@ RefusesPublish a PublishFault.VersionsSpent b = (newest a.state ≡ 1000000000) 
 RefusesPublish a (PublishFault.ShelvesFull counts) b =
     (newest a.state < 1000000000) × (¬ (HasFree a.state)) × ((found : Collected) × Collects a found b × (counts ≡ found.busy)) × AreFull a.state counts
 RefusesPublish a PublishFault.OutOfMemory b = (newest a.state < 1000000000) × MakesRoom a b × HasFree b.state
+
+-- the current version, its shelf and all images are as they were
+pub record StaysCurrent (a b : TableValue) : Type 0 where
+  pub current : b.state.current ≡ a.state.current
+  pub shelf : b.state.current_shelf ≡ a.state.current_shelf
+  pub images : b.images ≡ a.images

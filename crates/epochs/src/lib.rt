@@ -4,6 +4,7 @@
 mod collected;
 mod edition;
 mod faults;
+pub mod laws;
 mod locked;
 mod seats;
 mod solo;

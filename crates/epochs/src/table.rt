@@ -9,7 +9,7 @@ ghost use Rattle.version_core.specs.declared.state.Worker.{Worker};
 ghost use Rattle.epochs.specs.Seats.{PinStep, ReleaseStep, PublishStep, RefuseStep, CollectStep};
 ghost use Rattle.epochs.specs.History.{IsHistory, HeldHaveImages, TableValue};
 ghost use Rattle.epochs.specs.Pins.{SeatFits, Pins, RefusesPin, Releases, RefusesRelease, IsOffer, IsCurrent, IsLookAndTake, IsDrop};
-ghost use Rattle.epochs.specs.Publishing.{TriesShelf, Collects, HasFree, MakesRoom, Publishes, RefusesPublish};
+ghost use Rattle.epochs.specs.Publishing.{TriesShelf, Collects, HasFree, MakesRoom, Publishes, RefusesPublish, StaysCurrent};
 ghost use Rattle.epochs.specs.declared.faults.PublishFault.{PublishFault};
 
 use crate::collected::Collected;
@@ -271,6 +271,7 @@ impl VersionTable {
         ensures published { IfOk result (λ v. (room : TableValue) × MakesRoom self.old room × Publishes room (arc_value image) v self.new) }
         ensures refused { IfErr result (λ e. RefusesPublish self.old e.1 self.new) }
         ensures back { IfErr result (λ e. e.0 ≡ image) }
+        ensures same { OnErr result (StaysCurrent self.old self.new) }
         ensures loader { MatchResult result (λ v. PublishStep loader.old (arc_value image) v loader.new) (λ e. RefuseStep loader.old e.1 loader.new) }
     {
         self.history();

@@ -1,5 +1,5 @@
 use Rattle.std.proofs.Common.{◌∙◌}
-use Rattle.epochs.proofs.SeatLemmas.{version_within, refused_so}
+use Rattle.epochs.proofs.SeatLemmas.{version_within, refused_so, stays_current}
 use Rattle.epochs.proofs.table.VersionTable.publish.Goals as goal
 
 pub returns-in-Ok-clause-loader : goal.returns-in-Ok-clause-loader
@@ -13,3 +13,6 @@ returns-in-Ok-clause-loader c =
 pub returns-in-Err-clause-loader : goal.returns-in-Err-clause-loader
 returns-in-Err-clause-loader c =
     refused_so c.args.self.now c.publish_next.new.self c.args.loader.now c.tell-in-Err.new.self c.in-Err.fault c.history.ensures.kept c.in-Err.ensures.refused c.tell-in-Err.ensures
+
+pub returns-in-Err-clause-same : goal.returns-in-Err-clause-same
+returns-in-Err-clause-same c = stays_current c.args.self.now c.publish_next.new.self c.in-Err.fault c.in-Err.ensures.refused
