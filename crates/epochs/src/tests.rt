@@ -14,7 +14,10 @@ fn image(alloc: Global, base: u32) -> Result<Arc<Verified, Global>, Fail> {
         *word = base;
     }
     match verify(alloc, words) {
-        Ok(image) => Ok(Arc::new(alloc, image)?),
+        Ok(image) => match Arc::new(alloc, image) {
+            Ok(shared) => Ok(shared),
+            Err(_) => Err(AllocError.into()),
+        },
         Err((_, fault)) => {
             if fault.number() == 76 {
                 return Err(AllocError.into());
