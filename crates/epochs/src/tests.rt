@@ -73,6 +73,22 @@ fn current_version<T: Versions, R: Wait>(
     Ok(version)
 }
 
+/// Publishes, collects, and tells the version and which shelves were freed.
+fn load<T: Loads, R: Wait>(
+    rt: &R,
+    shelves: &T,
+    loader: &mut T::Loader,
+    image: Arc<Verified, Global>,
+) -> Option<(u64, [bool; 8])>
+    requires { T.loads shelves.now loader.old }
+    ensures { T.loads shelves.now loader.new }
+{
+    match shelves.publish(rt, loader, image) {
+        Ok(version) => Some((version, shelves.collect(rt, loader).freed)),
+        Err(_) => None,
+    }
+}
+
 #[test]
 fn eight_versions_fill_the_shelves(rt: HostRuntime) -> Result<(), Fail> {
     let (shelves, mut loader, mut seats) = new_shelves(rt.alloc())?;
@@ -162,15 +178,15 @@ fn shelves_for_one_worker(rt: HostRuntime) -> Result<(), Fail> {
         return Err(AllocError.into());
     };
     assert_eq!(&rt; current_version(&rt, &shelves, &mut seat), Ok(1));
-    assert_eq!(&rt;
-        shelves.publish(&rt, &mut loader, image(alloc, 2)?).ok(),
-        Some(2)
-    );
+    let freed = [true, false, false, false, false, false, false, false];
+    let loaded = load(&rt, &shelves, &mut loader, image(alloc, 2)?);
+    assert_eq!(&rt; loaded, Some((2, freed)));
     assert_eq!(&rt; current_version(&rt, &shelves, &mut seat), Ok(2));
-    assert_eq!(&rt;
-        shelves.collect(&rt, &mut loader).freed.first(),
-        Some(&true)
-    );
+    let freed = [false, true, false, false, false, false, false, false];
+    let loaded = load(&rt, &shelves, &mut loader, image(alloc, 3)?);
+    assert_eq!(&rt; loaded, Some((3, freed)));
+    assert_eq!(&rt; shelves.pin(&rt, &mut seat), Ok(()));
+    assert_eq!(&rt; held(&seat), Some((3, 3)));
     Ok(())
 }
 
