@@ -84,7 +84,11 @@ fn load<T: Loads, R: Wait>(
     ensures { T.loads shelves.now loader.new }
 {
     match shelves.publish(rt, loader, image) {
-        Ok(version) => Some((version, shelves.collect(rt, loader).freed)),
+        Ok(version) => {
+            let found = shelves.collect(rt, loader);
+            let freed = found.freed;
+            Some((version, freed))
+        }
         Err(_) => None,
     }
 }
