@@ -8,15 +8,15 @@ use thiserror::Error;
 /// Why a pin or a release was refused.
 #[derive(Clone, Copy, Debug, PartialEq, Eq, Error)]
 pub enum PinFault {
-    /// Each version that was looked at was gone before it could be held. The last of them was the newest.
-    #[error("version {newest} is gone as those before it")]
+    /// Each version that was looked at was gone before it could be held. `newest` is the last of them.
+    #[error("each version was gone before it could be held, version {newest} as the last")]
     Moved { newest: u64 },
     #[error("the seat holds a version already")]
     AlreadyPinned,
     #[error("the seat holds no version")]
     NotPinned,
     /// The shelves know something else of the seat's worker than the seat does.
-    #[error("the seat is none of these shelves")]
+    #[error("the shelves know the seat's worker otherwise than the seat does")]
     SeatLost,
     #[error("out of memory")]
     OutOfMemory,

@@ -70,7 +70,8 @@ impl VersionTable {
         })
     }
 
-    /// What holds of every table, whatever was done to it. It does nothing: its contract is the promise.
+    /// What holds of every table, and so under every lock, whatever was done before: the state is where the events lead from
+    /// the start. It does nothing: its contract is the promise.
     pub fn history(&self)
         ensures history { IsHistory self.now.state self.now.events self.now.images }
         ensures kept { Kept self.now.state }
@@ -221,7 +222,7 @@ impl VersionTable {
         found
     }
 
-    // Frees the shelf, if it is closing and no worker is there: whether it did, and how many workers are there else.
+    // Frees the shelf, if it is closing and no worker is there. Tells whether it did, and how many workers kept it from that.
     fn try_shelf(&mut self, shelf: usize) -> (bool, u8)
         requires { shelf < 8 }
         ensures { TriesShelf self.old shelf result.0 result.1 self.new }
