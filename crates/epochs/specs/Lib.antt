@@ -1,0 +1,6 @@
+pub mod FaultNumber
+pub mod Seats
+pub mod History
+pub mod Pins
+pub mod Publishing
+pub mod SeatLaws

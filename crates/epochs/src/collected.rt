@@ -1,0 +1,8 @@
+/// What the tries at the closing shelves found.
+#[derive(Clone, Copy, Debug, PartialEq, Eq)]
+pub struct Collected {
+    /// The shelves that are free now.
+    pub freed: [bool; 8],
+    /// How many workers are still at each closing shelf. 0 for the others.
+    pub busy: [u8; 8],
+}

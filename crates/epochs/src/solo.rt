@@ -1,0 +1,85 @@
+//! Shelves for one worker and one loader, as tests and single sessions use them.
+
+ghost use Rattle.std.specs.Prelude.{◌≡◌, [], IfOk, IfErr};
+ghost use Rattle.epochs.specs.Seats.{idle_seat};
+ghost use Rattle.epochs.specs.declared.faults.PublishFault.{PublishFault};
+
+use crate::collected::Collected;
+use crate::edition::Edition;
+use crate::faults::{PinFault, PublishFault};
+use crate::locked::LockedShelves;
+use crate::seats::{LoaderSeat, WorkerSeat};
+use crate::table::VersionTable;
+use crate::versions::{Loads, Versions};
+use image_verifier::Verified;
+use std::alloc::Global;
+use std::sync::{Arc, Wait};
+
+/// `LockedShelves` with one worker's seat.
+#[derive(Drop)]
+pub struct SoloShelves {
+    shelves: LockedShelves,
+}
+
+impl SoloShelves {
+    /// The image is version 1. A refusal gives it back.
+    pub fn new(
+        alloc: Global,
+        first: Arc<Verified, Global>,
+    ) -> Result<(SoloShelves, LoaderSeat, WorkerSeat), (Arc<Verified, Global>, PublishFault)>
+        ensures loader { IfOk result (λ made. made.1 ≡ []) }
+        ensures seat { IfOk result (λ made. made.2 ≡ idle_seat 0) }
+        ensures refused { IfErr result (λ e. (e.0 ≡ first) × (e.1 ≡ PublishFault.OutOfMemory)) }
+    {
+        match VersionTable::new(alloc, first) {
+            Ok(table) => {
+                let shelves = SoloShelves {
+                    shelves: LockedShelves::of(table),
+                };
+                Ok((shelves, LoaderSeat::new(), WorkerSeat::idle(0)))
+            }
+            Err((first, _)) => Err((first, PublishFault::OutOfMemory)),
+        }
+    }
+}
+
+impl Versions for SoloShelves {
+    type Seat = WorkerSeat;
+
+    ghost fits = { λ shelves seat. Unit {0} };
+
+    ghost value = { λ seat. seat.shown };
+
+    fn pin<R: Wait>(&self, rt: &R, seat: &mut WorkerSeat) -> Result<(), PinFault> {
+        self.shelves.pin(rt, seat)
+    }
+
+    fn edition(seat: &WorkerSeat) -> Option<&Edition> {
+        seat.edition()
+    }
+
+    fn release<R: Wait>(&self, rt: &R, seat: &mut WorkerSeat) -> Result<(), PinFault> {
+        self.shelves.release(rt, seat)
+    }
+}
+
+impl Loads for SoloShelves {
+    type Loader = LoaderSeat;
+
+    ghost loads = { λ shelves loader. Unit {0} };
+
+    ghost answers = { λ loader. loader };
+
+    fn publish<R: Wait>(
+        &self,
+        rt: &R,
+        loader: &mut LoaderSeat,
+        image: Arc<Verified, Global>,
+    ) -> Result<u64, (Arc<Verified, Global>, PublishFault)> {
+        self.shelves.publish(rt, loader, image)
+    }
+
+    fn collect<R: Wait>(&self, rt: &R, loader: &mut LoaderSeat) -> Collected {
+        self.shelves.collect(rt, loader)
+    }
+}

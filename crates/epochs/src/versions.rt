@@ -1,0 +1,69 @@
+//! What a session needs of shelves, and what a loader does.
+
+ghost use Rattle.std.specs.Prelude.{◌≡◌, List, None, Some, MatchOption, MatchResult, IfErr};
+ghost use Rattle.std.specs.Arc.{arc_value};
+ghost use Rattle.epochs.specs.Seats.{SeatValue, PinStep, ReleaseStep, PublishStep, RefuseStep, CollectStep};
+ghost use Rattle.epochs.specs.declared.seats.LoaderAnswer.{LoaderAnswer};
+
+use crate::collected::Collected;
+use crate::edition::Edition;
+use crate::faults::{PinFault, PublishFault};
+use image_verifier::Verified;
+use std::alloc::Global;
+use std::sync::{Arc, Wait};
+
+/// Shelves from which workers' seats pin versions.
+pub trait Versions {
+    type Seat;
+
+    // The seat may be used at these shelves.
+    ghost fits: { Self → Self.Seat → Type 0 };
+
+    // What the seat was answered so far, what it holds, and what it has seen.
+    ghost value: { Self.Seat → SeatValue };
+
+    /// Pins the current version.
+    fn pin<R: Wait>(&self, rt: &R, seat: &mut Self::Seat) -> Result<(), PinFault>
+        requires { fits self.now seat.old }
+        ensures fits { fits self.now seat.new }
+        ensures pin { PinStep (value seat.old) result (value seat.new) };
+
+    /// The version that the seat holds, with its image.
+    fn edition(seat: &Self::Seat) -> Option<&Edition>
+        ensures { MatchOption result ((value seat.now).held ≡ None) (λ e. (value seat.now).held ≡ Some (e.now.version, arc_value e.now.image)) };
+
+    /// Gives back what the seat holds.
+    fn release<R: Wait>(&self, rt: &R, seat: &mut Self::Seat) -> Result<(), PinFault>
+        requires { fits self.now seat.old }
+        ensures fits { fits self.now seat.new }
+        ensures release { ReleaseStep (value seat.old) result (value seat.new) };
+}
+
+/// Shelves on which one loader publishes versions.
+pub trait Loads: Versions {
+    type Loader;
+
+    // The loader's seat may be used at these shelves.
+    ghost loads: { Self → Self.Loader → Type 0 };
+
+    // What the loader's seat was answered so far.
+    ghost answers: { Self.Loader → List LoaderAnswer };
+
+    /// Publishes the image as the next version. A refusal gives it back.
+    fn publish<R: Wait>(
+        &self,
+        rt: &R,
+        loader: &mut Self::Loader,
+        image: Arc<Verified, Global>,
+    ) -> Result<u64, (Arc<Verified, Global>, PublishFault)>
+        requires { loads self.now loader.old }
+        ensures loads { loads self.now loader.new }
+        ensures back { IfErr result (λ e. e.0 ≡ image) }
+        ensures loader { MatchResult result (λ v. PublishStep (answers loader.old) (arc_value image) v (answers loader.new)) (λ e. RefuseStep (answers loader.old) e.1 (answers loader.new)) };
+
+    /// Tries each closing shelf: it is freed, if no worker is there.
+    fn collect<R: Wait>(&self, rt: &R, loader: &mut Self::Loader) -> Collected
+        requires { loads self.now loader.old }
+        ensures loads { loads self.now loader.new }
+        ensures loader { CollectStep (answers loader.old) result (answers loader.new) };
+}
