@@ -55,7 +55,7 @@ known_below None s n e h = absurd h
 known_below (Some x) s n e h = let same : x ≡ s = cc in omega (arith, h, same)
 
 module _ (feed : Feed) (zone : Zone) (base : ℤ) (runs : List Run) (cs : List Connection) (runnable : IsRunnable feed) (trips : All (IsTripRun feed.trips.items) runs)
-         (inside : AreRunsInside feed zone base runs) (listed : AreListed feed zone base runs cs) where
+    (inside : AreRunsInside feed zone base runs) (listed : AreListed feed zone base runs cs) where
   -- the stops of a run's rows
   stops_at : (r : ℕ) (start : ℤ) (rows : List StopTimeRow) → IsRunAt feed zone runs r start rows → (k : ℕ) (d : StopTimeRow) → k < length rows → IsSomeAnd (get_or rows k d).stop (λ s. s < length feed.stops.items)
   stops_at r start rows at k d lt =
@@ -107,21 +107,22 @@ module _ (feed : Feed) (zone : Zone) (base : ℤ) (runs : List Run) (cs : List C
       let to = some_value (get_or rows (p + 1) none).stop (length feed.stops.items) (stops_at r start rows at (p + 1) none lt) in
       let times = inside r start rows at in
       let dep = times.departures p (omega (arith, lt)) in
-      let arr = times.arrivals (p + 1) lt in
-      (record { from = from.0; to = to.0; dep = dep.0; arr = arr.0; trip = r; board = (get_or rows p none).board; alight = (get_or rows (p + 1) none).alight },
-      record {
-        row = get_or rows p none;
-        next = get_or rows (p + 1) none;
-        is_row = slice_get-get_or rows p none (omega (arith, lt));
-        is_next = slice_get-get_or rows (p + 1) none lt;
-        from = from.1;
-        to = to.1;
-        dep = dep.1;
-        arr = arr.1;
-        trip = refl;
-        board = refl;
-        alight = refl;
-      })
+      let arr = times.arrivals (p + 1) lt in (
+        record { from = from.0; to = to.0; dep = dep.0; arr = arr.0; trip = r; board = (get_or rows p none).board; alight = (get_or rows (p + 1) none).alight },
+        record {
+          row = get_or rows p none;
+          next = get_or rows (p + 1) none;
+          is_row = slice_get-get_or rows p none (omega (arith, lt));
+          is_next = slice_get-get_or rows (p + 1) none lt;
+          from = from.1;
+          to = to.1;
+          dep = dep.1;
+          arr = arr.1;
+          trip = refl;
+          board = refl;
+          alight = refl;
+        },
+      )
     where
       some_value : (o : Option ℕ) (n : ℕ) → IsSomeAnd o (λ s. s < n) → (s : ℕ) × (o ≡ Some s)
       some_value None n h = absurd h

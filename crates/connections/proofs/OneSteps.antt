@@ -38,9 +38,9 @@ same_heads R never x y xs ys up rise there back =
     elim (head_or_tail y x ys a.0 a.1) [
       | inl same ↦ sym same
       | inr later ↦ elim (head_or_tail x y xs b.0 b.1) [
-          | inl same ↦ same
-          | inr after ↦ absurd (never x y (up 0 (suc after.0) x y (omega arith) refl after.2) (rise 0 (suc later.0) y x (omega arith) refl later.2))
-        ]
+        | inl same ↦ same
+        | inr after ↦ absurd (never x y (up 0 (suc after.0) x y (omega arith) refl after.2) (rise 0 (suc later.0) y x (omega arith) refl later.2))
+      ]
     ]
 
 tails_among : (R : Connection → Connection → Type 0) (never : (x y : Connection) → R x y → R y x → ⊥) (x y : Connection) (xs ys : List Connection) → x ≡ y → Rises R (x ∷ xs) → Among (x ∷ xs) (y ∷ ys) → Among xs ys

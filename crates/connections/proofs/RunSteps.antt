@@ -52,7 +52,7 @@ pub runs_step : (feed : Feed) (day : Day) (trips : List Trip) (i : ℕ) (trip : 
     → before ≡ old ++ runs_from feed day 0 (take i trips) → new ≡ before ++ run_if (runs_on feed day trip) day i → new ≡ old ++ runs_from feed day 0 (take (i + 1) trips)
 runs_step feed day trips i trip old before new lt is was now =
     let more : runs_from feed day 0 (take (i + 1) trips) ≡ runs_from feed day 0 (take i trips) ++ run_if (runs_on feed day trip) day i =
-        runs_more feed day trips i trip lt ∙ ap (λ (t : Trip). runs_from feed day 0 (take i trips) ++ run_if (runs_on feed day t) day i) (sym is) in
+    runs_more feed day trips i trip lt ∙ ap (λ (t : Trip). runs_from feed day 0 (take i trips) ++ run_if (runs_on feed day t) day i) (sym is) in
     now ∙ ap (λ rs. rs ++ run_if (runs_on feed day trip) day i) was ∙ append_assoc old (runs_from feed day 0 (take i trips)) (run_if (runs_on feed day trip) day i)
     ∙ ap (λ rs. old ++ rs) (sym more)
 

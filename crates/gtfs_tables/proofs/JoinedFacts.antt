@@ -124,8 +124,10 @@ pub joined_names : (strict : Bool) (t : Tables) (feed : Feed) → IsJoined stric
 joined_names strict t feed joined k d lt =
     let count = stops_counted t feed (stop_named t.stops.items) joined.feed_is.stops in
     let row = zip_at (IsTransferOf (stop_named t.stops.items)) (filter is_kept t.transfers.items) feed.transfers.items k d joined.feed_is.transfers lt in
-    rw count (place_below t.stops.items (string_bytes row.0.from) (slice_index_or feed.transfers.items k d).from row.1.from,
-    place_below t.stops.items (string_bytes row.0.to) (slice_index_or feed.transfers.items k d).to row.1.to)
+    rw count (
+      place_below t.stops.items (string_bytes row.0.from) (slice_index_or feed.transfers.items k d).from row.1.from,
+      place_below t.stops.items (string_bytes row.0.to) (slice_index_or feed.transfers.items k d).to row.1.to,
+    )
 
 -- ---- where the rows of a trip stand
 
@@ -279,15 +281,15 @@ made_runnable strict t feed joined k row lt =
       rising = up;
       within = inside;
       timed = λ makes.
-      let parts = and_parts (not (is_flex (of_trip turns k rows))) (nat_le 2 (first_turn turns (k + 1) - first_turn turns k)) makes in
-      let two = leb-true 2 (first_turn turns (k + 1) - first_turn turns k) parts.1 in
-      timed_by strict (of_trip turns k rows) (le-ltb (length (of_trip turns k rows)) 2 (omega arith)) (not_true (is_flex (of_trip turns k rows)) parts.0) (fault_none strict t turns k joined.faultless lt);
+          let parts = and_parts (not (is_flex (of_trip turns k rows))) (nat_le 2 (first_turn turns (k + 1) - first_turn turns k)) makes in
+          let two = leb-true 2 (first_turn turns (k + 1) - first_turn turns k) parts.1 in
+          timed_by strict (of_trip turns k rows) (le-ltb (length (of_trip turns k rows)) 2 (omega arith)) (not_true (is_flex (of_trip turns k rows)) parts.0) (fault_none strict t turns k joined.faultless lt);
       stops_below = λ makes i d less.
-      let parts = and_parts (not (is_flex (of_trip turns k rows))) (nat_le 2 (first_turn turns (k + 1) - first_turn turns k)) makes in
-      let steady = not_true (is_flex (of_trip turns k rows)) parts.0 in
-      let at : get_or (of_trip turns k rows) i d ≡ get_or rows (first_turn turns k + i) d = slice_at rows (first_turn turns k) (first_turn turns (k + 1)) i d (omega arith) in
-      stop_below (count_by is_stop t.stops.items) (get_or (of_trip turns k rows) i d).stop (none_any (λ (row : StopTimeRow). is_none row.stop) (of_trip turns k rows) i d steady less)
-      (λ s e. row_below t turns (first_turn turns k + i) s d (omega arith) (sym (ap (λ (row : StopTimeRow). row.stop) at) ∙ e));
+          let parts = and_parts (not (is_flex (of_trip turns k rows))) (nat_le 2 (first_turn turns (k + 1) - first_turn turns k)) makes in
+          let steady = not_true (is_flex (of_trip turns k rows)) parts.0 in
+          let at : get_or (of_trip turns k rows) i d ≡ get_or rows (first_turn turns k + i) d = slice_at rows (first_turn turns k) (first_turn turns (k + 1)) i d (omega arith) in
+          stop_below (count_by is_stop t.stops.items) (get_or (of_trip turns k rows) i d).stop (none_any (λ (row : StopTimeRow). is_none row.stop) (of_trip turns k rows) i d steady less)
+          (λ s e. row_below t turns (first_turn turns k + i) s d (omega arith) (sym (ap (λ (row : StopTimeRow). row.stop) at) ∙ e));
     }
 
 pub joined_trips : (strict : Bool) (t : Tables) (feed : Feed) → IsJoined strict t feed → All (IsRunnableTrip (length feed.stops.items) feed.stop_times.items) feed.trips.items
