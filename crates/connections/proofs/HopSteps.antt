@@ -1,13 +1,13 @@
 -- The connections of a run, a row on.
-use Rattle.std.proofs.Common.{◌≡◌, ℕ, zero, suc, ℤ, pos, ◌+ℤ◌, ◌<ℤ◌, ◌≤ℤ◌, ◌+◌, ◌<◌, ◌≤◌, ◌⊎◌, inl, inr, List, [], ◌∷◌, ◌++◌, length, get_or, Option, Some, None, IsSome, All, refl, sym, ap, ◌∙◌, subst, arith, append_assoc}
+use Rattle.std.proofs.Common.{◌≡◌, ℕ, ℤ, ◌+◌, ◌<◌, inl, inr, List, [], ◌∷◌, ◌++◌, length, get_or, Option, Some, None, IsSome, All, refl, sym, ap, ◌∙◌, subst, arith, append_assoc}
 use Rattle.std.proofs.lemmas.Bool.{cases_eq, false≢true}
 use Rattle.std.proofs.lemmas.Int.{ints}
 use Rattle.std.proofs.lemmas.List.{append-nil, get_or_append_left, get_or_push, length_push}
 use Rattle.std.proofs.lemmas.Option.{slice_get-get_or}
 use Rattle.gtfs_rows.specs.declared.rows.StopTimeRow.{StopTimeRow}
 use Rattle.timetable.specs.declared.network.Connection.{Connection}
-use Rattle.connections.specs.Hops.{AddsHops, AreHops, IsClock, IsHop, IsInside, IsOutside}
-use Rattle.connections.specs.Times.{AreTimesBefore, row_times}
+use Rattle.connections.specs.Hops.{AddsHops, IsClock, IsHop, IsOutside}
+use Rattle.connections.specs.Times.{AreTimesBefore}
 use Rattle.connections.specs.declared.times.RowTimes.{RowTimes}
 
 -- what has a clock doesn't lie outside

@@ -1,26 +1,25 @@
 -- Listed connections are legal.
-use Rattle.std.proofs.Common.{◌≡◌, ℕ, zero, suc, ℤ, pos, ◌+ℤ◌, ◌+◌, ◌-◌, ◌<◌, ◌≤◌, ◌⊎◌, inl, inr, List, [], ◌∷◌, length, get_or, Option, Some, None, IsSomeAnd, All, Contains, true, false, refl, sym, ap, ◌∙◌, subst, arith}
+use Rattle.std.proofs.Common.{◌≡◌, ℕ, suc, ℤ, ◌+◌, ◌-◌, ◌<◌, ◌≤◌, inl, inr, List, ◌∷◌, length, get_or, Option, Some, None, IsSomeAnd, All, Contains, true, false, refl, sym, ap, ◌∙◌, subst, arith}
 use Rattle.std.specs.List.{slice_get}
-use Rattle.std.proofs.lemmas.Bool.{cases_lt, cases_order}
+use Rattle.std.proofs.lemmas.Bool.{cases_order}
 use Rattle.std.proofs.lemmas.Int.{ints}
 use Rattle.std.proofs.lemmas.Option.{get_or_from_slice_get, same_Some, slice_get-get_or, slice_get_within}
 use Rattle.gtfs_rows.specs.declared.rows.StopTimeRow.{StopTimeRow}
 use Rattle.gtfs_rows.specs.declared.values.Day.{Day}
-use Rattle.gtfs_tables.specs.Joined.{IsRunnable, makes_connections, rows_of}
+use Rattle.gtfs_tables.specs.Joined.{IsRunnable, makes_connections}
 use Rattle.gtfs_tables.specs.declared.tables.Feed.{Feed}
 use Rattle.gtfs_tables.specs.declared.tables.Trip.{Trip}
 use Rattle.service_days.specs.Days.{day_after}
 use Rattle.service_days.specs.Zones.{IsDayStart}
 use Rattle.service_days.specs.declared.zone.Zone.{Zone}
 use Rattle.timetable.specs.Legal.{At, IsJustBefore}
-use Rattle.timetable.specs.declared.limits.TheConstants.{TIME_END}
 use Rattle.timetable.specs.declared.network.Connection.{Connection}
 use Rattle.connections.specs.Days.{HaveStarts, days_from}
-use Rattle.connections.specs.Hops.{AreInside, IsClock, IsHop}
+use Rattle.connections.specs.Hops.{IsClock, IsHop}
 use Rattle.connections.specs.Legal.{AreWithinLimits, HasLegalConnections}
 use Rattle.connections.specs.Listed.{AreListed, AreRunsInside, IsRunAt, IsRunHop}
 use Rattle.connections.specs.Outcome.{IsListing}
-use Rattle.connections.specs.Runs.{IsTripRun, runs_of_days}
+use Rattle.connections.specs.Runs.{IsTripRun}
 use Rattle.connections.specs.Times.{arrives, departs}
 use Rattle.connections.specs.declared.runs.Run.{Run}
 use Rattle.connections.proofs.DaySteps.{days_next}

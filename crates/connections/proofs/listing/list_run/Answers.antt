@@ -1,8 +1,7 @@
-use Rattle.std.proofs.Common.{◌≡◌, ◌∙◌, ap, sym, subst, inl, inr, List, All, length, get_or}
-use Rattle.std.specs.Prelude.{Any}
+use Rattle.std.proofs.Common.{◌≡◌, ◌∙◌, ap, sym, subst, inr, List, All, length, get_or}
 use Rattle.gtfs_rows.specs.declared.rows.StopTimeRow.{StopTimeRow}
 use Rattle.gtfs_tables.specs.Joined.{rows_of}
-use Rattle.connections.specs.Hops.{IsInside, LiesOutside}
+use Rattle.connections.specs.Hops.{IsInside}
 use Rattle.connections.specs.declared.times.RowTimes.{RowTimes}
 use Rattle.connections.specs.declared.times.TripTimes.{TripTimes}
 use Rattle.connections.proofs.ReadySteps.{IsReady, all_inside, ready, run_rows, some_outside}

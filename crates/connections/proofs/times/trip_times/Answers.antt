@@ -1,8 +1,8 @@
-use Rattle.std.proofs.Common.{◌≡◌, ◌≤◌, ◌+◌, ◌<◌, ◌^◌, ◌++◌, ◌∷◌, [], ◌||◌, not, ◌&&◌, ◌==◌, length, get_or, Some, None, sym, ap, ◌∙◌, subst, refl, arith, List, Bool, ℕ}
+use Rattle.std.proofs.Common.{◌≡◌, ◌<◌, ◌^◌, ◌++◌, ◌∷◌, [], not, ◌&&◌, ◌==◌, length, get_or, ap, ◌∙◌, subst, arith, List, ℕ}
 use Rattle.gtfs_tables.specs.Times.{arrives_spread, departs_spread}
 use Rattle.connections.specs.Times.{AreTimesBefore, is_moved_before, lifted_by}
 use Rattle.connections.specs.declared.times.RowTimes.{RowTimes}
-use Rattle.connections.proofs.TimeSteps.{IsLiftedTo, lifted_more, lifted_none, left_fits}
+use Rattle.connections.proofs.TimeSteps.{lifted_more, lifted_none, left_fits}
 use Rattle.connections.proofs.times.trip_times.Goals as goal
 
 pub loop-arrival-init : goal.loop-arrival-init
