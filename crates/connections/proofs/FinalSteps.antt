@@ -1,7 +1,7 @@
 -- The outcome, put together.
-use Rattle.std.proofs.Common.{◌≡◌, ℕ, zero, suc, ℤ, ◌+◌, ◌-◌, ◌<◌, ◌≤◌, ◌⊎◌, inl, inr, min, List, [], ◌∷◌, ◌++◌, length, map, get_or, set, take, Option, Some, Bool, true, false, ◌&&◌, All, Contains, cond, refl, sym, ap, ◌∙◌, subst, arith}
+use Rattle.std.proofs.Common.{◌≡◌, ℕ, suc, ℤ, ◌+◌, ◌<◌, ◌≤◌, ◌⊎◌, inl, inr, min, List, [], ◌∷◌, ◌++◌, length, map, get_or, set, Some, Bool, true, false, All, Contains, refl, sym, ap, ◌∙◌, subst, arith}
 use Rattle.std.specs.Prelude.{count_by, filter, IsPermutation}
-use Rattle.std.specs.List.{flat_map, slice_get, swap}
+use Rattle.std.specs.List.{slice_get, swap}
 use Rattle.std.specs.String.{string_bytes}
 use Rattle.std.proofs.lemmas.Bool.{and_parts, cases_Bool, cases_eq, cases_order}
 use Rattle.std.proofs.lemmas.List.{get_or-set_other, get_or-set_same, get_or_append_left, get_or_push, length-set, length_push, take_all}
@@ -12,7 +12,7 @@ use Rattle.std.proofs.lemmas.List.Edits.{length-swap, swap_is}
 use Rattle.std.proofs.lemmas.Option.{get_or_from_slice_get, slice_get-get_or, slice_get_within}
 use Rattle.gtfs_rows.specs.declared.fault.Table.TheVariants as tables
 use Rattle.gtfs_rows.specs.declared.values.Day.{Day}
-use Rattle.gtfs_tables.specs.Joined.{makes_connections, rows_of}
+use Rattle.gtfs_tables.specs.Joined.{makes_connections}
 use Rattle.gtfs_tables.specs.declared.tables.Feed.{Feed}
 use Rattle.gtfs_tables.specs.declared.tables.Trip.{Trip}
 use Rattle.gtfs_rows.specs.declared.rows.StopTimeRow.{StopTimeRow}
@@ -28,8 +28,8 @@ use Rattle.connections.specs.Building.{AreByRun, AreSorted, IsEarlier, IsNotAfte
 use Rattle.connections.specs.Days.{AreStarted, HasNoStartAmong, HaveStarts, days_from}
 use Rattle.connections.specs.Faults.{IsWantOfMemory, range_fault, too_many_of}
 use Rattle.connections.specs.Hops.{AreInside}
-use Rattle.connections.specs.Listed.{AreListed, AreRunsInside, HasRunOutside, IsBefore, IsRunAt, IsRunHop}
-use Rattle.connections.specs.Outcome.{AreTooManyConnections, AreTooManyRuns, IsDayRefused, IsFirstRefusal, IsListing, IsTimeRefused, is_lifted_trip}
+use Rattle.connections.specs.Listed.{AreListed, HasRunOutside}
+use Rattle.connections.specs.Outcome.{IsFirstRefusal, IsListing, is_lifted_trip}
 use Rattle.connections.specs.Runs.{IsTripRun, count_hops, run_if, runs_from, runs_of_days, runs_on}
 use Rattle.connections.specs.Times.{AreTimesOf, AreTripTimes}
 use Rattle.connections.specs.declared.days.ServiceDay.{ServiceDay}
@@ -37,7 +37,7 @@ use Rattle.connections.specs.declared.fault.RunsFault.{RunsFault}
 use Rattle.connections.specs.declared.fault.RunsFault.TheVariants as faults
 use Rattle.connections.specs.declared.runs.Run.{Run}
 use Rattle.connections.specs.declared.times.TripTimes.{TripTimes}
-use Rattle.connections.proofs.DaySteps.{first_day, place_at}
+use Rattle.connections.proofs.DaySteps.{place_at}
 use Rattle.connections.proofs.ListSteps.{run_rows_at}
 
 -- ---- refusals

@@ -1,13 +1,13 @@
 -- The connections of a run, a row on.
-use Rattle.std.proofs.Common.{◌≡◌, ℕ, zero, suc, ℤ, pos, ◌+ℤ◌, ◌<ℤ◌, ◌≤ℤ◌, ◌+◌, ◌<◌, ◌≤◌, ◌⊎◌, inl, inr, List, [], ◌∷◌, ◌++◌, length, get_or, Option, Some, None, IsSome, All, refl, sym, ap, ◌∙◌, subst, arith, append_assoc}
+use Rattle.std.proofs.Common.{◌≡◌, ℕ, ℤ, ◌+◌, ◌<◌, inl, inr, List, [], ◌∷◌, ◌++◌, length, get_or, Option, Some, None, IsSome, All, refl, sym, ap, ◌∙◌, subst, arith, append_assoc}
 use Rattle.std.proofs.lemmas.Bool.{cases_eq, false≢true}
 use Rattle.std.proofs.lemmas.Int.{ints}
 use Rattle.std.proofs.lemmas.List.{append-nil, get_or_append_left, get_or_push, length_push}
 use Rattle.std.proofs.lemmas.Option.{slice_get-get_or}
 use Rattle.gtfs_rows.specs.declared.rows.StopTimeRow.{StopTimeRow}
 use Rattle.timetable.specs.declared.network.Connection.{Connection}
-use Rattle.connections.specs.Hops.{AddsHops, AreHops, IsClock, IsHop, IsInside, IsOutside}
-use Rattle.connections.specs.Times.{AreTimesBefore, row_times}
+use Rattle.connections.specs.Hops.{AddsHops, IsClock, IsHop, IsOutside}
+use Rattle.connections.specs.Times.{AreTimesBefore}
 use Rattle.connections.specs.declared.times.RowTimes.{RowTimes}
 
 -- what has a clock doesn't lie outside
@@ -42,14 +42,14 @@ hops_more base start rows run n old mid new hop was is now = (
   was.0 ++ hop ∷ [],
   now ∙ ap (λ cs. cs ++ hop ∷ []) was.1 ∙ append_assoc old was.0 (hop ∷ []),
   (let len : length was.0 ≡ n = was.2.same_length in
-  record {
-    same_length = omega (arith, length_push was.0 hop);
-    hops = λ p d lt. elim (cases_eq p n) [
-      | inl same ↦ let place : length was.0 ≡ p = omega arith in
-          subst (λ (c : Connection). IsHop base start rows run p c) (sym (get_or_push was.0 hop d p place)) (rw same is)
-      | inr other ↦ subst (λ (c : Connection). IsHop base start rows run p c) (sym (get_or_append_left was.0 (hop ∷ []) d p (omega arith))) (was.2.hops p d (omega arith))
-    ];
-  }),
+      record {
+        same_length = omega (arith, length_push was.0 hop);
+        hops = λ p d lt. elim (cases_eq p n) [
+          | inl same ↦ let place : length was.0 ≡ p = omega arith in
+              subst (λ (c : Connection). IsHop base start rows run p c) (sym (get_or_push was.0 hop d p place)) (rw same is)
+          | inr other ↦ subst (λ (c : Connection). IsHop base start rows run p c) (sym (get_or_append_left was.0 (hop ∷ []) d p (omega arith))) (was.2.hops p d (omega arith))
+        ];
+      }),
 )
 
 pub has_stop : (rows : List StopTimeRow) (p : ℕ) (d : StopTimeRow) → All (λ (row : StopTimeRow). IsSome row.stop) rows → p < length rows → (get_or rows p d).stop ≡ None → ⊥

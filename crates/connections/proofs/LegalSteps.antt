@@ -1,26 +1,25 @@
 -- Listed connections are legal.
-use Rattle.std.proofs.Common.{◌≡◌, ℕ, zero, suc, ℤ, pos, ◌+ℤ◌, ◌+◌, ◌-◌, ◌<◌, ◌≤◌, ◌⊎◌, inl, inr, List, [], ◌∷◌, length, get_or, Option, Some, None, IsSomeAnd, All, Contains, true, false, refl, sym, ap, ◌∙◌, subst, arith}
+use Rattle.std.proofs.Common.{◌≡◌, ℕ, suc, ℤ, ◌+◌, ◌-◌, ◌<◌, ◌≤◌, inl, inr, List, ◌∷◌, length, get_or, Option, Some, None, IsSomeAnd, All, Contains, true, false, refl, sym, ap, ◌∙◌, subst, arith}
 use Rattle.std.specs.List.{slice_get}
-use Rattle.std.proofs.lemmas.Bool.{cases_lt, cases_order}
+use Rattle.std.proofs.lemmas.Bool.{cases_order}
 use Rattle.std.proofs.lemmas.Int.{ints}
 use Rattle.std.proofs.lemmas.Option.{get_or_from_slice_get, same_Some, slice_get-get_or, slice_get_within}
 use Rattle.gtfs_rows.specs.declared.rows.StopTimeRow.{StopTimeRow}
 use Rattle.gtfs_rows.specs.declared.values.Day.{Day}
-use Rattle.gtfs_tables.specs.Joined.{IsRunnable, makes_connections, rows_of}
+use Rattle.gtfs_tables.specs.Joined.{IsRunnable, makes_connections}
 use Rattle.gtfs_tables.specs.declared.tables.Feed.{Feed}
 use Rattle.gtfs_tables.specs.declared.tables.Trip.{Trip}
 use Rattle.service_days.specs.Days.{day_after}
 use Rattle.service_days.specs.Zones.{IsDayStart}
 use Rattle.service_days.specs.declared.zone.Zone.{Zone}
 use Rattle.timetable.specs.Legal.{At, IsJustBefore}
-use Rattle.timetable.specs.declared.limits.TheConstants.{TIME_END}
 use Rattle.timetable.specs.declared.network.Connection.{Connection}
 use Rattle.connections.specs.Days.{HaveStarts, days_from}
-use Rattle.connections.specs.Hops.{AreInside, IsClock, IsHop}
+use Rattle.connections.specs.Hops.{IsClock, IsHop}
 use Rattle.connections.specs.Legal.{AreWithinLimits, HasLegalConnections}
 use Rattle.connections.specs.Listed.{AreListed, AreRunsInside, IsRunAt, IsRunHop}
 use Rattle.connections.specs.Outcome.{IsListing}
-use Rattle.connections.specs.Runs.{IsTripRun, runs_of_days}
+use Rattle.connections.specs.Runs.{IsTripRun}
 use Rattle.connections.specs.Times.{arrives, departs}
 use Rattle.connections.specs.declared.runs.Run.{Run}
 use Rattle.connections.proofs.DaySteps.{days_next}
@@ -55,7 +54,7 @@ known_below None s n e h = absurd h
 known_below (Some x) s n e h = let same : x ≡ s = cc in omega (arith, h, same)
 
 module _ (feed : Feed) (zone : Zone) (base : ℤ) (runs : List Run) (cs : List Connection) (runnable : IsRunnable feed) (trips : All (IsTripRun feed.trips.items) runs)
-         (inside : AreRunsInside feed zone base runs) (listed : AreListed feed zone base runs cs) where
+    (inside : AreRunsInside feed zone base runs) (listed : AreListed feed zone base runs cs) where
   -- the stops of a run's rows
   stops_at : (r : ℕ) (start : ℤ) (rows : List StopTimeRow) → IsRunAt feed zone runs r start rows → (k : ℕ) (d : StopTimeRow) → k < length rows → IsSomeAnd (get_or rows k d).stop (λ s. s < length feed.stops.items)
   stops_at r start rows at k d lt =
@@ -107,21 +106,22 @@ module _ (feed : Feed) (zone : Zone) (base : ℤ) (runs : List Run) (cs : List C
       let to = some_value (get_or rows (p + 1) none).stop (length feed.stops.items) (stops_at r start rows at (p + 1) none lt) in
       let times = inside r start rows at in
       let dep = times.departures p (omega (arith, lt)) in
-      let arr = times.arrivals (p + 1) lt in
-      (record { from = from.0; to = to.0; dep = dep.0; arr = arr.0; trip = r; board = (get_or rows p none).board; alight = (get_or rows (p + 1) none).alight },
-      record {
-        row = get_or rows p none;
-        next = get_or rows (p + 1) none;
-        is_row = slice_get-get_or rows p none (omega (arith, lt));
-        is_next = slice_get-get_or rows (p + 1) none lt;
-        from = from.1;
-        to = to.1;
-        dep = dep.1;
-        arr = arr.1;
-        trip = refl;
-        board = refl;
-        alight = refl;
-      })
+      let arr = times.arrivals (p + 1) lt in (
+        record { from = from.0; to = to.0; dep = dep.0; arr = arr.0; trip = r; board = (get_or rows p none).board; alight = (get_or rows (p + 1) none).alight },
+        record {
+          row = get_or rows p none;
+          next = get_or rows (p + 1) none;
+          is_row = slice_get-get_or rows p none (omega (arith, lt));
+          is_next = slice_get-get_or rows (p + 1) none lt;
+          from = from.1;
+          to = to.1;
+          dep = dep.1;
+          arr = arr.1;
+          trip = refl;
+          board = refl;
+          alight = refl;
+        },
+      )
     where
       some_value : (o : Option ℕ) (n : ℕ) → IsSomeAnd o (λ s. s < n) → (s : ℕ) × (o ≡ Some s)
       some_value None n h = absurd h

@@ -1,15 +1,14 @@
 -- The connections of the runs, a run on.
-use Rattle.std.proofs.Common.{◌≡◌, ℕ, zero, suc, ℤ, pos, ◌+ℤ◌, ◌+◌, ◌-◌, ◌<◌, ◌≤◌, ◌⊎◌, inl, inr, max, List, [], ◌∷◌, ◌++◌, length, get_or, take, Option, Some, Contains, refl, sym, ap, ◌∙◌, subst, arith, length-append}
-use Rattle.std.specs.List.{slice_get, sum_by}
+use Rattle.std.proofs.Common.{◌≡◌, ℕ, zero, suc, ℤ, ◌+◌, ◌-◌, ◌<◌, inl, inr, List, [], ◌++◌, length, get_or, take, Option, Some, Contains, refl, sym, ap, ◌∙◌, subst, arith, length-append}
+use Rattle.std.specs.List.{slice_get}
 use Rattle.std.specs.Option.{option_map_or}
 use Rattle.std.proofs.lemmas.Bool.{cases_eq, cases_lt}
 use Rattle.std.proofs.lemmas.Int.{ints}
-use Rattle.std.proofs.lemmas.List.{get_or-append_right, get_or_append_left, get_or_default}
+use Rattle.std.proofs.lemmas.List.{get_or-append_right, get_or_append_left}
 use Rattle.std.proofs.lemmas.List.Elements.{Contains-append_cases, Contains-append_left, Contains-append_right, Contains-get_or}
 use Rattle.std.proofs.lemmas.List.Sums.{sum_by_more}
 use Rattle.std.proofs.lemmas.Option.{get_or_from_slice_get, same_Some, slice_get_within}
 use Rattle.gtfs_rows.specs.declared.rows.StopTimeRow.{StopTimeRow}
-use Rattle.gtfs_rows.specs.declared.values.Day.{Day}
 use Rattle.gtfs_tables.specs.Joined.{rows_of}
 use Rattle.gtfs_tables.specs.declared.tables.Feed.{Feed}
 use Rattle.gtfs_tables.specs.declared.tables.Trip.{Trip}
@@ -18,7 +17,7 @@ use Rattle.service_days.specs.declared.zone.Zone.{Zone}
 use Rattle.service_days.proofs.StartFacts.{same_start}
 use Rattle.timetable.specs.declared.network.Connection.{Connection}
 use Rattle.connections.specs.Building.{AddsRun, AreByRun, AreRunRows, IsEarlier}
-use Rattle.connections.specs.Hops.{AreHops, AreInside, IsClock, IsHop}
+use Rattle.connections.specs.Hops.{AreInside, IsClock, IsHop}
 use Rattle.connections.specs.Listed.{IsRunAt, IsRunHop}
 use Rattle.connections.specs.Runs.{count_hops, hops_of, run_hops}
 use Rattle.connections.specs.Times.{arrives, departs}
@@ -87,7 +86,7 @@ run_rows_at feed zone runs n run start rows at x = record { run = run; trip = x.
 -- ---- a run more
 
 module _ (feed : Feed) (zone : Zone) (base : ℤ) (runs : List Run) (n : ℕ) (run : Run) (mid new : List Connection) (at : slice_get runs n ≡ Some run)
-         (was : AreByRun feed zone base runs n mid) (a : AddsRun feed zone base run n mid new) where
+    (was : AreByRun feed zone base runs n mid) (a : AddsRun feed zone base run n mid new) where
   here : IsRunAt feed zone runs n a.start a.rows
   here = run_rows_at feed zone runs n run a.start a.rows at a.rows_are
 
@@ -119,12 +118,17 @@ module _ (feed : Feed) (zone : Zone) (base : ℤ) (runs : List Run) (n : ℕ) (r
   only_more c inside =
       elim (Contains-append_cases mid a.adds.0 c (subst (λ (cs : List Connection). Contains cs c) a.adds.1 inside)) [
         | inl old ↦ let w = was.only c old in (w.0, w.1, (let lt = w.2 in omega arith), w.3)
-        | inr fresh ↦ (n, fresh.0, omega arith, record {
+        | inr fresh ↦ (
+          n,
+          fresh.0,
+          omega arith,
+          record {
             start = a.start;
             rows = a.rows;
             run_at = here;
             hop = subst (λ (x : Connection). IsHop base a.start a.rows n fresh.0 x) fresh.2 (hop_at fresh.0 c fresh.1);
-          })
+          },
+        )
       ]
 
   -- an old connection is of an earlier run
@@ -159,7 +163,7 @@ module _ (feed : Feed) (zone : Zone) (base : ℤ) (runs : List Run) (n : ℕ) (r
   counted_more =
       let size : length new ≡ length mid + length a.adds.0 = ap length a.adds.1 ∙ length-append mid a.adds.0 in
       let more : count_hops feed.trips.items (take (n + 1) runs) ≡ count_hops feed.trips.items (take n runs) + run_hops feed.trips.items run =
-          sum_by_more (run_hops feed.trips.items) runs n run (slice_get_within runs n run at) ∙ ap (λ (x : Run). count_hops feed.trips.items (take n runs) + run_hops feed.trips.items x) (get_or_from_slice_get runs n run run at) in
+      sum_by_more (run_hops feed.trips.items) runs n run (slice_get_within runs n run at) ∙ ap (λ (x : Run). count_hops feed.trips.items (take n runs) + run_hops feed.trips.items x) (get_or_from_slice_get runs n run run at) in
       let mine : run_hops feed.trips.items run ≡ hops_of a.rows_are.trip = ap (λ (o : Option Trip). option_map_or hops_of o 0) a.rows_are.is_trip in
       let hops = a.rows_are.hops_are in
       let len = a.adds.2.same_length in

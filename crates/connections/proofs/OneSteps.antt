@@ -1,6 +1,5 @@
 -- There is one list of connections.
-use Rattle.std.proofs.Common.{◌≡◌, ℕ, zero, suc, ℤ, ◌+◌, ◌-◌, ◌<◌, ◌≤◌, ◌⊎◌, inl, inr, List, [], ◌∷◌, length, get_or, Some, Contains, refl, sym, ap, ◌∙◌, subst, arith}
-use Rattle.std.specs.List.{slice_get}
+use Rattle.std.proofs.Common.{◌≡◌, ℕ, zero, suc, ℤ, ◌<◌, ◌≤◌, ◌⊎◌, inl, inr, List, [], ◌∷◌, refl, sym, ap, ◌∙◌, subst, arith}
 use Rattle.std.proofs.lemmas.Bool.{cases_order}
 use Rattle.std.proofs.lemmas.Option.{same_Some, slice_get_within}
 use Rattle.gtfs_rows.specs.declared.values.Day.{Day}
@@ -38,9 +37,9 @@ same_heads R never x y xs ys up rise there back =
     elim (head_or_tail y x ys a.0 a.1) [
       | inl same ↦ sym same
       | inr later ↦ elim (head_or_tail x y xs b.0 b.1) [
-          | inl same ↦ same
-          | inr after ↦ absurd (never x y (up 0 (suc after.0) x y (omega arith) refl after.2) (rise 0 (suc later.0) y x (omega arith) refl later.2))
-        ]
+        | inl same ↦ same
+        | inr after ↦ absurd (never x y (up 0 (suc after.0) x y (omega arith) refl after.2) (rise 0 (suc later.0) y x (omega arith) refl later.2))
+      ]
     ]
 
 tails_among : (R : Connection → Connection → Type 0) (never : (x y : Connection) → R x y → R y x → ⊥) (x y : Connection) (xs ys : List Connection) → x ≡ y → Rises R (x ∷ xs) → Among (x ∷ xs) (y ∷ ys) → Among xs ys

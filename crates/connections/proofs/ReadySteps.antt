@@ -1,10 +1,9 @@
 -- A run whose rows and times are at hand.
-use Rattle.std.proofs.Common.{◌≡◌, ℕ, ℤ, ◌+◌, ◌-◌, ◌<◌, ◌≤◌, ◌⊎◌, inl, inr, min, List, length, get_or, take, Option, Some, None, IsSome, IsSomeAnd, All, true, refl, sym, ap, ◌∙◌, subst, arith}
+use Rattle.std.proofs.Common.{◌≡◌, ℕ, ℤ, ◌+◌, ◌-◌, ◌<◌, ◌≤◌, min, List, length, get_or, take, Option, Some, None, IsSome, IsSomeAnd, All, true, refl, sym, ap, ◌∙◌, subst, arith}
 use Rattle.std.specs.Prelude.{Any}
 use Rattle.std.specs.List.{slice_get}
 use Rattle.std.specs.Option.{option_map_or}
 use Rattle.std.proofs.lemmas.Bool.{and_parts, leb-true}
-use Rattle.std.proofs.lemmas.List.{get_or_default}
 use Rattle.std.proofs.lemmas.List.Sums.{sum_by_more}
 use Rattle.std.proofs.lemmas.Option.{get_or_from_slice_get, slice_get_within}
 use Rattle.gtfs_rows.specs.declared.rows.StopTimeRow.{StopTimeRow}
@@ -14,7 +13,7 @@ use Rattle.gtfs_tables.specs.declared.tables.Trip.{Trip}
 use Rattle.service_days.specs.Zones.{IsDayStart}
 use Rattle.service_days.specs.declared.zone.Zone.{Zone}
 use Rattle.connections.specs.Building.{AreRunRows}
-use Rattle.connections.specs.Hops.{AreInside, HasOutside, IsInside, IsOutside, LiesOutside}
+use Rattle.connections.specs.Hops.{AreInside, HasOutside, IsInside, LiesOutside}
 use Rattle.connections.specs.Runs.{IsTripRun, count_hops, hops_of, run_hops}
 use Rattle.connections.specs.Times.{AreTimesBefore, AreTimesOf, row_times}
 use Rattle.connections.specs.declared.runs.Run.{Run}

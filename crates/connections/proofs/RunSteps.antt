@@ -1,7 +1,6 @@
 -- The runs of days, a trip and a day on.
-use Rattle.std.proofs.Common.{◌≡◌, ℕ, suc, ◌+◌, ◌<◌, List, [], ◌∷◌, ◌++◌, length, get_or, map, min, take, Bool, true, false, refl, sym, ap, ◌∙◌, arith, length-append, append_assoc}
+use Rattle.std.proofs.Common.{◌≡◌, ℕ, ◌+◌, ◌<◌, List, [], ◌∷◌, ◌++◌, length, get_or, map, min, take, Bool, true, false, refl, sym, ap, ◌∙◌, arith, length-append, append_assoc}
 use Rattle.std.specs.Prelude.{cond}
-use Rattle.std.specs.List.{flat_map}
 use Rattle.std.proofs.lemmas.List.{append-nil, flat_map_more, length-take-le, map-append, take_more}
 use Rattle.gtfs_rows.specs.declared.values.Day.{Day}
 use Rattle.gtfs_tables.specs.declared.tables.Feed.{Feed}
@@ -52,7 +51,7 @@ pub runs_step : (feed : Feed) (day : Day) (trips : List Trip) (i : ℕ) (trip : 
     → before ≡ old ++ runs_from feed day 0 (take i trips) → new ≡ before ++ run_if (runs_on feed day trip) day i → new ≡ old ++ runs_from feed day 0 (take (i + 1) trips)
 runs_step feed day trips i trip old before new lt is was now =
     let more : runs_from feed day 0 (take (i + 1) trips) ≡ runs_from feed day 0 (take i trips) ++ run_if (runs_on feed day trip) day i =
-        runs_more feed day trips i trip lt ∙ ap (λ (t : Trip). runs_from feed day 0 (take i trips) ++ run_if (runs_on feed day t) day i) (sym is) in
+    runs_more feed day trips i trip lt ∙ ap (λ (t : Trip). runs_from feed day 0 (take i trips) ++ run_if (runs_on feed day t) day i) (sym is) in
     now ∙ ap (λ rs. rs ++ run_if (runs_on feed day trip) day i) was ∙ append_assoc old (runs_from feed day 0 (take i trips)) (run_if (runs_on feed day trip) day i)
     ∙ ap (λ rs. old ++ rs) (sym more)
 

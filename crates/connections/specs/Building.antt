@@ -1,5 +1,5 @@
 -- The connections of the runs before they are put in order.
-use Rattle.std.specs.Prelude.{◌≡◌, ◌+◌, ◌-◌, ◌<◌, ◌≤◌, ◌⊎◌, ℕ, ℤ, List, length, take, slice_index_or, Contains}
+use Rattle.std.specs.Prelude.{◌≡◌, ◌-◌, ◌<◌, ◌≤◌, ◌⊎◌, ℕ, ℤ, List, length, take, slice_index_or, Contains}
 use Rattle.gtfs_rows.specs.declared.rows.StopTimeRow.{StopTimeRow}
 use Rattle.gtfs_tables.specs.Joined.{rows_of}
 use Rattle.gtfs_tables.specs.declared.tables.Feed.{Feed}

@@ -1,5 +1,5 @@
 -- The days that are asked for, and their starts.
-use Rattle.std.specs.Prelude.{◌≡◌, ◌+◌, ℕ, zero, suc, ℤ, List, [], ◌∷◌, map, All, Any}
+use Rattle.std.specs.Prelude.{◌≡◌, ℕ, zero, suc, ℤ, List, [], ◌∷◌, map, All, Any}
 use Rattle.gtfs_rows.specs.declared.values.Day.{Day}
 use Rattle.service_days.specs.Days.{day_after}
 use Rattle.service_days.specs.Zones.{HasNoStart, IsDayStart}

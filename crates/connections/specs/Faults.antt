@@ -2,8 +2,6 @@
 use Rattle.std.specs.Prelude.{◌≡◌}
 use Rattle.gtfs_rows.specs.declared.fault.FaultKind.TheVariants.{OutOfMemory as TableMemory, TooMany}
 use Rattle.gtfs_rows.specs.declared.fault.Table.{Table}
-use Rattle.gtfs_rows.specs.declared.fault.TableFault.{TableFault}
-use Rattle.service_days.specs.declared.fault.DayFault.{DayFault}
 use Rattle.service_days.specs.declared.fault.DayFault.TheVariants.{DayOutOfRange, OutOfMemory as DayMemory}
 use Rattle.connections.specs.declared.fault.RunsFault.{RunsFault}
 use Rattle.connections.specs.declared.fault.RunsFault.TheVariants as faults

@@ -1,5 +1,5 @@
 -- What comes of a feed, some days and a zone: runs and connections, or the first refusal.
-use Rattle.std.specs.Prelude.{◌≡◌, ◌&&◌, ◌<◌, ◌≤◌, ◌⊎◌, ℕ, ℤ, List, length, Bool, false}
+use Rattle.std.specs.Prelude.{◌≡◌, ◌&&◌, ◌<◌, ◌≤◌, ◌⊎◌, ℕ, ℤ, List, length, Bool}
 use Rattle.std.specs.List.{count_by}
 use Rattle.gtfs_rows.specs.declared.fault.Table.TheVariants as tables
 use Rattle.gtfs_rows.specs.declared.values.Day.{Day}

@@ -34,11 +34,7 @@ fn rows_of<'a>(stop_times: &'a [StopTimeRow], trip: &Trip) -> &'a [StopTimeRow]
 }
 
 // The times of a trip, none where it makes no connections.
-fn times_of(
-    alloc: Global,
-    stop_times: &[StopTimeRow],
-    trip: &Trip,
-) -> Result<TripTimes, AllocError>
+fn times_of(alloc: Global, stop_times: &[StopTimeRow], trip: &Trip) -> Result<TripTimes, AllocError>
     requires rising { trip.now.first ≤ trip.now.end }
     requires within { trip.now.end ≤ length stop_times.now }
     requires timed { makes trip.now ≡ true → HasTimedEnds (rows_between stop_times.now trip.now) }
@@ -169,8 +165,17 @@ fn put_in_order(connections: &mut Vec<Connection>)
     });
 }
 
-/// The connections and the runs of a feed on so many days from the first one on, in the zone in which its times are
-/// told, and what was counted.
+/// The connections and the runs of a feed on so many days, 1 to [`MAX_DAYS`], from the first one on, and what was counted.
+///
+/// A run is a day and a trip whose service is active then; a flex trip, and one with fewer than two rows, never runs. Runs
+/// are numbered by day, then by the order of the trips. Each two neighbouring rows of a run give a connection, whose times
+/// are those of [`trip_times`] after the day's start, told in seconds after the base, the start of the first day. Connections
+/// stand by departure, arrival, run and position in the trip. Passengers may board where they may at the row that the
+/// connection leaves, and alight where they may at the row that it reaches.
+///
+/// Refusals are told in this order: a day without a start (`DayOutOfRange`), too many runs (`TooMany`, `trips.txt`), too many
+/// connections (`TooMany`, `stop_times.txt`), a run of which a time lies before the base, or at `TIME_END` or later
+/// (`DayOutOfRange`). Want of memory may be told before any of them.
 pub fn runs_of(
     alloc: Global,
     feed: &Feed,

@@ -48,12 +48,7 @@ fn repeats_in(trips: &[Trip]) -> usize
 }
 
 // The counts of a feed, whose trips have these times, with so many runs and connections.
-pub(crate) fn report_of(
-    feed: &Feed,
-    times: &[TripTimes],
-    runs: usize,
-    connections: usize,
-) -> Report
+pub(crate) fn report_of(feed: &Feed, times: &[TripTimes], runs: usize, connections: usize) -> Report
     requires { AreTimesOf feed.now.stop_times.items feed.now.trips.items times.now }
     ensures { IsReport feed.now runs connections result }
 {

@@ -1,15 +1,16 @@
 //! Small feeds and what they make.
 
-ghost use Rattle.std.specs.Prelude.{◌≤◌};
+ghost use Rattle.std.specs.Prelude.{◌≤◌, IfOk};
+ghost use Rattle.gtfs_tables.specs.Joined.{IsRunnable};
 
 use super::*;
 use gtfs_tables::laws::joined_is_runnable;
 use gtfs_tables::{
-    Day, FaultKind, Table, TableFault, Tables, join, read_agency, read_calendar_dates,
+    Day, FaultKind, Feed, Table, TableFault, Tables, join, read_agency, read_calendar_dates,
     read_frequencies, read_stop_times, read_stops, read_transfers, read_trips,
 };
 use service_days::{DayFault, Zone};
-use std::alloc::Global;
+use std::alloc::{AllocError, Global};
 use std::test::Fail;
 use timetable::Connection;
 
@@ -24,16 +25,9 @@ struct Texts {
     frequencies: &'static [u8],
 }
 
-// What the feed makes on so many days from the first one on.
-fn made(
-    alloc: Global,
-    texts: Texts,
-    first: &str,
-    days: u32,
-    zone: &Zone,
-) -> Result<Result<(Vec<Connection>, Vec<Run>, Report), RunsFault>, Fail>
-    requires some { 1 ≤ days }
-    requires few { days ≤ MAX_DAYS }
+// The feed of the texts.
+fn joined(alloc: Global, texts: Texts) -> Result<Feed, TableFault>
+    ensures { IfOk result IsRunnable }
 {
     let tables = Tables {
         agencies: read_agency(alloc, b"agency_timezone\nEtc/UTC\n")?,
@@ -47,6 +41,21 @@ fn made(
     };
     let feed = join(alloc, tables, false)?;
     joined_is_runnable();
+    Ok(feed)
+}
+
+// What the feed makes on so many days from the first one on.
+fn made(
+    alloc: Global,
+    texts: Texts,
+    first: &str,
+    days: u32,
+    zone: &Zone,
+) -> Result<Result<(Vec<Connection>, Vec<Run>, Report), RunsFault>, Fail>
+    requires some { 1 ≤ days }
+    requires few { days ≤ MAX_DAYS }
+{
+    let feed = joined(alloc, texts)?;
     let first = Day::parse(first.as_bytes())?;
     Ok(runs_of(alloc, &feed, first, days, zone))
 }
@@ -82,8 +91,7 @@ fn level() -> Texts {
 
 #[test]
 fn times_are_lifted(rt: HostRuntime) -> Result<(), Fail> {
-    let (connections, runs, report) =
-        made(rt.alloc(), level(), "20240115", 1, &Zone::fixed(0))??;
+    let (connections, runs, report) = made(rt.alloc(), level(), "20240115", 1, &Zone::fixed(0))??;
     let wanted = [
         ride(0, 1, 28_800, 28_801, 0),
         ride(1, 2, 28_801, 28_802, 0),
@@ -122,9 +130,7 @@ fn times_are_counted_from_the_first_day(rt: HostRuntime) -> Result<(), Fail> {
         ride(0, 1, 111_600, 111_660, 1),
     ];
     assert!(rt; connections.as_slice() == wanted.as_slice());
-    assert!(rt;
-        runs.as_slice() == [run("20240330", 0)?, run("20240331", 1)?].as_slice()
-    );
+    assert!(rt; runs.as_slice() == [run("20240330", 0)?, run("20240331", 1)?].as_slice());
     Ok(())
 }
 
@@ -137,8 +143,7 @@ fn trips_run_with_their_services(rt: HostRuntime) -> Result<(), Fail> {
         dates: b"service_id,date,exception_type\nX,20240115,1\nX,20240116,2\n",
         frequencies: b"trip_id\n",
     };
-    let (connections, runs, report) =
-        made(rt.alloc(), texts, "20240115", 2, &Zone::fixed(0))??;
+    let (connections, runs, report) = made(rt.alloc(), texts, "20240115", 2, &Zone::fixed(0))??;
     let mut first = ride(0, 1, 28_800, 29_100, 0);
     first.board = false;
     first.alight = false;
@@ -159,8 +164,7 @@ fn connections_are_in_order(rt: HostRuntime) -> Result<(), Fail> {
         dates: b"service_id,date,exception_type\nS,20240115,1\nS,20240116,1\n",
         frequencies: b"trip_id\n",
     };
-    let (connections, runs, _report) =
-        made(rt.alloc(), texts, "20240115", 2, &Zone::fixed(3600))??;
+    let (connections, runs, _report) = made(rt.alloc(), texts, "20240115", 2, &Zone::fixed(3600))??;
     let wanted = [
         ride(0, 1, 28_800, 29_400, 1),
         ride(0, 1, 28_800, 30_000, 0),
@@ -197,4 +201,33 @@ fn faults_name_their_tables(rt: HostRuntime) {
     };
     assert!(rt; crate::fault::too_many(Table::Trips) == RunsFault::Table(fault));
     assert!(rt; MAX_DAYS == 14);
+}
+
+// Whether memory was wanting.
+fn is_want_of_memory(fault: RunsFault) -> bool {
+    match fault {
+        RunsFault::Table(fault) => fault.kind == FaultKind::OutOfMemory,
+        RunsFault::Day(fault) => fault == DayFault::OutOfMemory,
+    }
+}
+
+// Whichever growth is refused, want of memory is told and nothing else. A refused growth ends the test with `AllocError`.
+#[test]
+fn refused_growth_is_told(rt: HostRuntime) -> Result<(), Fail> {
+    let feed = match joined(rt.alloc(), level()) {
+        Ok(feed) => feed,
+        Err(fault) => {
+            assert!(rt; fault.kind == FaultKind::OutOfMemory);
+            return Err(AllocError.into());
+        }
+    };
+    let first = Day::parse(b"20240115")?;
+    match runs_of(rt.alloc(), &feed, first, 1, &Zone::fixed(0)) {
+        Ok((connections, _runs, _report)) => assert_eq!(rt; connections.len(), 3),
+        Err(fault) => {
+            assert!(rt; is_want_of_memory(fault));
+            return Err(AllocError.into());
+        }
+    }
+    Ok(())
 }

@@ -1,31 +1,28 @@
 -- What holds of a joined feed.
-use Rattle.std.proofs.Common.{◌≡◌, ◌≢◌, ℕ, zero, suc, ◌+◌, ◌-◌, ◌<◌, ◌≤◌, ◌⊎◌, inl, inr, ◌∙◌, sym, ap, refl, subst, arith, Bool, true, false, not, ◌&&◌, ◌||◌, List, [], ◌∷◌, ◌++◌, length, map, take, drop, get_or, Option, Some, None, IsSome, IsSomeAnd, All, cond}
+use Rattle.std.proofs.Common.{◌≡◌, ℕ, zero, suc, ◌+◌, ◌-◌, ◌<◌, ◌≤◌, ◌⊎◌, inl, inr, ◌∙◌, sym, ap, refl, subst, arith, Bool, true, false, not, ◌||◌, List, [], ◌∷◌, length, map, take, drop, get_or, Option, Some, None, IsSomeAnd, All}
 use Rattle.std.specs.Prelude.{count_by, filter, is_none, nat_le, nat_lt, option_and_then, option_map, if◌then◌else◌}
 use Rattle.std.specs.List.{AllZip, list_any, slice_get, slice_index_or, slice_range}
 use Rattle.std.specs.Option.{option_or}
 use Rattle.std.specs.Str.{bytes_eq}
 use Rattle.std.specs.String.{string_bytes}
 use Rattle.std.proofs.lemmas.Bool.{and_parts, cases_Bool, cases_eq, false≢true, leb-true, ltb-true, le-ltb, lt-ltb}
-use Rattle.std.proofs.lemmas.List.{get_or-drop, get_or-take, get_or_default, get_or_past, length-drop, length-map, length-take}
+use Rattle.std.proofs.lemmas.List.{get_or-drop, get_or-take, length-drop, length-map, length-take}
 use Rattle.std.proofs.lemmas.List.Folds.{list_any_at}
 use Rattle.std.proofs.lemmas.List.Sums.{count_by-le-length, length-filter}
-use Rattle.std.proofs.lemmas.Option.{slice_get_within}
 use Rattle.gtfs_rows.specs.Tables.{is_stop}
 use Rattle.gtfs_rows.specs.declared.fault.FaultKind.{FaultKind}
 use Rattle.gtfs_rows.specs.declared.fault.Table.TheVariants as tables
-use Rattle.gtfs_rows.specs.declared.fault.TableFault.{TableFault}
 use Rattle.gtfs_rows.specs.declared.rows.Location.{Location}
 use Rattle.gtfs_rows.specs.declared.rows.Location.TheVariants as locations
 use Rattle.gtfs_rows.specs.declared.rows.StopRow.{StopRow}
 use Rattle.gtfs_rows.specs.declared.rows.StopTimeRow.{StopTimeRow}
-use Rattle.gtfs_rows.specs.declared.rows.TransferRow.{TransferRow}
 use Rattle.gtfs_rows.specs.declared.rows.TripRow.{TripRow}
-use Rattle.gtfs_tables.specs.Feeds.{IsFeed, IsJoined, feed_stop, feed_trip, feed_trips, first_fault, link_by, naming_fault, rows_by, told_of, stops_by, trip_fault, trips_by}
+use Rattle.gtfs_tables.specs.Feeds.{IsJoined, feed_stop, feed_trip, feed_trips, first_fault, link_by, naming_fault, rows_by, told_of, stops_by, trip_fault, trips_by}
 use Rattle.gtfs_tables.specs.First.{first_below, first_fault_of}
-use Rattle.gtfs_tables.specs.Joined.{HasStopsBelow, HasTimedEnds, IsRunnableTrip, NamesBelow, makes_connections, rows_of}
+use Rattle.gtfs_tables.specs.Joined.{HasTimedEnds, IsRunnableTrip, NamesBelow}
 use Rattle.gtfs_tables.specs.Names.{named_as, named_at, stop_named, stop_with, trip_named}
 use Rattle.gtfs_tables.specs.Order.{first_turn, of_trip, row_of}
-use Rattle.gtfs_tables.specs.Rows.{IsTransferOf, is_flex_id, is_kept, is_repeated, linked_row, named_by, stop_number, stop_of, transfer_fault}
+use Rattle.gtfs_tables.specs.Rows.{IsTransferOf, is_flex_id, is_kept, is_repeated, named_by, stop_number, stop_of, transfer_fault}
 use Rattle.gtfs_tables.specs.Times.{first_wrong, is_flex, wrong_given, wrong_times}
 use Rattle.gtfs_tables.specs.declared.names.Named.{Named}
 use Rattle.gtfs_tables.specs.declared.names.Named.TheVariants as names
@@ -124,8 +121,10 @@ pub joined_names : (strict : Bool) (t : Tables) (feed : Feed) → IsJoined stric
 joined_names strict t feed joined k d lt =
     let count = stops_counted t feed (stop_named t.stops.items) joined.feed_is.stops in
     let row = zip_at (IsTransferOf (stop_named t.stops.items)) (filter is_kept t.transfers.items) feed.transfers.items k d joined.feed_is.transfers lt in
-    rw count (place_below t.stops.items (string_bytes row.0.from) (slice_index_or feed.transfers.items k d).from row.1.from,
-    place_below t.stops.items (string_bytes row.0.to) (slice_index_or feed.transfers.items k d).to row.1.to)
+    rw count (
+      place_below t.stops.items (string_bytes row.0.from) (slice_index_or feed.transfers.items k d).from row.1.from,
+      place_below t.stops.items (string_bytes row.0.to) (slice_index_or feed.transfers.items k d).to row.1.to,
+    )
 
 -- ---- where the rows of a trip stand
 
@@ -279,15 +278,15 @@ made_runnable strict t feed joined k row lt =
       rising = up;
       within = inside;
       timed = λ makes.
-      let parts = and_parts (not (is_flex (of_trip turns k rows))) (nat_le 2 (first_turn turns (k + 1) - first_turn turns k)) makes in
-      let two = leb-true 2 (first_turn turns (k + 1) - first_turn turns k) parts.1 in
-      timed_by strict (of_trip turns k rows) (le-ltb (length (of_trip turns k rows)) 2 (omega arith)) (not_true (is_flex (of_trip turns k rows)) parts.0) (fault_none strict t turns k joined.faultless lt);
+          let parts = and_parts (not (is_flex (of_trip turns k rows))) (nat_le 2 (first_turn turns (k + 1) - first_turn turns k)) makes in
+          let two = leb-true 2 (first_turn turns (k + 1) - first_turn turns k) parts.1 in
+          timed_by strict (of_trip turns k rows) (le-ltb (length (of_trip turns k rows)) 2 (omega arith)) (not_true (is_flex (of_trip turns k rows)) parts.0) (fault_none strict t turns k joined.faultless lt);
       stops_below = λ makes i d less.
-      let parts = and_parts (not (is_flex (of_trip turns k rows))) (nat_le 2 (first_turn turns (k + 1) - first_turn turns k)) makes in
-      let steady = not_true (is_flex (of_trip turns k rows)) parts.0 in
-      let at : get_or (of_trip turns k rows) i d ≡ get_or rows (first_turn turns k + i) d = slice_at rows (first_turn turns k) (first_turn turns (k + 1)) i d (omega arith) in
-      stop_below (count_by is_stop t.stops.items) (get_or (of_trip turns k rows) i d).stop (none_any (λ (row : StopTimeRow). is_none row.stop) (of_trip turns k rows) i d steady less)
-      (λ s e. row_below t turns (first_turn turns k + i) s d (omega arith) (sym (ap (λ (row : StopTimeRow). row.stop) at) ∙ e));
+          let parts = and_parts (not (is_flex (of_trip turns k rows))) (nat_le 2 (first_turn turns (k + 1) - first_turn turns k)) makes in
+          let steady = not_true (is_flex (of_trip turns k rows)) parts.0 in
+          let at : get_or (of_trip turns k rows) i d ≡ get_or rows (first_turn turns k + i) d = slice_at rows (first_turn turns k) (first_turn turns (k + 1)) i d (omega arith) in
+          stop_below (count_by is_stop t.stops.items) (get_or (of_trip turns k rows) i d).stop (none_any (λ (row : StopTimeRow). is_none row.stop) (of_trip turns k rows) i d steady less)
+          (λ s e. row_below t turns (first_turn turns k + i) s d (omega arith) (sym (ap (λ (row : StopTimeRow). row.stop) at) ∙ e));
     }
 
 pub joined_trips : (strict : Bool) (t : Tables) (feed : Feed) → IsJoined strict t feed → All (IsRunnableTrip (length feed.stops.items) feed.stop_times.items) feed.trips.items

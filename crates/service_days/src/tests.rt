@@ -1,6 +1,8 @@
 // Day starts by other calendars, and what is refused.
 
-use crate::day::day_start;
+ghost use Rattle.std.specs.Prelude.{◌≡◌};
+
+use crate::day::{day_after, day_start};
 use crate::fault::DayFault;
 use crate::services::{Services, active};
 use crate::zone::Zone;
@@ -134,6 +136,21 @@ fn refused_days(rt: HostRuntime) {
     ] {
         assert!(rt; day_start(&zone, Day { year, month, day }) == Err(DayFault::DayOutOfRange));
     }
+}
+
+const fn civil(year: u16, month: u8, day: u8) -> Day
+    ensures { result ≡ record { year = year; month = month; day = day } }
+{
+    Day { year, month, day }
+}
+
+#[test]
+fn days_in_a_row(rt: HostRuntime) {
+    assert!(rt; day_after(civil(2024, 1, 30)) == civil(2024, 1, 31));
+    assert!(rt; day_after(civil(2024, 2, 28)) == civil(2024, 2, 29));
+    assert!(rt; day_after(civil(2023, 2, 28)) == civil(2023, 3, 1));
+    assert!(rt; day_after(civil(2024, 12, 31)) == civil(2025, 1, 1));
+    assert!(rt; day_after(civil(9999, 12, 31)) == civil(10_000, 1, 1));
 }
 
 #[test]

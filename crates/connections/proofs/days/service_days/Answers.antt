@@ -1,6 +1,6 @@
-use Rattle.std.proofs.Common.{◌≡◌, ◌+◌, ◌-◌, ◌++◌, ◌∷◌, [], inl, inr, arith, refl, rules, FitsSigned, w64}
+use Rattle.std.proofs.Common.{◌≡◌, ◌+◌, ◌-◌, inr, arith, rules, FitsSigned, w64}
 use Rattle.std.proofs.lemmas.Int.{to_z-of_z}
-use Rattle.connections.proofs.DaySteps.{IsStartedTo, one_missing, started_all, started_more, started_none}
+use Rattle.connections.proofs.DaySteps.{one_missing, started_all, started_more, started_none}
 use Rattle.connections.proofs.days.service_days.Goals as goal
 
 pub loop-done-init : goal.loop-done-init

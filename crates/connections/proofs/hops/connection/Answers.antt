@@ -1,4 +1,4 @@
-use Rattle.std.proofs.Common.{◌≡◌, ◌+◌, ◌<◌, length, get_or, arith, None, false}
+use Rattle.std.proofs.Common.{◌+◌, ◌<◌, length, get_or, arith, None, false}
 use Rattle.gtfs_rows.specs.declared.rows.StopTimeRow.{StopTimeRow}
 use Rattle.connections.specs.declared.times.RowTimes.{RowTimes}
 use Rattle.connections.proofs.HopSteps.{hop_made, never_outside}

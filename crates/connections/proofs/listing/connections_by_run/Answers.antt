@@ -1,10 +1,9 @@
-use Rattle.std.proofs.Common.{◌≡◌, ◌+◌, ◌<◌, ◌≤◌, ℕ, ℤ, pos, length, get_or, All, Some, inl, inr, sym, ap, ◌∙◌, subst, arith, rules, FitsSigned, w64, to_z, of_z}
+use Rattle.std.proofs.Common.{◌≡◌, ℕ, ℤ, pos, length, get_or, Some, inl, sym, ap, ◌∙◌, subst, arith, rules, FitsSigned, w64, to_z, of_z}
 use Rattle.std.specs.List.{slice_get}
 use Rattle.std.proofs.lemmas.Int.{to_z-of_z}
 use Rattle.std.proofs.lemmas.List.{get_or_default}
 use Rattle.std.proofs.lemmas.Option.{slice_get-get_or}
 use Rattle.service_days.specs.Zones.{IsDayStart}
-use Rattle.service_days.specs.declared.zone.Zone.{Zone}
 use Rattle.connections.specs.Building.{AddsRun, AreByRun}
 use Rattle.connections.specs.declared.days.ServiceDay.{ServiceDay}
 use Rattle.connections.specs.declared.runs.Run.{Run}

@@ -1,4 +1,4 @@
-use Rattle.std.proofs.Common.{ℕ, get_or}
+use Rattle.std.proofs.Common.{get_or}
 use Rattle.std.proofs.lemmas.List.{get_or_default}
 use Rattle.connections.specs.declared.runs.Run.{Run}
 use Rattle.connections.proofs.ReadySteps.{hops_step}

@@ -1,8 +1,7 @@
-use Rattle.std.proofs.Common.{◌≡◌, ◌∙◌, ap, sym, subst, inl, inr, List, All, length, get_or}
-use Rattle.std.specs.Prelude.{Any}
+use Rattle.std.proofs.Common.{◌≡◌, ◌∙◌, ap, sym, subst, inr, List, All, length, get_or}
 use Rattle.gtfs_rows.specs.declared.rows.StopTimeRow.{StopTimeRow}
 use Rattle.gtfs_tables.specs.Joined.{rows_of}
-use Rattle.connections.specs.Hops.{IsInside, LiesOutside}
+use Rattle.connections.specs.Hops.{IsInside}
 use Rattle.connections.specs.declared.times.RowTimes.{RowTimes}
 use Rattle.connections.specs.declared.times.TripTimes.{TripTimes}
 use Rattle.connections.proofs.ReadySteps.{IsReady, all_inside, ready, run_rows, some_outside}
@@ -16,12 +15,15 @@ pub returns-then-not-are_inside-clause-err : goal.returns-then-not-are_inside-cl
 returns-then-not-are_inside-clause-err c zone starts =
     let known : IsReady c.args.feed.now c.args.run.now c.rows_of-rows.result.now c.deref-2.result.now = ready c.args.feed.now c.args.run.now c.args.times.now c.index-trip.result.now c.rows_of-rows.result.now c.index-times-place.result c.deref-2.result.now c.requires.runnable c.requires.times c.requires.trip
     c.index-trip.ensures (c.rows_of-rows.ensures.rows ∙ ap (λ (st : List StopTimeRow). rows_of st c.index-trip.result.now) c.deref.ensures.value) c.rows_of-rows.ensures.len c.index-times-place.is (c.deref-2.ensures.value ∙ ap (λ (t : TripTimes). t.rows.items) (sym c.index-times-place.is)) in
-    inr (c.out_of_range.ensures, record {
-  start = c.args.clock.start;
-  rows = c.rows_of-rows.result.now;
-  rows_are = run_rows c.args.feed.now zone c.args.run.now c.args.clock.start c.rows_of-rows.result.now c.deref-2.result.now known starts;
-  outside = some_outside c.args.feed.now c.args.run.now c.args.clock.base c.args.clock.start c.rows_of-rows.result.now c.deref-2.result.now known c.if-not-are_inside.ensures;
-})
+    inr (
+      c.out_of_range.ensures,
+      record {
+        start = c.args.clock.start;
+        rows = c.rows_of-rows.result.now;
+        rows_are = run_rows c.args.feed.now zone c.args.run.now c.args.clock.start c.rows_of-rows.result.now c.deref-2.result.now known starts;
+        outside = some_outside c.args.feed.now c.args.run.now c.args.clock.base c.args.clock.start c.rows_of-rows.result.now c.deref-2.result.now known c.if-not-are_inside.ensures;
+      },
+    )
 
 same_times : (c : goal.After-deref-3) → c.deref-3.result.now ≡ c.deref-2.result.now
 same_times c = c.deref-3.ensures.value ∙ sym c.deref-2.ensures.value
@@ -46,9 +48,9 @@ returns-in-Ok-clause-ok c zone starts =
     let known : IsReady c.args.feed.now c.args.run.now c.rows_of-rows.result.now c.deref-2.result.now = ready c.args.feed.now c.args.run.now c.args.times.now c.index-trip.result.now c.rows_of-rows.result.now c.index-times-place.result c.deref-2.result.now c.requires.runnable c.requires.times c.requires.trip
     c.index-trip.ensures (c.rows_of-rows.ensures.rows ∙ ap (λ (st : List StopTimeRow). rows_of st c.index-trip.result.now) c.deref.ensures.value) c.rows_of-rows.ensures.len c.index-times-place.is (c.deref-2.ensures.value ∙ ap (λ (t : TripTimes). t.rows.items) (sym c.index-times-place.is)) in
     record {
-  start = c.args.clock.start;
-  rows = c.rows_of-rows.result.now;
-  rows_are = run_rows c.args.feed.now zone c.args.run.now c.args.clock.start c.rows_of-rows.result.now c.deref-2.result.now known starts;
-  inside = all_inside c.args.feed.now c.args.run.now c.args.clock.base c.args.clock.start c.rows_of-rows.result.now c.deref-2.result.now known c.if-not-are_inside.ensures;
-  adds = c.in-Ok.ensures;
-}
+      start = c.args.clock.start;
+      rows = c.rows_of-rows.result.now;
+      rows_are = run_rows c.args.feed.now zone c.args.run.now c.args.clock.start c.rows_of-rows.result.now c.deref-2.result.now known starts;
+      inside = all_inside c.args.feed.now c.args.run.now c.args.clock.base c.args.clock.start c.rows_of-rows.result.now c.deref-2.result.now known c.if-not-are_inside.ensures;
+      adds = c.in-Ok.ensures;
+    }

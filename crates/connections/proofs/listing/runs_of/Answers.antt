@@ -95,4 +95,3 @@ returns-clause-ok c =
     let starts : All (λ (d : ServiceDay). IsDayStart c.args.zone.now d.day d.start) c.deref-5.result.now = subst (λ (ds : List ServiceDay). All (λ (d : ServiceDay). IsDayStart c.args.zone.now d.day d.start) ds) (sym c.deref-5.ensures.value) started.starts in
     listing_made c.args.feed.now c.args.zone.now c.args.first_day c.args.days c.in-Ok.days.items c.in-Ok-runs_on.runs.items c.count_connections-count.result 18446744073709551615 c.in-Ok-connections_by_run.connections.items c.put_in_order.new.connections.items base started runs_are few counted c.if-count.false room first.1
     (subst (λ (rs : List Run). AreByRun c.args.feed.now c.args.zone.now base rs (length rs) c.in-Ok-connections_by_run.connections.items) c.deref-6.ensures.value (c.in-Ok-connections_by_run.ensures.ok c.args.zone.now base none base_is starts)) c.put_in_order.ensures.permutation c.put_in_order.ensures.sorted
-

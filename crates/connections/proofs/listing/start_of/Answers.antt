@@ -1,9 +1,8 @@
-use Rattle.std.proofs.Common.{◌≡◌, ◌+◌, ◌<◌, ◌≤◌, ℕ, length, get_or, inl, inr, sym, ap, ◌∙◌, subst, arith, rules, ℤ, pos, FitsSigned, w64}
+use Rattle.std.proofs.Common.{◌≡◌, ◌<◌, ℕ, length, get_or, inl, inr, sym, ap, ◌∙◌, subst, arith, rules, ℤ, pos, FitsSigned, w64}
 use Rattle.std.proofs.lemmas.Bool.{cases_eq}
 use Rattle.std.proofs.lemmas.Int.{to_z-of_z}
 use Rattle.std.proofs.lemmas.List.{get_or_default}
 use Rattle.service_days.specs.Zones.{IsDayStart}
-use Rattle.gtfs_rows.specs.declared.values.Day.{Day}
 use Rattle.connections.specs.declared.days.ServiceDay.{ServiceDay}
 use Rattle.connections.proofs.DaySteps.{found_start, never_missing, other_day}
 use Rattle.connections.proofs.listing.start_of.Goals as goal

@@ -1,4 +1,4 @@
-use Rattle.std.proofs.Common.{◌≡◌, ◌∙◌, ap, refl, List, length}
+use Rattle.std.proofs.Common.{◌∙◌, ap, refl, List}
 use Rattle.std.specs.Prelude.{count_by}
 use Rattle.gtfs_tables.specs.declared.tables.Trip.{Trip}
 use Rattle.connections.proofs.FinalSteps.{lifted_counted}

@@ -1,4 +1,4 @@
-use Rattle.std.proofs.Common.{◌≡◌, ◌≤◌, ◌+◌, ◌∙◌, sym, ap, ℕ, Bool, arith}
+use Rattle.std.proofs.Common.{◌≡◌, ◌+◌, arith}
 use Rattle.std.specs.Prelude.{cond}
 use Rattle.connections.proofs.RunSteps.{count_step}
 use Rattle.connections.proofs.runs.count_on.Goals as goal
