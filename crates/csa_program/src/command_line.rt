@@ -303,7 +303,7 @@ fn number(text: &str) -> Option<u32> {
 
 fn zone(text: &str) -> Option<ZoneText<'_>> {
     match text.split_once(':')? {
-        ("fixed", seconds) => offset(seconds).map(ZoneText::Fixed),
+        ("fixed", seconds) => Some(ZoneText::Fixed(offset(seconds)?)),
         ("posix", rule) => Some(ZoneText::Posix(rule)),
         ("file", path) => Some(ZoneText::File(path)),
         _ => None,
