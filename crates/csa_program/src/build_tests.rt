@@ -351,3 +351,57 @@ fn what_cannot_be_built_is_told(rt: HostRuntime) -> Result<(), Fail> {
     expect_message(&rt, &build_words(nowhere), b"", 3);
     clear_feed(&rt, "written", &base_feed())
 }
+
+/// A zone file of a rule of central Europe (TZif, RFC 9636).
+const CENTRAL_EUROPE: &[u8] = b"TZif2\0\0\0\0\0\0\0\0\0\0\0\0\0\0\0\
+\0\0\0\0\0\0\0\0\0\0\0\0\0\0\0\0\0\0\0\x01\0\0\0\x01\0\0\0\0\0\0\0\
+TZif2\0\0\0\0\0\0\0\0\0\0\0\0\0\0\0\
+\0\0\0\0\0\0\0\0\0\0\0\0\0\0\0\x01\0\0\0\x02\0\0\0\x09\
+\0\0\0\0\x66\x08\xB5\x90\x01\0\0\x0E\x10\0\0\0\0\x1C\x20\x01\x04CET\0CEST\0\
+\nCET-1CEST,M3.5.0,M10.5.0/3\n";
+
+/// The low word of the base of the image in a file, which is taken away.
+fn base_in<R: Files + AllocGlobal + Abort>(rt: &R, image: &str) -> Result<u32, Fail> {
+    let bytes = fs::read(rt, image)?;
+    fs::remove_file(rt, image)?;
+    assert!(rt; bytes.len() >= 32);
+    Ok(u32::from_le_bytes([bytes[28], bytes[29], bytes[30], bytes[31]]))
+}
+
+/// A day begins an hour later in the west, and an hour earlier in the east, by an offset or by a zone file.
+#[test]
+fn the_base_is_the_start_of_the_first_day(rt: HostRuntime) -> Result<(), Fail> {
+    let line = "stops 3 runs 2 connections 3 footpaths 3 lifted 0 flex 0 frequencies 0 skipped 0\n";
+    let west = Asked {
+        zone: "fixed:-3600",
+        ..one_day("west", "west.csa")
+    };
+    build(&rt, west, &base_feed(), 0, line)?;
+    assert_eq!(rt; base_in(&rt, "west.csa")?, 1_705_280_400);
+    fs::write(&rt, "zone_file", CENTRAL_EUROPE)?;
+    let east = Asked {
+        zone: "file:zone_file",
+        ..one_day("east", "east.csa")
+    };
+    build(&rt, east, &base_feed(), 0, line)?;
+    assert_eq!(rt; base_in(&rt, "east.csa")?, 1_705_273_200);
+    fs::write(&rt, "zone_file", "no zone")?;
+    expect_line(&rt, &build_words(east), b"", 2, "refused 21 BadZone\n");
+    fs::remove_file(&rt, "zone_file")?;
+    Ok(())
+}
+
+/// A feed's file that can't be read is told with status 3; what is refused is told before the file that can't be written.
+#[test]
+fn failed_reads_and_refusals_are_told_first(rt: HostRuntime) -> Result<(), Fail> {
+    fs::create_dir(&rt, "unread")?;
+    fs::create_dir(&rt, "unread/agency.txt")?;
+    let unread = one_day("unread", "no_such_folder/unread.csa");
+    let failed = "refused 101 FileFailed agency.txt\n";
+    expect_line(&rt, &build_words(unread), b"", 3, failed);
+    fs::remove_dir(&rt, "unread/agency.txt")?;
+    let missing = "refused 1 MissingFile agency.txt 0\n";
+    expect_line(&rt, &build_words(unread), b"", 2, missing);
+    fs::remove_dir(&rt, "unread")?;
+    Ok(())
+}

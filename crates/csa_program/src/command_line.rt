@@ -38,7 +38,7 @@ pub enum Unread {
 
 const STATUSES: &str =
     "Exit status: 0 accepted, 2 refused (one line `refused NUMBER NAME PLACES`), 3 a file can't be read \
-or a line can't be written, 4 no memory, 64 a wrong command line.";
+or written or a line can't be written, 4 no memory, 64 a wrong command line.";
 
 const JOURNEY_EXAMPLE: &str =
     "Example: csa journey examples/base.csa 'ride 0 0 walk 1 1 0 ride 2 2' \

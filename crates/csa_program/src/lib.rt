@@ -29,7 +29,7 @@ use std::rt::Files;
 /// Runs the command that the words ask for; the first word is the program's name.
 ///
 /// What a command finds goes to `output`, what is wrong with the command line or with a file to `errors`. The status is 0 for an
-/// accepted request, 2 for a refused one, 3 where a file can't be read or a line can't be written, 4 for want of memory, and 64
+/// accepted request, 2 for a refused one, 3 where a file can't be read or written or a line can't be written, 4 for want of memory, and 64
 /// for a command line that asks for nothing.
 pub fn run<H: Files + AllocGlobal, S: AsStr, I: Read, O: Write, E: Write>(
     rt: &H,

@@ -3,7 +3,6 @@
 ghost use Rattle.std.specs.Prelude.{◌≡◌};
 
 use super::*;
-use feed_files::{FeedFiles, FileFault, MemoryFiles};
 use gtfs_tables::{Day, FaultKind, Table, TableFault};
 use image_layout::sample_words;
 use service_days::Zone;
