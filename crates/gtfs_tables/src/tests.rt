@@ -90,7 +90,7 @@ fn base_feed(rt: HostRuntime) -> Result<(), Fail> {
     Ok(())
 }
 
-// The rows of two trips in any order, by trip and then by stop_sequence; T2 repeats, and T1 is a flex trip.
+// The rows of two trips in any order, by trip and then by stop_sequence; the second repeats, and the first is a flex trip.
 #[test]
 fn rows_in_order(rt: HostRuntime) -> Result<(), Fail> {
     let times = b"trip_id,arrival_time,departure_time,stop_id,stop_sequence\n\
