@@ -1,3 +1,4 @@
+pub mod AnswerLemmas
 pub mod ChangeLemmas
 pub mod CountLemmas
 pub mod FootpathLemmas

@@ -7,7 +7,8 @@ use Rattle.timetable.specs.declared.network.Footpath.{Footpath}
 use Rattle.timetable.specs.declared.query.Query.{Query}
 use Rattle.timetable.specs.TimetableValue.{TimetableValue}
 use Rattle.timetable.proofs.LegalFacts.{Contains-At}
-use Rattle.profile_scan.specs.Found.{Answers, listed, nodes_of}
+use Rattle.profile_scan.specs.Answered.{IsAnswered}
+use Rattle.profile_scan.specs.Found.{Answers, criterion_of_found, listed, nodes_of, query_of, timetable_of, walk_of_found}
 use Rattle.profile_scan.specs.declared.found.Found.{Found}
 use Rattle.timetable.specs.JourneyValue.{RideValue, JourneyValue}
 use Rattle.profile_scan.specs.Continuations.{Aboard}
@@ -153,21 +154,25 @@ pub none_is : {A X : Type 0} (view : A → X) (e : Option X) (o : Option A) → 
 none_is view e None is h = h
 none_is view e (Some b) is h = absurd cc
 
+-- what was found answers the query that it keeps
+pub answers_its_own : {K V : Type 0} {c : _} (rules : Rules V) (found : Found K V c) → IsAnswered rules (timetable_of found) (query_of found) (listed found) (nodes_of found) (walk_of_found found) → Answers (criterion_of_found found) rules (timetable_of found) (query_of found) found
+answers_its_own rules found is = record { answer = is.answer; attained = is.attained; direct = is.direct; keeps = (refl, refl, refl) }
+
 -- the journey that the tag of an answer's point spells attains it
-attained : {K V : Type 0} (criterion : K) (rules : Rules V) (t : TimetableValue) (q : Query) (found : Found K V) (i : ℕ) (p : Point V) → Answers criterion rules t q found → slice_get (listed found) i ≡ Some p
+attained : {K V : Type 0} {c : _} (criterion : K) (rules : Rules V) (t : TimetableValue) (q : Query) (found : Found K V c) (i : ℕ) (p : Point V) → Answers criterion rules t q found → slice_get (listed found) i ≡ Some p
     → (j : JourneyValue) × ((spelled (nodes_of found) p.tag).journey ≡ Some j) × Attains rules t q p j
 attained criterion rules t q found i p answers at =
     let a = answers.attained p (Contains-At (listed found) i p at) in
     (a.way, a.spells, record { counts = a.there; plain = a.plain; worth = a.worth })
 
-pub attains : {K V : Type 0} (criterion : K) (rules : Rules V) (t : TimetableValue) (q : Query) (found : Found K V) (i : ℕ) (p point : Point V) (j : JourneyValue) → slice_get (listed found) i ≡ Some point → (spelled (nodes_of found) point.tag).journey ≡ Some j → Answers criterion rules t q found → slice_get (listed found) i ≡ Some p → Attains rules t q p j
+pub attains : {K V : Type 0} {c : _} (criterion : K) (rules : Rules V) (t : TimetableValue) (q : Query) (found : Found K V c) (i : ℕ) (p point : Point V) (j : JourneyValue) → slice_get (listed found) i ≡ Some point → (spelled (nodes_of found) point.tag).journey ≡ Some j → Answers criterion rules t q found → slice_get (listed found) i ≡ Some p → Attains rules t q p j
 attains criterion rules t q found i p point j here spells answers at =
     let a = attained criterion rules t q found i p answers at in
     let same : point ≡ p = same_Some point p (sym here ∙ at) in
     let spells_p : (spelled (nodes_of found) p.tag).journey ≡ Some j = subst (λ (x : Point _). (spelled (nodes_of found) x.tag).journey ≡ Some j) same spells in
     subst (Attains rules t q p) (same_Some a.0 j (sym a.1 ∙ spells_p)) a.2
 
-pub always_spelled : {K V : Type 0} (criterion : K) (rules : Rules V) (t : TimetableValue) (q : Query) (found : Found K V) (i : ℕ) (p point : Point V) → slice_get (listed found) i ≡ Some point → (spelled (nodes_of found) point.tag).journey ≡ None → Answers criterion rules t q found → slice_get (listed found) i ≡ Some p → ⊥
+pub always_spelled : {K V : Type 0} {c : _} (criterion : K) (rules : Rules V) (t : TimetableValue) (q : Query) (found : Found K V c) (i : ℕ) (p point : Point V) → slice_get (listed found) i ≡ Some point → (spelled (nodes_of found) point.tag).journey ≡ None → Answers criterion rules t q found → slice_get (listed found) i ≡ Some p → ⊥
 always_spelled criterion rules t q found i p point here none answers at =
     let a = attained criterion rules t q found i p answers at in
     let same : point ≡ p = same_Some point p (sym here ∙ at) in

@@ -1,3 +1,4 @@
+pub mod Answer
 pub mod Extracted
 pub mod Faults
 pub mod Judged

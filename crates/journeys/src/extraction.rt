@@ -4,7 +4,7 @@ ghost use Rattle.std.specs.Prelude.{◌≡◌, ◌<◌, ◌++◌, ◌∷◌, [],
 ghost use Rattle.timetable.specs.TimetableValue.{TimetableValue};
 ghost use Rattle.timetable.specs.declared.query.Query.{Query};
 ghost use Rattle.profile_scan.specs.Continuations.{Aboard};
-ghost use Rattle.profile_scan.specs.Found.{Answers, listed, nodes_of};
+ghost use Rattle.profile_scan.specs.Found.{Answers, criterion_of_found, listed, nodes_of, query_of, timetable_of};
 ghost use Rattle.profile_scan.specs.Nodes.{spelled, walk_of};
 ghost use Rattle.journeys.specs.Extracted.{Attains, IsAlighting, IsBoarding, or_none, rides_on};
 
@@ -167,6 +167,9 @@ pub fn extract<C: Criterion>(
 ) -> Result<Journey, AllocError>
     requires { i < length (listed found.now) }
     ensures spelled { IfOk result (λ journey. (p : _) → slice_get (listed found.now) i ≡ Some p → journey ≡ or_none (spelled (nodes_of found.now) p.tag).journey) }
+    // It attains the point in the query and the timetable that the answer keeps.
+    ensures kept { IfOk result (λ journey. (p : _) → slice_get (listed found.now) i ≡ Some p → ∥ Attains (C.rules (criterion_of_found found.now)) (timetable_of found.now) (query_of found.now) p journey ∥₁) }
+    // So it does in those of which the caller knows that they were answered.
     ensures attains { IfOk result (λ journey. (criterion : _) (t : TimetableValue) (q : Query) (p : _) → Answers criterion (C.rules criterion) t q found.now → slice_get (listed found.now) i ≡ Some p → Attains (C.rules criterion) t q p journey) }
 {
     let point = found.point(i);

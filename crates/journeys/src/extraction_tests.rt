@@ -195,6 +195,29 @@ fn on_foot_from_the_last_trip(rt: HostRuntime) -> Result<(), Fail> {
     )
 }
 
+/// The answer at one call: each departure with its value and its journey, and the footpath from the source to the target.
+#[test]
+fn answered_at_once(rt: HostRuntime) -> Result<(), Fail> {
+    let alloc = rt.alloc();
+    let image = image(alloc, &sample_words())?;
+    let mut source = InPlace::new(&image);
+    let stops = source.stops();
+    ASKED.check(stops).ok().ok_or("the query can be asked")?;
+    let answer = answer_query(alloc, &mut source, &ArrivalTrips, &ASKED)?;
+    assert_eq!(rt; answer.walk, None);
+    assert_eq!(rt; answer.departures.len(), 2);
+    let slow = &answer.departures[1];
+    assert_eq!(rt;
+        (slow.time, slow.value.time, slow.value.trips),
+        (28800, 30600, 1)
+    );
+    assert_eq!(rt;
+        journey_text(alloc, &slow.journey)?.as_slice(),
+        b"ride 0 1".as_slice()
+    );
+    Ok(())
+}
+
 /// Whichever growth is refused, want of memory is told, and else the journey comes. A refused growth ends the test with `AllocError`.
 #[test]
 fn refused_growth_is_told(rt: HostRuntime) -> Result<(), Fail> {

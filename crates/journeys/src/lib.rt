@@ -1,6 +1,7 @@
 //! Journeys as texts, whether a journey holds in an image and counts for a query, and the journeys of an answer.
 #![tactic(auto)]
 
+mod answering;
 mod counts;
 mod ends;
 mod extraction;
@@ -12,6 +13,7 @@ mod text;
 mod text_fault;
 mod walks;
 
+pub use answering::{Answer, Departure, answer_query};
 pub use counts::{check, faultless_counts};
 pub use extraction::extract;
 pub use fault::JourneyFault;

@@ -17,6 +17,7 @@ pub mod Complete
 pub mod StepLemmas
 pub mod Ends
 pub mod Answer
+pub mod AnsweredLemmas
 pub mod Windows
 pub mod Refutations
 pub mod ExampleAnswers

@@ -12,9 +12,8 @@ use Rattle.bags.specs.Dominance.{Apart, IsBag}
 use Rattle.bags.specs.declared.point.Point.{Point}
 use Rattle.bags.proofs.Lists.{from_insert, into_insert, all_pairs_insert}
 use Rattle.timetable.proofs.LegalFacts.{Contains-At, At-Contains}
-use Rattle.profile_scan.specs.Points.{Before}
+use Rattle.profile_scan.specs.Points.{Before, is_before}
 use Rattle.profile_scan.specs.Matching.{Matches}
-use Rattle.profile_scan.specs.Found.{is_before}
 use Rattle.profile_scan.proofs.Answer.{only_itself, not_before_itself}
 
 -- which of the three an ordering is

@@ -1,12 +1,11 @@
 -- What contracts see of an answer that was found.
-use Rattle.std.specs.Prelude.{◌≡◌, ℕ, Bool, ◌&&◌, ◌||◌, ◌==◌, nat_lt, List, Option, Contains}
-use Rattle.std.specs.Ordering.{is_lt}
+use Rattle.std.specs.Prelude.{◌≡◌, ℕ, List, Option, Contains}
 use Rattle.criteria.specs.Laws.{Rules}
 use Rattle.bags.specs.declared.point.Point.{Point}
 use Rattle.timetable.specs.TimetableValue.{TimetableValue}
 use Rattle.timetable.specs.declared.query.Query.{Query}
-use Rattle.profile_scan.specs.Points.{IsAnswer}
 use Rattle.timetable.specs.Journeys.{Counts}
+use Rattle.profile_scan.specs.Points.{IsAnswer}
 use Rattle.profile_scan.specs.Values.{journey_value}
 use Rattle.profile_scan.specs.Plain.{IsPlain}
 use Rattle.profile_scan.specs.Matching.{IsAttained}
@@ -16,24 +15,32 @@ use Rattle.profile_scan.specs.declared.found.Found.{Found}
 use Rattle.profile_scan.specs.declared.nodes.Node.{Node}
 
 -- its points, at their places
-abbrev pub listed : {K V : Type 0} → Found K V → List (Point V)
+abbrev pub listed : {K V : Type 0} {c : _} → Found K V c → List (Point V)
 listed found = found.points.items
 
 -- its nodes, at their numbers
-abbrev pub nodes_of : {K V : Type 0} → Found K V → List Node
+abbrev pub nodes_of : {K V : Type 0} {c : _} → Found K V c → List Node
 nodes_of found = found.nodes.items
 
 -- the seconds of the footpath from the source to the target, if there is one
-abbrev pub walk_of_found : {K V : Type 0} → Found K V → Option ℕ
+abbrev pub walk_of_found : {K V : Type 0} {c : _} → Found K V c → Option ℕ
 walk_of_found found = found.walk
 
+-- the timetable over which it answers
+abbrev pub timetable_of : {K V : Type 0} {c : _} → Found K V c → TimetableValue
+timetable_of found = found.timetable.value
+
+-- the query that it answers
+abbrev pub query_of : {K V : Type 0} {c : _} → Found K V c → Query
+query_of found = found.query.value
+
+-- the criterion by which it answers
+abbrev pub criterion_of_found : {K V : Type 0} {c : _} → Found K V c → K
+criterion_of_found found = found.criterion
+
 -- it is the answer of a query over a timetable, under a criterion; each point's tag spells, by the nodes, a plain journey that counts, with the point's departure and value
-pub record Answers {K V : Type 0} (criterion : K) (rules : Rules V) (t : TimetableValue) (q : Query) (found : Found K V) : Type 0 where
+pub record Answers {K V : Type 0} {c : _} (criterion : K) (rules : Rules V) (t : TimetableValue) (q : Query) (found : Found K V c) : Type 0 where
   pub answer : IsAnswer rules t q (listed found)
   pub attained : (p : Point V) → Contains (listed found) p → IsAttained (spelling (nodes_of found)).journey (Counts t q) (IsPlain t q.target) (journey_value rules t) p
   pub direct : IsWay t q.target q.source (walk_of_found found)
-  pub keeps : (found.criterion ≡ criterion) × (found.timetable.value ≡ t) × (found.query.value ≡ q)
-
--- whether a point is listed before another
-abbrev pub is_before : {V : Type 0} → Rules V → Point V → Point V → Bool
-is_before rules p q = nat_lt p.departure q.departure || (p.departure == q.departure && is_lt (rules.list_order p.value q.value))
+  pub keeps : (criterion_of_found found ≡ criterion) × (timetable_of found ≡ t) × (query_of found ≡ q)

@@ -9,6 +9,7 @@ pub mod LawStatements
 pub mod Nodes
 pub mod Adding
 pub mod Kept
+pub mod Answered
 pub mod Found
 pub mod WrongSteps
 pub mod Examples

@@ -1,5 +1,6 @@
 -- The points of a query, and its answer. (Pareto dominance, as in the Connection Scan Algorithm's profiles; the window is our own.)
-use Rattle.std.specs.Prelude.{◌≡◌, ◌⊎◌, ◌↔◌, ℕ, ◌<◌, ◌≤◌, List, Contains, AllPairs}
+use Rattle.std.specs.Prelude.{◌≡◌, ◌⊎◌, ◌↔◌, ◌&&◌, ◌||◌, ◌==◌, ℕ, ◌<◌, ◌≤◌, Bool, nat_lt, List, Contains, AllPairs}
+use Rattle.std.specs.Ordering.{is_lt}
 use Rattle.std.specs.declared.cmp.Ordering.TheVariants.{Less}
 use Rattle.criteria.specs.Laws.{Rules, NoWorse}
 use Rattle.bags.specs.declared.point.Point.{Point}
@@ -29,6 +30,10 @@ Covers {V} rules points departure v = (p : Point V) × Contains points p × (dep
 -- by departure, then by the criterion's order
 abbrev pub Before : {V : Type 0} → Rules V → Point V → Point V → Type 0
 Before rules p q = (p.departure < q.departure) ⊎ ((p.departure ≡ q.departure) × (rules.list_order p.value q.value ≡ Less))
+
+-- the test of that
+abbrev pub is_before : {V : Type 0} → Rules V → Point V → Point V → Bool
+is_before rules p q = nat_lt p.departure q.departure || (p.departure == q.departure && is_lt (rules.list_order p.value q.value))
 
 -- the answer: exactly the undominated points, no journey that counts uncovered, in order; under a criterion's laws no point is before itself, so each stands once
 pub record IsAnswer {V : Type 0} (rules : Rules V) (t : TimetableValue) (q : Query) (points : List (Point V)) : Type 0 where

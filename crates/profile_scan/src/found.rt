@@ -3,8 +3,8 @@
 ghost use Rattle.std.specs.Prelude.{◌≡◌, ◌<◌, ◌≤◌, ◌⊎◌, ◌↔◌, ℕ, IfOk, OnOk, Contains, AllPairs, length, slice_get, slice_index_or, Some};
 ghost use Rattle.criteria.specs.Laws.{Admits};
 ghost use Rattle.bags.specs.Bag.{criterion_of, points_of};
-ghost use Rattle.profile_scan.specs.Points.{Before};
-ghost use Rattle.profile_scan.specs.Found.{is_before, listed, nodes_of, walk_of_found};
+ghost use Rattle.profile_scan.specs.Points.{Before, is_before};
+ghost use Rattle.profile_scan.specs.Answered.{IsAnswered};
 
 use crate::nodes::Node;
 use bags::{Bag, Point};
@@ -15,7 +15,7 @@ use timetable::{Kept, Query, Timetable};
 /// The answer of a profile query: the points of all best departures, by departure, then by the criterion's order. Each point's tag is
 /// the number of a node, and by the nodes from there on it spells a journey that attains the point.
 ///
-/// It keeps the criterion, and in fields that contracts alone see the timetable and the query that it answers.
+/// It keeps the criterion, and in fields that contracts alone see the timetable and the query that it answers, and that it does.
 #[derive(Drop)]
 pub struct Found<C: Criterion> {
     pub(crate) criterion: C,
@@ -24,9 +24,12 @@ pub struct Found<C: Criterion> {
     pub(crate) walk: Option<u32>,
     pub(crate) timetable: Kept<Timetable>,
     pub(crate) query: Kept<Query>,
+    pub(crate) ghost answered: { ∥ IsAnswered (C.rules criterion) timetable.value query.value points.items nodes.items walk ∥₁ },
 }
 
 impl<C: Criterion> Found<C> {
+    ghost use Rattle.profile_scan.specs.Found.{listed, nodes_of, walk_of_found};
+
     /// How many points there are.
     pub fn len(&self) -> usize
         ensures { result ≡ length (listed self.now) }

@@ -1,12 +1,25 @@
 //! The laws by which one scan from the last connection to the first finds the answer of a profile query.
 //!
-//! Each is a function with no code, whose contract is the law: a statement over the definitions alone, for every criterion with its laws.
+//! Each is a function whose contract is the law, for every criterion with its laws. Most have no code and speak of the definitions
+//! alone; `found_answers` speaks of one answer, and the last two run the scan over two sources.
 
+ghost use Rattle.std.specs.Prelude.{◌≡◌, ◌++◌, IfOk, OnOk, map, reverse};
 ghost use Rattle.timetable.specs.Journeys.{Counts};
+ghost use Rattle.timetable.specs.Queries.{IsAskable};
+ghost use Rattle.profile_scan.specs.Answered.{IsAnswered};
+ghost use Rattle.profile_scan.specs.Found.{Answers, criterion_of_found, listed, nodes_of, query_of, timetable_of, walk_of_found};
+ghost use Rattle.profile_scan.specs.Points.{untagged};
+ghost use Rattle.profile_scan.specs.Window.{window};
 ghost use Rattle.profile_scan.specs.Steps.{IsStep};
 ghost use Rattle.profile_scan.specs.LawStatements.{ChainsGiveWay, TogetherNeverContinue, NothingFollows, OneIndexDown, TagsMayCome, CutIsTheSources, MatchIsTheAnswer, OneAnswer, WindowIsReadBackward};
 
+use crate::answering::profile;
+use crate::found::Found;
 use criteria::Criterion;
+use image_verifier::Verified;
+use sources::{ConnSource, Decoded, InPlace};
+use std::alloc::{AllocError, Global};
+use timetable::Query;
 
 /// A chain of footpaths gives way to one closed footpath, which takes no longer and is no worse before any value.
 pub fn chains_give_way<C: Criterion>(_criterion: &C)
@@ -52,3 +65,46 @@ pub fn one_answer<C: Criterion>(_criterion: &C)
 pub fn window_is_read_backward()
     ensures { WindowIsReadBackward }
 {}
+
+/// What was found is the answer of the query that it keeps, over the timetable that it keeps.
+pub fn found_answers<C: Criterion>(found: &Found<C>)
+    ensures { ∥ IsAnswered (C.rules (criterion_of_found found.now)) (timetable_of found.now) (query_of found.now) (listed found.now) (nodes_of found.now) (walk_of_found found.now) ∥₁ }
+{
+    let _kept = found.len();
+}
+
+/// Two sources of one timetable give a query the same points, tags aside, and each is asked once for each connection of the window.
+pub fn two_sources<A: ConnSource, B: ConnSource, C: Criterion>(
+    alloc: Global,
+    one: &mut A,
+    other: &mut B,
+    criterion: &C,
+    query: &Query,
+) -> Result<(Found<C>, Found<C>), AllocError>
+    requires askable { IsAskable (A.timetable one.old).stops query.now }
+    requires alike { B.timetable other.old ≡ A.timetable one.old }
+    ensures answers { IfOk result (λ found. Answers criterion.now (C.rules criterion.now) (A.timetable one.old) query.now found.0 × Answers criterion.now (C.rules criterion.now) (A.timetable one.old) query.now found.1) }
+    ensures same { IfOk result (λ found. map untagged (listed found.0) ≡ map untagged (listed found.1)) }
+    ensures log { OnOk result (A.log one.new ≡ A.log one.old ++ reverse (window (A.timetable one.old) query.now)) }
+    ensures other_log { OnOk result (B.log other.new ≡ B.log other.old ++ reverse (window (A.timetable one.old) query.now)) }
+{
+    let found = profile(alloc, one, criterion, query)?;
+    let again = profile(alloc, other, criterion, query)?;
+    Ok((found, again))
+}
+
+/// An image read in place and its lists decoded give a query the same points, tags aside.
+pub fn both_sources<C: Criterion>(
+    alloc: Global,
+    image: &Verified,
+    criterion: &C,
+    query: &Query,
+) -> Result<(Found<C>, Found<C>), AllocError>
+    requires { IsAskable image.now.timetable.stops query.now }
+    ensures answers { IfOk result (λ found. Answers criterion.now (C.rules criterion.now) image.now.timetable query.now found.0 × Answers criterion.now (C.rules criterion.now) image.now.timetable query.now found.1) }
+    ensures same { IfOk result (λ found. map untagged (listed found.0) ≡ map untagged (listed found.1)) }
+{
+    let mut in_place = InPlace::new(image);
+    let mut decoded = Decoded::of(alloc, image)?;
+    two_sources(alloc, &mut in_place, &mut decoded, criterion, query)
+}

@@ -28,3 +28,4 @@ mod wrong_steps;
 pub use answering::profile;
 pub use found::Found;
 pub use nodes::Node;
+pub use sources::{ConnSource, Decoded, InPlace};

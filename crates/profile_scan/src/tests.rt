@@ -204,6 +204,27 @@ fn fewer_trips_take_longer(rt: HostRuntime) -> Result<(), Fail> {
     )
 }
 
+/// The image in place and its lists decoded: as many points, each with the same departure.
+#[test]
+fn both_sources_give_one_answer(rt: HostRuntime) -> Result<(), Fail> {
+    let alloc = rt.alloc();
+    for words in [sample_words().as_slice(), WITH_CHAIN.as_slice()] {
+        let image = image(alloc, words)?;
+        ASKED
+            .check(image.stops())
+            .ok()
+            .ok_or("the query can be asked")?;
+        let (in_place, decoded) = laws::both_sources(alloc, &image, &ArrivalTrips, &ASKED)?;
+        laws::found_answers(&in_place);
+        assert_eq!(rt; in_place.len(), 2);
+        assert_eq!(rt; decoded.len(), 2);
+        for i in 0..2 {
+            assert_eq!(rt; in_place.point(i).departure, decoded.point(i).departure);
+        }
+    }
+    Ok(())
+}
+
 #[test]
 fn one_trip_is_as_fast(rt: HostRuntime) -> Result<(), Fail> {
     assert_arrivals_and_trips(&rt, rt.alloc(), &WITH_DIRECT_TRIP, &[(28800, 30000, 1)])?;
