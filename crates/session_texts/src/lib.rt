@@ -1,0 +1,16 @@
+//! A session's requests and replies as texts: lines of JSON.
+#![tactic(auto)]
+
+mod judging;
+pub mod laws;
+mod refusals;
+mod replies;
+mod requests;
+
+pub use judging::{LineFault, read_line};
+pub use refusals::{Refusal, moved_line};
+pub use replies::{Points, load_line, pin_line, release_line};
+pub use requests::{Ask, CriterionName, Request, request_of};
+
+#[cfg(test)]
+mod tests;
