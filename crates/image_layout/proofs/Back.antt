@@ -10,7 +10,7 @@ use Rattle.timetable.specs.TimetableValue.{TimetableValue}
 use Rattle.timetable.specs.NamesValue.{NamesValue, TripNameValue}
 use Rattle.timetable.specs.Legal.{At, IsLegal}
 use Rattle.image_layout.specs.Places.{IsWhole}
-use Rattle.image_layout.specs.Spelling.{connection_words, footpath_words, footpath_count_below, foot_index, name_list, byte_count_before, name_index, text, text_words, image}
+use Rattle.image_layout.specs.Spelling.{connection_words, footpath_words, footpath_count_below, foot_index, name_list, byte_count_before, name_index, text, text_words, image_in}
 use Rattle.image_layout.specs.Shown.{footpaths_of, timetable_of}
 use Rattle.image_layout.specs.Image.{HasImage}
 use Rattle.image_layout.proofs.Feet.{IsFootIndex}
@@ -36,9 +36,9 @@ pub length-name_list : (p : TimetableValue) (n : NamesValue) → HasImage p n �
 length-name_list p n can =
     omega (arith, length-append n.stops (map (λ (t : TripNameValue). t.name) n.trips), length-map n.trips (λ (t : TripNameValue). t.name), can.names.stop_names, can.names.trip_names)
 
-pub image_is_whole : (p : TimetableValue) (n : NamesValue) → HasImage p n → IsWhole (image p n)
-unfolding image
-image_is_whole p n can =
+pub image_is_whole : (layout : ℕ) (p : TimetableValue) (n : NamesValue) → HasImage p n → IsWhole (image_in layout p n)
+unfolding image_in
+image_is_whole layout p n can =
     let connections = flat_map connection_words p.connections in
     let feet = flat_map footpath_words p.footpaths in
     let days = map (λ (t : TripNameValue). t.day) n.trips in
@@ -57,36 +57,36 @@ image_is_whole p n can =
       all_there = omega (arith, a, b, d, e, f, connections_long, feet_long, index_long, names_long, days_long, length-text_words (text n), length-name_list p n can, can.names.trip_names);
     }
 
-pub image_has_index : (p : TimetableValue) (n : NamesValue) → HasImage p n → IsFootIndex (image p n)
-unfolding image
-image_has_index p n can = record {
-  start = foot_index_back p n 0 (omega arith) ∙ none_below_zero p.footpaths;
-  rises = λ s lt. (let one = foot_index_back p n s (omega arith) in let two = foot_index_back p n (s + 1) (omega arith) in let up = below_rises p.footpaths s in omega (arith, one, two, up));
-  end = foot_index_back p n p.stops (omega arith) ∙ all_below p.footpaths p.stops (λ i f at. (can.legal.ends_in_range i f at).1);
+pub image_has_index : (layout : ℕ) (p : TimetableValue) (n : NamesValue) → HasImage p n → IsFootIndex (image_in layout p n)
+unfolding image_in
+image_has_index layout p n can = record {
+  start = foot_index_back layout p n 0 (omega arith) ∙ none_below_zero p.footpaths;
+  rises = λ s lt. (let one = foot_index_back layout p n s (omega arith) in let two = foot_index_back layout p n (s + 1) (omega arith) in let up = below_rises p.footpaths s in omega (arith, one, two, up));
+  end = foot_index_back layout p n p.stops (omega arith) ∙ all_below p.footpaths p.stops (λ i f at. (can.legal.ends_in_range i f at).1);
 }
 
 -- at each place the image shows the footpath that it was spelled from
-footpath_there : (p : TimetableValue) (n : NamesValue) → HasImage p n → (k : ℕ) (f : Footpath) → At p.footpaths k f → slice_get (footpaths_of (image p n)) k ≡ Some f
-unfolding image
-footpath_there p n can k f at =
+footpath_there : (layout : ℕ) (p : TimetableValue) (n : NamesValue) → HasImage p n → (k : ℕ) (f : Footpath) → At p.footpaths k f → slice_get (footpaths_of (image_in layout p n)) k ≡ Some f
+unfolding image_in
+footpath_there layout p n can k f at =
     let falls = never_falls p can.legal in
     let lt : f.to < p.stops = (can.legal.ends_in_range k f at).1 in
     let low = place_above p.footpaths k f.to f falls at (omega arith) in
     let high = place_below p.footpaths k (f.to + 1) f falls at (omega arith) in
-    let first = foot_index_back p n f.to (omega arith) in
-    let next = foot_index_back p n (f.to + 1) (omega arith) in
-    footpath_is (image p n) f.to k (image_is_whole p n can) (image_has_index p n can) lt (omega (arith, first, low)) (omega (arith, next, high))
-    ∙ ap Some (footpath_back p n k f at)
+    let first = foot_index_back layout p n f.to (omega arith) in
+    let next = foot_index_back layout p n (f.to + 1) (omega arith) in
+    footpath_is (image_in layout p n) f.to k (image_is_whole layout p n can) (image_has_index layout p n can) lt (omega (arith, first, low)) (omega (arith, next, high))
+    ∙ ap Some (footpath_back layout p n k f at)
 
-pub footpaths_back : (p : TimetableValue) (n : NamesValue) → HasImage p n → footpaths_of (image p n) ≡ p.footpaths
-unfolding image
-footpaths_back p n can =
-    let size : length (footpaths_of (image p n)) ≡ length p.footpaths = length-footpaths_of (image p n) (image_is_whole p n can) (image_has_index p n can) in
-    same_lists (footpaths_of (image p n)) p.footpaths size (λ k d lt.
+pub footpaths_back : (layout : ℕ) (p : TimetableValue) (n : NamesValue) → HasImage p n → footpaths_of (image_in layout p n) ≡ p.footpaths
+unfolding image_in
+footpaths_back layout p n can =
+    let size : length (footpaths_of (image_in layout p n)) ≡ length p.footpaths = length-footpaths_of (image_in layout p n) (image_is_whole layout p n can) (image_has_index layout p n can) in
+    same_lists (footpaths_of (image_in layout p n)) p.footpaths size (λ k d lt.
     let at : slice_get p.footpaths k ≡ Some (get_or p.footpaths k d) = slice_get-get_or p.footpaths k d (omega arith) in
-    get_or_from_slice_get (footpaths_of (image p n)) k (get_or p.footpaths k d) d (footpath_there p n can k (get_or p.footpaths k d) at))
+    get_or_from_slice_get (footpaths_of (image_in layout p n)) k (get_or p.footpaths k d) d (footpath_there layout p n can k (get_or p.footpaths k d) at))
 
 -- an image shows the timetable that it was spelled from
-pub timetable_back : (p : TimetableValue) (n : NamesValue) → HasImage p n → timetable_of (image p n) ≡ p
-unfolding image
-timetable_back p n can = rw (connections_back p n, footpaths_back p n can) refl
+pub timetable_back : (layout : ℕ) (p : TimetableValue) (n : NamesValue) → HasImage p n → timetable_of (image_in layout p n) ≡ p
+unfolding image_in
+timetable_back layout p n can = rw (connections_back layout p n, footpaths_back layout p n can) refl

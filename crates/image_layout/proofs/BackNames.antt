@@ -11,10 +11,10 @@ use Rattle.std.proofs.lemmas.List.{take_all, append_assoc, append-nil, length-ap
 use Rattle.std.proofs.lemmas.List.FromFn.{fill_by_all, length-map-range_with_len, get_or-map-range_with_len}
 use Rattle.timetable.specs.TimetableValue.{TimetableValue}
 use Rattle.timetable.specs.NamesValue.{NamesValue, TripNameValue}
-use Rattle.image_layout.specs.Places.{header_of, name_index_place, day_place, text_place}
+use Rattle.image_layout.specs.Places.{is_layout, header_of, name_index_place, day_place, text_place}
 use Rattle.image_layout.specs.Fields.{name_index_of, day_of}
 use Rattle.image_layout.specs.Text.{bytes_of, padded_text_of}
-use Rattle.image_layout.specs.Spelling.{connection_words, footpath_words, footpath_count_below, foot_index, name_list, byte_count_before, name_index, text, text_words, image}
+use Rattle.image_layout.specs.Spelling.{connection_words, footpath_words, footpath_count_below, foot_index, name_list, byte_count_before, name_index, text, text_words, image_in}
 use Rattle.image_layout.specs.Shown.{connection_of, name_of, trip_name_of, names_of}
 use Rattle.image_layout.specs.Image.{HasImage}
 use Rattle.image_layout.proofs.Spelled.{flags_back, skip, word_in, pieces_long, from_names, from_footpaths, from_foot_index}
@@ -77,15 +77,15 @@ name_there (x ∷ xs) rest (suc i) name e =
     ∙ name_there xs rest i name e
 
 -- where the sections behind the footpaths stand
-record AreBehind (p : TimetableValue) (n : NamesValue) : Type 0 where
-  index : drop (name_index_place (header_of (image p n))) (image p n) ≡ from_names n
-  days : drop (day_place (header_of (image p n))) (image p n) ≡ map (λ (t : TripNameValue). t.day) n.trips ++ text_words (text n)
-  text : drop (text_place (header_of (image p n))) (image p n) ≡ text_words (text n)
+record AreBehind (layout : ℕ) (p : TimetableValue) (n : NamesValue) : Type 0 where
+  index : drop (name_index_place (header_of (image_in layout p n))) (image_in layout p n) ≡ from_names n
+  days : drop (day_place (header_of (image_in layout p n))) (image_in layout p n) ≡ map (λ (t : TripNameValue). t.day) n.trips ++ text_words (text n)
+  text : drop (text_place (header_of (image_in layout p n))) (image_in layout p n) ≡ text_words (text n)
 
-behind : (p : TimetableValue) (n : NamesValue) → HasImage p n → AreBehind p n
-unfolding image
-behind p n can =
-    let w = image p n in
+behind : (layout : ℕ) (p : TimetableValue) (n : NamesValue) → HasImage p n → AreBehind layout p n
+unfolding image_in
+behind layout p n can =
+    let w = image_in layout p n in
     let connections = flat_map connection_words p.connections in
     let feet = flat_map footpath_words p.footpaths in
     let days = map (λ (t : TripNameValue). t.day) n.trips in
@@ -109,25 +109,25 @@ behind p n can =
       text = ap (λ (k : ℕ). drop k w) e5 ∙ at5;
     }
 
-pub name_index_back : (p : TimetableValue) (n : NamesValue) → HasImage p n → (i : ℕ) → i ≤ length (name_list n) → name_index_of (image p n) i ≡ byte_count_before (name_list n) i
-name_index_back p n can i le =
+pub name_index_back : (layout : ℕ) (p : TimetableValue) (n : NamesValue) → HasImage p n → (i : ℕ) → i ≤ length (name_list n) → name_index_of (image_in layout p n) i ≡ byte_count_before (name_list n) i
+name_index_back layout p n can i le =
     let size = length-map-range_with_len (byte_count_before (name_list n)) 0 (length (name_list n) + 1) in
-    word_in (image p n) (name_index n) (map (λ (t : TripNameValue). t.day) n.trips ++ text_words (text n)) (name_index_place (header_of (image p n))) i (behind p n can).index (omega (arith, size))
+    word_in (image_in layout p n) (name_index n) (map (λ (t : TripNameValue). t.day) n.trips ++ text_words (text n)) (name_index_place (header_of (image_in layout p n))) i (behind layout p n can).index (omega (arith, size))
     ∙ get_or-map-range_with_len (byte_count_before (name_list n)) 0 (length (name_list n) + 1) i i 0 (omega arith) (omega arith)
 
-pub name_back : (p : TimetableValue) (n : NamesValue) → HasImage p n → (i : ℕ) (name : List ℕ) → slice_get (name_list n) i ≡ Some name → name_of (image p n) i ≡ name
-name_back p n can i name e =
+pub name_back : (layout : ℕ) (p : TimetableValue) (n : NamesValue) → HasImage p n → (i : ℕ) (name : List ℕ) → slice_get (name_list n) i ≡ Some name → name_of (image_in layout p n) i ≡ name
+name_back layout p n can i name e =
     let open_text = open_words (text n) (concat_are_bytes (name_list n) can.names.utf8) in
-    let t : padded_text_of (image p n) ≡ text n ++ open_text.spare = ap bytes_of (behind p n can).text ∙ open_text.is in
+    let t : padded_text_of (image_in layout p n) ≡ text n ++ open_text.spare = ap bytes_of (behind layout p n can).text ∙ open_text.is in
     let within : i < length (name_list n) = slice_get_within (name_list n) i name e in
-    let first = name_index_back p n can i (omega arith) in
-    let next = name_index_back p n can (i + 1) (omega arith) in
+    let first = name_index_back layout p n can i (omega arith) in
+    let next = name_index_back layout p n can (i + 1) (omega arith) in
     rw (t, first, next) (name_there (name_list n) open_text.spare i name e)
 
-day_back : (p : TimetableValue) (n : NamesValue) → HasImage p n → (i : ℕ) → i < length n.trips → (d : TripNameValue) → day_of (image p n) i ≡ (get_or n.trips i d).day
-day_back p n can i lt d =
+day_back : (layout : ℕ) (p : TimetableValue) (n : NamesValue) → HasImage p n → (i : ℕ) → i < length n.trips → (d : TripNameValue) → day_of (image_in layout p n) i ≡ (get_or n.trips i d).day
+day_back layout p n can i lt d =
     let size = length-map n.trips (λ (t : TripNameValue). t.day) in
-    word_in (image p n) (map (λ (t : TripNameValue). t.day) n.trips) (text_words (text n)) (day_place (header_of (image p n))) i (behind p n can).days (omega (arith, size))
+    word_in (image_in layout p n) (map (λ (t : TripNameValue). t.day) n.trips) (text_words (text n)) (day_place (header_of (image_in layout p n))) i (behind layout p n can).days (omega (arith, size))
     ∙ get_or-map (λ (t : TripNameValue). t.day) n.trips i d 0 lt
 
 abbrev label : List ℕ → ℕ → TripNameValue
@@ -162,21 +162,21 @@ halves : (a : ℕ) → a % 4294967296 + 4294967296 * (a / 4294967296) ≡ a
 halves a = omega arith
 
 -- an image shows the names that it was spelled from
-pub names_back : (p : TimetableValue) (n : NamesValue) → HasImage p n → names_of (image p n) ≡ n
-unfolding image
-names_back p n can =
-    let w = image p n in
+pub names_back : (layout : ℕ) (p : TimetableValue) (n : NamesValue) → HasImage p n → names_of (image_in layout p n) ≡ n
+unfolding image_in
+names_back layout p n can =
+    let w = image_in layout p n in
     let base : cast_signed w64 (cast_unsigned w64 n.base % 4294967296 + 4294967296 * (cast_unsigned w64 n.base / 4294967296)) ≡ n.base =
     ap (λ (a : ℕ). cast_signed w64 a) (halves (cast_unsigned w64 n.base)) ∙ to_z-of_z w64 n.base can.names.base in
     let stops : map (name_of w) (range_with_len 0 p.stops) ≡ n.stops =
-    sym (fill_by_all (name_of w) n.stops p.stops [] can.names.stop_names (λ k lt. sym (name_back p n can k (get_or n.stops k []) (stop_named n k [] (omega (arith, can.names.stop_names)))))) in
+    sym (fill_by_all (name_of w) n.stops p.stops [] can.names.stop_names (λ k lt. sym (name_back layout p n can k (get_or n.stops k []) (stop_named n k [] (omega (arith, can.names.stop_names)))))) in
     let d : TripNameValue = trip_name_of w 0 in
     let trips : map (trip_name_of w) (range_with_len 0 p.trips) ≡ n.trips =
     sym (fill_by_all (trip_name_of w) n.trips p.trips d can.names.trip_names (λ k lt.
     let within : k < length n.trips = omega (arith, can.names.trip_names) in
     let place : p.stops + k ≡ length n.stops + k = omega (arith, can.names.stop_names) in
-    let name : name_of w (p.stops + k) ≡ (get_or n.trips k d).name = ap (λ (j : ℕ). name_of w j) place ∙ name_back p n can (length n.stops + k) (get_or n.trips k d).name (trip_named n k d within) in
-    let day : day_of w k ≡ (get_or n.trips k d).day = day_back p n can k within d in
+    let name : name_of w (p.stops + k) ≡ (get_or n.trips k d).name = ap (λ (j : ℕ). name_of w j) place ∙ name_back layout p n can (length n.stops + k) (get_or n.trips k d).name (trip_named n k d within) in
+    let day : day_of w k ≡ (get_or n.trips k d).day = day_back layout p n can k within d in
     sym (label_is (name_of w (p.stops + k)) (day_of w k) (get_or n.trips k d) name day))) in
     labels_are (cast_signed w64 (cast_unsigned w64 n.base % 4294967296 + 4294967296 * (cast_unsigned w64 n.base / 4294967296))) (map (name_of w) (range_with_len 0 p.stops)) (map (trip_name_of w) (range_with_len 0 p.trips)) n base stops trips
 
@@ -199,34 +199,34 @@ before_rises (x ∷ xs) (suc i) =
     omega (arith, before, after, rest)
 
 -- an image is well-formed
-pub well_formed_back : (p : TimetableValue) (n : NamesValue) → HasImage p n → ((i : ℕ) → slice_index (image p n) i < 2 ^ 32) → IsWellFormed (image p n)
-unfolding image
-well_formed_back p n can fits =
-    let w = image p n in
+pub well_formed_back : (layout : ℕ) (p : TimetableValue) (n : NamesValue) → is_layout layout ≡ true → HasImage p n → ((i : ℕ) → slice_index (image_in layout p n) i < 2 ^ 32) → IsWellFormed (image_in layout p n)
+unfolding image_in
+well_formed_back layout p n known can fits =
+    let w = image_in layout p n in
     let count = length-name_list p n can in
     let open_text = open_words (text n) (concat_are_bytes (name_list n) can.names.utf8) in
-    let t : padded_text_of w ≡ text n ++ open_text.spare = ap bytes_of (behind p n can).text ∙ open_text.is in
+    let t : padded_text_of w ≡ text n ++ open_text.spare = ap bytes_of (behind layout p n can).text ∙ open_text.is in
     record {
-      whole = image_is_whole p n can;
+      whole = image_is_whole layout p n can;
       fits = fits;
       magic = refl;
-      layout = refl;
+      layout = known;
       flags = λ i lt. (
           let c = connection_of w i in
           let at = connection_is w i lt in
           let c_at : slice_get p.connections i ≡ Some (get_or p.connections i c) = slice_get-get_or p.connections i c lt in
-          let word = flags_back p n i (get_or p.connections i c) c_at in
+          let word = flags_back layout p n i (get_or p.connections i c) c_at in
           omega (arith, word, flags_small (get_or p.connections i c).board (get_or p.connections i c).alight));
-      feet = image_has_index p n can;
+      feet = image_has_index layout p n can;
       names = record {
-        start = name_index_back p n can 0 (omega arith);
+        start = name_index_back layout p n can 0 (omega arith);
         rises = λ i lt. (
-            let one = name_index_back p n can i (omega (arith, count)) in
-            let two = name_index_back p n can (i + 1) (omega (arith, count)) in
+            let one = name_index_back layout p n can i (omega (arith, count)) in
+            let two = name_index_back layout p n can (i + 1) (omega (arith, count)) in
             omega (arith, one, two, before_rises (name_list n) i));
         end =
             (let place : p.stops + p.trips ≡ length (name_list n) = omega (arith, count) in
-            ap (λ (j : ℕ). name_index_of w j) place ∙ name_index_back p n can (length (name_list n)) (omega arith) ∙ ap (λ (x : List (List ℕ)). length (concat x)) (take_all (length (name_list n)) (name_list n) (omega arith)));
+            ap (λ (j : ℕ). name_index_of w j) place ∙ name_index_back layout p n can (length (name_list n)) (omega arith) ∙ ap (λ (x : List (List ℕ)). length (concat x)) (take_all (length (name_list n)) (name_list n) (omega arith)));
       };
       spare = rw (t, drop_at (text n) open_text.spare (length (text n)) refl) open_text.zero;
     }

@@ -14,7 +14,7 @@ use Rattle.timetable.specs.NamesValue.{NamesValue, TripNameValue}
 use Rattle.timetable.specs.Legal.{At}
 use Rattle.image_layout.specs.Places.{header_of, footpath_place}
 use Rattle.image_layout.specs.Fields.{from_of, to_of, dep_of, arr_of, trip_of, flags_of, foot_index_of, foot_from_of, foot_secs_of}
-use Rattle.image_layout.specs.Spelling.{flags, connection_words, footpath_words, footpath_count_below, foot_index, name_index, text_words, text, image}
+use Rattle.image_layout.specs.Spelling.{flags, connection_words, footpath_words, footpath_count_below, foot_index, name_index, text_words, text, image_in}
 use Rattle.image_layout.specs.Shown.{connection_of, connections_of, footpath_of}
 
 -- what stands from the connections on, from the index of the footpaths on, and so forth
@@ -70,39 +70,39 @@ flags_alight false true = refl
 flags_alight false false = refl
 
 -- word r of connection i
-connection_word : (p : TimetableValue) (n : NamesValue) (i r : ℕ) (c : Connection) → At p.connections i c → r < 6 → get_or (image p n) (9 + 6 * i + r) 0 ≡ get_or (connection_words c) r 0
-unfolding image
-connection_word p n i r c e lt =
+connection_word : (layout : ℕ) (p : TimetableValue) (n : NamesValue) (i r : ℕ) (c : Connection) → At p.connections i c → r < 6 → get_or (image_in layout p n) (9 + 6 * i + r) 0 ≡ get_or (connection_words c) r 0
+unfolding image_in
+connection_word layout p n i r c e lt =
     let place : (9 + 6 * i) + r ≡ 9 + (6 * i + r) = omega arith in
     let size : length (flat_map connection_words p.connections) ≡ 6 * length p.connections = pieces_long connection_words 6 (λ x. refl) p.connections in
     let within : i < length p.connections = slice_get_within p.connections i c e in
-    ap (λ (j : ℕ). get_or (image p n) j 0) place
-    ∙ word_in (image p n) (flat_map connection_words p.connections) (from_foot_index p n) 9 (6 * i + r) refl (omega (arith, size))
+    ap (λ (j : ℕ). get_or (image_in layout p n) j 0) place
+    ∙ word_in (image_in layout p n) (flat_map connection_words p.connections) (from_foot_index p n) 9 (6 * i + r) refl (omega (arith, size))
     ∙ piece_word connection_words 6 (λ x. refl) p.connections i r c e lt
 
-connection_back : (p : TimetableValue) (n : NamesValue) (i : ℕ) (c : Connection) → At p.connections i c → connection_of (image p n) i ≡ c
-connection_back p n i c e =
+connection_back : (layout : ℕ) (p : TimetableValue) (n : NamesValue) (i : ℕ) (c : Connection) → At p.connections i c → connection_of (image_in layout p n) i ≡ c
+connection_back layout p n i c e =
     let z : 9 + 6 * i + 0 ≡ 9 + 6 * i = omega arith in
-    let e0 : from_of (image p n) i ≡ c.from = ap (λ (j : ℕ). get_or (image p n) j 0) (sym z) ∙ connection_word p n i 0 c e (omega arith) in
-    let e1 : to_of (image p n) i ≡ c.to = connection_word p n i 1 c e (omega arith) in
-    let e2 : dep_of (image p n) i ≡ c.dep = connection_word p n i 2 c e (omega arith) in
-    let e3 : arr_of (image p n) i ≡ c.arr = connection_word p n i 3 c e (omega arith) in
-    let e4 : trip_of (image p n) i ≡ c.trip = connection_word p n i 4 c e (omega arith) in
-    let e5 : flags_of (image p n) i ≡ flags c = connection_word p n i 5 c e (omega arith) in
-    let b : eqb (flags_of (image p n) i % 2) 1 ≡ c.board = ap (λ (x : ℕ). eqb (x % 2) 1) e5 ∙ flags_board c.board c.alight in
-    let a : eqb (flags_of (image p n) i / 2) 1 ≡ c.alight = ap (λ (x : ℕ). eqb (x / 2) 1) e5 ∙ flags_alight c.board c.alight in
+    let e0 : from_of (image_in layout p n) i ≡ c.from = ap (λ (j : ℕ). get_or (image_in layout p n) j 0) (sym z) ∙ connection_word layout p n i 0 c e (omega arith) in
+    let e1 : to_of (image_in layout p n) i ≡ c.to = connection_word layout p n i 1 c e (omega arith) in
+    let e2 : dep_of (image_in layout p n) i ≡ c.dep = connection_word layout p n i 2 c e (omega arith) in
+    let e3 : arr_of (image_in layout p n) i ≡ c.arr = connection_word layout p n i 3 c e (omega arith) in
+    let e4 : trip_of (image_in layout p n) i ≡ c.trip = connection_word layout p n i 4 c e (omega arith) in
+    let e5 : flags_of (image_in layout p n) i ≡ flags c = connection_word layout p n i 5 c e (omega arith) in
+    let b : eqb (flags_of (image_in layout p n) i % 2) 1 ≡ c.board = ap (λ (x : ℕ). eqb (x % 2) 1) e5 ∙ flags_board c.board c.alight in
+    let a : eqb (flags_of (image_in layout p n) i / 2) 1 ≡ c.alight = ap (λ (x : ℕ). eqb (x / 2) 1) e5 ∙ flags_alight c.board c.alight in
     rw (e0, e1, e2, e3, e4, b, a) refl
 
-pub flags_back : (p : TimetableValue) (n : NamesValue) (i : ℕ) (c : Connection) → At p.connections i c → flags_of (image p n) i ≡ flags c
-flags_back p n i c e = connection_word p n i 5 c e (omega arith)
+pub flags_back : (layout : ℕ) (p : TimetableValue) (n : NamesValue) (i : ℕ) (c : Connection) → At p.connections i c → flags_of (image_in layout p n) i ≡ flags c
+flags_back layout p n i c e = connection_word layout p n i 5 c e (omega arith)
 
 -- an image shows the connections that it was spelled from
-pub connections_back : (p : TimetableValue) (n : NamesValue) → connections_of (image p n) ≡ p.connections
-unfolding connections_of image
-connections_back p n =
-    let d = connection_of (image p n) 0 in
-    sym (fill_by_all (connection_of (image p n)) p.connections (length p.connections) d refl (λ k lt.
-    sym (connection_back p n k (get_or p.connections k d) (slice_get-get_or p.connections k d lt))))
+pub connections_back : (layout : ℕ) (p : TimetableValue) (n : NamesValue) → connections_of (image_in layout p n) ≡ p.connections
+unfolding connections_of image_in
+connections_back layout p n =
+    let d = connection_of (image_in layout p n) 0 in
+    sym (fill_by_all (connection_of (image_in layout p n)) p.connections (length p.connections) d refl (λ k lt.
+    sym (connection_back layout p n k (get_or p.connections k d) (slice_get-get_or p.connections k d lt))))
 
 -- ---- footpaths in the order of their list
 
@@ -169,13 +169,13 @@ place_above (g ∷ gs) (suc k) s f h at le =
     ]
 
 -- the index of the footpaths of an image
-pub foot_index_back : (p : TimetableValue) (n : NamesValue) (s : ℕ) → s ≤ p.stops → foot_index_of (image p n) s ≡ footpath_count_below p.footpaths s
-unfolding image
-foot_index_back p n s le =
+pub foot_index_back : (layout : ℕ) (p : TimetableValue) (n : NamesValue) (s : ℕ) → s ≤ p.stops → foot_index_of (image_in layout p n) s ≡ footpath_count_below p.footpaths s
+unfolding image_in
+foot_index_back layout p n s le =
     let size : length (flat_map connection_words p.connections) ≡ 6 * length p.connections = pieces_long connection_words 6 (λ x. refl) p.connections in
-    let at : drop (9 + 6 * length p.connections) (image p n) ≡ from_foot_index p n = skip (image p n) (flat_map connection_words p.connections) (from_foot_index p n) 9 (6 * length p.connections) size refl in
+    let at : drop (9 + 6 * length p.connections) (image_in layout p n) ≡ from_foot_index p n = skip (image_in layout p n) (flat_map connection_words p.connections) (from_foot_index p n) 9 (6 * length p.connections) size refl in
     let long = length-map-range_with_len (footpath_count_below p.footpaths) 0 (p.stops + 1) in
-    word_in (image p n) (foot_index p) (from_footpaths p n) (9 + 6 * length p.connections) s at (omega (arith, long))
+    word_in (image_in layout p n) (foot_index p) (from_footpaths p n) (9 + 6 * length p.connections) s at (omega (arith, long))
     ∙ get_or-map-range_with_len (footpath_count_below p.footpaths) 0 (p.stops + 1) s s 0 (omega arith) (omega arith)
 
 -- the first footpath leads below nothing, and all lead below the number of stops
@@ -197,24 +197,24 @@ below_rises (f ∷ fs) s =
     ]
 
 -- word r of the footpath at place k
-footpath_word : (p : TimetableValue) (n : NamesValue) (k r : ℕ) (f : Footpath) → At p.footpaths k f → r < 2 → get_or (image p n) (footpath_place (header_of (image p n)) + (2 * k + r)) 0 ≡ get_or (footpath_words f) r 0
-unfolding image
-footpath_word p n k r f e lt =
+footpath_word : (layout : ℕ) (p : TimetableValue) (n : NamesValue) (k r : ℕ) (f : Footpath) → At p.footpaths k f → r < 2 → get_or (image_in layout p n) (footpath_place (header_of (image_in layout p n)) + (2 * k + r)) 0 ≡ get_or (footpath_words f) r 0
+unfolding image_in
+footpath_word layout p n k r f e lt =
     let size : length (flat_map connection_words p.connections) ≡ 6 * length p.connections = pieces_long connection_words 6 (λ x. refl) p.connections in
-    let at_index : drop (9 + 6 * length p.connections) (image p n) ≡ from_foot_index p n = skip (image p n) (flat_map connection_words p.connections) (from_foot_index p n) 9 (6 * length p.connections) size refl in
+    let at_index : drop (9 + 6 * length p.connections) (image_in layout p n) ≡ from_foot_index p n = skip (image_in layout p n) (flat_map connection_words p.connections) (from_foot_index p n) 9 (6 * length p.connections) size refl in
     let long : length (foot_index p) ≡ p.stops + 1 = length-map-range_with_len (footpath_count_below p.footpaths) 0 (p.stops + 1) in
-    let at_feet : drop ((9 + 6 * length p.connections) + (p.stops + 1)) (image p n) ≡ from_footpaths p n = skip (image p n) (foot_index p) (from_footpaths p n) (9 + 6 * length p.connections) (p.stops + 1) long at_index in
-    let place : footpath_place (header_of (image p n)) + (2 * k + r) ≡ ((9 + 6 * length p.connections) + (p.stops + 1)) + (2 * k + r) = omega arith in
+    let at_feet : drop ((9 + 6 * length p.connections) + (p.stops + 1)) (image_in layout p n) ≡ from_footpaths p n = skip (image_in layout p n) (foot_index p) (from_footpaths p n) (9 + 6 * length p.connections) (p.stops + 1) long at_index in
+    let place : footpath_place (header_of (image_in layout p n)) + (2 * k + r) ≡ ((9 + 6 * length p.connections) + (p.stops + 1)) + (2 * k + r) = omega arith in
     let many : length (flat_map footpath_words p.footpaths) ≡ 2 * length p.footpaths = pieces_long footpath_words 2 (λ x. refl) p.footpaths in
     let within : k < length p.footpaths = slice_get_within p.footpaths k f e in
-    ap (λ (j : ℕ). get_or (image p n) j 0) place
-    ∙ word_in (image p n) (flat_map footpath_words p.footpaths) (from_names n) ((9 + 6 * length p.connections) + (p.stops + 1)) (2 * k + r) at_feet (omega (arith, many))
+    ap (λ (j : ℕ). get_or (image_in layout p n) j 0) place
+    ∙ word_in (image_in layout p n) (flat_map footpath_words p.footpaths) (from_names n) ((9 + 6 * length p.connections) + (p.stops + 1)) (2 * k + r) at_feet (omega (arith, many))
     ∙ piece_word footpath_words 2 (λ x. refl) p.footpaths k r f e lt
 
-pub footpath_back : (p : TimetableValue) (n : NamesValue) (k : ℕ) (f : Footpath) → At p.footpaths k f → footpath_of (image p n) f.to k ≡ f
-footpath_back p n k f e =
-    let z : footpath_place (header_of (image p n)) + 2 * k ≡ footpath_place (header_of (image p n)) + (2 * k + 0) = omega arith in
-    let y : footpath_place (header_of (image p n)) + 2 * k + 1 ≡ footpath_place (header_of (image p n)) + (2 * k + 1) = omega arith in
-    let from : foot_from_of (image p n) k ≡ f.from = ap (λ (j : ℕ). get_or (image p n) j 0) z ∙ footpath_word p n k 0 f e (omega arith) in
-    let secs : foot_secs_of (image p n) k ≡ f.secs = ap (λ (j : ℕ). get_or (image p n) j 0) y ∙ footpath_word p n k 1 f e (omega arith) in
+pub footpath_back : (layout : ℕ) (p : TimetableValue) (n : NamesValue) (k : ℕ) (f : Footpath) → At p.footpaths k f → footpath_of (image_in layout p n) f.to k ≡ f
+footpath_back layout p n k f e =
+    let z : footpath_place (header_of (image_in layout p n)) + 2 * k ≡ footpath_place (header_of (image_in layout p n)) + (2 * k + 0) = omega arith in
+    let y : footpath_place (header_of (image_in layout p n)) + 2 * k + 1 ≡ footpath_place (header_of (image_in layout p n)) + (2 * k + 1) = omega arith in
+    let from : foot_from_of (image_in layout p n) k ≡ f.from = ap (λ (j : ℕ). get_or (image_in layout p n) j 0) z ∙ footpath_word layout p n k 0 f e (omega arith) in
+    let secs : foot_secs_of (image_in layout p n) k ≡ f.secs = ap (λ (j : ℕ). get_or (image_in layout p n) j 0) y ∙ footpath_word layout p n k 1 f e (omega arith) in
     rw (from, secs) refl

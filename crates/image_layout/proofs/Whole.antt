@@ -11,11 +11,11 @@ use Rattle.std.proofs.lemmas.Nat.{from_le_bytes-to_le_bytes_4}
 use Rattle.std.proofs.lemmas.List.{drop-drop, take-append-drop, nil_from_length, get_or-drop, length-append, length-drop, length-take-le}
 use Rattle.std.proofs.lemmas.List.FromFn.{length-map-range_with_len, get_or-map-range_with_len}
 use Rattle.timetable.specs.declared.network.Footpath.{Footpath}
-use Rattle.image_layout.specs.Places.{header_of, foot_index_place, footpath_place, name_index_place, day_place, text_place, IsWhole}
-use Rattle.image_layout.specs.Fields.{flags_of}
+use Rattle.image_layout.specs.Places.{is_layout, header_of, foot_index_place, footpath_place, name_index_place, day_place, text_place, IsWhole}
+use Rattle.image_layout.specs.Fields.{layout_of, flags_of}
 use Rattle.image_layout.specs.Text.{bytes_of, padded_text_of}
-use Rattle.image_layout.specs.declared.layout.TheConstants.{MAGIC, LAYOUT}
-use Rattle.image_layout.specs.Spelling.{footpath_words, text, text_words, header, image}
+use Rattle.image_layout.specs.declared.layout.TheConstants.{MAGIC}
+use Rattle.image_layout.specs.Spelling.{footpath_words, text, text_words, header, image_in}
 use Rattle.image_layout.specs.Shown.{name_count, connection_of, connections_of, footpaths_of, timetable_of, names_of}
 use Rattle.image_layout.proofs.Sections.{take_next, take_six, connections_again}
 use Rattle.image_layout.proofs.Feet.{IsFootIndex, foot_index_again, footpaths_again}
@@ -70,7 +70,7 @@ pub record IsWellFormed (w : List ℕ) : Type 0 where
   pub whole : IsWhole w
   pub fits : (i : ℕ) → get_or w i 0 < 2 ^ 32
   pub magic : slice_index w 0 ≡ MAGIC
-  pub layout : slice_index w 1 ≡ LAYOUT
+  pub layout : is_layout (layout_of w) ≡ true
   pub flags : (i : ℕ) → i < (header_of w).connections → flags_of w i ≤ 3
   pub feet : IsFootIndex w
   pub names : IsNameIndex w
@@ -132,23 +132,23 @@ nine w a b c d e f g h i long pa pb pc pd pe pf pg ph pi =
     let all : take 9 w ≡ take 6 w ++ take 3 (drop 6 w) = take-add 6 3 w in
     rw (pa, pb, pc, pd, pe, pf, pg, ph, pi) (sym (all ∙ ap (λ (x : List ℕ). x ++ take 3 (drop 6 w)) first ∙ ap (λ (x : List ℕ). get_or w 0 0 ∷ get_or w 1 0 ∷ get_or w 2 0 ∷ get_or w 3 0 ∷ get_or w 4 0 ∷ get_or w 5 0 ∷ x) last))
 
-header_again : (w : List ℕ) → IsWellFormed w → (header_of w).name_bytes ≤ length (padded_text_of w) → header (timetable_of w) (names_of w) ≡ take 9 (drop 0 w)
+header_again : (w : List ℕ) → IsWellFormed w → (header_of w).name_bytes ≤ length (padded_text_of w) → header (layout_of w) (timetable_of w) (names_of w) ≡ take 9 (drop 0 w)
 header_again w form long =
-    nine w _ _ _ _ _ _ _ _ _ form.whole.has_header (sym form.magic) (sym form.layout) refl refl
+    nine w _ _ _ _ _ _ _ _ _ form.whole.has_header (sym form.magic) refl refl refl
     (length-connections_of w) (length-footpaths_of w form.whole form.feet)
     (ap length (text_again w form.names) ∙ length-take-le (header_of w).name_bytes (padded_text_of w) long)
     (low_again (slice_index w 7) (slice_index w 8) (form.fits 7) (form.fits 8))
     (high_again (slice_index w 7) (slice_index w 8) (form.fits 7) (form.fits 8))
 
 -- the words are the image of what they show
-pub image_again : (w : List ℕ) → IsWellFormed w → image (timetable_of w) (names_of w) ≡ w
-unfolding image
+pub image_again : (w : List ℕ) → IsWellFormed w → image_in (layout_of w) (timetable_of w) (names_of w) ≡ w
+unfolding image_in
 image_again w form =
     let h = header_of w in
     let long : h.name_bytes ≤ length (padded_text_of w) = text_is_long w (padded_text_of w) form.whole refl in
     let last : text_words (text (names_of w)) ≡ drop (text_place h) w =
     ap text_words (text_again w form.names) ∙ text_words_again (drop (text_place h) w) h.name_bytes (λ i. rw get_or-drop (form.fits (text_place h + i))) (omega (arith, length-drop (text_place h) w, form.whole.all_there)) form.spare in
-    join w 0 9 9 (header (timetable_of w) (names_of w)) _ (omega arith) (header_again w form long)
+    join w 0 9 9 (header (layout_of w) (timetable_of w) (names_of w)) _ (omega arith) (header_again w form long)
     (join w 9 (6 * h.connections) (foot_index_place h) _ _ (omega arith) (connections_again w form.whole form.flags)
     (join w (foot_index_place h) (h.stops + 1) (footpath_place h) _ _ (omega arith) (foot_index_again w form.whole form.feet)
     (join w (footpath_place h) (2 * h.footpaths) (name_index_place h) _ _ (omega arith) (footpaths_again w form.whole form.feet)

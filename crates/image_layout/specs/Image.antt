@@ -1,5 +1,5 @@
 -- Which words are the image of which timetable and names.
-use Rattle.std.specs.Prelude.{FitsSigned, ◌≡◌, ℕ, ◌<◌, ◌≤◌, ◌^◌, List, length}
+use Rattle.std.specs.Prelude.{FitsSigned, ◌≡◌, ℕ, ◌<◌, ◌≤◌, ◌^◌, true, List, length}
 use Rattle.std.specs.Int.{w64}
 use Rattle.std.specs.Str.{IsUtf8}
 use Rattle.timetable.specs.declared.limits.TheConstants.{MAX_NAME_BYTES}
@@ -7,7 +7,9 @@ use Rattle.timetable.specs.TimetableValue.{TimetableValue}
 use Rattle.timetable.specs.NamesValue.{NamesValue, TripNameValue}
 use Rattle.timetable.specs.Legal.{At, IsLegal}
 use Rattle.timetable.specs.Limits.{IsWithinLimits}
-use Rattle.image_layout.specs.Spelling.{name_list, text, image}
+use Rattle.image_layout.specs.Places.{is_layout}
+use Rattle.image_layout.specs.Fields.{layout_of}
+use Rattle.image_layout.specs.Spelling.{name_list, text, image_in}
 
 -- names that an image of the timetable can hold
 pub record NamesFit (t : TimetableValue) (n : NamesValue) : Type 0 where
@@ -28,10 +30,11 @@ pub record HasImage (t : TimetableValue) (n : NamesValue) : Type 0 where
   pub limits : IsWithinLimits t
   pub names : NamesFit t n
 
--- the words are the sections of the timetable and the names, set end to end
+-- the words are the sections of the timetable and the names, set end to end, in the layout that the words name
 pub record IsImage (w : List ℕ) (t : TimetableValue) (n : NamesValue) : Type 0 where
   pub can_be : HasImage t n
-  pub spelled : w ≡ image t n
+  pub layout : is_layout (layout_of w) ≡ true
+  pub spelled : w ≡ image_in (layout_of w) t n
 
 -- what an image holds
 pub record ImageValue : Type 0 where

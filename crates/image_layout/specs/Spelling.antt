@@ -47,17 +47,22 @@ text_words (a ∷ b ∷ []) = from_le_bytes w32 (a ∷ b ∷ 0 ∷ 0 ∷ []) ∷
 text_words (a ∷ b ∷ c ∷ []) = from_le_bytes w32 (a ∷ b ∷ c ∷ 0 ∷ []) ∷ []
 text_words (a ∷ b ∷ c ∷ d ∷ rest) = from_le_bytes w32 (a ∷ b ∷ c ∷ d ∷ []) ∷ text_words rest
 
-abbrev pub header : TimetableValue → NamesValue → List ℕ
-header p n =
-    MAGIC ∷ LAYOUT ∷ p.stops ∷ p.trips ∷ length p.connections ∷ length p.footpaths ∷ length (text n)
+abbrev pub header : ℕ → TimetableValue → NamesValue → List ℕ
+header layout p n =
+    MAGIC ∷ layout ∷ p.stops ∷ p.trips ∷ length p.connections ∷ length p.footpaths ∷ length (text n)
     ∷ cast_unsigned w64 n.base % 4294967296 ∷ cast_unsigned w64 n.base / 4294967296 ∷ []
 
-unfoldable pub image : TimetableValue → NamesValue → List ℕ
-image p n =
-    header p n
+-- the image in a layout
+unfoldable pub image_in : ℕ → TimetableValue → NamesValue → List ℕ
+image_in layout p n =
+    header layout p n
     ++ (flat_map connection_words p.connections
     ++ (foot_index p
     ++ (flat_map footpath_words p.footpaths
     ++ (name_index n
     ++ (map (λ (t : TripNameValue). t.day) n.trips
     ++ text_words (text n))))))
+
+-- the image as it is written
+abbrev pub image : TimetableValue → NamesValue → List ℕ
+image p n = image_in LAYOUT p n

@@ -7,7 +7,7 @@ ghost use Rattle.image_layout.specs.Places.{IsWhole};
 ghost use Rattle.image_layout.specs.Text.{bytes_of};
 ghost use Rattle.image_layout.specs.Spelling.{image};
 ghost use Rattle.image_layout.specs.Shown.{timetable_of, names_of};
-ghost use Rattle.image_layout.specs.Image.{IsImage};
+ghost use Rattle.image_layout.specs.Image.{HasImage, IsImage};
 ghost use Rattle.image_layout.specs.Sample.{early_timetable, early_names, early_words};
 
 /// Words that are the image of a timetable and its names are as many as their header says, and show that timetable and those names:
@@ -26,6 +26,11 @@ pub fn one_timetable()
 /// A timetable and its names have one image at most.
 pub fn one_image()
     ensures { (v w : List ℕ) (t : TimetableValue) (n : NamesValue) → IsImage v t n → IsImage w t n → v ≡ w }
+{}
+
+/// A legal timetable and names that fit it have an image: the one that is spelled.
+pub fn spelled_image()
+    ensures { (t : TimetableValue) (n : NamesValue) → HasImage t n → IsImage (image t n) t n }
 {}
 
 /// Bytes are those of one word list at most: so the words read from the bytes of words are these words again.

@@ -11,7 +11,7 @@ use timetable::Connection;
 /// An image of two stops: its connections are flagged 1, 2 and 3, its base is before 1970, and one of its names is empty.
 fn early_words() -> [u32; 48]
     ensures whole { IsWhole result }
-    ensures counts { header_of result ≡ record { stops = 2; trips = 2; connections = 3; footpaths = 4; name_bytes = 9 } }
+    ensures counts { header_of result ≡ record { layout = 1; stops = 2; trips = 2; connections = 3; footpaths = 4; name_bytes = 9 } }
     ensures port { length (name_of result 1) ≡ 4 }
 {
     [

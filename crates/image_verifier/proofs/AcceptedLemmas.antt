@@ -4,7 +4,7 @@ use Rattle.std.specs.Prelude.{slice_index}
 use Rattle.std.specs.List.{list_all}
 use Rattle.std.specs.Str.{is_utf8}
 use Rattle.std.proofs.lemmas.Bool.{or_parts, ltb-false, eqb-true}
-use Rattle.image_layout.specs.Places.{header_of, word_count, IsWhole}
+use Rattle.image_layout.specs.Places.{is_layout, header_of, word_count, IsWhole}
 use Rattle.image_layout.specs.Fields.{trip_of, foot_index_of, name_index_of}
 use Rattle.image_layout.specs.Text.{padded_text_of}
 use Rattle.image_layout.specs.Shown.{name_count, name_of}
@@ -16,7 +16,7 @@ use Rattle.image_verifier.specs.ConnectionFaults.{own_fault, place_fault, connec
 use Rattle.image_verifier.specs.FootFaults.{foot_fault, foot_end_fault, footpaths_fault}
 use Rattle.image_verifier.specs.ClosureFaults.{into_fault, closure_fault}
 use Rattle.image_verifier.specs.NameFaults.{is_bad_name_range, name_fault, names_end_fault, names_fault}
-use Rattle.image_layout.specs.declared.layout.TheConstants.{MAGIC, LAYOUT}
+use Rattle.image_layout.specs.declared.layout.TheConstants.{MAGIC}
 use Rattle.image_verifier.specs.FirstFault.{is_too_large, header_fault, section_fault, first_fault}
 use Rattle.timetable.proofs.FirstLemmas.{or_else_parts, no_fault, first_below-none}
 use Rattle.image_verifier.proofs.ConnectionLemmas.{IsSound-from}
@@ -58,7 +58,7 @@ AreFaultless-from w e =
 -- the header of faultless words
 pub record IsHeader (w : List ℕ) : Type 0 where
   pub magic : slice_index w 0 ≡ MAGIC
-  pub layout : slice_index w 1 ≡ LAYOUT
+  pub layout : is_layout (slice_index w 1) ≡ true
   pub limits : is_too_large (header_of w) ≡ false
   pub whole : IsWhole w
 
@@ -67,11 +67,11 @@ unfolding header_fault
 IsHeader-from w e =
     let a = no_fault (ltb (length w) 9) BadLength _ e in
     let b = no_fault (not (eqb (slice_index w 0) MAGIC)) BadMagic _ a.1 in
-    let d = no_fault (not (eqb (slice_index w 1) LAYOUT)) BadLayout _ b.1 in
+    let d = no_fault (not (is_layout (slice_index w 1))) BadLayout _ b.1 in
     let f = no_fault (is_too_large (header_of w) || not (eqb (length w) (word_count (header_of w)))) BadLength None d.1 in
     record {
       magic = eqb-true _ _ (not-false _ b.0);
-      layout = eqb-true _ _ (not-false _ d.0);
+      layout = not-false _ d.0;
       limits = (or_parts (is_too_large (header_of w)) _ f.0).0;
       whole = record { has_header = ltb-false _ _ a.0; all_there = eqb-true _ _ (not-false _ (or_parts (is_too_large (header_of w)) _ f.0).1) };
     }

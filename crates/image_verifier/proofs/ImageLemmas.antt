@@ -86,4 +86,4 @@ pub IsImage-from : (w : List ℕ) → IsAccepted w → IsImage w (timetable_of w
 IsImage-from w accepted =
     let good = AreFaultless-from w accepted.faultless in
     let form = IsWellFormed-from w accepted.fits accepted.whole good in
-    record { can_be = HasImage-from w form good; spelled = sym (image_again w form) }
+    record { can_be = HasImage-from w form good; layout = form.layout; spelled = sym (image_again w form) }

@@ -7,7 +7,7 @@ use Rattle.timetable.specs.Legal.{At}
 use Rattle.timetable.specs.Journeys.{connection_at}
 use Rattle.timetable.proofs.LegalFacts.{connection_at-is}
 use Rattle.image_layout.specs.Places.{IsWhole, header_of}
-use Rattle.image_layout.specs.Fields.{dep_of}
+use Rattle.image_layout.specs.Fields.{layout_of, dep_of}
 use Rattle.image_layout.specs.Shown.{connection_of, connections_of}
 use Rattle.image_layout.specs.Image.{IsImage}
 use Rattle.image_layout.proofs.Back.{image_is_whole}
@@ -15,10 +15,10 @@ use Rattle.image_layout.proofs.Spelled.{connections_back}
 use Rattle.image_layout.proofs.Whole.{length-connections_of, connection_is}
 
 pub image_whole : (w : List ℕ) (t : TimetableValue) (n : NamesValue) → IsImage w t n → IsWhole w
-image_whole w t n is = subst (λ (v : List ℕ). IsWhole v) (sym is.spelled) (image_is_whole t n is.can_be)
+image_whole w t n is = subst (λ (v : List ℕ). IsWhole v) (sym is.spelled) (image_is_whole (layout_of w) t n is.can_be)
 
 image_connections : (w : List ℕ) (t : TimetableValue) (n : NamesValue) → IsImage w t n → connections_of w ≡ t.connections
-image_connections w t n is = ap (λ (v : List ℕ). connections_of v) is.spelled ∙ connections_back t n
+image_connections w t n is = ap (λ (v : List ℕ). connections_of v) is.spelled ∙ connections_back (layout_of w) t n
 
 pub image_within : (w : List ℕ) (t : TimetableValue) (n : NamesValue) (i : ℕ) → IsImage w t n → i < length t.connections → i < (header_of w).connections
 image_within w t n i is lt =

@@ -11,3 +11,4 @@ pub mod ShownLemmas
 pub mod NameReads
 pub mod ImageReads
 pub mod SearchLemmas
+pub mod WordLemmas

@@ -10,9 +10,9 @@ use Rattle.std.proofs.lemmas.List.FromFn.{length-map-range_with_len, get_or-map-
 use Rattle.timetable.specs.TimetableValue.{TimetableValue}
 use Rattle.timetable.specs.NamesValue.{NamesValue}
 use Rattle.image_layout.specs.Places.{header_of}
-use Rattle.image_layout.specs.Fields.{name_index_of}
+use Rattle.image_layout.specs.Fields.{layout_of, name_index_of}
 use Rattle.image_layout.specs.Text.{padded_text_of}
-use Rattle.image_layout.specs.Spelling.{name_list, text, image}
+use Rattle.image_layout.specs.Spelling.{name_list, text, image_in}
 use Rattle.image_layout.specs.Shown.{name_count, name_of, timetable_of, names_of}
 use Rattle.image_layout.specs.Image.{HasImage, IsImage}
 use Rattle.image_layout.proofs.Names.{names_are, at_rises, text_again}
@@ -38,7 +38,7 @@ header_faultless w form can =
     or_from _ _ (or_from _ _ (or_from _ _ (or_from _ _ (le-ltb _ _ can.limits.stops) (le-ltb _ _ can.limits.trips)) (le-ltb _ _ (omega (arith, can.limits.connections, length-connections_of w)))) (le-ltb _ _ (omega (arith, can.limits.footpaths, length-footpaths_of w form.whole form.feet)))) (le-ltb _ _ (omega (arith, can.names.bytes, bytes))) in
     passes _ BadLength _ (le-ltb _ _ form.whole.has_header)
     (passes _ BadMagic _ (ap not (eq-eqb _ _ form.magic))
-    (passes _ BadLayout _ (ap not (eq-eqb _ _ form.layout))
+    (passes _ BadLayout _ (ap not form.layout)
     (passes _ BadLength None (or_from _ _ small (ap not (eq-eqb _ _ form.whole.all_there))) refl)))
 
 name_faultless : (w : List ℕ) → IsWellFormed w → HasImage (timetable_of w) (names_of w) → (i : ℕ) → i < name_count w → name_fault w i ≡ None
@@ -82,7 +82,11 @@ pub image_is_faultless : (w : List ℕ) (p : TimetableValue) (n : NamesValue) �
 image_is_faultless w p n fits is_image =
     let can = is_image.can_be in
     let e = is_image.spelled in
-    let fits_image : (i : ℕ) → slice_index (image p n) i < 2 ^ 32 = subst (λ (x : List ℕ). (i : ℕ) → slice_index x i < 2 ^ 32) e fits in
-    let shown : HasImage (timetable_of (image p n)) (names_of (image p n)) =
-    subst (λ (q : TimetableValue). HasImage q (names_of (image p n))) (sym (timetable_back p n can)) (subst (λ (m : NamesValue). HasImage p m) (sym (names_back p n can)) can) in
-    subst (λ (x : List ℕ). first_fault x ≡ None) (sym e) (faultless (image p n) (well_formed_back p n can fits_image) shown)
+    let layout = layout_of w in
+    let fits_image : (i : ℕ) → slice_index (image_in layout p n) i < 2 ^ 32 = subst (λ (x : List ℕ). (i : ℕ) → slice_index x i < 2 ^ 32) e fits in
+    let timetable = sym (timetable_back layout p n can) in
+    let names = sym (names_back layout p n can) in
+    let shown : HasImage (timetable_of (image_in layout p n)) (names_of (image_in layout p n)) =
+    subst (λ (q : TimetableValue). HasImage q (names_of (image_in layout p n))) timetable (subst (λ (m : NamesValue). HasImage p m) names can) in
+    subst (λ (x : List ℕ). first_fault x ≡ None) (sym e)
+    (faultless (image_in layout p n) (well_formed_back layout p n is_image.layout can fits_image) shown)

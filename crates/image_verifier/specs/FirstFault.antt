@@ -1,11 +1,11 @@
 -- The first fault of words, in the order in which the steps are taken.
 use Rattle.std.specs.Prelude.{◌≡◌, ◌⊎◌, ℕ, Bool, not, ◌||◌, ◌==◌, nat_lt, List, length, slice_index, Option, Some, None, if◌then◌else◌}
 use Rattle.image_layout.specs.declared.header.Header.{Header}
-use Rattle.image_layout.specs.Places.{header_of, word_count}
+use Rattle.image_layout.specs.Places.{is_layout, header_of, word_count}
 use Rattle.image_verifier.specs.declared.fault.ImageFault.{ImageFault}
 use Rattle.image_verifier.specs.declared.fault.ImageFault.TheVariants.{BadMagic, BadLayout, BadLength, OutOfMemory}
 use Rattle.timetable.specs.declared.limits.TheConstants.{MAX_STOPS, MAX_TRIPS, MAX_CONNECTIONS, MAX_FOOTPATHS, MAX_NAME_BYTES}
-use Rattle.image_layout.specs.declared.layout.TheConstants.{MAGIC, LAYOUT, HEADER_WORDS}
+use Rattle.image_layout.specs.declared.layout.TheConstants.{MAGIC, HEADER_WORDS}
 use Rattle.timetable.specs.First.{or_else}
 use Rattle.image_verifier.specs.ConnectionFaults.{connections_fault}
 use Rattle.image_verifier.specs.FootFaults.{footpaths_fault}
@@ -21,7 +21,7 @@ unfoldable pub header_fault : List ℕ → Option ImageFault
 header_fault w =
     if nat_lt (length w) HEADER_WORDS then Some BadLength
     else (if not (slice_index w 0 == MAGIC) then Some BadMagic
-    else (if not (slice_index w 1 == LAYOUT) then Some BadLayout
+    else (if not (is_layout (slice_index w 1)) then Some BadLayout
     else (if is_too_large (header_of w) || not (length w == word_count (header_of w)) then Some BadLength
     else None)))
 

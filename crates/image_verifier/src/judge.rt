@@ -11,7 +11,7 @@ use crate::connections::connections_fault;
 use crate::fault::ImageFault;
 use crate::footpaths::footpaths_fault;
 use crate::names::names_fault;
-use image_layout::layout::{HEADER_WORDS, LAYOUT, MAGIC};
+use image_layout::layout::{HEADER_WORDS, MAGIC, is_layout};
 use image_layout::{Header, Words};
 use std::alloc::{AllocError, Global};
 use timetable::limits::{MAX_CONNECTIONS, MAX_FOOTPATHS, MAX_NAME_BYTES, MAX_STOPS, MAX_TRIPS};
@@ -37,7 +37,7 @@ fn header_fault(words: &[u32]) -> Option<ImageFault>
     if words[0] != MAGIC {
         return Some(ImageFault::BadMagic);
     }
-    if words[1] != LAYOUT {
+    if !is_layout(words[1]) {
         return Some(ImageFault::BadLayout);
     }
     let header = Header::of(words);

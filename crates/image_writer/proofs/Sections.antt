@@ -1,10 +1,12 @@
 -- Seven sections, each behind those before it, are an image.
-use Rattle.std.proofs.Common.{◌≡◌, ℕ, List, [], ◌++◌, map, ◌∙◌}
+use Rattle.std.proofs.Common.{◌≡◌, ℕ, List, [], ◌++◌, map, refl, sym, subst, ◌∙◌}
 use Rattle.std.specs.List.{flat_map}
 use Rattle.std.proofs.lemmas.List.{append_assoc}
 use Rattle.timetable.specs.TimetableValue.{TimetableValue}
 use Rattle.timetable.specs.NamesValue.{NamesValue, TripNameValue}
-use Rattle.image_layout.specs.Spelling.{header, connection_words, foot_index, footpath_words, name_index, text, text_words, image}
+use Rattle.image_layout.specs.declared.layout.TheConstants.{LAYOUT}
+use Rattle.image_layout.specs.Image.{HasImage, IsImage}
+use Rattle.image_layout.specs.Spelling.{header, connection_words, foot_index, footpath_words, name_index, text, text_words, image, image_in}
 
 joined : (a b c d e f g : List ℕ) → (((((a ++ b) ++ c) ++ d) ++ e) ++ f) ++ g ≡ a ++ (b ++ (c ++ (d ++ (e ++ (f ++ g)))))
 joined a b c d e f g =
@@ -17,7 +19,7 @@ joined a b c d e f g =
 -- the words as they were before the first section and are behind each
 pub sections_are_image : (t : TimetableValue) (n : NamesValue) (none w1 w2 w3 w4 w5 w6 w7 : List ℕ)
     → none ≡ []
-    → w1 ≡ none ++ header t n
+    → w1 ≡ none ++ header LAYOUT t n
     → w2 ≡ w1 ++ flat_map connection_words t.connections
     → w3 ≡ w2 ++ foot_index t
     → w4 ≡ w3 ++ flat_map footpath_words t.footpaths
@@ -25,6 +27,11 @@ pub sections_are_image : (t : TimetableValue) (n : NamesValue) (none w1 w2 w3 w4
     → w6 ≡ w5 ++ map (λ (trip : TripNameValue). trip.day) n.trips
     → w7 ≡ w6 ++ text_words (text n)
     → w7 ≡ image t n
-unfolding image
+unfolding image_in
 sections_are_image t n none w1 w2 w3 w4 w5 w6 w7 e e1 e2 e3 e4 e5 e6 e7 =
-    rw (e7, e6, e5, e4, e3, e2, e1, e) (joined (header t n) (flat_map connection_words t.connections) (foot_index t) (flat_map footpath_words t.footpaths) (name_index n) (map (λ (trip : TripNameValue). trip.day) n.trips) (text_words (text n)))
+    rw (e7, e6, e5, e4, e3, e2, e1, e) (joined (header LAYOUT t n) (flat_map connection_words t.connections) (foot_index t) (flat_map footpath_words t.footpaths) (name_index n) (map (λ (trip : TripNameValue). trip.day) n.trips) (text_words (text n)))
+
+-- words so spelled are an image
+pub is_image : (t : TimetableValue) (n : NamesValue) (words : List ℕ) → HasImage t n → words ≡ image t n → IsImage words t n
+unfolding image_in
+is_image t n words can e = subst (λ (w : List ℕ). IsImage w t n) (sym e) (record { can_be = can; layout = refl; spelled = refl })

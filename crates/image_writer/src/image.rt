@@ -37,12 +37,13 @@ pub fn write(alloc: Global, timetable: &Timetable, names: &Names) -> Result<Vec<
     Ok(words)
 }
 
-/// How many there are of each.
+/// The layout that is written, and how many there are of each.
 fn counts(timetable: &Timetable, names: &Names) -> Header
     requires { IsWritable timetable.now names.now }
     ensures { result ≡ counts_of timetable.now names.now }
 {
     Header {
+        layout: LAYOUT,
         stops: timetable.stops,
         trips: timetable.trips,
         connections: timetable.connections.len() as u32,
@@ -54,12 +55,12 @@ fn counts(timetable: &Timetable, names: &Names) -> Header
 /// What the image is, its counts, and the base as two words, the lower one first.
 fn write_header(words: &mut Vec<u32>, counts: Header, names: &Names) -> Result<(), AllocError>
     ensures fits { FitsSigned w64 names.now.base }
-    ensures written { (t : TimetableValue) → counts ≡ counts_of t names.now → OnOk result (words.new.items ≡ words.old.items ++ header t names.now) }
+    ensures written { (t : TimetableValue) → counts ≡ counts_of t names.now → OnOk result (words.new.items ≡ words.old.items ++ header LAYOUT t names.now) }
 {
     let base = names.base.cast_unsigned();
     words.extend_from_slice(&[
         MAGIC,
-        LAYOUT,
+        counts.layout,
         counts.stops,
         counts.trips,
         counts.connections,

@@ -1,10 +1,10 @@
 use Rattle.std.proofs.Common.{refl}
-use Rattle.image_layout.specs.Spelling.{image, text_words}
+use Rattle.image_layout.specs.Spelling.{image_in, text_words}
 use Rattle.image_layout.specs.Shown.{connections_of, footpaths_of}
 use Rattle.image_layout.proofs.laws.early_image.Goals as goal
 
 pub returns-clause-spelled : goal.returns-clause-spelled
-unfolding image text_words
+unfolding image_in text_words
 returns-clause-spelled c = refl
 
 pub returns-clause-timetable : goal.returns-clause-timetable

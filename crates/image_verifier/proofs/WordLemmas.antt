@@ -1,18 +1,19 @@
 -- Every word of an image fits 32 bits.
-use Rattle.std.proofs.Common.{ℕ, zero, suc, ◌+◌, ◌/◌, ◌%◌, ◌^◌, ◌<◌, ◌≤◌, Bool, true, false, cond, List, [], ◌∷◌, length, take, map, refl, arith}
+use Rattle.std.proofs.Common.{ℕ, zero, suc, ◌+◌, ◌/◌, ◌%◌, ◌^◌, ◌<◌, ◌≤◌, Bool, true, false, cond, List, [], ◌∷◌, length, take, map, refl, arith, inl, inr}
 use Rattle.std.specs.Prelude.{FitsSigned, ℤ, All, nat_lt, slice_index}
 use Rattle.std.specs.List.{flat_map, concat, range_with_len}
 use Rattle.std.specs.Int.{w32, w64, from_le_bytes, cast_unsigned}
+use Rattle.std.proofs.lemmas.Bool.{cases_lt}
 use Rattle.std.proofs.Math.Facts.{Fits-of_z}
-use Rattle.std.proofs.lemmas.List.{length-append}
+use Rattle.std.proofs.lemmas.List.{length-append, get_or_past}
 use Rattle.std.proofs.lemmas.List.Sums.{count_by-le-length}
-use Rattle.std.proofs.lemmas.List.Elements.{All-nil, All-cons, All-append}
+use Rattle.std.proofs.lemmas.List.Elements.{All-nil, All-cons, All-append, All-get_or}
 use Rattle.timetable.specs.declared.network.Connection.{Connection}
 use Rattle.timetable.specs.declared.network.Footpath.{Footpath}
 use Rattle.timetable.specs.TimetableValue.{TimetableValue}
 use Rattle.timetable.specs.NamesValue.{NamesValue, TripNameValue}
 use Rattle.timetable.specs.Legal.{At}
-use Rattle.image_layout.specs.Spelling.{connection_words, footpath_words, footpath_count_below, name_list, byte_count_before, text, text_words, header, image}
+use Rattle.image_layout.specs.Spelling.{connection_words, footpath_words, footpath_count_below, name_list, byte_count_before, text, text_words, header, image_in}
 use Rattle.image_layout.specs.Image.{HasImage}
 use Rattle.image_layout.proofs.Bytes.{concat_are_bytes}
 
@@ -63,11 +64,11 @@ all_text (a ∷ b ∷ c ∷ d ∷ rest) h = All-cons IsWord _ (text_words rest) 
 half_small : (a : ℕ) → a < 2 ^ 64 → (a % 4294967296 < 4294967296) × (a / 4294967296 < 4294967296)
 half_small a lt = (omega (arith, lt), omega (arith, lt))
 
-header_fits : (p : TimetableValue) (n : NamesValue) → HasImage p n → All IsWord (header p n)
-header_fits p n can =
+header_fits : (layout : ℕ) (p : TimetableValue) (n : NamesValue) → IsWord layout → HasImage p n → All IsWord (header layout p n)
+header_fits layout p n fits can =
     let base = half_small (cast_unsigned w64 n.base) (base_fits n.base can.names.base) in
-    all_words (header p n)
-    (omega arith, (omega arith, (omega (arith, can.limits.stops), (omega (arith, can.limits.trips), (omega (arith, can.limits.connections), (omega (arith, can.limits.footpaths), (omega (arith, can.names.bytes), (base.0, (base.1, tt)))))))))
+    all_words (header layout p n)
+    (omega arith, (fits, (omega (arith, can.limits.stops), (omega (arith, can.limits.trips), (omega (arith, can.limits.connections), (omega (arith, can.limits.footpaths), (omega (arith, can.names.bytes), (base.0, (base.1, tt)))))))))
   where
     base_fits : (z : ℤ) → FitsSigned w64 z → cast_unsigned w64 z < 2 ^ 64
     base_fits z fits = let f = Fits-of_z {w = w64} {z = z} fits in omega (arith, f.fits)
@@ -85,13 +86,21 @@ footpath_fits p n can k f at =
     all_words (footpath_words f) (omega (arith, ends.0, can.limits.stops), (omega (arith, can.limits.walks k f at), tt))
 
 -- each word of an image fits 32 bits
-pub image_fits : (p : TimetableValue) (n : NamesValue) → HasImage p n → All IsWord (image p n)
-unfolding image
-image_fits p n can =
-    All-append IsWord (header p n) _ (header_fits p n can)
+pub image_fits : (layout : ℕ) (p : TimetableValue) (n : NamesValue) → IsWord layout → HasImage p n → All IsWord (image_in layout p n)
+unfolding image_in
+image_fits layout p n fits can =
+    All-append IsWord (header layout p n) _ (header_fits layout p n fits can)
     (All-append IsWord _ _ (all_flat connection_words p.connections (connection_fits p n can))
     (All-append IsWord _ _ (all_mapped (footpath_count_below p.footpaths) (range_with_len 0 (p.stops + 1)) (λ i s at. omega (arith, count_by-le-length (λ (f : Footpath). nat_lt f.to s) p.footpaths, can.limits.footpaths)))
     (All-append IsWord _ _ (all_flat footpath_words p.footpaths (footpath_fits p n can))
     (All-append IsWord _ _ (all_mapped (byte_count_before (name_list n)) (range_with_len 0 (length (name_list n) + 1)) (λ i k at. omega (arith, before_within (name_list n) k, can.names.bytes)))
     (All-append IsWord _ _ (all_mapped (λ (t : TripNameValue). t.day) n.trips can.names.days)
     (all_text (text n) (concat_are_bytes (name_list n) can.names.utf8)))))))
+
+-- each word of a list by its place, also past its end
+pub word_at : (w : List ℕ) → All (λ x. x < 2 ^ 32) w → (i : ℕ) → slice_index w i < 2 ^ 32
+word_at w fits i =
+    elim (cases_lt i (length w)) [
+      | inl within ↦ All-get_or (λ (x : ℕ). x < 2 ^ 32) w i 0 within fits
+      | inr past ↦ omega (arith, get_or_past w i 0 past)
+    ]

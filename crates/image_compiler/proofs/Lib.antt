@@ -1,3 +1,0 @@
-pub mod OneImage
-pub mod Early
-pub mod Fits
