@@ -1,0 +1,37 @@
+//! Laws of the instances: what their values are, and that names tell criteria apart. The functions do nothing.
+//!
+//! Rules and code that slip together would show nowhere else.
+
+ghost use Rattle.std.specs.Prelude.{◌≡◌, ◌+◌, ◌≤◌, ℕ, None, Some, min};
+ghost use Rattle.criteria.specs.Names.{name_text};
+
+use crate::{Arrival, ArrivalTrips, ArrivalTripsWalk, Criterion, CriterionName, Told};
+
+/// By arrival alone a value is the time of arrival.
+pub fn arrival_is_the_time(criterion: &Arrival)
+    ensures arrive { (time : ℕ) → (⟦<Arrival as Criterion>⟧.rules criterion.now).arrive time ≡ time }
+    ensures ride { (v : ℕ) → (⟦<Arrival as Criterion>⟧.rules criterion.now).ride v ≡ v }
+    ensures walk { (secs v : ℕ) → (⟦<Arrival as Criterion>⟧.rules criterion.now).walk secs v ≡ v }
+    ensures told { (v : ℕ) → ⟦<Arrival as Told>⟧.told v ≡ record { arrival = v; trips = None; walked = None } }
+{}
+
+/// With trips, each ride adds one, up to 65,535.
+pub fn trips_are_counted(criterion: &ArrivalTrips)
+    ensures arrive { (time : ℕ) → (⟦<ArrivalTrips as Criterion>⟧.rules criterion.now).arrive time ≡ record { time = time; trips = 0 } }
+    ensures ride { (time trips : ℕ) → (⟦<ArrivalTrips as Criterion>⟧.rules criterion.now).ride (record { time = time; trips = trips }) ≡ record { time = time; trips = min (trips + 1) 65535 } }
+    ensures walk { (secs : ℕ) (v : _) → (⟦<ArrivalTrips as Criterion>⟧.rules criterion.now).walk secs v ≡ v }
+    ensures told { (v : _) → ⟦<ArrivalTrips as Told>⟧.told v ≡ record { arrival = v.time; trips = Some v.trips; walked = None } }
+{}
+
+/// With walking, each footpath adds its seconds, up to 4,294,967,295.
+pub fn walking_is_counted(criterion: &ArrivalTripsWalk)
+    ensures arrive { (time : ℕ) → (⟦<ArrivalTripsWalk as Criterion>⟧.rules criterion.now).arrive time ≡ record { time = time; trips = 0; walked = 0 } }
+    ensures ride { (time trips walked : ℕ) → (⟦<ArrivalTripsWalk as Criterion>⟧.rules criterion.now).ride (record { time = time; trips = trips; walked = walked }) ≡ record { time = time; trips = min (trips + 1) 65535; walked = walked } }
+    ensures walk { (secs time trips walked : ℕ) → (⟦<ArrivalTripsWalk as Criterion>⟧.rules criterion.now).walk secs (record { time = time; trips = trips; walked = walked }) ≡ record { time = time; trips = trips; walked = min (walked + secs) 4294967295 } }
+    ensures told { (v : _) → ⟦<ArrivalTripsWalk as Told>⟧.told v ≡ record { arrival = v.time; trips = Some v.trips; walked = Some v.walked } }
+{}
+
+/// No two criteria have one name.
+pub fn names_differ()
+    ensures { (one other : CriterionName) → name_text one ≡ name_text other → one ≡ other }
+{}
