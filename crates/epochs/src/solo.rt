@@ -1,7 +1,11 @@
 //! Shelves for one worker and one loader, as tests and single sessions use them.
 
-ghost use Rattle.std.specs.Prelude.{◌≡◌, [], IfOk, IfErr};
-ghost use Rattle.epochs.specs.Seats.{idle_seat};
+ghost use Rattle.std.specs.Prelude.{◌≡◌, [], Ok, Err, IfOk, IfErr, OnOk, MatchResult};
+ghost use Rattle.std.specs.Arc.{arc_value};
+ghost use Rattle.epochs.specs.Seats.{PinStep, ReleaseStep, PublishStep, RefuseStep, CollectStep, idle_seat};
+ghost use Rattle.epochs.specs.Pins.{HoldsInHistory};
+ghost use Rattle.epochs.specs.Publishing.{Collects};
+ghost use Rattle.epochs.specs.Locked.{UnderLock, PinsAt, ReleasesAt, PublishesAt};
 ghost use Rattle.epochs.specs.declared.faults.PublishFault.{PublishFault};
 
 use crate::collected::Collected;
@@ -15,7 +19,7 @@ use image_verifier::Verified;
 use std::alloc::Global;
 use std::sync::{Arc, Wait};
 
-/// `LockedShelves` with one worker's seat.
+/// `LockedShelves` with one worker's seat. Its calls are those of `LockedShelves`.
 #[derive(Drop)]
 pub struct SoloShelves {
     shelves: LockedShelves,
@@ -50,7 +54,14 @@ impl Versions for SoloShelves {
 
     ghost value = { λ seat. seat.shown };
 
-    fn pin<R: Wait>(&self, rt: &R, seat: &mut WorkerSeat) -> Result<(), PinFault> {
+    ghost number = { λ seat. seat.number };
+
+    fn pin<R: Wait>(&self, rt: &R, seat: &mut WorkerSeat) -> Result<(), PinFault>
+        ensures number { seat.new.number ≡ seat.old.number }
+        ensures pin { PinStep seat.old.shown result seat.new.shown }
+        ensures known { OnOk result (HoldsInHistory seat.new.number seat.new.shown.held) }
+        ensures table { UnderLock (λ a b. PinsAt a seat.old result b seat.new) }
+    {
         self.shelves.pin(rt, seat)
     }
 
@@ -58,7 +69,11 @@ impl Versions for SoloShelves {
         seat.edition()
     }
 
-    fn release<R: Wait>(&self, rt: &R, seat: &mut WorkerSeat) -> Result<(), PinFault> {
+    fn release<R: Wait>(&self, rt: &R, seat: &mut WorkerSeat) -> Result<(), PinFault>
+        ensures number { seat.new.number ≡ seat.old.number }
+        ensures release { ReleaseStep seat.old.shown result seat.new.shown }
+        ensures table { UnderLock (λ a b. ReleasesAt a seat.old result b seat.new) }
+    {
         self.shelves.release(rt, seat)
     }
 }
@@ -75,11 +90,18 @@ impl Loads for SoloShelves {
         rt: &R,
         loader: &mut LoaderSeat,
         image: Arc<Verified, Global>,
-    ) -> Result<u64, (Arc<Verified, Global>, PublishFault)> {
+    ) -> Result<u64, (Arc<Verified, Global>, PublishFault)>
+        ensures back { IfErr result (λ e. e.0 ≡ image) }
+        ensures loader { MatchResult result (λ v. PublishStep loader.old (arc_value image) v loader.new) (λ e. RefuseStep loader.old e.1 loader.new) }
+        ensures table { MatchResult result (λ v. UnderLock (λ a b. PublishesAt a (arc_value image) (Ok v) b)) (λ e. UnderLock (λ a b. PublishesAt a (arc_value image) (Err e.1) b)) }
+    {
         self.shelves.publish(rt, loader, image)
     }
 
-    fn collect<R: Wait>(&self, rt: &R, loader: &mut LoaderSeat) -> Collected {
+    fn collect<R: Wait>(&self, rt: &R, loader: &mut LoaderSeat) -> Collected
+        ensures loader { CollectStep loader.old result loader.new }
+        ensures table { UnderLock (λ a b. Collects a result b) }
+    {
         self.shelves.collect(rt, loader)
     }
 }

@@ -8,7 +8,7 @@ ghost use Rattle.version_core.specs.Kept.{Kept};
 ghost use Rattle.version_core.specs.declared.state.Worker.{Worker};
 ghost use Rattle.epochs.specs.Seats.{PinStep, ReleaseStep, PublishStep, RefuseStep, CollectStep};
 ghost use Rattle.epochs.specs.History.{IsHistory, HeldHaveImages, TableValue};
-ghost use Rattle.epochs.specs.Pins.{SeatFits, Pins, RefusesPin, Releases, RefusesRelease, IsOffer, IsCurrent, IsLookAndTake, IsDrop};
+ghost use Rattle.epochs.specs.Pins.{HoldsInHistory, SeatFits, Pins, RefusesPin, Releases, RefusesRelease, IsOffer, IsCurrent, IsLookAndTake, IsDrop};
 ghost use Rattle.epochs.specs.Publishing.{TriesShelf, Collects, HasFree, MakesRoom, Publishes, RefusesPublish, StaysCurrent};
 ghost use Rattle.epochs.specs.declared.faults.PublishFault.{PublishFault};
 
@@ -86,12 +86,14 @@ impl VersionTable {
         ensures seat { PinStep seat.old.shown result seat.new.shown }
         ensures number { seat.new.number ≡ seat.old.number }
         ensures pinned { OnOk result (Pins self.old seat.old self.new seat.new) }
+        ensures known { OnOk result (HoldsInHistory seat.new.number seat.new.shown.held) }
         ensures refused { IfErr result (RefusesPin self.old.state seat.old) }
         ensures same { OnErr result ((self.new ≡ self.old) × (seat.new.worker ≡ seat.old.worker)) }
     {
         match self.offer(seat) {
             Ok((shelf, edition)) => {
                 self.look_and_take(seat.number());
+                self.history();
                 seat.hold(shelf, edition);
                 Ok(())
             }

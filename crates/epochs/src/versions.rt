@@ -1,8 +1,9 @@
 //! What a session needs of shelves, and what a loader does.
 
-ghost use Rattle.std.specs.Prelude.{◌≡◌, List, None, Some, MatchOption, MatchResult, IfErr};
+ghost use Rattle.std.specs.Prelude.{◌≡◌, ℕ, List, None, Some, MatchOption, MatchResult, IfErr, OnOk};
 ghost use Rattle.std.specs.Arc.{arc_value};
 ghost use Rattle.epochs.specs.Seats.{SeatValue, PinStep, ReleaseStep, PublishStep, RefuseStep, CollectStep};
+ghost use Rattle.epochs.specs.Pins.{HoldsInHistory};
 ghost use Rattle.epochs.specs.declared.seats.LoaderAnswer.{LoaderAnswer};
 
 use crate::collected::Collected;
@@ -22,11 +23,16 @@ pub trait Versions {
     // What the seat was answered so far, what it holds, and what it has seen.
     ghost value: { Self.Seat → SeatValue };
 
+    // The number of the seat's worker.
+    ghost number: { Self.Seat → ℕ };
+
     /// Pins the current version.
     fn pin<R: Wait>(&self, rt: &R, seat: &mut Self::Seat) -> Result<(), PinFault>
         requires { fits self.now seat.old }
         ensures fits { fits self.now seat.new }
-        ensures pin { PinStep (value seat.old) result (value seat.new) };
+        ensures number { number seat.new ≡ number seat.old }
+        ensures pin { PinStep (value seat.old) result (value seat.new) }
+        ensures known { OnOk result (HoldsInHistory (number seat.new) (value seat.new).held) };
 
     /// The version that the seat holds, with its image.
     fn edition(seat: &Self::Seat) -> Option<&Edition>
@@ -36,6 +42,7 @@ pub trait Versions {
     fn release<R: Wait>(&self, rt: &R, seat: &mut Self::Seat) -> Result<(), PinFault>
         requires { fits self.now seat.old }
         ensures fits { fits self.now seat.new }
+        ensures number { number seat.new ≡ number seat.old }
         ensures release { ReleaseStep (value seat.old) result (value seat.new) };
 }
 

@@ -1,0 +1,15 @@
+//! Who takes orders to load a feed, and who hears of scans.
+#![tactic(auto)]
+
+mod fault;
+mod ordered;
+mod scans;
+mod taking;
+
+pub use fault::OrderFault;
+pub use ordered::Ordered;
+pub use scans::{Gate, OpenGate};
+pub use taking::Orders;
+
+#[cfg(test)]
+mod tests;
