@@ -4,3 +4,5 @@ pub mod Runs
 pub mod Kept
 pub mod Laws
 pub mod Rest
+pub mod Shown
+pub mod Actors

@@ -1,0 +1,92 @@
+-- One event more.
+use Rattle.version_core.specs.Actors.{NoneOf, actor}
+use Rattle.image_layout.specs.Image.{ImageValue}
+use Rattle.std.proofs.Common.{◌≡◌, ◌≢◌, ℕ, zero, suc, ◌≤◌, List, [], ◌∷◌, ◌++◌, length, Option, Some, slice_get, get_or, refl, ap, sym, ◌∙◌, subst, arith, append_assoc}
+use Rattle.std.proofs.lemmas.List.{append-nil}
+use mathlib.Core.List.{IsPrefix}
+use Rattle.version_core.specs.declared.event.Event.{Event}
+use Rattle.version_core.specs.declared.event.Reply.{Reply}
+use Rattle.version_core.specs.declared.state.Worker.{Worker}
+use Rattle.version_core.specs.State.{State, start, newest}
+use Rattle.version_core.specs.Steps.{Step}
+use Rattle.version_core.specs.Kept.{Kept}
+use Rattle.version_core.proofs.Runs.{reached_kept, list_grows_with_replies}
+use Rattle.version_core.proofs.Lists.{slice_get-append}
+use Rattle.shelf_steps.specs.declared.edition.Edition.{Edition}
+use Rattle.shelf_steps.specs.declared.views.Known.{Known}
+use Rattle.shelf_steps.specs.declared.views.WorkerView.{WorkerView}
+use Rattle.shelf_steps.specs.Course.{Course, Goes, extended, all_of, Begins, Happened, image_of, IsEdition}
+use Rattle.shelf_steps.specs.Seats.{HasEdition, WorkerFits}
+
+pub kept_of : (c : Course) → Goes c → Kept c.state
+kept_of c g = reached_kept c.state (c.events, record { replies = c.replies; run = g.run })
+
+pub none_snoc : (a : Option ℕ) (es : List Event) (e : Event) → actor e ≢ a → NoneOf a es → NoneOf a (es ++ e ∷ [])
+none_snoc a [] e n h = (n, tt)
+none_snoc a (x ∷ xs) e n h = (h.0, none_snoc a xs e n h.1)
+
+module _ {A : Type 0} where
+  pub prefix_same : (xs : List A) → IsPrefix xs xs
+  prefix_same xs = ([], append-nil xs)
+
+  pub prefix_trans : (xs ys zs : List A) → IsPrefix xs ys → IsPrefix ys zs → IsPrefix xs zs
+  prefix_trans xs ys zs p q = (p.0 ++ q.0, sym (append_assoc xs p.0 q.0) ∙ (ap (λ (l : List A). l ++ q.0) p.1 ∙ q.1))
+
+  pub prefix_snoc : (xs ys : List A) (a : A) → IsPrefix xs ys → IsPrefix xs (ys ++ a ∷ [])
+  prefix_snoc xs ys a p = prefix_trans xs ys (ys ++ a ∷ []) p (a ∷ [], refl)
+
+module _ (c : Course) (e : Event) (r : Reply) (t : State) (images : List ImageValue) where
+  pub begins_longer : (k : Known) (a : Option ℕ) → actor e ≢ a → IsPrefix c.images images → Begins k a c → Begins k a (extended c e r t images)
+  begins_longer k a other more b = record {
+    events = (b.events.0 ++ e ∷ [], sym (append_assoc k.events b.events.0 (e ∷ [])) ∙ ap (λ (l : List Event). l ++ e ∷ []) b.events.1, none_snoc a b.events.0 e other b.events.2);
+    replies = prefix_snoc k.replies c.replies r b.replies;
+    images = prefix_trans k.images c.images images b.images more;
+  }
+
+  pub happened : (k : Known) → Begins k (actor e) c → Goes (extended c e r t images) → IsPrefix c.images images → Happened k e r (all_of (extended c e r t images))
+  happened k b g more = record {
+    state = t;
+    goes = g;
+    events = (b.events.0, ap (λ (l : List Event). l ++ e ∷ []) (sym b.events.1), b.events.2);
+    replies = (b.replies.0, ap (λ (l : List Reply). l ++ r ∷ []) (sym b.replies.1));
+    images = prefix_trans k.images c.images images b.images more;
+  }
+
+  pub goes_on : Goes c → Step c.state e r t → length images ≡ newest t → ((i edition : ℕ) → slice_get t.editions i ≡ Some edition → edition ≡ i) → Goes (extended c e r t images)
+  goes_on g stepped many numbered = record {
+    run = list_grows_with_replies start c.state t c.events (c.events ++ e ∷ []) e c.replies (c.replies ++ r ∷ []) r g.run refl refl stepped;
+    as_many = many;
+    numbered = numbered;
+  }
+
+pub goes_same : (c : Course) (e : Event) (r : Reply) (t : State) → Goes c → Step c.state e r t → t.editions ≡ c.state.editions → Goes (extended c e r t c.images)
+goes_same c e r t g stepped same =
+    goes_on c e r t c.images g stepped (g.as_many ∙ sym (ap (λ (l : List ℕ). length l) same))
+    (λ i edition at. g.numbered i edition (ap (λ (l : List ℕ). slice_get l i) (sym same) ∙ at))
+
+pub begins_all : (c : Course) (a : Option ℕ) → Begins (all_of c) a c
+begins_all c a = record { events = ([], append-nil c.events, tt); replies = prefix_same c.replies; images = prefix_same c.images }
+
+image_later : (images more : List ImageValue) (v : ℕ) (x : ImageValue) → IsPrefix images more → image_of images v ≡ Some x → image_of more v ≡ Some x
+image_later images more zero x p e = absurd (cc)
+image_later images more (suc n) x p e = subst (λ (l : List ImageValue). slice_get l n ≡ Some x) p.1 (slice_get-append images p.0 n x e)
+
+pub edition_later : (images more : List ImageValue) (v : ℕ) (edition : Option Edition) → IsPrefix images more → IsEdition images v edition → IsEdition more v edition
+edition_later images more v edition p i = (i.0, i.1, i.2, image_later images more v _ p i.3)
+
+has_later : (images more : List ImageValue) (w : Worker) (edition : Option Edition) → IsPrefix images more → HasEdition images w edition → HasEdition more w edition
+has_later images more (Worker.Holding k v) edition p h = edition_later images more v edition p h
+has_later images more Worker.Idle edition p h = h
+has_later images more (Worker.Looked v k) edition p h = h
+has_later images more (Worker.Late k) edition p h = h
+
+-- what another worker knows after a step that leaves it alone
+pub other_fits : (c d : Course) (u : WorkerView) → slice_get d.state.workers u.number ≡ slice_get c.state.workers u.number → get_or d.state.seen u.number 0 ≡ get_or c.state.seen u.number 0
+    → c.state.current ≤ d.state.current → IsPrefix c.images d.images → Begins u.known (Some u.number) d → WorkerFits c u → WorkerFits d u
+other_fits c d u now seen up more known f = record {
+  shows = record { now = now ∙ f.shows.now; seen = seen ∙ f.shows.seen };
+  last = ((let q = f.last.0 in omega arith), f.last.1);
+  passed = λ p. let q = f.passed p in omega arith;
+  edition = has_later c.images d.images u.now u.edition more f.edition;
+  known = known;
+}

@@ -1,0 +1,13 @@
+pub mod Courses
+pub mod Frames
+pub mod WordsAfter
+pub mod SlotsAfter
+pub mod Works
+pub mod Chains
+pub mod Loads
+pub mod Opens
+pub mod Pinned
+pub mod Editions
+pub mod Loadings
+pub mod Says
+pub mod Events

@@ -1,0 +1,442 @@
+-- Each step of the loader keeps the rule, and is one event.
+use Rattle.version_core.specs.Actors.{actor}
+use Rattle.image_layout.specs.Image.{ImageValue}
+use Rattle.std.proofs.Common.{◌≡◌, ◌≢◌, ℕ, zero, suc, ◌+◌, ◌-◌, ◌*◌, ◌%◌, ◌<◌, ◌≤◌, ◌==◌, ◌⊎◌, Bool, true, false, List, [], ◌∷◌, ◌++◌, length, set, get_or, Option, Some, None, slice_get, refl, ap, sym, ◌∙◌, subst, arith, get_or-set_same, get_or-set_other, length-set, length-append, inl, inr}
+use Rattle.std.proofs.lemmas.Bool.Decides.{nat_tests}
+use mathlib.Core.Option.{Option as Maybe, none, some}
+use mathlib.Core.List.{IsPrefix}
+use prog.Atomic.{either}
+use lib.ListN.{get_elem?}
+use Rattle.atomic_table.specs.Table.{State as Table, Act, step, keeps, stepped, Allows, Valid, homes_after, carried_after}
+use Rattle.version_core.specs.declared.event.Event.{Event}
+use Rattle.version_core.specs.declared.event.Reply.{Reply}
+use Rattle.version_core.specs.declared.state.Shelf.{Shelf}
+use Rattle.version_core.specs.declared.state.Worker.{Worker}
+use Rattle.version_core.specs.State.{State, newest, opened, published, shelved}
+use Rattle.version_core.specs.Steps.{IsFree, IsOpen, IsClosing, IsOutdated, MayOpen, Step}
+use Rattle.version_core.specs.Kept.{Kept, is_at}
+use Rattle.version_core.proofs.Keeps.{none_waits}
+use Rattle.version_core.proofs.Counts.{no_one_at}
+use Rattle.version_core.proofs.Lists.{slice_get-set_same, slice_get-set_other, slice_get-last}
+use Rattle.shelf_steps.specs.declared.edition.Edition.{Edition}
+use Rattle.shelf_steps.specs.declared.views.Known.{Known}
+use Rattle.shelf_steps.specs.declared.views.WorkerView.{WorkerView}
+use Rattle.shelf_steps.specs.declared.views.LoaderView.{LoaderView}
+use Rattle.shelf_steps.specs.declared.views.View.{View}
+use Rattle.shelf_steps.specs.Course.{Course, Goes, extended, all_of, Begins, Happened, image_of}
+use Rattle.version_core.specs.Shown.{WordsShow, shelf_word}
+use Rattle.shelf_steps.specs.Seats.{WorkerFits, LoaderFits}
+use Rattle.shelf_steps.specs.Slots.{SlotsFit, SlotFits, down_from, nothings}
+use Rattle.shelf_steps.specs.Ruled.{Ruled}
+use Rattle.shelf_steps.specs.Plays.{Mine, newest_of, with_open, with_current, with_closing, with_free, with_hand, AllHave, Noted, Opens, Publishes, Closes, CollectsFound, Collects, Gathers, PutsBack, MayOpenOn, MayPublish, MayClose, MayCollect, MayGather, MayPutBack}
+use Rattle.shelf_steps.proofs.Courses.{kept_of, none_snoc, begins_longer, happened, goes_on, goes_same, begins_all, prefix_same, other_fits}
+use Rattle.shelf_steps.proofs.Frames.{loader_moves}
+use Rattle.shelf_steps.proofs.WordsAfter.{words_same, words_after, few_counted, version_bound}
+use Rattle.shelf_steps.proofs.SlotsAfter.{slots_block}
+use Rattle.shelf_steps.proofs.Chains.{take_block, give_block, IsHome, block_valid, block_else, block_out, carried_down, gives_valid, given_else, given_home, given_rest}
+
+module _ (table : Table (Option Edition) View) (r : Ruled table) (id : ℕ) (l : LoaderView) (at : get_elem? table.views id ≡ some (View.Loading l)) where
+  is_loader : l ≡ r.loader
+  is_loader = (r.seats.each id (View.Loading l) at).1
+
+  loader_knows : LoaderFits r.course l
+  loader_knows = subst (λ (x : LoaderView). LoaderFits r.course x) (sym is_loader) r.seats.loads
+
+  loader_slots : SlotsFit table.homes r.course.state.shelves r.course.state.workers r.course.images l.hand
+  loader_slots = subst (λ (x : LoaderView). SlotsFit table.homes r.course.state.shelves r.course.state.workers r.course.images x.hand) (sym is_loader) r.slots
+
+  shelf_is : (k : ℕ) (x : Shelf) → slice_get l.shelves k ≡ Some x → slice_get r.course.state.shelves k ≡ Some x
+  shelf_is k x e = ap (λ (xs : List Shelf). slice_get xs k) (sym loader_knows.shows.shelves) ∙ e
+
+  newest_is : newest_of l ≡ newest r.course.state
+  newest_is = ap (λ (xs : List ImageValue). length xs) loader_knows.images ∙ r.goes.as_many
+
+-- a step of the loader leaves what the workers do
+module _ (table : Table (Option Edition) View) (r : Ruled table) (id : ℕ) (l l' : LoaderView) (at : get_elem? table.views id ≡ some (View.Loading l)) (as_many : l'.handed ≡ l.handed)
+    (e : Event) (reply : Reply) (t : State) (images : List ImageValue) (whose : actor e ≡ None) (goes : Goes (extended r.course e reply t images)) (more : IsPrefix r.course.images images)
+    (workers : t.workers ≡ r.course.state.workers) (seen : t.seen ≡ r.course.state.seen) (up : r.course.state.current ≤ t.current) where
+  not_of : (u : ℕ) → actor e ≢ Some u
+  not_of u q = let z : None ≡ Some u = sym whose ∙ q in cc
+
+  others : (u : WorkerView) → WorkerFits r.course u → WorkerFits (extended r.course e reply t images) u
+  others u f =
+      other_fits r.course (extended r.course e reply t images) u (ap (λ (x : List Worker). slice_get x u.number) workers) (ap (λ (x : List ℕ). get_or x u.number 0) seen) up more
+      (begins_longer r.course e reply t images u.known (Some u.number) (not_of u.number) more f.known) f
+
+  loader_ruled : (words' : List ℕ) (homes' : List (Maybe (Option Edition))) → LoaderFits (extended r.course e reply t images) l' → WordsShow words' t → SlotsFit homes' t.shelves t.workers images l'.hand
+      → Ruled record { words = words'; homes = homes'; views = set table.views id (View.Loading l') }
+  loader_ruled words' homes' fits words slots = record {
+    course = extended r.course e reply t images;
+    loader = l';
+    goes = goes;
+    words = words;
+    seats = loader_moves r.course (extended r.course e reply t images) table.views r.loader r.seats id l l' at as_many others fits workers seen (λ w h. none_snoc (Some w) r.course.events e (not_of w) h);
+    slots = slots;
+  }
+
+  loader_happened : Happened l.known e reply (all_of (extended r.course e reply t images))
+  loader_happened = happened r.course e reply t images l.known (subst (λ (a : Option ℕ). Begins l.known a r.course) (sym whose) (loader_knows table r id l at).known) goes more
+
+-- the shelf k becomes another, and its word with it
+words_shelved : (words : List ℕ) (k new : ℕ) (y : Shelf) (s t : State) → WordsShow words s → k < 8 → length s.shelves ≡ 8 → t.shelves ≡ set s.shelves k y → t.counts ≡ s.counts → t.current ≡ s.current → t.current_shelf ≡ s.current_shelf
+    → new ≡ shelf_word y (get_or s.counts k 0) → WordsShow (set words (k + 1) new) t
+words_shelved words k new y s t shown small eight shelves counts current current_shelf is =
+    words_after words k new s t shown small current current_shelf
+    (λ j ne. (ap (λ (xs : List Shelf). slice_get xs j) shelves ∙ slice_get-set_other s.shelves k j y ne, ap (λ (xs : List ℕ). get_or xs j 0) counts))
+    (λ x at. let q : Some y ≡ Some x = sym (slice_get-set_same s.shelves k y (omega arith)) ∙ (ap (λ (xs : List Shelf). slice_get xs k) (sym shelves) ∙ at) in let same : y ≡ x = cc in
+    is ∙ (λ i. shelf_word (same i) (get_or (sym counts i) k 0)))
+
+words_current : (words : List ℕ) (new : ℕ) (s t : State) → WordsShow words s → t.shelves ≡ s.shelves → t.counts ≡ s.counts → new ≡ 8 * t.current + t.current_shelf → WordsShow (set words 0 new) t
+words_current words new s t shown shelves counts is = let nine = shown.nine in record {
+  nine = length-set words 0 new ∙ shown.nine;
+  cur = get_or-set_same words 0 new 0 (omega arith) ∙ is;
+  each = λ k x at. get_or-set_other words 0 (k + 1) new 0 (λ e. omega arith) ∙ (shown.each k x (ap (λ (xs : List Shelf). slice_get xs k) (sym shelves) ∙ at) ∙ ap (λ (xs : List ℕ). shelf_word x (get_or xs k 0)) (sym counts));
+}
+
+got_snoc : {A : Type 0} (l : List A) (a b : A) (i : ℕ) → slice_get (l ++ a ∷ []) i ≡ Some b → (slice_get l i ≡ Some b) ⊎ ((i ≡ length l) × (a ≡ b))
+got_snoc [] a b zero e = inr (refl, cc)
+got_snoc [] a b (suc i) e = absurd (cc)
+got_snoc (x ∷ xs) a b zero e = inl e
+got_snoc (x ∷ xs) a b (suc i) e = elim (got_snoc xs a b i e) [ inl q ↦ inl q | inr q ↦ inr (ap (λ n. suc n) q.0, q.1) ]
+
+image_last : (images : List ImageValue) (x : ImageValue) (v : ℕ) → v ≡ suc (length images) → image_of (images ++ x ∷ []) v ≡ Some x
+image_last images x v e = subst (λ n. image_of (images ++ x ∷ []) n ≡ Some x) (sym e) (slice_get-last images x)
+
+open_word : (n count version : ℕ) → n ≡ count → count ≤ 16 → version ≤ 1000000000 → (n + (256 + 65536 * version)) % 18446744073709551616 ≡ count + 256 + 65536 * version
+open_word n count version is few small = omega arith
+
+close_word : (n count version : ℕ) → n ≡ count + 256 + 65536 * version → count ≤ 16 → version ≤ 1000000000 → (n + 256) % 18446744073709551616 ≡ count + 512 + 65536 * version
+close_word n count version is few small = omega arith
+
+opens_as : (slots id k version : ℕ) (l : LoaderView) (image : ImageValue) (f : ℕ → Option Edition) → slots ≡ 128 → k < 8 → slice_get l.shelves k ≡ Some Shelf.Free → l.hand ≡ Some k → l.current ≡ newest_of l → version ≡ newest_of l + 1 → version ≤ 1000000000 → AllHave version image k f
+    → Allows Ruled slots id (View.Loading l, down_from f (16 * k) 16 []) (k + 1) (λ n. (n + (256 + 65536 * version)) % 18446744073709551616) (Opens (step slots (k + 1) (256 + 65536 * version) 0 none) (View.Loading l, down_from f (16 * k) 16 []))
+opens_as slots id k version l image f many small free hand current next few all table r full at fits =
+    let s = r.course.state in let n = get_or table.words (k + 1) 0 in let top = newest_of l in
+    let kept : Kept s = kept_of r.course r.goes in
+    let knows = loader_knows table r id l at in
+    let is_free : IsFree s k = shelf_is table r id l at k Shelf.Free free in
+    let is_newest : top ≡ newest s = newest_is table r id l at in
+    let current_is : newest s ≡ s.current = let a = knows.shows.current in omega arith in
+    let t : State = opened s k top in
+    let e : Event = Event.Open top in let reply : Reply = Reply.Opened (top + 1) k in
+    let may : MayOpen s = (none_waits s kept current_is, (omega arith)) in
+    let is_step : Step s e reply t = (may, is_free, ap (λ m. m + 1) is_newest, refl) in
+    let images : List ImageValue = r.course.images ++ image ∷ [] in
+    let more : IsPrefix r.course.images images = (image ∷ [], refl) in
+    let a1 = length-append r.course.images (image ∷ []) in let a2 = length-append s.editions (top ∷ []) in let a3 = r.goes.as_many in
+    let goes' : Goes (extended r.course e reply t images) = goes_on r.course e reply t images r.goes is_step (omega arith)
+    (λ i edition q. elim (got_snoc s.editions top edition i q) [ inl a ↦ r.goes.numbered i edition a | inr b ↦ sym b.1 ∙ (is_newest ∙ sym b.0) ]) in
+    let d : Course = extended r.course e reply t images in
+    let l' : LoaderView = with_open l k (top + 1) (all_of d) in
+    let eight = kept.shelves.eight in
+    let counted = few_counted s k kept small in
+    let found = r.words.each k Shelf.Free is_free in
+    let word : (n + (256 + 65536 * version)) % 18446744073709551616 ≡ shelf_word (Shelf.Open (newest s + 1)) (get_or s.counts k 0) =
+    open_word n (get_or s.counts k 0) version found counted few ∙ ap (λ m. get_or s.counts k 0 + 256 + 65536 * m) (next ∙ ap (λ m. m + 1) is_newest) in
+    let here : (u : ℕ) → u < 16 → SlotFits images s.workers None (Shelf.Open (newest s + 1)) k u (get_elem? (homes_after table.homes (down_from f (16 * k) 16 []) (give_block 16)) (16 * k + u)) =
+    λ u less. let h = all (16 * k + u) (omega arith) (omega arith) in
+    inl (
+      f (16 * k + u),
+      given_home table.homes [] f (16 * k) 16 (16 * k + u) (omega arith) (omega arith) (omega arith),
+      (h.0, h.1, h.2 ∙ (next ∙ ap (λ m. m + 1) is_newest), image_last r.course.images image (newest s + 1) (omega arith) ∙ ap (λ (x : ImageValue). Some x) (sym h.3)),
+    ) in
+    let fits' : LoaderFits d l' = record {
+      shows = record {
+        current = knows.shows.current;
+        current_shelf = knows.shows.current_shelf;
+        shelves = λ i. set (knows.shows.shelves i) k (Shelf.Open (is_newest i + 1));
+        newest_is = goes'.as_many;
+      };
+      images = refl;
+      known = begins_all d None;
+    } in (
+      View.Loading l',
+      give_block 16,
+      gives_valid table.homes (down_from f (16 * k) 16 []) 16,
+      loader_ruled table r id l l' at refl e reply t images refl goes' more refl refl (omega arith)
+          (set table.words (k + 1) ((n + (256 + 65536 * version)) % 18446744073709551616)) (homes_after table.homes (down_from f (16 * k) 16 []) (give_block 16)) fits'
+          (words_shelved table.words k ((n + (256 + 65536 * version)) % 18446744073709551616) (Shelf.Open (newest s + 1)) s t r.words small eight refl refl refl refl word)
+          (slots_block table.homes (homes_after table.homes (down_from f (16 * k) 16 []) (give_block 16)) s.shelves t.shelves s.workers r.course.images images l.hand None k (Shelf.Open (newest s + 1))
+          (slice_get-set_same s.shelves k (Shelf.Open (newest s + 1)) (omega arith)) (λ j ne. slice_get-set_other s.shelves k j (Shelf.Open (newest s + 1)) ne)
+          (λ i h. given_else table.homes [] f (16 * k) 16 i h) more
+          (λ j ne q. let z : Some k ≡ Some j = sym hand ∙ q in absurd (ne (cc))) (λ j ne q. absurd (cc)) here (loader_slots table r id l at)),
+      (
+        k,
+        refl,
+        (
+          image,
+          f,
+          all_of d,
+          refl,
+          subst (λ m. AllHave m image k f) next all,
+          (λ i. (View.Loading l', given_rest f (16 * k) 16 [] i)),
+          loader_happened table r id l l' at refl e reply t images refl goes' more refl refl (omega arith),
+          ap (λ (xs : List ImageValue). xs ++ image ∷ []) (sym knows.images),
+        ),
+      ),
+    )
+
+openings_as : (slots id k version : ℕ) (u : View) (c : List (ℕ × Option Edition)) → slots ≡ 128 → k < 8 → MayOpenOn k version u c
+    → Allows Ruled slots id (u, c) (k + 1) (λ n. (n + (256 + 65536 * version)) % 18446744073709551616) (Opens (step slots (k + 1) (256 + 65536 * version) 0 none) (u, c))
+openings_as slots id k version (View.Working v) c many small may = absurd may
+openings_as slots id k version (View.Loading l) c many small may =
+    let block = may.5 in
+    subst (λ (x : List (ℕ × Option Edition)). Allows Ruled slots id (View.Loading l, x) (k + 1) (λ n. (n + (256 + 65536 * version)) % 18446744073709551616) (Opens (step slots (k + 1) (256 + 65536 * version) 0 none) (View.Loading l, x))) (sym block.2)
+    (opens_as slots id k version l block.0 block.1 many small may.0 may.1 may.2 may.3 may.4 block.3)
+
+pub openings : (slots id k version : ℕ) (me : Mine) → slots ≡ 128 → k < 8 → MayOpenOn k version me.0 me.1
+    → Allows Ruled slots id me (k + 1) (λ n. (n + (256 + 65536 * version)) % 18446744073709551616) (Opens (step slots (k + 1) (256 + 65536 * version) 0 none) me)
+openings slots id k version me many small may = openings_as slots id k version me.0 me.1 many small may
+
+-- a step that adds no version
+module _ (table : Table (Option Edition) View) (r : Ruled table) (id : ℕ) (l l' : LoaderView) (at : get_elem? table.views id ≡ some (View.Loading l)) (as_many : l'.handed ≡ l.handed)
+    (e : Event) (reply : Reply) (t : State) (whose : actor e ≡ None) (is_step : Step r.course.state e reply t) (editions : t.editions ≡ r.course.state.editions)
+    (workers : t.workers ≡ r.course.state.workers) (seen : t.seen ≡ r.course.state.seen) (up : r.course.state.current ≤ t.current) where
+  pub noted_ruled : (words' : List ℕ) (homes' : List (Maybe (Option Edition))) → LoaderFits (extended r.course e reply t r.course.images) l' → WordsShow words' t → SlotsFit homes' t.shelves t.workers r.course.images l'.hand
+      → Ruled record { words = words'; homes = homes'; views = set table.views id (View.Loading l') }
+  noted_ruled = loader_ruled table r id l l' at as_many e reply t r.course.images whose (goes_same r.course e reply t r.goes is_step editions) (prefix_same r.course.images) workers seen up
+
+  pub noted : Noted l e reply (all_of (extended r.course e reply t r.course.images))
+  noted = (loader_happened table r id l l' at as_many e reply t r.course.images whose (goes_same r.course e reply t r.goes is_step editions) (prefix_same r.course.images) workers seen up, sym (loader_knows table r id l at).images)
+
+publishings_as : (slots id k version : ℕ) (u : View) (c : List (ℕ × Option Edition)) → k < 8 → MayPublish version k u
+    → Allows Ruled slots id (u, c) 0 (λ _. 8 * version + k) (λ _. Publishes (step slots 0 (8 * version + k) 0 none) (u, c) (8 * version + k))
+publishings_as slots id k version (View.Working v) c small may table r full at fits = absurd may
+publishings_as slots id k version (View.Loading l) c small may table r full at fits =
+    let s = r.course.state in
+    let knows = loader_knows table r id l at in
+    let stands : IsOpen s k version = shelf_is table r id l at k (Shelf.Open version) may.0 in
+    let later : s.current < version = let a = knows.shows.current in let b = may.1 in omega arith in
+    let t : State = published s k version in
+    let e : Event = Event.Publish in let reply : Reply = Reply.Published version in
+    let is_step : Step s e reply t = (k, (stands, later), refl) in
+    let d : Course = extended r.course e reply t r.course.images in
+    let l' : LoaderView = with_current l version k (all_of d) in
+    let fits' : LoaderFits d l' = record { shows = record { current = refl; current_shelf = refl; shelves = knows.shows.shelves; newest_is = r.goes.as_many }; images = refl; known = begins_all d None } in (
+      View.Loading l',
+      keeps,
+      tt,
+      noted_ruled table r id l l' at refl e reply t refl is_step refl refl refl (omega arith) (set table.words 0 (8 * version + k)) table.homes fits'
+          (words_current table.words (8 * version + k) s t r.words refl refl refl) (loader_slots table r id l at),
+      (version, k, refl, small, (all_of d, refl, noted table r id l l' at refl e reply t refl is_step refl refl refl (omega arith))),
+    )
+
+pub publishings : (slots id k version : ℕ) (me : Mine) → k < 8 → MayPublish version k me.0
+    → Allows Ruled slots id me 0 (λ _. 8 * version + k) (λ _. Publishes (step slots 0 (8 * version + k) 0 none) me (8 * version + k))
+publishings slots id k version me small may = publishings_as slots id k version me.0 me.1 small may
+
+closings_as : (slots id k : ℕ) (u : View) (c : List (ℕ × Option Edition)) → k < 8 → MayClose k u
+    → Allows Ruled slots id (u, c) (k + 1) (λ n. (n + 256) % 18446744073709551616) (Closes (step slots (k + 1) 256 0 none) (u, c))
+closings_as slots id k (View.Working v) c small may table r full at fits = absurd may
+closings_as slots id k (View.Loading l) c small may table r full at fits =
+    let s = r.course.state in let version = may.0 in let n = get_or table.words (k + 1) 0 in
+    let kept : Kept s = kept_of r.course r.goes in
+    let knows = loader_knows table r id l at in
+    let stands : IsOpen s k version = shelf_is table r id l at k (Shelf.Open version) may.1 in
+    let old : version < s.current = let a = knows.shows.current in let b = may.2 in omega arith in
+    let outdated : IsOutdated s k version = (stands, (λ q. omega arith), (λ q. let z = q.1 in omega arith)) in
+    let t : State = shelved s k (Shelf.Closing version) in
+    let e : Event = Event.Close k in let reply : Reply = Reply.Closing in
+    let is_step : Step s e reply t = (version, outdated, refl) in
+    let d : Course = extended r.course e reply t r.course.images in
+    let l' : LoaderView = with_closing l k version (all_of d) in
+    let eight = kept.shelves.eight in
+    let bound = version_bound s k (Shelf.Open version) kept stands version (inl refl) in
+    let word = close_word n (get_or s.counts k 0) version (r.words.each k (Shelf.Open version) stands) (few_counted s k kept small) bound in
+    let fits' : LoaderFits d l' = record { shows = record { current = knows.shows.current; current_shelf = knows.shows.current_shelf; shelves = λ i. set (knows.shows.shelves i) k (Shelf.Closing version); newest_is = r.goes.as_many }; images = refl; known = begins_all d None } in (
+      View.Loading l',
+      keeps,
+      tt,
+      noted_ruled table r id l l' at refl e reply t refl is_step refl refl refl (omega arith) (set table.words (k + 1) ((n + 256) % 18446744073709551616)) table.homes fits'
+          (words_shelved table.words k ((n + 256) % 18446744073709551616) (Shelf.Closing version) s t r.words small eight refl refl refl refl word)
+          (slots_block table.homes table.homes s.shelves t.shelves s.workers r.course.images r.course.images l.hand l.hand k (Shelf.Closing version)
+          (slice_get-set_same s.shelves k (Shelf.Closing version) (omega arith)) (λ j ne. slice_get-set_other s.shelves k j (Shelf.Closing version) ne)
+          (λ i h. refl) (prefix_same r.course.images) (λ j ne q. q) (λ j ne q. q) (λ u less. loader_slots table r id l at k u (Shelf.Open version) stands less) (loader_slots table r id l at)),
+      (k, refl, (version, all_of d, may.1, refl, noted table r id l l' at refl e reply t refl is_step refl refl refl (omega arith))),
+    )
+
+pub closings : (slots id k : ℕ) (me : Mine) → k < 8 → MayClose k me.0 → Allows Ruled slots id me (k + 1) (λ n. (n + 256) % 18446744073709551616) (Closes (step slots (k + 1) 256 0 none) me)
+closings slots id k me small may = closings_as slots id k me.0 me.1 small may
+
+-- what lies in a slot that is at home
+abbrev value_at : Maybe (Maybe (Option Edition)) → Option Edition
+value_at none = None
+value_at (some none) = None
+value_at (some (some x)) = x
+
+at_itself : (k : ℕ) → (k == k) ≡ true
+at_itself k = grind (arith, nat_tests)
+
+-- where nobody is at a shelf, its slots are at home
+all_home : (homes : List (Maybe (Option Edition))) (shelves : List Shelf) (counts : List ℕ) (workers : List Worker) (images : List ImageValue) (hand : Option ℕ) (k version : ℕ)
+    → ((w : ℕ) (worker : Worker) → slice_get workers w ≡ Some worker → is_at k worker ≡ false) → slice_get shelves k ≡ Some (Shelf.Closing version)
+    → SlotsFit homes shelves workers images hand → IsHome homes (λ j. value_at (get_elem? homes j)) (16 * k) 16
+all_home homes shelves counts workers images hand k version away closing fit j from to =
+    let e : 16 * k + (j - 16 * k) ≡ j = omega arith in
+    subst (λ i. get_elem? homes i ≡ some (some (value_at (get_elem? homes i)))) e
+    (elim (fit k (j - 16 * k) (Shelf.Closing version) closing (omega arith)) [
+      | inl a ↦ a.1 ∙ ap (λ (x : Maybe (Maybe (Option Edition))). some (some (value_at x))) (sym a.1)
+      | inr b ↦ absurd (let q = away (j - 16 * k) (Worker.Holding k version) b.1 in let z : (k == k) ≡ false = q in let z' = at_itself k in cc)
+    ])
+
+-- an exchange either finds the word that it expects, or not
+is_equal : (n m : ℕ) → (n == m) ≡ true → n ≡ m
+is_equal n m e = grind (arith, nat_tests)
+
+is_other : (n m : ℕ) → (n == m) ≡ false → n ≢ m
+is_other n m e q = grind (arith, nat_tests)
+
+busy_word : (n count version : ℕ) → n ≡ count + 512 + 65536 * version → count ≤ 16 → count ≡ n % 256
+busy_word n count version is few = omega arith
+
+collects_found : (id k version : ℕ) (l : LoaderView) (table : Table (Option Edition) View) (r : Ruled table) → get_elem? table.views id ≡ some (View.Loading l) → length table.homes ≡ 128 → k < 8
+    → slice_get l.shelves k ≡ Some (Shelf.Closing version) → l.hand ≡ None → (b : Bool) → (get_or table.words (k + 1) 0 == 512 + 65536 * version) ≡ b
+    → (w : View) × (a : Act (Option Edition)) × Valid table.homes [] a × Ruled (stepped table (k + 1) (either b 0 (get_or table.words (k + 1) 0)) id [] w a) × CollectsFound l k version (get_or table.words (k + 1) 0) b (w, carried_after [] a)
+collects_found id k version l table r at many small shelf hand true found =
+    let s = r.course.state in let n = get_or table.words (k + 1) 0 in
+    let kept : Kept s = kept_of r.course r.goes in
+    let knows = loader_knows table r id l at in
+    let closing : IsClosing s k version = shelf_is table r id l at k (Shelf.Closing version) shelf in
+    let word = r.words.each k (Shelf.Closing version) closing in
+    let is = is_equal n (512 + 65536 * version) found in
+    let nobody : get_or s.counts k 0 ≡ 0 = omega arith in
+    let t : State = shelved s k Shelf.Free in
+    let e : Event = Event.Collect k in let reply : Reply = Reply.Freed in
+    let is_step : Step s e reply t = (version, closing, nobody, refl) in
+    let d : Course = extended r.course e reply t r.course.images in
+    let l' : LoaderView = with_free l k (all_of d) in
+    let eight = kept.shelves.eight in
+    let f : ℕ → Option Edition = λ j. value_at (get_elem? table.homes j) in
+    let home : IsHome table.homes f (16 * k) 16 = all_home table.homes s.shelves s.counts s.workers r.course.images l.hand k version (no_one_at s.counts s.workers k kept.counts small nobody) closing (loader_slots table r id l at) in
+    let fits' : LoaderFits d l' = record { shows = record { current = knows.shows.current; current_shelf = knows.shows.current_shelf; shelves = λ i. set (knows.shows.shelves i) k Shelf.Free; newest_is = r.goes.as_many }; images = refl; known = begins_all d None } in (
+      View.Loading l',
+      take_block f (16 * k) 16,
+      block_valid table.homes [] f (16 * k) 16 home,
+      noted_ruled table r id l l' at refl e reply t refl is_step refl refl refl (omega arith) (set table.words (k + 1) 0) (homes_after table.homes [] (take_block f (16 * k) 16)) fits'
+          (words_shelved table.words k 0 Shelf.Free s t r.words small eight refl refl refl refl (sym nobody))
+          (slots_block table.homes (homes_after table.homes [] (take_block f (16 * k) 16)) s.shelves t.shelves s.workers r.course.images r.course.images l.hand (Some k) k Shelf.Free
+          (slice_get-set_same s.shelves k Shelf.Free (omega arith)) (λ j ne. slice_get-set_other s.shelves k j Shelf.Free ne)
+          (λ i h. block_else table.homes [] f (16 * k) 16 i h) (prefix_same r.course.images)
+          (λ j ne q. let z : None ≡ Some j = sym hand ∙ q in absurd (cc)) (λ j ne q. absurd (ne (cc)))
+          (λ u less. inr (refl, block_out table.homes [] f (16 * k) 16 (16 * k + u) (omega arith) (omega arith) (omega arith))) (loader_slots table r id l at)),
+      (f, all_of d, (λ i. (View.Loading l', carried_down f (16 * k) 16 [] i)), noted table r id l l' at refl e reply t refl is_step refl refl refl (omega arith)),
+    )
+collects_found id k version l table r at many small shelf hand false found =
+    let s = r.course.state in let n = get_or table.words (k + 1) 0 in
+    let kept : Kept s = kept_of r.course r.goes in
+    let knows = loader_knows table r id l at in
+    let closing : IsClosing s k version = shelf_is table r id l at k (Shelf.Closing version) shelf in
+    let word = r.words.each k (Shelf.Closing version) closing in
+    let is = is_other n (512 + 65536 * version) found in
+    let count : get_or s.counts k 0 ≡ n % 256 = busy_word n (get_or s.counts k 0) version word (few_counted s k kept small) in
+    let some_one : 0 < n % 256 = some_one_there n (get_or s.counts k 0) version word is count in
+    let e : Event = Event.Collect k in let reply : Reply = Reply.Busy (n % 256) in
+    let is_step : Step s e reply s = (version, closing, count, some_one, refl) in
+    let d : Course = extended r.course e reply s r.course.images in
+    let l' : LoaderView = with_hand l None (all_of d) in
+    let fits' : LoaderFits d l' = record { shows = record { current = knows.shows.current; current_shelf = knows.shows.current_shelf; shelves = knows.shows.shelves; newest_is = r.goes.as_many }; images = refl; known = begins_all d None } in (
+      View.Loading l',
+      keeps,
+      tt,
+      noted_ruled table r id l l' at refl e reply s refl is_step refl refl refl (omega arith) (set table.words (k + 1) n) table.homes fits'
+          (words_same table.words (k + 1) s s r.words refl refl refl refl) (subst (λ (x : Option ℕ). SlotsFit table.homes s.shelves s.workers r.course.images x) hand (loader_slots table r id l at)),
+      (all_of d, refl, noted table r id l l' at refl e reply s refl is_step refl refl refl (omega arith), some_one),
+    )
+  where
+    some_one_there : (n count version : ℕ) → n ≡ count + 512 + 65536 * version → n ≢ 512 + 65536 * version → count ≡ n % 256 → 0 < n % 256
+    some_one_there n zero version is other c = absurd (other (omega arith))
+    some_one_there n (suc count) version is other c = omega arith
+
+collectings_as : (slots id k version : ℕ) (u : View) (c : List (ℕ × Option Edition)) → slots ≡ 128 → k < 8 → MayCollect k version u c
+    → Allows Ruled slots id (u, c) (k + 1) (λ n. either (n == 512 + 65536 * version) 0 n) (Collects (step slots (k + 1) (512 + 65536 * version) 0 none) (u, c))
+collectings_as slots id k version (View.Working v) c many small may = absurd may
+collectings_as slots id k version (View.Loading l) c many small may =
+    subst (λ (x : List (ℕ × Option Edition)). Allows Ruled slots id (View.Loading l, x) (k + 1) (λ n. either (n == 512 + 65536 * version) 0 n) (Collects (step slots (k + 1) (512 + 65536 * version) 0 none) (View.Loading l, x))) (sym may.2)
+    (λ table r full at fits.
+    let n = get_or table.words (k + 1) 0 in
+    let z = collects_found id k version l table r at (full ∙ many) small may.0 may.1 (n == 512 + 65536 * version) refl in
+    (z.0, z.1, z.2, z.3, (k, version, refl, refl, z.4)))
+
+pub collectings : (slots id k version : ℕ) (me : Mine) → slots ≡ 128 → k < 8 → MayCollect k version me.0 me.1
+    → Allows Ruled slots id me (k + 1) (λ n. either (n == 512 + 65536 * version) 0 n) (Collects (step slots (k + 1) (512 + 65536 * version) 0 none) me)
+collectings slots id k version me many small may = collectings_as slots id k version me.0 me.1 many small may
+
+-- the slots of a free shelf, where they are not out
+spares_home : (homes : List (Maybe (Option Edition))) (shelves : List Shelf) (workers : List Worker) (images : List ImageValue) (hand : Option ℕ) (k : ℕ) → hand ≡ None → slice_get shelves k ≡ Some Shelf.Free
+    → SlotsFit homes shelves workers images hand → IsHome homes nothings (16 * k) 16
+spares_home homes shelves workers images hand k empty free fit j from to =
+    let e : 16 * k + (j - 16 * k) ≡ j = omega arith in
+    subst (λ i. get_elem? homes i ≡ some (some None)) e
+    (elim (fit k (j - 16 * k) Shelf.Free free (omega arith)) [
+      | inl a ↦ a.1
+      | inr b ↦ absurd (let z : None ≡ Some k = sym empty ∙ b.0 in cc)
+    ])
+
+-- a step that finds a free shelf, and moves its empty slots
+tries_free : (id k : ℕ) (l : LoaderView) (c : List (ℕ × Option Edition)) (hand' : Option ℕ) (a : Act (Option Edition)) (table : Table (Option Edition) View) (r : Ruled table) → get_elem? table.views id ≡ some (View.Loading l) → k < 8
+    → slice_get l.shelves k ≡ Some Shelf.Free → SlotsFit (homes_after table.homes c a) r.course.state.shelves r.course.state.workers r.course.images hand' → (b : Bool) → (get_or table.words (k + 1) 0 == 512) ≡ b
+    → (known : Known) × Ruled (stepped table (k + 1) (either b 0 (get_or table.words (k + 1) 0)) id c (View.Loading (with_hand l hand' known)) a) × Noted l (Event.Collect k) Reply.NotNow known
+tries_free id k l c hand' a table r at small free slots true found =
+    let s = r.course.state in let n = get_or table.words (k + 1) 0 in let kept : Kept s = kept_of r.course r.goes in
+    let word = r.words.each k Shelf.Free (shelf_is table r id l at k Shelf.Free free) in let few = few_counted s k kept small in let is = is_equal n 512 found in absurd (omega arith)
+tries_free id k l c hand' a table r at small free slots false found =
+    let s = r.course.state in let n = get_or table.words (k + 1) 0 in
+    let knows = loader_knows table r id l at in
+    let is_free : IsFree s k = shelf_is table r id l at k Shelf.Free free in
+    let e : Event = Event.Collect k in let reply : Reply = Reply.NotNow in
+    let is_step : Step s e reply s = ((λ v q. let z : Some Shelf.Free ≡ Some (Shelf.Closing v) = sym is_free ∙ q in cc), refl) in
+    let d : Course = extended r.course e reply s r.course.images in
+    let l' : LoaderView = with_hand l hand' (all_of d) in
+    let fits' : LoaderFits d l' = record { shows = record { current = knows.shows.current; current_shelf = knows.shows.current_shelf; shelves = knows.shows.shelves; newest_is = r.goes.as_many }; images = refl; known = begins_all d None } in (
+      all_of d,
+      noted_ruled table r id l l' at refl e reply s refl is_step refl refl refl (omega arith) (set table.words (k + 1) n) (homes_after table.homes c a) fits' (words_same table.words (k + 1) s s r.words refl refl refl refl) slots,
+      noted table r id l l' at refl e reply s refl is_step refl refl refl (omega arith),
+    )
+
+gatherings_as : (slots id k : ℕ) (u : View) (c : List (ℕ × Option Edition)) → slots ≡ 128 → k < 8 → MayGather k u c
+    → Allows Ruled slots id (u, c) (k + 1) (λ n. either (n == 512) 0 n) (Gathers (step slots (k + 1) 512 0 none) (u, c))
+gatherings_as slots id k (View.Working v) c many small may = absurd may
+gatherings_as slots id k (View.Loading l) c many small may =
+    subst (λ (x : List (ℕ × Option Edition)). Allows Ruled slots id (View.Loading l, x) (k + 1) (λ n. either (n == 512) 0 n) (Gathers (step slots (k + 1) 512 0 none) (View.Loading l, x))) (sym may.2)
+    (λ table r full at fits.
+    let s = r.course.state in let n = get_or table.words (k + 1) 0 in
+    let is_free : IsFree s k = shelf_is table r id l at k Shelf.Free may.0 in
+    let home = spares_home table.homes s.shelves s.workers r.course.images l.hand k may.1 is_free (loader_slots table r id l at) in
+    let z = tries_free id k l [] (Some k) (take_block nothings (16 * k) 16) table r at small may.0
+    (slots_block table.homes (homes_after table.homes [] (take_block nothings (16 * k) 16)) s.shelves s.shelves s.workers r.course.images r.course.images l.hand (Some k) k Shelf.Free is_free (λ j ne. refl)
+    (λ i h. block_else table.homes [] nothings (16 * k) 16 i h) (prefix_same r.course.images)
+    (λ j ne q. let y : None ≡ Some j = sym may.1 ∙ q in absurd (cc)) (λ j ne q. absurd (ne (cc)))
+    (λ w less. inr (refl, block_out table.homes [] nothings (16 * k) 16 (16 * k + w) (omega arith) (omega arith) (omega arith))) (loader_slots table r id l at)) (n == 512) refl in (
+      View.Loading (with_hand l (Some k) z.0),
+      take_block nothings (16 * k) 16,
+      block_valid table.homes [] nothings (16 * k) 16 home,
+      z.1,
+      (k, refl, (z.0, (λ i. (View.Loading (with_hand l (Some k) z.0), carried_down nothings (16 * k) 16 [] i)), z.2)),
+    ))
+
+pub gatherings : (slots id k : ℕ) (me : Mine) → slots ≡ 128 → k < 8 → MayGather k me.0 me.1 → Allows Ruled slots id me (k + 1) (λ n. either (n == 512) 0 n) (Gathers (step slots (k + 1) 512 0 none) me)
+gatherings slots id k me many small may = gatherings_as slots id k me.0 me.1 many small may
+
+puttings_as : (slots id k : ℕ) (u : View) (c : List (ℕ × Option Edition)) → slots ≡ 128 → k < 8 → MayPutBack k u c
+    → Allows Ruled slots id (u, c) (k + 1) (λ n. either (n == 512) 0 n) (PutsBack (step slots (k + 1) 512 0 none) (u, c))
+puttings_as slots id k (View.Working v) c many small may = absurd may
+puttings_as slots id k (View.Loading l) c many small may =
+    subst (λ (x : List (ℕ × Option Edition)). Allows Ruled slots id (View.Loading l, x) (k + 1) (λ n. either (n == 512) 0 n) (PutsBack (step slots (k + 1) 512 0 none) (View.Loading l, x))) (sym may.2)
+    (λ table r full at fits.
+    let s = r.course.state in let n = get_or table.words (k + 1) 0 in
+    let is_free : IsFree s k = shelf_is table r id l at k Shelf.Free may.0 in
+    let c = down_from nothings (16 * k) 16 [] in
+    let z = tries_free id k l (down_from nothings (16 * k) 16 []) None (give_block 16) table r at small may.0
+    (slots_block table.homes (homes_after table.homes (down_from nothings (16 * k) 16 []) (give_block 16)) s.shelves s.shelves s.workers r.course.images r.course.images l.hand None k Shelf.Free is_free (λ j ne. refl)
+    (λ i h. given_else table.homes [] nothings (16 * k) 16 i h) (prefix_same r.course.images)
+    (λ j ne q. let y : Some k ≡ Some j = sym may.1 ∙ q in absurd (ne (cc))) (λ j ne q. absurd (cc))
+    (λ w less. inl ((λ q. cc), given_home table.homes [] nothings (16 * k) 16 (16 * k + w) (omega arith) (omega arith) (omega arith))) (loader_slots table r id l at)) (n == 512) refl in (
+      View.Loading (with_hand l None z.0),
+      give_block 16,
+      gives_valid table.homes (down_from nothings (16 * k) 16 []) 16,
+      z.1,
+      (k, refl, (z.0, (λ i. (View.Loading (with_hand l None z.0), given_rest nothings (16 * k) 16 [] i)), z.2)),
+    ))
+
+pub puttings : (slots id k : ℕ) (me : Mine) → slots ≡ 128 → k < 8 → MayPutBack k me.0 me.1 → Allows Ruled slots id me (k + 1) (λ n. either (n == 512) 0 n) (PutsBack (step slots (k + 1) 512 0 none) me)
+puttings slots id k me many small may = puttings_as slots id k me.0 me.1 many small may

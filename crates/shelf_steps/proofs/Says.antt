@@ -1,0 +1,112 @@
+-- The rule, part by part.
+use Rattle.image_layout.specs.Image.{ImageValue}
+use Rattle.std.proofs.Common.{◌≡◌, ℕ, ◌+◌, ◌*◌, ◌<◌, ◌≤◌, List, Option, Some, slice_get, get_or, ap, sym, ◌∙◌, subst, arith, inl, inr, lt_of_not-le}
+use mathlib.Core.Logic.{dite}
+use mathlib.Core.Option.{some, none}
+use native.Mathlib.Decide.{dec_le}
+use lib.ListN.{get_elem?}
+use Rattle.std.proofs.lemmas.Option.{slice_get_within}
+use Rattle.version_core.specs.declared.state.Shelf.{Shelf}
+use Rattle.version_core.specs.declared.state.Worker.{Worker}
+use Rattle.version_core.specs.Kept.{Kept, version_of, version_on}
+use Rattle.version_core.proofs.Keeps.{held_known, looked_fits}
+use Rattle.shelf_steps.specs.declared.edition.Edition.{Edition}
+use Rattle.shelf_steps.specs.declared.views.LoaderView.{LoaderView}
+use Rattle.shelf_steps.specs.declared.views.View.{View}
+use Rattle.shelf_steps.specs.Course.{IsEdition}
+use Rattle.version_core.specs.Shown.{shelf_word}
+use Rattle.shelf_steps.specs.Seats.{WorkerFits, LoaderFits, HasEdition}
+use Rattle.shelf_steps.specs.Slots.{SlotFits, IsFilled, Slot}
+use Rattle.shelf_steps.specs.Ruled.{Ruled}
+use Rattle.shelf_steps.specs.Laws.{Shelved, IsLoader, WordsAreTheLoaders, CountsAreWorkers, NumbersDiffer, HeldHaveEditions, SlotsOutAreHeld, SlotsAtHomeAreFilled, LooksAreSo, OneHistory}
+use Rattle.shelf_steps.proofs.Courses.{kept_of}
+use Rattle.shelf_steps.proofs.WordsAfter.{few_counted}
+use Rattle.shelf_steps.proofs.Works.{held_on}
+
+module _ (table : Shelved) (l : LoaderView) (r : Ruled table) (at : IsLoader table l) where
+  is_loader : l ≡ r.loader
+  is_loader = (r.seats.each 0 (View.Loading l) at).1
+
+  knows : LoaderFits r.course l
+  knows = subst (λ (x : LoaderView). LoaderFits r.course x) (sym is_loader) r.seats.loads
+
+  same_shelf : (k : ℕ) (x : Shelf) → slice_get l.shelves k ≡ Some x → slice_get r.course.state.shelves k ≡ Some x
+  same_shelf k x e = ap (λ (xs : List Shelf). slice_get xs k) (sym knows.shows.shelves) ∙ e
+
+pub words_are : WordsAreTheLoaders
+words_are table l r at =
+    let k = knows table l r at in let kept : Kept r.course.state = kept_of r.course r.goes in (
+      r.words.cur ∙ (λ i. 8 * sym k.shows.current i + sym k.shows.current_shelf i),
+      (λ i. slice_get (k.shows.shelves i) (k.shows.current_shelf i)) ∙ (kept.shelves.current_open ∙ ap (λ n. Some (Shelf.Open n)) (sym k.shows.current)),
+      λ j x e. let s = same_shelf table l r at j x e in let within = slice_get_within r.course.state.shelves j _ s in let eight = kept.shelves.eight in
+          (get_or r.course.state.counts j 0, few_counted r.course.state j kept (omega arith), r.words.each j x s),
+    )
+
+pub counts_are : CountsAreWorkers
+counts_are table l r at =
+    let kept : Kept r.course.state = kept_of r.course r.goes in let is = is_loader table l r at in
+    let same : l.handed ≡ r.loader.handed = ap (λ (x : LoaderView). x.handed) is in (
+      r.course.state.workers,
+      kept.workers.sixteen,
+      (λ i v there. (r.seats.each i (View.Working v) there).2.shows.now),
+      (λ w less. let n = r.seats.every w (subst (λ x. w < x) same less) in (r.seats.owner w, n.0, n.2, n.1)),
+      (λ w past small. (r.seats.unseated w (subst (λ x. x ≤ w) same past) small).0),
+      λ k x e. let s = same_shelf table l r at k x e in let within = slice_get_within r.course.state.shelves k _ s in let eight = kept.shelves.eight in
+          r.words.each k x s ∙ ap (λ n. shelf_word x n) (kept.counts.each k (omega arith)),
+    )
+
+pub numbers_differ : NumbersDiffer
+numbers_differ table i j v w r at at' =
+    let a = r.seats.each i (View.Working v) at in let b = r.seats.each j (View.Working w) at' in
+    ((let few = r.seats.few in let less = a.0 in omega arith), (λ e. sym a.1 ∙ (ap r.seats.owner e ∙ b.1)))
+
+pub held_have : HeldHaveEditions
+held_have table l i k v w r loads at now =
+    let a = r.seats.each i (View.Working w) at in let f : WorkerFits r.course w = a.2 in let kn = knows table l r loads in
+    let kept : Kept r.course.state = kept_of r.course r.goes in
+    let here : slice_get r.course.state.workers w.number ≡ Some (Worker.Holding k v) = f.shows.now ∙ ap (λ (x : Worker). Some x) now in (
+      ap (λ (xs : List Shelf). version_on xs k) kn.shows.shelves ∙ (held_known r.course.state w.number k v kept here).0,
+      subst (λ (x : List ImageValue). IsEdition x v w.edition) (sym kn.images) (subst (λ (x : Worker). HasEdition r.course.images x w.edition) now f.edition),
+    )
+
+filled : (images : List ImageValue) (ws : List Worker) (hand : Option ℕ) (y : Shelf) (k w v : ℕ) (slot : Slot) → version_of y ≡ Some v → SlotFits images ws hand y k w slot → IsFilled images ws k w v slot
+filled images ws hand Shelf.Free k w v slot e f = absurd (cc)
+filled images ws hand (Shelf.Open x) k w v slot e f = let same : x ≡ v = cc in subst (λ n. IsFilled images ws k w n slot) same f
+filled images ws hand (Shelf.Closing x) k w v slot e f = let same : x ≡ v = cc in subst (λ n. IsFilled images ws k w n slot) same f
+
+slot_of : (table : Shelved) (l : LoaderView) (k w v : ℕ) (r : Ruled table) → IsLoader table l → version_on l.shelves k ≡ Some v → w < 16 → IsFilled r.course.images r.course.state.workers k w v (get_elem? table.homes (16 * k + w))
+slot_of table l k w v r at is less =
+    let y = held_on l.shelves k v is in
+    filled r.course.images r.course.state.workers r.loader.hand y.0 k w v (get_elem? table.homes (16 * k + w)) y.2 (r.slots k w y.0 (same_shelf table l r at k y.0 y.1) less)
+
+pub slots_out : SlotsOutAreHeld
+slots_out table l k w v r at is less out =
+    let s = r.course.state in
+    let here : slice_get s.workers w ≡ Some (Worker.Holding k v) = elim (slot_of table l k w v r at is less) [ inl a ↦ absurd (let z : some none ≡ some (some a.0) = sym out ∙ a.1 in cc) | inr b ↦ b.1 ] in
+    let seated : w < r.loader.handed = dite (dec_le r.loader.handed w) (λ past. absurd (let u = r.seats.unseated w past less in let z : Some Worker.Idle ≡ Some (Worker.Holding k v) = sym u.0 ∙ here in cc)) (λ not. lt_of_not-le not) in
+    let n = r.seats.every w seated in
+    let f : WorkerFits r.course n.0 = (r.seats.each (r.seats.owner w) (View.Working n.0) n.2).2 in
+    let z : Some n.0.now ≡ Some (Worker.Holding k v) = sym f.shows.now ∙ (ap (λ m. slice_get s.workers m) n.1 ∙ here) in
+    (r.seats.owner w, n.0, n.2, n.1, cc)
+
+pub slots_home : SlotsAtHomeAreFilled
+slots_home table l k w v x r at is less home =
+    let kn = knows table l r at in
+    subst (λ (xs : List ImageValue). IsEdition xs v x) (sym kn.images)
+    (elim (slot_of table l k w v r at is less) [
+      | inl a ↦ (let z : some (some x) ≡ some (some a.0) = sym home ∙ a.1 in let same : x ≡ a.0 = cc in subst (λ (o : Option Edition). IsEdition r.course.images v o) (sym same) a.2)
+      | inr b ↦ absurd (let z : some (some x) ≡ some none = sym home ∙ b.0 in cc)
+    ])
+
+pub looks_are : LooksAreSo
+looks_are table l i w r loads at =
+    let f : WorkerFits r.course w = (r.seats.each i (View.Working w) at).2 in let kn = knows table l r loads in let kept : Kept r.course.state = kept_of r.course r.goes in
+    let c = kn.shows.current in (
+      (let a = f.last.0 in omega arith),
+      (λ p. let a = f.passed p in omega arith),
+      λ v k now. let q = looked_fits r.course.state w.number v k kept (f.shows.now ∙ ap (λ (x : Worker). Some x) now) in
+          ((let a = q.3 in omega arith), (λ e. q.4 (e ∙ c) ∙ sym kn.shows.current_shelf)),
+    )
+
+pub one_history : OneHistory
+one_history table r = (r.course, r.goes, (λ i v at. (r.seats.each i (View.Working v) at).2.known), (λ l at. let k = knows table l r at in (k.known, k.images)))

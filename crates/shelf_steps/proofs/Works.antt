@@ -1,0 +1,304 @@
+-- Each step of a worker keeps the rule, and is one event.
+use Rattle.version_core.specs.Actors.{actor}
+use Rattle.image_layout.specs.Image.{ImageValue}
+use Rattle.std.proofs.Common.{◌≡◌, ◌≢◌, ℕ, zero, suc, ◌+◌, ◌-◌, ◌*◌, ◌/◌, ◌%◌, ◌<◌, ◌≤◌, Bool, true, false, MatchBool, List, [], ◌∷◌, length, set, get_or, Option, Some, None, slice_get, refl, ap, sym, ◌∙◌, subst, arith, get_or-set_same, get_or-set_other, le_refl, inl, inr}
+use Rattle.std.proofs.lemmas.Option.{slice_get_within}
+use mathlib.Core.Option.{none, some}
+use lib.ListN.{get_elem?}
+use Rattle.atomic_table.specs.Table.{State as Table, Act, keeps, takes, gives, stepped, Allows, Valid, homes_after, carried_after}
+use Rattle.version_core.specs.declared.event.Event.{Event}
+use Rattle.version_core.specs.declared.event.Reply.{Reply}
+use Rattle.version_core.specs.declared.state.Shelf.{Shelf}
+use Rattle.version_core.specs.declared.state.Worker.{Worker}
+use Rattle.version_core.specs.State.{State, looked, arrived, departed}
+use Rattle.version_core.specs.Steps.{IsIdle as IsIdleAt, HasLooked as HasLookedAt, StaysAt, IsOpen, Step}
+use Rattle.version_core.specs.Kept.{Kept, version_of, version_on}
+use Rattle.version_core.proofs.Keeps.{looked_fits, stays_fits, held_known}
+use Rattle.version_core.proofs.Lists.{slice_get-set_same, slice_get-set_other}
+use Rattle.shelf_steps.specs.declared.edition.Edition.{Edition}
+use Rattle.shelf_steps.specs.declared.views.Known.{Known}
+use Rattle.shelf_steps.specs.declared.views.WorkerView.{WorkerView}
+use Rattle.shelf_steps.specs.declared.views.View.{View}
+use Rattle.shelf_steps.specs.Course.{Course, Goes, extended, all_of, Begins, Happened, IsEdition}
+use Rattle.version_core.specs.Shown.{WordsShow, shelf_word}
+use Rattle.shelf_steps.specs.Seats.{WorkerFits, LoaderFits, SeatsFit, HasEdition}
+use Rattle.shelf_steps.specs.Slots.{SlotsFit, SlotFits}
+use Rattle.shelf_steps.specs.Ruled.{Ruled}
+use Rattle.shelf_steps.specs.Plays.{Mine, looked_at, is_open, holding, come_late, gone, Looks, TakesFound, TakesAs, Takes, Leaves, GivesBack, IsIdle, HasLooked, IsLate, HoldsOut, ShowsIn}
+use Rattle.shelf_steps.proofs.Courses.{kept_of, none_snoc, begins_longer, happened, goes_same, begins_all, prefix_same, other_fits}
+use Rattle.shelf_steps.proofs.Frames.{there, worker_moves}
+use Rattle.shelf_steps.proofs.WordsAfter.{current_word, words_same, words_after, word_rises, word_falls, word_tells}
+use Rattle.shelf_steps.proofs.SlotsAfter.{slots_worker, slots_one}
+
+-- a step of a worker changes what is so of that worker alone
+module _ (table : Table (Option Edition) View) (r : Ruled table) (id : ℕ) (v v' : WorkerView) (at : get_elem? table.views id ≡ some (View.Working v)) (named : v'.number ≡ v.number)
+    (e : Event) (reply : Reply) (t : State) (whose : actor e ≡ Some v.number) (is_step : Step r.course.state e reply t)
+    (current : t.current ≡ r.course.state.current) (current_shelf : t.current_shelf ≡ r.course.state.current_shelf) (shelves : t.shelves ≡ r.course.state.shelves) (editions : t.editions ≡ r.course.state.editions)
+    (rest : (w : ℕ) → w ≢ v.number → (slice_get t.workers w ≡ slice_get r.course.state.workers w) × (get_or t.seen w 0 ≡ get_or r.course.state.seen w 0)) where
+  pub next : Course
+  next = extended r.course e reply t r.course.images
+
+  pub next_goes : Goes (extended r.course e reply t r.course.images)
+  next_goes = goes_same r.course e reply t r.goes is_step editions
+
+  not_loaders : actor e ≢ None
+  not_loaders q = let z : Some v.number ≡ None = sym whose ∙ q in cc
+
+  not_of : (u : ℕ) → u ≢ v.number → actor e ≢ Some u
+  not_of u other q = let z : Some v.number ≡ Some u = sym whose ∙ q in other (cc)
+
+  loads : LoaderFits (extended r.course e reply t r.course.images) r.loader
+  loads = let f = r.seats.loads in record {
+    shows = record {
+      current = f.shows.current ∙ sym current;
+      current_shelf = f.shows.current_shelf ∙ sym current_shelf;
+      shelves = f.shows.shelves ∙ sym shelves;
+      newest_is = f.shows.newest_is ∙ ap (λ (l : List ℕ). length l) (sym editions);
+    };
+    images = f.images;
+    known = begins_longer r.course e reply t r.course.images r.loader.known None not_loaders (prefix_same r.course.images) f.known;
+  }
+
+  others : (u : WorkerView) → u.number ≢ v.number → WorkerFits r.course u → WorkerFits (extended r.course e reply t r.course.images) u
+  others u other f = let z = rest u.number other in
+      other_fits r.course (extended r.course e reply t r.course.images) u z.0 z.1 (omega arith) (prefix_same r.course.images)
+      (begins_longer r.course e reply t r.course.images u.known (Some u.number) (not_of u.number other) (prefix_same r.course.images) f.known) f
+
+  pub next_seats : WorkerFits (extended r.course e reply t r.course.images) v' → SeatsFit (extended r.course e reply t r.course.images) (set table.views id (View.Working v')) r.loader
+  next_seats fits = worker_moves r.course (extended r.course e reply t r.course.images) table.views r.loader r.seats id v v' at named others loads rest (λ w other h. none_snoc (Some w) r.course.events e (not_of w other) h) fits
+
+  pub next_happened : Happened v.known e reply (all_of (extended r.course e reply t r.course.images))
+  next_happened = happened r.course e reply t r.course.images v.known
+      (subst (λ (a : Option ℕ). Begins v.known a r.course) (sym whose) (r.seats.each id (View.Working v) at).2.known) next_goes (prefix_same r.course.images)
+
+looks_as : (slots id : ℕ) (u : View) (c : List (ℕ × Option Edition)) → IsIdle u → Allows Ruled slots id (u, c) 0 (λ n. n) (Looks (u, c))
+looks_as slots id (View.Loading l) c idle table r full at small = absurd idle
+looks_as slots id (View.Working v) c idle table r full at small =
+    let s = r.course.state in let w = v.number in let n = get_or table.words 0 0 in
+    let kept : Kept s = kept_of r.course r.goes in
+    let f : WorkerFits r.course v = (r.seats.each id (View.Working v) at).2 in
+    let is_idle : IsIdleAt s w = f.shows.now ∙ ap (λ (x : Worker). Some x) idle in
+    let within = slice_get_within s.workers w _ is_idle in
+    let z = current_word s n kept r.words.cur in
+    let t : State = looked s w in
+    let e : Event = Event.Look w in let reply : Reply = Reply.Looked (n / 8) (n % 8) in
+    let is_step : Step s e reply t = (is_idle, z.1, z.2, refl) in
+    let d : Course = extended r.course e reply t r.course.images in
+    let v' : WorkerView = looked_at v n (all_of d) in
+    let rest : (j : ℕ) → j ≢ w → (slice_get t.workers j ≡ slice_get s.workers j) × (get_or t.seen j 0 ≡ get_or s.seen j 0) =
+    λ j other. (slice_get-set_other s.workers w j (Worker.Looked s.current s.current_shelf) other, get_or-set_other s.seen w j s.current 0 other) in
+    let many = kept.workers.sixteen in let many' = kept.workers.sixteen_seen in
+    let seen_less : v.seen ≤ n / 8 = let q = kept.workers.each w Worker.Idle is_idle in let q' = f.shows.seen in let q'' = z.1 in omega arith in
+    let fits : WorkerFits d v' = record {
+      shows = record { now = slice_get-set_same s.workers w (Worker.Looked s.current s.current_shelf) within ∙ (λ i. Some (Worker.Looked (sym z.1 i) (sym z.2 i))); seen = get_or-set_same s.seen w s.current 0 (omega arith) ∙ sym z.1 };
+      last = ((let q = z.1 in omega arith), le_refl (n / 8));
+      passed = λ p. absurd (cc);
+      edition = refl;
+      known = begins_all d (Some w);
+    } in (
+      View.Working v',
+      keeps,
+      tt,
+      record {
+        course = d;
+        loader = r.loader;
+        goes = next_goes table r id v v' at refl e reply t refl is_step refl refl refl refl rest;
+        words = words_same table.words 0 s t r.words refl refl refl refl;
+        seats = next_seats table r id v v' at refl e reply t refl is_step refl refl refl refl rest fits;
+        slots = slots_worker table.homes s.shelves s.workers r.course.images r.loader.hand w Worker.Idle (Worker.Looked s.current s.current_shelf) is_idle (λ k x q. cc) r.slots;
+      },
+      (all_of d, refl, next_happened table r id v v' at refl e reply t refl is_step refl refl refl refl rest, seen_less, (λ p. let q = f.passed p in let q' = z.1 in omega arith), (t, next_goes table r id v v' at refl e reply t refl is_step refl refl refl refl rest, fits.shows)),
+    )
+
+pub looks : (slots id : ℕ) (me : Mine) → IsIdle me.0 → Allows Ruled slots id me 0 (λ n. n) (Looks me)
+looks slots id me idle = looks_as slots id me.0 me.1 idle
+
+-- the count of the shelf k becomes another, and its word with it
+words_counted : (words : List ℕ) (k new count : ℕ) (ws : List Worker) (s : State) → Kept s → WordsShow words s → k < 8
+    → ((y : Shelf) → slice_get s.shelves k ≡ Some y → new ≡ shelf_word y count) → WordsShow (set words (k + 1) new) (record s { counts = set s.counts k count; workers = ws })
+words_counted words k new count ws s kept shown small is =
+    let l = kept.counts.eight in
+    words_after words k new s (record s { counts = set s.counts k count; workers = ws }) shown small refl refl
+    (λ j ne. (refl, get_or-set_other s.counts k j count 0 ne))
+    (λ x at. is x at ∙ ap (λ m. shelf_word x m) (sym (get_or-set_same s.counts k count 0 (omega arith))))
+
+takes_found : (id k : ℕ) (v : WorkerView) (version : ℕ) (c : List (ℕ × Option Edition)) (table : Table (Option Edition) View) (r : Ruled table) → get_elem? table.views id ≡ some (View.Working v) → v.now ≡ Worker.Looked version k
+    → (b : Bool) → MatchBool b (IsOpen r.course.state k version) (¬ (IsOpen r.course.state k version))
+    → (w : View) × (a : Act (Option Edition)) × Valid table.homes c a × Ruled (stepped table (k + 1) ((get_or table.words (k + 1) 0 + 1) % 18446744073709551616) id c w a) × TakesFound v c version k b (w, carried_after c a)
+takes_found id k v version c table r at now true stands =
+    let s = r.course.state in let w = v.number in let n = get_or table.words (k + 1) 0 in
+    let kept : Kept s = kept_of r.course r.goes in
+    let f : WorkerFits r.course v = (r.seats.each id (View.Working v) at).2 in
+    let has : HasLookedAt s w version k = f.shows.now ∙ ap (λ (x : Worker). Some x) now in
+    let within = slice_get_within s.workers w _ has in
+    let z = looked_fits s w version k kept has in
+    let t : State = arrived s w k (Worker.Holding k version) in
+    let e : Event = Event.Take w in let reply : Reply = Reply.Holds version in
+    let is_step : Step s e reply t = (k, has, stands, refl) in
+    let rest : (j : ℕ) → j ≢ w → (slice_get t.workers j ≡ slice_get s.workers j) × (get_or t.seen j 0 ≡ get_or s.seen j 0) = λ j other. (slice_get-set_other s.workers w j (Worker.Holding k version) other, refl) in
+    let home : (x : Option Edition) × (get_elem? table.homes (16 * k + w) ≡ some (some x)) × IsEdition r.course.images version x =
+    elim (r.slots k w (Shelf.Open version) stands z.0) [
+      | inl a ↦ a
+      | inr a ↦ absurd (let q : Some (Worker.Looked version k) ≡ Some (Worker.Holding k version) = sym has ∙ a.1 in cc)
+    ] in
+    let edition : Edition = home.2.0 in
+    let filled : get_elem? table.homes (16 * k + w) ≡ some (some (Some edition)) = home.1 ∙ ap (λ (x : Option Edition). some (some x)) home.2.1 in
+    let is_its : IsEdition r.course.images version (Some edition) = (edition, refl, home.2.2, home.2.3) in
+    let d : Course = extended r.course e reply t r.course.images in
+    let v' : WorkerView = holding v k version edition (all_of d) in
+    let fits : WorkerFits d v' = record {
+      shows = record { now = slice_get-set_same s.workers w (Worker.Holding k version) within; seen = f.shows.seen };
+      last = f.last;
+      passed = f.passed;
+      edition = is_its;
+      known = begins_all d (Some w);
+    } in (
+      View.Working v',
+      takes (16 * k + w) (Some edition),
+      filled,
+      record {
+        course = d;
+        loader = r.loader;
+        goes = next_goes table r id v v' at refl e reply t refl is_step refl refl refl refl rest;
+        words = words_counted table.words k ((n + 1) % 18446744073709551616) (get_or s.counts k 0 + 1) t.workers s kept r.words z.1 (word_rises table.words s k kept r.words z.1);
+        seats = next_seats table r id v v' at refl e reply t refl is_step refl refl refl refl rest fits;
+        slots = slots_one table.homes s.shelves s.workers r.course.images r.loader.hand k w (Worker.Looked version k) (Worker.Holding k version) (Shelf.Open version) none has (λ j x ne q. cc) stands z.0
+            (there table.homes (16 * k + w) _ filled) (inr (refl, slice_get-set_same s.workers w (Worker.Holding k version) within)) r.slots;
+      },
+      (edition, all_of d, refl, next_happened table r id v v' at refl e reply t refl is_step refl refl refl refl rest, is_its, (t, next_goes table r id v v' at refl e reply t refl is_step refl refl refl refl rest, fits.shows)),
+    )
+takes_found id k v version c table r at now false shut =
+    let s = r.course.state in let w = v.number in let n = get_or table.words (k + 1) 0 in
+    let kept : Kept s = kept_of r.course r.goes in
+    let f : WorkerFits r.course v = (r.seats.each id (View.Working v) at).2 in
+    let has : HasLookedAt s w version k = f.shows.now ∙ ap (λ (x : Worker). Some x) now in
+    let within = slice_get_within s.workers w _ has in
+    let z = looked_fits s w version k kept has in
+    let t : State = arrived s w k (Worker.Late k) in
+    let e : Event = Event.Take w in let reply : Reply = Reply.Late in
+    let is_step : Step s e reply t = (version, k, has, shut, refl) in
+    let rest : (j : ℕ) → j ≢ w → (slice_get t.workers j ≡ slice_get s.workers j) × (get_or t.seen j 0 ≡ get_or s.seen j 0) = λ j other. (slice_get-set_other s.workers w j (Worker.Late k) other, refl) in
+    let d : Course = extended r.course e reply t r.course.images in
+    let v' : WorkerView = come_late v k (all_of d) in
+    let goes' : Goes d = next_goes table r id v v' at refl e reply t refl is_step refl refl refl refl rest in
+    let after = (kept_of d goes').workers.each w (Worker.Late k) (slice_get-set_same s.workers w (Worker.Late k) within) in
+    let fits : WorkerFits d v' = record {
+      shows = record { now = slice_get-set_same s.workers w (Worker.Late k) within; seen = f.shows.seen };
+      last = f.last;
+      passed = λ p. let a = f.last.1 in let b = f.shows.seen in let q = after.1 in omega arith;
+      edition = refl;
+      known = begins_all d (Some w);
+    } in (
+      View.Working v',
+      keeps,
+      tt,
+      record {
+        course = d;
+        loader = r.loader;
+        goes = goes';
+        words = words_counted table.words k ((n + 1) % 18446744073709551616) (get_or s.counts k 0 + 1) t.workers s kept r.words z.1 (word_rises table.words s k kept r.words z.1);
+        seats = next_seats table r id v v' at refl e reply t refl is_step refl refl refl refl rest fits;
+        slots = slots_worker table.homes s.shelves s.workers r.course.images r.loader.hand w (Worker.Looked version k) (Worker.Late k) has (λ j x q. cc) r.slots;
+      },
+      (all_of d, refl, next_happened table r id v v' at refl e reply t refl is_step refl refl refl refl rest, (t, goes', fits.shows)),
+    )
+
+takes_as : (slots id k : ℕ) (u : View) (c : List (ℕ × Option Edition)) → HasLooked k u → Allows Ruled slots id (u, c) (k + 1) (λ n. (n + 1) % 18446744073709551616) (Takes (u, c))
+takes_as slots id k (View.Loading l) c has table r full at fits = absurd has
+takes_as slots id k (View.Working v) c has table r full at fits =
+    let s = r.course.state in let n = get_or table.words (k + 1) 0 in
+    let kept : Kept s = kept_of r.course r.goes in
+    let f : WorkerFits r.course v = (r.seats.each id (View.Working v) at).2 in
+    let z = looked_fits s v.number has.0 k kept (f.shows.now ∙ ap (λ (x : Worker). Some x) has.1) in
+    let t = takes_found id k v has.0 c table r at has.1 (is_open n has.0) (word_tells table.words s k has.0 kept r.words z.1) in
+    (t.0, t.1, t.2, t.3, subst (λ (now : Worker). TakesAs v c now n (t.0, carried_after c t.1)) (sym has.1) t.4)
+
+pub takings : (slots id k : ℕ) (me : Mine) → HasLooked k me.0 → Allows Ruled slots id me (k + 1) (λ n. (n + 1) % 18446744073709551616) (Takes me)
+takings slots id k me has = takes_as slots id k me.0 me.1 has
+
+-- a worker leaves the shelf k, and something is done with the slots
+leaves_with : (id k : ℕ) (v : WorkerView) (table : Table (Option Edition) View) (r : Ruled table) (at : get_elem? table.views id ≡ some (View.Working v)) (stays : StaysAt r.course.state v.number k) (c : List (ℕ × Option Edition)) (a : Act (Option Edition))
+    → get_or table.words (k + 1) 0 < 18446744073709551616
+    → SlotsFit (homes_after table.homes c a) r.course.state.shelves (set r.course.state.workers v.number Worker.Idle) r.course.images r.loader.hand
+    → (known : Known) × Ruled (stepped table (k + 1) ((get_or table.words (k + 1) 0 + (18446744073709551616 - 1)) % 18446744073709551616) id c (View.Working (gone v known)) a) × Happened v.known (Event.Drop v.number) Reply.Dropped known × ShowsIn (gone v known)
+leaves_with id k v table r at stays c a small slots =
+    let s = r.course.state in let w = v.number in let n = get_or table.words (k + 1) 0 in
+    let kept : Kept s = kept_of r.course r.goes in
+    let f : WorkerFits r.course v = (r.seats.each id (View.Working v) at).2 in
+    let within = slice_get_within s.workers w _ f.shows.now in
+    let z = stays_fits s w k kept stays in
+    let t : State = departed s w k in
+    let e : Event = Event.Drop w in let reply : Reply = Reply.Dropped in
+    let is_step : Step s e reply t = (k, stays, refl) in
+    let rest : (j : ℕ) → j ≢ w → (slice_get t.workers j ≡ slice_get s.workers j) × (get_or t.seen j 0 ≡ get_or s.seen j 0) = λ j other. (slice_get-set_other s.workers w j Worker.Idle other, refl) in
+    let d : Course = extended r.course e reply t r.course.images in
+    let v' : WorkerView = gone v (all_of d) in
+    let fits : WorkerFits d v' = record {
+      shows = record { now = slice_get-set_same s.workers w Worker.Idle within; seen = f.shows.seen };
+      last = f.last;
+      passed = f.passed;
+      edition = refl;
+      known = begins_all d (Some w);
+    } in (
+      all_of d,
+      record {
+        course = d;
+        loader = r.loader;
+        goes = next_goes table r id v v' at refl e reply t refl is_step refl refl refl refl rest;
+        words = words_counted table.words k ((n + (18446744073709551616 - 1)) % 18446744073709551616) (get_or s.counts k 0 - 1) t.workers s kept r.words z.1 (word_falls table.words s k kept r.words z.1 z.2);
+        seats = next_seats table r id v v' at refl e reply t refl is_step refl refl refl refl rest fits;
+        slots = slots;
+      },
+      next_happened table r id v v' at refl e reply t refl is_step refl refl refl refl rest,
+      (t, next_goes table r id v v' at refl e reply t refl is_step refl refl refl refl rest, fits.shows),
+    )
+
+leaves_as : (slots id k : ℕ) (u : View) (c : List (ℕ × Option Edition)) → IsLate k u → Allows Ruled slots id (u, c) (k + 1) (λ n. (n + (18446744073709551616 - 1)) % 18446744073709551616) (λ _. Leaves (u, c))
+leaves_as slots id k (View.Loading l) c late table r full at fits = absurd late
+leaves_as slots id k (View.Working v) c late table r full at small =
+    let s = r.course.state in
+    let f : WorkerFits r.course v = (r.seats.each id (View.Working v) at).2 in
+    let here : slice_get s.workers v.number ≡ Some (Worker.Late k) = f.shows.now ∙ ap (λ (x : Worker). Some x) late in
+    let t = leaves_with id k v table r at (inl here) c keeps small (slots_worker table.homes s.shelves s.workers r.course.images r.loader.hand v.number (Worker.Late k) Worker.Idle here (λ j x q. cc) r.slots) in
+    (View.Working (gone v t.0), keeps, tt, t.1, (t.0, refl, t.2, t.3))
+
+pub leavings : (slots id k : ℕ) (me : Mine) → IsLate k me.0 → Allows Ruled slots id me (k + 1) (λ n. (n + (18446744073709551616 - 1)) % 18446744073709551616) (λ _. Leaves me)
+leavings slots id k me late = leaves_as slots id k me.0 me.1 late
+
+-- the shelf that a worker holds
+pub held_on : (shelves : List Shelf) (k version : ℕ) → version_on shelves k ≡ Some version → (y : Shelf) × (slice_get shelves k ≡ Some y) × (version_of y ≡ Some version)
+held_on [] k version e = absurd (cc)
+held_on (y ∷ ys) zero version e = (y, refl, e)
+held_on (y ∷ ys) (suc k) version e = held_on ys k version e
+
+held_shelf : (s : State) (w k version : ℕ) → Kept s → slice_get s.workers w ≡ Some (Worker.Holding k version) → (y : Shelf) × (slice_get s.shelves k ≡ Some y) × (version_of y ≡ Some version)
+held_shelf s w k version kept here = held_on s.shelves k version (held_known s w k version kept here).0
+
+-- a slot at home with the edition of the shelf's version
+fills : (y : Shelf) (images : List ImageValue) (ws : List Worker) (hand : Option ℕ) (k w version : ℕ) (edition : Option Edition) → version_of y ≡ Some version → IsEdition images version edition → SlotFits images ws hand y k w (some (some edition))
+fills Shelf.Free images ws hand k w version edition e its = absurd (cc)
+fills (Shelf.Open v) images ws hand k w version edition e its = let same : version ≡ v = cc in inl (edition, refl, subst (λ n. IsEdition images n edition) same its)
+fills (Shelf.Closing v) images ws hand k w version edition e its = let same : version ≡ v = cc in inl (edition, refl, subst (λ n. IsEdition images n edition) same its)
+
+gives_as : (slots id k version : ℕ) (v : WorkerView) → slots ≡ 128 → v.now ≡ Worker.Holding k version
+    → Allows Ruled slots id (View.Working v, (16 * k + v.number, v.edition) ∷ []) (k + 1) (λ n. (n + (18446744073709551616 - 1)) % 18446744073709551616) (λ _. GivesBack (View.Working v, (16 * k + v.number, v.edition) ∷ []))
+gives_as slots id k version v many now table r full at small =
+    let s = r.course.state in let w = v.number in let kept : Kept s = kept_of r.course r.goes in
+    let f : WorkerFits r.course v = (r.seats.each id (View.Working v) at).2 in
+    let here : slice_get s.workers w ≡ Some (Worker.Holding k version) = f.shows.now ∙ ap (λ (x : Worker). Some x) now in
+    let z = stays_fits s w k kept (inr (version, here)) in
+    let its : IsEdition r.course.images version v.edition = subst (λ (x : Worker). HasEdition r.course.images x v.edition) now f.edition in
+    let stands = held_shelf s w k version kept here in
+    let t = leaves_with id k v table r at (inr (version, here)) ((16 * k + w, v.edition) ∷ []) gives small
+    (slots_one table.homes s.shelves s.workers r.course.images r.loader.hand k w (Worker.Holding k version) Worker.Idle stands.0 (some v.edition) here
+    (λ j x ne q. ne (cc)) stands.1 z.0 (let a = z.0 in let b = z.1 in omega arith) (fills stands.0 r.course.images (set s.workers w Worker.Idle) r.loader.hand k w version v.edition stands.2 its) r.slots) in
+    (View.Working (gone v t.0), gives, tt, t.1, (t.0, refl, t.2, t.3))
+
+givings_as : (slots id k : ℕ) (u : View) (c : List (ℕ × Option Edition)) → slots ≡ 128 → HoldsOut k u c → Allows Ruled slots id (u, c) (k + 1) (λ n. (n + (18446744073709551616 - 1)) % 18446744073709551616) (λ _. GivesBack (u, c))
+givings_as slots id k (View.Loading l) c many h = absurd h
+givings_as slots id k (View.Working v) c many h =
+    subst (λ (x : List (ℕ × Option Edition)). Allows Ruled slots id (View.Working v, x) (k + 1) (λ n. (n + (18446744073709551616 - 1)) % 18446744073709551616) (λ _. GivesBack (View.Working v, x))) (sym h.2)
+    (gives_as slots id k h.0 v many h.1)
+
+pub givings : (slots id k : ℕ) (me : Mine) → slots ≡ 128 → HoldsOut k me.0 me.1 → Allows Ruled slots id me (k + 1) (λ n. (n + (18446744073709551616 - 1)) % 18446744073709551616) (λ _. GivesBack me)
+givings slots id k me many h = givings_as slots id k me.0 me.1 many h

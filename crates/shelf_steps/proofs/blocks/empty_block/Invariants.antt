@@ -1,0 +1,11 @@
+use Rattle.std.proofs.Common.{◌≡◌, ℕ, ◌+◌, ◌-◌, ◌*◌, [], ◌++◌, Option}
+use Rattle.shelf_steps.specs.declared.edition.Edition.{Edition}
+use Rattle.shelf_steps.specs.Slots.{down_from, nothings}
+use Rattle.shelf_steps.proofs.blocks.empty_block.Given as goal
+
+abbrev pub invariant-loop-i : goal.invariant-loop-i
+invariant-loop-i l = record {
+  table : l.loader.table ≡ l.fn.loader.table;
+  view : l.loader.me.0 ≡ l.fn.loader.me.0;
+  block : (f : ℕ → Option Edition) × (l.loader.me.1 ≡ down_from f (16 * l.shelf) (16 - l.i) [] ++ down_from nothings (16 * l.shelf + (16 - l.i)) l.i []);
+}

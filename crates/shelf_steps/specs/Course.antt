@@ -1,0 +1,57 @@
+-- What happened so far: one list of events with their replies, the state that it leads to, and the image of each version.
+use Rattle.std.specs.Prelude.{◌≡◌, ℕ, zero, suc, List, [], ◌∷◌, ◌++◌, length, slice_get, Option, Some, None}
+use Rattle.std.specs.Arc.{arc_value}
+use mathlib.Core.List.{IsPrefix}
+use Rattle.image_layout.specs.Image.{ImageValue}
+use Rattle.version_core.specs.declared.event.Event.{Event}
+use Rattle.version_core.specs.declared.event.Reply.{Reply}
+use Rattle.version_core.specs.State.{State, start, newest}
+use Rattle.version_core.specs.Runs.{Run}
+use Rattle.version_core.specs.Actors.{actor, NoneOf}
+use Rattle.shelf_steps.specs.declared.edition.Edition.{Edition}
+use Rattle.shelf_steps.specs.declared.views.Known.{Known}
+
+pub record Course : Type 0 where
+  pub state : State
+  pub events : List Event
+  pub replies : List Reply
+  pub images : List ImageValue
+
+-- the events lead from the start to the state, with the replies. Edition numbers are places in the list of images
+pub record Goes (c : Course) : Type 0 where
+  pub run : Run start c.events c.replies c.state
+  pub as_many : length c.images ≡ newest c.state
+  pub numbered : (i edition : ℕ) → slice_get c.state.editions i ≡ Some edition → edition ≡ i
+
+-- one event more
+abbrev pub extended : Course → Event → Reply → State → List ImageValue → Course
+extended c e r t images = record { state = t; events = c.events ++ e ∷ []; replies = c.replies ++ r ∷ []; images = images }
+
+abbrev pub all_of : Course → Known
+all_of c = record { events = c.events; replies = c.replies; images = c.images }
+
+abbrev pub leading_to : State → Known → Course
+leading_to s k = record { state = s; events = k.events; replies = k.replies; images = k.images }
+
+-- a beginning of what happened, behind which no event of this actor stands
+pub record Begins (k : Known) (a : Option ℕ) (c : Course) : Type 0 where
+  pub events : (rest : List Event) × (k.events ++ rest ≡ c.events) × NoneOf a rest
+  pub replies : IsPrefix k.replies c.replies
+  pub images : IsPrefix k.images c.images
+
+-- from one knowledge to the next: the event with this reply is the last that happened, and none of its actor stands between
+pub record Happened (before : Known) (e : Event) (r : Reply) (after : Known) : Type 0 where
+  pub state : State
+  pub goes : Goes (leading_to state after)
+  pub events : (rest : List Event) × (after.events ≡ (before.events ++ rest) ++ e ∷ []) × NoneOf (actor e) rest
+  pub replies : (rest : List Reply) × (after.replies ≡ (before.replies ++ rest) ++ r ∷ [])
+  pub images : IsPrefix before.images after.images
+
+-- the image of a version. Versions count from 1
+abbrev pub image_of : List ImageValue → ℕ → Option ImageValue
+image_of images zero = None
+image_of images (suc n) = slice_get images n
+
+-- the version with its image
+abbrev pub IsEdition : List ImageValue → ℕ → Option Edition → Type 0
+IsEdition images v edition = (e : Edition) × (edition ≡ Some e) × (e.version ≡ v) × (image_of images v ≡ Some (arc_value e.image))

@@ -1,0 +1,64 @@
+-- Each step is its event.
+use Rattle.std.specs.Prelude.{◌≡◌, ℕ, ◌/◌, ◌%◌, ◌<◌, ◌⊎◌}
+use mathlib.Core.Option.{some}
+use lib.ListN.{get_elem?}
+use Rattle.version_core.specs.declared.event.Event.{Event}
+use Rattle.version_core.specs.declared.event.Reply.{Reply}
+use Rattle.shelf_steps.specs.declared.views.Known.{Known}
+use Rattle.shelf_steps.specs.declared.views.LoaderView.{LoaderView}
+use Rattle.shelf_steps.specs.declared.views.View.{View}
+use Rattle.shelf_steps.specs.Course.{Happened}
+use Rattle.shelf_steps.specs.Ruled.{Ruled}
+use Rattle.shelf_steps.specs.Plays.{OfWorker, Mine, Looks, Takes, Leaves, GivesBack, OpensOn, PublishesOn, ClosesOn, CollectsOn, GathersOn, PutsBackOn, IsLate}
+use Rattle.shelf_steps.specs.Laws.{Shelved, IsLoader}
+
+-- what a seat knows of the past
+abbrev pub known_of : View → Known
+known_of (View.Loading l) = l.known
+known_of (View.Working v) = v.known
+
+-- from one view to the next: the event, answered so, is the last that is known, and nothing of the seat's own stands between
+abbrev pub IsEvent : View → Event → Reply → View → Type 0
+IsEvent u e r u' = Happened (known_of u) e r (known_of u')
+
+-- the same of the worker whose seat it is
+abbrev pub IsWorkers : (ℕ → Event) → Reply → View → View → Type 0
+IsWorkers e r u u' = (w : ℕ) × OfWorker u (λ v. v.number ≡ w) × OfWorker u' (λ v. v.number ≡ w) × IsEvent u (e w) r u'
+
+abbrev pub LooksAreEvents : Type 0
+LooksAreEvents = (m m' : Mine) (n : ℕ) → Looks m n m' → IsWorkers Event.Look (Reply.Looked (n / 8) (n % 8)) m.0 m'.0
+
+abbrev pub TakesAreEvents : Type 0
+TakesAreEvents = (m m' : Mine) (n : ℕ) → Takes m n m' → ((version : ℕ) × IsWorkers Event.Take (Reply.Holds version) m.0 m'.0) ⊎ IsWorkers Event.Take Reply.Late m.0 m'.0
+
+abbrev pub DropsAreEvents : Type 0
+DropsAreEvents = (m m' : Mine) → Leaves m m' ⊎ GivesBack m m' → IsWorkers Event.Drop Reply.Dropped m.0 m'.0
+
+abbrev pub OpensAreEvents : Type 0
+OpensAreEvents = (m m' : Mine) (k : ℕ) → OpensOn k m m' → (edition version : ℕ) × IsEvent m.0 (Event.Open edition) (Reply.Opened version k) m'.0
+
+abbrev pub PublishesAreEvents : Type 0
+PublishesAreEvents = (m m' : Mine) (version k : ℕ) → PublishesOn version k m m' → IsEvent m.0 Event.Publish (Reply.Published version) m'.0
+
+abbrev pub ClosesAreEvents : Type 0
+ClosesAreEvents = (m m' : Mine) (k : ℕ) → ClosesOn k m m' → IsEvent m.0 (Event.Close k) Reply.Closing m'.0
+
+abbrev pub CollectsAreEvents : Type 0
+CollectsAreEvents =
+    (m m' : Mine) (k version n : ℕ) → CollectsOn k version n m m'
+    → IsEvent m.0 (Event.Collect k) Reply.Freed m'.0 ⊎ IsEvent m.0 (Event.Collect k) (Reply.Busy (n % 256)) m'.0
+
+-- the slots of a free shelf are moved by tries at it, which have no place
+abbrev pub SpareTriesAreEvents : Type 0
+SpareTriesAreEvents = (m m' : Mine) (k : ℕ) → GathersOn k m m' ⊎ PutsBackOn k m m' → IsEvent m.0 (Event.Collect k) Reply.NotNow m'.0
+
+-- a look followed by a take that comes late: wherever the rule holds and the seat still has this view, the version that was looked at is no longer current
+abbrev pub LateTakesTell : Type 0
+LateTakesTell =
+    (m m1 m2 : Mine) (n word : ℕ) → Looks m n m1 → Takes m1 word m2 → IsLate (n % 8) m2.0
+    → (table : Shelved) (l : LoaderView) (i : ℕ) → Ruled table → IsLoader table l → get_elem? table.views i ≡ some m2.0 → n / 8 < l.current
+
+-- and the next look, after the drop, finds a greater one
+abbrev pub LateTakesRise : Type 0
+LateTakesRise =
+    (m m1 m2 m3 m4 : Mine) (n word n' : ℕ) → Looks m n m1 → Takes m1 word m2 → IsLate (n % 8) m2.0 → Leaves m2 m3 → Looks m3 n' m4 → n / 8 < n' / 8

@@ -1,0 +1,11 @@
+pub mod Course
+pub mod Seats
+pub mod Slots
+pub mod Plays
+pub mod Ruled
+pub mod Pinning
+pub mod Blocks
+pub mod Loading
+pub mod Handed
+pub mod Laws
+pub mod Events

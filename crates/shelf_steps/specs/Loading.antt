@@ -1,0 +1,64 @@
+-- What a load does to the loader's view, told by what happened.
+use Rattle.image_layout.specs.Image.{ImageValue}
+use Rattle.std.specs.Prelude.{◌≡◌, ℕ, ◌+◌, ◌<◌, [], ◌∷◌, ◌++◌, slice_get, slice_set, Some, None}
+use Rattle.version_core.specs.declared.event.Event.{Event}
+use Rattle.version_core.specs.declared.event.Reply.{Reply}
+use Rattle.version_core.specs.declared.state.Shelf.{Shelf}
+use Rattle.shelf_steps.specs.declared.views.Known.{Known}
+use Rattle.shelf_steps.specs.declared.views.LoaderView.{LoaderView}
+use Rattle.shelf_steps.specs.declared.views.View.{View}
+use Rattle.shelf_steps.specs.Course.{Happened}
+use Rattle.shelf_steps.specs.Plays.{OfLoader, newest_of}
+
+-- the loader is at rest, this shelf is free, the version is the next, and that of the shelf before is current
+pub record MayLoad (shelf version before : ℕ) (l : LoaderView) : Type 0 where
+  pub free : slice_get l.shelves shelf ≡ Some Shelf.Free
+  pub empty : l.hand ≡ None
+  pub current : l.current ≡ newest_of l
+  pub next : version ≡ newest_of l + 1
+  pub before_is : before ≡ l.current_shelf
+  pub before_open : slice_get l.shelves before ≡ Some (Shelf.Open l.current)
+
+-- the slots were gathered, the shelf opened with the image, its version made current, and the shelf before closed
+pub record Loaded (a : LoaderView) (image : ImageValue) (version shelf before : ℕ) (b : LoaderView) : Type 0 where
+  pub gathered : Known
+  pub opened : Known
+  pub published : Known
+  pub gather : Happened a.known (Event.Collect shelf) Reply.NotNow gathered
+  pub opening : Happened gathered (Event.Open (newest_of a)) (Reply.Opened version shelf) opened
+  pub publish : Happened opened Event.Publish (Reply.Published version) published
+  pub close : Happened published (Event.Close before) Reply.Closing b.known
+  pub images : b.known.images ≡ a.known.images ++ image ∷ []
+  pub current : (b.current ≡ version) × (b.current_shelf ≡ shelf)
+  pub shelves : b.shelves ≡ slice_set (slice_set a.shelves shelf (Shelf.Open version)) before (Shelf.Closing a.current)
+  pub handed : b.handed ≡ a.handed
+  pub hand : b.hand ≡ None
+
+abbrev pub Loads : ℕ → ℕ → ℕ → ImageValue → View → View → Type 0
+Loads shelf version before image u u' = OfLoader u (λ a. OfLoader u' (λ b. Loaded a image version shelf before b))
+
+-- a closing shelf is free, with its slots at home and empty, or the count was above 0
+pub record Freed (a : LoaderView) (shelf : ℕ) (b : LoaderView) : Type 0 where
+  pub freed : Known
+  pub collect : Happened a.known (Event.Collect shelf) Reply.Freed freed
+  pub put_back : Happened freed (Event.Collect shelf) Reply.NotNow b.known
+  pub images : b.known.images ≡ a.known.images
+  pub current : (b.current ≡ a.current) × (b.current_shelf ≡ a.current_shelf)
+  pub shelves : b.shelves ≡ slice_set a.shelves shelf Shelf.Free
+  pub handed : b.handed ≡ a.handed
+  pub hand : b.hand ≡ None
+
+pub record FoundBusy (a : LoaderView) (shelf count : ℕ) (b : LoaderView) : Type 0 where
+  pub collect : Happened a.known (Event.Collect shelf) (Reply.Busy count) b.known
+  pub some_one : 0 < count
+  pub images : b.known.images ≡ a.known.images
+  pub current : (b.current ≡ a.current) × (b.current_shelf ≡ a.current_shelf)
+  pub shelves : b.shelves ≡ a.shelves
+  pub handed : b.handed ≡ a.handed
+  pub hand : b.hand ≡ None
+
+abbrev pub Frees : ℕ → View → View → Type 0
+Frees shelf u u' = OfLoader u (λ a. OfLoader u' (λ b. Freed a shelf b))
+
+abbrev pub FindsBusy : ℕ → ℕ → View → View → Type 0
+FindsBusy shelf count u u' = OfLoader u (λ a. OfLoader u' (λ b. FoundBusy a shelf count b))

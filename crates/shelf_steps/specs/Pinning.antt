@@ -1,0 +1,91 @@
+-- What a pin does to the worker's view, told by what happened.
+use Rattle.std.specs.Prelude.{◌≡◌, ℕ, ◌+◌, ◌*◌, ◌<◌, ◌≤◌, true, List, [], ◌∷◌, ◌++◌, length, Option, Some, None}
+use Rattle.version_core.specs.declared.event.Event.{Event}
+use Rattle.version_core.specs.declared.event.Reply.{Reply}
+use Rattle.version_core.specs.declared.state.Worker.{Worker}
+use Rattle.shelf_steps.specs.declared.edition.Edition.{Edition}
+use Rattle.shelf_steps.specs.declared.views.Known.{Known}
+use Rattle.shelf_steps.specs.declared.views.WorkerView.{WorkerView}
+use Rattle.shelf_steps.specs.declared.views.View.{View}
+use Rattle.shelf_steps.specs.Course.{Happened, IsEdition}
+use Rattle.shelf_steps.specs.Plays.{OfWorker, Mine, ShowsIn}
+
+-- a look finds the version, at least all that was seen, and greater than one that was found late
+pub record LookedOnce (a : WorkerView) (n shelf : ℕ) (looked : Known) : Type 0 where
+  pub from : a.seen ≤ n
+  pub above : a.passed ≡ true → a.last < n
+  pub happened : Happened a.known (Event.Look a.number) (Reply.Looked n shelf) looked
+
+-- a look, a take that comes late, and a drop
+pub record TriedLate (a : WorkerView) (n : ℕ) (b : WorkerView) : Type 0 where
+  pub shelf : ℕ
+  pub looked : Known
+  pub taken : Known
+  pub look : LookedOnce a n shelf looked
+  pub take : Happened looked (Event.Take a.number) Reply.Late taken
+  pub drop : Happened taken (Event.Drop a.number) Reply.Dropped b.known
+  pub number : b.number ≡ a.number
+  pub now : b.now ≡ Worker.Idle
+  pub seen : b.seen ≡ n
+  pub last : (b.last ≡ n) × (b.passed ≡ true)
+  pub shows : ShowsIn b
+
+-- a look and a take that finds the version there: its edition is held, which is that version's in what the worker now knows
+pub record TriedWell (a : WorkerView) (n shelf : ℕ) (e : Edition) (b : WorkerView) : Type 0 where
+  pub looked : Known
+  pub look : LookedOnce a n shelf looked
+  pub take : Happened looked (Event.Take a.number) (Reply.Holds n) b.known
+  pub number : b.number ≡ a.number
+  pub now : b.now ≡ Worker.Holding shelf n
+  pub seen : b.seen ≡ n
+  pub edition : b.edition ≡ Some e
+  pub its : IsEdition b.known.images n (Some e)
+  pub shows : ShowsIn b
+
+abbrev pub Late : View → ℕ → View → Type 0
+Late u n u' = OfWorker u (λ a. OfWorker u' (λ b. TriedLate a n b))
+
+abbrev pub Well : View → ℕ → ℕ → Edition → View → Type 0
+Well u n shelf e u' = OfWorker u (λ a. OfWorker u' (λ b. TriedWell a n shelf e b))
+
+-- one try after another came late, at these versions
+abbrev pub Lates : View → List ℕ → View → Type 0
+Lates u [] u' = u' ≡ u
+Lates u (n ∷ ns) u' = (mid : View) × Late u n mid × Lates mid ns u'
+
+-- each is greater than the one before
+abbrev pub IsRising : List ℕ → Type 0
+IsRising [] = Unit {0}
+IsRising (n ∷ []) = Unit {0}
+IsRising (n ∷ m ∷ ns) = (n < m) × IsRising (m ∷ ns)
+
+-- the worker's slot of the shelf is out with it, empty, since the edition is in hand
+abbrev pub SlotOut : ℕ → View → List (ℕ × Option Edition) → Type 0
+SlotOut shelf u c = OfWorker u (λ a. c ≡ (16 * shelf + a.number, None) ∷ [])
+
+-- at most three late tries and one that held: the looks rise, and the last found the version that is held
+abbrev pub Pins : View → ℕ → ℕ → Edition → View → Type 0
+Pins u n shelf e u' = (ns : List ℕ) × (length ns < 4) × (mid : View) × Lates u ns mid × Well mid n shelf e u' × IsRising (ns ++ n ∷ [])
+
+-- four late tries, whose looks rise
+abbrev pub Moves : View → ℕ → View → Type 0
+Moves u n u' = (i j k : ℕ) × Lates u (i ∷ j ∷ k ∷ n ∷ []) u' × (i < j) × (j < k) × (k < n)
+
+-- an idle worker with this number and no slot
+abbrev pub IsIdleAs : ℕ → Mine → Type 0
+IsIdleAs number m = OfWorker m.0 (λ a. (a.now ≡ Worker.Idle) × (a.number ≡ number)) × (m.1 ≡ [])
+
+-- the worker holds the shelf with the edition in hand
+abbrev pub IsHoldingAs : ℕ → ℕ → Edition → Mine → Type 0
+IsHoldingAs number shelf e m = OfWorker m.0 (λ a. (a.now ≡ Worker.Holding shelf e.version) × (a.number ≡ number) × (a.edition ≡ Some e)) × (m.1 ≡ (16 * shelf + number, None) ∷ [])
+
+-- one drop, and the worker is idle
+pub record LetGo (a b : WorkerView) : Type 0 where
+  pub happened : Happened a.known (Event.Drop a.number) Reply.Dropped b.known
+  pub number : b.number ≡ a.number
+  pub now : b.now ≡ Worker.Idle
+  pub seen : b.seen ≡ a.seen
+  pub shows : ShowsIn b
+
+abbrev pub Releases : View → View → Type 0
+Releases u u' = OfWorker u (λ a. OfWorker u' (λ b. LetGo a b))

@@ -1,0 +1,226 @@
+-- What each step tells the seat that makes it.
+use Rattle.image_layout.specs.Image.{ImageValue}
+use Rattle.std.specs.Prelude.{◌≡◌, ℕ, ◌+◌, ◌*◌, ◌/◌, ◌%◌, ◌<◌, ◌≤◌, ◌==◌, ◌&&◌, Bool, true, false, List, [], ◌∷◌, ◌++◌, Option, Some, None, length, slice_get, slice_set}
+use Rattle.std.specs.Arc.{arc_value}
+use Rattle.atomic_table.specs.Table.{Me, Step}
+use Rattle.atomic_table.specs.Seated.{TableId}
+use Rattle.version_core.specs.State.{State}
+use Rattle.version_core.specs.Shown.{WorkerShows}
+use Rattle.version_core.specs.declared.event.Event.{Event}
+use Rattle.version_core.specs.declared.event.Reply.{Reply}
+use Rattle.version_core.specs.declared.state.Worker.{Worker}
+use Rattle.version_core.specs.declared.state.Shelf.{Shelf}
+use Rattle.shelf_steps.specs.declared.edition.Edition.{Edition}
+use Rattle.shelf_steps.specs.declared.views.Known.{Known}
+use Rattle.shelf_steps.specs.declared.views.WorkerView.{WorkerView}
+use Rattle.shelf_steps.specs.declared.views.LoaderView.{LoaderView}
+use Rattle.shelf_steps.specs.declared.views.View.{View}
+use Rattle.shelf_steps.specs.Course.{Goes, leading_to, Happened, IsEdition}
+use Rattle.shelf_steps.specs.Slots.{down_from, nothings}
+
+-- what holds of a worker's view
+abbrev pub OfWorker : View → (WorkerView → Type 0) → Type 0
+OfWorker (View.Loading l) P = ⊥
+OfWorker (View.Working v) P = P v
+
+-- what a seat knows, with the slots that are out with it
+abbrev pub Mine : Type 0
+Mine = Me (Option Edition) View
+
+-- a seat, and the table that it is at
+pub record PlaceValue : Type 0 where
+  pub table : TableId
+  pub me : Mine
+
+-- after a look that found this word
+abbrev pub looked_at : WorkerView → ℕ → Known → WorkerView
+looked_at v n known = record { number = v.number; now = Worker.Looked (n / 8) (n % 8); seen = n / 8; last = n / 8; passed = false; edition = None; known = known }
+
+-- the shelf's word says that it is open with the version
+abbrev pub is_open : ℕ → ℕ → Bool
+is_open n version = (n / 256 % 4 == 1) && (n / 65536 == version)
+
+abbrev pub holding : WorkerView → ℕ → ℕ → Edition → Known → WorkerView
+holding v k version e known = record { number = v.number; now = Worker.Holding k version; seen = v.seen; last = v.last; passed = v.passed; edition = Some e; known = known }
+
+abbrev pub come_late : WorkerView → ℕ → Known → WorkerView
+come_late v k known = record { number = v.number; now = Worker.Late k; seen = v.seen; last = v.last; passed = true; edition = None; known = known }
+
+abbrev pub gone : WorkerView → Known → WorkerView
+gone v known = record { number = v.number; now = Worker.Idle; seen = v.seen; last = v.last; passed = v.passed; edition = None; known = known }
+
+-- in the history that is known, the worker is doing this, and has seen this
+abbrev pub ShowsIn : WorkerView → Type 0
+ShowsIn v = (s : State) × Goes (leading_to s v.known) × WorkerShows v.number v.now v.seen s
+
+-- the version looked at is at least all that was seen, and greater than one that was found late
+abbrev pub Looks : Mine → ℕ → Mine → Type 0
+Looks m n m' = OfWorker m.0 (λ v.
+    (known : Known) × (m' ≡ (View.Working (looked_at v n known), m.1))
+    × Happened v.known (Event.Look v.number) (Reply.Looked (n / 8) (n % 8)) known
+    × (v.seen ≤ n / 8) × (v.passed ≡ true → v.last < n / 8) × ShowsIn (looked_at v n known))
+
+-- whether the shelf was found open with the version that was looked at. Only then is it held, with its edition in the slot
+abbrev pub TakesFound : WorkerView → List (ℕ × Option Edition) → ℕ → ℕ → Bool → Mine → Type 0
+TakesFound v c version k true m' =
+    (e : Edition) × (known : Known) × (m' ≡ (View.Working (holding v k version e known), (16 * k + v.number, Some e) ∷ c))
+    × Happened v.known (Event.Take v.number) (Reply.Holds version) known × IsEdition known.images version (Some e) × ShowsIn (holding v k version e known)
+TakesFound v c version k false m' =
+    (known : Known) × (m' ≡ (View.Working (come_late v k known), c)) × Happened v.known (Event.Take v.number) Reply.Late known × ShowsIn (come_late v k known)
+
+abbrev pub TakesAs : WorkerView → List (ℕ × Option Edition) → Worker → ℕ → Mine → Type 0
+TakesAs v c (Worker.Looked version k) n m' = TakesFound v c version k (is_open n version) m'
+TakesAs v c _ n m' = ⊥
+
+abbrev pub Takes : Mine → ℕ → Mine → Type 0
+Takes m n m' = OfWorker m.0 (λ v. TakesAs v m.1 v.now n m')
+
+abbrev pub Leaves : Mine → Mine → Type 0
+Leaves m m' = OfWorker m.0 (λ v. (known : Known) × (m' ≡ (View.Working (gone v known), m.1)) × Happened v.known (Event.Drop v.number) Reply.Dropped known × ShowsIn (gone v known))
+
+-- the slot goes back with it
+abbrev pub GivesBack : Mine → Mine → Type 0
+GivesBack m m' = OfWorker m.0 (λ v. (known : Known) × (m' ≡ (View.Working (gone v known), [])) × Happened v.known (Event.Drop v.number) Reply.Dropped known × ShowsIn (gone v known))
+
+abbrev pub IsIdle : View → Type 0
+IsIdle u = OfWorker u (λ v. v.now ≡ Worker.Idle)
+
+-- the worker has looked, and saw this shelf
+abbrev pub HasLooked : ℕ → View → Type 0
+HasLooked k u = OfWorker u (λ v. (version : ℕ) × (v.now ≡ Worker.Looked version k))
+
+abbrev pub IsLate : ℕ → View → Type 0
+IsLate k u = OfWorker u (λ v. v.now ≡ Worker.Late k)
+
+-- the worker holds the shelf, and has its slot of it out, with the edition in it
+abbrev pub HoldsOut : ℕ → View → List (ℕ × Option Edition) → Type 0
+HoldsOut k u c = OfWorker u (λ v. (version : ℕ) × (v.now ≡ Worker.Holding k version) × (c ≡ (16 * k + v.number, v.edition) ∷ []))
+
+-- what holds of the loader's view
+abbrev pub OfLoader : View → (LoaderView → Type 0) → Type 0
+OfLoader (View.Loading l) P = P l
+OfLoader (View.Working v) P = ⊥
+
+-- the version that was opened last
+abbrev pub newest_of : LoaderView → ℕ
+newest_of l = length l.known.images
+
+abbrev pub with_open : LoaderView → ℕ → ℕ → Known → LoaderView
+with_open l k version known = record { handed = l.handed; current = l.current; current_shelf = l.current_shelf; shelves = slice_set l.shelves k (Shelf.Open version); hand = None; known = known }
+
+abbrev pub with_current : LoaderView → ℕ → ℕ → Known → LoaderView
+with_current l version k known = record { handed = l.handed; current = version; current_shelf = k; shelves = l.shelves; hand = l.hand; known = known }
+
+abbrev pub with_closing : LoaderView → ℕ → ℕ → Known → LoaderView
+with_closing l k version known = record { handed = l.handed; current = l.current; current_shelf = l.current_shelf; shelves = slice_set l.shelves k (Shelf.Closing version); hand = l.hand; known = known }
+
+abbrev pub with_free : LoaderView → ℕ → Known → LoaderView
+with_free l k known = record { handed = l.handed; current = l.current; current_shelf = l.current_shelf; shelves = slice_set l.shelves k Shelf.Free; hand = Some k; known = known }
+
+abbrev pub with_hand : LoaderView → Option ℕ → Known → LoaderView
+with_hand l hand known = record { handed = l.handed; current = l.current; current_shelf = l.current_shelf; shelves = l.shelves; hand = hand; known = known }
+
+-- the slot has this version with this image
+abbrev pub HasImage : ℕ → ImageValue → Option Edition → Type 0
+HasImage version image edition = (e : Edition) × (edition ≡ Some e) × (e.version ≡ version) × (arc_value e.image ≡ image)
+
+-- the sixteen slots of the shelf k, the last of which lies at the front
+abbrev pub IsBlock : (ℕ → Option Edition) → ℕ → List (ℕ × Option Edition) → Type 0
+IsBlock f k c = c ≡ down_from f (16 * k) 16 []
+
+abbrev pub AllHave : ℕ → ImageValue → ℕ → (ℕ → Option Edition) → Type 0
+AllHave version image k f = (j : ℕ) → 16 * k ≤ j → j < 16 * k + 16 → HasImage version image (f j)
+
+-- the event is the loader's last, and no image is new
+abbrev pub Noted : LoaderView → Event → Reply → Known → Type 0
+Noted l e r known = Happened l.known e r known × (known.images ≡ l.known.images)
+
+-- the image that the block has becomes the next version
+abbrev pub OpensOn : ℕ → Mine → Mine → Type 0
+OpensOn k m m' = OfLoader m.0 (λ l.
+    (image : ImageValue) × (f : ℕ → Option Edition) × (known : Known) × IsBlock f k m.1 × AllHave (newest_of l + 1) image k f
+    × (m' ≡ (View.Loading (with_open l k (newest_of l + 1) known), []))
+    × Happened l.known (Event.Open (newest_of l)) (Reply.Opened (newest_of l + 1) k) known × (known.images ≡ l.known.images ++ image ∷ []))
+
+abbrev pub Opens : Step (Option Edition) → Mine → ℕ → Mine → Type 0
+Opens st m n m' = (k : ℕ) × (st.word ≡ k + 1) × OpensOn k m m'
+
+abbrev pub PublishesOn : ℕ → ℕ → Mine → Mine → Type 0
+PublishesOn version k m m' = OfLoader m.0 (λ l. (known : Known) × (m' ≡ (View.Loading (with_current l version k known), m.1)) × Noted l Event.Publish (Reply.Published version) known)
+
+abbrev pub Publishes : Step (Option Edition) → Mine → ℕ → Mine → Type 0
+Publishes st m n m' = (version k : ℕ) × (st.first ≡ 8 * version + k) × (k < 8) × PublishesOn version k m m'
+
+abbrev pub ClosesOn : ℕ → Mine → Mine → Type 0
+ClosesOn k m m' = OfLoader m.0 (λ l.
+    (version : ℕ) × (known : Known) × (slice_get l.shelves k ≡ Some (Shelf.Open version)) × (m' ≡ (View.Loading (with_closing l k version known), m.1)) × Noted l (Event.Close k) Reply.Closing known)
+
+abbrev pub Closes : Step (Option Edition) → Mine → ℕ → Mine → Type 0
+Closes st m n m' = (k : ℕ) × (st.word ≡ k + 1) × ClosesOn k m m'
+
+-- the shelf is free and its slots are out with the loader, or the count was above 0
+abbrev pub CollectsFound : LoaderView → ℕ → ℕ → ℕ → Bool → Mine → Type 0
+CollectsFound l k version n true m' =
+    (f : ℕ → Option Edition) × (known : Known) × (m' ≡ (View.Loading (with_free l k known), down_from f (16 * k) 16 []))
+    × Noted l (Event.Collect k) Reply.Freed known
+CollectsFound l k version n false m' =
+    (known : Known) × (m' ≡ (View.Loading (with_hand l None known), [])) × Noted l (Event.Collect k) (Reply.Busy (n % 256)) known × (0 < n % 256)
+
+abbrev pub CollectsOn : ℕ → ℕ → ℕ → Mine → Mine → Type 0
+CollectsOn k version n m m' = OfLoader m.0 (λ l. CollectsFound l k version n (n == 512 + 65536 * version) m')
+
+abbrev pub Collects : Step (Option Edition) → Mine → ℕ → Mine → Type 0
+Collects st m n m' = (k version : ℕ) × (st.word ≡ k + 1) × (st.first ≡ 512 + 65536 * version) × CollectsOn k version n m m'
+
+-- the empty slots of a free shelf go out with the loader
+abbrev pub GathersOn : ℕ → Mine → Mine → Type 0
+GathersOn k m m' = OfLoader m.0 (λ l. (known : Known) × (m' ≡ (View.Loading (with_hand l (Some k) known), down_from nothings (16 * k) 16 [])) × Noted l (Event.Collect k) Reply.NotNow known)
+
+abbrev pub Gathers : Step (Option Edition) → Mine → ℕ → Mine → Type 0
+Gathers st m n m' = (k : ℕ) × (st.word ≡ k + 1) × GathersOn k m m'
+
+-- and come home
+abbrev pub PutsBackOn : ℕ → Mine → Mine → Type 0
+PutsBackOn k m m' = OfLoader m.0 (λ l. (known : Known) × (m' ≡ (View.Loading (with_hand l None known), [])) × Noted l (Event.Collect k) Reply.NotNow known)
+
+abbrev pub PutsBack : Step (Option Edition) → Mine → ℕ → Mine → Type 0
+PutsBack st m n m' = (k : ℕ) × (st.word ≡ k + 1) × PutsBackOn k m m'
+
+-- what each step of the loader asks of its view and its slots
+abbrev pub MayOpenOn : ℕ → ℕ → View → List (ℕ × Option Edition) → Type 0
+MayOpenOn k version u c = OfLoader u (λ l.
+    (slice_get l.shelves k ≡ Some Shelf.Free) × (l.hand ≡ Some k) × (l.current ≡ newest_of l) × (version ≡ newest_of l + 1) × (version ≤ 1000000000)
+    × ((image : ImageValue) × (f : ℕ → Option Edition) × IsBlock f k c × AllHave version image k f))
+
+abbrev pub MayPublish : ℕ → ℕ → View → Type 0
+MayPublish version k u = OfLoader u (λ l. (slice_get l.shelves k ≡ Some (Shelf.Open version)) × (l.current < version))
+
+abbrev pub MayClose : ℕ → View → Type 0
+MayClose k u = OfLoader u (λ l. (version : ℕ) × (slice_get l.shelves k ≡ Some (Shelf.Open version)) × (version < l.current))
+
+abbrev pub MayCollect : ℕ → ℕ → View → List (ℕ × Option Edition) → Type 0
+MayCollect k version u c = OfLoader u (λ l. (slice_get l.shelves k ≡ Some (Shelf.Closing version)) × (l.hand ≡ None) × (c ≡ []))
+
+abbrev pub MayGather : ℕ → View → List (ℕ × Option Edition) → Type 0
+MayGather k u c = OfLoader u (λ l. (slice_get l.shelves k ≡ Some Shelf.Free) × (l.hand ≡ None) × (c ≡ []))
+
+abbrev pub MayPutBack : ℕ → View → List (ℕ × Option Edition) → Type 0
+MayPutBack k u c = OfLoader u (λ l. (slice_get l.shelves k ≡ Some Shelf.Free) × (l.hand ≡ Some k) × IsBlock nothings k c)
+
+-- a worker that has done nothing and knows nothing
+abbrev pub newcomer : ℕ → WorkerView
+newcomer w = record { number = w; now = Worker.Idle; seen = 0; last = 0; passed = false; edition = None; known = record { events = []; replies = []; images = [] } }
+
+abbrev pub one_more : LoaderView → LoaderView
+one_more l = record { handed = l.handed + 1; current = l.current; current_shelf = l.current_shelf; shelves = l.shelves; hand = l.hand; known = l.known }
+
+abbrev pub keeps_loading : View → View
+keeps_loading (View.Loading l) = View.Loading (one_more l)
+keeps_loading (View.Working v) = View.Working v
+
+abbrev pub new_worker_view : View → View
+new_worker_view (View.Loading l) = View.Working (newcomer l.handed)
+new_worker_view (View.Working v) = View.Working v
+
+abbrev pub MayHandOut : View → Type 0
+MayHandOut u = OfLoader u (λ l. l.handed < 16)

@@ -1,0 +1,39 @@
+-- Where the slots are. For each shelf and worker there is one, 16 to a shelf.
+use Rattle.image_layout.specs.Image.{ImageValue}
+use Rattle.std.specs.Prelude.{◌≡◌, ◌≢◌, ℕ, zero, suc, ◌+◌, ◌*◌, ◌<◌, ◌⊎◌, List, ◌∷◌, Option, Some, None, slice_get}
+use mathlib.Core.Option.{Option as Maybe, some, none}
+use lib.ListN.{get_elem?}
+use Rattle.version_core.specs.declared.state.Shelf.{Shelf}
+use Rattle.version_core.specs.declared.state.Worker.{Worker}
+use Rattle.shelf_steps.specs.declared.edition.Edition.{Edition}
+use Rattle.shelf_steps.specs.Course.{IsEdition}
+
+-- a slot: it is none where it's out with a seat
+abbrev pub Slot : Type 0
+Slot = Maybe (Maybe (Option Edition))
+
+-- the slot is at home with the version's edition, or out with its own worker, who holds the shelf
+abbrev pub IsFilled : List ImageValue → List Worker → ℕ → ℕ → ℕ → Slot → Type 0
+IsFilled images workers k w v slot =
+    ((x : Option Edition) × (slot ≡ some (some x)) × IsEdition images v x)
+    ⊎ ((slot ≡ some none) × (slice_get workers w ≡ Some (Worker.Holding k v)))
+
+-- the slot is at home and empty, or out with the loader
+abbrev pub IsSpare : Option ℕ → ℕ → Slot → Type 0
+IsSpare hand k slot = ((hand ≢ Some k) × (slot ≡ some (some None))) ⊎ ((hand ≡ Some k) × (slot ≡ some none))
+
+abbrev pub SlotFits : List ImageValue → List Worker → Option ℕ → Shelf → ℕ → ℕ → Slot → Type 0
+SlotFits images workers hand Shelf.Free k w slot = IsSpare hand k slot
+SlotFits images workers hand (Shelf.Open v) k w slot = IsFilled images workers k w v slot
+SlotFits images workers hand (Shelf.Closing v) k w slot = IsFilled images workers k w v slot
+
+abbrev pub SlotsFit : List (Maybe (Option Edition)) → List Shelf → List Worker → List ImageValue → Option ℕ → Type 0
+SlotsFit homes shelves workers images hand = (k w : ℕ) (x : Shelf) → slice_get shelves k ≡ Some x → w < 16 → SlotFits images workers hand x k w (get_elem? homes (16 * k + w))
+
+-- n slots with their values, from k + n - 1 down to k, before those of c
+abbrev pub down_from : {S : Type 0} → (ℕ → S) → ℕ → ℕ → List (ℕ × S) → List (ℕ × S)
+down_from f k zero c = c
+down_from f k (suc n) c = (k + n, f (k + n)) ∷ down_from f k n c
+
+abbrev pub nothings : ℕ → Option Edition
+nothings j = None

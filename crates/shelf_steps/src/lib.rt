@@ -1,0 +1,29 @@
+//! Shelves of versions as nine words and 128 slots. Each step on a word keeps one rule and is one event of the table of
+//! versions, whatever other seats do meanwhile.
+//!
+//! The first word has the current version and its shelf, each of the others a shelf: what it is for, its version, and how many
+//! workers are at it. For each shelf and worker there is a slot that has that worker's edition.
+//!
+//! The table's own type is closed to all others: steps are those of the module `laws`, and there is no other.
+#![tactic(auto)]
+
+mod blocks;
+mod edition;
+pub mod laws;
+mod loader_steps;
+mod loading;
+mod opening;
+mod pinning;
+mod places;
+mod rule;
+mod views;
+mod worker_steps;
+
+pub use blocks::editions_of;
+pub use edition::Edition;
+pub use loading::{load, try_shelf};
+pub use opening::open_shelves;
+pub use pinning::{pin, release};
+pub use places::{Place, ShelfTable};
+pub use views::{Known, LoaderView, View, WorkerView};
+

@@ -1,0 +1,87 @@
+//! The opening: version 1 is current on shelf 0, and sixteen idle workers have seats.
+ghost use Rattle.std.specs.Prelude.{◌≡◌, ◌<◌, [], IfOk};
+ghost use Rattle.std.specs.Arc.{arc_value};
+ghost use Rattle.shelf_steps.specs.Ruled.{first_loader, FirstSlot, FirstSlots};
+ghost use Rattle.shelf_steps.specs.Plays.{keeps_loading, new_worker_view, MayHandOut};
+ghost use Rattle.shelf_steps.specs.Handed.{handed, PlacesHanded};
+ghost use Rattle.shelf_steps.specs.declared.views.View.{View};
+
+use crate::edition::Edition;
+use crate::places::{Place, ShelfTable};
+use crate::rule::HandingOut;
+use atomic_table::Table;
+use image_verifier::Verified;
+use std::alloc::{AllocError, Global};
+use std::sync::Arc;
+
+/// A new table with the image as version 1, the loader's seat, and the seats of sixteen idle workers, numbered from 0. It takes
+/// memory; no other call but `editions_of` does.
+pub fn open_shelves(
+    alloc: Global,
+    first: &Arc<Verified, Global>,
+) -> Result<(ShelfTable, Place, Vec<Place>), AllocError>
+    ensures loader { IfOk result (λ t. (t.1.table ≡ t.0) × (t.1.me ≡ (View.Loading (handed 16 (arc_value first.now)), []))) }
+    ensures workers { IfOk result (λ t. PlacesHanded t.0 16 t.2.items) }
+{
+    let mut workers = Vec::with_capacity(alloc, 16)?;
+    let (shelves, mut loader) = new_shelves(alloc, first)?;
+    for _number in 0..16usize {
+        let worker = new_worker(&shelves, &mut loader);
+        workers.push(worker)?;
+    }
+    Ok((shelves, loader, workers))
+}
+
+/// Version 1 is current on shelf 0, whose slots have the first image. No worker has a seat yet.
+pub fn new_shelves(
+    alloc: Global,
+    first: &Arc<Verified, Global>,
+) -> Result<(ShelfTable, Place), AllocError>
+    ensures table { IfOk result (λ t. t.1.table ≡ t.0) }
+    ensures loader { IfOk result (λ t. t.1.me ≡ (View.Loading (first_loader (arc_value first.now)), [])) }
+{
+    let slots = first_slots(alloc, first)?;
+    match Table::new(alloc, &[8, 65792, 0, 0, 0, 0, 0, 0, 0], slots, first) {
+        Ok((table, seat)) => Ok((ShelfTable { table }, Place { seat })),
+        Err(_) => Err(AllocError),
+    }
+}
+
+fn first_slots(
+    alloc: Global,
+    first: &Arc<Verified, Global>,
+) -> Result<Vec<Option<Edition>>, AllocError>
+    ensures { IfOk result (λ v. FirstSlots (arc_value first.now) 128 v.items) }
+{
+    let mut slots = Vec::with_capacity(alloc, 128)?;
+    for place in 0..128usize {
+        slots.push(first_slot(place, first)?)?;
+    }
+    Ok(slots)
+}
+
+fn first_slot(place: usize, first: &Arc<Verified, Global>) -> Result<Option<Edition>, AllocError>
+    ensures { IfOk result (λ x. FirstSlot (arc_value first.now) place x) }
+{
+    if place < 16 {
+        let image = Arc::try_clone(first)?;
+        Ok(Some(Edition { version: 1, image }))
+    } else {
+        Ok(None)
+    }
+}
+
+/// A split of the loader's seat: the seat of an idle worker with the next number.
+pub fn new_worker(shelves: &ShelfTable, loader: &mut Place) -> Place
+    requires table { loader.old.table ≡ shelves.now }
+    requires room { MayHandOut loader.old.me.0 }
+    ensures table { loader.new.table ≡ loader.old.table }
+    ensures loader { loader.new.me ≡ (keeps_loading loader.old.me.0, loader.old.me.1) }
+    ensures worker { (result.table ≡ loader.old.table) × (result.me ≡ (new_worker_view loader.old.me.0, [])) }
+{
+    let seat = shelves
+        .table
+        .shared
+        .split_seat::<HandingOut>(&mut loader.seat);
+    Place { seat }
+}

@@ -1,0 +1,46 @@
+//! What the seats know. Contracts alone see it.
+
+use crate::edition::Edition;
+use image_verifier::Verified;
+use std::collections::LinkedList;
+use version_core::{Event, Reply, Shelf, Worker};
+
+/// A beginning of what happened, with the images so far. No value of it is made.
+pub struct Known {
+    pub events: LinkedList<Event>,
+    pub replies: LinkedList<Reply>,
+    pub images: LinkedList<Verified>,
+}
+
+/// What a worker's seat knows. No value of it is made.
+pub struct WorkerView {
+    pub number: u64,
+    pub now: Worker,
+    /// The greatest version seen.
+    pub seen: u64,
+    /// The version last looked at.
+    pub last: u64,
+    /// A late take showed that the version last looked at is no longer current.
+    pub passed: bool,
+    /// The edition that is held.
+    pub edition: Option<Edition>,
+    pub known: Known,
+}
+
+/// What the loader's seat knows. No value of it is made.
+pub struct LoaderView {
+    /// How many workers' seats were handed out.
+    pub handed: u64,
+    pub current: u64,
+    pub current_shelf: u64,
+    pub shelves: LinkedList<Shelf>,
+    /// The free shelf whose slots are out with the loader.
+    pub hand: Option<u64>,
+    pub known: Known,
+}
+
+/// What a seat knows. No value of it is made.
+pub enum View {
+    Loading(LoaderView),
+    Working(WorkerView),
+}

@@ -1,0 +1,56 @@
+//! The steps of a worker, each one atomic operation on a word and one event.
+ghost use Rattle.std.specs.Prelude.{◌≡◌, ℕ, ◌<◌};
+ghost use Rattle.shelf_steps.specs.Plays.{Looks, Takes, Leaves, GivesBack, IsIdle, HasLooked, IsLate, HoldsOut};
+
+use crate::places::{Place, ShelfTable};
+use crate::rule::{GivingBack, Leaving, Looking, Taking};
+
+/// Looks at the current version, and answers its word: eight times the version, and its shelf.
+pub fn look(shelves: &ShelfTable, worker: &mut Place) -> u64
+    requires table { worker.old.table ≡ shelves.now }
+    requires idle { IsIdle worker.old.me.0 }
+    ensures table { worker.new.table ≡ worker.old.table }
+    ensures look { Looks worker.old.me result worker.new.me }
+{
+    shelves.table.shared.load::<Looking>(&mut worker.seat, 0)
+}
+
+/// Takes the shelf that the worker saw, and answers the shelf's word as it was found. Where it was open with the version
+/// that the worker looked at, the worker holds it, and its slot is out with the worker; else the worker is late.
+pub fn take(shelves: &ShelfTable, worker: &mut Place, shelf: usize) -> u64
+    requires table { worker.old.table ≡ shelves.now }
+    requires looked { (shelf < 8) × HasLooked shelf worker.old.me.0 }
+    ensures table { worker.new.table ≡ worker.old.table }
+    ensures take { Takes worker.old.me result worker.new.me }
+{
+    shelves
+        .table
+        .shared
+        .fetch_add::<Taking>(&mut worker.seat, shelf + 1, 1)
+}
+
+/// A drop: leaves the shelf at which the worker is late.
+pub fn leave_late(shelves: &ShelfTable, worker: &mut Place, shelf: usize)
+    requires table { worker.old.table ≡ shelves.now }
+    requires late { (shelf < 8) × IsLate shelf worker.old.me.0 }
+    ensures table { worker.new.table ≡ worker.old.table }
+    ensures leave { Leaves worker.old.me worker.new.me }
+{
+    shelves
+        .table
+        .shared
+        .fetch_sub::<Leaving>(&mut worker.seat, shelf + 1, 1);
+}
+
+/// A drop: gives back the shelf that the worker holds, with the slot, in which its edition lies again.
+pub fn give_back(shelves: &ShelfTable, worker: &mut Place, shelf: usize)
+    requires table { worker.old.table ≡ shelves.now }
+    requires holds { (shelf < 8) × HoldsOut shelf worker.old.me.0 worker.old.me.1 }
+    ensures table { worker.new.table ≡ worker.old.table }
+    ensures leave { GivesBack worker.old.me worker.new.me }
+{
+    shelves
+        .table
+        .shared
+        .fetch_sub::<GivingBack>(&mut worker.seat, shelf + 1, 1);
+}

@@ -1,0 +1,15 @@
+-- Whose event it is.
+use Rattle.std.specs.Prelude.{◌≢◌, ℕ, List, [], ◌∷◌, Option, Some, None}
+use Rattle.version_core.specs.declared.event.Event.{Event}
+
+-- a worker's, or the loader's
+abbrev pub actor : Event → Option ℕ
+actor (Event.Look w) = Some w
+actor (Event.Take w) = Some w
+actor (Event.Drop w) = Some w
+actor (Event.Ask w) = Some w
+actor _ = None
+
+abbrev pub NoneOf : Option ℕ → List Event → Type 0
+NoneOf a [] = Unit {0}
+NoneOf a (e ∷ es) = (actor e ≢ a) × NoneOf a es
