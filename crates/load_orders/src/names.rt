@@ -1,0 +1,29 @@
+//! Names of feeds.
+
+ghost use Rattle.std.specs.Prelude.{◌≡◌, ◌<◌, ℕ, length, map, slice_get, string_bytes, Some, MatchBool, MatchOption};
+ghost use Rattle.load_orders.specs.Asking.{IsFirst, IsNoName};
+
+/// The first place of the name.
+pub(crate) fn place_of(names: &[String], name: &str) -> Option<usize>
+    ensures { MatchOption result (IsNoName (map string_bytes names.now) name.now) (IsFirst (map string_bytes names.now) name.now) }
+{
+    for place in 0..names.len() {
+        if is_named(names, place, name) {
+            return Some(place);
+        }
+    }
+    None
+}
+
+fn is_named(names: &[String], place: usize, name: &str) -> bool
+    requires { place < length names.now }
+    ensures { MatchBool result (slice_get (map string_bytes names.now) place ≡ Some name.now) (¬ (slice_get (map string_bytes names.now) place ≡ Some name.now)) }
+{
+    is_text(&names[place], name)
+}
+
+fn is_text(known: &String, name: &str) -> bool
+    ensures { MatchBool result (string_bytes known.now ≡ name.now) (¬ (string_bytes known.now ≡ name.now)) }
+{
+    known.as_str() == name
+}

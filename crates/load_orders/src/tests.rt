@@ -1,0 +1,56 @@
+use crate::{LoaderOrders, Order, OrderFault, Orders, WorkerOrders, order_queue};
+use std::alloc::{AllocError, Global};
+use std::process::Abort;
+use std::test::*;
+
+fn two_names(alloc: Global) -> Result<Vec<String>, AllocError> {
+    let mut names = Vec::new(alloc);
+    names.push(String::from_str(alloc, "slow")?)?;
+    names.push(String::from_str(alloc, "fast")?)?;
+    Ok(names)
+}
+
+/// Four orders wait, the fifth is refused, and one that is taken makes room again.
+#[test]
+fn four_orders_wait(rt: HostRuntime) -> Result<(), Fail> {
+    let names = two_names(rt.alloc())?;
+    let (mut one, mut loader) = order_queue(rt.alloc(), &names)?;
+    let mut other = one.another()?;
+    assert_eq!(&rt; one.order(&rt, "fast"), Ok(()));
+    assert_eq!(&rt; one.order(&rt, "none"), Err(OrderFault::UnknownFeed));
+    assert_eq!(&rt; other.order(&rt, "slow"), Ok(()));
+    assert_eq!(&rt; other.order(&rt, "fast"), Ok(()));
+    assert_eq!(&rt; one.order(&rt, "slow"), Ok(()));
+    assert_eq!(&rt; other.order(&rt, "slow"), Err(OrderFault::OrdersFull));
+    assert_eq!(&rt; other.order(&rt, ""), Err(OrderFault::UnknownFeed));
+    assert_eq!(&rt; loader.next(&rt), Some(Order { feed: 1 }));
+    assert_eq!(&rt; loader.next(&rt), Some(Order { feed: 0 }));
+    assert_eq!(&rt; other.order(&rt, "fast"), Ok(()));
+    drop(one);
+    drop(other);
+    assert_eq!(&rt; loader.next(&rt), Some(Order { feed: 1 }));
+    assert_eq!(&rt; loader.next(&rt), Some(Order { feed: 0 }));
+    assert_eq!(&rt; loader.next(&rt), Some(Order { feed: 1 }));
+    assert_eq!(&rt; loader.next(&rt), None);
+    Ok(())
+}
+
+#[test]
+fn the_loader_is_gone(rt: HostRuntime) -> Result<(), Fail> {
+    let names = two_names(rt.alloc())?;
+    let (mut worker, loader) = order_queue(rt.alloc(), &names)?;
+    drop(loader);
+    assert_eq!(&rt; worker.order(&rt, "slow"), Err(OrderFault::LoaderGone));
+    assert_eq!(&rt; worker.order(&rt, "none"), Err(OrderFault::UnknownFeed));
+    Ok(())
+}
+
+/// Whichever growth is refused, the test ends with `AllocError`.
+#[test]
+fn refused_growth_makes_no_queue(rt: HostRuntime) -> Result<(), Fail> {
+    let names = two_names(rt.alloc())?;
+    let (mut worker, _loader) = order_queue(rt.alloc(), &names)?;
+    let mut other = worker.another()?;
+    assert_eq!(&rt; other.order(&rt, "slow"), Ok(()));
+    Ok(())
+}
