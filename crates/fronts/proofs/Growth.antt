@@ -1,0 +1,85 @@
+-- What stays while further entries and items come.
+use Rattle.std.proofs.Common.{◌≡◌, ℕ, zero, suc, ◌+◌, ◌<◌, ◌≤◌, List, [], ◌∷◌, ◌++◌, length, take, drop, slice_get, Option, Some, None, refl, sym, ◌∙◌, ap, ap₂, subst, arith, append_assoc, append-nil, length-append, length-drop}
+use Rattle.std.proofs.lemmas.List.{take-append-le, drop-append-le}
+use Rattle.criteria.specs.Laws.{Rules}
+use Rattle.fronts.specs.declared.entry.Item.{Item}
+use Rattle.fronts.specs.declared.entry.Entry.{Entry}
+use Rattle.fronts.specs.Front.{own, front_of, front, next_in, next_of, departure_in, departure_of, points_to, points_from, Extends}
+use Rattle.fronts.specs.Entries.{AreEntries, IsLinked}
+
+pub extends_none : {X : Type 0} (xs : List X) → Extends xs xs
+extends_none xs = ([], sym (append-nil xs))
+
+pub extends_on : {X : Type 0} (a b c : List X) → Extends a b → Extends b c → Extends a c
+extends_on a b c ab bc = (ab.0 ++ bc.0, bc.1 ∙ ap (λ xs. xs ++ bc.0) ab.1 ∙ append_assoc a ab.0 bc.0)
+
+pub extends_one : {X : Type 0} (old new : List X) (x : X) → new ≡ old ++ x ∷ [] → Extends old new
+extends_one old new x e = (x ∷ [], e)
+
+pub extends_long : {X : Type 0} (old new : List X) → Extends old new → length old ≤ length new
+extends_long old new ext = let e = ap length ext.1 ∙ length-append old ext.0 in omega arith
+
+pub at_old : {X : Type 0} (xs ys : List X) (k : ℕ) → k < length xs → slice_get (xs ++ ys) k ≡ slice_get xs k
+at_old [] ys k lt = absurd (omega arith)
+at_old (x ∷ xs) ys zero lt = refl
+at_old (x ∷ xs) ys (suc k) lt = at_old xs ys k (omega arith)
+
+pub at_new : {X : Type 0} (xs : List X) (y : X) (ys : List X) → slice_get (xs ++ y ∷ ys) (length xs) ≡ Some y
+at_new [] y ys = refl
+at_new (x ∷ xs) y ys = at_new xs y ys
+
+pub same_at : {X : Type 0} (old new : List X) → Extends old new → (k : ℕ) → k < length old → slice_get new k ≡ slice_get old k
+same_at {X} old new ext k lt = ap (λ (xs : List X). slice_get xs k) ext.1 ∙ at_old old ext.0 k lt
+
+pub same_part : {X : Type 0} (old new : List X) → Extends old new → (r c : ℕ) → r + c ≤ length old → take c (drop r new) ≡ take c (drop r old)
+same_part {X} old new ext r c within =
+    let len = length-drop r old in
+    ap (λ (xs : List X). take c (drop r xs)) ext.1
+    ∙ ap (take c) (drop-append-le r old ext.0 (omega arith))
+    ∙ take-append-le c (drop r old) ext.0 (omega arith)
+
+front_of_same : {V : Type 0} (old new : List (Item V)) → Extends old new → (o : Option (Entry V)) → ((e : Entry V) → o ≡ Some e → e.rest + e.count ≤ length old) → front_of new o ≡ front_of old o
+front_of_same old new ext None within = refl
+front_of_same old new ext (Some e) within = ap (λ ps. own e ∷ ps) (same_part old new ext e.rest e.count (within e refl))
+
+-- a front as before, among more items
+pub front_more : {V : Type 0} (rules : Rules V) (entries : List (Entry V)) (old new : List (Item V)) → AreEntries rules entries old → Extends old new → (m : ℕ) → front entries new m ≡ front entries old m
+front_more rules entries old new are ext zero = refl
+front_more rules entries old new are ext (suc m) = front_of_same old new ext (slice_get entries (suc m)) (λ e at. are.within (suc m) e at)
+
+pub are_more : {V : Type 0} (rules : Rules V) (entries : List (Entry V)) (old new : List (Item V)) → AreEntries rules entries old → Extends old new → AreEntries rules entries new
+are_more rules entries old new are ext = record {
+  some = are.some;
+  ends = are.ends;
+  never = are.never;
+  back = are.back;
+  within = λ m e at. let old_within = are.within m e at in let grows = extends_long old new ext in omega arith;
+  each = λ m.
+      subst (λ ps. IsLinked rules (departure_of entries m) (next_of entries m) (departure_of entries (next_of entries m)) ps (front entries new (next_of entries m))) (sym (front_more rules entries old new are ext m))
+      (subst (λ ps. IsLinked rules (departure_of entries m) (next_of entries m) (departure_of entries (next_of entries m)) (front entries old m) ps) (sym (front_more rules entries old new are ext (next_of entries m))) (are.each m));
+}
+
+module _ {V : Type 0} (rules : Rules V) (old_entries new_entries : List (Entry V)) (old_items new_items : List (Item V)) (are : AreEntries rules old_entries old_items) (entries : Extends old_entries new_entries) (items : Extends old_items new_items) where
+  pub same_front : (m : ℕ) → m < length old_entries → front new_entries new_items m ≡ front old_entries old_items m
+  same_front zero lt = refl
+  same_front (suc m) lt =
+      ap (front_of new_items) (same_at old_entries new_entries entries (suc m) lt)
+      ∙ front_of_same old_items new_items items (slice_get old_entries (suc m)) (λ e at. are.within (suc m) e at)
+
+  pub same_next : (m : ℕ) → m < length old_entries → next_of new_entries m ≡ next_of old_entries m
+  same_next m lt = ap next_in (same_at old_entries new_entries entries m lt)
+
+  pub same_departure : (m : ℕ) → m < length old_entries → departure_of new_entries m ≡ departure_of old_entries m
+  same_departure m lt = ap departure_in (same_at old_entries new_entries entries m lt)
+
+  same_to : (n m : ℕ) → m < length old_entries → points_to new_entries new_items n m ≡ points_to old_entries old_items n m
+  unfolding points_to
+  same_to zero m lt = refl
+  same_to (suc n) zero lt = refl
+  same_to (suc n) (suc m) lt =
+      let back = are.back m in
+      ap₂ (λ xs ys. xs ++ ys) (same_front (suc m) lt)
+      (ap (points_to new_entries new_items n) (same_next (suc m) lt) ∙ same_to n (next_of old_entries (suc m)) (omega arith))
+
+  pub same_points : (m : ℕ) → m < length old_entries → points_from new_entries new_items m ≡ points_from old_entries old_items m
+  same_points m lt = same_to m m lt

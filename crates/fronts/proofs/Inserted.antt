@@ -1,0 +1,96 @@
+-- An insertion as a whole.
+use Rattle.std.proofs.Common.{◌≡◌, ◌⊎◌, ℕ, ◌<◌, ◌≤◌, List, [], ◌∷◌, length, get_or, Contains, inl, inr, sym, ap, subst, arith}
+use Rattle.std.proofs.lemmas.List.Elements.{Contains-append_cases, Contains-push_cases}
+use Rattle.criteria.specs.Laws.{Rules, Laws, Admits, IsSecs}
+use Rattle.fronts.specs.declared.entry.Item.{Item}
+use Rattle.fronts.specs.declared.entry.Entry.{Entry}
+use Rattle.fronts.specs.declared.entry.Ridden.{Ridden}
+use Rattle.fronts.specs.declared.entry.Step.{Step}
+use Rattle.fronts.specs.Front.{front, next_of, departure_of, points_from, Betters, Covers, Extends}
+use Rattle.fronts.specs.Entries.{AreEntries}
+use Rattle.fronts.specs.Putting.{IsLate, IsPath, DepartBefore, CoversAll, MayPut, IsUnion}
+use Rattle.fronts.specs.Walking.{AreBoardings, AllWalked, TakesBoardings}
+use Rattle.fronts.proofs.Filters.{not_in_nil}
+use Rattle.fronts.proofs.Growth.{extends_long, same_points, same_departure, same_next}
+use Rattle.fronts.proofs.Points.{of_front, points_admitted}
+
+path_within : {V : Type 0} (entries : List (Entry V)) (head : ℕ) (bs : List ℕ) (m b : ℕ) → IsPath entries head bs m → Contains bs b → b < length entries
+path_within entries head [] m b path h = absurd (not_in_nil b h)
+path_within entries head (x ∷ xs) m b path h = elim (Contains-append_cases (x ∷ []) xs b h) [
+  | inl a ↦ elim (Contains-push_cases [] x b a) [ inl n ↦ absurd (not_in_nil b n) | inr e ↦ subst (λ k. k < length entries) e path.2 ]
+  | inr later ↦ path_within entries (next_of entries x) xs m b path.3 later
+]
+
+module _ {V : Type 0} (rules : Rules V) (old mid : List (Entry V)) (old_items mid_items : List (Item V)) (are : AreEntries rules old old_items) (more : Extends old mid) (more_items : Extends old_items mid_items) where
+  pub path_more : (head : ℕ) (bs : List ℕ) (m : ℕ) → IsPath old head bs m → IsPath mid head bs m
+  path_more head [] m path = path
+  path_more head (x ∷ xs) m path =
+      let grows = extends_long old mid more in
+      let lt = path.2 in
+      (path.0, path.1, omega arith, subst (λ n. IsPath mid n xs m) (sym (same_next rules old mid old_items mid_items are more more_items x path.2)) (path_more (next_of old x) xs m path.3))
+
+  pub before_more : (head : ℕ) (bs : List ℕ) (m time later : ℕ) → IsPath old head bs m → DepartBefore old time bs → later ≡ time → DepartBefore mid later bs
+  before_more head bs m time later path before e b h =
+      let same = same_departure rules old mid old_items mid_items are more more_items b (path_within old head bs m b path h) in
+      let lt = before b h in
+      omega arith
+
+late_covers : {V : Type 0} (rules : Rules V) (entries : List (Entry V)) (items : List (Item V)) → AreEntries rules entries items → (departure m : ℕ) (v : V) → departure ≤ departure_of entries m → Betters rules (front entries items m) v → Covers rules (points_from entries items m) departure v
+late_covers rules entries items are departure m v early (p, h, w) = (let late = (are.each m).late p h in (p, of_front rules entries items are m p h, omega arith, w))
+
+module _ {V : Type 0} (rules : Rules V) (laws : Laws rules) (head departure first walk secs after : ℕ) (ridden : List (Ridden V)) (entries : List (Entry V)) (items : List (Item V)) (steps : List Step) (kept : List (Item V)) (short : IsSecs secs) (fair : (r : Ridden V) → Contains ridden r → Admits rules r.value)
+    (are : AreEntries rules entries items) (late : IsLate entries items head departure after)
+    (boarded : AreBoardings rules steps departure first walk secs ridden kept) (all : AllWalked rules (front entries items after) secs ridden (length ridden) kept) where
+  kept_admitted : (p : Item V) → Contains kept p → Admits rules p.value
+  kept_admitted p h = let b = boarded p h in subst (Admits rules) (sym b.worth) (laws.walk_admits secs b.by.value short (fair b.by b.is_ridden))
+
+  -- each of the values is bettered by what is kept, or covered already
+  bettered : (r : Ridden V) → Contains ridden r → Betters rules kept (rules.walk secs r.value) ⊎ Covers rules (points_from entries items after) departure (rules.walk secs r.value)
+  bettered r h = subst (λ (z : Ridden V). Betters rules kept (rules.walk secs z.value) ⊎ Covers rules (points_from entries items after) departure (rules.walk secs z.value)) h.2
+      (elim (all h.0 r h.1) [
+        | inl b ↦ inl b
+        | inr b ↦ inr (late_covers rules entries items are departure after (rules.walk secs (get_or ridden h.0 r).value) late.late b)
+      ])
+
+  -- nothing is kept
+  pub takes_none : length kept ≡ 0 → TakesBoardings rules steps departure first walk secs ridden (points_from entries items head) (points_from entries items head)
+  takes_none none = record {
+    only = λ p h. inl h;
+    kept = λ d v a c. c;
+    covered = λ r h. elim (bettered r h) [
+      | inl b ↦ (let lt = b.1.1 in absurd (omega arith))
+      | inr c ↦ (c.0, late.only c.0 c.1, c.2, c.3)
+    ];
+  }
+
+  pub takes_may : 0 < length kept → MayPut rules entries departure after kept
+  takes_may some = record {
+    within = late.within;
+    early = late.late;
+    some = some;
+    departs = λ p h. (boarded p h).departs;
+    admitted = kept_admitted;
+  }
+
+  pub takes_covers : (two : List (Entry V)) (two_items : List (Item V)) (put : List (Item V)) → Extends entries two → Extends items two_items → IsUnion rules kept (points_from entries items after) put → CoversAll rules (points_from two two_items after) put
+  takes_covers two two_items put ext ext_items union d v a c =
+      union.kept_second d v a (subst (λ ps. Covers rules ps d v) (same_points rules entries two items two_items are ext ext_items after late.within) c)
+
+  pub takes_all : (two : List (Entry V)) (two_items put new : List (Item V)) → Extends entries two → Extends items two_items → head < length entries → IsUnion rules kept (points_from entries items after) put → IsUnion rules (points_from two two_items head) put new
+      → TakesBoardings rules steps departure first walk secs ridden (points_from entries items head) new
+  takes_all two two_items put new ext ext_items head_in union joined =
+      let same = same_points rules entries two items two_items are ext ext_items head head_in in
+      record {
+        only = λ p h. elim (joined.only p h) [
+          | inl a ↦ inl (subst (λ ps. Contains ps p) same a)
+          | inr b ↦ elim (union.only p b) [ inl k ↦ inr (boarded p k) | inr a ↦ inl (late.only p a) ]
+        ];
+        kept = λ d v a c. joined.kept_first d v a (subst (λ ps. Covers rules ps d v) (sym same) c);
+        covered = λ r h.
+            let v = rules.walk secs r.value in
+            let a = laws.walk_admits secs r.value short (fair r h) in
+            joined.kept_second departure v a (elim (bettered r h) [
+              | inl k ↦ (let at = (boarded k.0 k.1).departs in union.kept_first departure v a (k.0, k.1, omega arith, k.2))
+              | inr c ↦ union.kept_second departure v a c
+            ]);
+      }

@@ -1,0 +1,93 @@
+-- What some points leave of others, pushed one by one.
+use Rattle.std.proofs.Common.{◌≡◌, ℕ, ◌+◌, ◌-◌, ◌<◌, ◌≤◌, not, List, [], ◌∷◌, ◌++◌, length, take, drop, get_or, Contains, sym, ◌∙◌, ap, ap₂, arith, append_assoc, append-nil, length-drop}
+use Rattle.std.proofs.lemmas.List.{take_more, get_or-drop, get_or-take, get_or_append_left, length-take-le}
+use Rattle.std.proofs.lemmas.List.Elements.{filter-append}
+use Rattle.criteria.specs.Laws.{Rules}
+use Rattle.fronts.specs.declared.entry.Item.{Item}
+use Rattle.fronts.specs.declared.entry.Entry.{Entry}
+use Rattle.fronts.specs.Front.{own, front, Extends}
+use Rattle.fronts.specs.Putting.{betters, left_by}
+use Rattle.fronts.proofs.Growth.{same_part}
+use Rattle.fronts.proofs.Points.{front_at}
+
+-- an item that is read among those that came after it
+pub item_read : {X : Type 0} (old now : List X) (k : ℕ) (x : X) → Extends old now → k < length old → x ≡ get_or now k x → get_or old k x ≡ x
+item_read {X} old now k x ext lt is = sym (is ∙ ap (λ (xs : List X). get_or xs k x) ext.1 ∙ get_or_append_left old ext.0 x k lt)
+
+pub item_in_part : {X : Type 0} (old now : List X) (rest count k : ℕ) (x : X) → Extends old now → rest ≤ k → k < rest + count → rest + count ≤ length old → x ≡ get_or now k x → Contains (take count (drop rest old)) x
+item_in_part old now rest count k x ext low lt within is =
+    let len = length-drop rest old in
+    let long = length-take-le count (drop rest old) (omega arith) in
+    let here : rest + (k - rest) ≡ k = omega arith in (
+      k - rest,
+      omega arith,
+      get_or-take count (drop rest old) (k - rest) x (omega arith) ∙ get_or-drop rest old (k - rest) x ∙ ap (λ n. get_or old n x) here ∙ item_read old now k x ext (omega arith) is,
+    )
+
+module _ {V : Type 0} (rules : Rules V) (points : List (Item V)) where
+  pub left_append : (xs ys : List (Item V)) → left_by rules points (xs ++ ys) ≡ left_by rules points xs ++ left_by rules points ys
+  left_append xs ys = filter-append (λ p. not (betters rules points p.value)) xs ys
+
+  pub leave_more : (old now new : List (Item V)) (rest count k : ℕ) (x : Item V) → now ≡ old ++ left_by rules points (take (k - rest) (drop rest old)) → rest ≤ k → k < rest + count → rest + count ≤ length old → x ≡ get_or now k x
+      → new ≡ now ++ left_by rules points (x ∷ []) → new ≡ old ++ left_by rules points (take (k + 1 - rest) (drop rest old))
+  leave_more old now new rest count k x was low lt within is e =
+      let len = length-drop rest old in
+      let here : rest + (k - rest) ≡ k = omega arith in
+      let on : k - rest + 1 ≡ k + 1 - rest = omega arith in
+      let read : get_or (drop rest old) (k - rest) x ≡ x = get_or-drop rest old (k - rest) x ∙ ap (λ n. get_or old n x) here ∙ item_read old now k x (left_by rules points (take (k - rest) (drop rest old)), was) (omega arith) is in
+      let parts : take (k + 1 - rest) (drop rest old) ≡ take (k - rest) (drop rest old) ++ x ∷ [] =
+      ap (λ n. take n (drop rest old)) (sym on) ∙ take_more (drop rest old) (k - rest) x (omega arith) ∙ ap (λ y. take (k - rest) (drop rest old) ++ y ∷ []) read in
+      e ∙ ap (λ xs. xs ++ left_by rules points (x ∷ [])) was
+      ∙ append_assoc old (left_by rules points (take (k - rest) (drop rest old))) (left_by rules points (x ∷ []))
+      ∙ ap (λ xs. old ++ xs) (sym (left_append (take (k - rest) (drop rest old)) (x ∷ [])) ∙ ap (left_by rules points) (sym parts))
+
+  pub leave_none : (old : List (Item V)) (rest k : ℕ) → k ≤ rest → old ≡ old ++ left_by rules points (take (k - rest) (drop rest old))
+  leave_none old rest k le =
+      let e : k - rest ≡ 0 = omega arith in
+      sym (append-nil old) ∙ ap (λ n. old ++ left_by rules points (take n (drop rest old))) (sym e)
+
+  pub leave_all : (old now : List (Item V)) (rest count k : ℕ) → now ≡ old ++ left_by rules points (take (k - rest) (drop rest old)) → k ≡ rest + count → now ≡ old ++ left_by rules points (take count (drop rest old))
+  leave_all old now rest count k was end =
+      let e : k - rest ≡ count = omega arith in
+      was ∙ ap (λ n. old ++ left_by rules points (take n (drop rest old))) e
+
+  -- the own point, and then the items
+  pub leave_both : (entries : List (Entry V)) (old mid new : List (Item V)) (m : ℕ) (e : Entry V) → 0 < m → m < length entries → e ≡ get_or entries m e → e.rest + e.count ≤ length old → mid ≡ old ++ left_by rules points (own e ∷ []) → new ≡ mid ++ left_by rules points (take e.count (drop e.rest mid))
+      → new ≡ old ++ left_by rules points (front entries old m)
+  leave_both entries old mid new m e some lt is within first then_items =
+      let own_left = left_by rules points (own e ∷ []) in
+      let same = same_part old mid (own_left, first) e.rest e.count within in
+      let part = take e.count (drop e.rest old) in
+      then_items ∙ ap₂ (λ xs ys. xs ++ left_by rules points ys) first same
+      ∙ append_assoc old own_left (left_by rules points part)
+      ∙ ap (λ xs. old ++ xs) (sym (left_append (own e ∷ []) part) ∙ ap (left_by rules points) (sym (front_at entries old m e some lt is)))
+
+  pub leave_nothing : (entries : List (Entry V)) (old : List (Item V)) (m : ℕ) → m ≡ 0 → old ≡ old ++ left_by rules points (front entries old m)
+  leave_nothing entries old m e = sym (append-nil old) ∙ ap (λ n. old ++ left_by rules points (front entries old n)) (sym e)
+
+-- the same into a list of its own
+pub keep_more : {V : Type 0} (rules : Rules V) (points items base now new : List (Item V)) (rest count k : ℕ) (x : Item V) → now ≡ base ++ left_by rules points (take (k - rest) (drop rest items)) → rest ≤ k → k < rest + count → rest + count ≤ length items → x ≡ get_or items k x
+    → new ≡ now ++ left_by rules points (x ∷ []) → new ≡ base ++ left_by rules points (take (k + 1 - rest) (drop rest items))
+keep_more rules points items base now new rest count k x was low lt within is e =
+    let len = length-drop rest items in
+    let here : rest + (k - rest) ≡ k = omega arith in
+    let on : k - rest + 1 ≡ k + 1 - rest = omega arith in
+    let read : get_or (drop rest items) (k - rest) x ≡ x = get_or-drop rest items (k - rest) x ∙ ap (λ n. get_or items n x) here ∙ sym is in
+    let parts : take (k + 1 - rest) (drop rest items) ≡ take (k - rest) (drop rest items) ++ x ∷ [] =
+    ap (λ n. take n (drop rest items)) (sym on) ∙ take_more (drop rest items) (k - rest) x (omega arith) ∙ ap (λ y. take (k - rest) (drop rest items) ++ y ∷ []) read in
+    e ∙ ap (λ xs. xs ++ left_by rules points (x ∷ [])) was
+    ∙ append_assoc base (left_by rules points (take (k - rest) (drop rest items))) (left_by rules points (x ∷ []))
+    ∙ ap (λ xs. base ++ xs) (sym (left_append rules points (take (k - rest) (drop rest items)) (x ∷ [])) ∙ ap (left_by rules points) (sym parts))
+
+pub keep_all : {V : Type 0} (rules : Rules V) (points items base now : List (Item V)) (rest count k : ℕ) → now ≡ base ++ left_by rules points (take (k - rest) (drop rest items)) → k ≡ rest + count → now ≡ base ++ left_by rules points (take count (drop rest items))
+keep_all rules points items base now rest count k was end =
+    let e : k - rest ≡ count = omega arith in
+    was ∙ ap (λ n. base ++ left_by rules points (take n (drop rest items))) e
+
+pub keep_both : {V : Type 0} (rules : Rules V) (points : List (Item V)) (entries : List (Entry V)) (items start mid new : List (Item V)) (m : ℕ) (e : Entry V) → 0 < m → m < length entries → e ≡ get_or entries m e → start ≡ [] → mid ≡ start ++ left_by rules points (own e ∷ []) → new ≡ mid ++ left_by rules points (take e.count (drop e.rest items))
+    → new ≡ left_by rules points (front entries items m)
+keep_both rules points entries items start mid new m e some lt is empty first then_items =
+    let own_left = left_by rules points (own e ∷ []) in
+    let part = take e.count (drop e.rest items) in
+    then_items ∙ ap (λ xs. xs ++ left_by rules points part) (first ∙ ap (λ xs. xs ++ own_left) empty)
+    ∙ sym (left_append rules points (own e ∷ []) part) ∙ ap (left_by rules points) (sym (front_at entries items m e some lt is))

@@ -1,0 +1,11 @@
+pub mod Filters
+pub mod Growth
+pub mod Points
+pub mod Paths
+pub mod Leaving
+pub mod Pushing
+pub mod OnePut
+pub mod Joining
+pub mod Walks
+pub mod Inserted
+pub mod Mapped

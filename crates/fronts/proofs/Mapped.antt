@@ -1,0 +1,81 @@
+-- Items as points.
+use Rattle.std.proofs.Common.{◌≡◌, ◌⊎◌, ℕ, zero, suc, ◌+◌, ◌<◌, ◌≤◌, true, List, [], ◌∷◌, length, map, take, drop, get_or, slice_get, Some, Contains, inl, inr, refl, sym, ◌∙◌, ap, subst, arith, length-drop}
+use Rattle.std.proofs.lemmas.List.{length-map, length-take-le, get_or-take, get_or-drop}
+use Rattle.std.proofs.lemmas.Option.{slice_get-map, slice_get-get_or, slice_get_within}
+use Rattle.std.proofs.lemmas.List.Elements.{Contains-append_cases, Contains-append_left, Contains-append_right, Contains-push, Contains-push_cases}
+use Rattle.criteria.specs.Laws.{Rules, Laws, Admits}
+use Rattle.bags.specs.declared.point.Point.{Point}
+use Rattle.fronts.specs.declared.entry.Item.{Item}
+use Rattle.fronts.specs.declared.entry.Entry.{Entry}
+use Rattle.fronts.specs.declared.entry.Ridden.{Ridden}
+use Rattle.fronts.specs.declared.entry.Step.{Step}
+use Rattle.fronts.specs.Front.{front, points_from, Betters, Covers}
+use Rattle.fronts.specs.Entries.{AreEntries}
+use Rattle.fronts.specs.Putting.{IsLate}
+use Rattle.fronts.specs.Walking.{TakesBoardings}
+use Rattle.fronts.specs.Lists.{point_of, IsBettered, IsCovered, TakesRidden}
+use Rattle.fronts.proofs.Filters.{not_in_nil}
+use Rattle.fronts.proofs.Points.{front_from, points_admitted}
+
+module _ {V : Type 0} where
+  pub into_points : (xs : List (Item V)) (x : Item V) → Contains xs x → Contains (map point_of xs) (point_of x)
+  into_points [] x h = absurd (not_in_nil x h)
+  into_points (y ∷ ys) x h = elim (Contains-append_cases (y ∷ []) ys x h) [
+    | inl a ↦ elim (Contains-push_cases [] y x a) [
+      | inl n ↦ absurd (not_in_nil x n)
+      | inr e ↦ subst (λ z. Contains (map point_of (y ∷ ys)) (point_of z)) e (Contains-append_left (point_of y ∷ []) (map point_of ys) (point_of y) (Contains-push [] (point_of y)))
+    ]
+    | inr b ↦ Contains-append_right (point_of y ∷ []) (map point_of ys) (point_of x) (into_points ys x b)
+  ]
+
+  pub from_points : (xs : List (Item V)) (p : Point V) → Contains (map point_of xs) p → (x : Item V) × Contains xs x × (point_of x ≡ p)
+  from_points [] p h = absurd (not_in_nil p h)
+  from_points (y ∷ ys) p h = elim (Contains-append_cases (point_of y ∷ []) (map point_of ys) p h) [
+    | inl a ↦ elim (Contains-push_cases [] (point_of y) p a) [
+      | inl n ↦ absurd (not_in_nil p n)
+      | inr e ↦ (y, Contains-append_left (y ∷ []) ys y (Contains-push [] y), e)
+    ]
+    | inr b ↦ (let x = from_points ys p b in (x.0, Contains-append_right (y ∷ []) ys x.0 x.1, x.2))
+  ]
+
+  covered_points : (rules : Rules V) (xs : List (Item V)) (d : ℕ) (v : V) → Covers rules xs d v → IsCovered rules (map point_of xs) d v
+  covered_points rules xs d v (x, h, late, w) = (point_of x, into_points xs x h, late, w)
+
+  covered_items : (rules : Rules V) (xs : List (Item V)) (d : ℕ) (v : V) → IsCovered rules (map point_of xs) d v → Covers rules xs d v
+  covered_items rules xs d v (p, h, late, w) =
+      let x = from_points xs p h in
+      (x.0, x.1, subst (λ (z : Point V). d ≤ z.departure) (sym x.2) late, subst (λ (z : Point V). rules.no_worse z.value v ≡ true) (sym x.2) w)
+
+  pub takes_points : (rules : Rules V) (steps : List Step) (departure first walk secs : ℕ) (ridden : List (Ridden V)) (old new : List (Item V)) → TakesBoardings rules steps departure first walk secs ridden old new → TakesRidden rules steps departure first walk secs ridden (map point_of old) (map point_of new)
+  takes_points rules steps departure first walk secs ridden old new takes = record {
+    only = λ p h.
+        let x = from_points new p h in
+        elim (takes.only x.0 x.1) [
+          | inl was ↦ inl (subst (Contains (map point_of old)) x.2 (into_points old x.0 was))
+          | inr b ↦ inr (x.0, x.2, b)
+        ];
+    kept = λ d v a c. covered_points rules new d v (takes.kept d v a (covered_items rules old d v c));
+    covered = λ r h. covered_points rules new departure (rules.walk secs r.value) (takes.covered r h);
+  }
+
+  pub points_made_of : (rules : Rules V) (laws : Laws rules) (entries : List (Entry V)) (items : List (Item V)) → AreEntries rules entries items → (head time m : ℕ) → IsLate entries items head time m
+      → (p : Point V) → Contains (map point_of (front entries items m)) p → Contains (map point_of (points_from entries items head)) p × (time ≤ p.departure) × Admits rules p.value
+  points_made_of rules laws entries items are head time m late p h =
+      let x = from_points (front entries items m) p h in
+      let made = (front_from rules entries items are laws head time m late).0 x.0 x.1 in (
+        subst (Contains (map point_of (points_from entries items head))) x.2 (into_points (points_from entries items head) x.0 made.0),
+        subst (λ (z : Point V). time ≤ z.departure) x.2 made.1,
+        subst (λ (z : Point V). Admits rules z.value) x.2 ((are.each m).admitted x.0 x.1),
+      )
+
+  pub points_bettered : (rules : Rules V) (laws : Laws rules) (entries : List (Entry V)) (items : List (Item V)) → AreEntries rules entries items → (head time m : ℕ) → IsLate entries items head time m
+      → (p : Point V) → Contains (map point_of (points_from entries items head)) p → time ≤ p.departure → IsBettered rules (map point_of (front entries items m)) p.value
+  points_bettered rules laws entries items are head time m late p h after =
+      let x = from_points (points_from entries items head) p h in
+      let b = (front_from rules entries items are laws head time m late).1 x.0 x.1 (subst (λ (z : Point V). time ≤ z.departure) (sym x.2) after) in
+      (point_of b.0, into_points (front entries items m) b.0 b.1, subst (λ (z : Point V). rules.no_worse b.0.value z.value ≡ true) x.2 b.2)
+
+  pub list_admitted : (rules : Rules V) (entries : List (Entry V)) (items : List (Item V)) → AreEntries rules entries items → (head : ℕ) (p : Point V) → Contains (map point_of (points_from entries items head)) p → Admits rules p.value
+  list_admitted rules entries items are head p h =
+      let x = from_points (points_from entries items head) p h in
+      subst (λ (z : Point V). Admits rules z.value) x.2 (points_admitted rules entries items are head x.0 x.1)

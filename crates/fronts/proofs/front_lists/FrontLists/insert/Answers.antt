@@ -1,0 +1,22 @@
+use Rattle.std.proofs.Common.{Result, Ok, Err, IfOk, map, ap}
+use Rattle.fronts.specs.Front.{points_from}
+use Rattle.fronts.specs.Lists.{lists_criterion, entries_of, items_of, point_of}
+use Rattle.fronts.proofs.Growth.{same_points}
+use Rattle.fronts.proofs.Mapped.{takes_points}
+use Rattle.fronts.proofs.front_lists.FrontLists.insert.Goals as goal
+
+if_ok_more : {T E : Type 0} (r : Result T E) (P Q : T → Type 0) → ((x : T) → P x → Q x) → IfOk r P → IfOk r Q
+if_ok_more (Ok x) P Q f h = f x h
+if_ok_more (Err e) P Q f h = h
+
+pub returns-clause-same : goal.returns-clause-same
+returns-clause-same g c place lt =
+    let lists = c.args.self.now in
+    ap (map point_of) (same_points (g.C.Criterion.rules (lists_criterion lists)) (entries_of lists) c.insert.new.entries.items (items_of lists) c.insert.new.items.items c.requires.sound c.insert.ensures.more_entries c.insert.ensures.more_items place lt)
+
+pub returns-clause-takes : goal.returns-clause-takes
+returns-clause-takes g c =
+    let lists = c.args.self.now in
+    if_ok_more c.insert.result _ _
+    (λ new takes. takes_points (g.C.Criterion.rules (lists_criterion lists)) c.insert.new.steps.items c.args.departure c.args.first c.args.walk c.args.secs c.args.ridden.now (points_from (entries_of lists) (items_of lists) c.args.head) (points_from c.insert.new.entries.items c.insert.new.items.items new) takes)
+    c.insert.ensures.takes

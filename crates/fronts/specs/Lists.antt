@@ -1,0 +1,55 @@
+-- What contracts see of lists of entries.
+use Rattle.std.specs.Prelude.{◌≡◌, ◌⊎◌, ℕ, ◌≤◌, List, Contains, map}
+use Rattle.criteria.specs.Laws.{Rules, Admits, NoWorse}
+use Rattle.bags.specs.declared.point.Point.{Point}
+use Rattle.fronts.specs.declared.entry.Item.{Item}
+use Rattle.fronts.specs.declared.entry.Entry.{Entry}
+use Rattle.fronts.specs.declared.entry.Step.{Step}
+use Rattle.fronts.specs.declared.entry.Ridden.{Ridden}
+use Rattle.fronts.specs.declared.front_lists.FrontLists.{FrontLists}
+use Rattle.fronts.specs.Entries.{AreEntries}
+use Rattle.fronts.specs.Front.{front, points_from}
+use Rattle.fronts.specs.Walking.{IsBoarding}
+
+abbrev pub lists_criterion : {K V : Type 0} → FrontLists K V → K
+lists_criterion lists = lists.criterion
+
+abbrev pub entries_of : {K V : Type 0} → FrontLists K V → List (Entry V)
+entries_of lists = lists.entries.items
+
+abbrev pub items_of : {K V : Type 0} → FrontLists K V → List (Item V)
+items_of lists = lists.items.items
+
+-- how one goes on, by the tags of points
+abbrev pub steps_of : {K V : Type 0} → FrontLists K V → List Step
+steps_of lists = lists.steps.items
+
+-- an item as a point
+abbrev pub point_of : {V : Type 0} → Item V → Point V
+point_of item = record { departure = item.departure; value = item.value; tag = item.tag }
+
+-- the points of the list that begins at a place
+abbrev pub list_points : {K V : Type 0} → FrontLists K V → ℕ → List (Point V)
+list_points lists head = map point_of (points_from lists.entries.items lists.items.items head)
+
+-- the front that the entry at a place carries
+abbrev pub front_at : {K V : Type 0} → FrontLists K V → ℕ → List (Point V)
+front_at lists place = map point_of (front lists.entries.items lists.items.items place)
+
+-- what holds of all entries
+abbrev pub IsSound : {K V : Type 0} → (K → Rules V) → FrontLists K V → Type 0
+IsSound rules_of lists = AreEntries (rules_of lists.criterion) lists.entries.items lists.items.items
+
+-- a point of a list is no worse than v
+abbrev pub IsBettered : {V : Type 0} → Rules V → List (Point V) → V → Type 0
+IsBettered {V} rules points v = (p : Point V) × Contains points p × NoWorse rules p.value v
+
+-- a list has a point that departs no earlier and is no worse
+abbrev pub IsCovered : {V : Type 0} → Rules V → List (Point V) → ℕ → V → Type 0
+IsCovered {V} rules points departure v = (p : Point V) × Contains points p × (departure ≤ p.departure) × NoWorse rules p.value v
+
+-- a list takes the ridden values in: each of its points stood before or is one of them after the footpath, and its tag says so; what was covered stays so, and each of them is covered
+pub record TakesRidden {V : Type 0} (rules : Rules V) (steps : List Step) (departure first walk secs : ℕ) (ridden : List (Ridden V)) (old new : List (Point V)) : Type 0 where
+  pub only : (p : Point V) → Contains new p → Contains old p ⊎ ((item : Item V) × (point_of item ≡ p) × IsBoarding rules steps departure first walk secs ridden item)
+  pub kept : (d : ℕ) (v : V) → Admits rules v → IsCovered rules old d v → IsCovered rules new d v
+  pub covered : (r : Ridden V) → Contains ridden r → IsCovered rules new departure (rules.walk secs r.value)

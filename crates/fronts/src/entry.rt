@@ -1,0 +1,37 @@
+/// A departure, in seconds, and a value, with a tag that names how one goes on.
+#[derive(Clone, Copy, Debug, Drop)]
+pub struct Item<V> {
+    pub departure: u32,
+    pub value: V,
+    pub tag: u32,
+}
+
+/// A departure, a value and a tag, with the front of all points of its list that depart then or later.
+///
+/// The front is the entry's own point, and then `count` items from the place `rest` on.
+#[derive(Clone, Copy, Drop)]
+pub struct Entry<V> {
+    pub departure: u32,
+    // the place of the next entry on the list
+    pub next: u32,
+    pub rest: u32,
+    pub count: u32,
+    pub tag: u32,
+    pub value: V,
+}
+
+/// How one goes on from a point: the connection that is boarded, the label by which one rides on, and the place of the footpath to the
+/// connection.
+#[derive(Clone, Copy, Debug, Drop)]
+pub struct Step {
+    pub first: u32,
+    pub label: u32,
+    pub walk: u32,
+}
+
+/// A label's value after a ride, and the number of the label.
+#[derive(Clone, Copy, Drop)]
+pub struct Ridden<V> {
+    pub value: V,
+    pub label: u32,
+}

@@ -1,0 +1,166 @@
+use crate::entry::{Entry, Item, Ridden, Step};
+use crate::insertion::insert;
+use crate::search::late;
+use bags::Point;
+use criteria::Criterion;
+use std::alloc::{AllocError, Global};
+
+/// Lists of points under a criterion, each named by a place, its head. Place 0 is the empty list.
+///
+/// A list is never changed: an insertion makes another one of it.
+#[derive(Drop)]
+pub struct FrontLists<C: Criterion> {
+    criterion: C,
+    entries: Vec<Entry<C::V>>,
+    items: Vec<Item<C::V>>,
+    steps: Vec<Step>,
+    // room for an insertion
+    passed: Vec<u32>,
+    kept: Vec<Item<C::V>>,
+}
+
+impl<C: Criterion> FrontLists<C> {
+    ghost use Rattle.std.specs.Prelude.{◌≡◌, [], ℕ, ◌<◌, ◌≤◌, Contains, IfOk, length, slice_get, Some};
+    ghost use Rattle.criteria.specs.Laws.{Admits, IsSecs};
+    ghost use Rattle.fronts.specs.Front.{Extends};
+    ghost use Rattle.fronts.specs.Lists.{IsSound, lists_criterion, entries_of, items_of, steps_of, list_points, front_at, IsBettered, TakesRidden};
+
+    /// No lists but the empty one.
+    pub fn new(alloc: Global, criterion: C) -> Result<Self, AllocError>
+        ensures criterion { IfOk result (λ lists. lists_criterion lists ≡ criterion) }
+        ensures sound { IfOk result (λ lists. IsSound C.rules lists) }
+        ensures empty { IfOk result (λ lists. list_points lists 0 ≡ []) }
+    {
+        let mut entries = Vec::new(alloc);
+        entries.push(Entry {
+            departure: u32::MAX,
+            next: 0,
+            rest: 0,
+            count: 0,
+            tag: 0,
+            value: criterion.arrive(0),
+        })?;
+        Ok(FrontLists {
+            criterion,
+            entries,
+            items: Vec::new(alloc),
+            steps: Vec::new(alloc),
+            passed: Vec::new(alloc),
+            kept: Vec::new(alloc),
+        })
+    }
+
+    /// The place of the front from a time on: it is made of points of the list that depart at the time or later, and betters each of
+    /// them.
+    pub fn front_from(&self, head: u32, time: u32) -> u32
+        requires sound { IsSound C.rules self.now }
+        requires head { head < length (entries_of self.now) }
+        ensures within { result < length (entries_of self.now) }
+        ensures made_of { (p : _) → Contains (front_at self.now result) p → Contains (list_points self.now head) p × (time ≤ p.departure) × Admits (C.rules (lists_criterion self.now)) p.value }
+        ensures betters { (p : _) → Contains (list_points self.now head) p → time ≤ p.departure → IsBettered (C.rules (lists_criterion self.now)) (front_at self.now result) p.value }
+    {
+        late(&self.criterion, &self.entries, &self.items, head, time)
+    }
+
+    /// How many points the front at a place has.
+    pub fn front_len(&self, place: u32) -> usize
+        requires sound { IsSound C.rules self.now }
+        requires within { place < length (entries_of self.now) }
+        ensures { result ≡ length (front_at self.now place) }
+    {
+        if place == 0 {
+            return 0;
+        }
+        let entry = self.entries[place as usize];
+        with_own(entry.count)
+    }
+
+    /// A point of the front at a place.
+    pub fn front_point(&self, place: u32, k: usize) -> Point<C::V>
+        requires sound { IsSound C.rules self.now }
+        requires within { place < length (entries_of self.now) }
+        requires point { k < length (front_at self.now place) }
+        ensures { slice_get (front_at self.now place) k ≡ Some result }
+    {
+        let entry = self.entries[place as usize];
+        if k == 0 {
+            return point(entry.departure, entry.value, entry.tag);
+        }
+        let item = item_at(&self.items, entry.rest, k - 1);
+        point(item.departure, item.value, item.tag)
+    }
+
+    /// How one goes on from a point, by its tag.
+    pub fn step(&self, tag: usize) -> Option<Step>
+        ensures { result ≡ slice_get (steps_of self.now) tag }
+    {
+        self.steps.get(tag).copied()
+    }
+
+    /// Takes the ridden values in after a footpath: the list that comes of it. The old one stays as it was, and where memory is wanting
+    /// there is no new one.
+    pub fn insert(
+        &mut self,
+        head: u32,
+        departure: u32,
+        first: u32,
+        walk: u32,
+        secs: u32,
+        ridden: &[Ridden<C::V>],
+    ) -> Result<u32, AllocError>
+        requires sound { IsSound C.rules self.old }
+        requires head { head < length (entries_of self.old) }
+        requires secs { IsSecs secs }
+        requires ridden { (r : _) → Contains ridden.now r → Admits (C.rules (lists_criterion self.old)) r.value }
+        ensures sound { IsSound C.rules self.new }
+        ensures criterion { lists_criterion self.new ≡ lists_criterion self.old }
+        ensures more_entries { Extends (entries_of self.old) (entries_of self.new) }
+        ensures more_steps { Extends (steps_of self.old) (steps_of self.new) }
+        ensures same { (place : ℕ) → place < length (entries_of self.old) → list_points self.new place ≡ list_points self.old place }
+        ensures within { IfOk result (λ new. new < length (entries_of self.new)) }
+        ensures takes { IfOk result (λ new. TakesRidden (C.rules (lists_criterion self.old)) (steps_of self.new) departure first walk secs ridden.now (list_points self.old head) (list_points self.new new)) }
+    {
+        insert(
+            &self.criterion,
+            &mut self.entries,
+            &mut self.items,
+            &mut self.steps,
+            &mut self.passed,
+            &mut self.kept,
+            head,
+            departure,
+            first,
+            walk,
+            secs,
+            ridden,
+        )
+    }
+}
+
+ghost use Rattle.std.specs.Prelude.{◌≡◌, ◌+◌, ◌<◌, length, slice_get, Some};
+
+// A point, with its tag as a number of words.
+fn point<V>(departure: u32, value: V, tag: u32) -> Point<V>
+    ensures { result ≡ record { departure = departure; value = value; tag = tag } }
+{
+    Point {
+        departure,
+        value,
+        tag: tag as usize,
+    }
+}
+
+// How many points a front has, with its own.
+fn with_own(count: u32) -> usize
+    ensures { result ≡ count + 1 }
+{
+    count as usize + 1
+}
+
+// An item at a place from another on.
+fn item_at<V: Copy>(items: &[Item<V>], rest: u32, k: usize) -> Item<V>
+    requires { rest + k < length items.now }
+    ensures { slice_get items.now (rest + k) ≡ Some result }
+{
+    items[rest as usize + k]
+}

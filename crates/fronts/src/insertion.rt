@@ -1,0 +1,114 @@
+//! Insertions in a list, which make another list of it.
+
+ghost use Rattle.std.specs.Prelude.{◌≡◌, ℕ, ◌<◌, ◌≤◌, length, Contains, IfOk};
+ghost use Rattle.criteria.specs.Laws.{Admits, IsSecs};
+ghost use Rattle.fronts.specs.Front.{next_of, departure_of, points_from, Extends};
+ghost use Rattle.fronts.specs.Entries.{AreEntries};
+ghost use Rattle.fronts.specs.Putting.{IsPath, DepartBefore, CoversAll, IsUnion};
+ghost use Rattle.fronts.specs.Walking.{TakesBoardings};
+
+use crate::entry::{Entry, Item, Ridden, Step};
+use crate::keeping::{keep_front, keep_walked};
+use crate::putting::put;
+use crate::search::pass;
+use criteria::Criterion;
+use std::alloc::AllocError;
+
+// Puts what a list leaves of an entry's front before it, where that is something. The list covers what comes after the entry.
+fn join_one<C: Criterion>(
+    criterion: &C,
+    entries: &mut Vec<Entry<C::V>>,
+    items: &mut Vec<Item<C::V>>,
+    kept: &mut Vec<Item<C::V>>,
+    from: u32,
+    place: u32,
+) -> Result<u32, AllocError>
+    requires entries { AreEntries (C.rules criterion.now) entries.old.items items.old.items }
+    requires some { 0 < from }
+    requires from { from < length entries.old.items }
+    requires place { place < length entries.old.items }
+    requires early { departure_of entries.old.items from < departure_of entries.old.items place }
+    requires covers { CoversAll (C.rules criterion.now) (points_from entries.old.items items.old.items (next_of entries.old.items from)) (points_from entries.old.items items.old.items place) }
+    ensures entries { AreEntries (C.rules criterion.now) entries.new.items items.new.items }
+    ensures more_entries { Extends entries.old.items entries.new.items }
+    ensures more_items { Extends items.old.items items.new.items }
+    ensures late { IfOk result (λ new. departure_of entries.old.items from ≤ departure_of entries.new.items new) }
+    ensures within { IfOk result (λ new. new < length entries.new.items) }
+    ensures joined { IfOk result (λ new. IsUnion (C.rules criterion.now) (points_from entries.old.items items.old.items from) (points_from entries.old.items items.old.items place) (points_from entries.new.items items.new.items new)) }
+{
+    keep_front(criterion, entries, items, from, place, kept)?;
+    if kept.len() == 0 {
+        return Ok(place);
+    }
+    let departure = entries[from as usize].departure;
+    let new = put(criterion, entries, items, kept, place, departure)?;
+    Ok(new)
+}
+
+// Puts what a list leaves of the fronts of these entries before it, from the last one on.
+fn join<C: Criterion>(
+    criterion: &C,
+    entries: &mut Vec<Entry<C::V>>,
+    items: &mut Vec<Item<C::V>>,
+    kept: &mut Vec<Item<C::V>>,
+    passed: &mut Vec<u32>,
+    head: u32,
+    after: u32,
+    place: u32,
+) -> Result<u32, AllocError>
+    requires entries { AreEntries (C.rules criterion.now) entries.old.items items.old.items }
+    requires place { place < length entries.old.items }
+    requires path { IsPath entries.old.items head passed.old.items after }
+    requires after { after < length entries.old.items }
+    requires early { DepartBefore entries.old.items (departure_of entries.old.items place) passed.old.items }
+    requires covers { CoversAll (C.rules criterion.now) (points_from entries.old.items items.old.items after) (points_from entries.old.items items.old.items place) }
+    ensures entries { AreEntries (C.rules criterion.now) entries.new.items items.new.items }
+    ensures more_entries { Extends entries.old.items entries.new.items }
+    ensures more_items { Extends items.old.items items.new.items }
+    ensures within { IfOk result (λ new. new < length entries.new.items) }
+    ensures joined { IfOk result (λ new. IsUnion (C.rules criterion.now) (points_from entries.old.items items.old.items head) (points_from entries.old.items items.old.items place) (points_from entries.new.items items.new.items new)) }
+{
+    let mut new = place;
+    while let Some(from) = passed.pop() {
+        new = join_one(criterion, entries, items, kept, from, new)?;
+    }
+    Ok(new)
+}
+
+/// Takes the ridden values in after a footpath: the list that comes of it.
+pub fn insert<C: Criterion>(
+    criterion: &C,
+    entries: &mut Vec<Entry<C::V>>,
+    items: &mut Vec<Item<C::V>>,
+    steps: &mut Vec<Step>,
+    passed: &mut Vec<u32>,
+    kept: &mut Vec<Item<C::V>>,
+    head: u32,
+    departure: u32,
+    first: u32,
+    walk: u32,
+    secs: u32,
+    ridden: &[Ridden<C::V>],
+) -> Result<u32, AllocError>
+    requires entries { AreEntries (C.rules criterion.now) entries.old.items items.old.items }
+    requires head { head < length entries.old.items }
+    requires secs { IsSecs secs }
+    requires ridden { (r : _) → Contains ridden.now r → Admits (C.rules criterion.now) r.value }
+    ensures entries { AreEntries (C.rules criterion.now) entries.new.items items.new.items }
+    ensures more_entries { Extends entries.old.items entries.new.items }
+    ensures more_items { Extends items.old.items items.new.items }
+    ensures more_steps { Extends steps.old.items steps.new.items }
+    ensures within { IfOk result (λ new. new < length entries.new.items) }
+    ensures takes { IfOk result (λ new. TakesBoardings (C.rules criterion.now) steps.new.items departure first walk secs ridden.now (points_from entries.old.items items.old.items head) (points_from entries.new.items items.new.items new)) }
+{
+    let after = pass(criterion, entries, items, head, departure, passed)?;
+    keep_walked(
+        criterion, entries, items, after, steps, kept, departure, first, walk, secs, ridden,
+    )?;
+    if kept.len() == 0 {
+        return Ok(head);
+    }
+    let place = put(criterion, entries, items, kept, after, departure)?;
+    let new = join(criterion, entries, items, kept, passed, head, after, place)?;
+    Ok(new)
+}

@@ -1,0 +1,152 @@
+//! Points kept for a front that is to be put before a list.
+
+ghost use Rattle.std.specs.Prelude.{◌≡◌, ◌⊎◌, ◌+◌, ◌++◌, ◌∷◌, [], ℕ, ◌<◌, ◌≤◌, take, drop, length, Contains, IfOk, OnOk};
+ghost use Rattle.criteria.specs.Laws.{Admits, IsSecs};
+ghost use Rattle.fronts.specs.Front.{front, Extends};
+ghost use Rattle.fronts.specs.Entries.{AreEntries};
+ghost use Rattle.fronts.specs.Putting.{left_by};
+ghost use Rattle.fronts.specs.Walking.{IsKept, AreBoardings, AllWalked};
+
+use crate::entry::{Entry, Item, Ridden, Step};
+use crate::putting::place_of;
+use crate::search::front_betters;
+use criteria::Criterion;
+use std::alloc::AllocError;
+
+// Keeps a point that none of the front at a place betters.
+fn keep_point<C: Criterion>(
+    criterion: &C,
+    entries: &[Entry<C::V>],
+    items: &[Item<C::V>],
+    place: u32,
+    kept: &mut Vec<Item<C::V>>,
+    point: Item<C::V>,
+) -> Result<(), AllocError>
+    requires entries { AreEntries (C.rules criterion.now) entries.now items.now }
+    requires place { place < length entries.now }
+    requires point { Admits (C.rules criterion.now) point.value }
+    ensures { OnOk result (kept.new.items ≡ kept.old.items ++ left_by (C.rules criterion.now) (front entries.now items.now place) (point ∷ [])) }
+{
+    if !front_betters(criterion, entries, items, place, &point.value) {
+        kept.push(point)?;
+    }
+    Ok(())
+}
+
+/// Keeps those of the front of an entry that none of the front at another place betters.
+pub fn keep_front<C: Criterion>(
+    criterion: &C,
+    entries: &[Entry<C::V>],
+    items: &[Item<C::V>],
+    from: u32,
+    place: u32,
+    kept: &mut Vec<Item<C::V>>,
+) -> Result<(), AllocError>
+    requires entries { AreEntries (C.rules criterion.now) entries.now items.now }
+    requires place { place < length entries.now }
+    requires some { 0 < from }
+    requires from { from < length entries.now }
+    ensures { OnOk result (kept.new.items ≡ left_by (C.rules criterion.now) (front entries.now items.now place) (front entries.now items.now from)) }
+{
+    kept.clear();
+    let entry = entries[from as usize];
+    let own = Item {
+        departure: entry.departure,
+        value: entry.value,
+        tag: entry.tag,
+    };
+    keep_point(criterion, entries, items, place, kept, own)?;
+    keep_part(
+        criterion,
+        entries,
+        items,
+        entry.rest,
+        entry.count,
+        place,
+        kept,
+    )?;
+    Ok(())
+}
+
+// Keeps those of so many items from a place on that none of the front at another place betters.
+fn keep_part<C: Criterion>(
+    criterion: &C,
+    entries: &[Entry<C::V>],
+    items: &[Item<C::V>],
+    rest: u32,
+    count: u32,
+    place: u32,
+    kept: &mut Vec<Item<C::V>>,
+) -> Result<(), AllocError>
+    requires entries { AreEntries (C.rules criterion.now) entries.now items.now }
+    requires place { place < length entries.now }
+    requires part { rest + count ≤ length items.now }
+    requires items { (p : _) → Contains (take count (drop rest items.now)) p → Admits (C.rules criterion.now) p.value }
+    ensures { OnOk result (kept.new.items ≡ kept.old.items ++ left_by (C.rules criterion.now) (front entries.now items.now place) (take count (drop rest items.now))) }
+{
+    let begin = rest as usize;
+    for k in begin..begin + count as usize {
+        let item = items[k];
+        keep_point(criterion, entries, items, place, kept, item)?;
+    }
+    Ok(())
+}
+
+// Keeps a value: its step, and a point with the place of the step for its tag.
+fn keep_value<V: Copy>(
+    steps: &mut Vec<Step>,
+    kept: &mut Vec<Item<V>>,
+    departure: u32,
+    value: V,
+    step: Step,
+) -> Result<(), AllocError>
+    ensures more { Extends steps.old.items steps.new.items }
+    ensures keeps { OnOk result (IsKept steps.old.items kept.old.items departure value step steps.new.items kept.new.items) }
+{
+    let tag = place_of(steps.len())?;
+    steps.push(step)?;
+    kept.push(Item {
+        departure,
+        value,
+        tag,
+    })?;
+    Ok(())
+}
+
+/// Keeps the ridden values, each after a footpath, that none of the front at a place betters.
+pub fn keep_walked<C: Criterion>(
+    criterion: &C,
+    entries: &[Entry<C::V>],
+    items: &[Item<C::V>],
+    place: u32,
+    steps: &mut Vec<Step>,
+    kept: &mut Vec<Item<C::V>>,
+    departure: u32,
+    first: u32,
+    walk: u32,
+    secs: u32,
+    ridden: &[Ridden<C::V>],
+) -> Result<(), AllocError>
+    requires entries { AreEntries (C.rules criterion.now) entries.now items.now }
+    requires place { place < length entries.now }
+    requires secs { IsSecs secs }
+    requires ridden { (r : _) → Contains ridden.now r → Admits (C.rules criterion.now) r.value }
+    ensures more { Extends steps.old.items steps.new.items }
+    ensures boarded { OnOk result (AreBoardings (C.rules criterion.now) steps.new.items departure first walk secs ridden.now kept.new.items) }
+    ensures all { OnOk result (AllWalked (C.rules criterion.now) (front entries.now items.now place) secs ridden.now (length ridden.now) kept.new.items) }
+{
+    kept.clear();
+    for i in 0..ridden.len() {
+        let ride = ridden[i];
+        let value = criterion.walk(secs, &ride.value);
+        if !front_betters(criterion, entries, items, place, &value) {
+            let step = Step {
+                first,
+                label: ride.label,
+                walk,
+            };
+            keep_value(steps, kept, departure, value, step)?;
+        }
+    }
+    Ok(())
+}

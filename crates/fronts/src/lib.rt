@@ -1,0 +1,17 @@
+// Fronts: lists of entries in one vector, each with the front of the points that depart at its time or later.
+//
+// Entries and items are only pushed, never changed, so a place names the same list for ever. Place 0 ends each list.
+#![tactic(auto)]
+
+pub mod entry;
+pub mod front_lists;
+mod insertion;
+mod keeping;
+mod putting;
+mod search;
+
+pub use entry::{Entry, Item, Ridden, Step};
+pub use front_lists::FrontLists;
+
+#[cfg(test)]
+mod tests;

@@ -1,0 +1,158 @@
+//! Fronts put before lists.
+
+ghost use Rattle.std.specs.Prelude.{◌≡◌, ◌+◌, ◌++◌, ◌∷◌, [], ℕ, ◌<◌, ◌≤◌, take, drop, length, Contains, IfOk, OnOk};
+ghost use Rattle.criteria.specs.Laws.{Admits};
+ghost use Rattle.fronts.specs.Front.{front, departure_of, points_from, Extends};
+ghost use Rattle.fronts.specs.Entries.{AreEntries};
+ghost use Rattle.fronts.specs.Putting.{Follows, left_by, MayPut, IsUnion};
+
+use crate::entry::{Entry, Item};
+use crate::search::some_no_worse;
+use criteria::Criterion;
+use std::alloc::AllocError;
+
+/// A length as a place. Past 2^32 - 1 there is no room.
+pub fn place_of(len: usize) -> Result<u32, AllocError>
+    ensures { IfOk result (λ place. place ≡ len) }
+{
+    if len > u32::MAX as usize {
+        return Err(AllocError);
+    }
+    Ok(len as u32)
+}
+
+// Pushes a point that none of some points betters.
+fn leave<C: Criterion>(
+    criterion: &C,
+    items: &mut Vec<Item<C::V>>,
+    points: &[Item<C::V>],
+    point: Item<C::V>,
+) -> Result<(), AllocError>
+    requires points { (p : _) → Contains points.now p → Admits (C.rules criterion.now) p.value }
+    requires point { Admits (C.rules criterion.now) point.value }
+    ensures extends { Extends items.old.items items.new.items }
+    ensures left { OnOk result (items.new.items ≡ items.old.items ++ left_by (C.rules criterion.now) points.now (point ∷ [])) }
+{
+    if !some_no_worse(criterion, points, &point.value) {
+        items.push(point)?;
+    }
+    Ok(())
+}
+
+// Pushes those of so many items from a place on that none of some points betters.
+fn leave_part<C: Criterion>(
+    criterion: &C,
+    items: &mut Vec<Item<C::V>>,
+    points: &[Item<C::V>],
+    rest: u32,
+    count: u32,
+) -> Result<(), AllocError>
+    requires part { rest + count ≤ length items.old.items }
+    requires points { (p : _) → Contains points.now p → Admits (C.rules criterion.now) p.value }
+    requires items { (p : _) → Contains (take count (drop rest items.old.items)) p → Admits (C.rules criterion.now) p.value }
+    ensures extends { Extends items.old.items items.new.items }
+    ensures left { OnOk result (items.new.items ≡ items.old.items ++ left_by (C.rules criterion.now) points.now (take count (drop rest items.old.items))) }
+{
+    let begin = rest as usize;
+    for k in begin..begin + count as usize {
+        let item = items[k];
+        leave(criterion, items, points, item)?;
+    }
+    Ok(())
+}
+
+// Pushes what some points leave of the front at a place.
+fn leave_front<C: Criterion>(
+    criterion: &C,
+    entries: &[Entry<C::V>],
+    items: &mut Vec<Item<C::V>>,
+    points: &[Item<C::V>],
+    place: u32,
+) -> Result<(), AllocError>
+    requires entries { AreEntries (C.rules criterion.now) entries.now items.old.items }
+    requires place { place < length entries.now }
+    requires points { (p : _) → Contains points.now p → Admits (C.rules criterion.now) p.value }
+    ensures extends { Extends items.old.items items.new.items }
+    ensures left { OnOk result (items.new.items ≡ items.old.items ++ left_by (C.rules criterion.now) points.now (front entries.now items.old.items place)) }
+{
+    if place == 0 {
+        return Ok(());
+    }
+    let entry = entries[place as usize];
+    let own = Item {
+        departure: entry.departure,
+        value: entry.value,
+        tag: entry.tag,
+    };
+    leave(criterion, items, points, own)?;
+    leave_part(criterion, items, points, entry.rest, entry.count)?;
+    Ok(())
+}
+
+// Pushes all points but the first, and what they leave of the front at a place.
+fn fill<C: Criterion>(
+    criterion: &C,
+    entries: &[Entry<C::V>],
+    items: &mut Vec<Item<C::V>>,
+    points: &[Item<C::V>],
+    place: u32,
+) -> Result<(), AllocError>
+    requires entries { AreEntries (C.rules criterion.now) entries.now items.old.items }
+    requires place { place < length entries.now }
+    requires some { 0 < length points.now }
+    requires points { (p : _) → Contains points.now p → Admits (C.rules criterion.now) p.value }
+    ensures extends { Extends items.old.items items.new.items }
+    ensures filled { OnOk result (items.new.items ≡ items.old.items ++ (drop 1 points.now ++ left_by (C.rules criterion.now) points.now (front entries.now items.old.items place))) }
+{
+    items.extend_from_slice(&points[1..])?;
+    leave_front(criterion, entries, items, points, place)?;
+    Ok(())
+}
+
+// What comes after a front of some departure that is put before the list of an entry: that entry, or the next one if it departs then.
+fn follow<V: Copy>(entry: &Entry<V>, place: u32, departure: u32) -> u32
+    requires { departure ≤ entry.now.departure }
+    ensures { Follows entry.now.departure entry.now.next place departure result }
+{
+    if entry.departure == departure {
+        entry.next
+    } else {
+        place
+    }
+}
+
+/// Puts points of one departure, and what they leave of a list's front, as a front before that list.
+pub fn put<C: Criterion>(
+    criterion: &C,
+    entries: &mut Vec<Entry<C::V>>,
+    items: &mut Vec<Item<C::V>>,
+    points: &[Item<C::V>],
+    place: u32,
+    departure: u32,
+) -> Result<u32, AllocError>
+    requires entries { AreEntries (C.rules criterion.now) entries.old.items items.old.items }
+    requires may { MayPut (C.rules criterion.now) entries.old.items departure place points.now }
+    ensures entries { AreEntries (C.rules criterion.now) entries.new.items items.new.items }
+    ensures more_entries { Extends entries.old.items entries.new.items }
+    ensures more_items { Extends items.old.items items.new.items }
+    ensures within { IfOk result (λ new. new < length entries.new.items) }
+    ensures departs { IfOk result (λ new. departure_of entries.new.items new ≡ departure) }
+    ensures union { IfOk result (λ new. IsUnion (C.rules criterion.now) points.now (points_from entries.old.items items.old.items place) (points_from entries.new.items items.new.items new)) }
+{
+    let new = place_of(entries.len())?;
+    let rest = place_of(items.len())?;
+    fill(criterion, entries, items, points, place)?;
+    let count = place_of(items.len() - rest as usize)?;
+    let next = follow(&entries[place as usize], place, departure);
+    let first = points[0];
+    let entry = Entry {
+        departure,
+        next,
+        rest,
+        count,
+        tag: first.tag,
+        value: first.value,
+    };
+    entries.push(entry)?;
+    Ok(new)
+}
