@@ -1,15 +1,19 @@
 -- The footpath from a stop into a stop by its place, and first faults by stops as first faults by places.
-use Rattle.std.proofs.Common.{◌≡◌, ◌≢◌, ℕ, zero, suc, ◌+◌, ◌-◌, ◌<◌, ◌≤◌, Bool, true, false, ◌&&◌, eqb, ltb, leb, cond, List, Option, Some, None, refl, sym, ap, subst, ◌∙◌, arith, inl, inr, ◌⊎◌}
-use Rattle.std.proofs.lemmas.Bool.{cases_Bool, cases_order, cases_lt, and_parts, ltb-true, leb-true, leb-false, eqb-true, eqb-false, eq-eqb, ne_eqb, le-ltb, lt-ltb}
+use Rattle.std.proofs.Common.{◌≡◌, ◌≢◌, ℕ, zero, suc, ◌+◌, ◌-◌, ◌<◌, ◌≤◌, eqb, cond, List, length, get_or, Option, Some, None, refl, sym, ap, subst, ◌∙◌, arith, inl, inr, ◌⊎◌}
+use Rattle.std.proofs.lemmas.Bool.{cases_Bool, cases_order, cases_lt, cases_eq, eqb-true, eqb-false, eq-eqb, ne_eqb, le-ltb, lt-ltb}
 use Rattle.std.proofs.lemmas.Option.{same_Some}
+use Rattle.std.proofs.Math.ListN.{set}
+use Rattle.std.specs.Prelude.{replicate}
+use Rattle.std.proofs.lemmas.List.{ext_get_or, get_or-set_same, get_or-set_other, get_or-replicate, length-set, length-replicate}
 use Rattle.image_layout.specs.Places.{header_of}
 use Rattle.image_layout.specs.Fields.{foot_index_of, foot_from_of, foot_secs_of}
+use Rattle.image_verifier.specs.declared.closure.TheConstants.{NEVER}
 use Rattle.image_verifier.specs.declared.fault.ImageFault.{ImageFault}
 use Rattle.image_verifier.specs.declared.fault.ImageFault.TheVariants.{NotClosed}
 use Rattle.timetable.specs.First.{first_below, first_between, any_between}
 use Rattle.image_verifier.specs.FootFaults.{HasFootRange, HasFootRanges, IsInto}
-use Rattle.image_verifier.specs.ClosureFaults.{secs_between, is_open, open_fault, way_fault, into_fault, is_direct, IsFirstFrom}
-use Rattle.timetable.proofs.FirstLemmas.{or_else-none, or_else-some, first_between-found, first_between-none, first_between-all, first_below-found, first_below-all, any_between-some, any_between-none}
+use Rattle.image_verifier.specs.ClosureFaults.{secs_from, secs_between, is_open, open_fault, way_fault, into_fault, or_never, HasSecs}
+use Rattle.timetable.proofs.FirstLemmas.{or_else-none, or_else-some, first_between-found, first_between-none, first_between-all, first_between-empty, first_between-more, first_below-found, first_below-all, any_between-some, any_between-none}
 
 pub option_cases : {X : Type 0} (o : Option X) → (o ≡ None) ⊎ ((x : X) × (o ≡ Some x))
 option_cases None = inl refl
@@ -155,16 +159,6 @@ secs_between-some w a c secs e =
     some_none : (x : ℕ) → Some x ≡ None → ⊥
     some_none x e = absurd cc
 
--- where the first footpath from stop a or one above it leaves another stop, there is none from a
-pub secs_between-missed : (w : List ℕ) (a c place : ℕ) → HasFootRange w c → IsFirstFrom w a c place → (place < foot_index_of w (c + 1) → foot_from_of w place ≢ a) → secs_between w a c ≡ None
-secs_between-missed w a c place range first other =
-    secs_between-none w a c (λ k low high same.
-    (elim (cases_order k place) [
-      | inl here ↦ other (omega (arith, here, high)) (ap (foot_from_of w) (sym here) ∙ same)
-      | inr (inl before) ↦ omega (arith, first.before k low before, same)
-      | inr (inr after) ↦ omega (arith, rises_later w c place k range first.start after high, first.here (omega (arith, after, high)), same)
-    ]))
-
 -- the fault of three stops, by the seconds between them
 pub open_fault-by : (w : List ℕ) (a b c : ℕ) (first second direct : Option ℕ) → secs_between w a b ≡ first → secs_between w b c ≡ second → secs_between w a c ≡ direct → open_fault w a b c ≡ cond (is_open first second direct) (Some (NotClosed a b c)) None
 unfolding open_fault
@@ -219,42 +213,121 @@ first_secs w first second ranges into = secs_between-at w (foot_from_of w first)
 second_secs : (w : List ℕ) (second c : ℕ) → HasFootRanges w → IsInto w c second → secs_between w (foot_from_of w second) c ≡ Some (foot_secs_of w second)
 second_secs w second c ranges into = secs_between-at w (foot_from_of w second) c second (ranges c into.stop) into.start into.end refl
 
--- two footpaths end to end, and a direct one that is as short at the one place where it can stand
-pub pair_closed : (w : List ℕ) (first second c direct : ℕ) → HasFootRanges w → IsInto w (foot_from_of w second) first → IsInto w c second → IsFirstFrom w (foot_from_of w first) c direct
-    → is_direct w (foot_from_of w first) c (foot_secs_of w first + foot_secs_of w second) direct ≡ true → open_fault w (foot_from_of w first) (foot_from_of w second) c ≡ None
-pair_closed w first second c direct ranges into_first into_second place direct_is =
+-- two footpaths end to end are no longer than what stands in the table where the first begins, or they are
+pub pair_closed : (w : List ℕ) (first second c direct : ℕ) → HasFootRanges w → IsInto w (foot_from_of w second) first → IsInto w c second
+    → direct ≡ or_never (secs_between w (foot_from_of w first) c) → direct ≤ foot_secs_of w first + foot_secs_of w second
+    → open_fault w (foot_from_of w first) (foot_from_of w second) c ≡ None
+pair_closed w first second c direct ranges into_first into_second entry le =
     let a = foot_from_of w first in
-    let parts = and_parts _ _ direct_is in
-    let front = and_parts _ _ parts.0 in
-    open_fault-closed w a (foot_from_of w second) c (foot_secs_of w first) (foot_secs_of w second) (foot_secs_of w direct)
-    (first_secs w first second ranges into_first) (second_secs w second c ranges into_second)
-    (secs_between-at w a c direct (ranges c into_second.stop) place.start (ltb-true _ _ front.0) (eqb-true _ _ front.1)) (leb-true _ _ parts.1)
-
--- .. and none that is as short there
-pub pair_open : (w : List ℕ) (first second c direct : ℕ) → HasFootRanges w → IsInto w (foot_from_of w second) first → IsInto w c second → IsFirstFrom w (foot_from_of w first) c direct
-    → is_direct w (foot_from_of w first) c (foot_secs_of w first + foot_secs_of w second) direct ≡ false → open_fault w (foot_from_of w first) (foot_from_of w second) c ≡ Some (NotClosed (foot_from_of w first) (foot_from_of w second) c)
-pair_open w first second c direct ranges into_first into_second place not_direct =
-    let a = foot_from_of w first in
+    let b = foot_from_of w second in
     let s1 = first_secs w first second ranges into_first in
     let s2 = second_secs w second c ranges into_second in
-    elim (cases_Bool (ltb direct (foot_index_of w (c + 1)) && eqb (foot_from_of w direct) a)) [
-      | inl there ↦
-          let front = and_parts _ _ there in
-          let long : leb (foot_secs_of w direct) (foot_secs_of w first + foot_secs_of w second) ≡ false = and_rest _ _ there not_direct in
-          open_fault-longer w a (foot_from_of w second) c (foot_secs_of w first) (foot_secs_of w second) (foot_secs_of w direct) s1 s2
-          (secs_between-at w a c direct (ranges c into_second.stop) place.start (ltb-true _ _ front.0) (eqb-true _ _ front.1)) (leb-false _ _ long)
-      | inr not_there ↦ open_fault-missing w a (foot_from_of w second) c (foot_secs_of w first) (foot_secs_of w second) s1 s2
-          (secs_between-missed w a c direct (ranges c into_second.stop) place (λ lt e. both_tests _ _ (lt-ltb _ _ lt) (eq-eqb _ _ e) not_there))
+    let few1 = (ranges b into_first.stop).secs first into_first.start into_first.end in
+    let few2 = (ranges c into_second.stop).secs second into_second.start into_second.end in
+    elim (option_cases (secs_between w a c)) [
+      | inl none ↦ absurd (omega (arith, entry ∙ ap or_never none, le, few1, few2))
+      | inr some ↦ open_fault-closed w a b c (foot_secs_of w first) (foot_secs_of w second) some.0 s1 s2 some.1 (omega (arith, entry ∙ ap or_never some.1, le))
+    ]
+
+pub pair_open : (w : List ℕ) (first second c direct : ℕ) → HasFootRanges w → IsInto w (foot_from_of w second) first → IsInto w c second
+    → direct ≡ or_never (secs_between w (foot_from_of w first) c) → foot_secs_of w first + foot_secs_of w second < direct
+    → open_fault w (foot_from_of w first) (foot_from_of w second) c ≡ Some (NotClosed (foot_from_of w first) (foot_from_of w second) c)
+pair_open w first second c direct ranges into_first into_second entry lt =
+    let a = foot_from_of w first in
+    let b = foot_from_of w second in
+    let s1 = first_secs w first second ranges into_first in
+    let s2 = second_secs w second c ranges into_second in
+    elim (option_cases (secs_between w a c)) [
+      | inl none ↦ open_fault-missing w a b c (foot_secs_of w first) (foot_secs_of w second) s1 s2 none
+      | inr some ↦ open_fault-longer w a b c (foot_secs_of w first) (foot_secs_of w second) some.0 s1 s2 some.1 (omega (arith, entry ∙ ap or_never some.1, lt))
+    ]
+
+-- what is found from a up to before b is found without the place at either end where nothing is
+without_last : {X : Type 0} (f : ℕ → Option X) (a k : ℕ) → a ≤ k → f k ≡ None → first_between f a (k + 1) ≡ first_between f a k
+without_last f a k le none =
+    elim (option_cases (first_between f a k)) [
+      | inl nothing ↦ first_between-more f a k le nothing none ∙ sym nothing
+      | inr some ↦
+          let h = first_between-some f a k some.0 some.1 in
+          first_between-found f a (k + 1) h.0 some.0 h.1.low (omega (arith, h.1.high)) h.1.none_before h.1.here ∙ sym some.1
+    ]
+
+without_first : {X : Type 0} (f : ℕ → Option X) (k b : ℕ) → k < b → f k ≡ None → first_between f (k + 1) b ≡ first_between f k b
+without_first f k b lt none =
+    elim (option_cases (first_between f (k + 1) b)) [
+      | inl nothing ↦ nothing ∙ sym (first_between-all f k b (λ i low high. here_or_later i b low high nothing))
+      | inr some ↦
+          let h = first_between-some f (k + 1) b some.0 some.1 in
+          some.1 ∙ sym (first_between-found f k b h.0 some.0 (omega (arith, h.1.low)) h.1.high
+          (first_between-all f k h.0 (λ i low high. here_or_later i h.0 low high h.1.none_before)) h.1.here)
     ]
   where
-    and_rest : (x y : Bool) → x ≡ true → (x && y) ≡ false → y ≡ false
-    and_rest true y e f = f
-    and_rest false y e f = absurd cc
+    here_or_later : (i end : ℕ) → k ≤ i → i < end → first_between f (k + 1) end ≡ None → f i ≡ None
+    here_or_later i end low high nothing =
+        elim (cases_order i k) [
+          | inl same ↦ ap f same ∙ none
+          | inr (inl below) ↦ absurd (omega (arith, below, low))
+          | inr (inr above) ↦ first_between-none f (k + 1) end i (omega (arith, above)) high nothing
+        ]
 
-    both_tests : (x y : Bool) → x ≡ true → y ≡ true → (x && y) ≡ false → ⊥
-    both_tests true true e f g = absurd cc
-    both_tests true false e f g = absurd cc
-    both_tests false y e f g = absurd cc
+-- a table without entries has those of no place
+pub HasSecs-none : (w : List ℕ) (k : ℕ) (secs : List ℕ) → secs ≡ replicate (header_of w).stops NEVER → HasSecs w k k secs
+HasSecs-none w k secs e = record {
+  size = ap length e ∙ length-replicate (header_of w).stops NEVER;
+  entry = λ a lt.
+      ap (λ (xs : List ℕ). get_or xs a 0) e ∙ get_or-replicate (header_of w).stops a NEVER 0 lt
+      ∙ sym (ap or_never (first_between-empty (secs_from w a) k k (omega arith)));
+}
+
+pub no_entries : (w : List ℕ) (low k : ℕ) (secs : List ℕ) → k ≤ low → HasSecs w low k secs → secs ≡ replicate (header_of w).stops NEVER
+no_entries w low k secs le table =
+    let stops = (header_of w).stops in
+    ext_get_or 0 secs (replicate stops NEVER) (table.size ∙ sym (length-replicate stops NEVER)) (λ a lt.
+    let within : a < stops = omega (arith, lt, table.size) in
+    table.entry a within ∙ ap or_never (first_between-empty (secs_from w a) low k le) ∙ sym (get_or-replicate stops a NEVER 0 within))
+
+-- one place more
+pub HasSecs-more : (w : List ℕ) (c k : ℕ) (secs : List ℕ) → HasFootRange w c → foot_index_of w c ≤ k → k < foot_index_of w (c + 1)
+    → HasSecs w (foot_index_of w c) k secs → HasSecs w (foot_index_of w c) (k + 1) (set secs (foot_from_of w k) (foot_secs_of w k))
+HasSecs-more w c k secs range low high table =
+    let low_end = foot_index_of w c in
+    let b = foot_from_of w k in
+    let time = foot_secs_of w k in
+    let inside : b < length secs = omega (arith, range.from k low high, table.size) in
+    record {
+      size = length-set secs b time ∙ table.size;
+      entry = λ a lt. elim (cases_eq b a) [
+        | inl same ↦
+            let found : first_between (secs_from w a) low_end (k + 1) ≡ Some time =
+            first_between-found (secs_from w a) low_end (k + 1) k time low (omega arith)
+            (first_between-all (secs_from w a) low_end k (λ j jl jh. secs_elsewhere w a j (λ e. omega (arith, rises_later w c j k range jl jh high, e, same))))
+            (secs_here w a k same) in
+            ap (λ (x : ℕ). get_or (set secs b time) x 0) (sym same) ∙ get_or-set_same secs b time 0 inside ∙ sym (ap or_never found)
+        | inr other ↦
+            get_or-set_other secs b a time 0 (λ e. other (sym e)) ∙ table.entry a lt
+            ∙ ap or_never (sym (without_last (secs_from w a) low_end k low (secs_elsewhere w a k other)))
+      ];
+    }
+
+-- one place less
+pub HasSecs-less : (w : List ℕ) (c k : ℕ) (secs : List ℕ) → HasFootRange w c → foot_index_of w c ≤ k → k < foot_index_of w (c + 1)
+    → HasSecs w k (foot_index_of w (c + 1)) secs → HasSecs w (k + 1) (foot_index_of w (c + 1)) (set secs (foot_from_of w k) NEVER)
+HasSecs-less w c k secs range low high table =
+    let end = foot_index_of w (c + 1) in
+    let b = foot_from_of w k in
+    let inside : b < length secs = omega (arith, range.from k low high, table.size) in
+    record {
+      size = length-set secs b NEVER ∙ table.size;
+      entry = λ a lt. elim (cases_eq b a) [
+        | inl same ↦
+            let none : first_between (secs_from w a) (k + 1) end ≡ None =
+            first_between-all (secs_from w a) (k + 1) end (λ j jl jh. secs_elsewhere w a j (λ e. omega (arith, rises_later w c k j range low (omega (arith, jl)) jh, e, same))) in
+            ap (λ (x : ℕ). get_or (set secs b NEVER) x 0) (sym same) ∙ get_or-set_same secs b NEVER 0 inside ∙ sym (ap or_never none)
+        | inr other ↦
+            get_or-set_other secs b a NEVER 0 (λ e. other (sym e)) ∙ table.entry a lt
+            ∙ ap or_never (sym (without_first (secs_from w a) k end high (secs_elsewhere w a k other)))
+      ];
+    }
 
 -- the fault by way of stop b to stop c from where the footpath at place i begins
 abbrev pub open_at : List ℕ → ℕ → ℕ → ℕ → Option ImageFault

@@ -1,16 +1,18 @@
--- The table of each trip's last connection, and what a connection without fault keeps.
-use Rattle.std.proofs.Common.{◌≡◌, ◌≢◌, ℕ, ◌+◌, ◌-◌, ◌<◌, ◌≤◌, ◌||◌, eqb, leb, ltb, List, length, get_or, Option, Some, None, refl, sym, ap, ◌∙◌, arith, inl, inr}
+-- The table of where and when each trip ended last, and what a connection without fault keeps.
+use Rattle.std.proofs.Common.{◌≡◌, ◌≢◌, ℕ, ◌+◌, ◌<◌, ◌≤◌, ◌||◌, false, eqb, leb, ltb, List, length, get_or, Option, Some, None, refl, sym, ap, ◌∙◌, arith, inl, inr}
 use Rattle.std.proofs.Math.ListN.{set}
-use Rattle.std.specs.Prelude.{replicate, SomeIff}
+use Rattle.std.specs.Prelude.{replicate}
 use Rattle.std.proofs.lemmas.Bool.{cases_eq, or_parts, leb-false, ltb-false, eq-eqb, ne_eqb}
 use Rattle.std.proofs.lemmas.List.{get_or-set_same, get_or-set_other, length-set, length-replicate, get_or-replicate}
+use Rattle.std.proofs.lemmas.Option.{same_Some}
 use Rattle.timetable.specs.declared.limits.TheConstants.{TIME_END}
 use Rattle.image_layout.specs.Places.{header_of}
 use Rattle.image_layout.specs.Fields.{from_of, to_of, dep_of, arr_of, trip_of, flags_of}
+use Rattle.image_verifier.specs.declared.connections.TripEnd.{TripEnd}
 use Rattle.image_verifier.specs.declared.fault.ImageFault.TheVariants.{StopRange, TripRange, TimeRange, HopWithoutDuration, BadFlags}
 use Rattle.timetable.specs.First.{last_below}
-use Rattle.image_verifier.specs.ConnectionFaults.{own_fault, connection_fault, last_of_trip, place_after, IsLastTable}
-use Rattle.timetable.proofs.FirstLemmas.{or_else_parts, no_fault, last_below-hit, last_below-miss, last_below-within}
+use Rattle.image_verifier.specs.ConnectionFaults.{own_fault, connection_fault, last_of_trip, is_break, end_of, breaks_at, AreTripEnds}
+use Rattle.timetable.proofs.FirstLemmas.{or_else_parts, no_fault, last_below-hit, last_below-miss}
 
 -- what a connection by itself without fault keeps
 pub record IsSound (w : List ℕ) (i : ℕ) : Type 0 where
@@ -45,35 +47,48 @@ pub own_fault-none : (w : List ℕ) (i : ℕ) → connection_fault w i ≡ None 
 unfolding connection_fault
 own_fault-none w i e = (or_else_parts (own_fault w i) _ e).0
 
--- what stands in the table, less one, is the trip's last connection
-pub last_is : (o : Option ℕ) (n : ℕ) (r : Option ℕ) → n ≡ place_after o → SomeIff r (1 ≤ n) (n - 1) → r ≡ o
-last_is None n None e is = refl
-last_is None n (Some x) e is = absurd (omega (arith, e, is.0))
-last_is (Some j) n None e is = absurd (is (omega (arith, e)))
-last_is (Some j) n (Some x) e is = ap Some (omega (arith, is.1, e))
-
--- it is a connection before i
-pub last_within : (w : List ℕ) (i : ℕ) (trip j : ℕ) → last_of_trip w trip i ≡ Some j → j < i
-last_within w i trip j e = last_below-within (λ k. eqb (trip_of w k) trip) i j e
+-- what an end says of a connection is what the connection that ended there says
+pub break_by_end : (w : List ℕ) (i : ℕ) (last : Option ℕ) → ((j : ℕ) → last ≡ Some j → 0 < arr_of w j) → breaks_at w i (end_of w last) ≡ is_break w i last
+break_by_end w i None arrives = refl
+break_by_end w i (Some j) arrives =
+    let late : eqb (arr_of w j) 0 ≡ false = ne_eqb _ _ (above (arr_of w j) (arrives j refl)) in
+    rw late refl
+  where
+    above : (n : ℕ) → 0 < n → n ≢ 0
+    above n lt e = omega (arith, lt, e)
 
 -- before the first connection no trip has one
-pub IsLastTable-start : (w : List ℕ) (last : List ℕ) → last ≡ replicate (header_of w).trips 0 → IsLastTable w 0 last
+pub AreTripEnds-start : (w : List ℕ) (ends : List TripEnd) → ends ≡ replicate (header_of w).trips (end_of w None) → AreTripEnds w 0 ends
 unfolding last_below
-IsLastTable-start w last e = record {
-  size = ap length e ∙ length-replicate (header_of w).trips 0;
-  entry = λ t lt. ap (λ (xs : List ℕ). get_or xs t 0) e ∙ get_or-replicate (header_of w).trips t 0 0 lt;
+AreTripEnds-start w ends e = record {
+  size = ap length e ∙ length-replicate (header_of w).trips (end_of w None);
+  entry = λ t lt. ap (λ (xs : List TripEnd). get_or xs t (end_of w None)) e ∙ get_or-replicate (header_of w).trips t (end_of w None) (end_of w None) lt;
+  arrives = λ t j none. absurd cc;
 }
 
 -- one connection on
-pub IsLastTable-more : (w : List ℕ) (i : ℕ) (last : List ℕ) → trip_of w i < (header_of w).trips → IsLastTable w i last → IsLastTable w (i + 1) (set last (trip_of w i) (i + 1))
-IsLastTable-more w i last in_range table = record {
-  size = length-set last (trip_of w i) (i + 1) ∙ table.size;
-  entry = λ t lt. elim (cases_eq (trip_of w i) t) [
-    | inl same ↦
-        let at : get_or (set last (trip_of w i) (i + 1)) (trip_of w i) 0 ≡ i + 1 = get_or-set_same last (trip_of w i) (i + 1) 0 (omega (arith, table.size)) in
-        ap (λ (k : ℕ). get_or (set last (trip_of w i) (i + 1)) k 0) (sym same) ∙ at ∙ ap place_after (sym (last_below-hit (λ j. eqb (trip_of w j) t) i (eq-eqb _ _ same)))
-    | inr other ↦
-        let ne : t ≢ trip_of w i = λ e. other (sym e) in
-        get_or-set_other last (trip_of w i) t (i + 1) 0 ne ∙ table.entry t lt ∙ ap place_after (sym (last_below-miss (λ j. eqb (trip_of w j) t) i (ne_eqb _ _ other)))
-  ];
-}
+pub AreTripEnds-more : (w : List ℕ) (i : ℕ) (ends : List TripEnd) → IsSound w i → AreTripEnds w i ends → AreTripEnds w (i + 1) (set ends (trip_of w i) (end_of w (Some i)))
+AreTripEnds-more w i ends sound table =
+    let new = set ends (trip_of w i) (end_of w (Some i)) in
+    let size : length new ≡ (header_of w).trips = length-set ends (trip_of w i) (end_of w (Some i)) ∙ table.size in
+    record {
+      size = size;
+      entry = λ t lt. elim (cases_eq (trip_of w i) t) [
+        | inl same ↦
+            let at : get_or new (trip_of w i) (end_of w None) ≡ end_of w (Some i) = get_or-set_same ends (trip_of w i) (end_of w (Some i)) (end_of w None) (omega (arith, sound.trip, table.size)) in
+            ap (λ (k : ℕ). get_or new k (end_of w None)) (sym same) ∙ at ∙ ap (end_of w) (sym (here t same))
+        | inr other ↦
+            let ne : t ≢ trip_of w i = λ e. other (sym e) in
+            get_or-set_other ends (trip_of w i) t (end_of w (Some i)) (end_of w None) ne ∙ table.entry t lt ∙ ap (end_of w) (sym (elsewhere t other))
+      ];
+      arrives = λ t j last. elim (cases_eq (trip_of w i) t) [
+        | inl same ↦ omega (arith, sound.duration, ap (arr_of w) (same_Some i j (sym (here t same) ∙ last)))
+        | inr other ↦ table.arrives t j (sym (elsewhere t other) ∙ last)
+      ];
+    }
+  where
+    here : (t : ℕ) → trip_of w i ≡ t → last_of_trip w t (i + 1) ≡ Some i
+    here t same = last_below-hit (λ j. eqb (trip_of w j) t) i (eq-eqb _ _ same)
+
+    elsewhere : (t : ℕ) → trip_of w i ≢ t → last_of_trip w t (i + 1) ≡ last_of_trip w t i
+    elsewhere t other = last_below-miss (λ j. eqb (trip_of w j) t) i (ne_eqb _ _ other)

@@ -73,7 +73,7 @@ sorted_from_legal w can (suc i) lt =
 pub connection_faultless : (w : List ℕ) → IsWellFormed w → HasImage (timetable_of w) (names_of w) → (i : ℕ) → i < (header_of w).connections → connection_fault w i ≡ None
 unfolding connection_fault
 connection_faultless w form can i lt =
-    or_else-none (own_fault w i) (place_fault w i (last_of_trip w (trip_of w i) i)) (own-faultless w i (sound_from_legal w form can i lt))
+    or_else-none (own_fault w i) (place_fault w i (is_break w i (last_of_trip w (trip_of w i) i))) (own-faultless w i (sound_from_legal w form can i lt))
     ∙ passes _ (Unsorted i) _ (sorted_from_legal w can i lt) (passes _ (TripBroken i) None (unbroken_from_legal w can i lt (last_of_trip w (trip_of w i) i) refl) refl)
 
 -- the shown footpath of a place, into the stop whose place it is

@@ -1,8 +1,9 @@
 -- What can be wrong with a connection, in the order in which it is told.
-use Rattle.std.specs.Prelude.{◌≡◌, ◌<◌, length, slice_index, ℕ, ◌+◌, ◌-◌, Bool, false, not, ◌||◌, ◌&&◌, ◌==◌, nat_lt, nat_le, List, Option, Some, None, if◌then◌else◌}
+use Rattle.std.specs.Prelude.{◌≡◌, ◌<◌, length, slice_index_or, ℕ, ◌-◌, Bool, false, not, ◌||◌, ◌&&◌, ◌==◌, nat_lt, nat_le, List, Option, Some, None, if◌then◌else◌}
 use Rattle.timetable.specs.declared.limits.TheConstants.{TIME_END}
 use Rattle.image_layout.specs.Places.{header_of}
 use Rattle.image_layout.specs.Fields.{from_of, to_of, dep_of, arr_of, trip_of, flags_of}
+use Rattle.image_verifier.specs.declared.connections.TripEnd.{TripEnd}
 use Rattle.image_verifier.specs.declared.fault.ImageFault.{ImageFault}
 use Rattle.image_verifier.specs.declared.fault.ImageFault.TheVariants.{StopRange, TripRange, TimeRange, HopWithoutDuration, BadFlags, Unsorted, TripBroken}
 use Rattle.timetable.specs.First.{or_else, first_below, last_below}
@@ -26,27 +27,32 @@ own_fault w i =
     else (if nat_lt 3 (flags_of w i) then Some (BadFlags i)
     else None))))
 
--- the fault of connection i beside those before it, the last one of its trip being given
-abbrev pub place_fault : List ℕ → ℕ → Option ℕ → Option ImageFault
-place_fault w i last =
+-- the fault of connection i beside those before it, where it is known whether it breaks its trip
+abbrev pub place_fault : List ℕ → ℕ → Bool → Option ImageFault
+place_fault w i broken =
     if nat_lt 0 i && nat_lt (dep_of w i) (dep_of w (i - 1)) then Some (Unsorted i)
-    else (if is_break w i last then Some (TripBroken i)
+    else (if broken then Some (TripBroken i)
     else None)
 
 -- the fault of connection i
 unfoldable pub connection_fault : List ℕ → ℕ → Option ImageFault
-connection_fault w i = or_else (own_fault w i) (place_fault w i (last_of_trip w (trip_of w i) i))
+connection_fault w i = or_else (own_fault w i) (place_fault w i (is_break w i (last_of_trip w (trip_of w i) i)))
 
 -- the first fault of the connections, one by one
 abbrev pub connections_fault : List ℕ → Option ImageFault
 connections_fault w = first_below (connection_fault w) (header_of w).connections
 
--- the place after a place, or 0 where there is none
-abbrev pub place_after : Option ℕ → ℕ
-place_after None = 0
-place_after (Some j) = j + 1
+-- where and when a connection ended, given its place; all 0 where there is none
+abbrev pub end_of : List ℕ → Option ℕ → TripEnd
+end_of w None = record { stop = 0; arr = 0 }
+end_of w (Some j) = record { stop = to_of w j; arr = arr_of w j }
 
--- at each trip, the place after its last connection before place i
-pub record IsLastTable (w : List ℕ) (i : ℕ) (last : List ℕ) : Type 0 where
-  pub size : length last ≡ (header_of w).trips
-  pub entry : (t : ℕ) → t < (header_of w).trips → slice_index last t ≡ place_after (last_of_trip w t i)
+-- connection i doesn't go on from that end; an arrival of 0 is no end
+abbrev pub breaks_at : List ℕ → ℕ → TripEnd → Bool
+breaks_at w i end = not (end.arr == 0) && (not (end.stop == from_of w i) || nat_lt (dep_of w i) end.arr)
+
+-- at each trip, where and when its last connection before place i ended; none arrives at 0
+pub record AreTripEnds (w : List ℕ) (i : ℕ) (ends : List TripEnd) : Type 0 where
+  pub size : length ends ≡ (header_of w).trips
+  pub entry : (t : ℕ) → t < (header_of w).trips → slice_index_or ends t (end_of w None) ≡ end_of w (last_of_trip w t i)
+  pub arrives : (t j : ℕ) → last_of_trip w t i ≡ Some j → 0 < arr_of w j

@@ -1,114 +1,96 @@
 //! Judges whether two footpaths end to end are ever shorter than the direct one.
 //!
-//! For each footpath from b into c the footpaths into b and those into c are gone through side by side, both by the stop
-//! that they leave. So the whole takes time in the sum, over all footpaths from b into c, of the number of footpaths into b and
-//! the number into c, and no memory.
+//! For each stop, the seconds of the footpaths into it are put into a table, each at the stop that the footpath leaves. Then
+//! each footpath into where one of these begins is compared with one entry. So the whole takes time in the number of pairs
+//! of footpaths end to end, and a word for each stop.
 
-ghost use Rattle.std.specs.Prelude.{◌≡◌, ◌<◌, ◌≤◌, ◌+◌, ℕ};
+ghost use Rattle.std.specs.Prelude.{◌≡◌, ◌<◌, ◌+◌, replicate, IfNone};
 ghost use Rattle.image_layout.specs.Places.{IsWhole, header_of};
 ghost use Rattle.image_layout.specs.Fields.{foot_from_of, foot_index_of};
+ghost use Rattle.image_verifier.specs.declared.closure.TheConstants.{NEVER};
 ghost use Rattle.image_verifier.specs.FootFaults.{HasFootRanges, IsInto};
-ghost use Rattle.image_verifier.specs.ClosureFaults.{open_fault, way_fault, into_fault, closure_fault, is_direct, IsFirstFrom};
+ghost use Rattle.image_verifier.specs.ClosureFaults.{way_fault, into_fault, closure_fault, HasSecs};
 
 use crate::fault::ImageFault;
 use image_layout::{Header, foot_from_at, foot_index_at, foot_secs_at};
 
-/// The first place, of those into a stop and from a place on, whose footpath leaves `from` or a stop above it.
-fn first_from(words: &[u32], from: u32, into: usize, place: usize) -> usize
+/// The entry of a stop from where no footpath leads: more seconds than any two footpaths take.
+pub const NEVER: u32 = 4_294_967_295;
+
+/// Puts the seconds of the footpaths into a stop into a table without entries.
+fn enter_row(words: &[u32], into: usize, secs: &mut [u32])
     requires whole { IsWhole words.now }
     requires ranges { HasFootRanges words.now }
     requires into { into < (header_of words.now).stops }
-    requires start { foot_index_of words.now into ≤ place }
-    requires end { place ≤ foot_index_of words.now (into + 1) }
-    requires before { (k : ℕ) → foot_index_of words.now into ≤ k → k < place → foot_from_of words.now k < from }
-    ensures { IsFirstFrom words.now from into result }
+    requires empty { secs.old ≡ replicate (header_of words.now).stops NEVER }
+    ensures { HasSecs words.now (foot_index_of words.now into) (foot_index_of words.now (into + 1)) secs.new }
 {
-    let end = foot_index_at(words, into + 1) as usize;
-    for k in place..end {
-        if foot_from_at(words, k) >= from {
-            return k;
-        }
+    for k in foot_index_at(words, into) as usize..foot_index_at(words, into + 1) as usize {
+        secs[foot_from_at(words, k) as usize] = foot_secs_at(words, k);
     }
-    end
 }
 
-fn is_direct(words: &[u32], from: u32, into: usize, most: u32, place: usize) -> bool
+/// Takes them out again.
+fn clear_row(words: &[u32], into: usize, secs: &mut [u32])
     requires whole { IsWhole words.now }
     requires ranges { HasFootRanges words.now }
     requires into { into < (header_of words.now).stops }
-    ensures { result ≡ is_direct words.now from into most place }
+    requires entered { HasSecs words.now (foot_index_of words.now into) (foot_index_of words.now (into + 1)) secs.old }
+    ensures { secs.new ≡ replicate (header_of words.now).stops NEVER }
 {
-    place < foot_index_at(words, into + 1) as usize
-        && foot_from_at(words, place) == from
-        && foot_secs_at(words, place) <= most
-}
-
-/// The fault of a first footpath and a second one, which leads into a stop, where a direct one can stand at one place alone.
-fn pair_fault(
-    words: &[u32],
-    first: usize,
-    second: usize,
-    into: usize,
-    direct: usize,
-) -> Option<ImageFault>
-    requires whole { IsWhole words.now }
-    requires ranges { HasFootRanges words.now }
-    requires second { IsInto words.now into second }
-    requires first { IsInto words.now (foot_from_of words.now second) first }
-    requires direct { IsFirstFrom words.now (foot_from_of words.now first) into direct }
-    ensures { result ≡ open_fault words.now (foot_from_of words.now first) (foot_from_of words.now second) into }
-{
-    let from = foot_from_at(words, first);
-    let most = foot_secs_at(words, first) + foot_secs_at(words, second);
-    if is_direct(words, from, into, most, direct) {
-        return None;
+    for k in foot_index_at(words, into) as usize..foot_index_at(words, into + 1) as usize {
+        secs[foot_from_at(words, k) as usize] = NEVER;
     }
-    Some(ImageFault::NotClosed(from as usize, foot_from_at(words, second) as usize, into))
 }
 
-/// The first fault from any stop by way of where a second footpath begins.
-fn way_fault(words: &[u32], into: usize, second: usize) -> Option<ImageFault>
+/// The first fault from any stop by way of where a second footpath begins, which leads into a stop.
+fn way_fault(words: &[u32], into: usize, second: usize, secs: &[u32]) -> Option<ImageFault>
     requires whole { IsWhole words.now }
     requires ranges { HasFootRanges words.now }
     requires second { IsInto words.now into second }
+    requires entered { HasSecs words.now (foot_index_of words.now into) (foot_index_of words.now (into + 1)) secs.now }
     ensures { result ≡ way_fault words.now (foot_from_of words.now second) into }
 {
     let middle = foot_from_at(words, second) as usize;
-    let mut direct = foot_index_at(words, into) as usize;
+    let second_secs = foot_secs_at(words, second);
     for first in foot_index_at(words, middle) as usize..foot_index_at(words, middle + 1) as usize {
-        direct = first_from(words, foot_from_at(words, first), into, direct);
-        if let Some(fault) = pair_fault(words, first, second, into, direct) {
-            return Some(fault);
+        let from = foot_from_at(words, first) as usize;
+        if secs[from] > foot_secs_at(words, first) + second_secs {
+            return Some(ImageFault::NotClosed(from, middle, into));
         }
     }
     None
 }
 
-/// The first fault from any stop by way of any stop into a stop.
-#[tactic(auto, using(timetable::proofs::FirstLemmas::searches))]
-fn into_fault(words: &[u32], into: usize) -> Option<ImageFault>
+/// The first fault from any stop by way of any stop into a stop. The table has no entries before, and none behind where there
+/// is no fault.
+fn into_fault(words: &[u32], into: usize, secs: &mut [u32]) -> Option<ImageFault>
     requires whole { IsWhole words.now }
     requires ranges { HasFootRanges words.now }
     requires into { into < (header_of words.now).stops }
-    ensures { result ≡ into_fault words.now into }
+    requires empty { secs.old ≡ replicate (header_of words.now).stops NEVER }
+    ensures fault { result ≡ into_fault words.now into }
+    ensures empty { IfNone result (secs.new ≡ replicate (header_of words.now).stops NEVER) }
 {
+    enter_row(words, into, secs);
     for second in foot_index_at(words, into) as usize..foot_index_at(words, into + 1) as usize {
-        if let Some(fault) = way_fault(words, into, second) {
+        if let Some(fault) = way_fault(words, into, second, secs) {
             return Some(fault);
         }
     }
+    clear_row(words, into, secs);
     None
 }
 
-/// The first two footpaths end to end that are shorter than the direct one.
-#[tactic(auto, using(timetable::proofs::FirstLemmas::searches))]
-pub fn closure_fault(words: &[u32]) -> Option<ImageFault>
+/// The first two footpaths end to end that are shorter than the direct one, over a table without entries.
+pub fn closure_fault(words: &[u32], secs: &mut [u32]) -> Option<ImageFault>
     requires whole { IsWhole words.now }
     requires ranges { HasFootRanges words.now }
+    requires empty { secs.old ≡ replicate (header_of words.now).stops NEVER }
     ensures { result ≡ closure_fault words.now }
 {
     for into in 0..Header::of(words).stops as usize {
-        if let Some(fault) = into_fault(words, into) {
+        if let Some(fault) = into_fault(words, into, secs) {
             return Some(fault);
         }
     }

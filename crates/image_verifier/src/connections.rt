@@ -1,9 +1,8 @@
 //! Judges the connections, one by one.
 
-ghost use Rattle.std.specs.Prelude.{◌≡◌, ◌<◌, None, replicate};
-ghost use Rattle.std.specs.Option.{ForSome};
+ghost use Rattle.std.specs.Prelude.{◌≡◌, ◌<◌, replicate};
 ghost use Rattle.image_layout.specs.Places.{IsWhole, header_of};
-ghost use Rattle.image_verifier.specs.ConnectionFaults.{own_fault, place_fault, is_break, connection_fault, connections_fault, IsLastTable};
+ghost use Rattle.image_verifier.specs.ConnectionFaults.{own_fault, place_fault, breaks_at, connection_fault, connections_fault, AreTripEnds};
 
 use crate::fault::ImageFault;
 use image_layout::{Header, arr_at, dep_at, flags_at, from_at, to_at, trip_at};
@@ -31,62 +30,77 @@ fn own_fault(words: &[u32], i: usize) -> Option<ImageFault>
     }
 }
 
-/// Whether connection i doesn't go on from where and when the trip's connection before it ended.
-fn is_break(words: &[u32], i: usize, last: Option<u32>) -> bool
-    requires whole { IsWhole words.now }
-    requires within { i < (header_of words.now).connections }
-    requires last { ForSome last (λ j. j < (header_of words.now).connections) }
-    ensures { result ≡ is_break words.now i last }
-{
-    match last {
-        None => false,
-        Some(j) => to_at(words, j as usize) != from_at(words, i)
-            || dep_at(words, i) < arr_at(words, j as usize),
+/// Where and when a trip's connection ended.
+#[derive(Clone, Copy)]
+pub struct TripEnd {
+    pub stop: u32,
+    pub arr: u32,
+}
+
+impl TripEnd {
+    /// What stands where a trip has no connection yet: no connection arrives at 0.
+    pub fn none() -> TripEnd
+        ensures { result ≡ record { stop = 0; arr = 0 } }
+    {
+        TripEnd { stop: 0, arr: 0 }
     }
 }
 
-/// The fault of connection i beside the one before it and its trip's connection before it.
-fn place_fault(words: &[u32], i: usize, last: Option<u32>) -> Option<ImageFault>
+/// Whether connection i doesn't go on from where and when the trip's connection before it ended.
+fn is_break(words: &[u32], i: usize, end: TripEnd) -> bool
     requires whole { IsWhole words.now }
     requires within { i < (header_of words.now).connections }
-    requires last { ForSome last (λ j. j < (header_of words.now).connections) }
-    ensures { result ≡ place_fault words.now i last }
+    ensures { result ≡ breaks_at words.now i end }
+{
+    end.arr != 0 && (end.stop != from_at(words, i) || dep_at(words, i) < end.arr)
+}
+
+/// The fault of connection i beside the one before it, where it is known whether it breaks its trip.
+fn place_fault(words: &[u32], i: usize, broken: bool) -> Option<ImageFault>
+    requires whole { IsWhole words.now }
+    requires within { i < (header_of words.now).connections }
+    ensures { result ≡ place_fault words.now i broken }
 {
     if i > 0 && dep_at(words, i) < dep_at(words, i - 1) {
         Some(ImageFault::Unsorted(i))
-    } else if is_break(words, i, last) {
+    } else if broken {
         Some(ImageFault::TripBroken(i))
     } else {
         None
     }
 }
 
-/// The fault of connection i. The table has a place for each trip: the one after the trip's last connection before i, or 0.
-#[tactic(auto, unfolding(crate::specs::ConnectionFaults::connection_fault))]
-fn connection_fault(words: &[u32], i: usize, last: &[u32]) -> Option<ImageFault>
+/// The fault of connection i, over a table of where and when each trip's last connection before i ended.
+fn connection_fault(words: &[u32], i: usize, ends: &[TripEnd]) -> Option<ImageFault>
     requires whole { IsWhole words.now }
     requires within { i < (header_of words.now).connections }
-    requires table { IsLastTable words.now i last.now }
+    requires table { AreTripEnds words.now i ends.now }
     ensures { result ≡ connection_fault words.now i }
 {
     match own_fault(words, i) {
         Some(fault) => Some(fault),
-        None => place_fault(words, i, last[trip_at(words, i) as usize].checked_sub(1)),
+        None => place_fault(
+            words,
+            i,
+            is_break(words, i, ends[trip_at(words, i) as usize]),
+        ),
     }
 }
 
-/// The first fault of the connections, over a table with a 0 for each trip.
-pub fn connections_fault(words: &[u32], last: &mut [u32]) -> Option<ImageFault>
+/// The first fault of the connections, over a table with no end for each trip.
+pub fn connections_fault(words: &[u32], ends: &mut [TripEnd]) -> Option<ImageFault>
     requires whole { IsWhole words.now }
-    requires table { last.old ≡ replicate (header_of words.now).trips 0 }
+    requires table { ends.old ≡ replicate (header_of words.now).trips (record { stop = 0; arr = 0 }) }
     ensures { result ≡ connections_fault words.now }
 {
-    for i in 0..Header::of(words).connections {
-        let place = i as usize;
-        if let Some(fault) = connection_fault(words, place, last) {
+    for i in 0..Header::of(words).connections as usize {
+        if let Some(fault) = connection_fault(words, i, ends) {
             return Some(fault);
         }
-        last[trip_at(words, place) as usize] = i + 1;
+        ends[trip_at(words, i) as usize] = TripEnd {
+            stop: to_at(words, i),
+            arr: arr_at(words, i),
+        };
     }
     None
 }

@@ -4,10 +4,11 @@ ghost use Rattle.std.specs.Prelude.{◌≡◌, MatchResult, replicate, IfNone, �
 ghost use Rattle.image_layout.specs.Places.{IsWhole, header_of};
 ghost use Rattle.image_layout.specs.Text.{padded_text_of};
 ghost use Rattle.image_verifier.specs.Accepted.{IsAccepted};
+ghost use Rattle.image_verifier.specs.declared.closure.TheConstants.{NEVER};
 ghost use Rattle.image_verifier.specs.FirstFault.{header_fault, section_fault, Tells, is_too_large};
 
-use crate::closure::closure_fault;
-use crate::connections::connections_fault;
+use crate::closure::{NEVER, closure_fault};
+use crate::connections::{TripEnd, connections_fault};
 use crate::fault::ImageFault;
 use crate::footpaths::footpaths_fault;
 use crate::names::names_fault;
@@ -47,21 +48,28 @@ fn header_fault(words: &[u32]) -> Option<ImageFault>
     None
 }
 
-/// What is judged after all memory was taken: a table with a 0 for each trip, and the text of the names.
+/// What is judged after all memory was taken: tables with no end for each trip and no
+/// seconds for each stop, and the text of the names.
 #[tactic(auto, unfolding(crate::specs::FirstFault::section_fault))]
-fn section_fault(words: &[u32], last: &mut [u32], text: &[u8]) -> Option<ImageFault>
+fn section_fault(
+    words: &[u32],
+    ends: &mut [TripEnd],
+    secs: &mut [u32],
+    text: &[u8],
+) -> Option<ImageFault>
     requires whole { IsWhole words.now }
-    requires table { last.old ≡ replicate (header_of words.now).trips 0 }
+    requires table { ends.old ≡ replicate (header_of words.now).trips (record { stop = 0; arr = 0 }) }
+    requires empty { secs.old ≡ replicate (header_of words.now).stops NEVER }
     requires text { text.now ≡ padded_text_of words.now }
     ensures { result ≡ section_fault words.now }
 {
-    if let Some(fault) = connections_fault(words, last) {
+    if let Some(fault) = connections_fault(words, ends) {
         return Some(fault);
     }
     if let Some(fault) = footpaths_fault(words) {
         return Some(fault);
     }
-    if let Some(fault) = closure_fault(words) {
+    if let Some(fault) = closure_fault(words, secs) {
         return Some(fault);
     }
     names_fault(words, text)
@@ -77,9 +85,10 @@ pub fn judge(alloc: Global, words: &[u32]) -> Result<(), ImageFault>
         return Err(fault);
     }
     let header = Header::of(words);
-    let mut last = vec![in alloc; 0; header.trips as usize]?;
+    let mut ends = vec![in alloc; TripEnd::none(); header.trips as usize]?;
+    let mut secs = vec![in alloc; NEVER; header.stops as usize]?;
     let text = Words::to_bytes(alloc, &words[header.text_place()..])?;
-    match section_fault(words, &mut last, &text) {
+    match section_fault(words, &mut ends, &mut secs, &text) {
         Some(fault) => Err(fault),
         None => Ok(()),
     }

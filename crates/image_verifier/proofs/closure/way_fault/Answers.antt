@@ -1,7 +1,9 @@
-use Rattle.std.proofs.Common.{◌≡◌, ◌+◌, ℕ, arith, ap, sym, subst, ◌∙◌}
-use Rattle.image_layout.specs.Fields.{foot_index_of, foot_from_of}
-use Rattle.image_verifier.specs.ClosureFaults.{IsFirstFrom}
-use Rattle.image_verifier.proofs.ClosureLemmas.{open_at, way_by_place, rises_later, none_to_end}
+use Rattle.std.proofs.Common.{◌≡◌, ◌+◌, ◌<◌, ◌≤◌, ℕ, get_or, arith, ap, sym, ◌∙◌}
+use Rattle.image_layout.specs.Fields.{foot_index_of, foot_from_of, foot_secs_of}
+use Rattle.image_verifier.specs.declared.fault.ImageFault.TheVariants.{NotClosed}
+use Rattle.image_verifier.specs.FootFaults.{IsInto}
+use Rattle.image_verifier.specs.ClosureFaults.{secs_between}
+use Rattle.image_verifier.proofs.ClosureLemmas.{open_at, way_by_place, pair_closed, pair_open, none_to_end}
 use Rattle.timetable.proofs.FirstLemmas.{first_between-empty, first_between-more, first_between-found}
 use Rattle.image_verifier.proofs.closure.way_fault.Goals as goal
 
@@ -10,39 +12,48 @@ loop-first-init c =
     let w = c.args.words.now in
     let middle = foot_from_of w c.args.second in
     let first : c.foot_index_at-first.result ≡ foot_index_of w middle = c.foot_index_at-first.ensures ∙ ap (λ (m : ℕ). foot_index_of w m) c.foot_from_at-middle.ensures in
-    let range = c.requires.ranges c.args.into c.requires.second.stop in
-    record {
-      none_before = first_between-empty (open_at w middle c.args.into) (foot_index_of w middle) c.foot_index_at-first.result (omega arith);
-      start = omega arith;
-      end = omega (arith, range.rises);
-      passed = λ i k il ih kl kh. absurd (omega arith);
-    }
+    first_between-empty (open_at w middle c.args.into) (foot_index_of w middle) c.foot_index_at-first.result (omega arith)
 
-pub returns-in-Some : goal.returns-in-Some
-returns-in-Some c =
+pub returns-then-secs-from : goal.returns-then-secs-from
+unfolding secs_between
+returns-then-secs-from c =
     let w = c.args.words.now in
-    let middle = foot_from_of w c.args.second in
+    let into = c.args.into in
+    let first = c.loop-first.first in
+    let second = c.args.second in
+    let middle = foot_from_of w second in
     let start : c.foot_index_at-first.result ≡ foot_index_of w middle = c.foot_index_at-first.ensures ∙ ap (λ (m : ℕ). foot_index_of w m) c.foot_from_at-middle.ensures in
     let end : c.foot_index_at-first-end.result ≡ foot_index_of w (middle + 1) = c.foot_index_at-first-end.ensures ∙ ap (λ (m : ℕ). foot_index_of w (m + 1)) c.foot_from_at-middle.ensures in
-    let in_range = (c.requires.ranges c.args.into c.requires.second.stop).from c.args.second c.requires.second.start c.requires.second.end in
-    sym (way_by_place w middle c.args.into (c.requires.ranges middle in_range)
-    ∙ first_between-found (open_at w middle c.args.into) (foot_index_of w middle) (foot_index_of w (middle + 1)) c.loop-first.first c.in-Some.fault (omega arith) (omega arith) c.loop-first.invariant.none_before (sym c.pair_fault.ensures ∙ c.in-Some.is))
+    let in_range = (c.requires.ranges into c.requires.second.stop).from second c.requires.second.start c.requires.second.end in
+    let range = c.requires.ranges middle in_range in
+    let into_middle : IsInto w middle first = record { stop = in_range; start = omega arith; end = omega arith } in
+    let entry = c.requires.entered.entry (foot_from_of w first) (range.from first into_middle.start into_middle.end) in
+    let long : foot_secs_of w first + foot_secs_of w second < get_or c.args.secs.now (foot_from_of w first) 0 =
+    rw (c.foot_from_at-from.ensures, c.foot_secs_at.ensures, c.foot_secs_at-second_secs.ensures) at c.if-secs-from.true in
+    let longer = pair_open w first second into (get_or c.args.secs.now (foot_from_of w first) 0) c.requires.ranges into_middle c.requires.second entry long in
+    rw (c.foot_from_at-from.ensures, c.foot_from_at-middle.ensures)
+    (sym (way_by_place w middle into range
+    ∙ first_between-found (open_at w middle into) (foot_index_of w middle) (foot_index_of w (middle + 1)) first (NotClosed (foot_from_of w first) middle into)
+    into_middle.start into_middle.end c.loop-first.invariant longer))
 
 pub loop-first-preserved : goal.loop-first-preserved
+unfolding secs_between
 loop-first-preserved c =
     let w = c.args.words.now in
-    let middle = foot_from_of w c.args.second in
+    let into = c.args.into in
     let first = c.loop-first.first in
+    let second = c.args.second in
+    let middle = foot_from_of w second in
     let start : c.foot_index_at-first.result ≡ foot_index_of w middle = c.foot_index_at-first.ensures ∙ ap (λ (m : ℕ). foot_index_of w m) c.foot_from_at-middle.ensures in
-    let in_range = (c.requires.ranges c.args.into c.requires.second.stop).from c.args.second c.requires.second.start c.requires.second.end in
+    let end : c.foot_index_at-first-end.result ≡ foot_index_of w (middle + 1) = c.foot_index_at-first-end.ensures ∙ ap (λ (m : ℕ). foot_index_of w (m + 1)) c.foot_from_at-middle.ensures in
+    let in_range = (c.requires.ranges into c.requires.second.stop).from second c.requires.second.start c.requires.second.end in
     let range = c.requires.ranges middle in_range in
-    let place : IsFirstFrom w (foot_from_of w first) c.args.into c.first_from-direct.result = subst (λ (a : ℕ). IsFirstFrom w a c.args.into c.first_from-direct.result) c.foot_from_at.ensures c.first_from-direct.ensures in
-    record {
-      none_before = first_between-more (open_at w middle c.args.into) (foot_index_of w middle) first (omega arith) c.loop-first.invariant.none_before (sym c.pair_fault.ensures ∙ c.in_default.is);
-      start = place.start;
-      end = place.end;
-      passed = λ i k il ih kl kh. omega (arith, place.before k kl kh, rises_later w middle first i range (omega arith) (omega arith) ih);
-    }
+    let into_middle : IsInto w middle first = record { stop = in_range; start = omega arith; end = omega arith } in
+    let entry = c.requires.entered.entry (foot_from_of w first) (range.from first into_middle.start into_middle.end) in
+    let test = rw (c.foot_from_at-from.ensures, c.foot_secs_at.ensures, c.foot_secs_at-second_secs.ensures) at c.if-secs-from.false in
+    let short : get_or c.args.secs.now (foot_from_of w first) 0 ≤ foot_secs_of w first + foot_secs_of w second = omega (arith, test) in
+    first_between-more (open_at w middle into) (foot_index_of w middle) first into_middle.start c.loop-first.invariant
+    (pair_closed w first second into (get_or c.args.secs.now (foot_from_of w first) 0) c.requires.ranges into_middle c.requires.second entry short)
 
 pub returns : goal.returns
 returns c =
@@ -51,4 +62,4 @@ returns c =
     let end : c.foot_index_at-first-end.result ≡ foot_index_of w (middle + 1) = c.foot_index_at-first-end.ensures ∙ ap (λ (m : ℕ). foot_index_of w (m + 1)) c.foot_from_at-middle.ensures in
     let in_range = (c.requires.ranges c.args.into c.requires.second.stop).from c.args.second c.requires.second.start c.requires.second.end in
     sym (way_by_place w middle c.args.into (c.requires.ranges middle in_range)
-    ∙ none_to_end (open_at w middle c.args.into) (foot_index_of w middle) (foot_index_of w (middle + 1)) c.loop-first.first (omega arith) c.loop-first.invariant.none_before)
+    ∙ none_to_end (open_at w middle c.args.into) (foot_index_of w middle) (foot_index_of w (middle + 1)) c.loop-first.first (omega arith) c.loop-first.invariant)
