@@ -13,7 +13,7 @@ use Rattle.version_core.specs.Kept.{Kept}
 use Rattle.version_core.specs.Rest.{IsNoLoad, RestStays}
 use Rattle.version_core.specs.Laws.{RunsGrow, LooksAndTakesHold, DropsLetGo}
 use Rattle.version_core.proofs.Lists.{slice_get-set_same}
-use Rattle.epochs.specs.declared.edition.Edition.{Edition}
+use Rattle.shelf_steps.specs.declared.edition.Edition.{Edition}
 use Rattle.epochs.specs.History.{IsHistory, AreShelved, IsEdition}
 use Rattle.epochs.specs.Pins.{IsCurrent, IsLookAndTake, IsDrop}
 

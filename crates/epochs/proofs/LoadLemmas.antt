@@ -14,7 +14,7 @@ use Rattle.version_core.specs.Kept.{Kept}
 use Rattle.version_core.specs.Rest.{IsAtRest, LoadsRest, loaded}
 use Rattle.version_core.specs.Laws.{RunsGrowByRuns}
 use Rattle.version_core.proofs.Lists.{slice_get-set, slice_get-append, slice_get-last}
-use Rattle.epochs.specs.declared.edition.Edition.{Edition}
+use Rattle.shelf_steps.specs.declared.edition.Edition.{Edition}
 use Rattle.epochs.specs.History.{IsHistory, AreShelved, StandsOn, IsEdition, HeldHaveImages, image_of}
 use Rattle.epochs.specs.Publishing.{Publishes}
 

@@ -14,7 +14,7 @@ use Rattle.version_core.specs.Kept.{Kept}
 use Rattle.version_core.specs.Rest.{IsAtRest, RestIsFull}
 use Rattle.version_core.specs.Laws.{RunsJoin}
 use Rattle.version_core.proofs.Lists.{slice_get-set, slice_get-set_same, slice_get-set_other}
-use Rattle.epochs.specs.declared.edition.Edition.{Edition}
+use Rattle.shelf_steps.specs.declared.edition.Edition.{Edition}
 use Rattle.epochs.specs.declared.collected.Collected.{Collected}
 use Rattle.epochs.specs.History.{TableValue, AreShelved, StandsOn}
 use Rattle.epochs.specs.Publishing.{TriesShelf, Collects, tries, try_at, is_freed, busy_count, after_try, HasFree, AreFull}

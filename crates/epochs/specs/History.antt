@@ -1,6 +1,5 @@
 -- The table of versions beside its history.
-use Rattle.std.specs.Prelude.{◌≡◌, ℕ, zero, suc, List, length, slice_get, Option, Some, None}
-use Rattle.std.specs.Arc.{arc_value}
+use Rattle.std.specs.Prelude.{◌≡◌, ℕ, List, length, slice_get, Option, Some, None}
 use Rattle.image_layout.specs.Image.{ImageValue}
 use Rattle.version_core.specs.declared.event.Event.{Event}
 use Rattle.version_core.specs.declared.state.Shelf.{Shelf}
@@ -8,21 +7,13 @@ use Rattle.version_core.specs.State.{State, start, newest}
 use Rattle.version_core.specs.Steps.{Holds}
 use Rattle.version_core.specs.Runs.{IsRun}
 use Rattle.version_core.specs.Rest.{IsAtRest}
-use Rattle.epochs.specs.declared.edition.Edition.{Edition}
+use Rattle.shelf_steps.specs.declared.edition.Edition.{Edition}
+pub use Rattle.shelf_steps.specs.Course.{image_of, IsEdition}
 
 pub record TableValue : Type 0 where
   pub state : State
   pub events : List Event  -- all that happened since the start
   pub images : List ImageValue  -- of version 1, then of version 2, and so on
-
--- the image of a version. Versions count from 1
-abbrev pub image_of : List ImageValue → ℕ → Option ImageValue
-image_of images zero = None
-image_of images (suc n) = slice_get images n
-
--- the version with its image
-abbrev pub IsEdition : List ImageValue → ℕ → Option Edition → Type 0
-IsEdition images v edition = (e : Edition) × (edition ≡ Some e) × (e.version ≡ v) × (image_of images v ≡ Some (arc_value e.image))
 
 -- what stands on a shelf
 abbrev pub StandsOn : List ImageValue → Shelf → Option Edition → Type 0
@@ -34,6 +25,12 @@ StandsOn images (Shelf.Closing v) edition = IsEdition images v edition
 pub record IsHistory (state : State) (events : List Event) (images : List ImageValue) : Type 0 where
   pub run : IsRun start events state
   pub rest : IsAtRest state
+  pub as_many : length images ≡ newest state
+  pub numbered : (i edition : ℕ) → slice_get state.editions i ≡ Some edition → edition ≡ i
+
+-- the same, at any moment
+pub record LeadsTo (state : State) (events : List Event) (images : List ImageValue) : Type 0 where
+  pub run : IsRun start events state
   pub as_many : length images ≡ newest state
   pub numbered : (i edition : ℕ) → slice_get state.editions i ≡ Some edition → edition ≡ i
 

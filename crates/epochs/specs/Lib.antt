@@ -5,3 +5,5 @@ pub mod Pins
 pub mod Publishing
 pub mod Locked
 pub mod SeatLaws
+pub mod ShelfSeats
+pub mod ShelfLoads

@@ -1,21 +1,26 @@
-//! Who pins versions of an image and who publishes them, and a table of versions under one lock.
+//! Who pins versions of an image and who publishes them: shelves under one lock, and shelves without a lock.
 #![tactic(auto)]
 
 mod collected;
-mod edition;
 mod faults;
 pub mod laws;
 mod locked;
 mod seats;
+mod shelf_loader;
+mod shelf_seats;
+mod shelves;
 mod solo;
 mod table;
 mod versions;
 
 pub use collected::Collected;
-pub use edition::Edition;
 pub use faults::{PinFault, PublishFault};
 pub use locked::LockedShelves;
 pub use seats::{Answer, LoaderAnswer, LoaderSeat, WorkerSeat};
+pub use shelf_loader::ShelfLoader;
+pub use shelf_seats::ShelfSeat;
+pub use shelf_steps::Edition;
+pub use shelves::Shelves;
 pub use solo::SoloShelves;
 pub use table::VersionTable;
 pub use versions::{Loads, Versions};

@@ -9,12 +9,12 @@ ghost use Rattle.epochs.specs.Locked.{UnderLock, PinsAt, ReleasesAt, PublishesAt
 ghost use Rattle.epochs.specs.declared.faults.PublishFault.{PublishFault};
 
 use crate::collected::Collected;
-use crate::edition::Edition;
 use crate::faults::{PinFault, PublishFault};
 use crate::seats::{LoaderSeat, WorkerSeat};
 use crate::table::VersionTable;
 use crate::versions::{Loads, Versions};
 use image_verifier::Verified;
+use shelf_steps::Edition;
 use std::alloc::{AllocError, Global};
 use std::sync::{Arc, Mutex, Wait};
 

@@ -7,9 +7,9 @@ ghost use Rattle.epochs.specs.declared.faults.PinFault.{PinFault};
 ghost use Rattle.epochs.specs.Seats.{PinStep, IsHolding, IsEmpty, idle_seat, told, emptied};
 
 use crate::collected::Collected;
-use crate::edition::Edition;
 use crate::faults::{PinFault, PublishFault};
 use image_verifier::Verified;
+use shelf_steps::Edition;
 use std::marker::Model;
 use std::snapshot::Snapshot;
 use timetable::Trace;

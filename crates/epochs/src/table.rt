@@ -7,16 +7,16 @@ ghost use Rattle.version_core.specs.Steps.{IsIdle, Holds, IsClosing};
 ghost use Rattle.version_core.specs.Kept.{Kept};
 ghost use Rattle.version_core.specs.declared.state.Worker.{Worker};
 ghost use Rattle.epochs.specs.Seats.{PinStep, ReleaseStep, PublishStep, RefuseStep, CollectStep};
-ghost use Rattle.epochs.specs.History.{IsHistory, HeldHaveImages, TableValue};
+ghost use Rattle.epochs.specs.History.{IsHistory, LeadsTo, HeldHaveImages, TableValue};
 ghost use Rattle.epochs.specs.Pins.{HoldsInHistory, SeatFits, Pins, RefusesPin, Releases, RefusesRelease, IsOffer, IsCurrent, IsLookAndTake, IsDrop};
 ghost use Rattle.epochs.specs.Publishing.{TriesShelf, Collects, HasFree, MakesRoom, Publishes, RefusesPublish, StaysCurrent};
 ghost use Rattle.epochs.specs.declared.faults.PublishFault.{PublishFault};
 
 use crate::collected::Collected;
-use crate::edition::Edition;
 use crate::faults::{PinFault, PublishFault};
 use crate::seats::{Answer, LoaderAnswer, LoaderSeat, WorkerSeat};
 use image_verifier::Verified;
+use shelf_steps::Edition;
 use std::alloc::{AllocError, Global};
 use std::marker::Model;
 use std::snapshot::Snapshot;
@@ -74,6 +74,7 @@ impl VersionTable {
     /// the start. It does nothing: its contract is the promise.
     pub fn history(&self)
         ensures history { IsHistory self.now.state self.now.events self.now.images }
+        ensures leads { LeadsTo self.now.state self.now.events self.now.images }
         ensures kept { Kept self.now.state }
         ensures held { HeldHaveImages self.now.state self.now.images }
     {

@@ -7,9 +7,9 @@ ghost use Rattle.epochs.specs.Pins.{HoldsInHistory};
 ghost use Rattle.epochs.specs.declared.seats.LoaderAnswer.{LoaderAnswer};
 
 use crate::collected::Collected;
-use crate::edition::Edition;
 use crate::faults::{PinFault, PublishFault};
 use image_verifier::Verified;
+use shelf_steps::Edition;
 use std::alloc::Global;
 use std::sync::{Arc, Wait};
 
