@@ -1,13 +1,12 @@
 //! `csa build FOLDER OUT --first DAY --days N --zone ZONE [--strict]`.
 
 use crate::command_line::WRONG_BUILD_FORM;
-use crate::refusal::Refusal;
+use crate::refusal::refuse_feed;
 use crate::status;
 use connections::MAX_DAYS;
 use feed_files::FolderFiles;
 use feed_loader::{LoadFault, Plan, Report, load};
-use footpaths::FootFault;
-use gtfs_tables::{Day, FaultKind};
+use gtfs_tables::Day;
 use image_layout::Words;
 use image_verifier::Verified;
 use service_days::{DayFault, Zone};
@@ -49,14 +48,25 @@ const PIECE_WORDS: usize = 16_384;
 enum Failure<'a> {
     /// A word of the command line has a wrong form.
     WrongForm,
-    Refused(Refusal),
-    /// A file of the feed can't be read.
-    FileFailed(Refusal),
+    /// The feed isn't loaded, or the zone is none.
+    Refused(LoadFault),
     /// The file at the path can't be read.
     Unreadable(&'a str),
     /// The file at the path can't be written.
     Unwritable(&'a str),
     OutOfMemory,
+}
+
+impl<'a> From<LoadFault> for Failure<'a> {
+    fn from(fault: LoadFault) -> Failure<'a> {
+        Failure::Refused(fault)
+    }
+}
+
+impl<'a> From<DayFault> for Failure<'a> {
+    fn from(fault: DayFault) -> Failure<'a> {
+        Failure::Refused(LoadFault::Day(fault))
+    }
 }
 
 /// Makes the image of the folder's feed, writes it, and prints what was counted; or tells the first thing that is wrong. The file
@@ -71,8 +81,7 @@ pub fn run<H: Files + AllocGlobal, O: Write, E: Write>(
     match build(rt, request) {
         Ok(report) => status::line_written(output, counts(alloc, &report), status::ACCEPTED),
         Err(Failure::WrongForm) => status::written(errors, WRONG_BUILD_FORM, status::COMMAND_LINE),
-        Err(Failure::Refused(refusal)) => status::refused(alloc, output, &refusal),
-        Err(Failure::FileFailed(refusal)) => status::unread(alloc, output, &refusal),
+        Err(Failure::Refused(fault)) => refuse_feed(alloc, output, fault),
         Err(Failure::Unreadable(path)) => status::unreadable(alloc, errors, path),
         Err(Failure::Unwritable(path)) => status::unwritable(alloc, errors, path),
         Err(Failure::OutOfMemory) => status::OUT_OF_MEMORY,
@@ -93,12 +102,10 @@ fn build<'a, H: Files + AllocGlobal>(
         strict: request.strict,
     };
     let mut files = FolderFiles::new(rt, request.folder);
-    match load(rt.alloc(), &mut files, &plan) {
-        Ok((image, report)) => match write_image(rt, request.out, &image) {
-            Ok(()) => Ok(report),
-            Err(error) => Err(write_failure(&error, request.out)),
-        },
-        Err(fault) => Err(load_failure(fault)),
+    let (image, report) = load(rt.alloc(), &mut files, &plan)?;
+    match write_image(rt, request.out, &image) {
+        Ok(()) => Ok(report),
+        Err(error) => Err(write_failure(&error, request.out)),
     }
 }
 
@@ -110,44 +117,14 @@ fn zone_of<'a, H: Files + AllocGlobal>(rt: &H, text: ZoneText<'a>) -> Result<Zon
             }
             Ok(Zone::fixed(seconds))
         }
-        ZoneText::Posix(rule) => judged(Zone::posix(rule)),
+        ZoneText::Posix(rule) => Ok(Zone::posix(rule)?),
         ZoneText::File(path) => match fs::read(rt, path) {
-            Ok(bytes) => judged(Zone::file_bytes(rt.alloc(), &bytes)),
+            Ok(bytes) => Ok(Zone::file_bytes(rt.alloc(), &bytes)?),
             Err(error) => match error.kind() {
                 ErrorKind::OutOfMemory => Err(Failure::OutOfMemory),
                 _ => Err(Failure::Unreadable(path)),
             },
         },
-    }
-}
-
-fn judged<'a>(zone: Result<Zone, DayFault>) -> Result<Zone, Failure<'a>> {
-    match zone {
-        Ok(zone) => Ok(zone),
-        Err(fault) => Err(day_failure(fault)),
-    }
-}
-
-fn day_failure<'a>(fault: DayFault) -> Failure<'a> {
-    match fault {
-        DayFault::OutOfMemory => Failure::OutOfMemory,
-        DayFault::BadZone | DayFault::DayOutOfRange => Failure::Refused(Refusal::Day(fault)),
-    }
-}
-
-fn load_failure<'a>(fault: LoadFault) -> Failure<'a> {
-    match fault {
-        LoadFault::Table(fault) => {
-            if fault.kind == FaultKind::OutOfMemory {
-                return Failure::OutOfMemory;
-            }
-            Failure::Refused(Refusal::Table(fault))
-        }
-        LoadFault::Day(fault) => day_failure(fault),
-        LoadFault::Footpaths(FootFault::OutOfMemory) => Failure::OutOfMemory,
-        LoadFault::Footpaths(fault) => Failure::Refused(Refusal::Footpaths(fault)),
-        LoadFault::Image(_) => Failure::OutOfMemory,
-        LoadFault::FileFailed(table) => Failure::FileFailed(Refusal::FileFailed(table)),
     }
 }
 

@@ -1,12 +1,13 @@
 //! Refusals as they are printed: a number, a name and the places, each after a space.
 
-use footpaths::FootFault;
-use gtfs_tables::{Table, TableFault};
+use crate::status;
+use feed_loader::LoadFault;
 use image_layout::WordsFault;
 use image_verifier::ImageFault;
 use journeys::JourneyFault;
-use service_days::DayFault;
+use std::alloc::Global;
 use std::fmt;
+use std::io::Write;
 use timetable::query::QueryFault;
 
 /// Why a request is refused.
@@ -15,15 +16,12 @@ pub enum Refusal {
     /// The bytes of an image aren't whole words.
     OddLength,
     Image(ImageFault),
-    Table(TableFault),
-    /// A feed's file can't be read.
-    FileFailed(Table),
+    /// A feed isn't loaded.
+    Feed(LoadFault),
     Query(QueryFault),
     /// A text that spells no journey.
     BadText,
     Journey(JourneyFault),
-    Day(DayFault),
-    Footpaths(FootFault),
 }
 
 impl fmt::Display for Refusal {
@@ -35,13 +33,10 @@ impl fmt::Display for Refusal {
                 f,
             ),
             Refusal::Image(fault) => write_image_fault(*fault, f),
-            Refusal::Table(fault) => write_table_fault(*fault, f),
-            Refusal::FileFailed(table) => write!(f, "refused 101 FileFailed {}", table.file_name()),
+            Refusal::Feed(fault) => write!(f, "refused {fault}"),
             Refusal::Query(fault) => write_fault(fault.number(), fault.name(), f),
             Refusal::BadText => write!(f, "refused 80 BadText"),
             Refusal::Journey(fault) => write_journey_fault(*fault, f),
-            Refusal::Day(fault) => write_fault(fault.number(), fault.name(), f),
-            Refusal::Footpaths(fault) => write_fault(fault.number(), fault.name(), f),
         }
     }
 }
@@ -68,11 +63,6 @@ fn write_image_fault<W: fmt::Write>(fault: ImageFault, f: &mut fmt::Formatter<W>
     }
 }
 
-fn write_table_fault<W: fmt::Write>(fault: TableFault, f: &mut fmt::Formatter<W>) -> fmt::Result {
-    write_fault(fault.kind.number(), fault.kind.name(), f)?;
-    write!(f, " {} {}", fault.table.file_name(), fault.row)
-}
-
 // A refusal without places.
 fn write_fault<W: fmt::Write>(number: u8, name: &str, f: &mut fmt::Formatter<W>) -> fmt::Result {
     write!(f, "refused {number} {name}")
@@ -91,5 +81,16 @@ fn write_journey_fault<W: fmt::Write>(
         | JourneyFault::TooEarly(leg) => write!(f, " {leg}"),
         JourneyFault::NoFootpath(walk) | JourneyFault::WalkBroken(walk) => write!(f, " {walk}"),
         JourneyFault::WrongEnds | JourneyFault::OutsideWindow => Ok(()),
+    }
+}
+
+/// Tells why a feed isn't loaded; of want of memory nothing is printed.
+pub fn refuse_feed<O: Write>(alloc: Global, output: &mut O, fault: LoadFault) -> u8 {
+    if fault.is_want_of_memory() {
+        return status::OUT_OF_MEMORY;
+    }
+    match fault {
+        LoadFault::FileFailed(_) => status::unread(alloc, output, &Refusal::Feed(fault)),
+        _ => status::refused(alloc, output, &Refusal::Feed(fault)),
     }
 }

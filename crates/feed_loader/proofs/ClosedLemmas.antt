@@ -1,5 +1,5 @@
 -- The listed footpaths of a feed, and their closure.
-use Rattle.std.proofs.Common.{◌≡◌, ◌↔◌, ◌<◌, ◌⊎◌, ℕ, List, length, Result, Ok, Err, IfOk, IfErr, Some, inl, inr, Vec, sym, subst, arith}
+use Rattle.std.proofs.Common.{◌≡◌, ◌↔◌, ◌<◌, ◌⊎◌, ℕ, List, Result, Ok, Err, IfOk, IfErr, Some, inr, Vec, sym, subst, arith}
 use Rattle.timetable.specs.Legal.{HasFootpath, AreInOrder}
 use Rattle.timetable.specs.declared.limits.TheConstants.{MAX_FOOTPATHS, MAX_WALK_SECS}
 use Rattle.timetable.specs.declared.network.Footpath.{Footpath}

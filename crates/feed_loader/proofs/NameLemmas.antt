@@ -4,12 +4,11 @@ use Rattle.std.specs.List.{concat}
 use Rattle.std.specs.String.{string_bytes}
 use Rattle.std.proofs.lemmas.List.Sums.{sum_by-cons}
 use Rattle.timetable.specs.NamesValue.{NamesValue, TripNameValue}
-use Rattle.image_layout.specs.Spelling.{name_list, text}
+use Rattle.image_layout.specs.Spelling.{text}
 use Rattle.gtfs_tables.specs.declared.tables.Feed.{Feed}
 use Rattle.gtfs_tables.specs.declared.tables.Stop.{Stop}
 use Rattle.gtfs_tables.specs.declared.tables.Trip.{Trip}
 use Rattle.connections.specs.declared.runs.Run.{Run}
-use Rattle.gtfs_rows.specs.declared.values.Day.{Day}
 use Rattle.service_days.specs.Zones.{IsDayStart}
 use Rattle.feed_loader.specs.Loaded.{AreNames, run_name}
 use Rattle.feed_loader.specs.declared.plan.Plan.{Plan}

@@ -6,7 +6,6 @@ use Rattle.footpaths.specs.FaultNumber.{fault_name as foot_name, fault_number as
 use Rattle.image_verifier.specs.FaultNumber.{fault_name as image_name, fault_number as image_number}
 use Rattle.gtfs_rows.specs.declared.fault.FaultKind.TheVariants as kinds
 use Rattle.gtfs_rows.specs.declared.fault.Table.{Table}
-use Rattle.gtfs_rows.specs.declared.fault.TableFault.{TableFault}
 use Rattle.feed_files.specs.declared.reading.ReadFault.{ReadFault}
 use Rattle.feed_files.specs.declared.reading.ReadFault.TheVariants as reads
 use Rattle.connections.specs.declared.fault.RunsFault.{RunsFault}

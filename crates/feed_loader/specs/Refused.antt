@@ -1,5 +1,5 @@
 -- Why nothing is made of a feed.
-use Rattle.std.specs.Prelude.{◌≡◌, ◌≢◌, ◌<◌, ◌≤◌, ◌⊎◌, ℕ, List, length, Bool}
+use Rattle.std.specs.Prelude.{◌≡◌, ◌<◌, ◌≤◌, ◌⊎◌, List, length, Bool}
 use Rattle.timetable.specs.NamesValue.{NamesValue}
 use Rattle.timetable.specs.TimetableValue.{TimetableValue}
 use Rattle.timetable.specs.declared.limits.TheConstants.{MAX_FOOTPATHS, MAX_NAME_BYTES, MAX_STOPS, MAX_WALK_SECS}

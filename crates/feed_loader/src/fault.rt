@@ -1,7 +1,7 @@
 //! Why a feed isn't loaded.
 
 ghost use Rattle.std.specs.Prelude.{◌≡◌};
-ghost use Rattle.feed_loader.specs.Faults.{load_fault_of_read, load_fault_of_runs, too_many as too_many_of};
+ghost use Rattle.feed_loader.specs.Faults.{too_many as too_many_of};
 ghost use Rattle.feed_loader.specs.Refused.{IsWantOfMemory};
 
 use connections::RunsFault;
@@ -10,27 +10,38 @@ use footpaths::FootFault;
 use gtfs_tables::{FaultKind, Table, TableFault};
 use image_verifier::ImageFault;
 use service_days::DayFault;
-use thiserror::Error;
+use std::error::Error;
+use std::fmt;
 
 /// Why a feed isn't loaded: the first thing that is wrong, or want of memory.
-#[derive(Clone, Copy, Debug, PartialEq, Eq, Error)]
+#[derive(Clone, Copy, Debug, PartialEq, Eq)]
 pub enum LoadFault {
     /// A file is refused, or there is too much of what it gives.
-    #[error("{0}")]
     Table(TableFault),
     /// A day has no start, or a run lies out of range.
-    #[error("{0}")]
     Day(DayFault),
     /// The footpaths' closure is too large.
-    #[error("{0}")]
     Footpaths(FootFault),
     /// There was no memory to judge the image.
-    #[error("{0}")]
     Image(ImageFault),
     /// A file can't be read.
-    #[error("{0} can't be read")]
     FileFailed(Table),
 }
+
+/// The number, the name and the places, each after a space, as in `8 IdTwice stops.txt 3` or `101 FileFailed trips.txt`: a table's
+/// places are its file and the record, 0 for the whole file.
+impl fmt::Display for LoadFault {
+    fn fmt<W: fmt::Write>(&self, f: &mut fmt::Formatter<W>) -> fmt::Result {
+        write!(f, "{} {}", self.number(), self.name())?;
+        match self {
+            LoadFault::Table(fault) => write!(f, " {} {}", fault.table.file_name(), fault.row),
+            LoadFault::FileFailed(table) => write!(f, " {}", table.file_name()),
+            LoadFault::Day(_) | LoadFault::Footpaths(_) | LoadFault::Image(_) => Ok(()),
+        }
+    }
+}
+
+impl Error for LoadFault {}
 
 impl LoadFault {
     ghost use Rattle.std.specs.Prelude.{◌≡◌, MatchBool};
@@ -77,23 +88,64 @@ impl LoadFault {
     }
 }
 
-// A fault of reading, as one of loading.
-pub(crate) fn of_read(fault: ReadFault) -> LoadFault
-    ensures { result ≡ load_fault_of_read fault }
-{
-    match fault {
-        ReadFault::Table(fault) => LoadFault::Table(fault),
-        ReadFault::FileFailed(table) => LoadFault::FileFailed(table),
+impl From<ReadFault> for LoadFault {
+    ghost use Rattle.std.specs.Prelude.{◌≡◌};
+    ghost use Rattle.feed_loader.specs.Faults.{load_fault_of_read};
+
+    ghost from_gives = { λ fault told. told ≡ load_fault_of_read fault };
+
+    fn from(fault: ReadFault) -> LoadFault {
+        match fault {
+            ReadFault::Table(fault) => LoadFault::Table(fault),
+            ReadFault::FileFailed(table) => LoadFault::FileFailed(table),
+        }
     }
 }
 
-// A fault of the runs, as one of loading.
-pub(crate) fn of_runs(fault: RunsFault) -> LoadFault
-    ensures { result ≡ load_fault_of_runs fault }
-{
-    match fault {
-        RunsFault::Table(fault) => LoadFault::Table(fault),
-        RunsFault::Day(fault) => LoadFault::Day(fault),
+impl From<RunsFault> for LoadFault {
+    ghost use Rattle.std.specs.Prelude.{◌≡◌};
+    ghost use Rattle.feed_loader.specs.Faults.{load_fault_of_runs};
+
+    ghost from_gives = { λ fault told. told ≡ load_fault_of_runs fault };
+
+    fn from(fault: RunsFault) -> LoadFault {
+        match fault {
+            RunsFault::Table(fault) => LoadFault::Table(fault),
+            RunsFault::Day(fault) => LoadFault::Day(fault),
+        }
+    }
+}
+
+impl From<TableFault> for LoadFault {
+    ghost use Rattle.std.specs.Prelude.{◌≡◌};
+    ghost use Rattle.feed_loader.specs.declared.fault.LoadFault.TheVariants.{Table as OfTable};
+
+    ghost from_gives = { λ fault told. told ≡ OfTable fault };
+
+    fn from(fault: TableFault) -> LoadFault {
+        LoadFault::Table(fault)
+    }
+}
+
+impl From<DayFault> for LoadFault {
+    ghost use Rattle.std.specs.Prelude.{◌≡◌};
+    ghost use Rattle.feed_loader.specs.declared.fault.LoadFault.TheVariants.{Day as OfDay};
+
+    ghost from_gives = { λ fault told. told ≡ OfDay fault };
+
+    fn from(fault: DayFault) -> LoadFault {
+        LoadFault::Day(fault)
+    }
+}
+
+impl From<FootFault> for LoadFault {
+    ghost use Rattle.std.specs.Prelude.{◌≡◌};
+    ghost use Rattle.feed_loader.specs.declared.fault.LoadFault.TheVariants.{Footpaths as OfFootpaths};
+
+    ghost from_gives = { λ fault told. told ≡ OfFootpaths fault };
+
+    fn from(fault: FootFault) -> LoadFault {
+        LoadFault::Footpaths(fault)
     }
 }
 

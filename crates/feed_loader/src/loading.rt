@@ -6,7 +6,7 @@ ghost use Rattle.connections.specs.declared.days.TheConstants.{MAX_DAYS};
 ghost use Rattle.feed_loader.specs.Faults.{failed_in};
 ghost use Rattle.feed_loader.specs.Refused.{IsLoadRefusal, IsLoaded, IsWantOfMemory};
 
-use crate::fault::{LoadFault, of_read};
+use crate::fault::LoadFault;
 use crate::made::image_of;
 use crate::plan::Plan;
 use connections::Report;
@@ -38,13 +38,7 @@ pub fn load<F: FeedFiles>(
 {
     joined_is_runnable();
     joined_names_its_stops();
-    let tables = match read_tables(alloc, files) {
-        Ok(tables) => tables,
-        Err(fault) => return Err(of_read(fault)),
-    };
-    let feed = match join(alloc, tables, plan.strict) {
-        Ok(feed) => feed,
-        Err(fault) => return Err(LoadFault::Table(fault)),
-    };
+    let tables = read_tables(alloc, files)?;
+    let feed = join(alloc, tables, plan.strict)?;
     image_of(alloc, &feed, plan)
 }

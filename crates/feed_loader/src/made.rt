@@ -9,7 +9,7 @@ ghost use Rattle.feed_loader.specs.Loaded.{AreNames, IsMade};
 ghost use Rattle.feed_loader.specs.Refused.{AreNamesRefused, IsFeedRefusal, IsWantOfMemory};
 
 use crate::closed::closed_footpaths;
-use crate::fault::{LoadFault, of_runs, out_of_memory, too_many};
+use crate::fault::{LoadFault, out_of_memory, too_many};
 use crate::names::{count_name_bytes, run_names, stop_names};
 use crate::plan::Plan;
 use crate::writing::written;
@@ -28,10 +28,7 @@ fn short_names(alloc: Global, feed: &Feed, plan: &Plan, runs: &[Run]) -> Result<
     ensures short { IfOk result (λ names. length (text names) ≤ MAX_NAME_BYTES) }
     ensures err { IfErr result (AreNamesRefused feed.now plan.now runs.now) }
 {
-    let base = match day_start(&plan.zone, plan.first_day) {
-        Ok(base) => base,
-        Err(fault) => return Err(LoadFault::Day(fault)),
-    };
+    let base = day_start(&plan.zone, plan.first_day)?;
     if count_name_bytes(feed, runs) > MAX_NAME_BYTES as usize {
         return Err(too_many(Table::Trips));
     }
@@ -65,24 +62,9 @@ pub fn image_of(alloc: Global, feed: &Feed, plan: &Plan) -> Result<(Verified, Re
     if feed.stops.len() > MAX_STOPS as usize {
         return Err(too_many(Table::Stops));
     }
-    let (connections, runs, report) = match runs_of(
-        alloc,
-        feed,
-        plan.first_day,
-        plan.days,
-        &plan.zone,
-    ) {
-        Ok(listing) => listing,
-        Err(fault) => return Err(of_runs(fault)),
-    };
-    let names = match short_names(alloc, feed, plan, &runs) {
-        Ok(names) => names,
-        Err(fault) => return Err(fault),
-    };
-    let footpaths = match closed_footpaths(alloc, feed, feed.stops.len() as u32) {
-        Ok(footpaths) => footpaths,
-        Err(fault) => return Err(LoadFault::Footpaths(fault)),
-    };
+    let (connections, runs, report) = runs_of(alloc, feed, plan.first_day, plan.days, &plan.zone)?;
+    let names = short_names(alloc, feed, plan, &runs)?;
+    let footpaths = closed_footpaths(alloc, feed, feed.stops.len() as u32)?;
     let report = Report {
         footpaths: footpaths.len(),
         ..report
@@ -93,8 +75,6 @@ pub fn image_of(alloc: Global, feed: &Feed, plan: &Plan) -> Result<(Verified, Re
         connections,
         footpaths,
     };
-    match written(alloc, &timetable, &names) {
-        Ok(image) => Ok((image, report)),
-        Err(fault) => Err(fault),
-    }
+    let image = written(alloc, &timetable, &names)?;
+    Ok((image, report))
 }

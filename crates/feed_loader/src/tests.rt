@@ -3,9 +3,10 @@
 ghost use Rattle.std.specs.Prelude.{◌≡◌};
 
 use super::*;
+use footpaths::FootFault;
 use gtfs_tables::{Day, FaultKind, Table, TableFault};
 use image_layout::sample_words;
-use service_days::Zone;
+use service_days::{DayFault, Zone};
 use std::alloc::{AllocError, Global};
 use std::test::*;
 
@@ -95,6 +96,32 @@ fn what_is_wrong_is_told(rt: HostRuntime) -> Result<(), Fail> {
         Err(fault) => {
             assert_eq!(rt; fault, LoadFault::Table(missing));
         }
+    }
+    Ok(())
+}
+
+/// A fault is told by its number, its name and its places.
+#[test]
+fn faults_are_told(rt: HostRuntime) -> Result<(), Fail> {
+    let twice = TableFault {
+        table: Table::Stops,
+        row: 3,
+        kind: FaultKind::IdTwice,
+    };
+    for (fault, text) in [
+        (LoadFault::Table(twice), "8 IdTwice stops.txt 3"),
+        (LoadFault::Day(DayFault::BadZone), "21 BadZone"),
+        (
+            LoadFault::Footpaths(FootFault::TooManyFootpaths),
+            "42 TooManyFootpaths",
+        ),
+        (
+            LoadFault::FileFailed(Table::StopTimes),
+            "101 FileFailed stop_times.txt",
+        ),
+    ] {
+        let told = format!(in rt.alloc(); "{fault}")?;
+        assert_eq!(rt; told.as_str(), text);
     }
     Ok(())
 }

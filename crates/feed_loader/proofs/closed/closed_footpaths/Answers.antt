@@ -1,5 +1,3 @@
-use Rattle.std.proofs.Common.{rules, ◌≡◌, ◌<◌, ℕ, arith, IfOk, IfErr, Ok, Err, inl, inr, sym, subst}
-use Rattle.footpaths.specs.Closure.{HasLoops}
 use Rattle.feed_loader.proofs.ClosedLemmas.{closure_of_feed, fault_of_feed, loops_of_stops}
 use Rattle.feed_loader.proofs.closed.closed_footpaths.Goals as goal
 

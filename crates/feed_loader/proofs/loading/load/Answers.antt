@@ -1,15 +1,24 @@
 use Rattle.std.proofs.Common.{inl, inr, refl}
+use Rattle.std.proofs.lemmas.Result.{err_from_is_err_and}
 use Rattle.feed_loader.proofs.LoadLemmas.{feed_refused, if_err, if_ok}
 use Rattle.feed_loader.proofs.loading.load.Goals as goal
 
-pub returns-in-Err-join-clause-err : goal.returns-in-Err-join-clause-err
-returns-in-Err-join-clause-err g c = λ content tells unless.
-    inr (inl (record { t = c.in-Ok.tables; held = c.in-Ok.ensures.ok content tells; refusal = c.in-Err-join.fault; is = refl; first = c.in-Err-join.ensures.err unless }))
+-- the tables are read, and don't join
+pub returns-in_err-feed-clause-err : goal.returns-in_err-feed-clause-err
+returns-in_err-feed-clause-err g c = λ content tells.
+    let told = err_from_is_err_and c.from_residual-in_err-feed.result c.from_residual-in_err-feed.ensures.1 in
+    rw (told.1, told.2) (λ unless. inr (inl (record {
+      t = c.in_ok-tables.tables;
+      held = c.in_ok-tables.ensures.ok content tells;
+      refusal = c.in_err-feed.field-0.0;
+      is = refl;
+      first = c.in_err-feed.ensures.err unless;
+    })))
 
 pub returns-clause-ok : goal.returns-clause-ok
 returns-clause-ok g c = λ content tells.
-    if_ok _ _ c.image_of.result (λ made is. record { feed = c.in-Ok-join.feed; read = record { t = c.in-Ok.tables; held = c.in-Ok.ensures.ok content tells; joined = c.in-Ok-join.ensures.ok }; made = is }) c.image_of.ensures.ok
+    if_ok _ _ c.image_of.result (λ made is. record { feed = c.in_ok-feed.feed; read = record { t = c.in_ok-tables.tables; held = c.in_ok-tables.ensures.ok content tells; joined = c.in_ok-feed.ensures.ok }; made = is }) c.image_of.ensures.ok
 
 pub returns-clause-err : goal.returns-clause-err
 returns-clause-err g c = λ content tells.
-    if_err _ _ c.image_of.result (λ fault wrong. feed_refused content c.args.plan.now c.in-Ok-join.feed fault (record { t = c.in-Ok.tables; held = c.in-Ok.ensures.ok content tells; joined = c.in-Ok-join.ensures.ok }) wrong) c.image_of.ensures.err
+    if_err _ _ c.image_of.result (λ fault wrong. feed_refused content c.args.plan.now c.in_ok-feed.feed fault (record { t = c.in_ok-tables.tables; held = c.in_ok-tables.ensures.ok content tells; joined = c.in_ok-feed.ensures.ok }) wrong) c.image_of.ensures.err
