@@ -10,6 +10,7 @@ use std::alloc::{AllocError, Global};
 use std::process::Abort;
 use std::test::*;
 use timetable::Query;
+use timetable::query::QueryFault;
 
 /// From 07:00:00 until 09:00:00, by 10:00:00.
 const ASKED: Query = Query {
@@ -195,16 +196,33 @@ fn on_foot_from_the_last_trip(rt: HostRuntime) -> Result<(), Fail> {
     )
 }
 
-/// The answer at one call: each departure with its value and its journey, and the footpath from the source to the target.
+/// The answer at one call, of a query by the names of stops: each departure with its value and its journey, the footpath from the
+/// source to the target, and how many connections were read.
 #[test]
 fn answered_at_once(rt: HostRuntime) -> Result<(), Fail> {
     let alloc = rt.alloc();
     let image = image(alloc, &sample_words())?;
+    let window = Window {
+        from: 25200,
+        until: 32400,
+        by: 36000,
+    };
+    assert_eq!(rt;
+        query_of(&image, b"A", b"D", window),
+        Err(QueryFault::UnknownStop)
+    );
+    assert_eq!(rt;
+        query_of(&image, b"A", b"A", window),
+        Err(QueryFault::SameStop)
+    );
+    let query = query_of(&image, b"A", b"C", window)
+        .ok()
+        .ok_or("the query can be asked")?;
+    assert_eq!(rt; query, ASKED);
     let mut source = InPlace::new(&image);
-    let stops = source.stops();
-    ASKED.check(stops).ok().ok_or("the query can be asked")?;
-    let answer = answer_query(alloc, &mut source, &ArrivalTrips, &ASKED)?;
+    let answer = answer_query(alloc, &mut source, &ArrivalTrips, &query)?;
     assert_eq!(rt; answer.walk, None);
+    assert_eq!(rt; answer.read, 3);
     assert_eq!(rt; answer.departures.len(), 2);
     let slow = &answer.departures[1];
     assert_eq!(rt;
