@@ -236,14 +236,17 @@ fn answered_at_once(rt: HostRuntime) -> Result<(), Fail> {
     Ok(())
 }
 
-/// Whichever growth is refused, want of memory is told, and else the journey comes. A refused growth ends the test with `AllocError`.
+/// Whichever growth is refused, want of memory is told, and else the journeys come. A refused growth ends the test with `AllocError`.
 #[test]
 fn refused_growth_is_told(rt: HostRuntime) -> Result<(), Fail> {
-    let image = verify(rt.alloc(), sample_words().to_vec(rt.alloc())?).map_err(
-        |_refused| AllocError,
-    )?;
+    let alloc = rt.alloc();
+    let image = verify(alloc, sample_words().to_vec(alloc)?).map_err(|_refused| AllocError)?;
     let mut source = InPlace::new(&image);
-    let texts = journeys(&rt, rt.alloc(), &image, &mut source, &ArrivalTrips, &ASKED)?;
-    assert_texts(&rt, &texts, &[CHANGE, "ride 0 1"]);
+    let stops = source.stops();
+    ASKED.check(stops).ok().ok_or("the query can be asked")?;
+    let answer = answer_query(alloc, &mut source, &ArrivalTrips, &ASKED)?;
+    assert_eq!(rt; answer.departures.len(), 2);
+    let text = journey_text(alloc, &answer.departures[1].journey)?;
+    assert!(rt; text.as_slice() == b"ride 0 1".as_slice());
     Ok(())
 }
