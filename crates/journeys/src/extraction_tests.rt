@@ -215,12 +215,11 @@ fn answered_at_once(rt: HostRuntime) -> Result<(), Fail> {
         query_of(&image, b"A", b"A", window),
         Err(QueryFault::SameStop)
     );
-    let query = query_of(&image, b"A", b"C", window)
-        .ok()
-        .ok_or("the query can be asked")?;
-    assert_eq!(rt; query, ASKED);
+    assert_eq!(rt; query_of(&image, b"A", b"C", window), Ok(ASKED));
     let mut source = InPlace::new(&image);
-    let answer = answer_query(alloc, &mut source, &ArrivalTrips, &query)?;
+    let stops = source.stops();
+    ASKED.check(stops).ok().ok_or("the query can be asked")?;
+    let answer = answer_query(alloc, &mut source, &ArrivalTrips, &ASKED)?;
     assert_eq!(rt; answer.walk, None);
     assert_eq!(rt; answer.read, 3);
     assert_eq!(rt; answer.departures.len(), 2);
