@@ -1,7 +1,7 @@
 //! The files of a feed, by name.
 
 ghost use Rattle.std.specs.Prelude.{◌≡◌, ℕ, List, Option, IfOk, IfSome, option_map};
-ghost use Rattle.feed_files.specs.Files.{counted};
+ghost use Rattle.feed_files.specs.Files.{counted, failed_also};
 
 use std::alloc::Global;
 use thiserror::Error;
@@ -23,6 +23,9 @@ pub trait FeedFiles {
     // How many reads failed; it stays at its greatest value.
     ghost failures: { Self → ℕ };
 
+    // The names of the files whose reads failed, in order.
+    ghost failed: { Self → List (List ℕ) };
+
     // What a file of a name holds, where that is told: none where there is no such file.
     ghost holds: { Self → List ℕ → Option (Option (List ℕ)) };
 
@@ -30,5 +33,6 @@ pub trait FeedFiles {
     fn read(&mut self, alloc: Global, name: &str) -> Result<Option<Vec<u8>>, FileFault>
         ensures told { IfOk result (λ file. IfSome (holds self.old name.now) (λ bytes. option_map (λ read. read.items) file ≡ bytes)) }
         ensures same { holds self.new ≡ holds self.old }
-        ensures failures { failures self.new ≡ counted (failures self.old) result };
+        ensures failures { failures self.new ≡ counted (failures self.old) result }
+        ensures failed { failed self.new ≡ failed_also (failed self.old) name.now result };
 }

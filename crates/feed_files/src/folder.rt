@@ -1,8 +1,9 @@
 //! The files of a folder.
 
-ghost use Rattle.std.specs.Prelude.{◌≡◌, ◌≤◌, length, None, IfOk, IfSome};
+ghost use Rattle.std.specs.Prelude.{◌≡◌, ◌≤◌, [], length, None, IfOk, IfSome};
 ghost use Rattle.feed_files.specs.Files.{one_more};
 
+use crate::failed::FailedNames;
 use crate::files::{FeedFiles, FileFault, LONGEST_FILE};
 use std::alloc::Global;
 use std::fs::{File, OpenFile};
@@ -17,17 +18,20 @@ pub struct FolderFiles<'a, H> {
     rt: &'a H,
     folder: &'a str,
     failures: u64,
+    failed: FailedNames,
 }
 
 impl<'a, H: Files + AllocGlobal> FolderFiles<'a, H> {
     /// The files of the folder at a path, which need not be there: then no file is.
     pub fn new(rt: &'a H, folder: &'a str) -> FolderFiles<'a, H>
-        ensures { result.failures ≡ 0 }
+        ensures failures { result.failures ≡ 0 }
+        ensures failed { result.failed ≡ [] }
     {
         FolderFiles {
             rt,
             folder,
             failures: 0,
+            failed: FailedNames::none(),
         }
     }
 }
@@ -94,12 +98,15 @@ pub(crate) fn file_up_to<H: Files>(
 impl<'a, H: Files + AllocGlobal> FeedFiles for FolderFiles<'a, H> {
     ghost failures = { λ files. files.failures };
 
+    ghost failed = { λ files. files.failed };
+
     ghost holds = { λ files name. None };
 
     fn read(&mut self, alloc: Global, name: &str) -> Result<Option<Vec<u8>>, FileFault> {
         let read = file_up_to(LONGEST_FILE, self.rt, alloc, self.folder, name);
         if let Err(FileFault::Failed) = read {
             self.failures = self.failures.saturating_add(1);
+            self.failed.note(name);
         }
         read
     }

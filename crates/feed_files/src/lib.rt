@@ -1,6 +1,7 @@
 //! The files of a feed, by name, and the tables that are read from them.
 #![tactic(auto)]
 
+mod failed;
 pub mod files;
 pub mod folder;
 pub mod laws;
@@ -8,6 +9,7 @@ pub mod memory;
 pub mod reading;
 mod tables;
 
+pub use failed::FailedNames;
 pub use files::{FeedFiles, FileFault, LONGEST_FILE};
 pub use folder::FolderFiles;
 pub use memory::MemoryFiles;

@@ -1,6 +1,6 @@
 //! Files in memory.
 
-ghost use Rattle.std.specs.Prelude.{◌≡◌, option_map, Some};
+ghost use Rattle.std.specs.Prelude.{◌≡◌, [], option_map, Some};
 ghost use Rattle.feed_files.specs.Memory.{held};
 
 use crate::files::{FeedFiles, FileFault};
@@ -21,6 +21,8 @@ fn find<'a>(files: &'a [(&'a str, &'a [u8])], name: &str) -> Option<&'a [u8]>
 
 impl<'a> FeedFiles for MemoryFiles<'a> {
     ghost failures = { λ files. 0 };
+
+    ghost failed = { λ files. [] };
 
     ghost holds = { λ files name. Some (held files.files.now name) };
 

@@ -3,7 +3,7 @@
 ghost use Rattle.std.specs.Prelude.{◌≡◌, ◌≢◌, ◌+◌, ◌-◌, ◌^◌, ◌<◌, ℕ, List, Option, None, Some, IfOk, IfErr, option_map};
 ghost use Rattle.gtfs_rows.specs.declared.fault.Table.TheVariants as tables;
 ghost use Rattle.gtfs_rows.specs.Told.{file_name};
-ghost use Rattle.feed_files.specs.Outcome.{failed_in};
+ghost use Rattle.feed_files.specs.Outcome.{failed_by, failed_in};
 ghost use Rattle.feed_files.specs.Reading.{Content, FineBefore, HoldsCalendars, HoldsRequired, HoldsTables, IsHeld, NoRows, NoTables, Optional, OptionalFault, Required, RequiredFault, Tells};
 
 use crate::files::{FeedFiles, FileFault};
@@ -33,6 +33,7 @@ fn bytes_of<F: FeedFiles, T: FileRows>(
 ) -> Result<Option<Vec<u8>>, ReadFault>
     ensures same { F.holds files.new ≡ F.holds files.old }
     ensures failures { F.failures files.old < 2 ^ 64 - 1 → F.failures files.new ≡ F.failures files.old + failed_in result }
+    ensures failed { F.failed files.new ≡ failed_by (F.failed files.old) result }
     ensures ok { (bytes : Option (List ℕ)) → F.holds files.old (file_name T.table) ≡ Some bytes → IfOk result (λ file. option_map (λ read. read.items) file ≡ bytes) }
     ensures err { (bytes : Option (List ℕ)) → F.holds files.old (file_name T.table) ≡ Some bytes → IfErr result (NoRows T.table (OptionalFault T.tells bytes)) }
 {
@@ -64,6 +65,7 @@ fn rows_of<T: FileRows>(alloc: Global, bytes: &[u8]) -> Result<Option<T>, ReadFa
 fn optional<F: FeedFiles, T: FileRows>(alloc: Global, files: &mut F) -> Result<Option<T>, ReadFault>
     ensures same { F.holds files.new ≡ F.holds files.old }
     ensures failures { F.failures files.old < 2 ^ 64 - 1 → F.failures files.new ≡ F.failures files.old + failed_in result }
+    ensures failed { F.failed files.new ≡ failed_by (F.failed files.old) result }
     ensures ok { (bytes : Option (List ℕ)) → F.holds files.old (file_name T.table) ≡ Some bytes → IfOk result (λ rows. IsHeld T.holds bytes rows) }
     ensures err { (bytes : Option (List ℕ)) → F.holds files.old (file_name T.table) ≡ Some bytes → IfErr result (NoRows T.table (OptionalFault T.tells bytes)) }
 {
@@ -78,6 +80,7 @@ fn optional<F: FeedFiles, T: FileRows>(alloc: Global, files: &mut F) -> Result<O
 fn required<F: FeedFiles, T: FileRows>(alloc: Global, files: &mut F) -> Result<T, ReadFault>
     ensures same { F.holds files.new ≡ F.holds files.old }
     ensures failures { F.failures files.old < 2 ^ 64 - 1 → F.failures files.new ≡ F.failures files.old + failed_in result }
+    ensures failed { F.failed files.new ≡ failed_by (F.failed files.old) result }
     ensures ok { (bytes : Option (List ℕ)) → F.holds files.old (file_name T.table) ≡ Some bytes → IfOk result (λ rows. Required (λ held. T.holds held rows) bytes) }
     ensures err { (bytes : Option (List ℕ)) → F.holds files.old (file_name T.table) ≡ Some bytes → IfErr result (NoRows T.table (RequiredFault T.tells bytes)) }
 {
@@ -92,6 +95,7 @@ fn required<F: FeedFiles, T: FileRows>(alloc: Global, files: &mut F) -> Result<T
 fn rows_or_none<F: FeedFiles, T: OptionalRows>(alloc: Global, files: &mut F) -> Result<T, ReadFault>
     ensures same { F.holds files.new ≡ F.holds files.old }
     ensures failures { F.failures files.old < 2 ^ 64 - 1 → F.failures files.new ≡ F.failures files.old + failed_in result }
+    ensures failed { F.failed files.new ≡ failed_by (F.failed files.old) result }
     ensures ok { (bytes : Option (List ℕ)) → F.holds files.old (file_name T.table) ≡ Some bytes → IfOk result (λ rows. Optional (T.are_none rows) (λ held. T.holds held rows) bytes) }
     ensures err { (bytes : Option (List ℕ)) → F.holds files.old (file_name T.table) ≡ Some bytes → IfErr result (NoRows T.table (OptionalFault T.tells bytes)) }
 {
@@ -109,6 +113,7 @@ fn calendars<F: FeedFiles>(
 ) -> Result<(Vec<CalendarRow>, Vec<CalendarDateRow>), ReadFault>
     ensures same { F.holds files.new ≡ F.holds files.old }
     ensures failures { F.failures files.old < 2 ^ 64 - 1 → F.failures files.new ≡ F.failures files.old + failed_in result }
+    ensures failed { F.failed files.new ≡ failed_by (F.failed files.old) result }
     ensures ok { (content : Content) → Tells (F.holds files.old) content → IfOk result (λ rows. HoldsCalendars content rows.0.items rows.1.items) }
     ensures err { (content : Content) → Tells (F.holds files.old) content → FineBefore content tables.Calendar → IfErr result (NoTables content) }
 {
@@ -134,6 +139,7 @@ struct RequiredTables {
 fn required_tables<F: FeedFiles>(alloc: Global, files: &mut F) -> Result<RequiredTables, ReadFault>
     ensures same { F.holds files.new ≡ F.holds files.old }
     ensures failures { F.failures files.old < 2 ^ 64 - 1 → F.failures files.new ≡ F.failures files.old + failed_in result }
+    ensures failed { F.failed files.new ≡ failed_by (F.failed files.old) result }
     ensures ok { (content : Content) → Tells (F.holds files.old) content → IfOk result (λ t. HoldsRequired content t.agencies.items t.stops.items t.trips.items t.stop_times) }
     ensures err { (content : Content) → Tells (F.holds files.old) content → IfErr result (NoTables content) }
 {
@@ -151,12 +157,13 @@ fn required_tables<F: FeedFiles>(alloc: Global, files: &mut F) -> Result<Require
 
 /// The tables of a feed's files (GTFS Schedule Reference). Each file is read and judged before the next is read, in the
 /// order of [`Table`]; `transfers.txt` and `frequencies.txt` may be missing, and one of the two calendars. The fault is
-/// the first. A file that can't be read is told where nothing was wrong with those before it, and the count of failures
-/// is then one more; else it stays.
+/// the first. A file that can't be read is told where nothing was wrong with those before it: then its read is the only one
+/// that failed; else none did.
 pub fn read_tables<F: FeedFiles>(alloc: Global, files: &mut F) -> Result<Tables, ReadFault>
     requires { F.failures files.old < 2 ^ 64 - 1 }
     ensures same { F.holds files.new ≡ F.holds files.old }
     ensures failures { F.failures files.new ≡ F.failures files.old + failed_in result }
+    ensures failed { F.failed files.new ≡ failed_by (F.failed files.old) result }
     ensures ok { (content : Content) → Tells (F.holds files.old) content → IfOk result (HoldsTables content) }
     ensures err { (content : Content) → Tells (F.holds files.old) content → IfErr result (NoTables content) }
 {

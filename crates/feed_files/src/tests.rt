@@ -1,5 +1,6 @@
 //! A small feed in memory and in a folder, and what stops its reading.
 
+use crate::failed::FailedNames;
 use crate::files::{FeedFiles, FileFault};
 use crate::folder::{FolderFiles, file_up_to};
 use crate::memory::MemoryFiles;
@@ -131,6 +132,7 @@ struct Failing<'a> {
     files: MemoryFiles<'a>,
     left: u64,
     failures: u64,
+    failed: FailedNames,
 }
 
 impl<'a> FeedFiles for Failing<'a> {
@@ -138,11 +140,14 @@ impl<'a> FeedFiles for Failing<'a> {
 
     ghost failures = { λ files. files.failures };
 
+    ghost failed = { λ files. files.failed };
+
     ghost holds = { λ files name. None };
 
     fn read(&mut self, alloc: Global, name: &str) -> Result<Option<Vec<u8>>, FileFault> {
         if self.left == 0 {
             self.failures = self.failures.saturating_add(1);
+            self.failed.note(name);
             return Err(FileFault::Failed);
         }
         self.left -= 1;
@@ -158,6 +163,7 @@ fn a_read_that_fails_is_told(rt: HostRuntime) {
             files: MemoryFiles { files: &feed },
             left: left as u64,
             failures: 0,
+            failed: FailedNames::none(),
         };
         let answer = read_tables(rt.alloc(), &mut files);
         assert!(rt; matches!(answer, Err(ReadFault::FileFailed(failed)) if failed == table));
@@ -174,6 +180,7 @@ fn a_fault_before_a_read_that_fails_is_told(rt: HostRuntime) {
         files: MemoryFiles { files: &feed },
         left: 2,
         failures: 0,
+        failed: FailedNames::none(),
     };
     let answer = read_tables(rt.alloc(), &mut files);
     assert!(rt; tells(answer, Table::Stops, 2, FaultKind::IdTwice));
@@ -189,6 +196,7 @@ fn a_read_that_fails_behind_a_missing_calendar_is_told(rt: HostRuntime) {
         files: MemoryFiles { files: &feed },
         left: 5,
         failures: 0,
+        failed: FailedNames::none(),
     };
     let answer = read_tables(rt.alloc(), &mut files);
     assert!(rt; matches!(answer, Err(ReadFault::FileFailed(Table::CalendarDates))));

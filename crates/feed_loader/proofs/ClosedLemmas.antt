@@ -1,11 +1,12 @@
 -- The listed footpaths of a feed, and their closure.
-use Rattle.std.proofs.Common.{◌≡◌, ◌↔◌, ◌<◌, ◌⊎◌, ℕ, List, Result, Ok, Err, IfOk, IfErr, Some, inr, Vec, sym, subst, arith}
+use Rattle.std.proofs.Common.{[], length, ◌∷◌, Contains, refl, ◌≡◌, ◌↔◌, ◌<◌, ◌⊎◌, ℕ, List, Result, Ok, Err, IfOk, IfErr, Some, inr, Vec, sym, subst, arith}
 use Rattle.timetable.specs.Legal.{HasFootpath, AreInOrder}
 use Rattle.timetable.specs.declared.limits.TheConstants.{MAX_FOOTPATHS, MAX_WALK_SECS}
 use Rattle.timetable.specs.declared.network.Footpath.{Footpath}
 use Rattle.gtfs_tables.specs.declared.tables.Feed.{Feed}
 use Rattle.transfers.specs.Listed.{listed_secs}
-use Rattle.footpaths.specs.Closure.{HasLoops, IsClosure, IsFault}
+use Rattle.footpaths.specs.Closure.{HasLoops, HasMorePairs, IsClosure, IsFault}
+use Rattle.footpaths.specs.Walks.{AreJoined}
 use Rattle.footpaths.specs.declared.fault.FootFault.{FootFault}
 use Rattle.footpaths.specs.declared.fault.FootFault.TheVariants.{OutOfMemory}
 use Rattle.feed_loader.specs.Loaded.{AreFeedPaths, IsFeedClosure}
@@ -36,3 +37,11 @@ module _ {Z : Type 0} (feed : Feed) (listed paths : List Footpath) (result : Res
           → IfErr r (λ fault. (fault ≡ OutOfMemory) ⊎ ((listed : List Footpath) × AreFeedPaths feed listed × IsFault listed MAX_FOOTPATHS MAX_WALK_SECS fault))
       refused (Ok v) is = is
       refused (Err fault) is = inr (paths, are_paths, is)
+
+-- a walk over one listed footpath
+one_step : (listed : List Footpath) (f : Footpath) → Contains listed f → AreJoined listed f.from f.to
+one_step listed f there = (f ∷ [], record { leads = (there, refl, tt); some = λ none. cc; ends = refl })
+
+-- where too many footpaths are listed, too many pairs are joined
+pub many_listed : (listed : List Footpath) (most : ℕ) → AreInOrder listed → most < length listed → HasMorePairs listed most
+many_listed listed most order many = (listed, record { in_order = order; joined = one_step listed; more = many })

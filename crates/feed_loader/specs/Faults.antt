@@ -1,6 +1,6 @@
 -- How the faults of the steps are told.
-use Rattle.std.specs.Prelude.{ℕ, List, Result, Ok, Err, codes}
-use Rattle.gtfs_rows.specs.Told.{fault_name as kind_name, fault_number as kind_number}
+use Rattle.std.specs.Prelude.{ℕ, ◌++◌, ◌∷◌, List, [], Result, Ok, Err, codes}
+use Rattle.gtfs_rows.specs.Told.{fault_name as kind_name, fault_number as kind_number, file_name}
 use Rattle.service_days.specs.Faults.{name_of as day_name, number_of as day_number}
 use Rattle.footpaths.specs.FaultNumber.{fault_name as foot_name, fault_number as foot_number}
 use Rattle.image_verifier.specs.FaultNumber.{fault_name as image_name, fault_number as image_number}
@@ -33,6 +33,15 @@ failed_in (Err (faults.Day fault)) = 0
 failed_in (Err (faults.Footpaths fault)) = 0
 failed_in (Err (faults.Image fault)) = 0
 failed_in (Err (faults.FileFailed table)) = 1
+
+-- the names of the files whose reads failed: those from before, and that of the file that is told
+abbrev pub failed_by : {T : Type 0} → List (List ℕ) → Result T LoadFault → List (List ℕ)
+failed_by before (Ok t) = before
+failed_by before (Err (faults.Table fault)) = before
+failed_by before (Err (faults.Day fault)) = before
+failed_by before (Err (faults.Footpaths fault)) = before
+failed_by before (Err (faults.Image fault)) = before
+failed_by before (Err (faults.FileFailed table)) = before ++ file_name table ∷ []
 
 -- the number and the name by which a fault is told
 abbrev pub fault_number : LoadFault → ℕ

@@ -1,4 +1,4 @@
-// The closed footpaths of a feed.
+//! The closed footpaths of a feed.
 
 ghost use Rattle.std.specs.Prelude.{◌≡◌, ◌≤◌, ◌⊎◌, length, All, IfOk, IfErr};
 ghost use Rattle.timetable.specs.declared.limits.TheConstants.{MAX_FOOTPATHS, MAX_WALK_SECS};
@@ -10,9 +10,11 @@ use footpaths::{FootFault, close};
 use gtfs_tables::Feed;
 use std::alloc::Global;
 use timetable::Footpath;
+use timetable::limits::MAX_FOOTPATHS;
 use transfers::listed;
 
-/// The closure of the footpaths that a feed lists.
+/// The closure of the footpaths that a feed lists. Each of these joins a pair of stops in the closure too, so where there are too
+/// many of them nothing is closed.
 pub fn closed_footpaths(alloc: Global, feed: &Feed, stops: u32) -> Result<Vec<Footpath>, FootFault>
     requires names { NamesItsStops feed.now }
     requires stops { stops ≡ length feed.now.stops.items }
@@ -25,5 +27,8 @@ pub fn closed_footpaths(alloc: Global, feed: &Feed, stops: u32) -> Result<Vec<Fo
     let Ok(listed) = listed(alloc, feed) else {
         return Err(FootFault::OutOfMemory);
     };
+    if listed.len() > MAX_FOOTPATHS as usize {
+        return Err(FootFault::TooManyFootpaths);
+    }
     close(alloc, stops, &listed)
 }

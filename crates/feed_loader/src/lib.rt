@@ -11,7 +11,7 @@ mod writing;
 
 pub use connections::Report;
 pub use fault::LoadFault;
-pub use feed_files::{FeedFiles, FileFault, FolderFiles, MemoryFiles};
+pub use feed_files::{FailedNames, FeedFiles, FileFault, FolderFiles, MemoryFiles};
 pub use loading::load;
 pub use made::image_of;
 pub use plan::Plan;

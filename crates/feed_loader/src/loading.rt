@@ -3,7 +3,7 @@
 ghost use Rattle.std.specs.Prelude.{◌≡◌, ◌≤◌, ◌<◌, ◌+◌, ◌-◌, ◌^◌, IfOk, IfErr};
 ghost use Rattle.feed_files.specs.Reading.{Content, Tells};
 ghost use Rattle.connections.specs.declared.days.TheConstants.{MAX_DAYS};
-ghost use Rattle.feed_loader.specs.Faults.{failed_in};
+ghost use Rattle.feed_loader.specs.Faults.{failed_by, failed_in};
 ghost use Rattle.feed_loader.specs.Refused.{IsLoadRefusal, IsLoaded, IsWantOfMemory};
 
 use crate::fault::LoadFault;
@@ -21,8 +21,8 @@ use std::alloc::Global;
 ///
 /// # Errors
 ///
-/// The first thing that is wrong, in that order. A file that can't be read is told only where the count of failures rose in this
-/// call. Want of memory may be told at any time.
+/// The first thing that is wrong, in that order. A file is told as one that can't be read exactly where its read failed in this
+/// call, and then it was the only one that did. Want of memory may be told at any time.
 pub fn load<F: FeedFiles>(
     alloc: Global,
     files: &mut F,
@@ -33,6 +33,7 @@ pub fn load<F: FeedFiles>(
     requires few { plan.now.days ≤ MAX_DAYS }
     ensures same { F.holds files.new ≡ F.holds files.old }
     ensures failures { F.failures files.new ≡ F.failures files.old + failed_in result }
+    ensures failed { F.failed files.new ≡ failed_by (F.failed files.old) result }
     ensures ok { (content : Content) → Tells (F.holds files.old) content → IfOk result (λ loaded. IsLoaded content plan.now loaded.0.timetable loaded.0.names loaded.1) }
     ensures err { (content : Content) → Tells (F.holds files.old) content → IfErr result (λ fault. ¬ (IsWantOfMemory fault) → IsLoadRefusal content plan.now fault) }
 {

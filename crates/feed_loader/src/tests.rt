@@ -132,6 +132,7 @@ struct Failing<'a> {
     held: MemoryFiles<'a>,
     name: &'a str,
     failures: u64,
+    failed: FailedNames,
 }
 
 impl<'a> FeedFiles for Failing<'a> {
@@ -139,11 +140,14 @@ impl<'a> FeedFiles for Failing<'a> {
 
     ghost failures = { λ files. files.failures };
 
+    ghost failed = { λ files. files.failed };
+
     ghost holds = { λ files name. None };
 
     fn read(&mut self, alloc: Global, name: &str) -> Result<Option<Vec<u8>>, FileFault> {
         if name == self.name {
             self.failures = self.failures.saturating_add(1);
+            self.failed.note(name);
             return Err(FileFault::Failed);
         }
         self.held.read(alloc, name)
@@ -167,6 +171,7 @@ fn a_read_that_fails_is_told(rt: HostRuntime) -> Result<(), Fail> {
             held: MemoryFiles { files: &FILES },
             name: table.file_name(),
             failures: 0,
+            failed: FailedNames::none(),
         };
         match load(rt.alloc(), &mut files, &one_day()) {
             Ok(_) => panic!(rt; "a feed that can't be read is loaded"),

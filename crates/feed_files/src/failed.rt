@@ -1,0 +1,37 @@
+//! The names of files whose reads failed.
+
+ghost use Rattle.std.specs.Prelude.{◌≡◌, ◌++◌, ◌∷◌, [], ℕ, List};
+
+use std::collections::LinkedList;
+use std::marker::Model;
+use timetable::Kept;
+
+/// The names of the files whose reads failed, in order. Contracts alone see them: they take no bytes.
+#[derive(Drop)]
+pub struct FailedNames {
+    names: Kept<LinkedList<LinkedList<u8>>>,
+}
+
+impl Model for FailedNames {
+    ghost Value = { List (List ℕ) };
+
+    ghost view = { λ failed. failed.names.value };
+}
+
+impl FailedNames {
+    /// None yet.
+    pub fn none() -> FailedNames
+        ensures { result ≡ [] }
+    {
+        FailedNames {
+            names: Kept::at(&(), &()),
+        }
+    }
+
+    /// Adds the name of a file whose read failed.
+    pub fn note(&mut self, name: &str)
+        ensures { self.new ≡ self.old ++ name.now ∷ [] }
+    {
+        self.names = Kept::at(&self.names, &name);
+    }
+}
