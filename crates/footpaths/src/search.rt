@@ -32,6 +32,7 @@ pub(crate) struct Search {
 }
 
 // Whether so many seconds are less than what is known.
+#[inline(always)]
 fn is_lower(known: Option<u32>, secs: u32) -> bool
     ensures lower { result ≡ true → (d : ℕ) → known ≡ Some d → secs < d }
     ensures kept { result ≡ false → (d : ℕ) × (known ≡ Some d) × (d ≤ secs) }
@@ -58,6 +59,7 @@ impl Search {
     }
 
     // Takes in that a walk from a stop takes so many seconds.
+    #[inline(always)]
     fn offer(&mut self, stop: u32, secs: u32) -> Result<(), AllocError>
         requires in_table { stop < length self.old.times.items }
         ensures grows { OnOk result (Grows self.old.times.items (heap_items self.old.pending) self.new.times.items (heap_items self.new.pending)) }
@@ -74,6 +76,7 @@ impl Search {
     }
 
     // Writes a lower time down, of a stop that is new or not.
+    #[inline(never)]
     fn note(&mut self, stop: u32, secs: u32, is_new: bool) -> Result<(), AllocError>
         requires in_table { stop < length self.old.times.items }
         requires lower { IsUndercut self.old.times.items stop secs }
@@ -96,6 +99,7 @@ impl Search {
     }
 
     // Walks a footpath backwards that leads to where a walk of so many seconds begins.
+    #[inline(always)]
     fn step(&mut self, path: Footpath, secs: u32, cap: u32) -> Result<(), AllocError>
         requires in_table { path.from < length self.old.times.items }
         ensures grows { OnOk result (Grows self.old.times.items (heap_items self.old.pending) self.new.times.items (heap_items self.new.pending)) }

@@ -1,4 +1,5 @@
 pub mod CellFacts
+pub mod DayKeyFacts
 pub mod FaultFacts
 pub mod KeyFacts
 pub mod OneFault

@@ -1,9 +1,14 @@
 //! Laws of the rows, each a function without code whose contract is the law.
 
-ghost use Rattle.std.specs.Prelude.{◌≡◌, ℕ, List};
+ghost use Rattle.std.specs.Prelude.{◌≡◌, ℕ, List, Some};
+ghost use Rattle.gtfs_rows.specs.Cells.{Places};
+ghost use Rattle.gtfs_rows.specs.Source.{Record};
 ghost use Rattle.gtfs_rows.specs.Faults.{IsFaultOf, Shape};
 ghost use Rattle.gtfs_rows.specs.Tables.{HoldsAgencies, HoldsCalendar, HoldsCalendarDates, HoldsFrequencies, HoldsStopTimes, HoldsStops, HoldsTransfers, HoldsTrips, agency_shape, calendar_dates_shape, calendar_shape, frequencies_shape, stop_times_shape, stops_shape, transfers_shape, trips_shape};
+ghost use Rattle.gtfs_rows.specs.Rows.{service_day_key, value};
+ghost use Rattle.gtfs_rows.specs.Values.{day_of};
 ghost use Rattle.gtfs_rows.specs.declared.fault.FaultKind.{FaultKind as Kind};
+ghost use Rattle.gtfs_rows.specs.declared.values.Day.{Day as Date};
 ghost use Rattle.gtfs_rows.specs.declared.rows.AgencyRow.{AgencyRow};
 ghost use Rattle.gtfs_rows.specs.declared.rows.CalendarDateRow.{CalendarDateRow};
 ghost use Rattle.gtfs_rows.specs.declared.rows.CalendarRow.{CalendarRow};
@@ -35,4 +40,10 @@ pub fn held_without_fault()
     ensures calendar_dates { (bytes : List ℕ) (held : List CalendarDateRow) (n : ℕ) (kind : Kind) → HoldsCalendarDates bytes held → ¬ (IsFaultOf calendar_dates_shape bytes n kind) }
     ensures transfers { (bytes : List ℕ) (held : List TransferRow) (n : ℕ) (kind : Kind) → HoldsTransfers bytes held → ¬ (IsFaultOf transfers_shape bytes n kind) }
     ensures frequencies { (bytes : List ℕ) (held : List FrequencyRow) (n : ℕ) (kind : Kind) → HoldsFrequencies bytes held → ¬ (IsFaultOf frequencies_shape bytes n kind) }
+{}
+
+/// Two records of calendar_dates.txt with one key have one service_id and one date.
+pub fn service_day_keys()
+    ensures { (places : Places) (r s : Record) (d e : Date) → day_of (value places 1 r) ≡ Some d → day_of (value places 1 s) ≡ Some e → service_day_key places r ≡ service_day_key places s
+        → (value places 0 r ≡ value places 0 s) × (d ≡ e) }
 {}

@@ -1,1 +1,2 @@
+pub mod DayFacts
 pub mod StartFacts

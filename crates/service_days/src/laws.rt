@@ -1,7 +1,10 @@
 //! Laws of day starts. The functions do nothing: their contracts are the laws.
 
-ghost use Rattle.std.specs.Prelude.{◌≡◌, ℤ};
+ghost use Rattle.std.specs.Prelude.{◌≡◌, ◌+ℤ◌, pos, true, ℤ};
+ghost use Rattle.jiff_core.specs.Calendar.{days_from_civil};
+ghost use Rattle.gtfs_rows.specs.Values.{is_civil};
 ghost use Rattle.gtfs_rows.specs.declared.values.Day.{Day};
+ghost use Rattle.service_days.specs.Days.{day_after as following};
 ghost use Rattle.service_days.specs.Zones.{HasNoStart, IsDayStart};
 ghost use Rattle.service_days.specs.declared.zone.Zone.{Zone};
 
@@ -13,4 +16,9 @@ pub fn one_start()
 /// A day that has a start isn't without one.
 pub fn started_or_not()
     ensures { (zone : Zone) (day : Day) (start : ℤ) → IsDayStart zone day start → ¬ (HasNoStart zone day) }
+{}
+
+/// The day after a civil day has the next day number, by which its weekday is told too.
+pub fn days_are_counted_on()
+    ensures { (day : Day) → is_civil day ≡ true → days_from_civil (pos (following day).year) (following day).month (following day).day ≡ days_from_civil (pos day.year) day.month day.day +ℤ pos 1 }
 {}

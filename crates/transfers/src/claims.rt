@@ -194,7 +194,22 @@ fn claim_loops(claims: &mut Vec<Claim>, stops: u32) -> Result<(), AllocError>
     Ok(())
 }
 
-/// All that is said of ordered pairs of so many stops.
+// How many claims there are at most.
+fn count_claims(stops: u32, stations: &Stations, transfers: &[Transfer]) -> usize {
+    let mut count = stops as usize;
+    for station in &stations.stations {
+        count = count.saturating_add(stations.children(*station).len());
+    }
+    for row in transfers {
+        let froms = stations.stood_for(&row.from).len();
+        let tos = stations.stood_for(&row.to).len();
+        count = count.saturating_add(froms.saturating_mul(tos));
+    }
+    count
+}
+
+/// All that is said of ordered pairs of so many stops. Room is made for all of it at once: a station of very many stops says something
+/// of each pair of them.
 pub(crate) fn claims_of(
     alloc: Global,
     stops: u32,
@@ -203,7 +218,7 @@ pub(crate) fn claims_of(
 ) -> Result<Vec<Claim>, AllocError>
     ensures { (all : List TheStop) (c : Claim) → AreStations all stations.now.stations.items stations.now.stops.items → length all ≡ stops → IfOk result (λ v. Contains v.items c ↔ IsClaim all transfers.now c) }
 {
-    let mut claims = Vec::new(alloc);
+    let mut claims = Vec::with_capacity(alloc, count_claims(stops, stations, transfers))?;
     claim_transfers(&mut claims, stations, transfers)?;
     claim_siblings(&mut claims, stations)?;
     claim_loops(&mut claims, stops)?;

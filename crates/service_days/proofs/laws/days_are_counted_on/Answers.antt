@@ -1,0 +1,5 @@
+use Rattle.service_days.proofs.DayFacts.{counted_on}
+use Rattle.service_days.proofs.laws.days_are_counted_on.Goals as goal
+
+pub returns : goal.returns
+returns c = counted_on
