@@ -11,3 +11,4 @@ pub mod Editions
 pub mod Loadings
 pub mod Says
 pub mod Events
+pub mod Stepping

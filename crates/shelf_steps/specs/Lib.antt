@@ -9,3 +9,4 @@ pub mod Loading
 pub mod Handed
 pub mod Laws
 pub mod Events
+pub mod Stepping

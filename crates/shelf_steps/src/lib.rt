@@ -22,8 +22,9 @@ mod worker_steps;
 pub use blocks::editions_of;
 pub use edition::Edition;
 pub use loading::{load, try_shelf};
-pub use opening::open_shelves;
 pub use pinning::{pin, release};
 pub use places::{Place, ShelfTable};
 pub use views::{Known, LoaderView, View, WorkerView};
 
+#[cfg(test)]
+mod tests;

@@ -1,9 +1,8 @@
-//! The opening: version 1 is current on shelf 0, and sixteen idle workers have seats.
+//! The opening: version 1 is current on shelf 0, and the seats of idle workers are split from the loader's.
 ghost use Rattle.std.specs.Prelude.{◌≡◌, ◌<◌, [], IfOk};
 ghost use Rattle.std.specs.Arc.{arc_value};
 ghost use Rattle.shelf_steps.specs.Ruled.{first_loader, FirstSlot, FirstSlots};
 ghost use Rattle.shelf_steps.specs.Plays.{keeps_loading, new_worker_view, MayHandOut};
-ghost use Rattle.shelf_steps.specs.Handed.{handed, PlacesHanded};
 ghost use Rattle.shelf_steps.specs.declared.views.View.{View};
 
 use crate::edition::Edition;
@@ -13,24 +12,6 @@ use atomic_table::Table;
 use image_verifier::Verified;
 use std::alloc::{AllocError, Global};
 use std::sync::Arc;
-
-/// A new table with the image as version 1, the loader's seat, and the seats of sixteen idle workers, numbered from 0. It takes
-/// memory; no other call but `editions_of` does.
-pub fn open_shelves(
-    alloc: Global,
-    first: &Arc<Verified, Global>,
-) -> Result<(ShelfTable, Place, Vec<Place>), AllocError>
-    ensures loader { IfOk result (λ t. (t.1.table ≡ t.0) × (t.1.me ≡ (View.Loading (handed 16 (arc_value first.now)), []))) }
-    ensures workers { IfOk result (λ t. PlacesHanded t.0 16 t.2.items) }
-{
-    let mut workers = Vec::with_capacity(alloc, 16)?;
-    let (shelves, mut loader) = new_shelves(alloc, first)?;
-    for _number in 0..16usize {
-        let worker = new_worker(&shelves, &mut loader);
-        workers.push(worker)?;
-    }
-    Ok((shelves, loader, workers))
-}
 
 /// Version 1 is current on shelf 0, whose slots have the first image. No worker has a seat yet.
 pub fn new_shelves(

@@ -1,0 +1,32 @@
+-- What a seat remembers of itself, so that its steps may be asked for at any time.
+use Rattle.std.specs.Prelude.{◌≡◌, ℕ, ◌+◌, ◌*◌, ◌<◌, ◌≤◌, List, [], ◌∷◌, length, Option, Some, None}
+use Rattle.version_core.specs.declared.state.Shelf.{Shelf}
+use Rattle.version_core.specs.declared.state.Worker.{Worker}
+use Rattle.version_core.specs.Kept.{version_on}
+use Rattle.shelf_steps.specs.declared.edition.Edition.{Edition}
+use Rattle.shelf_steps.specs.declared.views.WorkerView.{WorkerView}
+use Rattle.shelf_steps.specs.declared.views.LoaderView.{LoaderView}
+use Rattle.shelf_steps.specs.Plays.{Mine, OfWorker, OfLoader, newest_of}
+
+-- the slots that are out with a worker: its own of the shelf that it holds, with the edition in it
+abbrev pub CarriesSo : Worker → WorkerView → List (ℕ × Option Edition) → Type 0
+CarriesSo Worker.Idle v c = c ≡ []
+CarriesSo (Worker.Looked version k) v c = (k < 8) × (c ≡ [])
+CarriesSo (Worker.Late k) v c = (k < 8) × (c ≡ [])
+CarriesSo (Worker.Holding k version) v c = (k < 8) × (c ≡ (16 * k + v.number, v.edition) ∷ [])
+
+abbrev pub DoesSo : Worker → Mine → Type 0
+DoesSo now m = OfWorker m.0 (λ v. (v.now ≡ now) × CarriesSo now v m.1)
+
+-- the loader between two steps, with no slot out
+pub record Remembers (current newest : ℕ) (shelves : List Shelf) (l : LoaderView) : Type 0 where
+  pub empty : l.hand ≡ None
+  pub current_is : l.current ≡ current
+  pub newest_is : newest_of l ≡ newest
+  pub shelves_are : l.shelves ≡ shelves
+  pub eight : length shelves ≡ 8
+  pub small : newest ≤ 1000000000
+  pub known : (k v : ℕ) → version_on shelves k ≡ Some v → v ≤ newest
+
+abbrev pub RemembersSo : ℕ → ℕ → List Shelf → Mine → Type 0
+RemembersSo current newest shelves m = OfLoader m.0 (λ l. Remembers current newest shelves l) × (m.1 ≡ [])
