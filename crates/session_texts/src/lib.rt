@@ -10,7 +10,7 @@ mod requests;
 pub use judging::{LineFault, read_line};
 pub use refusals::{Refusal, moved_line};
 pub use replies::{Points, load_line, pin_line, release_line};
-pub use requests::{Ask, CriterionName, Request, request_of};
+pub use requests::{Ask, Request, request_of};
 
 #[cfg(test)]
 mod tests;

@@ -1,0 +1,34 @@
+-- A line asks one thing.
+use Rattle.std.proofs.Common.{◌≡◌, ◌<◌, ◌≤◌, ℕ, List, length, refl, sym, ap, subst, arith}
+use Rattle.serde_json.specs.Data.{Data}
+use Rattle.session_texts.specs.Judging.{IsJson}
+use Rattle.session_texts.specs.Requests.{Asks, RequestValue}
+use Rattle.session.specs.Lines.{Asked, too_long, no_json, no_request, asks, IsAsked}
+
+long_or_short : (line : List ℕ) (x y : Asked) → 65_536 < length line → length line ≤ 65_536 → x ≡ y
+long_or_short line x y long short = absurd (omega (arith, long, short))
+
+abbrev pub OneValue : Type 0
+OneValue = (line : List ℕ) (d e : Data) → IsJson line d → IsJson line e → d ≡ e
+
+abbrev pub OneRequest : Type 0
+OneRequest = (d : Data) (request other : RequestValue) → Asks d request → Asks d other → request ≡ other
+
+pub one_asked : OneValue → OneRequest → (line : List ℕ) (x y : Asked) → IsAsked line x → IsAsked line y → x ≡ y
+one_asked value request line too_long too_long p q = refl
+one_asked value request line too_long no_json p q = long_or_short line too_long no_json p q.0
+one_asked value request line too_long no_request p q = long_or_short line too_long no_request p q.0
+one_asked value request line too_long (asks s) p q = long_or_short line too_long (asks s) p q.0
+one_asked value request line no_json too_long p q = long_or_short line no_json too_long q p.0
+one_asked value request line no_json no_json p q = refl
+one_asked value request line no_json no_request p q = absurd (p.1 q.1.0 q.1.1)
+one_asked value request line no_json (asks s) p q = absurd (p.1 q.1.0 q.1.1)
+one_asked value request line no_request too_long p q = long_or_short line no_request too_long q p.0
+one_asked value request line no_request no_json p q = absurd (q.1 p.1.0 p.1.1)
+one_asked value request line no_request no_request p q = refl
+one_asked value request line no_request (asks s) p q = absurd (p.1.2 s (subst (λ (d : Data). Asks d s) (value line q.1.0 p.1.0 q.1.1 p.1.1) q.1.2))
+one_asked value request line (asks r) too_long p q = long_or_short line (asks r) too_long q p.0
+one_asked value request line (asks r) no_json p q = absurd (q.1 p.1.0 p.1.1)
+one_asked value request line (asks r) no_request p q = absurd (q.1.2 r (subst (λ (d : Data). Asks d r) (value line p.1.0 q.1.0 p.1.1 q.1.1) p.1.2))
+one_asked value request line (asks r) (asks s) p q =
+    ap asks (request p.1.0 r s p.1.2 (subst (λ (d : Data). Asks d s) (value line q.1.0 p.1.0 q.1.1 p.1.1) q.1.2))

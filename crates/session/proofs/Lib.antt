@@ -1,0 +1,7 @@
+pub mod SeatLemmas
+mod MetLemmas
+mod AskedLemmas
+pub mod TurnLemmas
+mod LineLemmas
+mod PlainLemmas
+mod AnswerLemmas

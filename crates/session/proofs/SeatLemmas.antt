@@ -1,0 +1,120 @@
+-- A seat's answers.
+use Rattle.std.proofs.Common.{◌≡◌, ◌≢◌, ◌≤◌, ℕ, List, [], ◌∷◌, ◌++◌, Option, Some, None, Result, Ok, Err, refl, sym, ap, ◌∙◌, subst, append_assoc, append-nil, arith}
+use Rattle.std.specs.declared.snapshot.Snapshot.{Snapshot}
+use Rattle.image_layout.specs.Image.{ImageValue}
+use Rattle.epochs.specs.declared.seats.Answer.{Answer}
+use Rattle.epochs.specs.declared.faults.PinFault.{PinFault}
+use Rattle.epochs.specs.Pins.{HoldsInHistory}
+use Rattle.epochs.specs.Seats.{SeatValue, PinStep, ReleaseStep, pinned}
+use Rattle.session.specs.SeatSteps.{AnswerStep, Follows, IsGivenBack, NeverFalls, PinsOnce}
+
+abbrev version_in : Option (ℕ × ImageValue) → ℕ
+version_in None = 0
+version_in (Some p) = p.0
+
+abbrev image_in : ImageValue → Option (ℕ × ImageValue) → ImageValue
+image_in i None = i
+image_in i (Some p) = p.1
+
+nothing_is_held : (v : ℕ) (i : ImageValue) (h : Option (ℕ × ImageValue)) → h ≡ None → h ≡ Some (v, i) → ⊥
+nothing_is_held v i h none some = let no : None ≡ Some (v, i) = sym none ∙ some in absurd cc
+
+-- a pin that was Ok, as an answer. The seat holds this version with this image
+pub record IsPinned (number : ℕ) (a m : SeatValue) (version : ℕ) (image : ImageValue) : Type 0 where
+  pub shown : Snapshot ImageValue
+  pub image_is : shown.value ≡ image
+  pub empty : a.held ≡ None
+  pub step : AnswerStep number a (Answer.Pinned version shown) m
+
+pinned_as : (number : ℕ) (a m : SeatValue) (version v : ℕ) (shown : Snapshot ImageValue) (image : ImageValue) → a.held ≡ None → a.seen ≤ version → m ≡ pinned a version shown → HoldsInHistory number m.held → version ≡ v → shown.value ≡ image
+    → IsPinned number a m v image
+pinned_as number a m version v shown image empty newer is known same same_image =
+    let holds : HoldsInHistory number (Some (version, shown.value)) = subst (λ (h : Option (ℕ × ImageValue)). HoldsInHistory number h) (ap (λ (s : SeatValue). s.held) is) known in
+    record {
+      shown = shown;
+      image_is = same_image;
+      empty = empty;
+      step = subst (λ (n : ℕ). AnswerStep number a (Answer.Pinned n shown) m) same (empty, newer, is, holds);
+    }
+
+pub is_pinned : (number : ℕ) (a m : SeatValue) (v : ℕ) (image : ImageValue) → PinStep a (Ok tt) m → HoldsInHistory number m.held → m.held ≡ Some (v, image) → IsPinned number a m v image
+is_pinned number a m v image pin known held =
+    let both : Some (pin.1.0, pin.1.1.value) ≡ Some (v, image) = sym (ap (λ (s : SeatValue). s.held) pin.1.3) ∙ held in
+    pinned_as number a m pin.1.0 v pin.1.1 image pin.0 pin.1.2 pin.1.3 known (ap version_in both) (ap (image_in image) both)
+
+-- what is held is given back, whatever the release answered
+pub record IsReleased (number : ℕ) (m b : SeatValue) : Type 0 where
+  pub last : Answer
+  pub given_back : IsGivenBack last
+  pub step : AnswerStep number m last b
+  pub empty : b.held ≡ None
+
+pub is_released : (number : ℕ) (m b : SeatValue) (r : Result (Unit {0}) PinFault) → m.held ≢ None → ReleaseStep m r b → IsReleased number m b
+is_released number m b (Ok u) some back = record { last = Answer.Released; given_back = tt; step = back; empty = ap (λ (s : SeatValue). s.held) back.1 }
+is_released number m b (Err PinFault.SeatLost) some back = record { last = Answer.ReleaseRefused PinFault.SeatLost; given_back = tt; step = back; empty = ap (λ (s : SeatValue). s.held) back.1 }
+is_released number m b (Err PinFault.NotPinned) some back = absurd (some back.0)
+is_released number m b (Err PinFault.AlreadyPinned) some back = absurd back
+is_released number m b (Err PinFault.OutOfMemory) some back = absurd back
+is_released number m b (Err (PinFault.Moved n)) some back = absurd back
+
+pub some_is_held : (v : ℕ) (i : ImageValue) (h : Option (ℕ × ImageValue)) → h ≡ Some (v, i) → h ≢ None
+some_is_held v i h some none = nothing_is_held v i h none some
+
+-- a pin and what gives it back
+pub pins_once : (number : ℕ) (a m b : SeatValue) (v : ℕ) (image : ImageValue) → (pin : IsPinned number a m v image) → (release : IsReleased number m b)
+    → PinsOnce (Answer.Pinned v pin.shown ∷ release.last ∷ []) v image × Follows number a (Answer.Pinned v pin.shown ∷ release.last ∷ []) b
+pins_once number a m b v image pin release =
+    let once : PinsOnce (Answer.Pinned v pin.shown ∷ release.last ∷ []) v image = record { shown = pin.shown; last = release.last; image_is = pin.image_is; given_back = release.given_back; answers_are = refl } in
+    (once, (m, pin.step, (b, release.step, refl)))
+
+-- each answer is the last of the list after its step, and what was seen never falls
+step_grows : (number : ℕ) (a b : SeatValue) (answer : Answer) → AnswerStep number a answer b → b.answers ≡ a.answers ++ answer ∷ []
+step_grows number a b (Answer.Pinned version image) step = ap (λ (s : SeatValue). s.answers) step.2
+step_grows number a b (Answer.PinRefused (PinFault.Moved newest)) step = ap (λ (s : SeatValue). s.answers) step.2
+step_grows number a b (Answer.PinRefused PinFault.AlreadyPinned) step = ap (λ (s : SeatValue). s.answers) step.1
+step_grows number a b (Answer.PinRefused PinFault.SeatLost) step = ap (λ (s : SeatValue). s.answers) step.1
+step_grows number a b (Answer.PinRefused PinFault.OutOfMemory) step = ap (λ (s : SeatValue). s.answers) step.1
+step_grows number a b (Answer.PinRefused PinFault.NotPinned) step = absurd step
+step_grows number a b Answer.Released step = ap (λ (s : SeatValue). s.answers) step.1
+step_grows number a b (Answer.ReleaseRefused PinFault.NotPinned) step = ap (λ (s : SeatValue). s.answers) step.1
+step_grows number a b (Answer.ReleaseRefused PinFault.SeatLost) step = ap (λ (s : SeatValue). s.answers) step.1
+step_grows number a b (Answer.ReleaseRefused PinFault.AlreadyPinned) step = absurd step
+step_grows number a b (Answer.ReleaseRefused PinFault.OutOfMemory) step = absurd step
+step_grows number a b (Answer.ReleaseRefused (PinFault.Moved n)) step = absurd step
+
+pub answers_grow : (number : ℕ) (a b : SeatValue) (answers : List Answer) → Follows number a answers b → b.answers ≡ a.answers ++ answers
+answers_grow number a b [] same = ap (λ (s : SeatValue). s.answers) same ∙ sym (append-nil a.answers)
+answers_grow number a b (answer ∷ answers) (m, step, rest) =
+    answers_grow number m b answers rest ∙ ap (λ (xs : List Answer). xs ++ answers) (step_grows number a m answer step) ∙ append_assoc a.answers (answer ∷ []) answers
+
+-- a step that pins nothing sees no less
+rises : (least : ℕ) (a b : SeatValue) (n : ℕ) → least ≤ a.seen → a.seen ≤ n → b.seen ≡ n → least ≤ b.seen
+rises least a b n low up is = omega (arith, low, up, is)
+
+stays : (least : ℕ) (a b : SeatValue) → least ≤ a.seen → b.seen ≡ a.seen → least ≤ b.seen
+stays least a b low is = omega (arith, low, is)
+
+abbrev seen_in : SeatValue → ℕ
+seen_in s = s.seen
+
+pub never_falls : (number least : ℕ) (a b : SeatValue) (answers : List Answer) → least ≤ a.seen → Follows number a answers b → NeverFalls least answers
+never_falls number least a b [] low same = tt
+never_falls number least a b (Answer.Pinned version image ∷ answers) low (m, step, rest) =
+    let seen : m.seen ≡ version = ap seen_in step.2 in
+    (omega (arith, low, step.1), never_falls number version m b answers (omega (arith, seen)) rest)
+never_falls number least a b (Answer.PinRefused (PinFault.Moved newest) ∷ answers) low (m, step, rest) =
+    never_falls number least m b answers (rises least a m newest low (omega (arith, step.1)) (ap seen_in step.2)) rest
+never_falls number least a b (Answer.PinRefused PinFault.AlreadyPinned ∷ answers) low (m, step, rest) = never_falls number least m b answers (stays least a m low (ap seen_in step.1)) rest
+never_falls number least a b (Answer.PinRefused PinFault.SeatLost ∷ answers) low (m, step, rest) = never_falls number least m b answers (stays least a m low (ap seen_in step.1)) rest
+never_falls number least a b (Answer.PinRefused PinFault.OutOfMemory ∷ answers) low (m, step, rest) = never_falls number least m b answers (stays least a m low (ap seen_in step.1)) rest
+never_falls number least a b (Answer.PinRefused PinFault.NotPinned ∷ answers) low (m, step, rest) = absurd step
+never_falls number least a b (Answer.Released ∷ answers) low (m, step, rest) = never_falls number least m b answers (stays least a m low (ap seen_in step.1)) rest
+never_falls number least a b (Answer.ReleaseRefused PinFault.NotPinned ∷ answers) low (m, step, rest) = never_falls number least m b answers (stays least a m low (ap seen_in step.1)) rest
+never_falls number least a b (Answer.ReleaseRefused PinFault.SeatLost ∷ answers) low (m, step, rest) = never_falls number least m b answers (stays least a m low (ap seen_in step.1)) rest
+never_falls number least a b (Answer.ReleaseRefused PinFault.AlreadyPinned ∷ answers) low (m, step, rest) = absurd step
+never_falls number least a b (Answer.ReleaseRefused PinFault.OutOfMemory ∷ answers) low (m, step, rest) = absurd step
+never_falls number least a b (Answer.ReleaseRefused (PinFault.Moved n) ∷ answers) low (m, step, rest) = absurd step
+
+pub Follows-append : (number : ℕ) (a m b : SeatValue) (xs ys : List Answer) → Follows number a xs m → Follows number m ys b → Follows number a (xs ++ ys) b
+Follows-append number a m b [] ys same rest = subst (λ (s : SeatValue). Follows number s ys b) same rest
+Follows-append number a m b (x ∷ xs) ys (n, step, more) rest = (n, step, Follows-append number n m b xs ys more rest)

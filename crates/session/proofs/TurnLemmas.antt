@@ -1,0 +1,103 @@
+-- Turns: one line, and lines one after the other.
+use Rattle.std.proofs.Common.{◌≡◌, ◌≢◌, ◌⊎◌, ◌≤◌, ℕ, List, [], ◌∷◌, ◌++◌, length, Option, Some, None, Result, Ok, Err, refl, sym, ap, ◌∙◌, subst, append_assoc, append-nil, inl, inr}
+use Rattle.serde_json.specs.Data.{Data}
+use Rattle.image_layout.specs.Image.{ImageValue}
+use Rattle.epochs.specs.declared.seats.Answer.{Answer}
+use Rattle.epochs.specs.Seats.{SeatValue}
+use Rattle.lines.specs.Showing.{ShowsLine}
+use Rattle.lines.specs.declared.text.Line.{Line}
+use Rattle.lines.specs.declared.text.Line.TheVariants.{Whole, TooLong, NoRoom}
+use Rattle.orders.specs.Ordering.{OrderValue}
+use Rattle.session_texts.specs.Judging.{IsJson, IsNoJson}
+use Rattle.session_texts.specs.Requests.{Asks, RequestValue, load, request_value}
+use Rattle.session_texts.specs.declared.requests.Request.{Request}
+use Rattle.session_texts.specs.declared.refusals.Refusal.{Refusal}
+use Rattle.session.specs.Lines.{Asked, too_long, no_json, no_request, asks, IsAsked, memory_line, refusal_line}
+use Rattle.session.specs.SeatSteps.{Follows}
+use Rattle.session.specs.Sessions.{AreTurns, answers_of, lines_in, orders_of, text_of}
+use Rattle.session.specs.Turns.{HasTurn, IsMet, IsTurn, Meets, OrderIsMet, Turn, TurnsTo, WantsMemory}
+use Rattle.session.proofs.SeatLemmas.{Follows-append}
+
+abbrev turn_of : List ℕ → List Answer → List OrderValue → List ℕ → Turn
+turn_of line answers orders reply = record { line = line; answers = answers; orders = orders; reply = reply }
+
+has_turn : (number : ℕ) (a b : SeatValue) (asked asked_then : List OrderValue) (t : Turn) → IsTurn a.held t → Follows number a t.answers b → asked_then ≡ asked ++ t.orders → HasTurn number t.line t.reply a asked b asked_then
+has_turn number a b asked asked_then t is seat orders =
+    let turns : TurnsTo number a asked t b asked_then = record { is = is; seat = seat; orders = orders } in
+    (t, refl, refl, turns)
+
+-- nothing was done
+idle_turn : (number : ℕ) (a : SeatValue) (asked : List OrderValue) (line reply : List ℕ) → IsTurn a.held (turn_of line [] [] reply) → HasTurn number line reply a asked a asked
+idle_turn number a asked line reply is = has_turn number a a asked asked (turn_of line [] [] reply) is refl (sym (append-nil asked))
+
+pub memory_turn : (number : ℕ) (a : SeatValue) (asked : List OrderValue) (line reply : List ℕ) → reply ≡ memory_line → HasTurn number line reply a asked a asked
+memory_turn number a asked line reply told = idle_turn number a asked line reply (inl (told, refl, inl refl))
+
+pub too_long_turn : (number : ℕ) (a : SeatValue) (asked : List OrderValue) (shown : Line) (line reply : List ℕ) → shown ≡ TooLong → ShowsLine shown line → reply ≡ refusal_line Refusal.LineTooLong → HasTurn number line reply a asked a asked
+too_long_turn number a asked shown line reply is shows told =
+    let long : ShowsLine TooLong line = subst (λ (x : Line). ShowsLine x line) is shows in
+    idle_turn number a asked line reply (inr (too_long, long, (refl, refl, told)))
+
+-- the whole line is there
+pub whole : (shown : Line) (bytes : _) (line : List ℕ) → shown ≡ Whole bytes → ShowsLine shown line → (bytes.now ≡ line) × (length line ≤ 65_536)
+whole shown bytes line is shows = subst (λ (x : Line). ShowsLine x line) is shows
+
+pub bad_json_turn : (number : ℕ) (a : SeatValue) (asked : List OrderValue) (bytes line reply : List ℕ) → (bytes ≡ line) × (length line ≤ 65_536) → IsNoJson bytes → reply ≡ refusal_line Refusal.BadJson → HasTurn number line reply a asked a asked
+bad_json_turn number a asked bytes line reply here bad told = idle_turn number a asked line reply (inr (no_json, (here.1, subst IsNoJson here.0 bad), (refl, refl, told)))
+
+pub bad_request_turn : (number : ℕ) (a : SeatValue) (asked : List OrderValue) (bytes line reply : List ℕ) (d : Data) → (bytes ≡ line) × (length line ≤ 65_536) → IsJson bytes d → ((request : RequestValue) → ¬ Asks d request)
+    → reply ≡ refusal_line Refusal.BadRequest → HasTurn number line reply a asked a asked
+bad_request_turn number a asked bytes line reply d here json none told =
+    idle_turn number a asked line reply (inr (no_request, (here.1, (d, subst (λ (xs : List ℕ). IsJson xs d) here.0 json, none)), (refl, refl, told)))
+
+-- a request is one of these
+pub asks_known : (d : Data) (shown known : Request) → shown ≡ known → Asks d (request_value shown) → Asks d (request_value known)
+asks_known d shown known is asks_it = subst (λ (r : Request). Asks d (request_value r)) is asks_it
+
+-- a request of the seat is met
+meets_turn : (number : ℕ) (a b : SeatValue) (what : Asked) (line reply : List ℕ) → IsAsked line what → (met : IsMet number a what reply b) → IsTurn a.held (turn_of line met.answers [] reply)
+meets_turn number a b what line reply is met =
+    elim met.meets [
+      | inl memory ↦ inl memory
+      | inr meets ↦ inr (what, is, meets)
+    ]
+
+pub seat_turn : (number : ℕ) (a b : SeatValue) (asked : List OrderValue) (bytes line reply : List ℕ) (d : Data) (request : RequestValue) → (bytes ≡ line) × (length line ≤ 65_536) → IsJson bytes d → Asks d request
+    → IsMet number a (asks request) reply b → HasTurn number line reply a asked b asked
+seat_turn number a b asked bytes line reply d request here json asks_it met =
+    let is : IsAsked line (asks request) = (here.1, (d, subst (λ (xs : List ℕ). IsJson xs d) here.0 json, asks_it)) in
+    has_turn number a b asked asked (turn_of line met.answers [] reply) (meets_turn number a b (asks request) line reply is met) met.seat (sym (append-nil asked))
+
+-- a feed is ordered
+pub order_turn : (number : ℕ) (a : SeatValue) (asked asked_then put : List OrderValue) (bytes line reply feed : List ℕ) (d : Data) → (bytes ≡ line) × (length line ≤ 65_536) → IsJson bytes d → Asks d (load feed)
+    → asked_then ≡ asked ++ put → OrderIsMet feed put reply ⊎ ((put ≡ []) × (reply ≡ memory_line)) → HasTurn number line reply a asked a asked_then
+order_turn number a asked asked_then put bytes line reply feed d here json asks_it grown (inl met) =
+    let is : IsAsked line (asks (load feed)) = (here.1, (d, subst (λ (xs : List ℕ). IsJson xs d) here.0 json, asks_it)) in
+    has_turn number a a asked asked_then (turn_of line [] put reply) (inr (asks (load feed), is, (refl, met))) refl grown
+order_turn number a asked asked_then put bytes line reply feed d here json asks_it grown (inr memory) =
+    has_turn number a a asked asked_then (turn_of line [] put reply) (inl (memory.1, memory.0, inl refl)) refl grown
+
+-- turns, and one more
+pub lines_in-more : (turns : List Turn) (t : Turn) → lines_in (turns ++ t ∷ []) ≡ lines_in turns ++ t.line ∷ []
+lines_in-more [] t = refl
+lines_in-more (u ∷ turns) t = ap (λ (ls : List (List ℕ)). u.line ∷ ls) (lines_in-more turns t)
+
+pub text_of-more : (turns : List Turn) (t : Turn) → text_of (turns ++ t ∷ []) ≡ text_of turns ++ t.reply
+text_of-more [] t = append-nil t.reply
+text_of-more (u ∷ turns) t = ap (λ (xs : List ℕ). u.reply ++ xs) (text_of-more turns t) ∙ sym (append_assoc u.reply (text_of turns) t.reply)
+
+pub AreTurns-more : (number : ℕ) (a m b : SeatValue) (asked between asked_then : List OrderValue) (turns : List Turn) (t : Turn) → AreTurns number a asked turns m between → TurnsTo number m between t b asked_then
+    → AreTurns number a asked (turns ++ t ∷ []) b asked_then
+AreTurns-more number a m b asked between asked_then [] t same turn =
+    (b, asked_then, subst (λ (s : SeatValue). TurnsTo number s asked t b asked_then) same.0 (subst (λ (xs : List OrderValue). TurnsTo number m xs t b asked_then) same.1 turn), (refl, refl))
+AreTurns-more number a m b asked between asked_then (u ∷ turns) t (n, middle, first, rest) turn = (n, middle, first, AreTurns-more number n m b middle between asked_then turns t rest turn)
+
+-- the lists grow by the turns' own
+pub answers_follow : (number : ℕ) (a b : SeatValue) (asked asked_then : List OrderValue) (turns : List Turn) → AreTurns number a asked turns b asked_then → Follows number a (answers_of turns) b
+answers_follow number a b asked asked_then [] same = same.0
+answers_follow number a b asked asked_then (t ∷ turns) (m, between, turn, rest) = Follows-append number a m b t.answers (answers_of turns) turn.seat (answers_follow number m b between asked_then turns rest)
+
+pub orders_grow : (number : ℕ) (a b : SeatValue) (asked asked_then : List OrderValue) (turns : List Turn) → AreTurns number a asked turns b asked_then → asked_then ≡ asked ++ orders_of turns
+orders_grow number a b asked asked_then [] same = same.1 ∙ sym (append-nil asked)
+orders_grow number a b asked asked_then (t ∷ turns) (m, between, turn, rest) =
+    orders_grow number m b between asked_then turns rest ∙ ap (λ (xs : List OrderValue). xs ++ orders_of turns) turn.orders ∙ append_assoc asked t.orders (orders_of turns)

@@ -1,0 +1,75 @@
+use Rattle.std.proofs.Common.{◌∙◌, refl, sym, arith, inl}
+use Rattle.lines.proofs.GivenLemmas.{Gives-ended, Gives-nothing, Gives-rest}
+use Rattle.session.proofs.LineLemmas.{is_not_there, is_there, nothing_is_one_line, some_bytes, SoFar-more, SoFar-start, TurnsTo-number, cut_short_at_line, cut_short_at_rest, ends_at_end, ends_with_rest, not_rose, read_fails, rose, too_many, why_failed}
+use Rattle.session.proofs.serving.answer_lines.Goals as goal
+
+pub loop-init : goal.loop-init
+loop-init g c = record { fits = c.requires.fits; number = refl; reads = refl; writes = refl; so_far = SoFar-start _ _ _ _ _ _ c.new-lines.ensures }
+
+pub returns-in-Err-clause-session : goal.returns-in-Err-clause-session
+returns-in-Err-clause-session g c =
+    let e = c.in-Err.ensures in
+    read_fails _ _ _ _ _ e.0 _ _ _ _ _ _ _ _ _ c.loop.invariant.so_far e.1 e.2.0 (why_failed _ _ _ _ c.requires.reads c.loop.invariant.reads e.2.2) (not_rose _ _ c.loop.invariant.writes)
+
+pub returns-in-Ok-Nothing-clause-session : goal.returns-in-Ok-Nothing-clause-session
+returns-in-Ok-Nothing-clause-session g c =
+    let e = c.in-Ok-Nothing.ensures in
+    let nothing = Gives-nothing _ _ _ _ c.in-Ok-Nothing.field-0-is e.2.0 in
+    ends_at_end _ _ _ _ _ e.0 _ _ _ _ _ _ _ _ _ _ c.loop.invariant.so_far e.1 nothing.0 nothing.2 (not_rose _ _ (e.2.1 ∙ c.loop.invariant.reads)) (not_rose _ _ c.loop.invariant.writes)
+
+pub returns-in-Err-answer_line-2-clause-session : goal.returns-in-Err-answer_line-2-clause-session
+returns-in-Err-answer_line-2-clause-session g c =
+    let e = c.in-Ok-Ended.ensures in
+    let gives = Gives-ended _ _ _ _ c.in-Ok-Ended.field-0-is e.2.0 in
+    let done = c.in-Err-answer_line-2.ensures.turn gives.line (c.line-line-in-Ok-Ended.ensures gives.line gives.shown) in
+    let turn = TurnsTo-number _ _ _ _ _ _ _ c.loop.invariant.number done.2 in
+    cut_short_at_line _ _ _ _ _ e.0 _ _ _ _ _ _ _ _ _ _ _ _ _ c.loop.invariant.so_far e.1 gives done.0 done.1 turn done.3.0 done.3.1 (not_rose _ _ (e.2.1 ∙ c.loop.invariant.reads))
+    (rose _ _ _ c.requires.writes c.loop.invariant.writes c.in-Err-answer_line-2.ensures.failures)
+
+pub loop-preserved : goal.loop-preserved
+loop-preserved g c =
+    let e = c.in-Ok-Ended.ensures in
+    let gives = Gives-ended _ _ _ _ c.in-Ok-Ended.field-0-is e.2.0 in
+    let done = c.in-Ok-answer_line.ensures.turn gives.line (c.line-line-in-Ok-Ended.ensures gives.line gives.shown) in
+    let turn = TurnsTo-number _ _ _ _ _ _ _ c.loop.invariant.number done.2 in
+    record {
+      fits = c.in-Ok-answer_line.ensures.fits;
+      number = c.in-Ok-answer_line.ensures.number ∙ c.loop.invariant.number;
+      reads = e.2.1 ∙ c.loop.invariant.reads;
+      writes = c.in-Ok-answer_line.ensures.failures ∙ c.loop.invariant.writes;
+      so_far = SoFar-more _ _ _ _ _ e.0 _ _ _ _ _ _ _ _ _ _ _ c.loop.invariant.so_far e.1 gives done.0 done.1 turn done.3;
+    }
+
+pub returns-in-Ok-clause-session : goal.returns-in-Ok-clause-session
+returns-in-Ok-clause-session g c =
+    let e = c.in-Ok-Rest.ensures in
+    let gives = Gives-rest _ _ _ _ c.in-Ok-Rest.field-0-is e.2.0 in
+    let done = c.in-Ok.ensures.turn _ (c.line-line.ensures _ gives.shown) in
+    let turn = TurnsTo-number _ _ _ _ _ _ _ c.loop.invariant.number done.2 in
+    ends_with_rest _ _ _ _ _ e.0 _ _ _ _ _ _ _ _ _ _ _ _ _ _ c.loop.invariant.so_far e.1 gives done.0 done.1 turn done.3 (not_rose _ _ (e.2.1 ∙ c.loop.invariant.reads)) (not_rose _ _ (c.in-Ok.ensures.failures ∙ c.loop.invariant.writes))
+
+pub returns-in-Err-answer_line-clause-session : goal.returns-in-Err-answer_line-clause-session
+returns-in-Err-answer_line-clause-session g c =
+    let e = c.in-Ok-Rest.ensures in
+    let gives = Gives-rest _ _ _ _ c.in-Ok-Rest.field-0-is e.2.0 in
+    let done = c.in-Err-answer_line.ensures.turn _ (c.line-line.ensures _ gives.shown) in
+    let turn = TurnsTo-number _ _ _ _ _ _ _ c.loop.invariant.number done.2 in
+    cut_short_at_rest _ _ _ _ _ e.0 _ _ _ _ _ _ _ _ _ _ _ _ _ c.loop.invariant.so_far e.1 gives done.0 done.1 turn done.3.0 done.3.1 (not_rose _ _ (e.2.1 ∙ c.loop.invariant.reads))
+    (rose _ _ _ c.requires.writes c.loop.invariant.writes c.in-Err-answer_line.ensures.failures)
+
+pub returns-in-Ok-true-clause-session : goal.returns-in-Ok-true-clause-session
+returns-in-Ok-true-clause-session g c =
+    let e = c.in-Ok-true.ensures in
+    too_many _ _ _ _ _ e.0 _ _ _ _ _ _ _ _ _ (omega (arith, c.loop-test.false, c.loop.auto.counter-end)) c.loop.invariant.so_far e.1 (some_bytes _ _ e.2 (is_there _ _ _ c.in-Ok-true.field-0-test e.3.0))
+    (not_rose _ _ (e.3.1 ∙ c.loop.invariant.reads)) (not_rose _ _ c.loop.invariant.writes)
+
+pub returns-in-Ok-false-clause-session : goal.returns-in-Ok-false-clause-session
+returns-in-Ok-false-clause-session g c =
+    let e = c.in-Ok-false.ensures in
+    let none = is_not_there _ _ _ c.in-Ok-false.field-0-test e.3.0 in
+    ends_at_end _ _ _ _ _ e.0 _ _ _ _ _ _ _ _ _ _ c.loop.invariant.so_far e.1 (sym e.2 ∙ none.0) none.1 (not_rose _ _ (e.3.1 ∙ c.loop.invariant.reads)) (not_rose _ _ c.loop.invariant.writes)
+
+pub returns-clause-session : goal.returns-clause-session
+returns-clause-session g c =
+    let e = c.in-Err-has_byte.ensures in
+    read_fails _ _ _ _ _ e.0 _ _ _ _ _ _ _ _ _ c.loop.invariant.so_far e.1 (nothing_is_one_line _ (sym e.2 ∙ e.3.0)) (inl (rose _ _ _ c.requires.reads c.loop.invariant.reads e.3.1)) (not_rose _ _ c.loop.invariant.writes)

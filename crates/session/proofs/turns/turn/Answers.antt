@@ -1,0 +1,39 @@
+use Rattle.std.proofs.Common.{Err, ap}
+use Rattle.serde_json.specs.View.{view}
+use Rattle.session_texts.specs.declared.judging.LineFault.{LineFault}
+use Rattle.session.proofs.TurnLemmas.{asks_known, bad_json_turn, bad_request_turn, memory_turn, order_turn, seat_turn, too_long_turn, whole}
+use Rattle.session.proofs.turns.turn.Goals as goal
+
+pub returns-in-TooLong-clause-turn : goal.returns-in-TooLong-clause-turn
+returns-in-TooLong-clause-turn g c = λ l shows. too_long_turn _ _ _ c.args.line l _ c.in-TooLong.is shows c.refusal.ensures
+
+pub returns-in-NoRoom-clause-turn : goal.returns-in-NoRoom-clause-turn
+returns-in-NoRoom-clause-turn g c = λ l shows. memory_turn _ _ _ l _ c.refusal-in-NoRoom.ensures
+
+pub returns-in-Err-BadJson-clause-turn : goal.returns-in-Err-BadJson-clause-turn
+returns-in-Err-BadJson-clause-turn g c = λ l shows.
+    bad_json_turn _ _ _ c.in-Whole.bytes.now l _ (whole c.args.line c.in-Whole.bytes l c.in-Whole.is shows) (c.in-Err-BadJson.ensures.bad (ap (λ (fault : LineFault). Err fault) c.in-Err-BadJson.field-0-is)) c.refusal-in-Err-BadJson.ensures
+
+pub returns-in-Err-OutOfMemory-clause-turn : goal.returns-in-Err-OutOfMemory-clause-turn
+returns-in-Err-OutOfMemory-clause-turn g c = λ l shows. memory_turn _ _ _ l _ c.refusal-in-Err-OutOfMemory.ensures
+
+pub returns-in-None-clause-turn : goal.returns-in-None-clause-turn
+returns-in-None-clause-turn g c = λ l shows.
+    bad_request_turn _ _ _ c.in-Whole.bytes.now l _ (view c.in-Ok.value) (whole c.args.line c.in-Whole.bytes l c.in-Whole.is shows) c.in-Ok.ensures.value c.in-None.ensures c.refusal-in-None.ensures
+
+pub returns-in-Some-Pin-clause-turn : goal.returns-in-Some-Pin-clause-turn
+returns-in-Some-Pin-clause-turn g c = λ l shows.
+    seat_turn _ _ _ _ c.in-Whole.bytes.now l _ (view c.in-Ok.value) _ (whole c.args.line c.in-Whole.bytes l c.in-Whole.is shows) c.in-Ok.ensures.value (asks_known (view c.in-Ok.value) _ _ c.in-Some-Pin.field-0-is c.in-Some-Pin.ensures) c.pin_version.ensures.met
+
+pub returns-in-Some-Release-clause-turn : goal.returns-in-Some-Release-clause-turn
+returns-in-Some-Release-clause-turn g c = λ l shows.
+    seat_turn _ _ _ _ c.in-Whole.bytes.now l _ (view c.in-Ok.value) _ (whole c.args.line c.in-Whole.bytes l c.in-Whole.is shows) c.in-Ok.ensures.value (asks_known (view c.in-Ok.value) _ _ c.in-Some-Release.field-0-is c.in-Some-Release.ensures) c.release_version.ensures.met
+
+pub returns-in-Some-Profile-clause-turn : goal.returns-in-Some-Profile-clause-turn
+returns-in-Some-Profile-clause-turn g c = λ l shows.
+    seat_turn _ _ _ _ c.in-Whole.bytes.now l _ (view c.in-Ok.value) _ (whole c.args.line c.in-Whole.bytes l c.in-Whole.is shows) c.in-Ok.ensures.value (asks_known (view c.in-Ok.value) _ _ c.in-Some-Profile.field-0-is c.in-Some-Profile.ensures) c.answer_profile.ensures.met
+
+pub returns-clause-turn : goal.returns-clause-turn
+returns-clause-turn g c = λ l shows.
+    let put = c.order_feed.ensures in
+    order_turn _ _ _ _ put.0 c.in-Whole.bytes.now l _ c.in-Some-Load.feed.now (view c.in-Ok.value) (whole c.args.line c.in-Whole.bytes l c.in-Whole.is shows) c.in-Ok.ensures.value (asks_known (view c.in-Ok.value) _ _ c.in-Some-Load.field-0-is c.in-Some-Load.ensures) put.1 put.2

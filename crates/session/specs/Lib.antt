@@ -1,0 +1,7 @@
+pub mod FaultNumber
+pub mod SeatSteps
+pub mod Lines
+pub mod Valuing
+pub mod Profiles
+pub mod Turns
+pub mod Sessions

@@ -1,0 +1,57 @@
+-- What a line asks, and the lines that tell why it isn't met.
+use Rattle.std.specs.Prelude.{◌<◌, ◌≤◌, ℕ, List, length, string_bytes}
+use Rattle.serde_json.specs.Data.{Data}
+use Rattle.timetable.specs.declared.query.QueryFault.{QueryFault}
+use Rattle.timetable.specs.Queries.{fault_name, fault_number}
+use Rattle.epochs.specs.declared.faults.PinFault.{PinFault}
+use Rattle.epochs.specs.FaultNumber.{pin_fault_name, pin_fault_number}
+use Rattle.orders.specs.declared.fault.OrderFault.{OrderFault}
+use Rattle.orders.specs.Ordering.{order_fault_name, order_fault_number}
+use Rattle.session_texts.specs.Judging.{IsJson, IsNoJson}
+use Rattle.session_texts.specs.Refusals.{error_line, moved_text, refusal_name, refusal_number}
+use Rattle.session_texts.specs.Requests.{Asks, RequestValue}
+use Rattle.session_texts.specs.declared.refusals.Refusal.{Refusal}
+use Rattle.session.specs.declared.reply.Reply.{Reply}
+use Rattle.session.specs.declared.reply.ReplyLine.{ReplyLine}
+
+pub data Asked : Type 0 where
+  too_long : Asked
+  no_json : Asked
+  no_request : Asked
+  asks : RequestValue → Asked
+
+-- a line asks this
+abbrev pub IsAsked : List ℕ → Asked → Type 0
+IsAsked line too_long = 65_536 < length line
+IsAsked line no_json = (length line ≤ 65_536) × IsNoJson line
+IsAsked line no_request = (length line ≤ 65_536) × ((d : Data) × IsJson line d × ((request : RequestValue) → ¬ Asks d request))
+IsAsked line (asks request) = (length line ≤ 65_536) × ((d : Data) × IsJson line d × Asks d request)
+
+abbrev pub refusal_line : Refusal → List ℕ
+refusal_line refusal = error_line (refusal_number refusal) (refusal_name refusal)
+
+-- the line that tells want of memory
+abbrev pub memory_line : List ℕ
+memory_line = refusal_line Refusal.OutOfMemory
+
+abbrev pub pin_fault_line : PinFault → List ℕ
+pin_fault_line (PinFault.Moved newest) = moved_text newest
+pin_fault_line PinFault.AlreadyPinned = error_line (pin_fault_number PinFault.AlreadyPinned) (pin_fault_name PinFault.AlreadyPinned)
+pin_fault_line PinFault.NotPinned = error_line (pin_fault_number PinFault.NotPinned) (pin_fault_name PinFault.NotPinned)
+pin_fault_line PinFault.SeatLost = error_line (pin_fault_number PinFault.SeatLost) (pin_fault_name PinFault.SeatLost)
+pin_fault_line PinFault.OutOfMemory = memory_line
+
+abbrev pub query_fault_line : QueryFault → List ℕ
+query_fault_line fault = error_line (fault_number fault) (fault_name fault)
+
+abbrev pub order_fault_line : OrderFault → List ℕ
+order_fault_line fault = error_line (order_fault_number fault) (order_fault_name fault)
+
+-- the bytes of a reply
+abbrev pub line_bytes : ReplyLine → List ℕ
+line_bytes (ReplyLine.Fixed line) = line.now
+line_bytes (ReplyLine.Moved line) = line.bytes
+line_bytes (ReplyLine.Made line) = string_bytes line
+
+abbrev pub text_of_reply : Reply → List ℕ
+text_of_reply reply = line_bytes reply.line

@@ -1,0 +1,69 @@
+-- A session: turns one after the other, one for each line that was read.
+use Rattle.std.specs.Prelude.{◌≡◌, ◌≢◌, ◌<◌, ◌⊎◌, ◌++◌, ◌∷◌, ℕ, List, [], None, length, take, Option, Result, Ok, Err}
+use Rattle.std.specs.Io.KnownBytes.{Appends, Consumes, IsAtEnd}
+use Rattle.epochs.specs.declared.seats.Answer.{Answer}
+use Rattle.epochs.specs.Seats.{SeatValue}
+use Rattle.orders.specs.Ordering.{OrderValue}
+use Rattle.lines.specs.Cutting.{lines_of, rest_of, whole_lines}
+use Rattle.session.specs.declared.fault.Ended.{Ended}
+use Rattle.session.specs.declared.fault.SessionFault.{SessionFault}
+use Rattle.session.specs.SeatSteps.{AnswerStep, IsGivenBack}
+use Rattle.session.specs.Turns.{Turn, TurnsTo}
+
+-- each turn leaves the seat and the orders to the next
+abbrev pub AreTurns : ℕ → SeatValue → List OrderValue → List Turn → SeatValue → List OrderValue → Type 0
+AreTurns number a asked [] b asked_then = (b ≡ a) × (asked_then ≡ asked)
+AreTurns number a asked (t ∷ turns) b asked_then =
+    (m : SeatValue) × (between : List OrderValue) × TurnsTo number a asked t m between × AreTurns number m between turns b asked_then
+
+abbrev pub lines_in : List Turn → List (List ℕ)
+lines_in [] = []
+lines_in (t ∷ turns) = t.line ∷ lines_in turns
+
+-- the replies, end to end
+abbrev pub text_of : List Turn → List ℕ
+text_of [] = []
+text_of (t ∷ turns) = t.reply ++ text_of turns
+
+abbrev pub answers_of : List Turn → List Answer
+answers_of [] = []
+answers_of (t ∷ turns) = t.answers ++ answers_of turns
+
+abbrev pub orders_of : List Turn → List OrderValue
+orders_of [] = []
+orders_of (t ∷ turns) = t.orders ++ orders_of turns
+
+abbrev pub IsBeginning : List ℕ → List ℕ → Type 0
+IsBeginning front whole = (behind : List ℕ) × (whole ≡ front ++ behind)
+
+-- at the end what is held is given back
+abbrev pub LastRelease : ℕ → SeatValue → SeatValue → Type 0
+LastRelease number a b = ((a.held ≡ None) × (b ≡ a)) ⊎ ((a.held ≢ None) × ((last : Answer) × IsGivenBack last × AnswerStep number a last b))
+
+-- how the turns agree with what was read and written, by how the session ended
+abbrev pub EndsSo : Result Ended SessionFault → List ℕ → List ℕ → List Turn → Type 0 → Type 0 → Type 0 → Type 0
+-- all is read and answered
+EndsSo (Ok ended) read written turns at_end read_failed write_failed =
+    at_end × (¬ read_failed) × (¬ write_failed) × (lines_in turns ≡ lines_of read) × (written ≡ text_of turns)
+-- the lines before are answered
+EndsSo (Err SessionFault.ReadFailed) read written turns at_end read_failed write_failed =
+    (read_failed ⊎ (16_777_216 < length (rest_of read))) × (¬ write_failed) × (lines_in turns ≡ whole_lines read) × (written ≡ text_of turns)
+-- the last line that was read isn't answered, or not wholly
+EndsSo (Err SessionFault.WriteFailed) read written turns at_end read_failed write_failed =
+    write_failed × (¬ read_failed) × ((n : ℕ) × (lines_in turns ≡ take n (lines_of read))) × IsBeginning written (text_of turns)
+-- the first million lines are answered, and a byte behind them was read
+EndsSo (Err SessionFault.TooManyRequests) read written turns at_end read_failed write_failed =
+    (¬ read_failed) × (¬ write_failed) × (length turns ≡ 1_000_000) × (1_000_000 < length (lines_of read))
+    × (lines_in turns ≡ take 1_000_000 (lines_of read)) × (written ≡ text_of turns)
+
+-- what a session reads, does and writes. Its reader and its writer each have a count of failures, and know their bytes or don't
+pub record Serves (number : ℕ) (result : Result Ended SessionFault)
+    (to_read read_then contents contents_then : Option (List ℕ)) (read_failed write_failed : Type 0)
+    (a : SeatValue) (asked : List OrderValue) (b : SeatValue) (asked_then : List OrderValue) : Type 0 where
+  pub read : List ℕ
+  pub written : List ℕ
+  pub turns : List Turn
+  pub reads : Consumes to_read read_then read
+  pub writes : Appends contents contents_then written
+  pub does : AreTurns number a asked turns b asked_then
+  pub ends : EndsSo result read written turns (IsAtEnd read_then) read_failed write_failed

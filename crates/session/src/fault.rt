@@ -1,0 +1,48 @@
+//! How a session ends.
+
+ghost use Rattle.std.specs.Prelude.{◌≡◌};
+ghost use Rattle.session.specs.FaultNumber.{session_fault_name, session_fault_number};
+
+use thiserror::Error;
+
+/// All lines were read and answered.
+#[derive(Clone, Copy, Debug, PartialEq, Eq)]
+pub struct Ended;
+
+/// Why a session ended before all lines were answered.
+#[derive(Clone, Copy, Debug, PartialEq, Eq, Error)]
+pub enum SessionFault {
+    /// A read failed, or a line went on past 16,777,216 bytes.
+    #[error("the requests can't be read")]
+    ReadFailed,
+    /// A reply couldn't be written, or not wholly.
+    #[error("a reply can't be written")]
+    WriteFailed,
+    /// A million requests were answered, and there are more.
+    #[error("there are too many requests")]
+    TooManyRequests,
+}
+
+impl SessionFault {
+    /// The number by which the fault is told, from 117 to 119.
+    pub fn number(self) -> u8
+        ensures { result ≡ session_fault_number self }
+    {
+        match self {
+            SessionFault::ReadFailed => 117,
+            SessionFault::WriteFailed => 118,
+            SessionFault::TooManyRequests => 119,
+        }
+    }
+
+    /// The name by which the fault is told, as `ReadFailed`.
+    pub fn name(self) -> &'static str
+        ensures { result.now ≡ session_fault_name self }
+    {
+        match self {
+            SessionFault::ReadFailed => "ReadFailed",
+            SessionFault::WriteFailed => "WriteFailed",
+            SessionFault::TooManyRequests => "TooManyRequests",
+        }
+    }
+}

@@ -1,0 +1,21 @@
+//! Sessions: lines are read, each is answered from the versions of an image that a worker's seat pins, and the replies are written.
+#![tactic(auto)]
+
+mod fault;
+pub mod laws;
+mod ordering;
+mod pinning;
+mod profiles;
+mod reply;
+mod serving;
+mod solo_orders;
+mod turns;
+
+pub use fault::{Ended, SessionFault};
+pub use lines::Counted;
+pub use orders::{Gate, OpenGate, OrderFault, Orders};
+pub use serving::{MOST_REQUESTS, serve};
+pub use solo_orders::{FeedImage, SoloOrders};
+
+#[cfg(test)]
+mod tests;

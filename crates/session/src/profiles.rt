@@ -1,0 +1,142 @@
+//! Profiles, answered from an edition of an image.
+
+ghost use Rattle.std.specs.Prelude.{◌≡◌, ◌⊎◌, IfOk, map, string_bytes};
+ghost use Rattle.std.specs.Arc.{arc_value};
+ghost use Rattle.timetable.specs.Queries.{IsAskable};
+ghost use Rattle.journeys.specs.Texts.{text_of};
+ghost use Rattle.session_texts.specs.Requests.{ask_value, profile};
+ghost use Rattle.session_texts.specs.Telling.{points_of};
+ghost use Rattle.session.specs.Lines.{asks, memory_line, text_of_reply};
+ghost use Rattle.session.specs.Profiles.{IsAnswered, IsAnsweredBy, IsProfileReply, departure_data};
+ghost use Rattle.session.specs.Turns.{IsMet};
+
+use crate::reply::Reply;
+use criteria::{Arrival, ArrivalTrips, ArrivalTripsWalk, CriterionName, Told};
+use epochs::{Edition, Versions};
+use image_verifier::Verified;
+use journeys::{Departure, Window, answer_query, journey_text, plain_texts, query_of};
+use orders::Gate;
+use session_texts::{Ask, Points, Refusal};
+use sources::InPlace;
+use std::alloc::{AllocError, Global};
+use std::sync::Wait;
+use timetable::{Journey, Query};
+
+/// Answers from the version that the seat holds, or else from the current one, which is given back.
+pub(crate) fn answer_profile<R: Wait, T: Versions, G: Gate>(
+    rt: &R,
+    alloc: Global,
+    shelves: &T,
+    seat: &mut T::Seat,
+    gate: &G,
+    ask: &Ask<'_>,
+) -> Reply
+    requires { T.fits shelves.now seat.old }
+    ensures fits { T.fits shelves.now seat.new }
+    ensures number { T.number seat.new ≡ T.number seat.old }
+    ensures met { IsMet (T.number seat.old) (T.value seat.old) (asks (profile (ask_value ask.now))) (text_of_reply result) (T.value seat.new) }
+{
+    if let Some(edition) = T::edition(seat) {
+        return answer_from(alloc, edition, gate, ask);
+    }
+    if let Err(fault) = shelves.pin(rt, seat) {
+        return Reply::pin_fault(fault);
+    }
+    let reply = match T::edition(seat) {
+        Some(edition) => answer_from(alloc, edition, gate, ask),
+        None => unreachable!(),
+    };
+    let _ = shelves.release(rt, seat);
+    reply
+}
+
+// Answers from an edition. What is asked is judged before anything is scanned.
+fn answer_from<G: Gate>(alloc: Global, edition: &Edition, gate: &G, ask: &Ask<'_>) -> Reply
+    ensures { IsProfileReply (arc_value edition.now.image) edition.now.version (ask_value ask.now) (text_of_reply result) ⊎ (text_of_reply result ≡ memory_line) }
+{
+    let image: &Verified = &edition.image;
+    // Says of the image what each one keeps: it is one that was accepted.
+    image.stops();
+    let window = Window {
+        from: ask.after,
+        until: ask.until,
+        by: ask.by,
+    };
+    let query = match query_of(image, ask.from.as_bytes(), ask.to.as_bytes(), window) {
+        Ok(query) => query,
+        Err(fault) => return Reply::query_fault(fault),
+    };
+    gate.enter();
+    match line_by_name(alloc, image, ask.criterion, &query, edition.version) {
+        Ok(line) => Reply::made(line).after_scan(),
+        Err(_) => Reply::refusal(Refusal::OutOfMemory).after_scan(),
+    }
+}
+
+// The reply that answers a query, by the criterion of a name.
+fn line_by_name(
+    alloc: Global,
+    image: &Verified,
+    criterion: CriterionName,
+    query: &Query,
+    version: u64,
+) -> Result<String, AllocError>
+    requires { IsAskable image.now.timetable.stops query.now }
+    ensures { IfOk result (λ line. IsAnsweredBy criterion image.now version query.now (string_bytes line)) }
+{
+    match criterion {
+        CriterionName::Arrival => line_by(alloc, image, &Arrival, query, version),
+        CriterionName::ArrivalTrips => line_by(alloc, image, &ArrivalTrips, query, version),
+        CriterionName::ArrivalTripsWalk => line_by(alloc, image, &ArrivalTripsWalk, query, version),
+    }
+}
+
+// The reply that answers a query. The image is read where it lies.
+fn line_by<C: Told>(
+    alloc: Global,
+    image: &Verified,
+    criterion: &C,
+    query: &Query,
+    version: u64,
+) -> Result<String, AllocError>
+    requires { IsAskable image.now.timetable.stops query.now }
+    ensures { IfOk result (λ line. IsAnswered C.told (C.rules criterion.now) image.now version query.now (string_bytes line)) }
+{
+    let mut source = InPlace::new(image);
+    let answer = answer_query(alloc, &mut source, criterion, query)?;
+    let points = points_told(alloc, criterion, &answer.departures)?;
+    points.profile_line(alloc, version, answer.walk)
+}
+
+// What is told of each departure.
+fn points_told<C: Told>(
+    alloc: Global,
+    criterion: &C,
+    departures: &[Departure<C::V>],
+) -> Result<Points, AllocError>
+    ensures { IfOk result (λ points. points_of points ≡ map (departure_data C.told) departures.now) }
+{
+    let mut points = Points::new(alloc);
+    for departure in departures {
+        let journey = journey_string(alloc, &departure.journey)?;
+        points.add(
+            alloc,
+            departure.time,
+            criterion.tell(&departure.value),
+            journey,
+        )?;
+    }
+    Ok(points)
+}
+
+// A journey's text.
+fn journey_string(alloc: Global, journey: &Journey) -> Result<String, AllocError>
+    ensures { IfOk result (λ text. string_bytes text ≡ text_of journey.now) }
+{
+    plain_texts();
+    let text = journey_text(alloc, journey)?;
+    match String::from_utf8(text) {
+        Ok(text) => Ok(text),
+        Err(_) => unreachable!(),
+    }
+}

@@ -1,0 +1,111 @@
+//! Replies, as whole lines.
+
+ghost use Rattle.std.specs.Prelude.{◌≡◌, string_bytes};
+ghost use Rattle.session.specs.Lines.{order_fault_line, pin_fault_line, query_fault_line, refusal_line, text_of_reply};
+
+use arrayvec::ArrayString;
+use epochs::PinFault;
+use orders::OrderFault;
+use session_texts::{Refusal, moved_line};
+use timetable::query::QueryFault;
+
+// A line with its LF.
+#[derive(Drop)]
+enum ReplyLine {
+    Fixed(&'static str),
+    Moved(ArrayString<64>),
+    Made(String),
+}
+
+/// A reply, and whether a scan was made for it.
+#[derive(Drop)]
+pub(crate) struct Reply {
+    line: ReplyLine,
+    has_scanned: bool,
+}
+
+impl Reply {
+    /// The reply with its LF.
+    pub(crate) fn bytes(&self) -> &[u8]
+        ensures { result.now ≡ text_of_reply self.now }
+    {
+        match &self.line {
+            ReplyLine::Fixed(line) => line.as_bytes(),
+            ReplyLine::Moved(line) => line.as_bytes(),
+            ReplyLine::Made(line) => line.as_bytes(),
+        }
+    }
+
+    pub(crate) fn has_scanned(&self) -> bool {
+        self.has_scanned
+    }
+
+    /// The same reply, for which a scan was made.
+    pub(crate) fn after_scan(self) -> Reply
+        ensures { text_of_reply result ≡ text_of_reply self }
+    {
+        Reply {
+            line: self.line,
+            has_scanned: true,
+        }
+    }
+
+    fn of(line: ReplyLine) -> Reply
+        ensures { result.line ≡ line }
+    {
+        Reply {
+            line,
+            has_scanned: false,
+        }
+    }
+
+    pub(crate) fn fixed(line: &'static str) -> Reply
+        ensures { text_of_reply result ≡ line.now }
+    {
+        Reply::of(ReplyLine::Fixed(line))
+    }
+
+    pub(crate) fn made(line: String) -> Reply
+        ensures { text_of_reply result ≡ string_bytes line }
+    {
+        Reply::of(ReplyLine::Made(line))
+    }
+
+    pub(crate) fn refusal(refusal: Refusal) -> Reply
+        ensures { text_of_reply result ≡ refusal_line refusal }
+    {
+        Reply::fixed(refusal.line())
+    }
+
+    pub(crate) fn pin_fault(fault: PinFault) -> Reply
+        ensures { text_of_reply result ≡ pin_fault_line fault }
+    {
+        match fault {
+            PinFault::Moved { newest } => Reply::of(ReplyLine::Moved(moved_line(newest))),
+            PinFault::AlreadyPinned => Reply::refusal(Refusal::AlreadyPinned),
+            PinFault::NotPinned => Reply::refusal(Refusal::NotPinned),
+            PinFault::SeatLost => Reply::refusal(Refusal::SeatLost),
+            PinFault::OutOfMemory => Reply::refusal(Refusal::OutOfMemory),
+        }
+    }
+
+    pub(crate) fn query_fault(fault: QueryFault) -> Reply
+        ensures { text_of_reply result ≡ query_fault_line fault }
+    {
+        match fault {
+            QueryFault::UnknownStop => Reply::refusal(Refusal::UnknownStop),
+            QueryFault::SameStop => Reply::refusal(Refusal::SameStop),
+            QueryFault::BadWindow => Reply::refusal(Refusal::BadWindow),
+        }
+    }
+
+    pub(crate) fn order_fault(fault: OrderFault) -> Reply
+        ensures { text_of_reply result ≡ order_fault_line fault }
+    {
+        match fault {
+            OrderFault::UnknownFeed => Reply::refusal(Refusal::UnknownFeed),
+            OrderFault::OrdersFull => Reply::refusal(Refusal::OrdersFull),
+            OrderFault::LoaderGone => Reply::refusal(Refusal::LoaderGone),
+        }
+    }
+}

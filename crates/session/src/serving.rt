@@ -1,0 +1,136 @@
+//! Sessions: turn after turn.
+
+ghost use Rattle.std.specs.Prelude.{◌≡◌, ◌<◌, ◌-◌, ◌^◌, ℕ, List, None, MatchResult, take};
+ghost use Rattle.std.specs.Io.KnownBytes.{Appends};
+ghost use Rattle.lines.specs.Counting.{failures_of, inner_of, one_more};
+ghost use Rattle.lines.specs.Showing.{ShowsLine};
+ghost use Rattle.epochs.specs.Seats.{SeatValue};
+ghost use Rattle.session.specs.Sessions.{LastRelease, Serves};
+ghost use Rattle.session.specs.Turns.{Turn, TurnsTo};
+
+use crate::fault::{Ended, SessionFault};
+use crate::turns::turn;
+use epochs::Versions;
+use lines::{Counted, Given, Line, LineReader, WriteFailed};
+use orders::{Gate, Orders};
+use std::alloc::Global;
+use std::io::{Read, Write};
+use std::sync::Wait;
+
+/// How many requests of a session are answered.
+pub const MOST_REQUESTS: u32 = 1_000_000;
+
+/// Serves a session.
+pub fn serve<R: Wait, In: Read, Out: Write, T: Versions, O: Orders, G: Gate>(
+    rt: &R,
+    alloc: Global,
+    reader: &mut Counted<In>,
+    writer: &mut Counted<Out>,
+    shelves: &T,
+    seat: &mut T::Seat,
+    orders: &mut O,
+    gate: &G,
+) -> Result<Ended, SessionFault>
+    requires fits { T.fits shelves.now seat.old }
+    requires reads { failures_of reader.old < 2 ^ 64 - 1 }
+    requires writes { failures_of writer.old < 2 ^ 64 - 1 }
+    ensures fits { T.fits shelves.now seat.new }
+    ensures number { T.number seat.new ≡ T.number seat.old }
+    ensures released { (T.value seat.new).held ≡ None }
+    ensures session { (last : SeatValue) × LastRelease (T.number seat.old) last (T.value seat.new)
+        × Serves (T.number seat.old) result (In.remaining (inner_of reader.old)) (In.remaining (inner_of reader.new)) (Out.contents (inner_of writer.old)) (Out.contents (inner_of writer.new))
+        (failures_of reader.old < failures_of reader.new) (failures_of writer.old < failures_of writer.new) (T.value seat.old) (O.asked orders.old) last (O.asked orders.new) }
+{
+    let outcome = answer_lines(rt, alloc, reader, writer, shelves, seat, orders, gate);
+    release_last(rt, shelves, seat);
+    outcome
+}
+
+// Gives back what the seat holds, if anything. That it was lost is told to nobody.
+fn release_last<R: Wait, T: Versions>(rt: &R, shelves: &T, seat: &mut T::Seat)
+    requires { T.fits shelves.now seat.old }
+    ensures fits { T.fits shelves.now seat.new }
+    ensures number { T.number seat.new ≡ T.number seat.old }
+    ensures released { (T.value seat.new).held ≡ None }
+    ensures last { LastRelease (T.number seat.old) (T.value seat.old) (T.value seat.new) }
+{
+    if T::edition(seat).is_some() {
+        let _ = shelves.release(rt, seat);
+    }
+}
+
+// Answers line after line.
+fn answer_lines<R: Wait, In: Read, Out: Write, T: Versions, O: Orders, G: Gate>(
+    rt: &R,
+    alloc: Global,
+    reader: &mut Counted<In>,
+    writer: &mut Counted<Out>,
+    shelves: &T,
+    seat: &mut T::Seat,
+    orders: &mut O,
+    gate: &G,
+) -> Result<Ended, SessionFault>
+    requires fits { T.fits shelves.now seat.old }
+    requires reads { failures_of reader.old < 2 ^ 64 - 1 }
+    requires writes { failures_of writer.old < 2 ^ 64 - 1 }
+    ensures fits { T.fits shelves.now seat.new }
+    ensures number { T.number seat.new ≡ T.number seat.old }
+    ensures session { Serves (T.number seat.old) result (In.remaining (inner_of reader.old)) (In.remaining (inner_of reader.new)) (Out.contents (inner_of writer.old)) (Out.contents (inner_of writer.new))
+        (failures_of reader.old < failures_of reader.new) (failures_of writer.old < failures_of writer.new) (T.value seat.old) (O.asked orders.old) (T.value seat.new) (O.asked orders.new) }
+{
+    let mut lines = LineReader::new(alloc);
+    for _ in 0..MOST_REQUESTS {
+        match lines.next(reader) {
+            Err(_) => return Err(SessionFault::ReadFailed),
+            Ok(Given::Nothing) => return Ok(Ended),
+            Ok(Given::Rest) => {
+                let line = lines.line();
+                match answer_line(rt, alloc, line, writer, shelves, seat, orders, gate) {
+                    Ok(()) => return Ok(Ended),
+                    Err(_) => return Err(SessionFault::WriteFailed),
+                }
+            }
+            Ok(Given::Ended) => {
+                let line = lines.line();
+                match answer_line(rt, alloc, line, writer, shelves, seat, orders, gate) {
+                    Ok(()) => {}
+                    Err(_) => return Err(SessionFault::WriteFailed),
+                }
+            }
+        }
+    }
+    match lines.has_byte(reader) {
+        Ok(false) => Ok(Ended),
+        Ok(true) => Err(SessionFault::TooManyRequests),
+        Err(_) => Err(SessionFault::ReadFailed),
+    }
+}
+
+// Answers a line and writes the reply.
+fn answer_line<R: Wait, Out: Write, T: Versions, O: Orders, G: Gate>(
+    rt: &R,
+    alloc: Global,
+    line: Line<'_>,
+    writer: &mut Counted<Out>,
+    shelves: &T,
+    seat: &mut T::Seat,
+    orders: &mut O,
+    gate: &G,
+) -> Result<(), WriteFailed>
+    requires { T.fits shelves.now seat.old }
+    ensures fits { T.fits shelves.now seat.new }
+    ensures number { T.number seat.new ≡ T.number seat.old }
+    ensures failures { MatchResult result
+        (λ _. failures_of writer.new ≡ failures_of writer.old)
+        (λ _. failures_of writer.new ≡ one_more (failures_of writer.old)) }
+    ensures turn { (l : List ℕ) → ShowsLine line.entry l → (t : Turn) × (t.line ≡ l) × TurnsTo (T.number seat.old) (T.value seat.old) (O.asked orders.old) t (T.value seat.new) (O.asked orders.new) × MatchResult result
+        (λ _. Appends (Out.contents (inner_of writer.old)) (Out.contents (inner_of writer.new)) t.reply)
+        (λ _. (n : ℕ) × Appends (Out.contents (inner_of writer.old)) (Out.contents (inner_of writer.new)) (take n t.reply)) }
+{
+    let reply = turn(rt, alloc, line, shelves, seat, orders, gate);
+    let written = writer.write_line(reply.bytes());
+    if reply.has_scanned() {
+        gate.leave();
+    }
+    written
+}

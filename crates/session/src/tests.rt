@@ -1,0 +1,208 @@
+//! Sessions as clients see them.
+
+use crate::{Counted, Ended, FeedImage, OpenGate, SessionFault, SoloOrders, serve};
+use epochs::{LoaderSeat, SoloShelves, WorkerSeat};
+use image_layout::sample_words;
+use image_verifier::{Verified, verify};
+use std::alloc::{AllocError, Global};
+use std::io;
+use std::io::{Read, Write};
+use std::sync::{Arc, Wait};
+use std::test::Fail;
+
+// A reader that gives so many bytes at once at most, and behind the last of them fails or is at its end.
+#[derive(Drop)]
+struct Pieces<'a> {
+    rest: &'a [u8],
+    most: usize,
+    is_failing: bool,
+}
+
+impl Read for Pieces<'_> {
+    fn read(&mut self, room: &mut [u8]) -> io::Result<usize> {
+        if self.rest.is_empty() && self.is_failing {
+            return Err(io::Error::from(io::ErrorKind::Interrupted));
+        }
+        let count = room.len().min(self.most).min(self.rest.len());
+        let (piece, rest) = self.rest.split_at(count);
+        room[..count].copy_from_slice(piece);
+        self.rest = rest;
+        Ok(count)
+    }
+}
+
+// A writer that takes so many bytes in all, and then fails or takes none.
+#[derive(Drop)]
+struct Taker {
+    taken: Vec<u8>,
+    room: usize,
+    is_failing: bool,
+}
+
+impl Write for Taker {
+    fn write(&mut self, piece: &[u8]) -> io::Result<usize> {
+        let count = piece.len().min(self.room);
+        if count == 0 && self.is_failing {
+            return Err(io::Error::from(io::ErrorKind::BrokenPipe));
+        }
+        match self.taken.extend_from_slice(&piece[..count]) {
+            Ok(()) => {}
+            Err(_) => return Err(io::Error::from(io::ErrorKind::OutOfMemory)),
+        }
+        self.room -= count;
+        Ok(count)
+    }
+
+    fn flush(&mut self) -> io::Result<()> {
+        Ok(())
+    }
+}
+
+/// The sample, in which changing at B takes so many seconds.
+fn image(alloc: Global, change: u32) -> Result<Arc<Verified, Global>, Fail> {
+    let mut words = sample_words().to_vec(alloc)?;
+    if let Some(word) = words.get_mut(34) {
+        *word = change;
+    }
+    match verify(alloc, words) {
+        Ok(image) => match Arc::new(alloc, image) {
+            Ok(shared) => Ok(shared),
+            Err(_) => Err(AllocError.into()),
+        },
+        Err((_, fault)) => {
+            if fault.number() == 76 {
+                return Err(AllocError.into());
+            }
+            Err("the words are an image".into())
+        }
+    }
+}
+
+fn new_shelves(alloc: Global) -> Result<(SoloShelves, LoaderSeat, WorkerSeat), Fail> {
+    match SoloShelves::new(alloc, image(alloc, 0)?) {
+        Ok(made) => Ok(made),
+        Err(_) => Err(AllocError.into()),
+    }
+}
+
+const PIN: &str = "{\"do\":\"pin\"}";
+
+const RELEASE: &str = "{\"do\":\"release\"}";
+
+const PROFILE: &str =
+    "{\"do\":\"profile\",\"from\":\"A\",\"to\":\"C\",\"after\":\"07:00:00\",\"until\":\"09:00:00\",\"by\":\"10:00:00\",\"criterion\":\"arrival\"}";
+
+fn add_line(bytes: &mut Vec<u8>, line: &str) -> Result<(), AllocError> {
+    bytes.extend_from_slice(line.as_bytes())?;
+    bytes.push(b'\n')
+}
+
+/// The requests of a session: pins, an order, profiles, and lines that are none.
+fn requests(alloc: Global) -> Result<Vec<u8>, AllocError> {
+    let mut bytes = Vec::new(alloc);
+    add_line(&mut bytes, PIN)?;
+    add_line(&mut bytes, "{\"do\":\"load\",\"feed\":\"slow\"}")?;
+    add_line(&mut bytes, PROFILE)?;
+    add_line(&mut bytes, RELEASE)?;
+    add_line(&mut bytes, PROFILE)?;
+    add_line(&mut bytes, "{\"do\":\"pi")?;
+    add_line(&mut bytes, PIN)?;
+    add_line(&mut bytes, PIN)?;
+    for _ in 0..65_537 {
+        bytes.push(b'x')?;
+    }
+    bytes.push(b'\n')?;
+    add_line(&mut bytes, "{\"do\":\"load\",\"feed\":\"none\"}")?;
+    add_line(&mut bytes, RELEASE)?;
+    add_line(&mut bytes, RELEASE)?;
+    Ok(bytes)
+}
+
+/// Their replies.
+const REPLIES: &str =
+    "{\"base\":1705276800,\"ok\":\"pin\",\"version\":1}\n{\"feed\":\"slow\",\"ok\":\"load\"}\n{\"ok\":\"profile\",\"points\":[{\"arr\":\"08:20:00\",\"dep\":\"08:00:00\",\"journey\":\"ride 0 0 walk 1 1 0 ride 2 2\"}],\"version\":1,\"walk\":null}\n{\"ok\":\"release\"}\n{\"ok\":\"profile\",\"points\":[{\"arr\":\"08:30:00\",\"dep\":\"08:00:00\",\"journey\":\"ride 0 1\"}],\"version\":2,\"walk\":null}\n{\"error\":111,\"name\":\"BadJson\"}\n{\"base\":1705276800,\"ok\":\"pin\",\"version\":2}\n{\"error\":92,\"name\":\"AlreadyPinned\"}\n{\"error\":113,\"name\":\"LineTooLong\"}\n{\"error\":114,\"name\":\"UnknownFeed\"}\n{\"ok\":\"release\"}\n{\"error\":93,\"name\":\"NotPinned\"}\n";
+
+// Serves these bytes on new shelves: what came of it, and what was written.
+fn served<R: Wait>(
+    rt: &R,
+    alloc: Global,
+    reader: Pieces<'_>,
+    room: usize,
+    is_failing: bool,
+) -> Result<(Result<Ended, SessionFault>, Vec<u8>), Fail> {
+    let (shelves, loader, mut seat) = new_shelves(alloc)?;
+    let mut feeds = Vec::new(alloc);
+    feeds.push(FeedImage {
+        name: String::from_str(alloc, "slow")?,
+        image: image(alloc, 121)?,
+    })?;
+    let mut orders = SoloOrders::new(&shelves, loader, feeds);
+    let mut reader = Counted::new(reader);
+    let mut writer = Counted::new(Taker {
+        taken: Vec::new(alloc),
+        room,
+        is_failing,
+    });
+    let ended = serve(
+        rt,
+        alloc,
+        &mut reader,
+        &mut writer,
+        &shelves,
+        &mut seat,
+        &mut orders,
+        &OpenGate,
+    );
+    Ok((ended, writer.into_inner().taken))
+}
+
+#[test]
+fn any_reads_give_the_same_replies(rt: HostRuntime) -> Result<(), Fail> {
+    let bytes = requests(rt.alloc())?;
+    for most in [1, 7, 100_000] {
+        let reader = Pieces {
+            rest: &bytes,
+            most,
+            is_failing: false,
+        };
+        let (ended, written) = served(&rt, rt.alloc(), reader, 100_000, true)?;
+        assert!(&rt; ended == Ok(Ended));
+        assert_eq!(&rt; str::from_utf8(&written).unwrap_or("?"), REPLIES);
+    }
+    Ok(())
+}
+
+#[test]
+fn a_writer_that_fails_ends_the_session(rt: HostRuntime) -> Result<(), Fail> {
+    let bytes = requests(rt.alloc())?;
+    for room in 0..REPLIES.len() {
+        let reader = Pieces {
+            rest: &bytes,
+            most: 100_000,
+            is_failing: false,
+        };
+        let (ended, written) = served(&rt, rt.alloc(), reader, room, room % 2 == 0)?;
+        assert!(&rt; ended == Err(SessionFault::WriteFailed));
+        assert!(&rt; REPLIES.as_bytes().starts_with(&written));
+        assert_eq!(&rt; written.len(), room);
+    }
+    Ok(())
+}
+
+#[test]
+fn a_reader_that_fails_ends_the_session(rt: HostRuntime) -> Result<(), Fail> {
+    let bytes = requests(rt.alloc())?;
+    let (front, _) = bytes.split_at(60);
+    let reader = Pieces {
+        rest: front,
+        most: 7,
+        is_failing: true,
+    };
+    let (ended, written) = served(&rt, rt.alloc(), reader, 100_000, true)?;
+    assert!(&rt; ended == Err(SessionFault::ReadFailed));
+    assert_eq!(&rt;
+        str::from_utf8(&written).unwrap_or("?"),
+        "{\"base\":1705276800,\"ok\":\"pin\",\"version\":1}\n{\"feed\":\"slow\",\"ok\":\"load\"}\n"
+    );
+    Ok(())
+}
