@@ -7,7 +7,7 @@ mod taking;
 
 pub use orders::{OrderFault, Orders};
 pub use queue::{MOST_WAITING, Order};
-pub use taking::{LoaderOrders, WorkerOrders, order_queue};
+pub use taking::{LoaderOrders, OrderEnd, WorkerOrders, order_queue};
 
 #[cfg(test)]
 mod tests;

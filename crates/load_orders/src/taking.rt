@@ -13,26 +13,40 @@ use std::marker::Model;
 use std::sync::Wait;
 use timetable::Trace;
 
+/// An end of the queue at which orders are put. Contracts see the places of the feeds that it ordered, in order.
+#[derive(Drop)]
+pub struct OrderEnd {
+    sender: OrderSender,
+    pass: Pass<Order, Known>,
+}
+
+impl Model for OrderEnd {
+    ghost use Rattle.std.specs.Prelude.{◌≡◌, ℕ, List};
+    ghost use Rattle.crossbeam_channel.specs.Claims.{IsSeatAt, view as view_of};
+    ghost use Rattle.crossbeam_channel.specs.Ends.{sends_on, ruled_capacity};
+
+    ghost Value = { List ℕ };
+
+    ghost view = { λ s. (view_of s.pass).orders };
+
+    ghost invariant = { λ s. IsSeatAt (sends_on s.sender) s.pass × (ruled_capacity (sends_on s.sender) ≡ 4) };
+}
+
 /// A worker's end of the queue: it takes orders of feeds by their names.
 #[derive(Drop)]
 pub struct WorkerOrders<'a> {
     names: &'a [String],
-    sender: OrderSender,
-    pass: Pass<Order, Known>,
+    end: OrderEnd,
     asked: Trace<Ordered>,
 }
 
 impl<'a> Model for WorkerOrders<'a> {
-    ghost use Rattle.std.specs.Prelude.{◌≡◌, map, string_bytes};
-    ghost use Rattle.crossbeam_channel.specs.Claims.{IsSeatAt, view as view_of};
-    ghost use Rattle.crossbeam_channel.specs.Ends.{sends_on, ruled_capacity};
+    ghost use Rattle.std.specs.Prelude.{map, string_bytes};
     ghost use Rattle.load_orders.specs.Asking.{WorkerOrdersValue};
 
     ghost Value = { WorkerOrdersValue };
 
-    ghost view = { λ s. record { names = map string_bytes s.names.now; put = (view_of s.pass).orders; asked = s.asked } };
-
-    ghost invariant = { λ s. IsSeatAt (sends_on s.sender) s.pass × (ruled_capacity (sends_on s.sender) ≡ 4) };
+    ghost view = { λ s. record { names = map string_bytes s.names.now; put = s.end; asked = s.asked } };
 }
 
 /// The loader's end of the queue. Contracts see the feeds of the orders that it took, in order.
@@ -54,48 +68,34 @@ impl Model for LoaderOrders {
     ghost invariant = { λ s. IsSeatAt (receives_on s.receiver) s.pass };
 }
 
-/// An empty queue for orders of feeds of these names: its first worker's end, and the loader's.
-pub fn order_queue<'a>(
-    alloc: Global,
-    names: &'a [String],
-) -> Result<(WorkerOrders<'a>, LoaderOrders), AllocError>
-    ensures worker { IfOk result (λ ends. ends.0 ≡ record { names = map string_bytes names.now; put = []; asked = [] }) }
+/// An empty queue for four orders: its first end, and the loader's.
+pub fn order_queue(alloc: Global) -> Result<(OrderEnd, LoaderOrders), AllocError>
+    ensures end { IfOk result (λ ends. ends.0 ≡ []) }
     ensures loader { IfOk result (λ ends. ends.1 ≡ []) }
 {
     let (sender, receiver, mut pass) = bounded_with(alloc, MOST_WAITING)?;
     let taking = sender.another::<Another>(&mut pass);
-    let worker = WorkerOrders {
-        names,
-        sender,
-        pass,
-        asked: Trace::new(),
-    };
     let loader = LoaderOrders {
         receiver,
         pass: taking,
     };
-    Ok((worker, loader))
+    Ok((OrderEnd { sender, pass }, loader))
 }
 
-impl<'a> WorkerOrders<'a> {
-    /// Another worker's end, at which nothing was asked for yet.
-    pub fn another(&mut self) -> Result<WorkerOrders<'a>, AllocError>
+impl OrderEnd {
+    /// Another end, at which nothing was put yet.
+    pub fn another(&mut self) -> Result<OrderEnd, AllocError>
         ensures same { self.new ≡ self.old }
-        ensures another { IfOk result (λ end. end ≡ record { names = self.old.names; put = []; asked = [] }) }
+        ensures another { IfOk result (λ end. end ≡ []) }
     {
         let sender = self.sender.try_clone()?;
         let pass = self.sender.another::<Another>(&mut self.pass);
-        Ok(WorkerOrders {
-            names: self.names,
-            sender,
-            pass,
-            asked: Trace::new(),
-        })
+        Ok(OrderEnd { sender, pass })
     }
 
     // Puts an order, where there is room.
     fn put<R: Wait>(&mut self, rt: &R, order: Order) -> Result<(), OrderFault>
-        ensures put { OnOk result (self.new ≡ record self.old { put = self.old.put ++ order.feed ∷ [] }) }
+        ensures put { OnOk result (self.new ≡ self.old ++ order.feed ∷ []) }
         ensures refused { IfErr result (λ fault. IsTurnedAway fault × (self.new ≡ self.old)) }
     {
         match self
@@ -106,6 +106,19 @@ impl<'a> WorkerOrders<'a> {
             Err(TrySendError::Full(_)) => Err(OrderFault::OrdersFull),
             Err(TrySendError::Disconnected(_)) => Err(OrderFault::LoaderGone),
             Err(TrySendError::OutOfMemory(_)) => unreachable!(),
+        }
+    }
+}
+
+impl<'a> WorkerOrders<'a> {
+    /// Orders of feeds of these names, by this end. Nothing was asked for yet.
+    pub fn new(names: &'a [String], end: OrderEnd) -> WorkerOrders<'a>
+        ensures { result ≡ record { names = map string_bytes names.now; put = end; asked = [] } }
+    {
+        WorkerOrders {
+            names,
+            end,
+            asked: Trace::new(),
         }
     }
 }
@@ -122,7 +135,7 @@ impl<'a> Orders for WorkerOrders<'a> {
         ensures refused { IfErr result (λ fault. RefusesOrder self.old.names feed.now fault × (self.new.put ≡ self.old.put)) }
     {
         let outcome = match place_of(self.names, feed) {
-            Some(place) => self.put(rt, Order { feed: place }),
+            Some(place) => self.end.put(rt, Order { feed: place }),
             None => Err(OrderFault::UnknownFeed),
         };
         self.asked.note(&Ordered::of(feed, outcome));

@@ -1,4 +1,4 @@
-use crate::{LoaderOrders, Order, OrderFault, Orders, WorkerOrders, order_queue};
+use crate::{Order, OrderFault, Orders, WorkerOrders, order_queue};
 use std::alloc::{AllocError, Global};
 use std::process::Abort;
 use std::test::*;
@@ -14,8 +14,9 @@ fn two_names(alloc: Global) -> Result<Vec<String>, AllocError> {
 #[test]
 fn four_orders_wait(rt: HostRuntime) -> Result<(), Fail> {
     let names = two_names(rt.alloc())?;
-    let (mut one, mut loader) = order_queue(rt.alloc(), &names)?;
-    let mut other = one.another()?;
+    let (mut end, mut loader) = order_queue(rt.alloc())?;
+    let mut other = WorkerOrders::new(&names, end.another()?);
+    let mut one = WorkerOrders::new(&names, end);
     assert_eq!(&rt; one.order(&rt, "fast"), Ok(()));
     assert_eq!(&rt; one.order(&rt, "none"), Err(OrderFault::UnknownFeed));
     assert_eq!(&rt; other.order(&rt, "slow"), Ok(()));
@@ -38,7 +39,8 @@ fn four_orders_wait(rt: HostRuntime) -> Result<(), Fail> {
 #[test]
 fn the_loader_is_gone(rt: HostRuntime) -> Result<(), Fail> {
     let names = two_names(rt.alloc())?;
-    let (mut worker, loader) = order_queue(rt.alloc(), &names)?;
+    let (end, loader) = order_queue(rt.alloc())?;
+    let mut worker = WorkerOrders::new(&names, end);
     drop(loader);
     assert_eq!(&rt; worker.order(&rt, "slow"), Err(OrderFault::LoaderGone));
     assert_eq!(&rt; worker.order(&rt, "none"), Err(OrderFault::UnknownFeed));
@@ -49,8 +51,8 @@ fn the_loader_is_gone(rt: HostRuntime) -> Result<(), Fail> {
 #[test]
 fn refused_growth_makes_no_queue(rt: HostRuntime) -> Result<(), Fail> {
     let names = two_names(rt.alloc())?;
-    let (mut worker, _loader) = order_queue(rt.alloc(), &names)?;
-    let mut other = worker.another()?;
+    let (mut end, _loader) = order_queue(rt.alloc())?;
+    let mut other = WorkerOrders::new(&names, end.another()?);
     assert_eq!(&rt; other.order(&rt, "slow"), Ok(()));
     Ok(())
 }
