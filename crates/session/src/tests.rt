@@ -58,6 +58,34 @@ impl Write for Taker {
     }
 }
 
+// A reader of LF without end.
+#[derive(Drop)]
+struct EmptyLines;
+
+impl Read for EmptyLines {
+    fn read(&mut self, room: &mut [u8]) -> io::Result<usize> {
+        room.fill(b'\n');
+        Ok(room.len())
+    }
+}
+
+// A writer that counts bytes.
+#[derive(Drop)]
+struct Tally {
+    bytes: u64,
+}
+
+impl Write for Tally {
+    fn write(&mut self, piece: &[u8]) -> io::Result<usize> {
+        self.bytes = self.bytes.saturating_add(piece.len() as u64);
+        Ok(piece.len())
+    }
+
+    fn flush(&mut self) -> io::Result<()> {
+        Ok(())
+    }
+}
+
 /// The sample, in which changing at B takes so many seconds.
 fn image(alloc: Global, change: u32) -> Result<Arc<Verified, Global>, Fail> {
     let mut words = sample_words().to_vec(alloc)?;
@@ -94,7 +122,8 @@ const PROFILE: &str =
 
 fn add_line(bytes: &mut Vec<u8>, line: &str) -> Result<(), AllocError> {
     bytes.extend_from_slice(line.as_bytes())?;
-    bytes.push(b'\n')
+    bytes.push(b'\n')?;
+    Ok(())
 }
 
 /// The requests of a session: pins, an order, profiles, and lines that are none.
@@ -204,5 +233,26 @@ fn a_reader_that_fails_ends_the_session(rt: HostRuntime) -> Result<(), Fail> {
         str::from_utf8(&written).unwrap_or("?"),
         "{\"base\":1705276800,\"ok\":\"pin\",\"version\":1}\n{\"feed\":\"slow\",\"ok\":\"load\"}\n"
     );
+    Ok(())
+}
+
+#[test]
+fn a_million_requests_are_answered(rt: HostRuntime) -> Result<(), Fail> {
+    let (shelves, loader, mut seat) = new_shelves(rt.alloc())?;
+    let mut orders = SoloOrders::new(&shelves, loader, Vec::new(rt.alloc()));
+    let mut reader = Counted::new(EmptyLines);
+    let mut writer = Counted::new(Tally { bytes: 0 });
+    let ended = serve(
+        &rt,
+        rt.alloc(),
+        &mut reader,
+        &mut writer,
+        &shelves,
+        &mut seat,
+        &mut orders,
+        &OpenGate,
+    );
+    assert!(&rt; ended == Err(SessionFault::TooManyRequests));
+    assert_eq!(&rt; writer.into_inner().bytes, 31_000_000);
     Ok(())
 }
