@@ -1,6 +1,7 @@
 //! Shelves without a lock.
 
 ghost use Rattle.std.specs.Prelude.{◌≡◌, ◌<◌, [], OnOk, IfOk, IfErr, MatchResult};
+ghost use Rattle.std.specs.List.{All};
 ghost use Rattle.std.specs.Arc.{arc_value};
 ghost use Rattle.shelf_steps.specs.Handed.{handed};
 ghost use Rattle.shelf_steps.specs.declared.views.View.{View};
@@ -46,6 +47,7 @@ impl Shelves {
     ) -> Result<(Shelves, ShelfLoader, Vec<ShelfSeat>), (Arc<Verified, Global>, PublishFault)>
         ensures loader { IfOk result (λ made. made.1 ≡ record { table = made.0; view = View.Loading (handed 16 (arc_value first)); current = 1; answers = [] }) }
         ensures seats { IfOk result (λ made. SeatsHanded made.0 16 made.2.items) }
+        ensures fits { IfOk result (λ made. All (λ seat. seat.table ≡ made.0) made.2.items) }
         ensures refused { IfErr result (λ e. (e.0 ≡ first) × (e.1 ≡ PublishFault.OutOfMemory)) }
     {
         match open(alloc, &first) {

@@ -1,5 +1,5 @@
 -- What steps leave to be remembered.
-use Rattle.std.proofs.Common.{get_or, ◌≡◌, ◌≢◌, ℕ, zero, suc, ◌+◌, ◌*◌, ◌/◌, ◌%◌, ◌<◌, ◌≤◌, ◌⊎◌, Bool, true, false, List, [], ◌∷◌, ◌++◌, length, set, Option, Some, None, slice_get, refl, ap, sym, ◌∙◌, subst, arith, inl, inr, length-set, length-append}
+use Rattle.std.proofs.Common.{get_or, ◌≡◌, ℕ, zero, suc, ◌+◌, ◌*◌, ◌/◌, ◌%◌, ◌<◌, ◌≤◌, Bool, true, false, List, [], ◌∷◌, length, set, Option, Some, slice_get, refl, ap, sym, ◌∙◌, subst, arith, length-set, length-append}
 use mathlib.Core.Logic.{dite}
 use native.Mathlib.Decide.{ℕ_discrete}
 use Rattle.std.specs.Option.{option_and_then}
@@ -11,12 +11,11 @@ use Rattle.version_core.specs.Kept.{version_on, version_of}
 use Rattle.version_core.proofs.Lists.{slice_get-set_same, slice_get-set_other}
 use Rattle.shelf_steps.specs.declared.edition.Edition.{Edition}
 use Rattle.shelf_steps.specs.declared.views.WorkerView.{WorkerView}
-use Rattle.shelf_steps.specs.declared.views.LoaderView.{LoaderView}
 use Rattle.shelf_steps.specs.declared.views.View.{View}
 use Rattle.shelf_steps.specs.Slots.{down_from, nothings}
-use Rattle.shelf_steps.specs.Loading.{Freed, FoundBusy, Frees, FindsBusy}
+use Rattle.shelf_steps.specs.Loading.{Frees, FindsBusy}
 use Rattle.shelf_steps.specs.Plays.{OfWorker, OfLoader, Mine, Looks, Takes, TakesFound, Leaves, GivesBack, IsIdle, HasLooked, IsLate, HoldsOut, is_open, newest_of, with_open, with_current, with_closing, with_hand, IsBlock, AllHave, OpensOn, PublishesOn, ClosesOn, GathersOn, MayOpenOn, MayPublish, MayClose, MayCollect, MayGather}
-use Rattle.shelf_steps.specs.Stepping.{CarriesSo, DoesSo, Remembers, RemembersSo}
+use Rattle.shelf_steps.specs.Stepping.{DoesSo, Remembers, RemembersSo}
 
 of_idle : (u : View) (c : List (ℕ × Option Edition)) → DoesSo Worker.Idle (u, c) → IsIdle u
 of_idle (View.Loading l) c h = absurd h

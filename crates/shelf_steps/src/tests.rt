@@ -1,6 +1,6 @@
 mod stepping;
 
-ghost use Rattle.std.specs.Prelude.{◌≡◌, IfOk};
+ghost use Rattle.std.specs.Prelude.{◌≡◌, ◌<◌, ◌≤◌, IfOk};
 
 use crate::laws::{new_shelves, new_worker};
 use crate::*;
@@ -11,6 +11,7 @@ use std::process::Abort;
 use std::sync::Arc;
 use std::test::*;
 use stepping::{LoaderSteps, WorkerSteps};
+use version_core::{Core, Reply, Shelf, Worker};
 
 /// The sample, begun at another second, so that images can be told apart.
 fn image(alloc: Global, base: u32) -> Result<Arc<Verified, Global>, AllocError> {
@@ -75,5 +76,137 @@ fn a_late_take_before_the_shelf_is_opened_again(rt: HostRuntime) -> Result<(), F
     assert_eq!(&rt; table.word(1), 196865);
     assert!(&rt; worker.leave(&table));
     assert_eq!(&rt; table.word(1), 196864);
+    Ok(())
+}
+
+/// One step of a worker, here and in the state machine: whether both tell the same.
+fn worker_steps(
+    table: &ShelfTable,
+    worker: &mut WorkerSteps,
+    core: &mut Core,
+    number: usize,
+    choice: u64,
+) -> bool
+    requires { worker.old ≡ table.now }
+    ensures { worker.new ≡ worker.old }
+{
+    match choice {
+        0 => match (worker.look(table), core.look(number)) {
+            (Some(word), Reply::Looked { version, shelf }) => {
+                word / 8 == version && (word % 8) as usize == shelf
+            }
+            (None, Reply::NotNow) => true,
+            _ => false,
+        },
+        1 => match (worker.take(table), core.take(number)) {
+            (Some(holds), Reply::Holds { version: _ }) => holds,
+            (Some(holds), Reply::Late) => !holds,
+            (None, Reply::NotNow) => true,
+            _ => false,
+        },
+        _ => worker.leave(table) == (core.leave(number) == Reply::Dropped),
+    }
+}
+
+/// One step of the loader, here and in the state machine, which opens the least free shelf and knows which one to publish.
+fn loader_steps(
+    table: &ShelfTable,
+    loader: &mut LoaderSteps,
+    core: &mut Core,
+    alloc: Global,
+    image: &Arc<Verified, Global>,
+    shelf: usize,
+    choice: u64,
+) -> Result<bool, AllocError>
+    requires { (loader.old ≡ table.now) × (shelf < 8) }
+    ensures { loader.new ≡ loader.old }
+{
+    match choice {
+        0 => match core.free_shelf() {
+            Some(free) => {
+                let opened = free < 8 && loader.open(table, alloc, free, image)?;
+                let reply = core.open(0)?;
+                Ok(opened == (reply != Reply::NotNow))
+            }
+            None => Ok(true),
+        },
+        1 => {
+            let reply = core.publish();
+            let mut published = false;
+            for k in 0..8usize {
+                published = loader.publish(table, k) || published;
+            }
+            Ok(published == (reply != Reply::NotNow))
+        }
+        2 => Ok(loader.close(table, shelf) == (core.close(shelf) == Reply::Closing)),
+        _ => Ok(match (loader.collect(table, shelf), core.collect(shelf)) {
+            (Some(found), Reply::Freed) => found == 0,
+            (Some(found), Reply::Busy { count }) => found == count,
+            (None, Reply::NotNow) => true,
+            _ => false,
+        }),
+    }
+}
+
+/// Whether the state machine has the worker at the shelf: 1, or 0.
+fn at_shelf(core: &Core, number: usize, shelf: usize) -> u64
+    ensures { result ≤ 1 }
+{
+    match core.worker(number) {
+        Some(Worker::Late { shelf: at }) if at == shelf => 1,
+        Some(
+            Worker::Holding {
+                shelf: at,
+                version: _,
+            },
+        ) if at == shelf => 1,
+        _ => 0,
+    }
+}
+
+/// Whether each word says what the state machine does.
+fn words_agree(table: &ShelfTable, core: &Core) -> bool {
+    let (version, shelf) = core.current();
+    let word = table.word(0);
+    let mut agree = word / 8 == version && (word % 8) as usize == shelf;
+    for k in 0..8usize {
+        let word = table.word(k + 1);
+        let (state, version) = match core.shelf(k) {
+            Some(Shelf::Open { version }) => (1, version),
+            Some(Shelf::Closing { version }) => (2, version),
+            Some(Shelf::Free) | None => (0, 0),
+        };
+        agree = agree && word / 65536 == version && word / 256 % 256 == state;
+        agree = agree && word % 256 == at_shelf(core, 0, k) + at_shelf(core, 1, k);
+    }
+    agree
+}
+
+#[test]
+fn random_steps_beside_the_state_machine(rt: HostRuntime) -> Result<(), Fail> {
+    let alloc: Global = rt.alloc();
+    let image = image(alloc, 1)?;
+    let (table, mut place) = new_shelves(alloc, &image)?;
+    let first = new_worker(&table, &mut place);
+    let second = new_worker(&table, &mut place);
+    let mut loader = LoaderSteps::of(place);
+    let mut first = WorkerSteps::of(first);
+    let mut second = WorkerSteps::of(second);
+    let mut core = Core::new(alloc)?;
+    let mut random = 1u64;
+    for _round in 0..2000u32 {
+        random = random
+            .wrapping_mul(6364136223846793005)
+            .wrapping_add(1442695040888963407);
+        let choice = random / 8589934592 % 4;
+        let shelf = (random / 1099511627776 % 8) as usize;
+        let same = match random / 281474976710656 % 4 {
+            0 => worker_steps(&table, &mut first, &mut core, 0, choice),
+            1 => worker_steps(&table, &mut second, &mut core, 1, choice),
+            _ => loader_steps(&table, &mut loader, &mut core, alloc, &image, shelf, choice)?,
+        };
+        assert!(&rt; same);
+        assert!(&rt; words_agree(&table, &core));
+    }
     Ok(())
 }
