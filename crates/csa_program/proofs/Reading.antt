@@ -1,5 +1,5 @@
 -- What a reader gave so far, piece by piece.
-use Rattle.std.proofs.Common.{inl, inr, ◌<◌, ◌≡◌, ◌≢◌, ℕ, ◌+◌, ◌-◌, ◌*◌, ◌%◌, ◌≤◌, List, ◌++◌, Option, IfSome, length, take, sym, ap, ◌∙◌, subst, length-take-le, length-append, arith}
+use Rattle.std.proofs.Common.{inl, inr, ◌<◌, ◌≡◌, ◌≢◌, ℕ, ◌+◌, ◌-◌, ◌%◌, ◌≤◌, List, ◌++◌, Option, IfSome, length, take, sym, ap, ◌∙◌, subst, length-take-le, length-append, arith}
 use Rattle.std.proofs.lemmas.Bool.{cases_eq}
 use Rattle.std.proofs.Math.Seq.{take-append-add}
 use Rattle.std.proofs.lemmas.List.{take-append-le}

@@ -2,11 +2,13 @@
 
 use crate::build::{BuildRequest, ZoneText};
 use crate::journey::JourneyRequest;
-use crate::profile::{CriterionName, ProfileRequest};
+use crate::profile::ProfileRequest;
 use crate::question::Question;
 use clap::error::ErrorKind;
 use clap::{Arg, ArgAction, ArgMatches, Command, Error};
+use criteria::CriterionName;
 use gtfs_tables::Day;
+use journeys::Window;
 use std::alloc::{AllocError, Global};
 use std::convert::AsStr;
 use timetable::clocks::clock_parse;
@@ -47,8 +49,6 @@ const JOURNEY_EXAMPLE: &str =
 const PROFILE_EXAMPLE: &str =
     "Example: csa profile examples/base.csa --from A --to C --after 07:00:00 --until 09:00:00 \
 --by 10:00:00 --criterion arrival+trips";
-
-const CRITERIA: [&str; 2] = ["arrival", "arrival+trips"];
 
 const BUILD_EXAMPLE: &str =
     "Example: csa build examples/base base.csa --first 20240115 --days 1 --zone fixed:0";
@@ -129,13 +129,9 @@ fn profile<'a>(alloc: Global) -> Result<Command<'a>, AllocError> {
         .about("Prints every best departure from one stop to another in a window of time")
         .after_help(PROFILE_EXAMPLE)
         .arg(image(alloc))?;
-    with_query(alloc, command)?.arg(option(
-        alloc,
-        "criterion",
-        "NAME",
-        "What is best: the least arrival, or arrival and trips",
-    )
-    .value_parser(CRITERIA.as_slice()))
+    with_query(alloc, command)?.arg(option(alloc, "criterion", "NAME", "What is best").value_parser(
+        CriterionName::NAMES.as_slice(),
+    ))
 }
 
 fn tables<'a>(alloc: Global) -> Result<Command<'a>, AllocError> {
@@ -251,25 +247,19 @@ fn profile_request<'a>(matches: &ArgMatches<'a>) -> Option<ProfileRequest<'a>> {
     Some(ProfileRequest {
         image: matches.get_str("image")?,
         question: question(matches)?,
-        criterion: criterion(matches)?,
+        criterion: CriterionName::of(matches.get_str("criterion")?)?,
     })
-}
-
-fn criterion(matches: &ArgMatches<'_>) -> Option<CriterionName> {
-    match matches.get_str("criterion")? {
-        "arrival" => Some(CriterionName::Arrival),
-        "arrival+trips" => Some(CriterionName::ArrivalTrips),
-        _ => None,
-    }
 }
 
 fn question<'a>(matches: &ArgMatches<'a>) -> Option<Question<'a>> {
     Some(Question {
         from: matches.get_str("from")?,
         to: matches.get_str("to")?,
-        after: clock(matches, "after")?,
-        until: clock(matches, "until")?,
-        by: clock(matches, "by")?,
+        window: Window {
+            from: clock(matches, "after")?,
+            until: clock(matches, "until")?,
+            by: clock(matches, "by")?,
+        },
     })
 }
 

@@ -1,11 +1,11 @@
 //! `csa journey IMAGE TEXT QUERY`.
 
 use crate::opening::open_image;
-use crate::question::{Question, query_of};
+use crate::question::Question;
 use crate::refusal::Refusal;
 use crate::status;
 use image_verifier::Verified;
-use journeys::{TextFault, check, journey_parse};
+use journeys::{TextFault, check, journey_parse, query_of};
 use std::alloc::Global;
 use std::io::{Read, Write};
 use std::rt::Files;
@@ -50,9 +50,11 @@ pub fn run<H: Files + AllocGlobal, I: Read, O: Write, E: Write>(
 }
 
 fn judge(alloc: Global, image: &Verified, request: JourneyRequest<'_>) -> Result<Times, Failure> {
-    let query = match query_of(image, request.question) {
+    let question = request.question;
+    let (from, to) = (question.from.as_bytes(), question.to.as_bytes());
+    let query = match query_of(image, from, to, question.window) {
         Ok(query) => query,
-        Err(refusal) => return Err(Failure::Refused(refusal)),
+        Err(fault) => return Err(Failure::Refused(Refusal::Query(fault))),
     };
     let journey = match journey_parse(alloc, request.text.as_bytes()) {
         Ok(journey) => journey,

@@ -3,28 +3,19 @@
 ghost use Rattle.timetable.specs.Queries.{IsAskable};
 
 use crate::opening::open_image;
-use crate::question::{Question, query_of};
+use crate::question::Question;
+use crate::refusal::Refusal;
 use crate::status;
-use criteria::{Arrival, ArrivalTrips, Criterion, TimeTrips};
+use criteria::{Arrival, ArrivalTrips, ArrivalTripsWalk, CriterionName, Told};
 use image_verifier::Verified;
-use journeys::{extract, journey_text};
-use profile_scan::{Found, profile};
-use sources::{ConnSource, InPlace};
+use journeys::{Answer, Departure, answer_query, journey_text, query_of};
+use profile_scan::InPlace;
 use std::alloc::{AllocError, Global};
 use std::fmt::Write as _;
 use std::io::{Read, Write};
 use std::rt::Files;
 use timetable::clocks::Clock;
 use timetable::{Journey, Query};
-
-/// By what departures are best.
-#[derive(Clone, Copy, Debug, PartialEq, Eq)]
-pub enum CriterionName {
-    /// By the time of arrival.
-    Arrival,
-    /// By the time of arrival and the number of trips.
-    ArrivalTrips,
-}
 
 /// The image, the query that is asked of it, and what is best.
 #[derive(Clone, Copy, Drop)]
@@ -46,68 +37,57 @@ pub fn run<H: Files + AllocGlobal, I: Read, O: Write, E: Write>(
         Ok(image) => image,
         Err(status) => return status,
     };
-    let query = match query_of(&image, request.question) {
+    let question = request.question;
+    let (from, to) = (question.from.as_bytes(), question.to.as_bytes());
+    let query = match query_of(&image, from, to, question.window) {
         Ok(query) => query,
-        Err(refusal) => return status::refused(rt.alloc(), output, &refusal),
+        Err(fault) => return status::refused(rt.alloc(), output, &Refusal::Query(fault)),
     };
     let lines = match request.criterion {
-        CriterionName::Arrival => answer(rt.alloc(), &image, &Arrival, &query),
-        CriterionName::ArrivalTrips => answer(rt.alloc(), &image, &ArrivalTrips, &query),
+        CriterionName::Arrival => answer_lines(rt.alloc(), &image, &Arrival, &query),
+        CriterionName::ArrivalTrips => answer_lines(rt.alloc(), &image, &ArrivalTrips, &query),
+        CriterionName::ArrivalTripsWalk => {
+            answer_lines(rt.alloc(), &image, &ArrivalTripsWalk, &query)
+        }
     };
     status::line_written(output, lines, status::ACCEPTED)
 }
 
-/// A value as it is printed behind a point's departure.
-trait ValueText {
-    fn append_to(&self, line: &mut String) -> Result<(), AllocError>;
-}
-
-impl ValueText for u32 {
-    fn append_to(&self, line: &mut String) -> Result<(), AllocError> {
-        write!(line, "arr {}", Clock(*self))
-    }
-}
-
-impl ValueText for TimeTrips {
-    fn append_to(&self, line: &mut String) -> Result<(), AllocError> {
-        write!(line, "arr {} trips {}", Clock(self.time), self.trips)
-    }
-}
-
 /// The lines that answer a query.
-fn answer<C: Criterion>(
+fn answer_lines<C: Told>(
     alloc: Global,
     image: &Verified,
     criterion: &C,
     query: &Query,
 ) -> Result<String, AllocError>
-where
-    C::V: ValueText,
     requires { IsAskable image.now.timetable.stops query.now }
 {
     let mut source = InPlace::new(image);
-    let found = profile(alloc, &mut source, criterion, query)?;
+    let answer = answer_query(alloc, &mut source, criterion, query)?;
     let mut lines = String::new(alloc);
-    for i in 0..found.len() {
-        let point = found.point(i);
-        let journey = extract(alloc, &found, i)?;
-        append_point(&mut lines, point.departure, &point.value)?;
-        append_journey(&mut lines, alloc, &journey)?;
+    for departure in &answer.departures {
+        append_departure(&mut lines, criterion, departure)?;
+        append_journey(&mut lines, alloc, &departure.journey)?;
     }
-    let read = source
-        .first_at(query.by)
-        .saturating_sub(source.first_at(query.from));
-    append_end(&mut lines, &found, read)?;
+    append_end(&mut lines, &answer)?;
     Ok(lines)
 }
 
-fn append_point<V: ValueText>(
+fn append_departure<C: Told>(
     lines: &mut String,
-    departure: u32,
-    value: &V,
+    criterion: &C,
+    departure: &Departure<C::V>,
 ) -> Result<(), AllocError> {
-    write!(lines, "dep {} ", Clock(departure))?;
-    value.append_to(lines)
+    let told = criterion.tell(&departure.value);
+    let (dep, arr) = (Clock(departure.time), Clock(told.arrival));
+    write!(lines, "dep {dep} arr {arr}")?;
+    if let Some(trips) = told.trips {
+        write!(lines, " trips {trips}")?;
+    }
+    if let Some(walked) = told.walked {
+        write!(lines, " walked {walked}")?;
+    }
+    Ok(())
 }
 
 fn append_journey(lines: &mut String, alloc: Global, journey: &Journey) -> Result<(), AllocError> {
@@ -119,13 +99,10 @@ fn append_journey(lines: &mut String, alloc: Global, journey: &Journey) -> Resul
     lines.push_str("\n")
 }
 
-fn append_end<C: Criterion>(
-    lines: &mut String,
-    found: &Found<C>,
-    read: usize,
-) -> Result<(), AllocError> {
-    let points = found.len();
-    match found.direct_walk() {
+fn append_end<C: Told>(lines: &mut String, answer: &Answer<C>) -> Result<(), AllocError> {
+    let points = answer.departures.len();
+    let read = answer.read;
+    match answer.walk {
         Some(seconds) => write!(lines, "points {points} read {read} walk {seconds}\n"),
         None => write!(lines, "points {points} read {read} walk none\n"),
     }

@@ -26,6 +26,12 @@ const FEWEST: Asked<'static> = Asked {
     criterion: "arrival+trips",
 };
 
+const LEAST_ON_FOOT: Asked<'static> = Asked {
+    until: "09:00:00",
+    by: "10:00:00",
+    criterion: "arrival+trips+walk",
+};
+
 fn profile_words<'a>(asked: Asked<'a>) -> [&'a str; 15] {
     [
         "csa",
@@ -226,6 +232,38 @@ fn a_footpath_may_be_the_end(rt: HostRuntime) -> Result<(), Fail> {
         "walk 0 1 60 ride 2 2",
         "ok dep 08:11:00 arr 08:20:00\n",
     )
+}
+
+/// The sample with a footpath from B to C of a quarter of an hour.
+fn with_long_walk() -> [u32; 49] {
+    [
+        0x50415343, 1, 3, 2, 3, 4, 7, 1705276800, 0, 0, 1, 28800, 29400, 0, 3, 1, 2, 29400, 30600,
+        0, 3, 1, 2, 29520, 30000, 1, 3, 0, 1, 2, 4, 0, 0, 1, 0, 1, 900, 2, 0, 0, 1, 2, 3, 5, 7,
+        20240115, 20240115, 0x54434241, 0x00325431,
+    ]
+}
+
+/// Each footpath counts, the loop of a change too; who counts trips alone prefers the walk.
+#[test]
+fn walking_may_be_counted(rt: HostRuntime) -> Result<(), Fail> {
+    let image = with_long_walk();
+    let three =
+        "dep 08:00:00 arr 08:20:00 trips 2 walked 0 : ride 0 0 walk 1 1 0 ride 2 2\ndep 08:00:00 arr 08:25:00 trips 1 walked 900 : ride 0 0 walk 1 2 900\ndep 08:00:00 arr 08:30:00 trips 1 walked 0 : ride 0 1\npoints 3 read 3 walk none\n";
+    ask(&rt, &image, LEAST_ON_FOOT, three)?;
+    let two =
+        "dep 08:00:00 arr 08:20:00 trips 2 : ride 0 0 walk 1 1 0 ride 2 2\ndep 08:00:00 arr 08:25:00 trips 1 : ride 0 0 walk 1 2 900\npoints 2 read 3 walk none\n";
+    ask(&rt, &image, FEWEST, two)?;
+    holds(
+        &rt,
+        &image,
+        "ride 0 0 walk 1 2 900",
+        "ok dep 08:00:00 arr 08:25:00\n",
+    )?;
+    let mut loops = sample_words();
+    loops[34] = 60;
+    let two =
+        "dep 08:00:00 arr 08:20:00 trips 2 walked 60 : ride 0 0 walk 1 1 60 ride 2 2\ndep 08:00:00 arr 08:30:00 trips 1 walked 0 : ride 0 1\npoints 2 read 3 walk none\n";
+    ask(&rt, &loops, LEAST_ON_FOOT, two)
 }
 
 #[test]

@@ -1,7 +1,7 @@
 -- An answer with its journeys, one point after the other.
-use Rattle.std.proofs.Common.{◌≡◌, ℕ, suc, ◌+◌, ◌<◌, ◌≤◌, List, [], ◌∷◌, ◌++◌, length, take, map, get_or, Contains, slice_get, Some, refl, sym, ◌∙◌, ap, subst, inl, inr, arith}
+use Rattle.std.proofs.Common.{◌≡◌, ℕ, zero, suc, ◌+◌, ◌-◌, ◌<◌, ◌≤◌, List, [], ◌∷◌, ◌++◌, length, take, map, get_or, Contains, slice_get, Some, refl, sym, ◌∙◌, ap, subst, inl, inr, arith}
 use Rattle.std.proofs.lemmas.Option.{slice_get_within, get_or_from_slice_get}
-use Rattle.std.proofs.lemmas.List.{map-append, length-map, get_or-map, get_or_default, take_all}
+use Rattle.std.proofs.lemmas.List.{map-append, length-map, length-reverse, get_or-map, get_or_default, take_all}
 use Rattle.std.proofs.lemmas.List.Elements.{Contains-push_cases}
 use Rattle.std.proofs.Math.Seq.{take-suc}
 use Rattle.criteria.specs.Laws.{Rules}
@@ -9,10 +9,24 @@ use Rattle.bags.specs.declared.point.Point.{Point}
 use Rattle.timetable.specs.declared.query.Query.{Query}
 use Rattle.timetable.specs.TimetableValue.{TimetableValue}
 use Rattle.timetable.specs.JourneyValue.{JourneyValue}
-use Rattle.profile_scan.specs.Points.{Lists, Covers, Before, IsAnswer}
+use Rattle.timetable.specs.Legal.{IsLegal}
+use Rattle.sources.specs.FirstAt.{IsFirstAt}
+use Rattle.profile_scan.specs.Points.{Lists, Before, IsAnswer}
+use Rattle.profile_scan.specs.Window.{window, falling}
+use Rattle.profile_scan.proofs.Windows.{window_is_read_backward}
 use Rattle.journeys.specs.Extracted.{Attains}
 use Rattle.journeys.specs.Answer.{point_of}
 use Rattle.journeys.specs.declared.answering.Departure.{Departure}
+
+-- how many places a window has
+length-falling : (low n : ℕ) → length (falling low n) ≡ n
+length-falling low zero = refl
+length-falling low (suc n) = ap suc (length-falling low n)
+
+pub window_count : (t : TimetableValue) (q : Query) (start end : ℕ) → IsLegal t → IsFirstAt t q.from start → IsFirstAt t q.by end → end - start ≡ length (window t q)
+window_count t q start end legal is_start is_end =
+    let falls = (window_is_read_backward t legal q).falls start end is_start is_end in
+    sym (length-falling start (end - start)) ∙ (ap length (sym falls) ∙ length-reverse (window t q))
 
 -- a point that has lost its tag
 abbrev pub tagless : {V : Type 0} → Point V → Point V

@@ -4,6 +4,8 @@ pub mod CountLemmas
 pub mod FootpathLemmas
 pub mod LegLemmas
 pub mod NumberLemmas
+pub mod PlainLemmas
+pub mod QuestionLemmas
 pub mod ReadLemmas
 pub mod RideLemmas
 pub mod TextLemmas

@@ -3,5 +3,6 @@ pub mod Extracted
 pub mod Faults
 pub mod Judged
 pub mod Numbers
+pub mod Questions
 pub mod Reading
 pub mod Texts

@@ -1,5 +1,5 @@
 -- Journeys as texts.
-use Rattle.std.specs.Prelude.{◌≢◌, ℕ, ◌<◌, ◌^◌, List, [], ◌∷◌, ◌++◌, codes, decimal, drop, Option, Some, None, IfSome}
+use Rattle.std.specs.Prelude.{◌≡◌, ◌≢◌, ◌⊎◌, ℕ, ◌<◌, ◌≤◌, ◌^◌, List, [], ◌∷◌, ◌++◌, codes, decimal, drop, Option, Some, None, IfSome}
 use Rattle.std.specs.List.{flat_map, AllByRecursion}
 use Rattle.timetable.specs.declared.network.Footpath.{Footpath}
 use Rattle.timetable.specs.declared.journey.Leg.{Leg}
@@ -41,3 +41,7 @@ pub record HasText (j : JourneyValue) : Type 0 where
   pub some : j.rides ≢ []
   pub start : IfSome j.start IsFootpathOfWords
   pub rides : AllByRecursion IsRideOfWords j.rides
+
+-- a space, a digit or a colon, or a small letter
+abbrev pub IsPlainByte : ℕ → Type 0
+IsPlainByte byte = (byte ≡ 32) ⊎ ((48 ≤ byte) × (byte ≤ 58)) ⊎ ((97 ≤ byte) × (byte ≤ 122))

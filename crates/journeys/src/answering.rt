@@ -1,6 +1,6 @@
 //! The answer of a profile query, each point with a journey.
 
-ghost use Rattle.std.specs.Prelude.{◌≡◌, ◌++◌, ℕ, IfOk, OnOk, OnErr, reverse, take};
+ghost use Rattle.std.specs.Prelude.{◌≡◌, ◌++◌, ℕ, IfOk, OnOk, OnErr, length, reverse, take};
 ghost use Rattle.timetable.specs.Queries.{IsAskable};
 ghost use Rattle.profile_scan.specs.Window.{window};
 ghost use Rattle.profile_scan.specs.Points.{IsAnswer};
@@ -21,12 +21,13 @@ pub struct Departure<V> {
     pub journey: Journey,
 }
 
-/// The answer of a profile query: all best departures in order, each with a journey, and the seconds of the footpath from the source
-/// to the target, if there is one.
+/// The answer of a profile query: all best departures in order, each with a journey, the seconds of the footpath from the source to
+/// the target, if there is one, and how many connections were read.
 #[derive(Drop)]
 pub struct Answer<C: Criterion> {
     pub departures: Vec<Departure<C::V>>,
     pub walk: Option<u32>,
+    pub read: usize,
 }
 
 /// Answers a query that can be asked: exactly the points of all journeys that count for it, which no other such point dominates, in
@@ -45,9 +46,12 @@ pub fn answer_query<S: ConnSource, C: Criterion>(
     ensures points { IfOk result (λ answer. IsAnswer (C.rules criterion.now) (S.timetable source.old) query.now (points_of answer)) }
     ensures journeys { IfOk result (λ answer. AreAttained (C.rules criterion.now) (S.timetable source.old) query.now answer) }
     ensures walk { IfOk result (λ answer. IsWay (S.timetable source.old) query.now.target query.now.source (walk_of_answer answer)) }
+    ensures read { IfOk result (λ answer. answer.read ≡ length (window (S.timetable source.old) query.now)) }
     ensures log { OnOk result (S.log source.new ≡ S.log source.old ++ reverse (window (S.timetable source.old) query.now)) }
     ensures err { OnErr result ((n : ℕ) × (S.log source.new ≡ S.log source.old ++ take n (reverse (window (S.timetable source.old) query.now)))) }
 {
+    let end = source.first_at(query.by);
+    let read = end.saturating_sub(source.first_at(query.from));
     let found = profile(alloc, source, criterion, query)?;
     let mut departures = Vec::with_capacity(alloc, found.len())?;
     for i in 0..found.len() {
@@ -62,5 +66,6 @@ pub fn answer_query<S: ConnSource, C: Criterion>(
     Ok(Answer {
         departures,
         walk: found.direct_walk(),
+        read,
     })
 }

@@ -10,6 +10,7 @@ use std::alloc::{AllocError, Global};
 use std::process::Abort;
 use std::test::*;
 use timetable::Query;
+use timetable::query::QueryFault;
 
 /// From 07:00:00 until 09:00:00, by 10:00:00.
 const ASKED: Query = Query {
@@ -195,16 +196,32 @@ fn on_foot_from_the_last_trip(rt: HostRuntime) -> Result<(), Fail> {
     )
 }
 
-/// The answer at one call: each departure with its value and its journey, and the footpath from the source to the target.
+/// The answer at one call, of a query by the names of stops: each departure with its value and its journey, the footpath from the
+/// source to the target, and how many connections were read.
 #[test]
 fn answered_at_once(rt: HostRuntime) -> Result<(), Fail> {
     let alloc = rt.alloc();
     let image = image(alloc, &sample_words())?;
+    let window = Window {
+        from: 25200,
+        until: 32400,
+        by: 36000,
+    };
+    assert_eq!(rt;
+        query_of(&image, b"A", b"D", window),
+        Err(QueryFault::UnknownStop)
+    );
+    assert_eq!(rt;
+        query_of(&image, b"A", b"A", window),
+        Err(QueryFault::SameStop)
+    );
+    assert_eq!(rt; query_of(&image, b"A", b"C", window), Ok(ASKED));
     let mut source = InPlace::new(&image);
     let stops = source.stops();
     ASKED.check(stops).ok().ok_or("the query can be asked")?;
     let answer = answer_query(alloc, &mut source, &ArrivalTrips, &ASKED)?;
     assert_eq!(rt; answer.walk, None);
+    assert_eq!(rt; answer.read, 3);
     assert_eq!(rt; answer.departures.len(), 2);
     let slow = &answer.departures[1];
     assert_eq!(rt;
@@ -218,14 +235,17 @@ fn answered_at_once(rt: HostRuntime) -> Result<(), Fail> {
     Ok(())
 }
 
-/// Whichever growth is refused, want of memory is told, and else the journey comes. A refused growth ends the test with `AllocError`.
+/// Whichever growth is refused, want of memory is told, and else the journeys come. A refused growth ends the test with `AllocError`.
 #[test]
 fn refused_growth_is_told(rt: HostRuntime) -> Result<(), Fail> {
-    let image = verify(rt.alloc(), sample_words().to_vec(rt.alloc())?).map_err(
-        |_refused| AllocError,
-    )?;
+    let alloc = rt.alloc();
+    let image = verify(alloc, sample_words().to_vec(alloc)?).map_err(|_refused| AllocError)?;
     let mut source = InPlace::new(&image);
-    let texts = journeys(&rt, rt.alloc(), &image, &mut source, &ArrivalTrips, &ASKED)?;
-    assert_texts(&rt, &texts, &[CHANGE, "ride 0 1"]);
+    let stops = source.stops();
+    ASKED.check(stops).ok().ok_or("the query can be asked")?;
+    let answer = answer_query(alloc, &mut source, &ArrivalTrips, &ASKED)?;
+    assert_eq!(rt; answer.departures.len(), 2);
+    let text = journey_text(alloc, &answer.departures[1].journey)?;
+    assert!(rt; text.as_slice() == b"ride 0 1".as_slice());
     Ok(())
 }

@@ -1,4 +1,5 @@
-//! Journeys as texts, whether a journey holds in an image and counts for a query, and the journeys of an answer.
+//! Queries by the names of stops and their answers, each point with its journey; journeys as texts; and whether a journey holds in an
+//! image and counts for a query.
 #![tactic(auto)]
 
 mod answering;
@@ -8,6 +9,7 @@ mod extraction;
 mod fault;
 mod footpaths;
 mod legs;
+mod question;
 mod reading;
 mod text;
 mod text_fault;
@@ -17,7 +19,8 @@ pub use answering::{Answer, Departure, answer_query};
 pub use counts::{check, faultless_counts};
 pub use extraction::extract;
 pub use fault::JourneyFault;
-pub use text::{journey_parse, journey_text, one_text};
+pub use question::{Window, query_of};
+pub use text::{journey_parse, journey_text, one_text, plain_texts};
 pub use text_fault::TextFault;
 
 #[cfg(test)]

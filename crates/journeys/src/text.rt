@@ -1,10 +1,11 @@
 //! Journeys as texts.
 
-ghost use Rattle.std.specs.Prelude.{◌≡◌, ◌++◌, ◌∷◌, [], drop, codes, IfOk, OnOk, MatchResult};
+ghost use Rattle.std.specs.Prelude.{◌≡◌, ◌++◌, ◌∷◌, [], drop, codes, ℕ, All, IfOk, OnOk, MatchResult};
 ghost use Rattle.std.specs.List.{flat_map};
+ghost use Rattle.timetable.specs.Clocks.{clock_bytes};
 ghost use Rattle.timetable.specs.JourneyValue.{JourneyValue};
 ghost use Rattle.journeys.specs.declared.text_fault.TextFault.TheVariants.{OutOfMemory};
-ghost use Rattle.journeys.specs.Texts.{number_text, walk_text, leg_text, ride_text, start_text, text_of, HasText};
+ghost use Rattle.journeys.specs.Texts.{number_text, walk_text, leg_text, ride_text, start_text, text_of, HasText, IsPlainByte};
 
 use crate::reading::journey;
 use crate::text_fault::TextFault;
@@ -102,4 +103,11 @@ pub fn journey_parse(alloc: Global, text: &[u8]) -> Result<Journey, TextFault>
 /// No two journeys have one text, so what was written is read again as it was.
 pub fn one_text()
     ensures { (j k : JourneyValue) → HasText j → HasText k → text_of j ≡ text_of k → j ≡ k }
+{}
+
+/// The texts of journeys and of times are spaces, digits, colons and small letters: no form of quoting changes them, and each byte is a
+/// character.
+pub fn plain_texts()
+    ensures journeys { (j : JourneyValue) → All IsPlainByte (text_of j) }
+    ensures clocks { (time : ℕ) → All IsPlainByte (clock_bytes time) }
 {}

@@ -24,4 +24,5 @@ pub mod Answer
 pub mod AnsweredLemmas
 pub mod Windows
 pub mod Refutations
+pub mod LabelsForgotten
 pub mod ExampleAnswers

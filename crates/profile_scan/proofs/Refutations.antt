@@ -42,7 +42,7 @@ at_one : {X : Type 0} (x y : X) (i : ℕ) → At (x ∷ []) i y → (i ≡ 0) ×
 at_one x y zero is = (refl, same_Some x y is)
 at_one x y (suc i) is = absurd cc
 
-at_two : {X : Type 0} (x y z : X) (i : ℕ) → At (x ∷ y ∷ []) i z → ((i ≡ 0) × (x ≡ z)) ⊎ ((i ≡ 1) × (y ≡ z))
+pub at_two : {X : Type 0} (x y z : X) (i : ℕ) → At (x ∷ y ∷ []) i z → ((i ≡ 0) × (x ≡ z)) ⊎ ((i ≡ 1) × (y ≡ z))
 at_two x y z zero is = inl (refl, same_Some x z is)
 at_two x y z (suc i) is = let rest = at_one y z i is in inr (omega (arith, rest.0), rest.1)
 
@@ -56,7 +56,7 @@ its_pairs from to secs is = elim (at_two long_loop short_loop (record { from = f
 abbrev its_connection : Connection
 its_connection = connection_at one_hop 0
 
-one_hop_legal : IsLegal one_hop
+pub one_hop_legal : IsLegal one_hop
 one_hop_legal = record {
   stops_in_range = λ i c at. let e = (at_one its_connection c i at).1 in subst (λ (x : Connection). (x.from < 2) × (x.to < 2)) e (omega arith, omega arith);
   trips_in_range = λ i c at. let e = (at_one its_connection c i at).1 in subst (λ (x : Connection). x.trip < 1) e (omega arith);
@@ -96,7 +96,7 @@ one_hop_legal = record {
     two_stops (suc zero) lt = inr refl
     two_stops (suc (suc s)) lt = absurd (omega arith)
 
-one_hop_within : IsWithinLimits one_hop
+pub one_hop_within : IsWithinLimits one_hop
 one_hop_within = record {
   stops = omega arith;
   trips = omega arith;
@@ -156,10 +156,10 @@ goes_on walk x e = ap (λ (z : Aboard). Some (let y : Onward = record { walk = w
 sets_out : (start : Option Footpath) (x : Aboard) → Some one_stop ≡ Some x → Some (let y : JourneyValue = record { start = start; rides = boarded 0 one_stop } in y) ≡ Some (record { start = start; rides = boarded 0 x })
 sets_out start x e = ap (λ (z : Aboard). Some (let y : JourneyValue = record { start = start; rides = boarded 0 z } in y)) (the_label x e)
 
-none_in : {X : Type 0} (x : X) → Contains [] x → ⊥
+pub none_in : {X : Type 0} (x : X) → Contains [] x → ⊥
 none_in x is = omega (arith, is.1)
 
-one_in : {X : Type 0} (x y : X) → Contains (x ∷ []) y → x ≡ y
+pub one_in : {X : Type 0} (x y : X) → Contains (x ∷ []) y → x ≡ y
 one_in x y (zero, lt, is) = is
 one_in x y (suc k, lt, is) = absurd (omega arith)
 
@@ -195,7 +195,7 @@ module _ {V : Type 0} (rules : Rules V) (laws : Laws rules) where
   arrive_admitted : Admits rules (rules.arrive 200)
   arrive_admitted = laws.arrive_admits 200 (omega arith)
 
-  covers_itself : (points : List (Point V)) (p : Point V) → Contains points p → Admits rules p.value → Covers rules points p.departure p.value
+  pub covers_itself : (points : List (Point V)) (p : Point V) → Contains points p → Admits rules p.value → Covers rules points p.departure p.value
   covers_itself points p is a = (p, is, omega arith, laws.reflexive p.value a)
 
   ridden_admitted : Admits rules ridden_once
@@ -205,18 +205,18 @@ module _ {V : Type 0} (rules : Rules V) (laws : Laws rules) where
   walked_admitted = laws.walk_admits 60 ridden_once (omega arith) ridden_admitted
 
   -- points at stop 0, or in trip 0, alone
-  abbrev at_zero : List (Point V) → ℕ → List (Point V)
+  abbrev pub at_zero : List (Point V) → ℕ → List (Point V)
   at_zero points zero = points
   at_zero points (suc n) = []
 
-  abbrev nothing : ScanValue V
+  abbrev pub nothing : ScanValue V
   nothing = record { bag = λ _. []; labels = λ _. []; found = [] }
 
   -- a list that takes in an offer of nothing, or comes from nothing
-  takes_none : {A : Type 0} (offer : Offer A V) → ((way : A) → offer.is_open way → ⊥) → TakesIn rules offer [] []
+  pub takes_none : {A : Type 0} (offer : Offer A V) → ((way : A) → offer.is_open way → ⊥) → TakesIn rules offer [] []
   takes_none offer none = record { only = λ p is. inl is; kept = λ d v a c. c; covered = λ way open_way. absurd (none way open_way) }
 
-  takes_from_nothing : {A : Type 0} (offer : Offer A V) (points : List (Point V)) → ((p : Point V) → Contains points p → IsOffered offer p) → ((way : A) → offer.is_open way → Covers rules points (offer.departure way) (offer.value way)) → TakesIn rules offer [] points
+  pub takes_from_nothing : {A : Type 0} (offer : Offer A V) (points : List (Point V)) → ((p : Point V) → Contains points p → IsOffered offer p) → ((way : A) → offer.is_open way → Covers rules points (offer.departure way) (offer.value way)) → TakesIn rules offer [] points
   takes_from_nothing offer points offered covered = record { only = λ p is. inr (offered p is); kept = λ d v a c. absurd (none_in c.0 c.1); covered = covered }
 
   leaves_by_end : (until : ℕ) → TakesIn rules (leavings rules one_hop (over_one_hop until) turn 0 []) [] (label ∷ [])

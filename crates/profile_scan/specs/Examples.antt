@@ -1,5 +1,5 @@
 -- Worked examples: three stops A, B and C (0, 1, 2) and two trips, one from A over B to C, and a faster one from B to C that leaves two minutes after the first has come.
-use Rattle.std.specs.Prelude.{ℕ, true, List, [], ◌∷◌, Option, Some, None}
+use Rattle.std.specs.Prelude.{ℕ, true, false, List, [], ◌∷◌, Option, Some, None}
 use Rattle.timetable.specs.declared.network.Connection.{Connection}
 use Rattle.timetable.specs.declared.network.Footpath.{Footpath}
 use Rattle.timetable.specs.declared.query.Query.{Query}
@@ -63,3 +63,12 @@ one_hop = record { stops = 2; trips = 1; connections = hop 0 1 100 200 0 ∷ [];
 -- over it, departing until a time
 abbrev pub over_one_hop : ℕ → Query
 over_one_hop until = record { source = 0; target = 1; from = 0; until = until; by = 1000 }
+
+-- the same stops and footpaths, and one trip that stays at its first stop for a hop: there nobody gets off, and nobody boards after it
+abbrev pub two_hops : TimetableValue
+two_hops = record one_hop {
+  connections =
+      record { from = 0; to = 0; dep = 100; arr = 200; trip = 0; board = true; alight = false }
+      ∷ record { from = 0; to = 1; dep = 200; arr = 300; trip = 0; board = false; alight = true }
+      ∷ [];
+}

@@ -78,6 +78,16 @@ module _ {V : Type 0} (rules : Rules V) (t : TimetableValue) (tags : Spellings) 
 abbrev pub IsStepWithoutChange : {V : Type 0} → Rules V → TimetableValue → Query → Spellings → ℕ → ScanValue V → ScanValue V → Type 0
 IsStepWithoutChange rules t q tags i = IsStepWith rules t q tags i (λ now. at_once_boardings rules t now i) (λ now. settings_out rules t q now i)
 
+-- the labels that the trip had are forgotten: who stays seated past the connection isn't known any more
+pub record IsStepWithoutLabels {V : Type 0} (rules : Rules V) (t : TimetableValue) (q : Query) (tags : Spellings) (i : ℕ) (old new : ScanValue V) : Type 0 where
+  pub between : Spelling
+  pub kept_first : Keeps tags.earlier between
+  pub kept_then : Keeps between tags.later
+  pub leaves : TakesIn rules (leavings rules t q (from_to tags.earlier between) i (old.bag (connection_at t i).to)) [] (new.labels (connection_at t i).trip)
+  pub other_trips : (trip : ℕ) → trip ≢ (connection_at t i).trip → new.labels trip ≡ old.labels trip
+  pub boards : (stop : ℕ) → stop < t.stops → TakesIn rules (boardings rules t (from_to between tags.later) i stop (new.labels (connection_at t i).trip)) (old.bag stop) (new.bag stop)
+  pub sets_out : TakesIn rules (settings_out rules t q (from_to between tags.later) i (new.labels (connection_at t i).trip)) old.found new.found
+
 -- each leg, and not the journey alone, has to depart by the latest departure
 pub record CountsLegByLeg (t : TimetableValue) (q : Query) (departure : ℕ) (j : JourneyValue) : Type 0 where
   pub counts : Counts t q departure j

@@ -5,7 +5,7 @@ use criteria::{Arrival, ArrivalTrips};
 use image_layout::sample_words;
 use image_verifier::{Verified, verify};
 use sources::{ConnSource, Decoded, InPlace};
-use std::alloc::Global;
+use std::alloc::{AllocError, Global};
 use std::process::Abort;
 use std::test::*;
 use timetable::Query;
@@ -254,5 +254,22 @@ fn walks_without_a_trip(rt: HostRuntime) -> Result<(), Fail> {
         direct_walk(rt.alloc(), &mut InPlace::new(&chain), &ASKED)?,
         Some(120)
     );
+    Ok(())
+}
+
+/// Whichever growth is refused, want of memory is told, and else both points come. A refused growth ends the test with `AllocError`.
+#[test]
+fn refused_growth_is_told(rt: HostRuntime) -> Result<(), Fail> {
+    let alloc = rt.alloc();
+    let image = verify(alloc, sample_words().to_vec(alloc)?).map_err(|_refused| AllocError)?;
+    let mut source = InPlace::new(&image);
+    ASKED
+        .check(source.stops())
+        .ok()
+        .ok_or("the query can be asked")?;
+    let found = profile(alloc, &mut source, &ArrivalTrips, &ASKED)?;
+    assert_eq!(rt; found.len(), 2);
+    assert_eq!(rt; found.point(0).value.trips, 2);
+    assert_eq!(rt; found.point(1).value.trips, 1);
     Ok(())
 }

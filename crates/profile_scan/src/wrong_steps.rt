@@ -3,7 +3,7 @@
 ghost use Rattle.std.specs.Prelude.{[], ◌∷◌};
 ghost use Rattle.timetable.specs.Journeys.{Counts};
 ghost use Rattle.profile_scan.specs.Points.{IsAnswer};
-ghost use Rattle.profile_scan.specs.WrongSteps.{CountsLegByLeg, IsStepWithBagCut, IsStepWithLoopStart, IsStepWithoutChange};
+ghost use Rattle.profile_scan.specs.WrongSteps.{CountsLegByLeg, IsStepWithBagCut, IsStepWithLoopStart, IsStepWithoutChange, IsStepWithoutLabels};
 ghost use Rattle.profile_scan.specs.LawStatements.{CutIsTheSources, OneIndexDown};
 ghost use Rattle.profile_scan.specs.Examples.{one_hop, over_one_hop};
 
@@ -12,6 +12,7 @@ use criteria::{Arrival, Criterion};
 fn no_wrong_step_goes_down<C: Criterion>(_criterion: &C)
     ensures bag_cut { OneIndexDown (C.rules _criterion.now) (IsStepWithBagCut (C.rules _criterion.now)) → ⊥ }
     ensures loop_start { OneIndexDown (C.rules _criterion.now) (IsStepWithLoopStart (C.rules _criterion.now)) → ⊥ }
+    ensures labels_forgotten { OneIndexDown (C.rules _criterion.now) (IsStepWithoutLabels (C.rules _criterion.now)) → ⊥ }
     ensures no_change { OneIndexDown (C.rules _criterion.now) (IsStepWithoutChange (C.rules _criterion.now)) → ⊥ }
 {}
 

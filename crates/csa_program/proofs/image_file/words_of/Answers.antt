@@ -1,4 +1,4 @@
-use Rattle.std.proofs.Common.{ℕ, ap, sym, ◌∙◌, arith, length-take-le, ◌≡◌, ◌≢◌, ◌<◌, ◌%◌, length, take}
+use Rattle.std.proofs.Common.{ℕ, ap, sym, ◌∙◌, arith, length-take-le, ◌≡◌, ◌%◌, length, take}
 use Rattle.csa_program.proofs.Reading.{odd_rest, not_whole}
 use Rattle.csa_program.proofs.image_file.words_of.Goals as goal
 

@@ -1,4 +1,3 @@
-use Rattle.std.proofs.Common.{◌≡◌, length}
 use Rattle.std.specs.Io.KnownBytes.{Consumes}
 use Rattle.image_layout.specs.Text.{bytes_of}
 use Rattle.csa_program.proofs.image_file.words_of.Given as goal

@@ -1,8 +1,8 @@
-use Rattle.std.proofs.Common.{◌≡◌, ◌+◌, ◌≤◌, List, length, reverse, sym, subst, arith}
+use Rattle.std.proofs.Common.{◌+◌, ◌≤◌, length, reverse, sym, ◌∙◌, subst, arith}
 use Rattle.profile_scan.specs.Found.{listed}
 use Rattle.profile_scan.specs.Window.{window}
 use Rattle.profile_scan.proofs.LogLemmas.{taken_all, on_err}
-use Rattle.journeys.proofs.AnswerLemmas.{AreTold, none_told, one_more, all_told}
+use Rattle.journeys.proofs.AnswerLemmas.{AreTold, none_told, one_more, all_told, window_count}
 use Rattle.journeys.proofs.answering.answer_query.Goals as goal
 
 pub returns-in_err-departures-clause-err : goal.returns-in_err-departures-clause-err
@@ -47,3 +47,8 @@ returns-clause-points g c =
 
 pub returns-clause-journeys : goal.returns-clause-journeys
 returns-clause-journeys g c = c.loop-i.invariant.each
+
+pub returns-clause-read : goal.returns-clause-read
+returns-clause-read g c =
+    c.saturating_sub-read.ensures
+    ∙ window_count (g.S.ConnSource.timetable c.args.source.now) c.args.query.now c.first_at.result c.first_at-end.result (g.met.S.ConnSource.legal c.args.source.now) c.first_at.ensures c.first_at-end.ensures

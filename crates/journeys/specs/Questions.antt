@@ -1,0 +1,30 @@
+-- Queries whose stops are asked by name.
+use Rattle.std.specs.Prelude.{◌≡◌, ◌⊎◌, ℕ, ◌<◌, List}
+use Rattle.timetable.specs.Legal.{At}
+use Rattle.timetable.specs.NamesValue.{NamesValue}
+use Rattle.timetable.specs.Queries.{IsFirstFault}
+use Rattle.timetable.specs.declared.query.Query.{Query}
+use Rattle.timetable.specs.declared.query.QueryFault.{QueryFault}
+use Rattle.timetable.specs.declared.query.QueryFault.TheVariants.{UnknownStop, SameStop, BadWindow}
+use Rattle.image_layout.specs.Image.{ImageValue}
+use Rattle.journeys.specs.declared.question.Window.{Window}
+
+-- the least stop of a name
+abbrev pub IsNamed : NamesValue → List ℕ → ℕ → Type 0
+IsNamed names name stop = At names.stops stop name × ((k : ℕ) → k < stop → ¬ At names.stops k name)
+
+-- no stop has the name
+abbrev pub NamesNone : NamesValue → List ℕ → Type 0
+NamesNone names name = (k : ℕ) → ¬ At names.stops k name
+
+-- a query asks from the least stop of one name to the least of another, in the window
+pub record Asks (names : NamesValue) (from to : List ℕ) (window : Window) (q : Query) : Type 0 where
+  pub source : IsNamed names from q.source
+  pub target : IsNamed names to q.target
+  pub times : (q.from ≡ window.from) × (q.until ≡ window.until) × (q.by ≡ window.by)
+
+-- why no query is asked: a name is that of no stop, else what is wrong with the query
+abbrev pub IsRefused : ImageValue → List ℕ → List ℕ → Window → QueryFault → Type 0
+IsRefused image from to window UnknownStop = NamesNone image.names from ⊎ NamesNone image.names to
+IsRefused image from to window SameStop = (q : Query) × Asks image.names from to window q × IsFirstFault image.timetable.stops q SameStop
+IsRefused image from to window BadWindow = (q : Query) × Asks image.names from to window q × IsFirstFault image.timetable.stops q BadWindow

@@ -1,0 +1,53 @@
+//! Queries whose stops are asked by name.
+
+ghost use Rattle.std.specs.Prelude.{MatchResult};
+ghost use Rattle.timetable.specs.Queries.{IsAskable};
+ghost use Rattle.journeys.specs.Questions.{Asks, IsRefused};
+
+use image_verifier::Verified;
+use timetable::Query;
+use timetable::query::QueryFault;
+
+/// When one travels, in seconds after the base.
+#[derive(Clone, Copy, Debug, PartialEq, Eq)]
+pub struct Window {
+    /// The earliest departure.
+    pub from: u32,
+    /// The latest departure.
+    pub until: u32,
+    /// The latest arrival.
+    pub by: u32,
+}
+
+/// The query that asks, of an image, for journeys from the stop of one name to the stop of another. Where stops share a name, the
+/// least of them is meant. Names are compared byte by byte.
+///
+/// The error is `UnknownStop` where no stop has one of the names, else the first fault of the query.
+pub fn query_of(
+    image: &Verified,
+    from: &[u8],
+    to: &[u8],
+    window: Window,
+) -> Result<Query, QueryFault>
+    ensures { MatchResult result
+        (λ query. IsAskable image.now.timetable.stops query × Asks image.now.names from.now to.now window query)
+        (IsRefused image.now from.now to.now window) }
+{
+    let Some(source) = image.find(from) else {
+        return Err(QueryFault::UnknownStop);
+    };
+    let Some(target) = image.find(to) else {
+        return Err(QueryFault::UnknownStop);
+    };
+    let query = Query {
+        source,
+        target,
+        from: window.from,
+        until: window.until,
+        by: window.by,
+    };
+    match query.check(image.stops()) {
+        Ok(()) => Ok(query),
+        Err(fault) => Err(fault),
+    }
+}
