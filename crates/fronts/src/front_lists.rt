@@ -115,6 +115,7 @@ impl<C: Criterion> FrontLists<C> {
         ensures sound { IsSound C.rules self.new }
         ensures criterion { lists_criterion self.new ≡ lists_criterion self.old }
         ensures more_entries { Extends (entries_of self.old) (entries_of self.new) }
+        ensures grows { length (entries_of self.old) ≤ length (entries_of self.new) }
         ensures more_steps { Extends (steps_of self.old) (steps_of self.new) }
         ensures same { (place : ℕ) → place < length (entries_of self.old) → list_points self.new place ≡ list_points self.old place }
         ensures within { IfOk result (λ new. new < length (entries_of self.new)) }

@@ -1,7 +1,8 @@
 -- What a scan found, put in order, is the answer.
-use Rattle.std.proofs.Common.{◌≡◌, ◌∙◌, ◌<◌, ℕ, List, Option, None, AllPairs, Contains, get_or, sym, subst}
-use Rattle.std.proofs.lemmas.List.{get_or_default}
-use Rattle.criteria.specs.Laws.{Rules, Laws}
+use Rattle.std.proofs.Common.{◌≡◌, ◌∙◌, ◌<◌, ◌≤◌, ℕ, List, Option, None, AllPairs, Contains, length, map, get_or, inl, inr, ap, sym, subst, arith}
+use Rattle.std.proofs.lemmas.List.{get_or_default, length-map}
+use Rattle.std.proofs.Math.ListN.{get_or-map}
+use Rattle.criteria.specs.Laws.{Rules, Laws, NoWorse}
 use Rattle.bags.specs.Dominance.{IsBag}
 use Rattle.bags.specs.declared.point.Point.{Point}
 use Rattle.timetable.specs.TimetableValue.{TimetableValue}
@@ -10,9 +11,11 @@ use Rattle.sources.specs.FirstAt.{IsFirstAt}
 use Rattle.profile_scan.specs.Values.{journey_value}
 use Rattle.profile_scan.specs.Continuations.{CountsFrom}
 use Rattle.profile_scan.specs.Plain.{IsPlain}
-use Rattle.profile_scan.specs.Points.{Before}
+use Rattle.profile_scan.specs.Points.{Before, IsAnswer, untagged}
+use Rattle.timetable.specs.Journeys.{Counts}
 use Rattle.profile_scan.specs.Matching.{Matches}
-use Rattle.profile_scan.specs.Nodes.{spelling}
+use Rattle.profile_scan.specs.Story.{Story, told}
+use Rattle.profile_scan.specs.Telling.{IsJourneyTold, IsRetold}
 use Rattle.profile_scan.specs.Kept.{IsWay, AreWays}
 use Rattle.profile_scan.specs.Answered.{IsAnswered}
 use Rattle.profile_scan.specs.LawStatements.{CanScan}
@@ -26,20 +29,66 @@ way_at t target stop ways way are lt is =
     let within = subst (λ (n : ℕ). stop < n) (sym are.long) lt in
     subst (IsWay t target stop) (sym (is ∙ get_or_default ways stop way None within)) (are.each stop lt)
 
--- points that match at the start of the window, listed in order
-pub answered : {V : Type 0} (rules : Rules V) → Laws rules → (t : TimetableValue) (q : Query) → CanScan t q → (start : ℕ) → IsFirstAt t q.from start → (nodes : List Node) (found points : List (Point V)) (walk : Option ℕ)
-    → Matches rules (spelling nodes).journey (CountsFrom t q start) (IsPlain t q.target) (journey_value rules t) found → IsBag rules found
+-- points alike, tags aside
+retold_in : {V : Type 0} (old new : List (Point V)) → map untagged new ≡ map untagged old → (p : Point V) → Contains new p → (q : Point V) × Contains old q × (q.departure ≡ p.departure) × (q.value ≡ p.value)
+retold_in {V} old new same p h =
+    let k = h.0 in
+    let long = ap length same in
+    let old_long = length-map old untagged in
+    let new_long = length-map new untagged in
+    let q = get_or old k p in
+    let e : untagged q ≡ untagged p =
+    sym (get_or-map untagged old k p) ∙ ap (λ (xs : List (ℕ × V)). get_or xs k (untagged p)) (sym same) ∙ get_or-map untagged new k p ∙ ap untagged h.2 in
+    (q, (k, omega (arith, h.1), get_or_default old k q p (omega (arith, h.1))), ap (λ (x : ℕ × V). x.0) e, ap (λ (x : ℕ × V). x.1) e)
+
+retold_before : {V : Type 0} (rules : Rules V) (old new : List (Point V)) → map untagged new ≡ map untagged old → AllPairs (Before rules) old → AllPairs (Before rules) new
+retold_before {V} rules old new same pairs i j d lt within =
+    let long = ap length same in
+    let old_long = length-map old untagged in
+    let new_long = length-map new untagged in
+    let at : (k : ℕ) → untagged (get_or old k d) ≡ untagged (get_or new k d) = λ k. sym (get_or-map untagged old k d) ∙ ap (λ (xs : List (ℕ × V)). get_or xs k (untagged d)) (sym same) ∙ get_or-map untagged new k d in
+    alike (get_or old i d) (get_or old j d) (get_or new i d) (get_or new j d) (at i) (at j) (pairs i j d lt (omega arith))
+  where
+    alike : (p q r s : Point V) → untagged p ≡ untagged r → untagged q ≡ untagged s → Before rules p q → Before rules r s
+    alike p q r s e f (inl lt) = inl (subst (λ (n : ℕ). r.departure < n) (ap (λ (x : ℕ × V). x.0) f) (subst (λ (n : ℕ). n < q.departure) (ap (λ (x : ℕ × V). x.0) e) lt))
+    alike p q r s e f (inr (same_time, less)) = inr (
+      sym (ap (λ (x : ℕ × V). x.0) e) ∙ same_time ∙ ap (λ (x : ℕ × V). x.0) f,
+      ap (λ (v : V). rules.list_order v s.value) (sym (ap (λ (x : ℕ × V). x.1) e)) ∙ ap (rules.list_order p.value) (sym (ap (λ (x : ℕ × V). x.1) f)) ∙ less,
+    )
+
+retold_answer : {V : Type 0} (rules : Rules V) (t : TimetableValue) (q : Query) (old new : List (Point V)) → map untagged new ≡ map untagged old → IsAnswer rules t q old → IsAnswer rules t q new
+retold_answer {V} rules t q old new same is = record {
+  exactly = λ d v. (
+    (λ listed. let r = retold_in old new same listed.0 listed.1 in (is.exactly d v).0 (r.0, r.1, r.2 ∙ listed.2, r.3 ∙ listed.3)),
+    (λ undominated. let listed = (is.exactly d v).1 undominated in let r = retold_in new old (sym same) listed.0 listed.1 in (r.0, r.1, r.2 ∙ listed.2, r.3 ∙ listed.3)),
+  );
+  unbeaten = λ d v point.
+      let c = is.unbeaten d v point in
+      let r = retold_in new old (sym same) c.0 c.1 in
+      (r.0, r.1, subst (λ (n : ℕ). d ≤ n) (sym r.2) c.2, subst (λ (w : V). NoWorse rules w v) (sym r.3) c.3);
+  ordered = retold_before rules old new same is.ordered;
+}
+
+-- points that match at the start of the window, listed in order and told in nodes
+pub answered : {V : Type 0} (rules : Rules V) → Laws rules → (t : TimetableValue) (q : Query) → CanScan t q → (start : ℕ) → IsFirstAt t q.from start → (s : Story) (nodes : List Node) (found points retold : List (Point V)) (walk : Option ℕ)
+    → Matches rules (told t.footpaths s).journey (CountsFrom t q start) (IsPlain t q.target) (journey_value rules t) found → IsBag rules found
     → AllPairs (Before rules) points → ((p : Point V) → Contains points p → Contains found p) → ((p : Point V) → Contains found p → Contains points p)
-    → IsWay t q.target q.source walk → IsAnswered rules t q points nodes walk
-answered rules laws t q can start is_start nodes found points walk matches bag ordered only each way =
-    let tags = spelling nodes in
+    → map untagged retold ≡ map untagged points → ((p : Point V) → Contains retold p → IsRetold t.footpaths s points nodes p)
+    → IsWay t q.target q.source walk → IsAnswered rules t q retold nodes walk
+answered rules laws t q can start is_start s nodes found points retold walk matches bag ordered only each same says way =
+    let tags = told t.footpaths s in
     record {
-      answer = match_is_the_answer rules laws t q can start is_start tags points
+      answer = retold_answer rules t q points retold same (match_is_the_answer rules laws t q can start is_start tags points
           (listed_match rules tags.journey (CountsFrom t q start) (IsPlain t q.target) (journey_value rules t) found points only each matches)
           (listed_bag rules laws found points bag ordered only)
-          ordered;
+          ordered);
       attained = λ p h.
-          let a = matches.sound p (only p h) in
-          record { way = a.way; spells = a.spells; there = a.there.counts; plain = a.plain; worth = a.worth };
+          let r = says p h in
+          let a = matches.sound r.of (only r.of r.is_there) in
+          record { way = a.way; spells = r.says a.way a.spells; there = subst (λ (n : ℕ). Counts t q n a.way) (sym r.departs) a.there.counts; plain = a.plain; worth = r.worth ∙ a.worth };
       direct = way;
     }
+
+-- each point found is told
+pub journeys_told : {V : Type 0} (rules : Rules V) (t : TimetableValue) (q : Query) (start : ℕ) (s : Story) (found points : List (Point V)) → Matches rules (told t.footpaths s).journey (CountsFrom t q start) (IsPlain t q.target) (journey_value rules t) found → ((p : Point V) → Contains points p → Contains found p) → (p : Point V) → Contains points p → IsJourneyTold t.footpaths s p.tag
+journeys_told rules t q start s found points matches only p h = let a = matches.sound p (only p h) in (a.way, a.spells)

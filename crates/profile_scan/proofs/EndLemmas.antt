@@ -10,16 +10,16 @@ use Rattle.profile_scan.specs.Values.{started}
 use Rattle.profile_scan.specs.Points.{Covers}
 use Rattle.profile_scan.specs.Matching.{Spellings}
 use Rattle.profile_scan.specs.Steps.{TakesIn}
-use Rattle.profile_scan.specs.Nodes.{IsSpelled}
+use Rattle.profile_scan.specs.Story.{IsExit}
 use Rattle.profile_scan.specs.Adding.{one_way, endings, IsEnding}
-use Rattle.profile_scan.specs.declared.nodes.Node.TheVariants.{Ends}
+use Rattle.profile_scan.specs.declared.story.Exit.TheVariants.{Ends}
 use Rattle.profile_scan.proofs.Offers.{takes_as, start_admits}
 
 -- the one way to end is all that is offered
-pub takes_the_end : {V : Type 0} (rules : Rules V) (tags : Spellings) (last : ℕ) (c : Connection) (q : Query) (way : Option ℕ) (walk : Option Footpath) (value : V) (time : ℕ) (old new : List (Point V)) → IsEnding c q way walk → ((other : Option Footpath) → IsEnding c q way other → other ≡ walk) → value ≡ started rules walk (rules.arrive time) → time ≡ c.arr + start_secs walk → TakesIn rules (one_way 0 value (IsSpelled tags (Ends last walk))) old new → TakesIn rules (endings rules tags last c q way) old new
+pub takes_the_end : {V : Type 0} (rules : Rules V) (tags : Spellings) (last : ℕ) (c : Connection) (q : Query) (way : Option ℕ) (walk : Option Footpath) (value : V) (time : ℕ) (old new : List (Point V)) → IsEnding c q way walk → ((other : Option Footpath) → IsEnding c q way other → other ≡ walk) → value ≡ started rules walk (rules.arrive time) → time ≡ c.arr + start_secs walk → TakesIn rules (one_way 0 value (IsExit tags (Ends last walk))) old new → TakesIn rules (endings rules tags last c q way) old new
 takes_the_end rules tags last c q way walk value time old new ends only worth at takes =
     let worth_is = worth ∙ ap (λ (n : ℕ). started rules walk (rules.arrive n)) at in
-    takes_as rules (one_way 0 value (IsSpelled tags (Ends last walk))) (endings rules tags last c q way) old new
+    takes_as rules (one_way 0 value (IsExit tags (Ends last walk))) (endings rules tags last c q way) old new
     (λ _ _. record { there = walk; is_open = ends; departs = refl; worth = worth_is; fits = λ tag h. h })
     (λ other opened. subst (λ (w : Option Footpath). Covers rules new 0 (started rules w (rules.arrive (c.arr + start_secs w)))) (sym (only other opened)) (subst (Covers rules new 0) worth_is (takes.covered tt tt)))
     takes

@@ -4,28 +4,28 @@ use Rattle.std.proofs.lemmas.Bool.{cases_eq}
 use Rattle.std.proofs.lemmas.List.{length-replicate}
 use Rattle.bags.specs.Bag.{points_of}
 use Rattle.bags.specs.declared.bag.Bag.{Bag}
-use Rattle.profile_scan.specs.Kept.{points_at, labels_in, labels_at, used, ArePlaced}
+use Rattle.profile_scan.specs.Kept.{bag_points, labels_in, labels_at, used, ArePlaced}
 
 module _ {K V : Type 0} {c : _} where
-  pub points_at-read : (bags : List (Bag K V c)) (k : ℕ) (d : Bag K V c) → k < length bags → points_at bags k ≡ points_of (get_or bags k d)
-  unfolding points_at
-  points_at-read [] k d lt = absurd (omega arith)
-  points_at-read (bag ∷ bags) zero d lt = refl
-  points_at-read (bag ∷ bags) (suc k) d lt = points_at-read bags k d (omega arith)
+  pub bag_points-read : (bags : List (Bag K V c)) (k : ℕ) (d : Bag K V c) → k < length bags → bag_points bags k ≡ points_of (get_or bags k d)
+  unfolding bag_points
+  bag_points-read [] k d lt = absurd (omega arith)
+  bag_points-read (bag ∷ bags) zero d lt = refl
+  bag_points-read (bag ∷ bags) (suc k) d lt = bag_points-read bags k d (omega arith)
 
-  pub points_at-set : (bags : List (Bag K V c)) (k : ℕ) (bag : Bag K V c) → k < length bags → points_at (set bags k bag) k ≡ points_of bag
-  unfolding points_at
-  points_at-set [] k bag lt = absurd (omega arith)
-  points_at-set (b ∷ bags) zero bag lt = refl
-  points_at-set (b ∷ bags) (suc k) bag lt = points_at-set bags k bag (omega arith)
+  pub bag_points-set : (bags : List (Bag K V c)) (k : ℕ) (bag : Bag K V c) → k < length bags → bag_points (set bags k bag) k ≡ points_of bag
+  unfolding bag_points
+  bag_points-set [] k bag lt = absurd (omega arith)
+  bag_points-set (b ∷ bags) zero bag lt = refl
+  bag_points-set (b ∷ bags) (suc k) bag lt = bag_points-set bags k bag (omega arith)
 
-  pub points_at-set_other : (bags : List (Bag K V c)) (k j : ℕ) (bag : Bag K V c) → j ≢ k → points_at (set bags k bag) j ≡ points_at bags j
-  unfolding points_at
-  points_at-set_other [] k j bag other = refl
-  points_at-set_other (b ∷ bags) zero zero bag other = absurd (other refl)
-  points_at-set_other (b ∷ bags) zero (suc j) bag other = refl
-  points_at-set_other (b ∷ bags) (suc k) zero bag other = refl
-  points_at-set_other (b ∷ bags) (suc k) (suc j) bag other = points_at-set_other bags k j bag (λ e. other (ap suc e))
+  pub bag_points-set_other : (bags : List (Bag K V c)) (k j : ℕ) (bag : Bag K V c) → j ≢ k → bag_points (set bags k bag) j ≡ bag_points bags j
+  unfolding bag_points
+  bag_points-set_other [] k j bag other = refl
+  bag_points-set_other (b ∷ bags) zero zero bag other = absurd (other refl)
+  bag_points-set_other (b ∷ bags) zero (suc j) bag other = refl
+  bag_points-set_other (b ∷ bags) (suc k) zero bag other = refl
+  bag_points-set_other (b ∷ bags) (suc k) (suc j) bag other = bag_points-set_other bags k j bag (λ e. other (ap suc e))
 
 -- numbers of slots, one of them set
 module _ where
@@ -103,43 +103,43 @@ one_placed slots count trip placed lt none =
     }
 
 module _ {K V : Type 0} {c : _} where
-  pub points_at-push : (bags : List (Bag K V c)) (bag : Bag K V c) (k : ℕ) → k < length bags → points_at (bags ++ bag ∷ []) k ≡ points_at bags k
-  unfolding points_at
-  points_at-push [] bag k lt = absurd (omega arith)
-  points_at-push (b ∷ bags) bag zero lt = refl
-  points_at-push (b ∷ bags) bag (suc k) lt = points_at-push bags bag k (omega arith)
+  pub bag_points-push : (bags : List (Bag K V c)) (bag : Bag K V c) (k : ℕ) → k < length bags → bag_points (bags ++ bag ∷ []) k ≡ bag_points bags k
+  unfolding bag_points
+  bag_points-push [] bag k lt = absurd (omega arith)
+  bag_points-push (b ∷ bags) bag zero lt = refl
+  bag_points-push (b ∷ bags) bag (suc k) lt = bag_points-push bags bag k (omega arith)
 
-  pub points_at-last : (bags : List (Bag K V c)) (bag : Bag K V c) → points_at (bags ++ bag ∷ []) (length bags) ≡ points_of bag
-  unfolding points_at
-  points_at-last [] bag = refl
-  points_at-last (b ∷ bags) bag = points_at-last bags bag
+  pub bag_points-last : (bags : List (Bag K V c)) (bag : Bag K V c) → bag_points (bags ++ bag ∷ []) (length bags) ≡ points_of bag
+  unfolding bag_points
+  bag_points-last [] bag = refl
+  bag_points-last (b ∷ bags) bag = bag_points-last bags bag
 
-  pub points_at-nil : (bags : List (Bag K V c)) → bags ≡ [] → (k : ℕ) → points_at bags k ≡ []
-  unfolding points_at
-  points_at-nil [] e k = refl
-  points_at-nil (bag ∷ bags) e k = cc
+  pub bag_points-nil : (bags : List (Bag K V c)) → bags ≡ [] → (k : ℕ) → bag_points bags k ≡ []
+  unfolding bag_points
+  bag_points-nil [] e k = refl
+  bag_points-nil (bag ∷ bags) e k = cc
 
   -- empty bags have no points
-  pub points_at-empty : (bags : List (Bag K V c)) (bag : Bag K V c) → ((k : ℕ) → points_at bags k ≡ []) → points_of bag ≡ [] → (k : ℕ) → points_at (bags ++ bag ∷ []) k ≡ []
-  unfolding points_at
-  points_at-empty [] bag none empty zero = empty
-  points_at-empty [] bag none empty (suc k) = refl
-  points_at-empty (b ∷ bags) bag none empty zero = none zero
-  points_at-empty (b ∷ bags) bag none empty (suc k) = points_at-empty bags bag (λ j. none (suc j)) empty k
+  pub bag_points-empty : (bags : List (Bag K V c)) (bag : Bag K V c) → ((k : ℕ) → bag_points bags k ≡ []) → points_of bag ≡ [] → (k : ℕ) → bag_points (bags ++ bag ∷ []) k ≡ []
+  unfolding bag_points
+  bag_points-empty [] bag none empty zero = empty
+  bag_points-empty [] bag none empty (suc k) = refl
+  bag_points-empty (b ∷ bags) bag none empty zero = none zero
+  bag_points-empty (b ∷ bags) bag none empty (suc k) = bag_points-empty bags bag (λ j. none (suc j)) empty k
 
   -- a slot's number and the place below it
-  in_slot : (bags : List (Bag K V c)) (slot place : ℕ) → slot ≡ place + 1 → labels_in bags slot ≡ points_at bags place
+  in_slot : (bags : List (Bag K V c)) (slot place : ℕ) → slot ≡ place + 1 → labels_in bags slot ≡ bag_points bags place
   in_slot bags slot place e = let next : slot ≡ suc place = omega arith in ap (labels_in bags) next
 
   pub labels_read : (slots : List ℕ) (bags : List (Bag K V c)) (trip place : ℕ) (d : Bag K V c) → slice_index slots trip ≡ place + 1 → place < length bags → labels_at slots bags trip ≡ points_of (get_or bags place d)
-  labels_read slots bags trip place d e lt = in_slot bags (slice_index slots trip) place e ∙ points_at-read bags place d lt
+  labels_read slots bags trip place d e lt = in_slot bags (slice_index slots trip) place e ∙ bag_points-read bags place d lt
 
   pub labels_set : (slots : List ℕ) (bags : List (Bag K V c)) (trip place : ℕ) (bag : Bag K V c) → slice_index slots trip ≡ place + 1 → place < length bags → labels_at slots (set bags place bag) trip ≡ points_of bag
-  labels_set slots bags trip place bag e lt = in_slot (set bags place bag) (slice_index slots trip) place e ∙ points_at-set bags place bag lt
+  labels_set slots bags trip place bag e lt = in_slot (set bags place bag) (slice_index slots trip) place e ∙ bag_points-set bags place bag lt
 
   in_other_slot : (bags : List (Bag K V c)) (slot place : ℕ) (bag : Bag K V c) → slot ≢ place + 1 → labels_in (set bags place bag) slot ≡ labels_in bags slot
   in_other_slot bags zero place bag other = refl
-  in_other_slot bags (suc k) place bag other = points_at-set_other bags place k bag (λ e. other (omega arith))
+  in_other_slot bags (suc k) place bag other = bag_points-set_other bags place k bag (λ e. other (omega arith))
 
   pub labels_set_other : (slots : List ℕ) (bags : List (Bag K V c)) (trip k place : ℕ) (bag : Bag K V c) → ArePlaced slots (length bags) → slice_index slots trip ≡ place + 1 → k ≢ trip → labels_at slots (set bags place bag) k ≡ labels_at slots bags k
   labels_set_other slots bags trip k place bag placed e other =
@@ -148,14 +148,14 @@ module _ {K V : Type 0} {c : _} where
   -- a bag more, empty, for a trip that had none
   more_in : (bags : List (Bag K V c)) (bag : Bag K V c) (slot : ℕ) → slot ≤ length bags → labels_in (bags ++ bag ∷ []) slot ≡ labels_in bags slot
   more_in bags bag zero le = refl
-  more_in bags bag (suc k) le = points_at-push bags bag k (omega arith)
+  more_in bags bag (suc k) le = bag_points-push bags bag k (omega arith)
 
   pub labels_more : (slots : List ℕ) (bags : List (Bag K V c)) (trip : ℕ) (bag : Bag K V c) → ArePlaced slots (length bags) → trip < length slots → slice_index slots trip ≡ 0 → points_of bag ≡ [] → (k : ℕ) → labels_at (set slots trip (length bags + 1)) (bags ++ bag ∷ []) k ≡ labels_at slots bags k
   labels_more slots bags trip bag placed lt none empty k = elim (cases_eq k trip) [
     | inl e ↦
         let here : slice_index (set slots trip (length bags + 1)) k ≡ length bags + 1 = ap (slice_index (set slots trip (length bags + 1))) e ∙ get_or-set_same slots trip (length bags + 1) 0 lt in
         let was : slice_index slots k ≡ 0 = ap (slice_index slots) e ∙ none in
-        in_slot (bags ++ bag ∷ []) (slice_index (set slots trip (length bags + 1)) k) (length bags) here ∙ points_at-last bags bag ∙ empty ∙ sym (ap (labels_in bags) was)
+        in_slot (bags ++ bag ∷ []) (slice_index (set slots trip (length bags + 1)) k) (length bags) here ∙ bag_points-last bags bag ∙ empty ∙ sym (ap (labels_in bags) was)
     | inr other ↦
         let there : slice_index (set slots trip (length bags + 1)) k ≡ slice_index slots k = get_or-set_other slots trip k (length bags + 1) 0 other in
         ap (labels_in (bags ++ bag ∷ [])) there ∙ more_in bags bag (slice_index slots k) (placed.within k)

@@ -1,8 +1,12 @@
 pub mod Offers
 pub mod NodeLemmas
+pub mod StoryLemmas
 pub mod ChangeLemmas
 pub mod EndLemmas
 pub mod KeptLemmas
+pub mod StopLemmas
+pub mod RideLemmas
+pub mod TellingLemmas
 pub mod BoardLemmas
 pub mod LeaveLemmas
 pub mod WayLemmas

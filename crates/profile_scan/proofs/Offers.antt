@@ -108,7 +108,7 @@ inserted_under rules a b laws old new p fits stands e bag admitted is_stands is_
 stands_more : {X : Type 0} (points : List X) (n : ℕ) (y : X) → StandsBefore points n y → StandsBefore points (n + 1) y
 stands_more points n y s = (s.0, omega (arith, s.1), s.2)
 
-stands_split : {X : Type 0} (points : List X) (n : ℕ) (x y : X) → slice_get points n ≡ Some x → StandsBefore points (n + 1) y → StandsBefore points n y ⊎ (y ≡ x)
+pub stands_split : {X : Type 0} (points : List X) (n : ℕ) (x y : X) → slice_get points n ≡ Some x → StandsBefore points (n + 1) y → StandsBefore points n y ⊎ (y ≡ x)
 stands_split points n x y at s = elim (cases_lt s.0 n) [
   | inl lt ↦ inl (s.0, lt, s.2)
   | inr ge ↦

@@ -1,9 +1,10 @@
 -- What the vectors keep after a connection is a step from what they kept before.
-use Rattle.std.proofs.Common.{◌≡◌, ℕ, ◌+◌, ◌<◌, List, length, get_or, set, slice_index, sym, ◌∙◌, ap, subst, arith}
+use Rattle.std.proofs.Common.{◌≡◌, ◌≢◌, ℕ, ◌+◌, ◌<◌, List, [], length, Contains, Option, None, get_or, set, slice_index, refl, sym, ◌∙◌, ap, subst, arith}
 use Rattle.criteria.specs.Laws.{Rules}
 use Rattle.bags.specs.Bag.{points_of}
 use Rattle.bags.specs.declared.bag.Bag.{Bag}
 use Rattle.bags.specs.declared.point.Point.{Point}
+use Rattle.timetable.specs.declared.network.Connection.{Connection}
 use Rattle.timetable.specs.TimetableValue.{TimetableValue}
 use Rattle.timetable.specs.Journeys.{connection_at}
 use Rattle.timetable.specs.declared.query.Query.{Query}
@@ -11,18 +12,19 @@ use Rattle.profile_scan.specs.Values.{journey_value}
 use Rattle.profile_scan.specs.Continuations.{IsOnward, CountsFrom, onward_value, aboard_value}
 use Rattle.profile_scan.specs.Plain.{IsPlainOnward, IsPlainAboard, IsPlain}
 use Rattle.profile_scan.specs.Matching.{Spelling, Spellings, Keeps, from_to, ScanValue, Matches, MatchesFrom, IsLabelled}
-use Rattle.profile_scan.specs.Steps.{TakesIn, leavings, boardings, settings_out, IsStep}
-use Rattle.profile_scan.specs.Kept.{points_at, labels_at, ArePlaced, kept_by}
+use Rattle.profile_scan.specs.Steps.{TakesIn, Leaving, ends, ends_after, changes, MayLeave, leavings, boardings, settings_out, IsIdle, IsStep}
+use Rattle.profile_scan.specs.Kept.{labels_at, ArePlaced, IsWay}
+use Rattle.profile_scan.proofs.Offers.{takes_none}
 use Rattle.profile_scan.proofs.KeptLemmas.{labels_read, labels_set, labels_set_other}
 
 module _ {V : Type 0} (rules : Rules V) (t : TimetableValue) (q : Query) (tags : Spellings) (i : ℕ) where
-  pub step_holds : {K : Type 0} {c : _} (stops new_stops : List (Bag K V c)) (slots mid_slots : List ℕ) (bags mid_bags : List (Bag K V c)) (found new_found old new : Bag K V c) (place : ℕ) (between : Spelling) → Keeps tags.earlier between → Keeps between tags.later
+  pub step_holds : {K : Type 0} {c : _} (bag new_bag : ℕ → List (Point V)) (slots mid_slots : List ℕ) (bags mid_bags : List (Bag K V c)) (found new_found : List (Point V)) (old new : Bag K V c) (place : ℕ) (between : Spelling) → Keeps tags.earlier between → Keeps between tags.later
       → ((k : ℕ) → labels_at mid_slots mid_bags k ≡ labels_at slots bags k) → ArePlaced mid_slots (length mid_bags) → slice_index mid_slots (connection_at t i).trip ≡ place + 1 → old ≡ get_or mid_bags place old
-      → TakesIn rules (leavings rules t q (from_to tags.earlier between) i (points_at stops (connection_at t i).to)) (points_of old) (points_of new)
-      → ((stop : ℕ) → TakesIn rules (boardings rules t (from_to between tags.later) i stop (points_of new)) (points_at stops stop) (points_at new_stops stop))
-      → TakesIn rules (settings_out rules t q (from_to between tags.later) i (points_of new)) (points_of found) (points_of new_found)
-      → IsStep rules t q tags i (kept_by stops slots bags found) (kept_by new_stops mid_slots (set mid_bags place new) new_found)
-  step_holds stops new_stops slots mid_slots bags mid_bags found new_found old new place between kept_first kept_then same placed slot read leaves boards sets_out =
+      → TakesIn rules (leavings rules t q (from_to tags.earlier between) i (bag (connection_at t i).to)) (points_of old) (points_of new)
+      → ((stop : ℕ) → TakesIn rules (boardings rules t (from_to between tags.later) i stop (points_of new)) (bag stop) (new_bag stop))
+      → TakesIn rules (settings_out rules t q (from_to between tags.later) i (points_of new)) found new_found
+      → IsStep rules t q tags i (record { bag = bag; labels = labels_at slots bags; found = found }) (record { bag = new_bag; labels = labels_at mid_slots (set mid_bags place new); found = new_found })
+  step_holds bag new_bag slots mid_slots bags mid_bags found new_found old new place between kept_first kept_then same placed slot read leaves boards sets_out =
       let trip = (connection_at t i).trip in
       let in_slots = placed.within trip in
       let within : place < length mid_bags = omega arith in
@@ -33,11 +35,11 @@ module _ {V : Type 0} (rules : Rules V) (t : TimetableValue) (q : Query) (tags :
         kept_first = kept_first;
         kept_then = kept_then;
         leaves =
-            subst (λ (points : List (Point V)). TakesIn rules (leavings rules t q (from_to tags.earlier between) i (points_at stops (connection_at t i).to)) points (labels_at mid_slots (set mid_bags place new) trip)) old_is
-            (subst (λ (points : List (Point V)). TakesIn rules (leavings rules t q (from_to tags.earlier between) i (points_at stops (connection_at t i).to)) (points_of old) points) new_is leaves);
+            subst (λ (points : List (Point V)). TakesIn rules (leavings rules t q (from_to tags.earlier between) i (bag (connection_at t i).to)) points (labels_at mid_slots (set mid_bags place new) trip)) old_is
+            (subst (λ (points : List (Point V)). TakesIn rules (leavings rules t q (from_to tags.earlier between) i (bag (connection_at t i).to)) (points_of old) points) new_is leaves);
         other_trips = λ k other. labels_set_other mid_slots mid_bags trip k place new placed slot other ∙ same k;
-        boards = λ stop lt. subst (λ (points : List (Point V)). TakesIn rules (boardings rules t (from_to between tags.later) i stop points) (points_at stops stop) (points_at new_stops stop)) new_is (boards stop);
-        sets_out = subst (λ (points : List (Point V)). TakesIn rules (settings_out rules t q (from_to between tags.later) i points) (points_of found) (points_of new_found)) new_is sets_out;
+        boards = λ stop lt. subst (λ (points : List (Point V)). TakesIn rules (boardings rules t (from_to between tags.later) i stop points) (bag stop) (new_bag stop)) new_is (boards stop);
+        sets_out = subst (λ (points : List (Point V)). TakesIn rules (settings_out rules t q (from_to between tags.later) i points) found new_found) new_is sets_out;
       }
 
 -- what is kept alike matches alike
@@ -48,3 +50,34 @@ module _ {V : Type 0} (rules : Rules V) (t : TimetableValue) (q : Query) (tags :
     in_trips = λ trip lt. subst (λ (points : List (Point V)). Matches rules tags.aboard (IsLabelled t q i trip) (IsPlainAboard t q.target) (aboard_value rules t) points) (sym (labels trip)) (m.in_trips trip lt);
     at_source = subst (λ (points : List (Point V)). Matches rules tags.journey (CountsFrom t q i) (IsPlain t q.target) (journey_value rules t) points) (sym found) m.at_source;
   }
+
+keeps_none : (a : Spelling) → Keeps a a
+keeps_none a = record { onward = λ tag x e. e; aboard = λ tag x e. e; journey = λ tag j e. e }
+
+none_in : {X : Type 0} (xs : List X) → xs ≡ [] → (x : X) → Contains xs x → ⊥
+none_in xs e x h = let long = ap length e in omega (arith, h.1, long)
+
+no_leave : {V : Type 0} (t : TimetableValue) (q : Query) (i : ℕ) (bag : List (Point V)) (way : Option ℕ) → IsWay t q.target (connection_at t i).to way → ((connection_at t i).to ≢ q.target) × (way ≡ None) × (bag ≡ []) → (leaving : Leaving V) → MayLeave t q i bag leaving → ⊥
+no_leave t q i bag way is none ends may = none.0 may.0
+no_leave t q i bag way is none (ends_after f) may = subst (IsWay t q.target (connection_at t i).to) none.1 is f may.0 may.1 may.2
+no_leave t q i bag way is none (changes p) may = none_in bag none.2 p may.0
+
+-- where nothing is offered, all stays
+step_idle : {V : Type 0} (rules : Rules V) (t : TimetableValue) (q : Query) (a : Spelling) (i : ℕ) (scan : ScanValue V) (way : Option ℕ) → IsWay t q.target (connection_at t i).to way → IsIdle q (connection_at t i) way (scan.labels (connection_at t i).trip) (scan.bag (connection_at t i).to) → IsStep rules t q (from_to a a) i scan scan
+step_idle rules t q a i scan way is idle =
+    let trip = (connection_at t i).trip in
+    let stop = (connection_at t i).to in
+    record {
+      between = a;
+      kept_first = keeps_none a;
+      kept_then = keeps_none a;
+      leaves = takes_none rules (leavings rules t q (from_to a a) i (scan.bag stop)) (scan.labels trip) (λ leaving opened. no_leave t q i (scan.bag stop) way is (idle.ends_here opened.0) leaving opened.1);
+      other_trips = λ k other. refl;
+      boards = λ k lt. takes_none rules (boardings rules t (from_to a a) i k (scan.labels trip)) (scan.bag k) (λ boarding opened. none_in (scan.labels trip) idle.no_labels boarding.label opened.is_label);
+      sets_out = takes_none rules (settings_out rules t q (from_to a a) i (scan.labels trip)) scan.found (λ out opened. none_in (scan.labels trip) idle.no_labels out.label opened.is_label);
+    }
+
+-- the same, of the connection by another name
+pub step_idle_at : {V : Type 0} (rules : Rules V) (t : TimetableValue) (q : Query) (a : Spelling) (i : ℕ) (scan : ScanValue V) (way : Option ℕ) (c : Connection) → c ≡ connection_at t i → IsWay t q.target c.to way → IsIdle q c way (scan.labels c.trip) (scan.bag c.to) → IsStep rules t q (from_to a a) i scan scan
+step_idle_at rules t q a i scan way c e is idle =
+    step_idle rules t q a i scan way (subst (λ (x : Connection). IsWay t q.target x.to way) e is) (subst (λ (x : Connection). IsIdle q x way (scan.labels x.trip) (scan.bag x.to)) e idle)

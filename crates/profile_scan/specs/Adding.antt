@@ -11,12 +11,18 @@ use Rattle.profile_scan.specs.Values.{started}
 use Rattle.profile_scan.specs.Continuations.{Onward, Aboard}
 use Rattle.profile_scan.specs.Matching.{Spellings, from_to}
 use Rattle.profile_scan.specs.Steps.{Offer, TakesIn, boarded}
-use Rattle.profile_scan.specs.Nodes.{Extends, spelling, walk_of}
-use Rattle.profile_scan.specs.declared.nodes.Node.{Node}
+use Rattle.profile_scan.specs.Nodes.{walk_of}
+use Rattle.profile_scan.specs.Story.{Story, Grows, told}
+use Rattle.profile_scan.specs.declared.story.SetOut.{SetOut}
+use Rattle.fronts.specs.declared.entry.Ridden.{Ridden}
 
 -- one way, which is open
 abbrev pub one_way : {V : Type 0} → ℕ → V → (ℕ → Type 0) → Offer (Unit {0}) V
 one_way departure value fits = record { is_open = λ _. Unit {0}; departure = λ _. departure; value = λ _. value; fits_tag = λ _. fits }
+
+-- one way to set out
+abbrev pub set_out_way : {V : Type 0} → Spellings → ℕ → V → SetOut → Offer (Unit {0}) V
+set_out_way tags departure value s = one_way departure value (λ tag. (x : Aboard) → tags.earlier.aboard s.label ≡ Some x → tags.later.journey tag ≡ Some (record { start = s.start; rides = boarded s.first x }))
 
 -- each way that some element offers
 abbrev pub each_of : {X A V : Type 0} → (X → Type 0) → (X → Offer A V) → Offer (X × A) V
@@ -27,11 +33,11 @@ each_of There offer = record {
   fits_tag = λ way. (offer way.0).fits_tag way.1;
 }
 
--- a list takes an offer in while nodes come to be kept: whichever of the nodes before it one asks, and whatever nodes are still to come
-abbrev pub Takes : {A V : Type 0} → Rules V → List Node → List Node → (Spellings → Offer A V) → List (Point V) → List (Point V) → Type 0
-Takes rules was now offer old new =
-    (before all : List Node) → Extends before was → Extends now all
-    → TakesIn rules (offer (from_to (spelling before) (spelling all))) old new
+-- a list takes an offer in while a story is written on: whichever beginning of it one asks, and whatever is still to come
+abbrev pub Takes : {A V : Type 0} → Rules V → List Footpath → Story → Story → (Spellings → Offer A V) → List (Point V) → List (Point V) → Type 0
+Takes rules walks was now offer old new =
+    (before all : Story) → Grows before was → Grows now all
+    → TakesIn rules (offer (from_to (told walks before) (told walks all))) old new
 
 -- an element stands at a place below n
 abbrev pub StandsBefore : {X : Type 0} → List X → ℕ → X → Type 0
@@ -58,6 +64,11 @@ settings_out_after rules tags i departure start labels = record {
   value = λ label. started rules start (rules.ride label.value);
   fits_tag = λ label tag. (x : Aboard) → tags.earlier.aboard label.tag ≡ Some x → tags.later.journey tag ≡ Some (record { start = start; rides = boarded i x });
 }
+
+-- values are those of labels after the ride, each with the number of its label
+pub record AreRidden {V : Type 0} (rules : Rules V) (labels : List (Point V)) (ridden : List (Ridden V)) : Type 0 where
+  pub of_label : (r : Ridden V) → Contains ridden r → (l : Point V) × Contains labels l × (r.value ≡ rules.ride l.value) × (r.label ≡ l.tag)
+  pub each : (l : Point V) → Contains labels l → (r : Ridden V) × Contains ridden r × (r.value ≡ rules.ride l.value)
 
 -- labels are offered each point of a bag that departs at a time or later, the trip being left at place i
 abbrev pub changes_from : {V : Type 0} → Spellings → ℕ → ℕ → List (Point V) → Offer (Point V) V

@@ -1,22 +1,38 @@
 -- What the vectors of a scan keep for each stop and each trip.
-use Rattle.std.specs.Prelude.{◌≡◌, ◌≢◌, ℕ, zero, suc, ◌+◌, ◌<◌, ◌≤◌, min, List, [], ◌∷◌, length, Contains, slice_index, slice_index_or, Option, Some, None}
-use Rattle.bags.specs.Bag.{points_of}
+use Rattle.std.specs.Prelude.{◌≡◌, ◌≢◌, ℕ, zero, suc, ◌+◌, ◌<◌, ◌≤◌, min, List, [], ◌∷◌, length, vec_len, All, Contains, slice_index, slice_index_or, Option, Some, None}
+use Rattle.bags.specs.Bag.{criterion_of, points_of}
 use Rattle.bags.specs.declared.bag.Bag.{Bag}
 use Rattle.bags.specs.declared.point.Point.{Point}
 use Rattle.timetable.specs.declared.network.Footpath.{Footpath}
 use Rattle.timetable.specs.TimetableValue.{TimetableValue}
+use Rattle.criteria.specs.Laws.{Rules}
+use Rattle.fronts.specs.Lists.{IsSound, lists_criterion, entries_of, steps_of, list_points}
 use Rattle.profile_scan.specs.Matching.{ScanValue}
+use Rattle.profile_scan.specs.Story.{Story, story}
+use Rattle.profile_scan.specs.declared.stops.Stops.{Stops}
+use Rattle.profile_scan.specs.declared.scan.Scan.{Scan}
+
+-- the points of a stop's list
+abbrev pub points_at : {K V : Type 0} → Stops K V → ℕ → List (Point V)
+points_at stops stop = list_points stops.lists (slice_index stops.heads.items stop)
+
+-- so many lists under a criterion
+pub record AreStops {K V : Type 0} (rules_of : K → Rules V) (criterion : K) (count : ℕ) (stops : Stops K V) : Type 0 where
+  pub under : lists_criterion stops.lists ≡ criterion
+  pub sound : IsSound rules_of stops.lists
+  pub long : vec_len stops.heads ≡ count
+  pub within : (stop : ℕ) → slice_index stops.heads.items stop < length (entries_of stops.lists)
 
 -- the points of the bag at a place, none past the last
-unfoldable pub points_at : {K V : Type 0} {c : _} → List (Bag K V c) → ℕ → List (Point V)
-points_at [] k = []
-points_at (bag ∷ bags) zero = points_of bag
-points_at (bag ∷ bags) (suc k) = points_at bags k
+unfoldable pub bag_points : {K V : Type 0} {c : _} → List (Bag K V c) → ℕ → List (Point V)
+bag_points [] k = []
+bag_points (bag ∷ bags) zero = points_of bag
+bag_points (bag ∷ bags) (suc k) = bag_points bags k
 
 -- the labels of a trip, by the number of its slot: none at 0, else the bag one place below it
 abbrev pub labels_in : {K V : Type 0} {c : _} → List (Bag K V c) → ℕ → List (Point V)
 labels_in bags zero = []
-labels_in bags (suc k) = points_at bags k
+labels_in bags (suc k) = bag_points bags k
 
 abbrev pub labels_at : {K V : Type 0} {c : _} → List ℕ → List (Bag K V c) → ℕ → List (Point V)
 labels_at slots bags trip = labels_in bags (slice_index slots trip)
@@ -43,6 +59,18 @@ pub record AreWays (t : TimetableValue) (target : ℕ) (ways : List (Option ℕ)
   pub long : length ways ≡ t.stops
   pub each : (stop : ℕ) → stop < t.stops → IsWay t target stop (slice_index_or ways stop None)
 
--- what a scan keeps, as its vectors have it
-abbrev pub kept_by : {K V : Type 0} {c : _} → List (Bag K V c) → List ℕ → List (Bag K V c) → Bag K V c → ScanValue V
-kept_by stops slots labels found = record { bag = points_at stops; labels = labels_at slots labels; found = points_of found }
+-- what a scan keeps, as its parts have it
+abbrev pub kept_by : {K V : Type 0} {c : _} → Scan K V c → ScanValue V
+kept_by scan = record { bag = points_at scan.stops; labels = labels_at scan.labels.slots.items scan.labels.bags.items; found = points_of scan.found }
+
+-- what it has written down
+abbrev pub story_of : {K V : Type 0} {c : _} → Scan K V c → Story
+story_of scan = story scan.exits.items (steps_of scan.stops.lists) scan.set_outs.items
+
+-- a scan over so many stops and trips, under a criterion
+pub record IsScan {K V : Type 0} {c : _} (rules_of : K → Rules V) (criterion : K) (stops trips : ℕ) (scan : Scan K V c) : Type 0 where
+  pub at_stops : AreStops rules_of criterion stops scan.stops
+  pub long : length scan.labels.slots.items ≡ trips
+  pub placed : ArePlaced scan.labels.slots.items (length scan.labels.bags.items)
+  pub labels : All (λ bag. criterion_of bag ≡ criterion) scan.labels.bags.items
+  pub found : criterion_of scan.found ≡ criterion

@@ -7,8 +7,10 @@ pub mod Matching
 pub mod Steps
 pub mod LawStatements
 pub mod Nodes
+pub mod Story
 pub mod Adding
 pub mod Kept
+pub mod Telling
 pub mod Answered
 pub mod Found
 pub mod WrongSteps

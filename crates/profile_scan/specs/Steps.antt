@@ -1,7 +1,8 @@
 -- What one connection adds to what a scan keeps.
-use Rattle.std.specs.Prelude.{◌≡◌, ◌≢◌, ◌⊎◌, ℕ, ◌+◌, ◌-◌, ◌<◌, ◌≤◌, true, List, [], ◌∷◌, Contains, Option, Some}
+use Rattle.std.specs.Prelude.{◌≡◌, ◌≢◌, ◌⊎◌, ℕ, ◌+◌, ◌-◌, ◌<◌, ◌≤◌, true, List, [], ◌∷◌, Contains, Option, Some, None}
 use Rattle.criteria.specs.Laws.{Rules, Admits}
 use Rattle.bags.specs.declared.point.Point.{Point}
+use Rattle.timetable.specs.declared.network.Connection.{Connection}
 use Rattle.timetable.specs.declared.network.Footpath.{Footpath}
 use Rattle.timetable.specs.TimetableValue.{TimetableValue}
 use Rattle.timetable.specs.JourneyValue.{RideValue}
@@ -132,3 +133,8 @@ pub record IsStep {V : Type 0} (rules : Rules V) (t : TimetableValue) (q : Query
   pub other_trips : (trip : ℕ) → trip ≢ (connection_at t i).trip → new.labels trip ≡ old.labels trip
   pub boards : (stop : ℕ) → stop < t.stops → TakesIn rules (boardings rules t (from_to between tags.later) i stop (new.labels (connection_at t i).trip)) (old.bag stop) (new.bag stop)
   pub sets_out : TakesIn rules (settings_out rules t q (from_to between tags.later) i (new.labels (connection_at t i).trip)) old.found new.found
+
+-- where nothing is offered at a connection: its trip has no labels, and who gets off can neither be at the target nor go on, by foot or by a point of the stop's bag
+pub record IsIdle {V : Type 0} (q : Query) (c : Connection) (way : Option ℕ) (labels bag : List (Point V)) : Type 0 where
+  pub no_labels : labels ≡ []
+  pub ends_here : c.alight ≡ true → (c.to ≢ q.target) × (way ≡ None) × (bag ≡ [])

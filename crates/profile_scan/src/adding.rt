@@ -1,35 +1,62 @@
-//! Points taken into a bag, each with a node that tells how one goes on from it.
+//! Points taken into a bag, each with what tells how one goes on from it.
 
-ghost use Rattle.std.specs.Prelude.{◌≡◌, OnOk};
+ghost use Rattle.std.specs.Prelude.{◌≡◌, List, OnOk, IfOk};
 ghost use Rattle.criteria.specs.Laws.{Admits};
 ghost use Rattle.bags.specs.Bag.{criterion_of, points_of};
-ghost use Rattle.profile_scan.specs.Nodes.{Extends, IsSpelled};
-ghost use Rattle.profile_scan.specs.Adding.{Takes, one_way};
+ghost use Rattle.timetable.specs.declared.network.Footpath.{Footpath};
+ghost use Rattle.fronts.specs.declared.entry.Step.{Step};
+ghost use Rattle.fronts.specs.Front.{Extends};
+ghost use Rattle.profile_scan.specs.Story.{story, IsExit};
+ghost use Rattle.profile_scan.specs.Adding.{Takes, one_way, set_out_way};
+ghost use Rattle.profile_scan.specs.declared.story.Exit.{Exit};
+ghost use Rattle.profile_scan.specs.declared.story.SetOut.{SetOut};
 
-use crate::nodes::Node;
+use crate::story::{Exit, SetOut};
 use bags::Bag;
 use criteria::Criterion;
 use std::alloc::AllocError;
 
-/// Offers one point to a bag. Its tag is the number of its node, which is kept where the point stands.
-pub fn add<C: Criterion>(
+/// Offers labels one value. Its tag is the number of its exit, which is kept where the point stands.
+pub fn add_label<C: Criterion>(
     criterion: &C,
-    bag: &mut Bag<C>,
-    nodes: &mut Vec<Node>,
+    labels: &mut Bag<C>,
+    exits: &mut Vec<Exit>,
+    value: C::V,
+    exit: Exit,
+) -> Result<(), AllocError>
+    requires same { criterion_of labels.old ≡ criterion.now }
+    requires admitted { Admits (C.rules criterion.now) value }
+    ensures same { criterion_of labels.new ≡ criterion.now }
+    ensures exits { Extends exits.old.items exits.new.items }
+    ensures takes { OnOk result ((walks : List Footpath) (steps : List Step) (set_outs : List SetOut) → Takes (C.rules criterion.now) walks (story exits.old.items steps set_outs) (story exits.new.items steps set_outs) (λ tags. one_way 0 value (IsExit tags exit)) (points_of labels.old) (points_of labels.new)) }
+{
+    let tag = exits.len();
+    let stands = labels.insert(0, value, tag)?;
+    if stands {
+        exits.push(exit)?;
+    }
+    Ok(())
+}
+
+/// Offers the points found one point. Its tag is the number of what tells how one sets out, which is kept where the point stands.
+pub fn add_found<C: Criterion>(
+    criterion: &C,
+    found: &mut Bag<C>,
+    set_outs: &mut Vec<SetOut>,
     departure: u32,
     value: C::V,
-    node: Node,
+    set_out: SetOut,
 ) -> Result<(), AllocError>
-    requires same { criterion_of bag.old ≡ criterion.now }
+    requires same { criterion_of found.old ≡ criterion.now }
     requires admitted { Admits (C.rules criterion.now) value }
-    ensures same { criterion_of bag.new ≡ criterion.now }
-    ensures nodes { Extends nodes.old.items nodes.new.items }
-    ensures takes { OnOk result (Takes (C.rules criterion.now) nodes.old.items nodes.new.items (λ tags. one_way departure value (IsSpelled tags node)) (points_of bag.old) (points_of bag.new)) }
+    ensures same { criterion_of found.new ≡ criterion.now }
+    ensures set_outs { Extends set_outs.old.items set_outs.new.items }
+    ensures takes { OnOk result ((walks : List Footpath) (exits : List Exit) (steps : List Step) → Takes (C.rules criterion.now) walks (story exits steps set_outs.old.items) (story exits steps set_outs.new.items) (λ tags. set_out_way tags departure value set_out) (points_of found.old) (points_of found.new)) }
 {
-    let tag = nodes.len();
-    let stands = bag.insert(departure, value, tag)?;
+    let tag = set_outs.len();
+    let stands = found.insert(departure, value, tag)?;
     if stands {
-        nodes.push(node)?;
+        set_outs.push(set_out)?;
     }
     Ok(())
 }

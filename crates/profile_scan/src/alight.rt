@@ -1,43 +1,52 @@
 //! Leaving a trip where a connection ends: at the target, one footpath before it, or to change.
 
-ghost use Rattle.std.specs.Prelude.{◌≡◌, ◌+◌, ◌≤◌, true, OnOk, IfSome, MatchOption, Option};
+ghost use Rattle.std.specs.Prelude.{◌≡◌, ◌+◌, ◌<◌, ◌≤◌, true, List, OnOk, IfSome, MatchOption, Option, length};
 ghost use Rattle.criteria.specs.Laws.{IsTime, IsSecs};
 ghost use Rattle.timetable.specs.declared.network.Footpath.{Footpath};
 ghost use Rattle.timetable.specs.Journeys.{start_secs};
 ghost use Rattle.bags.specs.Bag.{criterion_of, points_of};
 ghost use Rattle.profile_scan.specs.Values.{started};
-ghost use Rattle.profile_scan.specs.Nodes.{Extends};
+ghost use Rattle.fronts.specs.declared.entry.Step.{Step};
+ghost use Rattle.fronts.specs.Front.{Extends};
+ghost use Rattle.fronts.specs.Lists.{IsSound, lists_criterion, entries_of, list_points};
+ghost use Rattle.profile_scan.specs.Story.{story};
+ghost use Rattle.profile_scan.specs.declared.story.SetOut.{SetOut};
 ghost use Rattle.profile_scan.specs.Adding.{Takes, only_if, changes_from, endings, endings_and_changes, IsEnding};
 
-use crate::adding::add;
-use crate::nodes::Node;
+use crate::adding::add_label;
+use crate::story::Exit;
 use bags::Bag;
 use criteria::Criterion;
+use fronts::FrontLists;
 use std::alloc::AllocError;
 use timetable::{Connection, Footpath, Query};
 
-/// Offers labels each point of a bag that departs at a time or later. The best of them are enough.
+/// Offers labels each point of a list that departs at a time or later. The front from that time on is enough.
 pub fn change<C: Criterion>(
     criterion: &C,
     labels: &mut Bag<C>,
-    nodes: &mut Vec<Node>,
-    bag: &Bag<C>,
+    exits: &mut Vec<Exit>,
+    lists: &FrontLists<C>,
+    head: u32,
     time: u32,
     last: u32,
 ) -> Result<(), AllocError>
     requires labels { criterion_of labels.old ≡ criterion.now }
-    requires bag { criterion_of bag.now ≡ criterion.now }
+    requires under { lists_criterion lists.now ≡ criterion.now }
+    requires sound { IsSound C.rules lists.now }
+    requires head { head < length (entries_of lists.now) }
     ensures same { criterion_of labels.new ≡ criterion.now }
-    ensures nodes { Extends nodes.old.items nodes.new.items }
-    ensures takes { OnOk result (Takes (C.rules criterion.now) nodes.old.items nodes.new.items (λ tags. changes_from tags last time (points_of bag.now)) (points_of labels.old) (points_of labels.new)) }
+    ensures exits { Extends exits.old.items exits.new.items }
+    ensures takes { OnOk result ((walks : List Footpath) (steps : List Step) (set_outs : List SetOut) → Takes (C.rules criterion.now) walks (story exits.old.items steps set_outs) (story exits.new.items steps set_outs) (λ tags. changes_from tags last time (list_points lists.now head)) (points_of labels.old) (points_of labels.new)) }
 {
-    for place in bag.best_from(time) {
-        let point = bag.point(place);
-        let node = Node::Changes {
+    let place = lists.front_from(head, time);
+    for k in 0..lists.front_len(place) {
+        let point = lists.front_point(place, k);
+        let exit = Exit::Changes {
             last,
-            next: point.tag,
+            step: point.tag,
         };
-        add(criterion, labels, nodes, 0, point.value, node)?;
+        add_label(criterion, labels, exits, point.value, exit)?;
     }
     Ok(())
 }
@@ -104,30 +113,30 @@ pub fn end<C: Criterion>(
     connection: &Connection,
     last: u32,
     labels: &mut Bag<C>,
-    nodes: &mut Vec<Node>,
+    exits: &mut Vec<Exit>,
 ) -> Result<(), AllocError>
     requires arrival { IsTime connection.now.arr }
     requires by { IsTime query.now.by }
     requires secs { IfSome way (λ secs. IsSecs secs) }
     requires labels { criterion_of labels.old ≡ criterion.now }
     ensures same { criterion_of labels.new ≡ criterion.now }
-    ensures nodes { Extends nodes.old.items nodes.new.items }
-    ensures takes { OnOk result (Takes (C.rules criterion.now) nodes.old.items nodes.new.items (λ tags. endings (C.rules criterion.now) tags last connection.now query.now way) (points_of labels.old) (points_of labels.new)) }
+    ensures exits { Extends exits.old.items exits.new.items }
+    ensures takes { OnOk result ((walks : List Footpath) (steps : List Step) (set_outs : List SetOut) → Takes (C.rules criterion.now) walks (story exits.old.items steps set_outs) (story exits.new.items steps set_outs) (λ tags. endings (C.rules criterion.now) tags last connection.now query.now way) (points_of labels.old) (points_of labels.new)) }
 {
     match end_of(connection, query, way) {
         None => Ok(()),
         Some(end) => {
             let value = value_at_end(criterion, end.walk, end.time);
-            let node = Node::Ends {
+            let exit = Exit::Ends {
                 last,
                 walk: end.walk,
             };
-            add(criterion, labels, nodes, 0, value, node)
+            add_label(criterion, labels, exits, value, exit)
         }
     }
 }
 
-/// Leaves a trip where a connection ends, if passengers may get off there: offers its labels the end, and the changes by the bag of
+/// Leaves a trip where a connection ends, if passengers may get off there: offers its labels the end, and the changes by the list of
 /// that stop.
 pub fn alight<C: Criterion>(
     criterion: &C,
@@ -136,22 +145,25 @@ pub fn alight<C: Criterion>(
     connection: &Connection,
     last: u32,
     labels: &mut Bag<C>,
-    nodes: &mut Vec<Node>,
-    bag: &Bag<C>,
+    exits: &mut Vec<Exit>,
+    lists: &FrontLists<C>,
+    head: u32,
 ) -> Result<(), AllocError>
     requires arrival { IsTime connection.now.arr }
     requires by { IsTime query.now.by }
     requires secs { IfSome way (λ secs. IsSecs secs) }
     requires labels { criterion_of labels.old ≡ criterion.now }
-    requires bag { criterion_of bag.now ≡ criterion.now }
+    requires under { lists_criterion lists.now ≡ criterion.now }
+    requires sound { IsSound C.rules lists.now }
+    requires head { head < length (entries_of lists.now) }
     ensures same { criterion_of labels.new ≡ criterion.now }
-    ensures nodes { Extends nodes.old.items nodes.new.items }
-    ensures takes { OnOk result (Takes (C.rules criterion.now) nodes.old.items nodes.new.items (λ tags. only_if (connection.now.alight ≡ true) (endings_and_changes (C.rules criterion.now) tags last connection.now query.now way (points_of bag.now))) (points_of labels.old) (points_of labels.new)) }
+    ensures exits { Extends exits.old.items exits.new.items }
+    ensures takes { OnOk result ((walks : List Footpath) (steps : List Step) (set_outs : List SetOut) → Takes (C.rules criterion.now) walks (story exits.old.items steps set_outs) (story exits.new.items steps set_outs) (λ tags. only_if (connection.now.alight ≡ true) (endings_and_changes (C.rules criterion.now) tags last connection.now query.now way (list_points lists.now head))) (points_of labels.old) (points_of labels.new)) }
 {
     if !connection.alight {
         return Ok(());
     }
-    end(criterion, query, way, connection, last, labels, nodes)?;
-    change(criterion, labels, nodes, bag, connection.arr, last)?;
+    end(criterion, query, way, connection, last, labels, exits)?;
+    change(criterion, labels, exits, lists, head, connection.arr, last)?;
     Ok(())
 }

@@ -7,6 +7,7 @@ ghost use Rattle.profile_scan.specs.Found.{Answers};
 
 use crate::found::{Found, in_order};
 use crate::scan::scan_window;
+use crate::telling::tell_journeys;
 use crate::ways::ways_to;
 use criteria::Criterion;
 use sources::ConnSource;
@@ -40,12 +41,13 @@ pub fn profile<S: ConnSource, C: Criterion>(
     let start = source.first_at(query.from);
     let end = source.first_at(query.by);
     let ways = ways_to(alloc, source, query.target)?;
-    let scanned = scan_window(alloc, source, criterion, query, &ways, start, end)?;
-    let points = in_order(alloc, criterion, &scanned.found)?;
+    let scan = scan_window(alloc, source, criterion, query, &ways, start, end)?;
+    let points = in_order(alloc, criterion, &scan.found)?;
+    let told = tell_journeys(alloc, source, &scan, &points)?;
     Ok(Found {
         criterion: *criterion,
-        points,
-        nodes: scanned.nodes,
+        points: told.points,
+        nodes: told.nodes,
         walk: ways[query.source as usize],
         timetable: timetable_of(source),
         query: Kept::of(query),

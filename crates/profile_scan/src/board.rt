@@ -1,52 +1,60 @@
 //! Boarding a connection: who walks to it in time goes on as the labels of its trip say.
 
-ghost use Rattle.std.specs.Prelude.{◌≡◌, ◌-◌, ◌≤◌, ◌<◌, ℕ, OnOk, IfSome, MatchOption, All, length, vec_len};
+ghost use Rattle.std.specs.Prelude.{◌≡◌, ◌-◌, ◌≤◌, ◌<◌, ℕ, List, OnOk, IfOk, IfSome, MatchOption, Contains, slice_get, Some, length, vec_len};
 ghost use Rattle.criteria.specs.Laws.{Admits, IsSecs};
 ghost use Rattle.bags.specs.Bag.{criterion_of, points_of};
 ghost use Rattle.timetable.specs.declared.network.Footpath.{Footpath};
 ghost use Rattle.timetable.specs.Legal.{At};
 ghost use Rattle.timetable.specs.Journeys.{connection_at, start_secs};
 ghost use Rattle.profile_scan.specs.Values.{started};
-ghost use Rattle.profile_scan.specs.Nodes.{Extends};
-ghost use Rattle.profile_scan.specs.Adding.{Takes, only_if, each_of, boardings_after, settings_out_after, MayStart, StandsBetween, IsTried, boardings_by, settings_out_by};
+ghost use Rattle.fronts.specs.declared.entry.Step.{Step};
+ghost use Rattle.fronts.specs.Front.{Extends};
+ghost use Rattle.fronts.specs.Lists.{steps_of};
+ghost use Rattle.profile_scan.specs.Story.{Grows, story};
+ghost use Rattle.profile_scan.specs.declared.story.Exit.{Exit};
+ghost use Rattle.profile_scan.specs.declared.story.SetOut.{SetOut};
+ghost use Rattle.profile_scan.specs.Adding.{Takes, only_if, each_of, boardings_after, settings_out_after, MayStart, StandsBetween, IsTried, boardings_by, settings_out_by, AreRidden};
 ghost use Rattle.profile_scan.specs.Steps.{boardings, settings_out};
-ghost use Rattle.profile_scan.specs.Kept.{points_at};
+ghost use Rattle.profile_scan.specs.Kept.{AreStops, points_at};
 
-use crate::adding::add;
-use crate::nodes::Node;
+use crate::adding::add_found;
+use crate::stops::Stops;
+use crate::story::SetOut;
 use bags::Bag;
 use criteria::Criterion;
+use fronts::Ridden;
 use sources::ConnSource;
 use std::alloc::AllocError;
 use timetable::{Connection, Footpath, Query};
 
-/// Offers a bag each label of a trip that is boarded after a footpath.
-pub fn board_after<C: Criterion>(
-    criterion: &C,
-    bag: &mut Bag<C>,
-    nodes: &mut Vec<Node>,
-    labels: &Bag<C>,
-    walk: Footpath,
-    first: u32,
-    departure: u32,
-) -> Result<(), AllocError>
-    requires secs { IsSecs walk.secs }
-    requires bag { criterion_of bag.old ≡ criterion.now }
-    requires labels { criterion_of labels.now ≡ criterion.now }
-    ensures same { criterion_of bag.new ≡ criterion.now }
-    ensures nodes { Extends nodes.old.items nodes.new.items }
-    ensures takes { OnOk result (Takes (C.rules criterion.now) nodes.old.items nodes.new.items (λ tags. boardings_after (C.rules criterion.now) tags first departure walk (points_of labels.now)) (points_of bag.old) (points_of bag.new)) }
+// A tag as a number of 32 bits. Past 2^32 - 1 there is no room.
+fn number_of(tag: usize) -> Result<u32, AllocError>
+    ensures { IfOk result (λ number. number ≡ tag) }
 {
+    if tag > u32::MAX as usize {
+        return Err(AllocError);
+    }
+    Ok(tag as u32)
+}
+
+/// Puts the labels' values after the ride into a list.
+pub fn ride_labels<C: Criterion>(
+    criterion: &C,
+    labels: &Bag<C>,
+    ridden: &mut Vec<Ridden<C::V>>,
+) -> Result<(), AllocError>
+    requires labels { criterion_of labels.now ≡ criterion.now }
+    ensures { OnOk result (AreRidden (C.rules criterion.now) (points_of labels.now) ridden.new.items) }
+{
+    ridden.clear();
     for place in 0..labels.len() {
         let label = labels.point(place);
-        let ridden = criterion.ride(&label.value);
-        let walked = criterion.walk(walk.secs, &ridden);
-        let node = Node::Boards {
-            walk,
-            first,
-            next: label.tag,
-        };
-        add(criterion, bag, nodes, departure, walked, node)?;
+        let value = criterion.ride(&label.value);
+        let number = number_of(label.tag)?;
+        ridden.push(Ridden {
+            value,
+            label: number,
+        })?;
     }
     Ok(())
 }
@@ -55,7 +63,7 @@ pub fn board_after<C: Criterion>(
 pub fn set_out_after<C: Criterion>(
     criterion: &C,
     found: &mut Bag<C>,
-    nodes: &mut Vec<Node>,
+    set_outs: &mut Vec<SetOut>,
     labels: &Bag<C>,
     start: Option<Footpath>,
     first: u32,
@@ -65,18 +73,18 @@ pub fn set_out_after<C: Criterion>(
     requires found { criterion_of found.old ≡ criterion.now }
     requires labels { criterion_of labels.now ≡ criterion.now }
     ensures same { criterion_of found.new ≡ criterion.now }
-    ensures nodes { Extends nodes.old.items nodes.new.items }
-    ensures takes { OnOk result (Takes (C.rules criterion.now) nodes.old.items nodes.new.items (λ tags. settings_out_after (C.rules criterion.now) tags first departure start (points_of labels.now)) (points_of found.old) (points_of found.new)) }
+    ensures set_outs { Extends set_outs.old.items set_outs.new.items }
+    ensures takes { OnOk result ((walks : List Footpath) (exits : List Exit) (steps : List Step) → Takes (C.rules criterion.now) walks (story exits steps set_outs.old.items) (story exits steps set_outs.new.items) (λ tags. settings_out_after (C.rules criterion.now) tags first departure start (points_of labels.now)) (points_of found.old) (points_of found.new)) }
 {
     for place in 0..labels.len() {
         let label = labels.point(place);
         let value = value_after(criterion, start, &label.value);
-        let node = Node::SetsOut {
+        let set_out = SetOut {
             start,
             first,
-            next: label.tag,
+            label: label.tag,
         };
-        add(criterion, found, nodes, departure, value, node)?;
+        add_found(criterion, found, set_outs, departure, value, set_out)?;
     }
     Ok(())
 }
@@ -123,46 +131,52 @@ pub fn set_out<C: Criterion>(
     first: u32,
     start: Option<Footpath>,
     found: &mut Bag<C>,
-    nodes: &mut Vec<Node>,
+    set_outs: &mut Vec<SetOut>,
     labels: &Bag<C>,
 ) -> Result<(), AllocError>
     requires secs { IfSome start (λ walk. IsSecs walk.secs) }
     requires found { criterion_of found.old ≡ criterion.now }
     requires labels { criterion_of labels.now ≡ criterion.now }
     ensures same { criterion_of found.new ≡ criterion.now }
-    ensures nodes { Extends nodes.old.items nodes.new.items }
-    ensures takes { OnOk result (Takes (C.rules criterion.now) nodes.old.items nodes.new.items (λ tags. only_if (MayStart query.now connection.now start) (settings_out_after (C.rules criterion.now) tags first (connection.now.dep - start_secs start) start (points_of labels.now))) (points_of found.old) (points_of found.new)) }
+    ensures set_outs { Extends set_outs.old.items set_outs.new.items }
+    ensures takes { OnOk result ((walks : List Footpath) (exits : List Exit) (steps : List Step) → Takes (C.rules criterion.now) walks (story exits steps set_outs.old.items) (story exits steps set_outs.new.items) (λ tags. only_if (MayStart query.now connection.now start) (settings_out_after (C.rules criterion.now) tags first (connection.now.dep - start_secs start) start (points_of labels.now))) (points_of found.old) (points_of found.new)) }
 {
     match departure_by(query, connection, start) {
         None => Ok(()),
-        Some(departure) => set_out_after(criterion, found, nodes, labels, start, first, departure),
+        Some(departure) => set_out_after(
+            criterion, found, set_outs, labels, start, first, departure,
+        ),
     }
 }
 
-/// Offers the bag of the stop where a footpath begins each label of a trip that is boarded after it.
+/// Offers the list of the stop where a footpath begins each label of a trip that is boarded after it.
 pub fn board_from<C: Criterion>(
     criterion: &C,
-    stops: &mut Vec<Bag<C>>,
-    nodes: &mut Vec<Node>,
-    labels: &Bag<C>,
+    stops: &mut Stops<C>,
+    ridden: &[Ridden<C::V>],
     walk: Footpath,
+    place: usize,
     first: u32,
     dep: u32,
 ) -> Result<(), AllocError>
     requires secs { IsSecs walk.secs }
-    requires stop { walk.from < vec_len stops.old }
-    requires stops { All (λ bag. criterion_of bag ≡ criterion.now) stops.old.items }
-    requires labels { criterion_of labels.now ≡ criterion.now }
-    ensures len { vec_len stops.new ≡ vec_len stops.old }
-    ensures same { All (λ bag. criterion_of bag ≡ criterion.now) stops.new.items }
-    ensures nodes { Extends nodes.old.items nodes.new.items }
-    ensures takes { OnOk result ((stop : ℕ) → Takes (C.rules criterion.now) nodes.old.items nodes.new.items (λ tags. only_if ((walk.from ≡ stop) × (walk.secs ≤ dep)) (boardings_after (C.rules criterion.now) tags first (dep - walk.secs) walk (points_of labels.now))) (points_at stops.old.items stop) (points_at stops.new.items stop)) }
+    requires stop { walk.from < vec_len stops.old.heads }
+    requires stops { AreStops C.rules criterion.now (vec_len stops.old.heads) stops.old }
+    requires ridden { (r : _) → Contains ridden.now r → Admits (C.rules criterion.now) r.value }
+    ensures stops { OnOk result (AreStops C.rules criterion.now (vec_len stops.old.heads) stops.new) }
+    ensures steps { OnOk result (Extends (steps_of stops.old.lists) (steps_of stops.new.lists)) }
+    ensures takes { OnOk result ((labels : _) → AreRidden (C.rules criterion.now) labels ridden.now → (walks : List Footpath) (exits : List Exit) (set_outs : List SetOut) → slice_get walks place ≡ Some walk → (stop : ℕ) → Takes (C.rules criterion.now) walks (story exits (steps_of stops.old.lists) set_outs) (story exits (steps_of stops.new.lists) set_outs) (λ tags. only_if ((walk.from ≡ stop) × (walk.secs ≤ dep)) (boardings_after (C.rules criterion.now) tags first (dep - walk.secs) walk labels)) (points_at stops.old stop) (points_at stops.new stop)) }
 {
     if walk.secs > dep {
         return Ok(());
     }
-    let bag = &mut stops[walk.from as usize];
-    board_after(criterion, bag, nodes, labels, walk, first, dep - walk.secs)?;
+    let number = number_of(place)?;
+    let head = stops.heads[walk.from as usize];
+    let departure = dep - walk.secs;
+    let new = stops
+        .lists
+        .insert(head, departure, first, number, walk.secs, ridden)?;
+    stops.heads[walk.from as usize] = new;
     Ok(())
 }
 
@@ -174,10 +188,11 @@ fn board_walks<S: ConnSource, C: Criterion>(
     query: &Query,
     connection: &Connection,
     first: u32,
-    stops: &mut Vec<Bag<C>>,
+    stops: &mut Stops<C>,
     found: &mut Bag<C>,
-    nodes: &mut Vec<Node>,
+    set_outs: &mut Vec<SetOut>,
     labels: &Bag<C>,
+    ridden: &[Ridden<C::V>],
     begin: usize,
     end: usize,
 ) -> Result<(), AllocError>
@@ -185,23 +200,22 @@ fn board_walks<S: ConnSource, C: Criterion>(
     requires into { (k : ℕ) (f : Footpath) → At (S.timetable source.now).footpaths k f → begin ≤ k → k < end → f.to ≡ connection.now.from }
     requires within { end ≤ length (S.timetable source.now).footpaths }
     requires order { begin ≤ end }
-    requires len { vec_len stops.old ≡ (S.timetable source.now).stops }
-    requires stops { All (λ bag. criterion_of bag ≡ criterion.now) stops.old.items }
+    requires stops { AreStops C.rules criterion.now (S.timetable source.now).stops stops.old }
     requires found { criterion_of found.old ≡ criterion.now }
     requires labels { criterion_of labels.now ≡ criterion.now }
-    ensures len { vec_len stops.new ≡ vec_len stops.old }
-    ensures same { All (λ bag. criterion_of bag ≡ criterion.now) stops.new.items }
-    ensures found { criterion_of found.new ≡ criterion.now }
-    ensures nodes { Extends nodes.old.items nodes.new.items }
-    ensures boards { OnOk result ((stop : ℕ) → Takes (C.rules criterion.now) nodes.old.items nodes.new.items (λ tags. each_of (StandsBetween (S.timetable source.now).footpaths begin end) (boardings_by (C.rules criterion.now) tags first connection.now stop (points_of labels.now))) (points_at stops.old.items stop) (points_at stops.new.items stop)) }
-    ensures sets_out { OnOk result (Takes (C.rules criterion.now) nodes.old.items nodes.new.items (λ tags. each_of (IsTried (S.timetable source.now).footpaths begin end) (settings_out_by (C.rules criterion.now) tags first connection.now query.now (points_of labels.now))) (points_of found.old) (points_of found.new)) }
+    requires ridden { AreRidden (C.rules criterion.now) (points_of labels.now) ridden.now }
+    ensures stops { OnOk result (AreStops C.rules criterion.now (S.timetable source.now).stops stops.new) }
+    ensures found { OnOk result (criterion_of found.new ≡ criterion.now) }
+    ensures grows { OnOk result ((exits : List Exit) → Grows (story exits (steps_of stops.old.lists) set_outs.old.items) (story exits (steps_of stops.new.lists) set_outs.new.items)) }
+    ensures boards { OnOk result ((exits : List Exit) (stop : ℕ) → Takes (C.rules criterion.now) (S.timetable source.now).footpaths (story exits (steps_of stops.old.lists) set_outs.old.items) (story exits (steps_of stops.new.lists) set_outs.new.items) (λ tags. each_of (StandsBetween (S.timetable source.now).footpaths begin end) (boardings_by (C.rules criterion.now) tags first connection.now stop (points_of labels.now))) (points_at stops.old stop) (points_at stops.new stop)) }
+    ensures sets_out { OnOk result ((exits : List Exit) → Takes (C.rules criterion.now) (S.timetable source.now).footpaths (story exits (steps_of stops.old.lists) set_outs.old.items) (story exits (steps_of stops.new.lists) set_outs.new.items) (λ tags. each_of (IsTried (S.timetable source.now).footpaths begin end) (settings_out_by (C.rules criterion.now) tags first connection.now query.now (points_of labels.now))) (points_of found.old) (points_of found.new)) }
 {
     set_out(
-        criterion, query, connection, first, None, found, nodes, labels,
+        criterion, query, connection, first, None, found, set_outs, labels,
     )?;
     for place in begin..end {
         let walk = source.footpath_into(connection.from as usize, place);
-        board_from(criterion, stops, nodes, labels, walk, first, connection.dep)?;
+        board_from(criterion, stops, ridden, walk, place, first, connection.dep)?;
         set_out(
             criterion,
             query,
@@ -209,7 +223,7 @@ fn board_walks<S: ConnSource, C: Criterion>(
             first,
             Some(walk),
             found,
-            nodes,
+            set_outs,
             labels,
         )?;
     }
@@ -224,23 +238,22 @@ pub fn board<S: ConnSource, C: Criterion>(
     query: &Query,
     connection: &Connection,
     first: u32,
-    stops: &mut Vec<Bag<C>>,
+    stops: &mut Stops<C>,
     found: &mut Bag<C>,
-    nodes: &mut Vec<Node>,
+    set_outs: &mut Vec<SetOut>,
     labels: &Bag<C>,
+    ridden: &mut Vec<Ridden<C::V>>,
 ) -> Result<(), AllocError>
     requires place { first < length (S.timetable source.now).connections }
     requires connection { connection.now ≡ connection_at (S.timetable source.now) first }
-    requires len { vec_len stops.old ≡ (S.timetable source.now).stops }
-    requires stops { All (λ bag. criterion_of bag ≡ criterion.now) stops.old.items }
+    requires stops { AreStops C.rules criterion.now (S.timetable source.now).stops stops.old }
     requires found { criterion_of found.old ≡ criterion.now }
     requires labels { criterion_of labels.now ≡ criterion.now }
-    ensures len { vec_len stops.new ≡ vec_len stops.old }
-    ensures same { All (λ bag. criterion_of bag ≡ criterion.now) stops.new.items }
-    ensures found { criterion_of found.new ≡ criterion.now }
-    ensures nodes { Extends nodes.old.items nodes.new.items }
-    ensures boards { OnOk result ((stop : ℕ) → Takes (C.rules criterion.now) nodes.old.items nodes.new.items (λ tags. boardings (C.rules criterion.now) (S.timetable source.now) tags first stop (points_of labels.now)) (points_at stops.old.items stop) (points_at stops.new.items stop)) }
-    ensures sets_out { OnOk result (Takes (C.rules criterion.now) nodes.old.items nodes.new.items (λ tags. settings_out (C.rules criterion.now) (S.timetable source.now) query.now tags first (points_of labels.now)) (points_of found.old) (points_of found.new)) }
+    ensures stops { OnOk result (AreStops C.rules criterion.now (S.timetable source.now).stops stops.new) }
+    ensures found { OnOk result (criterion_of found.new ≡ criterion.now) }
+    ensures grows { OnOk result ((exits : List Exit) → Grows (story exits (steps_of stops.old.lists) set_outs.old.items) (story exits (steps_of stops.new.lists) set_outs.new.items)) }
+    ensures boards { OnOk result ((exits : List Exit) (stop : ℕ) → Takes (C.rules criterion.now) (S.timetable source.now).footpaths (story exits (steps_of stops.old.lists) set_outs.old.items) (story exits (steps_of stops.new.lists) set_outs.new.items) (λ tags. boardings (C.rules criterion.now) (S.timetable source.now) tags first stop (points_of labels.now)) (points_at stops.old stop) (points_at stops.new stop)) }
+    ensures sets_out { OnOk result ((exits : List Exit) → Takes (C.rules criterion.now) (S.timetable source.now).footpaths (story exits (steps_of stops.old.lists) set_outs.old.items) (story exits (steps_of stops.new.lists) set_outs.new.items) (λ tags. settings_out (C.rules criterion.now) (S.timetable source.now) query.now tags first (points_of labels.now)) (points_of found.old) (points_of found.new)) }
 {
     if !connection.board {
         return Ok(());
@@ -248,9 +261,11 @@ pub fn board<S: ConnSource, C: Criterion>(
     if labels.len() == 0 {
         return Ok(());
     }
+    ride_labels(criterion, labels, ridden)?;
     let (begin, end) = source.walks_into(connection.from as usize);
     board_walks(
-        source, criterion, query, connection, first, stops, found, nodes, labels, begin, end,
+        source, criterion, query, connection, first, stops, found, set_outs, labels, ridden, begin,
+        end,
     )?;
     Ok(())
 }

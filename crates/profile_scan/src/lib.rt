@@ -18,6 +18,9 @@ pub mod laws;
 mod nodes;
 mod scan;
 mod step;
+mod stops;
+mod story;
+mod telling;
 #[cfg(test)]
 mod tests;
 mod trips;

@@ -1,6 +1,6 @@
 //! One scan of a window, from its last connection to its first.
 
-ghost use Rattle.std.specs.Prelude.{◌≡◌, ◌≤◌, ◌<◌, ◌-◌, ◌++◌, ℕ, [], IfOk, OnOk, OnErr, All, length, vec_len, take};
+ghost use Rattle.std.specs.Prelude.{◌≡◌, ◌≤◌, ◌<◌, ◌-◌, ◌++◌, ℕ, [], IfOk, OnOk, OnErr, take};
 ghost use Rattle.criteria.specs.Laws.{IsTime};
 ghost use Rattle.bags.specs.Bag.{criterion_of, points_of};
 ghost use Rattle.sources.specs.FirstAt.{IsFirstAt};
@@ -8,41 +8,57 @@ ghost use Rattle.profile_scan.specs.Values.{journey_value};
 ghost use Rattle.profile_scan.specs.Continuations.{CountsFrom};
 ghost use Rattle.profile_scan.specs.Plain.{IsPlain};
 ghost use Rattle.profile_scan.specs.Matching.{Matches};
-ghost use Rattle.profile_scan.specs.Nodes.{spelling};
-ghost use Rattle.profile_scan.specs.Kept.{AreWays, points_at};
+ghost use Rattle.profile_scan.specs.Story.{told};
+ghost use Rattle.profile_scan.specs.Kept.{AreWays, IsScan, kept_by, story_of};
+ghost use Rattle.profile_scan.specs.Matching.{ScanValue};
 ghost use Rattle.profile_scan.specs.Window.{falling};
 
-use crate::nodes::Node;
 use crate::step::step;
-use crate::trips::no_labels;
+use crate::stops::{Stops, no_stops};
+use crate::story::{Exit, SetOut};
+use crate::trips::{TripLabels, no_labels};
 use bags::Bag;
 use criteria::Criterion;
+use fronts::Ridden;
 use sources::ConnSource;
 use std::alloc::{AllocError, Global};
 use timetable::Query;
 
-/// The points found, and the nodes that their tags name.
+/// What a scan keeps: the points of each stop, the labels of each trip, and the points found; and by number how one goes on from each.
 #[derive(Drop)]
-pub struct Scanned<C: Criterion> {
+pub struct Scan<C: Criterion> {
+    pub stops: Stops<C>,
+    pub labels: TripLabels<C>,
+    pub exits: Vec<Exit>,
     pub found: Bag<C>,
-    pub nodes: Vec<Node>,
+    pub set_outs: Vec<SetOut>,
+    // room for the labels of one trip, after the ride
+    pub ridden: Vec<Ridden<C::V>>,
 }
 
-// As many empty bags as wanted.
-fn no_bags<C: Criterion>(
+// A scan that has read nothing.
+fn nothing_read<C: Criterion>(
     alloc: Global,
     criterion: &C,
-    count: u32,
-) -> Result<Vec<Bag<C>>, AllocError>
-    ensures len { IfOk result (λ bags. vec_len bags ≡ count) }
-    ensures same { IfOk result (λ bags. All (λ bag. criterion_of bag ≡ criterion.now) bags.items) }
-    ensures none { IfOk result (λ bags. (k : ℕ) → points_at bags.items k ≡ []) }
+    stops: u32,
+    trips: u32,
+) -> Result<Scan<C>, AllocError>
+    ensures scan { IfOk result (λ scan. IsScan C.rules criterion.now stops trips scan) }
+    ensures bags { IfOk result (λ scan. (stop : ℕ) → (kept_by scan).bag stop ≡ []) }
+    ensures labels { IfOk result (λ scan. (trip : ℕ) → (kept_by scan).labels trip ≡ []) }
+    ensures found { IfOk result (λ scan. points_of scan.found ≡ []) }
 {
-    let mut bags = Vec::with_capacity(alloc, count as usize)?;
-    for _i in 0..count {
-        bags.push(Bag::new(alloc, *criterion))?;
-    }
-    Ok(bags)
+    let stops = no_stops(alloc, criterion, stops)?;
+    let labels = no_labels(alloc, trips)?;
+    let found = Bag::new(alloc, *criterion);
+    Ok(Scan {
+        stops,
+        labels,
+        exits: Vec::new(alloc),
+        found,
+        set_outs: Vec::new(alloc),
+        ridden: Vec::new(alloc),
+    })
 }
 
 /// Scans the connections from a place up to before another. The points found match every journey that boards there.
@@ -54,21 +70,18 @@ pub fn scan_window<S: ConnSource, C: Criterion>(
     ways: &[Option<u32>],
     start: usize,
     end: usize,
-) -> Result<Scanned<C>, AllocError>
+) -> Result<Scan<C>, AllocError>
     requires by { IsTime query.now.by }
     requires ways { AreWays (S.timetable source.old) query.now.target ways.now }
     requires order { start ≤ end }
     requires end { IsFirstAt (S.timetable source.old) query.now.by end }
     ensures timetable { S.timetable source.new ≡ S.timetable source.old }
-    ensures same { IfOk result (λ scanned. criterion_of scanned.found ≡ criterion.now) }
-    ensures matches { IfOk result (λ scanned. Matches (C.rules criterion.now) (spelling scanned.nodes.items).journey (CountsFrom (S.timetable source.old) query.now start) (IsPlain (S.timetable source.old) query.now.target) (journey_value (C.rules criterion.now) (S.timetable source.old)) (points_of scanned.found)) }
+    ensures same { IfOk result (λ scan. criterion_of scan.found ≡ criterion.now) }
+    ensures matches { IfOk result (λ scan. Matches (C.rules criterion.now) (told (S.timetable source.old).footpaths (story_of scan)).journey (CountsFrom (S.timetable source.old) query.now start) (IsPlain (S.timetable source.old) query.now.target) (journey_value (C.rules criterion.now) (S.timetable source.old)) (points_of scan.found)) }
     ensures log { OnOk result (S.log source.new ≡ S.log source.old ++ falling start (end - start)) }
     ensures err { OnErr result ((n : ℕ) × (S.log source.new ≡ S.log source.old ++ take n (falling start (end - start)))) }
 {
-    let mut stops = no_bags(alloc, criterion, source.stops())?;
-    let mut labels = no_labels(alloc, source.trips())?;
-    let mut found = Bag::new(alloc, *criterion);
-    let mut nodes = Vec::new(alloc);
+    let mut scan = nothing_read(alloc, criterion, source.stops(), source.trips())?;
     let mut place = end;
     while start < place {
         place -= 1;
@@ -81,11 +94,8 @@ pub fn scan_window<S: ConnSource, C: Criterion>(
             ways,
             &connection,
             place as u32,
-            &mut stops,
-            &mut labels,
-            &mut found,
-            &mut nodes,
+            &mut scan,
         )?;
     }
-    Ok(Scanned { found, nodes })
+    Ok(scan)
 }

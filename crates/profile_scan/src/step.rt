@@ -1,22 +1,26 @@
 //! One connection: first the labels of its trip, then by them every bag and the points found.
 
-ghost use Rattle.std.specs.Prelude.{◌≡◌, ◌<◌, ℕ, List, OnOk, All, length, vec_len};
+ghost use Rattle.std.specs.Prelude.{◌≡◌, ◌≢◌, ◌<◌, ℕ, true, List, None, OnOk, length, vec_len};
 ghost use Rattle.criteria.specs.Laws.{IsTime};
 ghost use Rattle.timetable.specs.Journeys.{connection_at};
 ghost use Rattle.bags.specs.Bag.{criterion_of, points_of};
-ghost use Rattle.profile_scan.specs.Steps.{leavings, boardings, settings_out, IsStep};
-ghost use Rattle.profile_scan.specs.Nodes.{Extends, spelling};
+ghost use Rattle.fronts.specs.Lists.{IsSound, steps_of};
+ghost use Rattle.profile_scan.specs.Steps.{leavings, boardings, settings_out, IsIdle, IsStep};
+ghost use Rattle.profile_scan.specs.Story.{Grows, story, told};
 ghost use Rattle.profile_scan.specs.Matching.{from_to};
 ghost use Rattle.profile_scan.specs.Adding.{Takes};
-ghost use Rattle.profile_scan.specs.Kept.{ArePlaced, AreWays, IsWay, kept_by, points_at};
-ghost use Rattle.profile_scan.specs.declared.nodes.Node.{Node};
+ghost use Rattle.profile_scan.specs.Kept.{AreStops, AreWays, IsScan, IsWay, kept_by, points_at, story_of};
+ghost use Rattle.profile_scan.specs.declared.story.Exit.{Exit};
 
 use crate::alight::alight;
 use crate::board::board;
-use crate::nodes::Node;
-use crate::trips::{TripLabels, place_of};
+use crate::scan::Scan;
+use crate::stops::Stops;
+use crate::story::{Exit, SetOut};
+use crate::trips::place_of;
 use bags::Bag;
 use criteria::Criterion;
+use fronts::Ridden;
 use sources::ConnSource;
 use std::alloc::{AllocError, Global};
 use timetable::{Connection, Query};
@@ -29,37 +33,96 @@ fn step_in<S: ConnSource, C: Criterion>(
     way: Option<u32>,
     connection: &Connection,
     place: u32,
-    stops: &mut Vec<Bag<C>>,
+    stops: &mut Stops<C>,
     labels: &mut Bag<C>,
+    exits: &mut Vec<Exit>,
     found: &mut Bag<C>,
-    nodes: &mut Vec<Node>,
+    set_outs: &mut Vec<SetOut>,
+    ridden: &mut Vec<Ridden<C::V>>,
 ) -> Result<(), AllocError>
     requires place { place < length (S.timetable source.now).connections }
     requires connection { connection.now ≡ connection_at (S.timetable source.now) place }
     requires by { IsTime query.now.by }
     requires way { IsWay (S.timetable source.now) query.now.target connection.now.to way }
-    requires len { vec_len stops.old ≡ (S.timetable source.now).stops }
-    requires stops { All (λ bag. criterion_of bag ≡ criterion.now) stops.old.items }
+    requires stops { AreStops C.rules criterion.now (S.timetable source.now).stops stops.old }
     requires labels { criterion_of labels.old ≡ criterion.now }
     requires found { criterion_of found.old ≡ criterion.now }
-    ensures len { OnOk result (vec_len stops.new ≡ vec_len stops.old) }
-    ensures stops { OnOk result (All (λ bag. criterion_of bag ≡ criterion.now) stops.new.items) }
+    ensures stops { OnOk result (AreStops C.rules criterion.now (S.timetable source.now).stops stops.new) }
     ensures labels { OnOk result (criterion_of labels.new ≡ criterion.now) }
     ensures found { OnOk result (criterion_of found.new ≡ criterion.now) }
-    ensures nodes { OnOk result (Extends nodes.old.items nodes.new.items) }
-    ensures takes { OnOk result ((mid : List Node)
-        × Extends nodes.old.items mid
-        × Extends mid nodes.new.items
-        × Takes (C.rules criterion.now) nodes.old.items mid (λ tags. leavings (C.rules criterion.now) (S.timetable source.now) query.now tags place (points_at stops.old.items (connection_at (S.timetable source.now) place).to)) (points_of labels.old) (points_of labels.new)
-        × ((stop : ℕ) → Takes (C.rules criterion.now) mid nodes.new.items (λ tags. boardings (C.rules criterion.now) (S.timetable source.now) tags place stop (points_of labels.new)) (points_at stops.old.items stop) (points_at stops.new.items stop))
-        × Takes (C.rules criterion.now) mid nodes.new.items (λ tags. settings_out (C.rules criterion.now) (S.timetable source.now) query.now tags place (points_of labels.new)) (points_of found.old) (points_of found.new)) }
+    ensures takes { OnOk result ((mid : List Exit)
+        × Grows (story exits.old.items (steps_of stops.old.lists) set_outs.old.items) (story mid (steps_of stops.old.lists) set_outs.old.items)
+        × Grows (story mid (steps_of stops.old.lists) set_outs.old.items) (story exits.new.items (steps_of stops.new.lists) set_outs.new.items)
+        × Takes (C.rules criterion.now) (S.timetable source.now).footpaths (story exits.old.items (steps_of stops.old.lists) set_outs.old.items) (story mid (steps_of stops.old.lists) set_outs.old.items) (λ tags. leavings (C.rules criterion.now) (S.timetable source.now) query.now tags place (points_at stops.old (connection_at (S.timetable source.now) place).to)) (points_of labels.old) (points_of labels.new)
+        × ((stop : ℕ) → Takes (C.rules criterion.now) (S.timetable source.now).footpaths (story mid (steps_of stops.old.lists) set_outs.old.items) (story exits.new.items (steps_of stops.new.lists) set_outs.new.items) (λ tags. boardings (C.rules criterion.now) (S.timetable source.now) tags place stop (points_of labels.new)) (points_at stops.old stop) (points_at stops.new stop))
+        × Takes (C.rules criterion.now) (S.timetable source.now).footpaths (story mid (steps_of stops.old.lists) set_outs.old.items) (story exits.new.items (steps_of stops.new.lists) set_outs.new.items) (λ tags. settings_out (C.rules criterion.now) (S.timetable source.now) query.now tags place (points_of labels.new)) (points_of found.old) (points_of found.new)) }
 {
-    let bag = &stops[connection.to as usize];
-    alight(criterion, query, way, connection, place, labels, nodes, bag)?;
+    let head = stops.heads[connection.to as usize];
+    alight(
+        criterion,
+        query,
+        way,
+        connection,
+        place,
+        labels,
+        exits,
+        &stops.lists,
+        head,
+    )?;
     board(
-        source, criterion, query, connection, place, stops, found, nodes, labels,
+        source, criterion, query, connection, place, stops, found, set_outs, labels, ridden,
     )?;
     Ok(())
+}
+
+// Whether nothing is offered at a connection, by the slot of its trip and the head of the list of the stop where it ends.
+fn offers_nothing(
+    slot: u32,
+    head: u32,
+    alight: bool,
+    to: u32,
+    target: u32,
+    way: Option<u32>,
+) -> bool
+    ensures { result ≡ true → (slot ≡ 0) × (alight ≡ true → (to ≢ target) × (way ≡ None) × (head ≡ 0)) }
+{
+    if slot > 0 {
+        return false;
+    }
+    if !alight {
+        return true;
+    }
+    if to == target || head > 0 {
+        return false;
+    }
+    match way {
+        None => true,
+        Some(_secs) => false,
+    }
+}
+
+// Whether nothing is offered at a connection. That is so at most of them.
+fn is_idle<C: Criterion>(
+    scan: &Scan<C>,
+    query: &Query,
+    way: Option<u32>,
+    connection: &Connection,
+) -> bool
+    requires trip { connection.now.trip < length scan.now.labels.slots.items }
+    requires stop { connection.now.to < vec_len scan.now.stops.heads }
+    requires sound { IsSound C.rules scan.now.stops.lists }
+    ensures { result ≡ true → IsIdle query.now connection.now way ((kept_by scan.now).labels connection.now.trip) ((kept_by scan.now).bag connection.now.to) }
+{
+    let slot = scan.labels.slots[connection.trip as usize];
+    let head = scan.stops.heads[connection.to as usize];
+    offers_nothing(
+        slot,
+        head,
+        connection.alight,
+        connection.to,
+        query.target,
+        way,
+    )
 }
 
 /// Takes one connection in.
@@ -71,35 +134,35 @@ pub fn step<S: ConnSource, C: Criterion>(
     ways: &[Option<u32>],
     connection: &Connection,
     place: u32,
-    stops: &mut Vec<Bag<C>>,
-    labels: &mut TripLabels<C>,
-    found: &mut Bag<C>,
-    nodes: &mut Vec<Node>,
+    scan: &mut Scan<C>,
 ) -> Result<(), AllocError>
     requires place { place < length (S.timetable source.now).connections }
     requires connection { connection.now ≡ connection_at (S.timetable source.now) place }
     requires by { IsTime query.now.by }
     requires ways { AreWays (S.timetable source.now) query.now.target ways.now }
-    requires len { vec_len stops.old ≡ (S.timetable source.now).stops }
-    requires long { length labels.old.slots.items ≡ (S.timetable source.now).trips }
-    requires placed { ArePlaced labels.old.slots.items (length labels.old.bags.items) }
-    requires stops { All (λ bag. criterion_of bag ≡ criterion.now) stops.old.items }
-    requires labels { All (λ bag. criterion_of bag ≡ criterion.now) labels.old.bags.items }
-    requires found { criterion_of found.old ≡ criterion.now }
-    ensures len { OnOk result (vec_len stops.new ≡ (S.timetable source.now).stops) }
-    ensures long { OnOk result (length labels.new.slots.items ≡ (S.timetable source.now).trips) }
-    ensures placed { OnOk result (ArePlaced labels.new.slots.items (length labels.new.bags.items)) }
-    ensures stops { OnOk result (All (λ bag. criterion_of bag ≡ criterion.now) stops.new.items) }
-    ensures labels { OnOk result (All (λ bag. criterion_of bag ≡ criterion.now) labels.new.bags.items) }
-    ensures found { OnOk result (criterion_of found.new ≡ criterion.now) }
-    ensures nodes { OnOk result (Extends nodes.old.items nodes.new.items) }
-    ensures step { OnOk result (IsStep (C.rules criterion.now) (S.timetable source.now) query.now (from_to (spelling nodes.old.items) (spelling nodes.new.items)) place (kept_by stops.old.items labels.old.slots.items labels.old.bags.items found.old) (kept_by stops.new.items labels.new.slots.items labels.new.bags.items found.new)) }
+    requires scan { IsScan C.rules criterion.now (S.timetable source.now).stops (S.timetable source.now).trips scan.old }
+    ensures scan { OnOk result (IsScan C.rules criterion.now (S.timetable source.now).stops (S.timetable source.now).trips scan.new) }
+    ensures step { OnOk result (IsStep (C.rules criterion.now) (S.timetable source.now) query.now (from_to (told (S.timetable source.now).footpaths (story_of scan.old)) (told (S.timetable source.now).footpaths (story_of scan.new))) place (kept_by scan.old) (kept_by scan.new)) }
 {
-    let slot = place_of(alloc, criterion, labels, connection.trip)?;
     let way = ways[connection.to as usize];
-    let trip = &mut labels.bags[slot];
+    if is_idle(scan, query, way, connection) {
+        return Ok(());
+    }
+    let slot = place_of(alloc, criterion, &mut scan.labels, connection.trip)?;
+    let labels = &mut scan.labels.bags[slot];
     step_in(
-        source, criterion, query, way, connection, place, stops, trip, found, nodes,
+        source,
+        criterion,
+        query,
+        way,
+        connection,
+        place,
+        &mut scan.stops,
+        labels,
+        &mut scan.exits,
+        &mut scan.found,
+        &mut scan.set_outs,
+        &mut scan.ridden,
     )?;
     Ok(())
 }

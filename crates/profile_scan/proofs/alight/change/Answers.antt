@@ -1,60 +1,62 @@
-use Rattle.std.proofs.Common.{length, ◌∙◌, ap, sym}
-use Rattle.std.proofs.lemmas.Iterator.Consumers.{YieldsList-from_first, YieldsList-turn, YieldsList-end}
-use Rattle.std.proofs.lemmas.List.{map-id}
-use Rattle.bags.specs.Bag.{points_of}
-use Rattle.bags.specs.BestFrom.{places_left}
-use Rattle.bags.specs.Best.{best_places}
+use Rattle.std.proofs.Common.{sym, subst, arith}
+use Rattle.criteria.specs.Laws.{Admits}
 use Rattle.timetable.proofs.LegalFacts.{Contains-At}
+use Rattle.bags.specs.Bag.{points_of}
+use Rattle.bags.specs.declared.point.Point.{Point}
+use Rattle.fronts.specs.Lists.{lists_criterion, front_at, list_points}
+use Rattle.fronts.proofs.Growth.{extends_none, extends_on}
+use Rattle.fronts.proofs.Mapped.{list_admitted}
 use Rattle.profile_scan.specs.Matching.{from_to}
-use Rattle.profile_scan.specs.Nodes.{IsSpelled, spelling}
-use Rattle.profile_scan.specs.declared.nodes.Node.TheVariants.{Changes}
-use Rattle.profile_scan.proofs.Offers.{bag_under}
-use Rattle.profile_scan.proofs.NodeLemmas.{extends_none, extends_on}
-use Rattle.profile_scan.proofs.ChangeLemmas.{told_is_in, place_within, change_more, change_none, changes_under}
+use Rattle.profile_scan.specs.Story.{IsExit, story, told}
+use Rattle.profile_scan.specs.Adding.{one_way}
+use Rattle.profile_scan.specs.declared.story.Exit.TheVariants.{Changes}
+use Rattle.profile_scan.proofs.Admitted.{AreAdmitted}
+use Rattle.profile_scan.proofs.Offers.{bag_under, takes_first, takes_next}
+use Rattle.profile_scan.proofs.StoryLemmas.{exits_grow, grows_on}
+use Rattle.profile_scan.proofs.ChangeLemmas.{AreOf, changes_under}
 use Rattle.profile_scan.proofs.alight.change.Goals as goal
 
-pub loop-place-init : goal.loop-place-init
-loop-place-init g c = record {
+pub loop-k-init : goal.loop-k-init
+loop-k-init g c = record {
   same = c.requires.labels;
-  nodes = extends_none c.args.nodes.now.items;
-  takes = λ before all ext_before ext. change_none (g.C.Criterion.rules c.args.criterion.now) (points_of c.args.bag.now) (λ p. IsSpelled (from_to (spelling before) (spelling all)) (Changes c.args.last p.tag)) (points_of c.args.labels.now);
+  exits = extends_none c.args.exits.now.items;
+  takes = λ walks steps set_outs before all ext_before ext. takes_first (g.C.Criterion.rules c.args.criterion.now) (front_at c.args.lists.now c.front_from-place.result) _ (points_of c.args.labels.now);
 }
 
-pub point-point-requires : goal.point-point-requires
-point-point-requires g c =
-    let rules = g.C.Criterion.rules c.args.bag.now.criterion in
-    let best = best_places (g.C.Criterion.rules c.args.bag.now.criterion) (points_of c.args.bag.now) c.args.time in
-    let e = YieldsList-from_first (λ x. x) places_left (best_places (g.C.Criterion.rules c.args.bag.now.criterion) (points_of c.args.bag.now) c.args.time) (ap places_left c.into_iter-place-iterator.ensures.into_iter_gives ∙ c.best_from-place-items.ensures.places) in
-    let t = YieldsList-turn e c.loop-place.yielded c.loop-place.place-iterator c.loop-place.yielded_by c.next.result c.next.new.self c.in-Some.place c.in-Some.is c.next.ensures.steps in
-    place_within rules (points_of c.args.bag.now) c.args.time c.in-Some.place (c.best_from-place-items.ensures.best c.in-Some.place (told_is_in best (length c.loop-place.yielded) c.in-Some.place t))
+pub add_label-requires-clause-admitted : goal.add_label-requires-clause-admitted
+add_label-requires-clause-admitted g c =
+    let front = front_at c.args.lists.now c.front_from-place.result in
+    let are = subst (λ k. AreOf (g.C.Criterion.rules k) (list_points c.args.lists.now c.args.head) c.args.time front) c.requires.under c.front_from-place.ensures.made_of in
+    (are c.front_point-point.result (Contains-At front c.loop-k.k c.front_point-point.result c.front_point-point.ensures)).2
 
-pub add-requires-clause-admitted : goal.add-requires-clause-admitted
-add-requires-clause-admitted g c =
-    let points = bag_under g.C.Criterion.rules c.args.bag.now.criterion c.args.criterion.now (points_of c.args.bag.now) c.requires.bag c.args.bag.now.kept in
-    points.admitted c.point-point.result (Contains-At (points_of c.args.bag.now) c.in-Some.place c.point-point.result c.point-point.ensures)
-
-pub loop-place-preserved : goal.loop-place-preserved
-loop-place-preserved g c =
+pub loop-k-preserved : goal.loop-k-preserved
+loop-k-preserved g c =
     let rules = g.C.Criterion.rules c.args.criterion.now in
-    let points = bag_under g.C.Criterion.rules c.args.bag.now.criterion c.args.criterion.now (points_of c.args.bag.now) c.requires.bag c.args.bag.now.kept in
+    let front = front_at c.args.lists.now c.front_from-place.result in
+    let x = c.front_point-point.result in
+    let are = subst (λ k. AreOf (g.C.Criterion.rules k) (list_points c.args.lists.now c.args.head) c.args.time front) c.requires.under c.front_from-place.ensures.made_of in
     record {
-      same = c.in_ok-add.ensures.same;
-      nodes = extends_on c.args.nodes.now.items c.loop-place.nodes.items c.add.new.nodes.items c.loop-place.invariant.nodes c.in_ok-add.ensures.nodes;
-      takes = λ before all ext_before ext. change_more rules (points_of c.args.bag.now) (λ p. IsSpelled (from_to (spelling before) (spelling all)) (Changes c.args.last p.tag)) c.loop-place.yielded c.in-Some.place c.point-point.result (points_of c.args.labels.now) (points_of c.loop-place.labels) (points_of c.add.new.bag)
-          points.admitted c.point-point.ensures
-          (c.loop-place.invariant.takes before all ext_before (extends_on c.loop-place.nodes.items c.add.new.nodes.items all c.in_ok-add.ensures.nodes ext))
-          (c.in_ok-add.ensures.takes before all (extends_on before c.args.nodes.now.items c.loop-place.nodes.items ext_before c.loop-place.invariant.nodes) ext);
+      same = c.in_ok-add_label.ensures.same;
+      exits = extends_on c.args.exits.now.items c.loop-k.exits.items c.add_label.new.exits.items c.loop-k.invariant.exits c.in_ok-add_label.ensures.exits;
+      takes = λ walks steps set_outs before all ext_before ext.
+          let was = story c.args.exits.now.items steps set_outs in
+          let mid = story c.loop-k.exits.items steps set_outs in
+          let now = story c.add_label.new.exits.items steps set_outs in
+          takes_next rules front (λ (p : Point g.row.C-V.Denot). one_way 0 p.value (IsExit (from_to (told walks before) (told walks all)) (Changes c.args.last p.tag)))
+          c.loop-k.k x (points_of c.args.labels.now) (points_of c.loop-k.labels) (points_of c.add_label.new.labels) c.front_point-point.ensures
+          (λ y way is opened. (are y is).2)
+          (c.loop-k.invariant.takes walks steps set_outs before all ext_before (grows_on mid now all (exits_grow c.loop-k.exits.items c.add_label.new.exits.items steps set_outs c.in_ok-add_label.ensures.exits) ext))
+          (c.in_ok-add_label.ensures.takes walks steps set_outs before all (grows_on before was mid ext_before (exits_grow c.args.exits.now.items c.loop-k.exits.items steps set_outs c.loop-k.invariant.exits)) ext);
     }
 
 pub returns-clause-takes : goal.returns-clause-takes
-returns-clause-takes g c before all ext_before ext =
-    let rules = g.C.Criterion.rules c.args.criterion.now in
-    let best = best_places (g.C.Criterion.rules c.args.bag.now.criterion) (points_of c.args.bag.now) c.args.time in
-    let points = bag_under g.C.Criterion.rules c.args.bag.now.criterion c.args.criterion.now (points_of c.args.bag.now) c.requires.bag c.args.bag.now.kept in
-    let labels = bag_under g.C.Criterion.rules c.loop-place.labels.criterion c.args.criterion.now (points_of c.loop-place.labels) c.loop-place.invariant.same c.loop-place.labels.kept in
-    let e = YieldsList-from_first (λ x. x) places_left (best_places (g.C.Criterion.rules c.args.bag.now.criterion) (points_of c.args.bag.now) c.args.time) (ap places_left c.into_iter-place-iterator.ensures.into_iter_gives ∙ c.best_from-place-items.ensures.places) in
-    let t = YieldsList-end e c.loop-place.yielded c.loop-place.place-iterator c.loop-place.yielded_by c.next.result c.next.new.self c.in-None.is c.next.ensures.steps in
-    let whole = sym (map-id c.loop-place.yielded) ∙ t.0 in
-    changes_under g.C.Criterion.rules c.args.bag.now.criterion c.args.criterion.now c.requires.bag (points_of c.args.bag.now) (g.met.C.Criterion.laws c.args.criterion.now) (from_to (spelling before) (spelling all)) c.args.last c.args.time c.loop-place.yielded (points_of c.args.labels.now) (points_of c.loop-place.labels) points.admitted labels.admitted
-    whole c.best_from-place-items.ensures.best c.best_from-place-items.ensures.covers
-    (c.loop-place.invariant.takes before all ext_before ext)
+returns-clause-takes g c walks steps set_outs before all ext_before ext =
+    let lists = c.args.lists.now in
+    let laws = g.met.C.Criterion.laws c.args.criterion.now in
+    let front = front_at lists c.front_from-place.result in
+    let points = list_points lists c.args.head in
+    let admitted = subst (λ k. AreAdmitted (g.C.Criterion.rules k) points) c.requires.under (list_admitted (g.C.Criterion.rules (lists_criterion lists)) lists.entries.items lists.items.items c.requires.sound c.args.head) in
+    let labels = bag_under g.C.Criterion.rules c.loop-k.labels.criterion c.args.criterion.now (points_of c.loop-k.labels) c.loop-k.invariant.same c.loop-k.labels.kept in
+    changes_under g.C.Criterion.rules (lists_criterion lists) c.args.criterion.now c.requires.under points laws admitted (from_to (told walks before) (told walks all)) c.args.last c.args.time front c.loop-k.k (points_of c.args.labels.now) (points_of c.loop-k.labels) labels.admitted
+    c.front_from-place.ensures.made_of c.front_from-place.ensures.betters (omega arith)
+    (c.loop-k.invariant.takes walks steps set_outs before all ext_before ext)

@@ -1,15 +1,20 @@
-use Rattle.std.proofs.Common.{◌≡◌}
+use Rattle.std.proofs.Common.{◌≡◌, List}
 use Rattle.bags.specs.Bag.{criterion_of, points_of}
-use Rattle.profile_scan.specs.Nodes.{Extends, IsSpelled}
-use Rattle.profile_scan.specs.Adding.{Takes, one_way, each_of, StandsAtOne}
-use Rattle.profile_scan.specs.declared.nodes.Node.TheVariants.{Changes}
+use Rattle.timetable.specs.declared.network.Footpath.{Footpath}
+use Rattle.fronts.specs.declared.entry.Step.{Step}
+use Rattle.fronts.specs.Front.{Extends}
+use Rattle.fronts.specs.Lists.{front_at}
+use Rattle.profile_scan.specs.Story.{story, IsExit}
+use Rattle.profile_scan.specs.Adding.{Takes, one_way, each_of, StandsBefore}
+use Rattle.profile_scan.specs.declared.story.Exit.TheVariants.{Changes}
+use Rattle.profile_scan.specs.declared.story.SetOut.{SetOut}
 use Rattle.profile_scan.proofs.alight.change.Given as goal
 
-abbrev pub invariant-loop-place : goal.invariant-loop-place
-invariant-loop-place g l =
+abbrev pub invariant-loop-k : goal.invariant-loop-k
+invariant-loop-k g l =
     let rules = g.C.Criterion.rules l.criterion in
     record {
       same : criterion_of l.labels ≡ l.criterion;
-      nodes : Extends l.fn.nodes.items l.nodes.items;
-      takes : Takes rules l.fn.nodes.items l.nodes.items (λ tags. each_of (StandsAtOne (points_of l.bag) l.yielded) (λ p. one_way 0 p.value (IsSpelled tags (Changes l.last p.tag)))) (points_of l.fn.labels) (points_of l.labels);
+      exits : Extends l.fn.exits.items l.exits.items;
+      takes : (walks : List Footpath) (steps : List Step) (set_outs : List SetOut) → Takes rules walks (story l.fn.exits.items steps set_outs) (story l.exits.items steps set_outs) (λ tags. each_of (StandsBefore (front_at l.lists l.place) l.k) (λ p. one_way 0 p.value (IsExit tags (Changes l.last p.tag)))) (points_of l.fn.labels) (points_of l.labels);
     }

@@ -1,6 +1,6 @@
 use Rattle.bags.specs.Bag.{points_of}
 use Rattle.profile_scan.specs.Matching.{from_to}
-use Rattle.profile_scan.specs.Nodes.{spelling}
+use Rattle.profile_scan.specs.Story.{told}
 use Rattle.profile_scan.proofs.Offers.{on_ok_more}
 use Rattle.profile_scan.proofs.EndLemmas.{takes_the_end}
 use Rattle.profile_scan.proofs.alight.end.Goals as goal
@@ -10,7 +10,7 @@ returns-in-Some-clause-takes g c =
     let rules = g.C.Criterion.rules c.args.criterion.now in
     let end = c.in-Some.end in
     let is = c.in-Some.ensures in
-    on_ok_more c.add.result _ _
-    (λ takes before all ext_before ext. takes_the_end rules (from_to (spelling before) (spelling all)) c.args.last c.args.connection.now c.args.query.now c.args.way end.walk c.value_at_end-value.result end.time (points_of c.args.labels.now) (points_of c.add.new.bag)
-    is.0 is.3 c.value_at_end-value.ensures is.1 (takes before all ext_before ext))
-    c.add.ensures.takes
+    on_ok_more c.add_label.result _ _
+    (λ takes walks steps set_outs before all ext_before ext. takes_the_end rules (from_to (told walks before) (told walks all)) c.args.last c.args.connection.now c.args.query.now c.args.way end.walk c.value_at_end-value.result end.time (points_of c.args.labels.now) (points_of c.add_label.new.labels)
+    is.0 is.3 c.value_at_end-value.ensures is.1 (takes walks steps set_outs before all ext_before ext))
+    c.add_label.ensures.takes

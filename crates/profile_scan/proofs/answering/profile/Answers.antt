@@ -1,28 +1,32 @@
-use Rattle.std.proofs.Common.{◌≡◌, ◌++◌, ℕ, List, length, reverse, take, refl, sym, ◌∙◌, ap, subst}
+use Rattle.std.proofs.Common.{◌≡◌, ◌++◌, ℕ, List, Contains, map, length, reverse, take, refl, sym, ◌∙◌, ap, subst}
 use Rattle.bags.specs.Bag.{points_of}
+use Rattle.bags.specs.declared.point.Point.{Point}
 use Rattle.timetable.specs.TimetableValue.{TimetableValue}
 use Rattle.timetable.specs.declared.query.Query.{Query}
 use Rattle.profile_scan.specs.Answered.{IsAnswered}
 use Rattle.profile_scan.specs.LawStatements.{CanScan}
 use Rattle.profile_scan.specs.Window.{window}
 use Rattle.profile_scan.proofs.Windows.{window_is_read_backward}
-use Rattle.profile_scan.proofs.AnsweredLemmas.{answered, way_at}
+use Rattle.profile_scan.specs.Points.{untagged}
+use Rattle.profile_scan.specs.Kept.{story_of}
+use Rattle.profile_scan.specs.Telling.{IsJourneyTold, IsRetold}
+use Rattle.profile_scan.proofs.AnsweredLemmas.{answered, journeys_told, way_at}
 use Rattle.profile_scan.proofs.Offers.{bag_under}
 use Rattle.profile_scan.proofs.LogLemmas.{taken_all, on_err}
 use Rattle.profile_scan.proofs.answering.profile.Goals as goal
 
-pub returns-in_err-scanned-clause-err : goal.returns-in_err-scanned-clause-err
-returns-in_err-scanned-clause-err g c =
+pub returns-in_err-scan-clause-err : goal.returns-in_err-scan-clause-err
+returns-in_err-scan-clause-err g c =
     let t = g.S.ConnSource.timetable c.args.source.now in
     let falls = (window_is_read_backward t (g.met.S.ConnSource.legal c.args.source.now) c.args.query.now).falls c.first_at-start.result c.first_at-end.result c.first_at-start.ensures c.first_at-end.ensures in
-    let read = c.in_err-scanned.ensures.err in
-    on_err c.from_residual-in_err-scanned.result _ (read.0, read.1 ∙ ap (λ (ks : List ℕ). g.S.ConnSource.log c.args.source.now ++ take read.0 ks) (sym falls))
+    let read = c.in_err-scan.ensures.err in
+    on_err c.from_residual-in_err-scan.result _ (read.0, read.1 ∙ ap (λ (ks : List ℕ). g.S.ConnSource.log c.args.source.now ++ take read.0 ks) (sym falls))
 
 pub returns-clause-log : goal.returns-clause-log
 returns-clause-log g c =
     let t = g.S.ConnSource.timetable c.args.source.now in
     let falls = (window_is_read_backward t (g.met.S.ConnSource.legal c.args.source.now) c.args.query.now).falls c.first_at-start.result c.first_at-end.result c.first_at-start.ensures c.first_at-end.ensures in
-    c.in_ok-scanned.ensures.log ∙ ap (λ (ks : List ℕ). g.S.ConnSource.log c.args.source.now ++ ks) (sym falls)
+    c.in_ok-scan.ensures.log ∙ ap (λ (ks : List ℕ). g.S.ConnSource.log c.args.source.now ++ ks) (sym falls)
 
 pub returns-in_err-points-clause-err : goal.returns-in_err-points-clause-err
 returns-in_err-points-clause-err g c =
@@ -30,8 +34,27 @@ returns-in_err-points-clause-err g c =
     let q = c.args.query.now in
     let log = g.S.ConnSource.log c.args.source.now in
     let falls = (window_is_read_backward t (g.met.S.ConnSource.legal c.args.source.now) c.args.query.now).falls c.first_at-start.result c.first_at-end.result c.first_at-start.ensures c.first_at-end.ensures in
-    let read : g.S.ConnSource.log c.scan_window.new.source ≡ g.S.ConnSource.log c.args.source.now ++ reverse (window t q) = c.in_ok-scanned.ensures.log ∙ ap (λ (ks : List ℕ). g.S.ConnSource.log c.args.source.now ++ ks) (sym falls) in
+    let read : g.S.ConnSource.log c.scan_window.new.source ≡ g.S.ConnSource.log c.args.source.now ++ reverse (window t q) = c.in_ok-scan.ensures.log ∙ ap (λ (ks : List ℕ). g.S.ConnSource.log c.args.source.now ++ ks) (sym falls) in
     on_err c.from_residual-in_err-points.result _ (length (reverse (window t q)), taken_all log (reverse (window t q)) (g.S.ConnSource.log c.scan_window.new.source) read)
+
+pub returns-in_err-told-clause-err : goal.returns-in_err-told-clause-err
+returns-in_err-told-clause-err g c =
+    let t = g.S.ConnSource.timetable c.args.source.now in
+    let q = c.args.query.now in
+    let log = g.S.ConnSource.log c.args.source.now in
+    let falls = (window_is_read_backward t (g.met.S.ConnSource.legal c.args.source.now) c.args.query.now).falls c.first_at-start.result c.first_at-end.result c.first_at-start.ensures c.first_at-end.ensures in
+    let read : g.S.ConnSource.log c.scan_window.new.source ≡ g.S.ConnSource.log c.args.source.now ++ reverse (window t q) = c.in_ok-scan.ensures.log ∙ ap (λ (ks : List ℕ). g.S.ConnSource.log c.args.source.now ++ ks) (sym falls) in
+    on_err c.from_residual-in_err-told.result _ (length (reverse (window t q)), taken_all log (reverse (window t q)) (g.S.ConnSource.log c.scan_window.new.source) read)
+
+pub tell_journeys-requires : goal.tell_journeys-requires
+tell_journeys-requires g c =
+    let rules = g.C.Criterion.rules c.args.criterion.now in
+    let t = g.S.ConnSource.timetable c.args.source.now in
+    let scan = c.in_ok-scan.scan in
+    let points = c.in_ok-points.points.items in
+    subst (λ (ps : List (Point g.row.C-V.Denot)). (p : Point g.row.C-V.Denot) → Contains ps p → IsJourneyTold (g.S.ConnSource.timetable c.scan_window.new.source).footpaths (story_of scan) p.tag) (sym c.deref-2.ensures.value)
+    (subst (λ (x : TimetableValue). (p : Point g.row.C-V.Denot) → Contains points p → IsJourneyTold x.footpaths (story_of scan) p.tag) (sym c.in_ok-scan.ensures.timetable)
+    (journeys_told rules t c.args.query.now c.first_at-start.result (story_of scan) (points_of scan.found) points c.in_ok-scan.ensures.matches c.in_ok-points.ensures.only))
 
 -- that it answers is kept with the timetable and the query that stand beside it
 pub invariant_of-result : goal.invariant_of-result
@@ -41,13 +64,17 @@ invariant_of-result g c =
     let t = g.S.ConnSource.timetable c.args.source.now in
     let q = c.args.query.now in
     let can : CanScan (g.S.ConnSource.timetable c.args.source.now) c.args.query.now = record { legal = g.met.S.ConnSource.legal c.args.source.now; limits = g.met.S.ConnSource.limits c.args.source.now; in_time = c.requires.small.2 } in
-    let found = points_of c.in_ok-scanned.scanned.found in
-    let points = c.in_ok-points.points.items in
-    let nodes = c.in_ok-scanned.scanned.nodes.items in
-    let bag = bag_under g.C.Criterion.rules c.in_ok-scanned.scanned.found.criterion c.args.criterion.now found c.in_ok-scanned.ensures.same c.in_ok-scanned.scanned.found.kept in
+    let scan = c.in_ok-scan.scan in
+    let found = points_of scan.found in
+    let points = c.in_ok-told.told.points.items in
+    let nodes = c.in_ok-told.told.nodes.items in
+    let bag = bag_under g.C.Criterion.rules scan.found.criterion c.args.criterion.now found c.in_ok-scan.ensures.same scan.found.kept in
     let way = way_at t q.target q.source c.in_ok-ways.ways.items c.index.result.now c.in_ok-ways.ensures c.requires.source c.index.ensures in
-    let made = answered rules laws t q can c.first_at-start.result c.first_at-start.ensures nodes found points c.index.result.now c.in_ok-scanned.ensures.matches bag c.in_ok-points.ensures.ordered c.in_ok-points.ensures.only c.in_ok-points.ensures.each way in
-    let at_t = subst (λ (x : TimetableValue). IsAnswered rules x q points nodes c.index.result.now) (sym (c.timetable_of.ensures ∙ c.in_ok-scanned.ensures.timetable)) made in
+    let says = subst (λ (x : TimetableValue). (p : Point g.row.C-V.Denot) → Contains points p → IsRetold x.footpaths (story_of scan) c.in_ok-points.points.items nodes p) c.in_ok-scan.ensures.timetable
+    (subst (λ (ps : List (Point g.row.C-V.Denot)). (p : Point g.row.C-V.Denot) → Contains points p → IsRetold (g.S.ConnSource.timetable c.scan_window.new.source).footpaths (story_of scan) ps nodes p) c.deref-2.ensures.value c.in_ok-told.ensures.says) in
+    let same = subst (λ (ps : List (Point g.row.C-V.Denot)). map untagged points ≡ map untagged ps) c.deref-2.ensures.value c.in_ok-told.ensures.same in
+    let made = answered rules laws t q can c.first_at-start.result c.first_at-start.ensures (story_of scan) nodes found c.in_ok-points.points.items points c.index.result.now c.in_ok-scan.ensures.matches bag c.in_ok-points.ensures.ordered c.in_ok-points.ensures.only c.in_ok-points.ensures.each same says way in
+    let at_t = subst (λ (x : TimetableValue). IsAnswered rules x q points nodes c.index.result.now) (sym (c.timetable_of.ensures ∙ c.in_ok-scan.ensures.timetable)) made in
     let at_q = subst (λ (x : Query). IsAnswered rules c.timetable_of.result.value x points nodes c.index.result.now) (sym c.of.ensures) at_t in
     record { answered = ∣ at_q ∣₁ }
 
@@ -58,15 +85,19 @@ returns-clause-answers g c =
     let t = g.S.ConnSource.timetable c.args.source.now in
     let q = c.args.query.now in
     let can : CanScan (g.S.ConnSource.timetable c.args.source.now) c.args.query.now = record { legal = g.met.S.ConnSource.legal c.args.source.now; limits = g.met.S.ConnSource.limits c.args.source.now; in_time = c.requires.small.2 } in
-    let found = points_of c.in_ok-scanned.scanned.found in
-    let points = c.in_ok-points.points.items in
-    let nodes = c.in_ok-scanned.scanned.nodes.items in
-    let bag = bag_under g.C.Criterion.rules c.in_ok-scanned.scanned.found.criterion c.args.criterion.now found c.in_ok-scanned.ensures.same c.in_ok-scanned.scanned.found.kept in
+    let scan = c.in_ok-scan.scan in
+    let found = points_of scan.found in
+    let points = c.in_ok-told.told.points.items in
+    let nodes = c.in_ok-told.told.nodes.items in
+    let bag = bag_under g.C.Criterion.rules scan.found.criterion c.args.criterion.now found c.in_ok-scan.ensures.same scan.found.kept in
     let way = way_at t q.target q.source c.in_ok-ways.ways.items c.index.result.now c.in_ok-ways.ensures c.requires.source c.index.ensures in
-    let made = answered rules laws t q can c.first_at-start.result c.first_at-start.ensures nodes found points c.index.result.now c.in_ok-scanned.ensures.matches bag c.in_ok-points.ensures.ordered c.in_ok-points.ensures.only c.in_ok-points.ensures.each way in
+    let says = subst (λ (x : TimetableValue). (p : Point g.row.C-V.Denot) → Contains points p → IsRetold x.footpaths (story_of scan) c.in_ok-points.points.items nodes p) c.in_ok-scan.ensures.timetable
+    (subst (λ (ps : List (Point g.row.C-V.Denot)). (p : Point g.row.C-V.Denot) → Contains points p → IsRetold (g.S.ConnSource.timetable c.scan_window.new.source).footpaths (story_of scan) ps nodes p) c.deref-2.ensures.value c.in_ok-told.ensures.says) in
+    let same = subst (λ (ps : List (Point g.row.C-V.Denot)). map untagged points ≡ map untagged ps) c.deref-2.ensures.value c.in_ok-told.ensures.same in
+    let made = answered rules laws t q can c.first_at-start.result c.first_at-start.ensures (story_of scan) nodes found c.in_ok-points.points.items points c.index.result.now c.in_ok-scan.ensures.matches bag c.in_ok-points.ensures.ordered c.in_ok-points.ensures.only c.in_ok-points.ensures.each same says way in
     record {
       answer = made.answer;
       attained = made.attained;
       direct = made.direct;
-      keeps = (refl, c.timetable_of.ensures ∙ c.in_ok-scanned.ensures.timetable, c.of.ensures);
+      keeps = (refl, c.timetable_of.ensures ∙ c.in_ok-scan.ensures.timetable, c.of.ensures);
     }

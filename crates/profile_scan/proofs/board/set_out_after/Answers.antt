@@ -3,24 +3,25 @@ use Rattle.timetable.proofs.LegalFacts.{Contains-At}
 use Rattle.criteria.specs.Laws.{Admits}
 use Rattle.bags.specs.Bag.{points_of}
 use Rattle.bags.specs.declared.point.Point.{Point}
+use Rattle.fronts.proofs.Growth.{extends_none, extends_on}
 use Rattle.profile_scan.specs.Values.{started}
-use Rattle.profile_scan.specs.Adding.{one_way}
+use Rattle.profile_scan.specs.Adding.{set_out_way}
 use Rattle.profile_scan.specs.Matching.{from_to}
-use Rattle.profile_scan.specs.Nodes.{IsSpelled, spelling}
-use Rattle.profile_scan.specs.declared.nodes.Node.TheVariants.{SetsOut}
+use Rattle.profile_scan.specs.Story.{story, told}
+use Rattle.profile_scan.specs.declared.story.SetOut.{SetOut}
 use Rattle.profile_scan.proofs.Offers.{bag_under, start_admits, takes_first, takes_next, takes_worth, takes_all}
-use Rattle.profile_scan.proofs.NodeLemmas.{extends_none, extends_on}
+use Rattle.profile_scan.proofs.StoryLemmas.{set_outs_grow, grows_on}
 use Rattle.profile_scan.proofs.board.set_out_after.Goals as goal
 
 pub loop-place-init : goal.loop-place-init
 loop-place-init g c = record {
   same = c.requires.found;
-  nodes = extends_none c.args.nodes.now.items;
-  takes = λ before all ext_before ext. takes_first (g.C.Criterion.rules c.args.criterion.now) (points_of c.args.labels.now) _ (points_of c.args.found.now);
+  set_outs = extends_none c.args.set_outs.now.items;
+  takes = λ walks exits steps before all ext_before ext. takes_first (g.C.Criterion.rules c.args.criterion.now) (points_of c.args.labels.now) _ (points_of c.args.found.now);
 }
 
-pub add-requires-clause-admitted : goal.add-requires-clause-admitted
-add-requires-clause-admitted g c =
+pub add_found-requires-clause-admitted : goal.add_found-requires-clause-admitted
+add_found-requires-clause-admitted g c =
     let rules = g.C.Criterion.rules c.args.criterion.now in
     let laws = g.met.C.Criterion.laws c.args.criterion.now in
     let labels = bag_under g.C.Criterion.rules c.args.labels.now.criterion c.args.criterion.now (points_of c.args.labels.now) c.requires.labels c.args.labels.now.kept in
@@ -36,20 +37,27 @@ loop-place-preserved g c =
     let x = c.point-label.result in
     let worth = c.value_after-value.ensures in
     record {
-      same = c.in_ok-add.ensures.same;
-      nodes = extends_on c.args.nodes.now.items c.loop-place.nodes.items c.add.new.nodes.items c.loop-place.invariant.nodes c.in_ok-add.ensures.nodes;
-      takes = λ before all ext_before ext. takes_next rules (points_of c.args.labels.now)
-          (λ (label : Point g.row.C-V.Denot). one_way c.args.departure (started rules c.args.start (rules.ride label.value)) (IsSpelled (from_to (spelling before) (spelling all)) (SetsOut c.args.start c.args.first label.tag)))
-          c.loop-place.place x (points_of c.args.found.now) (points_of c.loop-place.found) (points_of c.add.new.bag) c.point-label.ensures
+      same = c.in_ok-add_found.ensures.same;
+      set_outs = extends_on c.args.set_outs.now.items c.loop-place.set_outs.items c.add_found.new.set_outs.items c.loop-place.invariant.set_outs c.in_ok-add_found.ensures.set_outs;
+      takes = λ walks exits steps before all ext_before ext.
+          let was = story exits steps c.args.set_outs.now.items in
+          let mid = story exits steps c.loop-place.set_outs.items in
+          let now = story exits steps c.add_found.new.set_outs.items in
+          let tags = from_to (told walks before) (told walks all) in
+          let set_out : SetOut = record { start = c.args.start; first = c.args.first; label = x.tag } in
+          takes_next rules (points_of c.args.labels.now)
+          (λ (label : Point g.row.C-V.Denot). set_out_way tags c.args.departure (started rules c.args.start (rules.ride label.value)) (record { start = c.args.start; first = c.args.first; label = label.tag }))
+          c.loop-place.place x (points_of c.args.found.now) (points_of c.loop-place.found) (points_of c.add_found.new.found) c.point-label.ensures
           (λ y way is opened. start_admits rules laws c.args.start (rules.ride y.value) c.requires.secs (laws.ride_admits y.value (labels.admitted y is)))
-          (c.loop-place.invariant.takes before all ext_before (extends_on c.loop-place.nodes.items c.add.new.nodes.items all c.in_ok-add.ensures.nodes ext))
-          (takes_worth rules c.args.departure c.value_after-value.result (started rules c.args.start (rules.ride x.value)) (IsSpelled (from_to (spelling before) (spelling all)) (SetsOut c.args.start c.args.first x.tag)) (points_of c.loop-place.found) (points_of c.add.new.bag) worth
-          (c.in_ok-add.ensures.takes before all (extends_on before c.args.nodes.now.items c.loop-place.nodes.items ext_before c.loop-place.invariant.nodes) ext));
+          (c.loop-place.invariant.takes walks exits steps before all ext_before (grows_on mid now all (set_outs_grow exits steps c.loop-place.set_outs.items c.add_found.new.set_outs.items c.in_ok-add_found.ensures.set_outs) ext))
+          (takes_worth rules c.args.departure c.value_after-value.result (started rules c.args.start (rules.ride x.value)) ((set_out_way tags c.args.departure x.value set_out).fits_tag tt) (points_of c.loop-place.found) (points_of c.add_found.new.found) worth
+          (c.in_ok-add_found.ensures.takes walks exits steps before all (grows_on before was mid ext_before (set_outs_grow exits steps c.args.set_outs.now.items c.loop-place.set_outs.items c.loop-place.invariant.set_outs)) ext));
     }
 
 pub returns-clause-takes : goal.returns-clause-takes
-returns-clause-takes g c before all ext_before ext =
+returns-clause-takes g c walks exits steps before all ext_before ext =
     let rules = g.C.Criterion.rules c.args.criterion.now in
-    takes_all rules (points_of c.args.labels.now) c.args.departure (λ label. started rules c.args.start (rules.ride label.value)) (λ label. IsSpelled (from_to (spelling before) (spelling all)) (SetsOut c.args.start c.args.first label.tag)) _ c.loop-place.place (points_of c.args.found.now) (points_of c.loop-place.found) (omega arith)
+    let tags = from_to (told walks before) (told walks all) in
+    takes_all rules (points_of c.args.labels.now) c.args.departure (λ label. started rules c.args.start (rules.ride label.value)) (λ label. (set_out_way tags c.args.departure label.value (record { start = c.args.start; first = c.args.first; label = label.tag })).fits_tag tt) _ c.loop-place.place (points_of c.args.found.now) (points_of c.loop-place.found) (omega arith)
     (λ label tag h. h)
-    (c.loop-place.invariant.takes before all ext_before ext)
+    (c.loop-place.invariant.takes walks exits steps before all ext_before ext)

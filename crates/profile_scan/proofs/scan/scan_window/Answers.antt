@@ -1,7 +1,5 @@
 use Rattle.std.proofs.Common.{◌≡◌, ◌+◌, ◌-◌, ◌<◌, ◌∷◌, [], ◌++◌, All, ℕ, length, arith, refl, sym, ◌∙◌, ap, subst}
-use Rattle.std.proofs.lemmas.List.Elements.{All-nil}
-use Rattle.bags.specs.Bag.{points_of, criterion_of}
-use Rattle.bags.specs.declared.bag.Bag.{Bag}
+use Rattle.bags.specs.Bag.{points_of}
 use Rattle.timetable.specs.TimetableValue.{TimetableValue}
 use Rattle.profile_scan.specs.Values.{journey_value}
 use Rattle.profile_scan.specs.Continuations.{CountsFrom}
@@ -9,8 +7,8 @@ use Rattle.profile_scan.specs.Plain.{IsPlain}
 use Rattle.profile_scan.specs.Matching.{from_to, MatchesFrom, Matches}
 use Rattle.profile_scan.specs.Steps.{IsStep}
 use Rattle.profile_scan.specs.LawStatements.{CanScan}
-use Rattle.profile_scan.specs.Nodes.{spelling}
-use Rattle.profile_scan.specs.Kept.{kept_by}
+use Rattle.profile_scan.specs.Story.{told}
+use Rattle.profile_scan.specs.Kept.{IsScan, kept_by, story_of}
 use Rattle.profile_scan.specs.Window.{falling}
 use Rattle.profile_scan.proofs.Ends.{nothing_follows}
 use Rattle.profile_scan.proofs.StepLemmas.{one_index_down}
@@ -28,15 +26,10 @@ loop-place-init g c =
       high = omega arith;
       timetable = refl;
       log = log_none (g.S.ConnSource.log c.args.source.now) c.args.end;
-      len = c.in_ok-stops.ensures.len ∙ c.stops.ensures;
-      long = c.in_ok-labels.ensures.long ∙ c.trips.ensures;
-      placed = c.in_ok-labels.ensures.placed;
-      stops = c.in_ok-stops.ensures.same;
-      labels = subst (All (λ (b : Bag g.row.C.Denot g.row.C-V.Denot g.C.Criterion). criterion_of b ≡ c.args.criterion.now)) (sym c.in_ok-labels.ensures.empty) (All-nil (λ b. criterion_of b ≡ c.args.criterion.now));
-      found = c.new-found.ensures.criterion;
-      matched = matches_alike rules t c.args.query.now (spelling c.new-nodes.result.items) c.args.end (record { bag = λ _. []; labels = λ _. []; found = [] }) (kept_by c.in_ok-stops.stops.items c.in_ok-labels.labels.slots.items c.in_ok-labels.labels.bags.items c.new-found.result)
-          c.in_ok-stops.ensures.none c.in_ok-labels.ensures.none c.new-found.ensures.empty
-          (nothing_follows rules t c.args.query.now can c.args.end c.requires.end (spelling c.new-nodes.result.items));
+      scan = subst (λ (n : ℕ). IsScan g.C.Criterion.rules c.args.criterion.now n t.trips c.in_ok-scan.scan) c.stops.ensures (subst (λ (n : ℕ). IsScan g.C.Criterion.rules c.args.criterion.now c.stops.result n c.in_ok-scan.scan) c.trips.ensures c.in_ok-scan.ensures.scan);
+      matched = matches_alike rules t c.args.query.now (told t.footpaths (story_of c.in_ok-scan.scan)) c.args.end (record { bag = λ _. []; labels = λ _. []; found = [] }) (kept_by c.in_ok-scan.scan)
+          c.in_ok-scan.ensures.bags c.in_ok-scan.ensures.labels c.in_ok-scan.ensures.found
+          (nothing_follows rules t c.args.query.now can c.args.end c.requires.end (told t.footpaths (story_of c.in_ok-scan.scan)));
     }
 
 pub loop-place-preserved : goal.loop-place-preserved
@@ -49,30 +42,23 @@ loop-place-preserved g c =
     let rules = g.C.Criterion.rules c.args.criterion.now in
     let q = c.args.query.now in
     let source = c.connection-connection.new.self in
+    let t = g.S.ConnSource.timetable c.args.source.now in
     let same = c.connection-connection.ensures.same ∙ inv.timetable in
     let can : CanScan (g.S.ConnSource.timetable c.args.source.now) c.args.query.now = record { legal = g.met.S.ConnSource.legal c.args.source.now; limits = g.met.S.ConnSource.limits c.args.source.now; in_time = c.requires.by } in
     let in_range = c.requires.end.in_range in
     let in_i : c.loop-place.place - 1 < length (g.S.ConnSource.timetable c.args.source.now).connections = omega arith in
-    let tags = from_to (spelling c.loop-place.nodes.items) (spelling c.step.new.nodes.items) in
+    let tags = from_to (told t.footpaths (story_of c.loop-place.scan)) (told t.footpaths (story_of c.step.new.scan)) in
     let up : c.loop-place.place ≡ c.loop-place.place - 1 + 1 = omega arith in
     record {
       low = omega arith;
       high = omega arith;
       timetable = same;
       log = c.connection-connection.ensures.log ∙ ap (λ ks. ks ++ i ∷ []) inv.log ∙ log_more (g.S.ConnSource.log c.args.source.now) i c.loop-place.place c.args.end (omega arith) high;
-      len = c.in_ok-step.ensures.len ∙ ap (λ (t : TimetableValue). t.stops) same;
-      long = c.in_ok-step.ensures.long ∙ ap (λ (t : TimetableValue). t.trips) same;
-      placed = c.in_ok-step.ensures.placed;
-      stops = c.in_ok-step.ensures.stops;
-      labels = c.in_ok-step.ensures.labels;
-      found = c.in_ok-step.ensures.found;
+      scan = subst (λ (x : TimetableValue). IsScan g.C.Criterion.rules c.args.criterion.now x.stops x.trips c.step.new.scan) same c.in_ok-step.ensures.scan;
       matched =
-          one_index_down rules (g.met.C.Criterion.laws c.args.criterion.now) (g.S.ConnSource.timetable c.args.source.now) q can tags i in_i
-          (kept_by c.loop-place.stops.items c.loop-place.labels.slots.items c.loop-place.labels.bags.items c.loop-place.found)
-          (kept_by c.step.new.stops.items c.step.new.labels.slots.items c.step.new.labels.bags.items c.step.new.found)
-          (subst (λ (n : ℕ). MatchesFrom rules (g.S.ConnSource.timetable c.args.source.now) q (spelling c.loop-place.nodes.items) n (kept_by c.loop-place.stops.items c.loop-place.labels.slots.items c.loop-place.labels.bags.items c.loop-place.found)) up
-          inv.matched)
-          (subst (λ (t : TimetableValue). IsStep rules t q tags i (kept_by c.loop-place.stops.items c.loop-place.labels.slots.items c.loop-place.labels.bags.items c.loop-place.found) (kept_by c.step.new.stops.items c.step.new.labels.slots.items c.step.new.labels.bags.items c.step.new.found)) same
+          one_index_down rules (g.met.C.Criterion.laws c.args.criterion.now) t q can tags i in_i (kept_by c.loop-place.scan) (kept_by c.step.new.scan)
+          (subst (λ (n : ℕ). MatchesFrom rules t q (told t.footpaths (story_of c.loop-place.scan)) n (kept_by c.loop-place.scan)) up inv.matched)
+          (subst (λ (x : TimetableValue). IsStep rules x q (from_to (told x.footpaths (story_of c.loop-place.scan)) (told x.footpaths (story_of c.step.new.scan))) i (kept_by c.loop-place.scan) (kept_by c.step.new.scan)) same
           c.in_ok-step.ensures.step);
     }
 
@@ -96,4 +82,4 @@ returns-clause-matches g c =
     let q = c.args.query.now in
     let at : c.loop-place.place ≡ c.args.start = omega arith in
     let m = inv.matched in
-    subst (λ (n : ℕ). Matches rules (spelling c.loop-place.nodes.items).journey (CountsFrom t q n) (IsPlain t q.target) (journey_value rules t) (points_of c.loop-place.found)) at m.at_source
+    subst (λ (n : ℕ). Matches rules (told t.footpaths (story_of c.loop-place.scan)).journey (CountsFrom t q n) (IsPlain t q.target) (journey_value rules t) (points_of c.loop-place.scan.found)) at m.at_source

@@ -1,13 +1,16 @@
 use Rattle.std.proofs.Common.{Result, Ok, Err, IfOk, map, ap}
 use Rattle.fronts.specs.Front.{points_from}
 use Rattle.fronts.specs.Lists.{lists_criterion, entries_of, items_of, point_of}
-use Rattle.fronts.proofs.Growth.{same_points}
+use Rattle.fronts.proofs.Growth.{extends_long, same_points}
 use Rattle.fronts.proofs.Mapped.{takes_points}
 use Rattle.fronts.proofs.front_lists.FrontLists.insert.Goals as goal
 
 if_ok_more : {T E : Type 0} (r : Result T E) (P Q : T → Type 0) → ((x : T) → P x → Q x) → IfOk r P → IfOk r Q
 if_ok_more (Ok x) P Q f h = f x h
 if_ok_more (Err e) P Q f h = h
+
+pub returns-clause-grows : goal.returns-clause-grows
+returns-clause-grows g c = extends_long (entries_of c.args.self.now) c.insert.new.entries.items c.insert.ensures.more_entries
 
 pub returns-clause-same : goal.returns-clause-same
 returns-clause-same g c place lt =

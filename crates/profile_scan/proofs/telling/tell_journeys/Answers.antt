@@ -1,0 +1,19 @@
+use Rattle.std.proofs.Common.{map, take, sym, ◌∙◌, ap, arith}
+use Rattle.std.proofs.lemmas.List.{take_all}
+use Rattle.profile_scan.specs.Kept.{story_of}
+use Rattle.profile_scan.specs.Points.{untagged}
+use Rattle.profile_scan.proofs.TellingLemmas.{retold_more}
+use Rattle.profile_scan.proofs.telling.tell_journeys.Goals as goal
+
+pub tell_journey-requires : goal.tell_journey-requires
+tell_journey-requires g c = c.requires c.index-points-i.result (c.loop-i.i, omega arith, sym c.index-points-i.is)
+
+pub loop-i-preserved : goal.loop-i-preserved
+loop-i-preserved g c =
+    let walks = (g.S.ConnSource.timetable c.args.source.now).footpaths in
+    let m = retold_more walks (story_of c.args.scan.now) c.args.points.now c.loop-i.told.items c.push.new.self.items c.loop-i.nodes.items c.tell_journey.new.nodes.items c.loop-i.i c.index-points-i.result c.in_ok-tag.tag
+    c.in_ok-tag.ensures.nodes (omega arith) c.index-points-i.is c.in_ok-push.ensures.items c.in_ok-tag.ensures.says c.loop-i.invariant.same c.loop-i.invariant.says in
+    record { same = m.0; says = m.1 }
+
+pub returns-clause-same : goal.returns-clause-same
+returns-clause-same g c = c.loop-i.invariant.same ∙ ap (map untagged) (take_all c.loop-i.i c.args.points.now (omega arith))

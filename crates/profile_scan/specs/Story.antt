@@ -1,0 +1,67 @@
+-- What a scan writes down, and what it tells: how one goes on from each label, from each point of a stop, and from each point found.
+use Rattle.std.specs.Prelude.{◌≡◌, ℕ, zero, suc, List, [], length, Option, Some, None, slice_get}
+use Rattle.timetable.specs.declared.network.Footpath.{Footpath}
+use Rattle.timetable.specs.JourneyValue.{JourneyValue}
+use Rattle.fronts.specs.declared.entry.Step.{Step}
+use Rattle.fronts.specs.Front.{Extends}
+use Rattle.profile_scan.specs.Continuations.{Onward, Aboard}
+use Rattle.profile_scan.specs.Matching.{Spelling, Spellings}
+use Rattle.profile_scan.specs.Nodes.{walk_of, changed_at, boarded_after, set_out_by}
+use Rattle.profile_scan.specs.declared.story.Exit.{Exit}
+use Rattle.profile_scan.specs.declared.story.Exit.TheVariants.{Ends, Changes}
+use Rattle.profile_scan.specs.declared.story.SetOut.{SetOut}
+
+-- of each label how its trip is left, of each point of a stop the step that boards, and of each point found how one sets out, by their tags
+pub record Story : Type 0 where
+  pub exits : List Exit
+  pub steps : List Step
+  pub set_outs : List SetOut
+
+abbrev pub story : List Exit → List Step → List SetOut → Story
+story exits steps set_outs = record { exits = exits; steps = steps; set_outs = set_outs }
+
+-- a story, and what is written down after it
+pub record Grows (old new : Story) : Type 0 where
+  pub exits : Extends old.exits new.exits
+  pub steps : Extends old.steps new.steps
+  pub set_outs : Extends old.set_outs new.set_outs
+
+-- what an exit tells, by what the steps do
+abbrev pub exit_tells : (ℕ → Option Onward) → Option Exit → Option Aboard
+exit_tells onward None = None
+exit_tells onward (Some (Ends last walk)) = Some (record { last = last; walk = walk_of walk; rides = [] })
+exit_tells onward (Some (Changes last step)) = changed_at last (onward step)
+
+-- what a step tells, by what the labels do
+abbrev pub boards_by : ℕ → Option Aboard → Option Footpath → Option Onward
+boards_by first x None = None
+boards_by first x (Some f) = boarded_after f first x
+
+abbrev pub step_tells : List Footpath → (ℕ → Option Aboard) → Option Step → Option Onward
+step_tells walks aboard None = None
+step_tells walks aboard (Some s) = boards_by s.first (aboard s.label) (slice_get walks s.walk)
+
+-- what a way to set out tells, by what the labels do
+abbrev pub set_out_tells : (ℕ → Option Aboard) → Option SetOut → Option JourneyValue
+set_out_tells aboard None = None
+set_out_tells aboard (Some s) = set_out_by s.start s.first (aboard s.label)
+
+-- what a label tells, in so many legs at most
+unfoldable pub label_tells : List Footpath → Story → ℕ → ℕ → Option Aboard
+label_tells walks s zero label = None
+label_tells walks s (suc n) label = exit_tells (λ tag. step_tells walks (label_tells walks s n) (slice_get s.steps tag)) (slice_get s.exits label)
+
+-- what each tag tells, of whatever it may be
+abbrev pub told : List Footpath → Story → Spelling
+told walks s = record {
+  onward = λ tag. step_tells walks (label_tells walks s (length s.exits)) (slice_get s.steps tag);
+  aboard = label_tells walks s (length s.exits);
+  journey = λ tag. set_out_tells (label_tells walks s (length s.exits)) (slice_get s.set_outs tag);
+}
+
+-- a tag tells what an exit says, by what earlier tags told
+abbrev pub IsExit : Spellings → Exit → ℕ → Type 0
+IsExit tags (Ends last walk) tag = tags.later.aboard tag ≡ Some (record { last = last; walk = walk_of walk; rides = [] })
+IsExit tags (Changes last step) tag =
+    (x : Onward) → tags.earlier.onward step ≡ Some x
+    → tags.later.aboard tag ≡ Some (record { last = last; walk = x.walk; rides = x.rides })

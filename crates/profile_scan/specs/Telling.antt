@@ -1,0 +1,64 @@
+-- Journeys told in nodes.
+use Rattle.std.specs.Prelude.{◌≡◌, ℕ, List, [], ◌∷◌, Option, Some, None, slice_get, Contains}
+use Rattle.bags.specs.declared.point.Point.{Point}
+use Rattle.timetable.specs.declared.network.Footpath.{Footpath}
+use Rattle.timetable.specs.JourneyValue.{JourneyValue}
+use Rattle.fronts.specs.declared.entry.Step.{Step}
+use Rattle.profile_scan.specs.Continuations.{Aboard}
+use Rattle.profile_scan.specs.Nodes.{spelling}
+use Rattle.profile_scan.specs.Story.{Story, told}
+use Rattle.profile_scan.specs.declared.nodes.Node.{Node}
+use Rattle.profile_scan.specs.declared.telling.Change.{Change}
+use Rattle.profile_scan.specs.declared.telling.End.{End}
+use Rattle.profile_scan.specs.declared.story.Exit.{Exit}
+use Rattle.profile_scan.specs.declared.story.Exit.TheVariants.{Ends, Changes}
+
+abbrev pub with_last : ℕ → Option Step → Option Change
+with_last last None = None
+with_last last (Some s) = Some (record { last = last; step = s })
+
+abbrev pub change_by : List Step → Option Exit → Option Change
+change_by steps None = None
+change_by steps (Some (Ends last walk)) = None
+change_by steps (Some (Changes last step)) = with_last last (slice_get steps step)
+
+-- how one changes after a label, if one does
+abbrev pub change : Story → ℕ → Option Change
+change s label = change_by s.steps (slice_get s.exits label)
+
+abbrev pub ending_by : Option Exit → Option End
+ending_by None = None
+ending_by (Some (Ends last walk)) = Some (record { last = last; walk = walk })
+ending_by (Some (Changes last step)) = None
+
+-- how one ends after a label, if one does
+abbrev pub ending : Story → ℕ → Option End
+ending s label = ending_by (slice_get s.exits label)
+
+-- these labels lead from one to another
+abbrev pub IsRoute : Story → ℕ → List ℕ → ℕ → Type 0
+IsRoute s first [] last = first ≡ last
+IsRoute s first (label ∷ labels) last = (first ≡ label) × ((c : Change) × (change s label ≡ Some c) × IsRoute s c.step.label labels last)
+
+-- a story tells something of a label
+abbrev pub IsLabelTold : List Footpath → Story → ℕ → Type 0
+IsLabelTold walks s label = (x : Aboard) × ((told walks s).aboard label ≡ Some x)
+
+-- and the node of a number says the same
+abbrev pub SaysLabel : List Footpath → Story → ℕ → List Node → ℕ → Type 0
+SaysLabel walks s label nodes number = (x : Aboard) → (told walks s).aboard label ≡ Some x → (spelling nodes).aboard number ≡ Some x
+
+-- a story tells a journey of a point found
+abbrev pub IsJourneyTold : List Footpath → Story → ℕ → Type 0
+IsJourneyTold walks s tag = (j : JourneyValue) × ((told walks s).journey tag ≡ Some j)
+
+abbrev pub SaysJourney : List Footpath → Story → ℕ → List Node → ℕ → Type 0
+SaysJourney walks s tag nodes number = (j : JourneyValue) → (told walks s).journey tag ≡ Some j → (spelling nodes).journey number ≡ Some j
+
+-- a point has the departure and the value of one of these, and its tag is the number of a node that says its journey
+pub record IsRetold {V : Type 0} (walks : List Footpath) (s : Story) (points : List (Point V)) (nodes : List Node) (p : Point V) : Type 0 where
+  pub of : Point V
+  pub is_there : Contains points of
+  pub departs : p.departure ≡ of.departure
+  pub worth : p.value ≡ of.value
+  pub says : SaysJourney walks s of.tag nodes p.tag

@@ -1,0 +1,21 @@
+//! What a scan writes down of how one goes on, by number.
+
+use timetable::Footpath;
+
+/// How one leaves the trip of a label. `last` is the place of the connection where.
+#[derive(Clone, Copy, Drop)]
+pub enum Exit {
+    /// At the target, or one footpath before it.
+    Ends { last: u32, walk: Option<Footpath> },
+    /// To go on from that stop, by the step of a number.
+    Changes { last: u32, step: usize },
+}
+
+/// How one sets out from the source: a start, the place of the connection that is boarded, and the number of the label by which one
+/// rides on.
+#[derive(Clone, Copy, Drop)]
+pub struct SetOut {
+    pub start: Option<Footpath>,
+    pub first: u32,
+    pub label: usize,
+}

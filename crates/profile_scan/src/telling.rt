@@ -1,0 +1,214 @@
+//! Journeys told in nodes, of the points found alone.
+
+ghost use Rattle.std.specs.Prelude.{◌≡◌, ℕ, IfOk, Contains, Some, None, length, map};
+ghost use Rattle.bags.specs.declared.point.Point.{Point};
+ghost use Rattle.fronts.specs.Front.{Extends};
+ghost use Rattle.profile_scan.specs.Points.{untagged};
+ghost use Rattle.profile_scan.specs.Kept.{story_of};
+ghost use Rattle.profile_scan.specs.declared.telling.Change.{Change};
+ghost use Rattle.profile_scan.specs.Telling.{IsRoute, change, ending, IsLabelTold, SaysLabel, IsJourneyTold, SaysJourney, IsRetold};
+
+use crate::nodes::Node;
+use crate::scan::Scan;
+use crate::story::Exit;
+use bags::Point;
+use criteria::Criterion;
+use fronts::Step;
+use sources::ConnSource;
+use std::alloc::{AllocError, Global};
+use timetable::Footpath;
+
+// How one changes after a label: the place of the connection that one leaves, and the step that boards.
+#[derive(Clone, Copy, Drop)]
+struct Change {
+    last: u32,
+    step: Step,
+}
+
+// How one ends after a label: the place of the connection that one leaves, and the footpath to the target, if there is one.
+#[derive(Clone, Copy, Drop)]
+struct End {
+    last: u32,
+    walk: Option<Footpath>,
+}
+
+// How one changes after a label, if one does.
+fn change_after<C: Criterion>(scan: &Scan<C>, label: usize) -> Option<Change>
+    ensures { result ≡ change (story_of scan.now) label }
+{
+    match scan.exits.get(label).copied()? {
+        Exit::Ends { .. } => None,
+        Exit::Changes { last, step } => {
+            let step = scan.stops.lists.step(step)?;
+            Some(Change { last, step })
+        },
+    }
+}
+
+// How one ends after a label, if one does.
+fn end_after<C: Criterion>(scan: &Scan<C>, label: usize) -> Option<End>
+    ensures { result ≡ ending (story_of scan.now) label }
+{
+    match scan.exits.get(label).copied()? {
+        Exit::Ends { last, walk } => Some(End { last, walk }),
+        Exit::Changes { .. } => None,
+    }
+}
+
+// The last label to which one leads, those on the way to it being noted.
+fn note_route<C: Criterion>(
+    scan: &Scan<C>,
+    first: usize,
+    route: &mut Vec<usize>,
+) -> Result<usize, AllocError>
+    ensures route { IfOk result (λ last. IsRoute (story_of scan.now) first route.new.items last) }
+    ensures ends { IfOk result (λ last. (walks : _) → IsLabelTold walks (story_of scan.now) first → change (story_of scan.now) last ≡ None) }
+{
+    route.clear();
+    let mut label = first;
+    for _i in 0..scan.exits.len() {
+        match change_after(scan, label) {
+            None => return Ok(label),
+            Some(change) => {
+                route.push(label)?;
+                label = change.step.label as usize;
+            },
+        }
+    }
+    Ok(label)
+}
+
+// Adds a node that says how one leaves the trip of a label for good.
+fn tell_end<C: Criterion>(
+    scan: &Scan<C>,
+    label: usize,
+    nodes: &mut Vec<Node>,
+) -> Result<usize, AllocError>
+    ensures nodes { Extends nodes.old.items nodes.new.items }
+    ensures says { IfOk result (λ number. (walks : _) → IsLabelTold walks (story_of scan.now) label → change (story_of scan.now) label ≡ None → SaysLabel walks (story_of scan.now) label nodes.new.items number) }
+{
+    let number = nodes.len();
+    match end_after(scan, label) {
+        None => Ok(number),
+        Some(end) => {
+            nodes.push(Node::Ends {
+                last: end.last,
+                walk: end.walk,
+            })?;
+            Ok(number)
+        },
+    }
+}
+
+// Adds the nodes that say how one changes after a label, `next` being the number of the node by which one rides on.
+fn tell_change<S: ConnSource, C: Criterion>(
+    source: &S,
+    scan: &Scan<C>,
+    label: usize,
+    next: usize,
+    nodes: &mut Vec<Node>,
+) -> Result<usize, AllocError>
+    requires told { IsLabelTold (S.timetable source.now).footpaths (story_of scan.now) label }
+    requires next { (c : Change) × (change (story_of scan.now) label ≡ Some c) × SaysLabel (S.timetable source.now).footpaths (story_of scan.now) c.step.label nodes.old.items next }
+    ensures nodes { Extends nodes.old.items nodes.new.items }
+    ensures says { IfOk result (λ number. SaysLabel (S.timetable source.now).footpaths (story_of scan.now) label nodes.new.items number) }
+{
+    match change_after(scan, label) {
+        None => Ok(next),
+        Some(change) => {
+            let walk = source.footpath(change.step.walk as usize);
+            let boards = nodes.len();
+            nodes.push(Node::Boards {
+                walk,
+                first: change.step.first,
+                next,
+            })?;
+            let changes = nodes.len();
+            nodes.push(Node::Changes {
+                last: change.last,
+                next: boards,
+            })?;
+            Ok(changes)
+        },
+    }
+}
+
+// Adds the nodes that say how one goes on by a label.
+fn tell_label<S: ConnSource, C: Criterion>(
+    source: &S,
+    scan: &Scan<C>,
+    label: usize,
+    route: &mut Vec<usize>,
+    nodes: &mut Vec<Node>,
+) -> Result<usize, AllocError>
+    requires { IsLabelTold (S.timetable source.now).footpaths (story_of scan.now) label }
+    ensures nodes { Extends nodes.old.items nodes.new.items }
+    ensures says { IfOk result (λ number. SaysLabel (S.timetable source.now).footpaths (story_of scan.now) label nodes.new.items number) }
+{
+    let last = note_route(scan, label, route)?;
+    let end = tell_end(scan, last, nodes)?;
+    let mut number = end;
+    while let Some(earlier) = route.pop() {
+        number = tell_change(source, scan, earlier, number, nodes)?;
+    }
+    Ok(number)
+}
+
+// Adds the nodes of the journey of a point found.
+fn tell_journey<S: ConnSource, C: Criterion>(
+    source: &S,
+    scan: &Scan<C>,
+    tag: usize,
+    route: &mut Vec<usize>,
+    nodes: &mut Vec<Node>,
+) -> Result<usize, AllocError>
+    requires { IsJourneyTold (S.timetable source.now).footpaths (story_of scan.now) tag }
+    ensures nodes { Extends nodes.old.items nodes.new.items }
+    ensures says { IfOk result (λ number. SaysJourney (S.timetable source.now).footpaths (story_of scan.now) tag nodes.new.items number) }
+{
+    let set_out = scan.set_outs[tag];
+    let next = tell_label(source, scan, set_out.label, route, nodes)?;
+    let number = nodes.len();
+    nodes.push(Node::SetsOut {
+        start: set_out.start,
+        first: set_out.first,
+        next,
+    })?;
+    Ok(number)
+}
+
+/// Points whose tags are the numbers of nodes.
+#[derive(Drop)]
+pub struct Told<V> {
+    pub points: Vec<Point<V>>,
+    pub nodes: Vec<Node>,
+}
+
+/// The points found, told in nodes.
+pub fn tell_journeys<S: ConnSource, C: Criterion>(
+    alloc: Global,
+    source: &S,
+    scan: &Scan<C>,
+    points: &[Point<C::V>],
+) -> Result<Told<C::V>, AllocError>
+    requires { (p : Point _) → Contains points.now p → IsJourneyTold (S.timetable source.now).footpaths (story_of scan.now) p.tag }
+    ensures same { IfOk result (λ told. map untagged told.points.items ≡ map untagged points.now) }
+    ensures says { IfOk result (λ told. (p : Point _) → Contains told.points.items p → IsRetold (S.timetable source.now).footpaths (story_of scan.now) points.now told.nodes.items p) }
+{
+    let mut told = Vec::with_capacity(alloc, points.len())?;
+    let mut nodes = Vec::new(alloc);
+    let mut route = Vec::new(alloc);
+    for i in 0..points.len() {
+        let point = points[i];
+        let tag = tell_journey(source, scan, point.tag, &mut route, &mut nodes)?;
+        told.push(Point {
+            departure: point.departure,
+            value: point.value,
+            tag,
+        })?;
+    }
+    Ok(Told {
+        points: told,
+        nodes,
+    })
+}
