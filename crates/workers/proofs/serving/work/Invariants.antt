@@ -1,0 +1,4 @@
+use Rattle.workers.proofs.serving.work.Given as goal
+
+abbrev pub invariant-loop : goal.invariant-loop
+invariant-loop g l = (goal.iterator-loop g).can_next l.iterator' × (goal.iterator-loop g).is_finite l.iterator' × g.T.Versions.fits l.shelves l.seat

@@ -1,0 +1,38 @@
+-- What comes of an order to load a feed.
+use Rattle.std.specs.Prelude.{◌≡◌, ◌⊎◌, ℕ, List}
+use Rattle.image_layout.specs.Image.{ImageValue}
+use Rattle.connections.specs.declared.report.Report.{Report}
+use Rattle.feed_files.specs.Reading.{Content}
+use Rattle.feed_loader.specs.Refused.{IsLoadRefusal, IsLoaded, IsWantOfMemory}
+use Rattle.feed_loader.specs.declared.plan.Plan.{Plan}
+use Rattle.epochs.specs.Seats.{PublishStep, RefuseStep, CollectStep}
+use Rattle.epochs.specs.declared.collected.Collected.{Collected}
+use Rattle.epochs.specs.declared.faults.PublishFault.{PublishFault}
+use Rattle.epochs.specs.declared.seats.LoaderAnswer.{LoaderAnswer}
+use Rattle.workers.specs.declared.refusal.LoadRefusal.{LoadRefusal}
+
+-- the image of what the files hold
+abbrev pub IsImageOf : Content → Plan → ImageValue → Type 0
+IsImageOf content plan image = (report : Report) × IsLoaded content plan image.timetable image.names report
+
+-- what a refusal tells of the files; a refused publish tells nothing of them
+abbrev pub MayRefuse : Content → Plan → LoadRefusal → Type 0
+MayRefuse content plan (LoadRefusal.Load fault) = ¬ (IsWantOfMemory fault) → IsLoadRefusal content plan fault
+MayRefuse content plan (LoadRefusal.Publish fault) = Unit {0}
+
+-- told before a publish was tried: an image that found no room to be shared is told as want of memory of a publish
+abbrev pub IsEarly : LoadRefusal → Type 0
+IsEarly (LoadRefusal.Load fault) = Unit {0}
+IsEarly (LoadRefusal.Publish fault) = fault ≡ PublishFault.OutOfMemory
+
+-- the image becomes this version, and then shelves are collected
+pub record IsPublished (before : List LoaderAnswer) (image : ImageValue) (version : ℕ) (after : List LoaderAnswer) : Type 0 where
+  pub between : List LoaderAnswer
+  pub found : Collected
+  pub publish : PublishStep before image version between
+  pub collect : CollectStep between found after
+
+-- why nothing was published: there is no image, or the loader's seat was told so
+abbrev pub IsNotPublished : List LoaderAnswer → LoadRefusal → List LoaderAnswer → Type 0
+IsNotPublished before (LoadRefusal.Load fault) after = after ≡ before
+IsNotPublished before (LoadRefusal.Publish fault) after = ((after ≡ before) × (fault ≡ PublishFault.OutOfMemory)) ⊎ RefuseStep before fault after

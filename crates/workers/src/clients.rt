@@ -1,0 +1,30 @@
+//! Who is served.
+
+ghost use Rattle.std.specs.Prelude.{Result};
+ghost use Rattle.workers.specs.declared.clients.ConnFault.{ConnFault};
+
+use std::io::{Read, Write};
+
+/// A client can't be talked to.
+#[derive(Clone, Copy, Debug, PartialEq, Eq)]
+pub struct ConnFault;
+
+/// Whoever asks for a session.
+pub trait Client {
+    type Reader: Read + Send + Drop;
+
+    type Writer: Write + Send + Drop;
+
+    // What may come of opening the client.
+    ghost opens: { Self → Result (Self.Reader × Self.Writer) ConnFault → Type 0 };
+
+    /// Where its requests are read and its replies are written.
+    fn open(self) -> Result<(Self::Reader, Self::Writer), ConnFault>
+        ensures { opens self result };
+}
+
+/// Clients, one after the other.
+pub trait Clients<C> {
+    /// The next client; it may be long in coming. None after the last.
+    fn next(&mut self) -> Option<C>;
+}

@@ -1,0 +1,21 @@
+//! Workers that serve sessions at once, each at a seat of its own, and the one loader beside them.
+#![tactic(auto)]
+
+mod clients;
+mod feeds;
+mod loading;
+mod refusal;
+mod running;
+mod served;
+mod serving;
+
+pub use clients::{Client, Clients, ConnFault};
+pub use feeds::Feeds;
+pub use loading::load_one;
+pub use refusal::LoadRefusal;
+pub use running::{WorkersFault, run_workers};
+pub use served::{End, Served};
+pub use serving::serve_client;
+
+#[cfg(test)]
+mod tests;

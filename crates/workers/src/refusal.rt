@@ -1,0 +1,27 @@
+//! Why an ordered feed isn't loaded.
+
+use epochs::PublishFault;
+use feed_loader::LoadFault;
+use std::error::Error;
+use std::fmt;
+
+/// Why an ordered feed isn't loaded.
+#[derive(Clone, Copy, Debug, PartialEq, Eq)]
+pub enum LoadRefusal {
+    /// There is no image of the feed.
+    Load(LoadFault),
+    /// The image isn't published. Want of memory may be told before it was tried.
+    Publish(PublishFault),
+}
+
+/// The number, the name and the places, each after a space, as in `8 IdTwice stops.txt 3` or `94 ShelvesFull`.
+impl fmt::Display for LoadRefusal {
+    fn fmt<W: fmt::Write>(&self, f: &mut fmt::Formatter<W>) -> fmt::Result {
+        match self {
+            LoadRefusal::Load(fault) => write!(f, "{fault}"),
+            LoadRefusal::Publish(fault) => write!(f, "{} {}", fault.number(), fault.name()),
+        }
+    }
+}
+
+impl Error for LoadRefusal {}

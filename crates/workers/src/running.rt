@@ -1,0 +1,127 @@
+//! The workers and the loader, in one scope.
+
+ghost use denote.Param.Send.{IsSend, IsSync};
+ghost use Rattle.std.specs.Prelude.{◌≤◌, All, length};
+
+use crate::clients::{Client, Clients};
+use crate::feeds::Feeds;
+use crate::loading::load_all;
+use crate::served::Served;
+use crate::serving::work;
+use epochs::{Loads, Versions};
+use feed_loader::FeedFiles;
+use load_orders::{WorkerOrders, order_queue};
+use orders::Gate;
+use std::alloc::{AllocError, Global};
+use std::io::{Read, Write};
+use std::sync::Wait;
+use std::thread;
+use std::thread::Threads;
+use thiserror::Error;
+
+/// There was no memory for the workers, or no thread.
+#[derive(Clone, Copy, Debug, PartialEq, Eq, Error)]
+#[error("there is no memory or no thread for the workers")]
+pub struct WorkersFault;
+
+impl From<AllocError> for WorkersFault {
+    fn from(_refused: AllocError) -> WorkersFault {
+        WorkersFault
+    }
+}
+
+/// Serves all clients, with a worker for each seat, and loads the feeds that they order; what came of a load is told to the
+/// error writer. It returns when there are no more clients, all sessions have ended, and all orders were carried out.
+pub fn run_workers<
+    I: Read + Send + Drop,
+    O: Write + Send + Drop,
+    C: Client<Reader = I, Writer = O> + Drop + Send,
+    K: Clients<C>,
+    S: Send + Drop,
+    L: Send + Drop,
+    T: Versions<Seat = S> + Loads<Loader = L> + Sync,
+    D: FeedFiles + Send + Drop,
+    F: Feeds<Files = D> + Sync,
+    G: Gate + Sync,
+    E: Write + Send + Drop,
+    R: Threads + Wait + Sync,
+>(
+    rt: &R,
+    alloc: Global,
+    clients: &mut K,
+    shelves: &T,
+    seats: Vec<S>,
+    loader: L,
+    feeds: &F,
+    gate: &G,
+    errors: E,
+) -> Result<Served, WorkersFault>
+    requires seats { All (T.Versions.fits shelves.now) seats.items }
+    requires loader { T.Loads.loads shelves.now loader }
+    requires some { 1 ≤ length seats.items }
+    requires few { length seats.items ≤ 16 }
+{
+    let (to, from) = crossbeam_channel::bounded(alloc, 1)?;
+    let (mut asks, orders) = order_queue(alloc)?;
+    thread::scope(
+        thread::scope_env(),
+        rt,
+        move |scope| -> Result<Served, WorkersFault>
+            requires { IsSync R.row × IsSync T.row × IsSync F.row × IsSync G.row × IsSend S.row × IsSend L.row × IsSend C.row × IsSend I.row × IsSend O.row × IsSend D.row × IsSend E.row × All (T.Versions.fits shelves.now) seats.items × T.Loads.loads shelves.now loader }
+        {
+            let Ok(loading) = scope.spawn(
+                move || -> ()
+                    requires { T.Loads.loads shelves.now loader }
+                {
+                    load_all(rt, alloc, orders, shelves, loader, feeds, errors);
+                },
+            ) else {
+                return Err(WorkersFault);
+            };
+            let mut workers = Vec::new(alloc);
+            for seat in seats {
+                let mine = from.clone()?;
+                let end = asks.another()?;
+                match scope.spawn(
+                    move || -> Served
+                        requires { T.Versions.fits shelves.now seat }
+                    {
+                        work(
+                            rt,
+                            alloc,
+                            mine,
+                            shelves,
+                            seat,
+                            WorkerOrders::new(feeds.names(), end),
+                            gate,
+                        )
+                        .0
+                    },
+                ) {
+                    Ok(worker) => {
+                        if workers.push(worker).is_err() {
+                            return Err(WorkersFault);
+                        }
+                    }
+                    Err(_) => return Err(WorkersFault),
+                }
+            }
+            drop(from);
+            for _ in rt.forever() {
+                let Some(client) = clients.next() else {
+                    break;
+                };
+                let _ = to.send(rt, client);
+            }
+            drop(to);
+            let mut served = Served::new();
+            for worker in workers {
+                served.join(worker.join(rt));
+            }
+            // No order is refused for want of a loader before all sessions have ended.
+            drop(asks);
+            loading.join(rt);
+            Ok(served)
+        },
+    )
+}
