@@ -14,14 +14,28 @@ pub enum LoadRefusal {
     Publish(PublishFault),
 }
 
-/// The number, the name and the places, each after a space, as in `8 IdTwice stops.txt 3` or `94 ShelvesFull`.
+/// The number, the name and the places, each after a space, as in `8 IdTwice stops.txt 3`. Where no shelf is free, the places are
+/// the counts of all shelves, as in `94 ShelvesFull 1 1 1 1 1 1 1 0`.
 impl fmt::Display for LoadRefusal {
     fn fmt<W: fmt::Write>(&self, f: &mut fmt::Formatter<W>) -> fmt::Result {
         match self {
             LoadRefusal::Load(fault) => write!(f, "{fault}"),
-            LoadRefusal::Publish(fault) => write!(f, "{} {}", fault.number(), fault.name()),
+            LoadRefusal::Publish(fault) => {
+                write!(f, "{} {}", fault.number(), fault.name())?;
+                match fault {
+                    PublishFault::ShelvesFull { counts } => write_counts(f, counts),
+                    PublishFault::VersionsSpent | PublishFault::OutOfMemory => Ok(()),
+                }
+            }
         }
     }
 }
 
 impl Error for LoadRefusal {}
+
+fn write_counts<W: fmt::Write>(f: &mut fmt::Formatter<W>, counts: &[u8; 8]) -> fmt::Result {
+    for count in counts {
+        write!(f, " {count}")?;
+    }
+    Ok(())
+}
