@@ -1,5 +1,5 @@
 -- A line asks one thing.
-use Rattle.std.proofs.Common.{◌≡◌, ◌<◌, ◌≤◌, ℕ, List, length, refl, sym, ap, subst, arith}
+use Rattle.std.proofs.Common.{◌≡◌, ◌<◌, ◌≤◌, ℕ, List, length, refl, ap, subst, arith}
 use Rattle.serde_json.specs.Data.{Data}
 use Rattle.session_texts.specs.Judging.{IsJson}
 use Rattle.session_texts.specs.Requests.{Asks, RequestValue}

@@ -5,3 +5,4 @@ pub mod TurnLemmas
 mod LineLemmas
 mod PlainLemmas
 mod AnswerLemmas
+mod FeedLemmas

@@ -1,21 +1,19 @@
 -- What a session has read, done and written so far, and how it ends.
-use Rattle.std.proofs.Common.{◌≡◌, ◌≢◌, ◌⊎◌, ◌<◌, ◌≤◌, ◌+◌, ◌-◌, ◌^◌, ℕ, suc, List, [], ◌∷◌, ◌++◌, Bool, true, false, MatchBool, length, take, drop, min, Option, Some, None, Result, Ok, Err, refl, sym, ap, ◌∙◌, subst, append_assoc, append-nil, length-append, arith, inl, inr}
+use Rattle.std.proofs.Common.{◌≡◌, ◌⊎◌, ◌<◌, ◌+◌, ◌-◌, ◌^◌, ℕ, suc, List, [], ◌∷◌, ◌++◌, Bool, true, false, MatchBool, length, take, drop, Option, Ok, Err, refl, sym, ap, ◌∙◌, subst, append_assoc, append-nil, length-append, arith, inl, inr}
 use Rattle.std.proofs.lemmas.List.{take-append-drop, take-append-le, take_all}
 use Rattle.std.specs.Io.KnownBytes.{Appends, Consumes, IsAtEnd}
-use Rattle.std.proofs.KnownBytes.{Appends-nil, Appends-trans, Consumes-nil}
+use Rattle.std.proofs.KnownBytes.{Appends-nil, Appends-trans}
 use Rattle.epochs.specs.Seats.{SeatValue}
 use Rattle.lines.specs.Counting.{one_more}
-use Rattle.lines.specs.Cutting.{IsOneLine, lines_of, rest_of, whole_lines}
-use Rattle.lines.specs.Reading.{Gives, GivesEnded, GivesRest, HasGiven, unread_of}
-use Rattle.lines.specs.Showing.{IsTextOf, ShowsLine}
-use Rattle.lines.specs.declared.reader.Given.{Given}
+use Rattle.lines.specs.Cutting.{IsOneLine, lines_of, rest_of}
+use Rattle.lines.specs.Reading.{GivesEnded, GivesRest, HasGiven, unread_of}
 use Rattle.lines.specs.declared.reader.LineReader.{LineReader}
-use Rattle.lines.proofs.CutLemmas.{IsCut-end, IsCut-lines, IsCut-rest, IsCut-whole, lines_of-some}
+use Rattle.lines.proofs.CutLemmas.{IsCut-lines, IsCut-rest, IsCut-whole, lines_of-some}
 use Rattle.lines.proofs.GivenLemmas.{HasGiven-start, HasGiven-read, HasGiven-ended, HasGiven-rest, HasGiven-nothing}
 use Rattle.orders.specs.Ordering.{OrderValue}
 use Rattle.session.specs.declared.fault.Ended.{Ended}
 use Rattle.session.specs.declared.fault.SessionFault.{SessionFault}
-use Rattle.session.specs.Sessions.{AreTurns, EndsSo, IsBeginning, Serves, lines_in, text_of}
+use Rattle.session.specs.Sessions.{AreTurns, Serves, lines_in, text_of}
 use Rattle.session.specs.Turns.{Turn, TurnsTo}
 use Rattle.session.proofs.TurnLemmas.{AreTurns-more, lines_in-more, text_of-more}
 

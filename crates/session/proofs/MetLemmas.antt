@@ -1,5 +1,5 @@
 -- What a request asks of a seat is met.
-use Rattle.std.proofs.Common.{◌≡◌, ◌≢◌, ◌⊎◌, ℕ, List, [], ◌∷◌, ◌++◌, Option, Some, None, Result, Ok, Err, refl, sym, ap, ◌∙◌, subst, inl, inr}
+use Rattle.std.proofs.Common.{◌≡◌, ◌⊎◌, ℕ, List, [], ◌∷◌, ◌++◌, Option, Some, None, Result, Ok, Err, refl, sym, ap, ◌∙◌, subst, inl, inr}
 use Rattle.image_layout.specs.Image.{ImageValue}
 use Rattle.epochs.specs.declared.seats.Answer.{Answer}
 use Rattle.epochs.specs.declared.faults.PinFault.{PinFault}
@@ -9,8 +9,8 @@ use Rattle.session_texts.specs.Replies.{pin_text, release_text}
 use Rattle.session_texts.specs.Requests.{AskValue, pin, release, profile}
 use Rattle.session.specs.Lines.{asks, memory_line, pin_fault_line}
 use Rattle.session.specs.Profiles.{IsProfileReply}
-use Rattle.session.specs.Turns.{IsMet, ProfileIsMet, ProfileIsMetOnce, PinIsMet, PinIsRefused, ReleaseIsRefused, WantsMemory}
-use Rattle.session.proofs.SeatLemmas.{IsPinned, IsReleased, is_pinned, is_released, pins_once, some_is_held}
+use Rattle.session.specs.Turns.{IsMet, ProfileIsMet, ProfileIsMetOnce, PinIsMet, PinIsRefused, ReleaseIsRefused}
+use Rattle.session.proofs.SeatLemmas.{is_pinned, is_released, pins_once, some_is_held}
 
 -- a pin is told
 pub pin_met : (number : ℕ) (a m : SeatValue) (v : ℕ) (image : ImageValue) (reply : List ℕ) → PinStep a (Ok tt) m → HoldsInHistory number m.held → m.held ≡ Some (v, image)

@@ -1,12 +1,11 @@
 -- Turns: one line, and lines one after the other.
-use Rattle.std.proofs.Common.{◌≡◌, ◌≢◌, ◌⊎◌, ◌≤◌, ℕ, List, [], ◌∷◌, ◌++◌, length, Option, Some, None, Result, Ok, Err, refl, sym, ap, ◌∙◌, subst, append_assoc, append-nil, inl, inr}
+use Rattle.std.proofs.Common.{◌≡◌, ◌⊎◌, ◌≤◌, ℕ, List, [], ◌∷◌, ◌++◌, length, refl, sym, ap, ◌∙◌, subst, append_assoc, append-nil, inl, inr}
 use Rattle.serde_json.specs.Data.{Data}
-use Rattle.image_layout.specs.Image.{ImageValue}
 use Rattle.epochs.specs.declared.seats.Answer.{Answer}
 use Rattle.epochs.specs.Seats.{SeatValue}
 use Rattle.lines.specs.Showing.{ShowsLine}
 use Rattle.lines.specs.declared.text.Line.{Line}
-use Rattle.lines.specs.declared.text.Line.TheVariants.{Whole, TooLong, NoRoom}
+use Rattle.lines.specs.declared.text.Line.TheVariants.{Whole, TooLong}
 use Rattle.orders.specs.Ordering.{OrderValue}
 use Rattle.session_texts.specs.Judging.{IsJson, IsNoJson}
 use Rattle.session_texts.specs.Requests.{Asks, RequestValue, load, request_value}
@@ -15,7 +14,7 @@ use Rattle.session_texts.specs.declared.refusals.Refusal.{Refusal}
 use Rattle.session.specs.Lines.{Asked, too_long, no_json, no_request, asks, IsAsked, memory_line, refusal_line}
 use Rattle.session.specs.SeatSteps.{Follows}
 use Rattle.session.specs.Sessions.{AreTurns, answers_of, lines_in, orders_of, text_of}
-use Rattle.session.specs.Turns.{HasTurn, IsMet, IsTurn, Meets, OrderIsMet, Turn, TurnsTo, WantsMemory}
+use Rattle.session.specs.Turns.{HasTurn, IsMet, IsTurn, OrderIsMet, Turn, TurnsTo}
 use Rattle.session.proofs.SeatLemmas.{Follows-append}
 
 abbrev turn_of : List ℕ → List Answer → List OrderValue → List ℕ → Turn

@@ -1,5 +1,5 @@
 -- Turns of a session: a line, what was done for it, and the reply.
-use Rattle.std.specs.Prelude.{◌≡◌, ◌⊎◌, ◌++◌, ◌∷◌, ℕ, List, [], Option, Some, None, Result, Ok, Err}
+use Rattle.std.specs.Prelude.{◌≡◌, ◌⊎◌, ◌++◌, ◌∷◌, ℕ, List, [], Option, Some, None, Ok, Err}
 use Rattle.std.specs.declared.snapshot.Snapshot.{Snapshot}
 use Rattle.image_layout.specs.Image.{ImageValue}
 use Rattle.epochs.specs.declared.seats.Answer.{Answer}
@@ -12,7 +12,7 @@ use Rattle.session_texts.specs.Requests.{AskValue, pin, release, profile, load}
 use Rattle.session_texts.specs.declared.refusals.Refusal.{Refusal}
 use Rattle.session.specs.Lines.{Asked, too_long, no_json, no_request, asks, IsAsked, memory_line, order_fault_line, pin_fault_line, refusal_line}
 use Rattle.session.specs.Profiles.{IsProfileReply}
-use Rattle.session.specs.SeatSteps.{Follows, IsGivenBack, PinsOnce}
+use Rattle.session.specs.SeatSteps.{Follows, PinsOnce}
 
 pub record Turn : Type 0 where
   pub line : List ℕ  -- without its LF

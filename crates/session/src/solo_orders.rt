@@ -1,6 +1,8 @@
 //! Orders that are met at once, over shelves for one worker.
 
-ghost use Rattle.std.specs.Prelude.{◌≡◌, []};
+ghost use Rattle.std.specs.Prelude.{◌≡◌, ◌++◌, ◌∷◌, []};
+ghost use Rattle.orders.specs.Ordering.{order_value};
+ghost use Rattle.session.specs.Feeds.{OrderStep, answers_of, feeds_of, place_of};
 
 use epochs::{LoaderSeat, Loads, SoloShelves};
 use image_verifier::Verified;
@@ -35,7 +37,9 @@ impl<'a> SoloOrders<'a> {
         loader: LoaderSeat,
         feeds: Vec<FeedImage>,
     ) -> SoloOrders<'a>
-        ensures { ⟦<SoloOrders<'a> as Orders>⟧.asked result ≡ [] }
+        ensures asked { ⟦<SoloOrders<'a> as Orders>⟧.asked result ≡ [] }
+        ensures feeds { feeds_of result ≡ feeds.items }
+        ensures answers { answers_of result ≡ loader }
     {
         SoloOrders {
             shelves,
@@ -45,10 +49,19 @@ impl<'a> SoloOrders<'a> {
         }
     }
 
-    fn load<R: Wait>(&mut self, rt: &R, feed: &str) -> Result<(), OrderFault>
-        ensures { self.new.asked ≡ self.old.asked }
+    // Where the first feed of the name stands.
+    fn place(&self, feed: &str) -> Option<usize>
+        ensures { result ≡ place_of feed.now (feeds_of self.now) }
     {
-        let Some(place) = self.feeds.iter().position(|one| one.name.as_str() == feed) else {
+        self.feeds.iter().position(|one| one.name.as_str() == feed)
+    }
+
+    // Publishes the first image of the name, and collects the shelves.
+    fn load<R: Wait>(&mut self, rt: &R, feed: &str) -> Result<(), OrderFault>
+        ensures asked { self.new.asked ≡ self.old.asked }
+        ensures step { OrderStep feed.now (feeds_of self.old) (answers_of self.old) result (feeds_of self.new) (answers_of self.new) }
+    {
+        let Some(place) = self.place(feed) else {
             return Err(OrderFault::UnknownFeed);
         };
         let found = self.feeds.remove(place);
@@ -65,7 +78,10 @@ impl<'a> SoloOrders<'a> {
 impl Orders for SoloOrders<'_> {
     ghost asked = { λ orders. orders.asked };
 
-    fn order<R: Wait>(&mut self, rt: &R, feed: &str) -> Result<(), OrderFault> {
+    fn order<R: Wait>(&mut self, rt: &R, feed: &str) -> Result<(), OrderFault>
+        ensures asked { self.new.asked ≡ self.old.asked ++ order_value feed.now result ∷ [] }
+        ensures step { OrderStep feed.now (feeds_of self.old) (answers_of self.old) result (feeds_of self.new) (answers_of self.new) }
+    {
         let outcome = self.load(rt, feed);
         self.asked.note(&Ordered::of(feed, outcome));
         outcome
