@@ -26,4 +26,6 @@ pub use table::VersionTable;
 pub use versions::{Loads, Versions};
 
 #[cfg(test)]
+mod shelf_tests;
+#[cfg(test)]
 mod tests;
