@@ -10,16 +10,11 @@ mod feed_tests;
 mod image_file;
 mod journey;
 mod opening;
-mod planning;
 mod profile;
 #[cfg(test)]
 mod profile_tests;
 mod question;
 mod refusal;
-mod serve;
-#[cfg(test)]
-mod serve_tests;
-mod sockets;
 mod status;
 mod tables;
 #[cfg(test)]
@@ -29,34 +24,14 @@ mod verify;
 use crate::command_line::{Request, Unread, read};
 use std::convert::AsStr;
 use std::io::{Read, Write};
-use std::net::{Net, TcpListener, TcpStream};
 use std::rt::Files;
-use std::sync::Wait;
-use std::thread::Threads;
-
-/// What the program needs of the machine that it runs on.
-pub trait Machine: Files
-    + AllocGlobal
-    + Net<Listener = TcpListener, Stream = TcpStream>
-    + Threads
-    + Wait
-    + Sync {}
-
-impl<
-    H: Files
-        + AllocGlobal
-        + Net<Listener = TcpListener, Stream = TcpStream>
-        + Threads
-        + Wait
-        + Sync,
-> Machine for H {}
 
 /// Runs the command that the words ask for; the first word is the program's name.
 ///
 /// What a command finds goes to `output`, what is wrong with the command line or with a file to `errors`. The status is 0 for an
-/// accepted request, 2 for a refused one, 3 where a file can't be read or written, a line can't be written or a socket fails, 4 for want
-/// of memory, and 64 for a command line that asks for nothing.
-pub fn run<H: Machine, S: AsStr, I: Read, O: Write, E: Write + Send>(
+/// accepted request, 2 for a refused one, 3 where a file can't be read or written or a line can't be written, 4 for want of memory, and 64
+/// for a command line that asks for nothing.
+pub fn run<H: Files + AllocGlobal, S: AsStr, I: Read, O: Write, E: Write>(
     rt: &H,
     words: &[S],
     input: &mut I,
@@ -69,7 +44,6 @@ pub fn run<H: Machine, S: AsStr, I: Read, O: Write, E: Write + Send>(
         Ok(Request::Profile(request)) => profile::run(rt, request, input, output, errors),
         Ok(Request::Tables(folder)) => tables::run(rt, folder, output),
         Ok(Request::Build(request)) => build::run(rt, request, output, errors),
-        Ok(Request::Serve(request)) => serve::run(rt, request, input, output, errors),
         Err(Unread::Help(text)) => status::written(output, text.as_str(), status::ACCEPTED),
         Err(Unread::Mistake(text)) => status::written(errors, text.as_str(), status::COMMAND_LINE),
         Err(Unread::OutOfMemory) => status::OUT_OF_MEMORY,

@@ -1,9 +1,9 @@
 //! Profiles as a user asks for them: each line, and that `csa journey` accepts each journey that is printed.
 
-use crate::Machine;
 use crate::tests::{expect_line, expect_message, slow_change, walks};
 use image_layout::{Words, sample_words};
 use std::process::Abort;
+use std::rt::Files;
 use std::test::Fail;
 
 /// A query of the sample's stops from A to C, departing from 07:00:00.
@@ -52,7 +52,7 @@ fn profile_words<'a>(asked: Asked<'a>) -> [&'a str; 15] {
     ]
 }
 
-fn ask<R: Machine + Abort>(
+fn ask<R: Files + AllocGlobal + Abort>(
     rt: &R,
     image: &[u32],
     asked: Asked<'_>,
@@ -64,7 +64,7 @@ fn ask<R: Machine + Abort>(
 }
 
 /// The journey holds in the image, and has these times.
-fn holds<R: Machine + Abort>(
+fn holds<R: Files + AllocGlobal + Abort>(
     rt: &R,
     image: &[u32],
     journey: &str,

@@ -1,10 +1,11 @@
 //! The commands as a user runs them: words and input in, lines and a status out.
 
-use crate::{Machine, run};
+use crate::run;
 use image_layout::{Words, sample_words};
 use std::alloc::{AllocError, Global};
 use std::fs;
 use std::process::Abort;
+use std::rt::Files;
 use std::test::Fail;
 
 /// What a command wrote, and its status.
@@ -15,7 +16,7 @@ pub(crate) struct Outcome {
     pub(crate) errors: Vec<u8>,
 }
 
-pub(crate) fn outcome_of<R: Machine>(rt: &R, words: &[&str], bytes: &[u8]) -> Outcome {
+pub(crate) fn outcome_of<R: Files + AllocGlobal>(rt: &R, words: &[&str], bytes: &[u8]) -> Outcome {
     let mut input: &[u8] = bytes;
     let mut output = Vec::new(rt.alloc());
     let mut errors = Vec::new(rt.alloc());
@@ -28,7 +29,7 @@ pub(crate) fn outcome_of<R: Machine>(rt: &R, words: &[&str], bytes: &[u8]) -> Ou
 }
 
 /// The command prints this line alone, and ends with the status.
-pub(crate) fn expect_line<R: Machine + Abort>(
+pub(crate) fn expect_line<R: Files + AllocGlobal + Abort>(
     rt: &R,
     words: &[&str],
     bytes: &[u8],
@@ -42,7 +43,12 @@ pub(crate) fn expect_line<R: Machine + Abort>(
 }
 
 /// The command prints nothing but a message to the errors, and ends with the status.
-pub(crate) fn expect_message<R: Machine + Abort>(rt: &R, words: &[&str], bytes: &[u8], status: u8) {
+pub(crate) fn expect_message<R: Files + AllocGlobal + Abort>(
+    rt: &R,
+    words: &[&str],
+    bytes: &[u8],
+    status: u8,
+) {
     let outcome = outcome_of(rt, words, bytes);
     assert_eq!(rt; outcome.status, status);
     assert!(rt; outcome.output.is_empty());
@@ -60,7 +66,7 @@ fn front(bytes: &[u8], count: usize) -> &[u8] {
 
 const VERIFY: [&str; 3] = ["csa", "verify", "-"];
 
-fn verify_words<R: Machine + Abort>(
+fn verify_words<R: Files + AllocGlobal + Abort>(
     rt: &R,
     image: &[u32],
     status: u8,
@@ -229,7 +235,7 @@ fn journey_words<'a>(text: &'a str, until: &'a str) -> [&'a str; 14] {
     ]
 }
 
-fn judge_journey<R: Machine + Abort>(
+fn judge_journey<R: Files + AllocGlobal + Abort>(
     rt: &R,
     image: &[u32],
     text: &str,
