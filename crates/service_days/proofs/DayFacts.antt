@@ -54,13 +54,13 @@ counted_on d civil =
     first_of_three (is_civil next) (is_civil first) next first (record { year = d.year + 1; month = 1; day = 1 }) (number d +ℤ pos 1)
     (λ _. let e = days_from_civil-day (pos d.year) d.month (d.day + 1) d.day (omega arith) is.day_from in omega (arith, signed_arith, e))
     (λ none _.
-      let behind = behind_month next none is.year_from is.year_to is.month_from is.month_to (omega arith) in
-      let last : d.day ≡ days_in_month (pos d.year) d.month = omega (arith, behind, is.day_to) in
-      days_from_civil-next_month (pos d.year) d.month d.day is.month_from last)
+    let behind = behind_month next none is.year_from is.year_to is.month_from is.month_to (omega arith) in
+    let last : d.day ≡ days_in_month (pos d.year) d.month = omega (arith, behind, is.day_to) in
+    days_from_civil-next_month (pos d.year) d.month d.day is.month_from last)
     (λ none missing.
-      let behind = behind_month next none is.year_from is.year_to is.month_from is.month_to (omega arith) in
-      let last : d.day ≡ days_in_month (pos d.year) d.month = omega (arith, behind, is.day_to) in
-      let long = days_in_month_bounds (pos d.year) (d.month + 1) in
-      let month : d.month ≡ 12 = omega (arith, is.month_to, behind_year first missing is.year_from is.year_to (omega arith) (omega arith) (omega (arith, long))) in
-      let day : d.day ≡ 31 = rw month at last in
-      rw (month, day) (days_from_civil-next_year (pos d.year) (pos (d.year + 1)) (omega (arith, signed_arith)) (omega (arith, signed_arith))))
+    let behind = behind_month next none is.year_from is.year_to is.month_from is.month_to (omega arith) in
+    let last : d.day ≡ days_in_month (pos d.year) d.month = omega (arith, behind, is.day_to) in
+    let long = days_in_month_bounds (pos d.year) (d.month + 1) in
+    let month : d.month ≡ 12 = omega (arith, is.month_to, behind_year first missing is.year_from is.year_to (omega arith) (omega arith) (omega (arith, long))) in
+    let day : d.day ≡ 31 = rw month at last in
+    rw (month, day) (days_from_civil-next_year (pos d.year) (pos (d.year + 1)) (omega (arith, signed_arith)) (omega (arith, signed_arith))))
