@@ -234,7 +234,9 @@ fn a_client_is_served(rt: HostRuntime) -> Result<(), Fail> {
         requests: b"",
         replies: None,
     };
-    let visitors = vec![in alloc; visitor, shut]?;
+    let mut visitors = Vec::new(alloc);
+    visitors.push(visitor)?;
+    visitors.push(shut)?;
     let (served, told) = serve_all(&rt, alloc, visitors, true, &OpenGate)?;
     assert_eq!(&rt; served.ended(), 1);
     assert_eq!(&rt; served.failed(), 1);
