@@ -72,6 +72,10 @@ impl Criterion for ArrivalTripsWalk {
             .then(value.trips.cmp(&other.trips).then(by_walking))
     }
 
+    fn riding_worsens(&self) -> bool {
+        true
+    }
+
     ghost laws = { λ _. record {
       arrive_admits = λ time h. arrival_admitted time h;
       ride_admits = λ v a. ride_admitted v a;

@@ -1,11 +1,11 @@
 //! `csa build` over folders: what is counted, what is written, and what is refused.
 
 use crate::feed_tests::{base_feed, clear_feed, lay_feed};
-use crate::tests::{expect_line, expect_message};
-use image_layout::{Words, sample_words};
+use crate::tests::{Machine, expect_line, expect_message};
+use image_layout::{Words, second_sample_words};
 use std::fs;
+use std::net::{Net, TcpListener, TcpStream};
 use std::process::Abort;
-use std::rt::Files;
 use std::test::Fail;
 
 /// What is asked of a feed.
@@ -45,7 +45,7 @@ fn build_words<'a>(asked: Asked<'a>) -> [&'a str; 10] {
 }
 
 /// Builds a feed and prints the line; the image is left in its file.
-fn build<R: Files + AllocGlobal + Abort>(
+fn build<R: Machine + Net<Listener = TcpListener, Stream = TcpStream> + Abort>(
     rt: &R,
     asked: Asked<'_>,
     files: &[(&str, &str)],
@@ -58,7 +58,7 @@ fn build<R: Files + AllocGlobal + Abort>(
 }
 
 /// The same with `--strict`.
-fn build_strictly<R: Files + AllocGlobal + Abort>(
+fn build_strictly<R: Machine + Net<Listener = TcpListener, Stream = TcpStream> + Abort>(
     rt: &R,
     asked: Asked<'_>,
     files: &[(&str, &str)],
@@ -73,7 +73,7 @@ fn build_strictly<R: Files + AllocGlobal + Abort>(
 }
 
 /// A profile by arrival over the image in a file, which is taken away.
-fn ask<R: Files + AllocGlobal + Abort>(
+fn ask<R: Machine + Net<Listener = TcpListener, Stream = TcpStream> + Abort>(
     rt: &R,
     image: &str,
     ends: (&str, &str),
@@ -108,7 +108,7 @@ fn the_base_feed_makes_the_sample(rt: HostRuntime) -> Result<(), Fail> {
     let asked = one_day("base_built", "base_built.csa");
     build(&rt, asked, &base_feed(), 0, line)?;
     let written = fs::read(&rt, "base_built.csa")?;
-    let sample = Words::to_bytes(rt.alloc(), &sample_words())?;
+    let sample = Words::to_bytes(rt.alloc(), &second_sample_words())?;
     assert!(rt; written.as_slice() == sample.as_slice());
     fs::remove_file(&rt, "base_built.csa")?;
     Ok(())
@@ -361,7 +361,10 @@ TZif2\0\0\0\0\0\0\0\0\0\0\0\0\0\0\0\
 \nCET-1CEST,M3.5.0,M10.5.0/3\n";
 
 /// The low word of the base of the image in a file, which is taken away.
-fn base_in<R: Files + AllocGlobal + Abort>(rt: &R, image: &str) -> Result<u32, Fail> {
+fn base_in<R: Machine + Net<Listener = TcpListener, Stream = TcpStream> + Abort>(
+    rt: &R,
+    image: &str,
+) -> Result<u32, Fail> {
     let bytes = fs::read(rt, image)?;
     fs::remove_file(rt, image)?;
     assert!(rt; bytes.len() >= 32);

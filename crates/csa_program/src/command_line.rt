@@ -1,9 +1,15 @@
 //! What the words of a command line ask for.
 
-use crate::build::{BuildRequest, ZoneText};
+ghost use Rattle.std.specs.Prelude.{◌≤◌, IfSome};
+
+use crate::build::BuildRequest;
 use crate::journey::JourneyRequest;
+use crate::planning::{PlanText, ZoneText};
 use crate::profile::ProfileRequest;
 use crate::question::Question;
+use crate::serve::{MOST_WORKERS, NamedFolder, ServeRequest};
+use crate::stops::StopsRequest;
+use crate::upgrade::UpgradeRequest;
 use clap::error::ErrorKind;
 use clap::{Arg, ArgAction, ArgMatches, Command, Error};
 use criteria::CriterionName;
@@ -26,6 +32,12 @@ pub enum Request<'a> {
     Tables(&'a str),
     /// To make the image of a feed's folder.
     Build(BuildRequest<'a>),
+    /// To list stops by their names.
+    Stops(StopsRequest<'a>),
+    /// To write an image anew, in the layout that is written.
+    Upgrade(UpgradeRequest<'a>),
+    /// To serve sessions.
+    Serve(ServeRequest<'a>),
 }
 
 /// Why the words ask for no command.
@@ -53,11 +65,22 @@ const PROFILE_EXAMPLE: &str =
 const BUILD_EXAMPLE: &str =
     "Example: csa build examples/base base.csa --first 20240115 --days 1 --zone fixed:0";
 
+/// What is said where other words of `serve` have a wrong form.
+const WRONG_SERVE_FORM: &str =
+    "error: a port is 0 to 65535, the number of workers 1 to 16, the number of sessions decimal, and a feed NAME=FOLDER\n";
+
+const SERVE_EXAMPLE: &str =
+    "Example: csa serve --image examples/base.csa --port 7077 --workers 2 --sessions 0 --first 20240115 --days 1 --zone fixed:0 \
+slow=examples/slow\n\
+A session is lines of JSON over TCP: {\"do\":\"pin\"}, {\"do\":\"release\"}, {\"do\":\"load\",\"feed\":\"slow\"} and \
+{\"do\":\"profile\",\"from\":\"A\",\"to\":\"C\",\"after\":\"07:00:00\",\"until\":\"09:00:00\",\"by\":\"10:00:00\",\
+\"criterion\":\"arrival\"}";
+
 const WRONG_FORM: &str =
     "error: a clock is HH:MM:SS: hours of one to six digits, minutes and seconds below 60\n";
 
-/// What is said where the words of `build` have a wrong form.
-pub const WRONG_BUILD_FORM: &str =
+/// What is said where a day, a number of days or a zone has a wrong form.
+pub const WRONG_PLAN_FORM: &str =
     "error: a day is YYYYMMDD, the number of days 1 to 14, a zone fixed:SECS with at most 86399 seconds either way, posix:TEXT or file:PATH\n";
 
 fn word<'a>(alloc: Global, id: &'a str, name: &'a str, help: &'a str) -> Arg<'a> {
@@ -129,9 +152,30 @@ fn profile<'a>(alloc: Global) -> Result<Command<'a>, AllocError> {
         .about("Prints every best departure from one stop to another in a window of time")
         .after_help(PROFILE_EXAMPLE)
         .arg(image(alloc))?;
-    with_query(alloc, command)?.arg(option(alloc, "criterion", "NAME", "What is best").value_parser(
-        CriterionName::NAMES.as_slice(),
-    ))
+    with_query(alloc, command)?
+        .arg(option(alloc, "criterion", "NAME", "What is best").value_parser(
+            CriterionName::NAMES.as_slice(),
+        ))?
+        .arg(
+            Arg::new(alloc, "picture")
+                .long("picture")
+                .value_name("FILE")
+                .help("Draws the answer, and writes the picture as SVG into FILE")
+                .action(ArgAction::Set),
+        )
+}
+
+fn stops<'a>(alloc: Global) -> Result<Command<'a>, AllocError> {
+    Command::new(alloc, "stops")
+        .about("Prints number and name of each stop whose name has TEXT in it")
+        .after_help("Example: csa stops examples/base.csa")
+        .arg(image(alloc))?
+        .arg(
+            Arg::new(alloc, "text")
+                .value_name("TEXT")
+                .help("A part of a name, as it is spelled; all stops without it")
+                .action(ArgAction::Set),
+        )
 }
 
 fn tables<'a>(alloc: Global) -> Result<Command<'a>, AllocError> {
@@ -147,7 +191,7 @@ fn tables<'a>(alloc: Global) -> Result<Command<'a>, AllocError> {
 }
 
 fn build<'a>(alloc: Global) -> Result<Command<'a>, AllocError> {
-    Command::new(alloc, "build")
+    let command = Command::new(alloc, "build")
         .about("Makes the image of a GTFS feed, and prints what was counted")
         .after_help(BUILD_EXAMPLE)
         .arg(word(
@@ -161,7 +205,18 @@ fn build<'a>(alloc: Global) -> Result<Command<'a>, AllocError> {
             "out",
             "OUT",
             "The file to which the image is written",
-        ))?
+        ))?;
+    with_days(alloc, command)?.arg(
+        Arg::new(alloc, "strict")
+            .long("strict")
+            .help("Refuses an arrival that isn't after the departure before it")
+            .action(ArgAction::SetTrue),
+    )
+}
+
+/// The options that tell the service days of a feed.
+fn with_days<'a>(alloc: Global, command: Command<'a>) -> Result<Command<'a>, AllocError> {
+    command
         .arg(option(alloc, "first", "DAY", "The first service day, YYYYMMDD"))?
         .arg(option(alloc, "days", "N", "How many service days, 1 to 14"))?
         .arg(option(
@@ -169,13 +224,56 @@ fn build<'a>(alloc: Global) -> Result<Command<'a>, AllocError> {
             "zone",
             "ZONE",
             "The zone of the feed's times: fixed:SECS, posix:TEXT or file:PATH",
+        ))
+}
+
+fn serve<'a>(alloc: Global) -> Result<Command<'a>, AllocError> {
+    let command = Command::new(alloc, "serve")
+        .about("Serves sessions over TCP at 127.0.0.1, and loads feeds beside them")
+        .after_help(SERVE_EXAMPLE)
+        .arg(option(
+            alloc,
+            "image",
+            "IMAGE",
+            "The first version's image, a file or - for the standard input",
         ))?
-        .arg(
-            Arg::new(alloc, "strict")
-                .long("strict")
-                .help("Refuses an arrival that isn't after the departure before it")
-                .action(ArgAction::SetTrue),
-        )
+        .arg(option(
+            alloc,
+            "port",
+            "P",
+            "The port; 0 takes a free one, which is printed",
+        ))?
+        .arg(option(
+            alloc,
+            "workers",
+            "W",
+            "How many sessions are served at once, 1 to 16",
+        ))?
+        .arg(option(
+            alloc,
+            "sessions",
+            "N",
+            "How many sessions are served in all; 0 for no end",
+        ))?;
+    with_days(alloc, command)?.arg(
+        Arg::new(alloc, "feeds")
+            .value_name("NAME=FOLDER")
+            .help("A feed that sessions may load by its name")
+            .num_args(..),
+    )
+}
+
+fn upgrade<'a>(alloc: Global) -> Result<Command<'a>, AllocError> {
+    Command::new(alloc, "upgrade")
+        .about("Writes an image anew in the layout that is written today, and prints its counts")
+        .after_help("Example: csa upgrade examples/base.csa base.csa")
+        .arg(image(alloc))?
+        .arg(word(
+            alloc,
+            "out",
+            "OUT",
+            "The file to which the image is written, by way of OUT.part; it may be IMAGE",
+        ))
 }
 
 fn program<'a>(alloc: Global) -> Result<Command<'a>, AllocError> {
@@ -186,8 +284,11 @@ fn program<'a>(alloc: Global) -> Result<Command<'a>, AllocError> {
         .subcommand(verify(alloc)?)?
         .subcommand(journey(alloc)?)?
         .subcommand(profile(alloc)?)?
+        .subcommand(stops(alloc)?)?
         .subcommand(tables(alloc)?)?
-        .subcommand(build(alloc)?)
+        .subcommand(build(alloc)?)?
+        .subcommand(upgrade(alloc)?)?
+        .subcommand(serve(alloc)?)
 }
 
 fn unread_of(alloc: Global, error: &Error) -> Unread {
@@ -214,11 +315,14 @@ pub fn read<'a, S: AsStr>(alloc: Global, words: &'a [S]) -> Result<Request<'a>, 
         Some(("verify", inner)) => inner.get_str("image").map(Request::Verify),
         Some(("journey", inner)) => journey_request(inner).map(Request::Journey),
         Some(("profile", inner)) => profile_request(inner).map(Request::Profile),
+        Some(("stops", inner)) => stops_request(inner).map(Request::Stops),
         Some(("tables", inner)) => inner.get_str("folder").map(Request::Tables),
         Some(("build", inner)) => match build_request(inner) {
             Some(request) => Some(Request::Build(request)),
-            None => return Err(mistake(alloc, WRONG_BUILD_FORM)),
+            None => return Err(mistake(alloc, WRONG_PLAN_FORM)),
         },
+        Some(("upgrade", inner)) => upgrade_request(inner).map(Request::Upgrade),
+        Some(("serve", inner)) => return serve_request(alloc, inner),
         _ => None,
     };
     match request {
@@ -235,6 +339,20 @@ fn mistake(alloc: Global, form: &str) -> Unread {
     }
 }
 
+fn stops_request<'a>(matches: &ArgMatches<'a>) -> Option<StopsRequest<'a>> {
+    Some(StopsRequest {
+        image: matches.get_str("image")?,
+        text: matches.get_str("text").unwrap_or(""),
+    })
+}
+
+fn upgrade_request<'a>(matches: &ArgMatches<'a>) -> Option<UpgradeRequest<'a>> {
+    Some(UpgradeRequest {
+        image: matches.get_str("image")?,
+        out: matches.get_str("out")?,
+    })
+}
+
 fn journey_request<'a>(matches: &ArgMatches<'a>) -> Option<JourneyRequest<'a>> {
     Some(JourneyRequest {
         image: matches.get_str("image")?,
@@ -248,6 +366,7 @@ fn profile_request<'a>(matches: &ArgMatches<'a>) -> Option<ProfileRequest<'a>> {
         image: matches.get_str("image")?,
         question: question(matches)?,
         criterion: CriterionName::of(matches.get_str("criterion")?)?,
+        picture: matches.get_str("picture"),
     })
 }
 
@@ -271,11 +390,90 @@ fn build_request<'a>(matches: &ArgMatches<'a>) -> Option<BuildRequest<'a>> {
     Some(BuildRequest {
         folder: matches.get_str("folder")?,
         out: matches.get_str("out")?,
+        plan: plan(matches, matches.get_flag("strict"))?,
+    })
+}
+
+fn plan<'a>(matches: &ArgMatches<'a>, strict: bool) -> Option<PlanText<'a>> {
+    Some(PlanText {
         first_day: day(matches.get_str("first")?)?,
         days: number(matches.get_str("days")?)?,
         zone: zone(matches.get_str("zone")?)?,
-        strict: matches.get_flag("strict"),
+        strict,
     })
+}
+
+fn serve_request<'a>(alloc: Global, matches: &ArgMatches<'a>) -> Result<Request<'a>, Unread> {
+    let Some(plan) = plan(matches, false) else {
+        return Err(mistake(alloc, WRONG_PLAN_FORM));
+    };
+    let (Some(image), Some(port), Some(workers), Some(sessions)) = (
+        matches.get_str("image"),
+        matches.get_str("port").and_then(port),
+        workers(matches),
+        matches.get_str("sessions").and_then(count),
+    ) else {
+        return Err(mistake(alloc, WRONG_SERVE_FORM));
+    };
+    Ok(Request::Serve(ServeRequest {
+        image,
+        port,
+        workers,
+        sessions,
+        plan,
+        feeds: named_folders(alloc, matches)?,
+    }))
+}
+
+fn port(text: &str) -> Option<u16> {
+    u16::try_from(number(text)?).ok()
+}
+
+fn workers(matches: &ArgMatches<'_>) -> Option<usize>
+    ensures { IfSome result (λ workers. (1 ≤ workers) × (workers ≤ 16)) }
+{
+    let workers = number(matches.get_str("workers")?)?;
+    if (1..=MOST_WORKERS).contains(&workers) {
+        Some(workers as usize)
+    } else {
+        None
+    }
+}
+
+/// Decimal digits, of a number below 2^64.
+fn count(text: &str) -> Option<u64> {
+    if text.bytes().all(|byte| byte.is_ascii_digit()) {
+        text.parse().ok()
+    } else {
+        None
+    }
+}
+
+fn named_folders<'a>(
+    alloc: Global,
+    matches: &ArgMatches<'a>,
+) -> Result<Vec<NamedFolder<'a>>, Unread> {
+    let mut feeds = Vec::new(alloc);
+    let Some(words) = matches.get_strs("feeds") else {
+        return Ok(feeds);
+    };
+    for word in words {
+        let Some(feed) = named_folder(*word) else {
+            return Err(mistake(alloc, WRONG_SERVE_FORM));
+        };
+        if feeds.push(feed).is_err() {
+            return Err(Unread::OutOfMemory);
+        }
+    }
+    Ok(feeds)
+}
+
+/// A name and a folder, neither of them empty.
+fn named_folder(word: &str) -> Option<NamedFolder<'_>> {
+    match word.split_once('=')? {
+        ("", _) | (_, "") => None,
+        (name, folder) => Some(NamedFolder { name, folder }),
+    }
 }
 
 fn day(text: &str) -> Option<Day> {

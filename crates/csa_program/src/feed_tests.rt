@@ -1,9 +1,9 @@
 //! `csa tables` over folders: the base feed, and what is told of changes to it.
 
-use crate::tests::expect_line;
+use crate::tests::{Machine, expect_line};
 use std::fs;
+use std::net::{Net, TcpListener, TcpStream};
 use std::process::Abort;
-use std::rt::Files;
 use std::test::Fail;
 
 const AGENCY: usize = 0;
@@ -38,7 +38,7 @@ const BASE_COUNTS: &str =
     "tables agencies 1 stops 3 trips 2 stop_times 5 calendar 1 calendar_dates 0 transfers 0\n";
 
 /// Writes files into a new folder.
-pub(crate) fn lay_feed<R: Files + AllocGlobal + Abort>(
+pub(crate) fn lay_feed<R: Machine + Net<Listener = TcpListener, Stream = TcpStream> + Abort>(
     rt: &R,
     folder: &str,
     files: &[(&str, &str)],
@@ -52,7 +52,7 @@ pub(crate) fn lay_feed<R: Files + AllocGlobal + Abort>(
 }
 
 /// Takes the files and the folder away.
-pub(crate) fn clear_feed<R: Files + AllocGlobal + Abort>(
+pub(crate) fn clear_feed<R: Machine + Net<Listener = TcpListener, Stream = TcpStream> + Abort>(
     rt: &R,
     folder: &str,
     files: &[(&str, &str)],
@@ -66,7 +66,7 @@ pub(crate) fn clear_feed<R: Files + AllocGlobal + Abort>(
 }
 
 /// Has the tables of a new folder with these files judged.
-fn judge_feed<R: Files + AllocGlobal + Abort>(
+fn judge_feed<R: Machine + Net<Listener = TcpListener, Stream = TcpStream> + Abort>(
     rt: &R,
     folder: &str,
     files: &[(&str, &str)],
@@ -130,7 +130,7 @@ fn a_folder_in_the_place_of_a_file_cannot_be_read(rt: HostRuntime) -> Result<(),
 }
 
 /// The base feed with other stop times.
-fn judge_stop_times<R: Files + AllocGlobal + Abort>(
+fn judge_stop_times<R: Machine + Net<Listener = TcpListener, Stream = TcpStream> + Abort>(
     rt: &R,
     folder: &str,
     text: &'static str,
@@ -225,7 +225,7 @@ fn columns_come_in_any_order(rt: HostRuntime) -> Result<(), Fail> {
 }
 
 /// The base feed with the texts of two files more.
-fn judge_more<R: Files + AllocGlobal + Abort>(
+fn judge_more<R: Machine + Net<Listener = TcpListener, Stream = TcpStream> + Abort>(
     rt: &R,
     folder: &str,
     base: [(&'static str, &'static str); 5],

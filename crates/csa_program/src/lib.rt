@@ -5,45 +5,70 @@ mod build;
 #[cfg(test)]
 mod build_tests;
 mod command_line;
+mod disk;
 #[cfg(test)]
 mod feed_tests;
 mod image_file;
 mod journey;
 mod opening;
+mod pictured;
+mod planning;
 mod profile;
 #[cfg(test)]
 mod profile_tests;
 mod question;
 mod refusal;
+mod serve;
+#[cfg(test)]
+mod serve_tests;
+mod sockets;
 mod status;
+mod stops;
 mod tables;
 #[cfg(test)]
 mod tests;
+mod upgrade;
+#[cfg(test)]
+mod upgrade_tests;
 mod verify;
+mod writing;
 
 use crate::command_line::{Request, Unread, read};
+pub use crate::disk::Disk;
 use std::convert::AsStr;
 use std::io::{Read, Write};
+use std::net::{Net, TcpListener, TcpStream};
 use std::rt::Files;
+use std::sync::Wait;
+use std::thread::Threads;
 
 /// Runs the command that the words ask for; the first word is the program's name.
 ///
 /// What a command finds goes to `output`, what is wrong with the command line or with a file to `errors`. The status is 0 for an
-/// accepted request, 2 for a refused one, 3 where a file can't be read or written or a line can't be written, 4 for want of memory, and 64
-/// for a command line that asks for nothing.
-pub fn run<H: Files + AllocGlobal, S: AsStr, I: Read, O: Write, E: Write>(
-    rt: &H,
-    words: &[S],
-    input: &mut I,
-    output: &mut O,
-    errors: &mut E,
-) -> u8 {
+/// accepted request, 2 for a refused one, 3 where a file can't be read or written, a line can't be written or a socket fails, 4 for want
+/// of memory, and 64 for a command line that asks for nothing.
+pub fn run<
+    H: Files
+        + Disk
+        + AllocGlobal
+        + Net<Listener = TcpListener, Stream = TcpStream>
+        + Threads
+        + Wait
+        + Sync,
+    S: AsStr,
+    I: Read,
+    O: Write,
+    E: Write + Send,
+>(rt: &H, words: &[S], input: &mut I, output: &mut O, errors: &mut E) -> u8 {
     match read(rt.alloc(), words) {
         Ok(Request::Verify(image)) => verify::run(rt, image, input, output, errors),
         Ok(Request::Journey(request)) => journey::run(rt, request, input, output, errors),
         Ok(Request::Profile(request)) => profile::run(rt, request, input, output, errors),
+        Ok(Request::Stops(request)) => stops::run(rt, request, input, output, errors),
         Ok(Request::Tables(folder)) => tables::run(rt, folder, output),
         Ok(Request::Build(request)) => build::run(rt, request, output, errors),
+        Ok(Request::Upgrade(request)) => upgrade::run(rt, request, input, output, errors),
+        Ok(Request::Serve(request)) => serve::run(rt, request, input, output, errors),
         Err(Unread::Help(text)) => status::written(output, text.as_str(), status::ACCEPTED),
         Err(Unread::Mistake(text)) => status::written(errors, text.as_str(), status::COMMAND_LINE),
         Err(Unread::OutOfMemory) => status::OUT_OF_MEMORY,

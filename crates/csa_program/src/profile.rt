@@ -1,8 +1,9 @@
-//! `csa profile IMAGE QUERY --criterion NAME`.
+//! `csa profile IMAGE QUERY --criterion NAME [--picture FILE]`.
 
 ghost use Rattle.timetable.specs.Queries.{IsAskable};
 
 use crate::opening::open_image;
+use crate::pictured::{PictureFailure, draw};
 use crate::question::Question;
 use crate::refusal::Refusal;
 use crate::status;
@@ -23,9 +24,12 @@ pub struct ProfileRequest<'a> {
     pub image: &'a str,
     pub question: Question<'a>,
     pub criterion: CriterionName,
+    /// The file into which the answer is drawn.
+    pub picture: Option<&'a str>,
 }
 
 /// Prints each best departure with a journey, and then how many there are, how many connections were read, and the direct footpath.
+/// A picture that is asked for is written before.
 pub fn run<H: Files + AllocGlobal, I: Read, O: Write, E: Write>(
     rt: &H,
     request: ProfileRequest<'_>,
@@ -43,33 +47,50 @@ pub fn run<H: Files + AllocGlobal, I: Read, O: Write, E: Write>(
         Ok(query) => query,
         Err(fault) => return status::refused(rt.alloc(), output, &Refusal::Query(fault)),
     };
+    let drawing = request.picture;
     let lines = match request.criterion {
-        CriterionName::Arrival => answer_lines(rt.alloc(), &image, &Arrival, &query),
-        CriterionName::ArrivalTrips => answer_lines(rt.alloc(), &image, &ArrivalTrips, &query),
-        CriterionName::ArrivalTripsWalk => {
-            answer_lines(rt.alloc(), &image, &ArrivalTripsWalk, &query)
-        }
+        CriterionName::Arrival => answered(rt, &image, &Arrival, &query, drawing),
+        CriterionName::ArrivalTrips => answered(rt, &image, &ArrivalTrips, &query, drawing),
+        CriterionName::ArrivalTripsWalk => answered(rt, &image, &ArrivalTripsWalk, &query, drawing),
     };
-    status::line_written(output, lines, status::ACCEPTED)
+    match lines {
+        Ok(lines) => status::written(output, lines.as_str(), status::ACCEPTED),
+        Err(PictureFailure::Unwritable(path)) => status::unwritable(rt.alloc(), errors, path),
+        Err(PictureFailure::OutOfMemory) => status::OUT_OF_MEMORY,
+    }
 }
 
-/// The lines that answer a query.
-fn answer_lines<C: Told>(
-    alloc: Global,
+/// The lines that answer a query, once the answer is drawn where that is asked for.
+fn answered<'a, H: Files + AllocGlobal, C: Told>(
+    rt: &H,
     image: &Verified,
     criterion: &C,
     query: &Query,
-) -> Result<String, AllocError>
+    drawing: Option<&'a str>,
+) -> Result<String, PictureFailure<'a>>
     requires { IsAskable image.now.timetable.stops query.now }
 {
     let mut source = InPlace::new(image);
-    let answer = answer_query(alloc, &mut source, criterion, query)?;
+    let answer = answer_query(rt.alloc(), &mut source, criterion, query)?;
+    if let Some(path) = drawing {
+        draw(rt, image, criterion, query, &answer.departures, path)?;
+    }
+    let lines = answer_lines(rt.alloc(), criterion, &answer)?;
+    Ok(lines)
+}
+
+/// The lines of an answer.
+fn answer_lines<C: Told>(
+    alloc: Global,
+    criterion: &C,
+    answer: &Answer<C>,
+) -> Result<String, AllocError> {
     let mut lines = String::new(alloc);
     for departure in &answer.departures {
         append_departure(&mut lines, criterion, departure)?;
         append_journey(&mut lines, alloc, &departure.journey)?;
     }
-    append_end(&mut lines, &answer)?;
+    append_end(&mut lines, answer)?;
     Ok(lines)
 }
 

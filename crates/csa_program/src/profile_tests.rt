@@ -1,9 +1,10 @@
 //! Profiles as a user asks for them: each line, and that `csa journey` accepts each journey that is printed.
 
-use crate::tests::{expect_line, expect_message, slow_change, walks};
+use crate::tests::{Machine, expect_line, expect_message, slow_change, walks};
 use image_layout::{Words, sample_words};
+use std::fs;
+use std::net::{Net, TcpListener, TcpStream};
 use std::process::Abort;
-use std::rt::Files;
 use std::test::Fail;
 
 /// A query of the sample's stops from A to C, departing from 07:00:00.
@@ -52,7 +53,7 @@ fn profile_words<'a>(asked: Asked<'a>) -> [&'a str; 15] {
     ]
 }
 
-fn ask<R: Files + AllocGlobal + Abort>(
+fn ask<R: Machine + Net<Listener = TcpListener, Stream = TcpStream> + Abort>(
     rt: &R,
     image: &[u32],
     asked: Asked<'_>,
@@ -64,7 +65,7 @@ fn ask<R: Files + AllocGlobal + Abort>(
 }
 
 /// The journey holds in the image, and has these times.
-fn holds<R: Files + AllocGlobal + Abort>(
+fn holds<R: Machine + Net<Listener = TcpListener, Stream = TcpStream> + Abort>(
     rt: &R,
     image: &[u32],
     journey: &str,
@@ -285,5 +286,56 @@ fn profile_queries_are_judged(rt: HostRuntime) -> Result<(), Fail> {
         ..EARLIEST
     };
     expect_message(&rt, &profile_words(walking), &bytes, 64);
+    Ok(())
+}
+
+/// The stops are listed by their numbers, all or those with a text in their names.
+#[test]
+fn stops_are_listed(rt: HostRuntime) -> Result<(), Fail> {
+    let image = Words::to_bytes(rt.alloc(), &sample_words())?;
+    expect_line(&rt, &["csa", "stops", "-"], &image, 0, "0 A\n1 B\n2 C\n");
+    expect_line(&rt, &["csa", "stops", "-", "B"], &image, 0, "1 B\n");
+    expect_line(&rt, &["csa", "stops", "-", "b"], &image, 0, "");
+    Ok(())
+}
+
+/// Whether a text begins and ends as a picture.
+fn is_picture(text: &[u8]) -> bool {
+    text.starts_with(b"<svg ") && text.ends_with(b"</svg>\n")
+}
+
+fn drawn_words<'a>(path: &'a str) -> [&'a str; 17] {
+    [
+        "csa",
+        "profile",
+        "-",
+        "--from",
+        "A",
+        "--to",
+        "C",
+        "--after",
+        "07:00:00",
+        "--until",
+        "09:00:00",
+        "--by",
+        "10:00:00",
+        "--criterion",
+        "arrival",
+        "--picture",
+        path,
+    ]
+}
+
+/// The answer is drawn beside its lines; a picture that can't be written is told, and nothing is printed.
+#[test]
+fn an_answer_is_drawn(rt: HostRuntime) -> Result<(), Fail> {
+    let image = Words::to_bytes(rt.alloc(), &sample_words())?;
+    let lines =
+        "dep 08:00:00 arr 08:20:00 : ride 0 0 walk 1 1 0 ride 2 2\npoints 1 read 3 walk none\n";
+    expect_line(&rt, &drawn_words("answer.svg"), &image, 0, lines);
+    let drawn = fs::read(&rt, "answer.svg")?;
+    assert!(&rt; is_picture(&drawn));
+    fs::remove_file(&rt, "answer.svg")?;
+    expect_message(&rt, &drawn_words("none/answer.svg"), &image, 3);
     Ok(())
 }

@@ -1,12 +1,21 @@
 //! The commands as a user runs them: words and input in, lines and a status out.
 
-use crate::run;
+use crate::{Disk, run};
 use image_layout::{Words, sample_words};
 use std::alloc::{AllocError, Global};
 use std::fs;
+use std::net::{Net, TcpListener, TcpStream};
 use std::process::Abort;
 use std::rt::Files;
+use std::sync::Wait;
 use std::test::Fail;
+use std::thread::Threads;
+
+/// What the program needs of the machine that it runs on, beside sockets: a bound on their types can't stand in a bundle, since the
+/// tests' functions wouldn't know the types.
+pub(crate) trait Machine: Files + Disk + AllocGlobal + Threads + Wait + Sync {}
+
+impl<H: Files + AllocGlobal + Threads + Wait + Sync> Machine for H {}
 
 /// What a command wrote, and its status.
 #[derive(Drop)]
@@ -16,7 +25,11 @@ pub(crate) struct Outcome {
     pub(crate) errors: Vec<u8>,
 }
 
-pub(crate) fn outcome_of<R: Files + AllocGlobal>(rt: &R, words: &[&str], bytes: &[u8]) -> Outcome {
+pub(crate) fn outcome_of<R: Machine + Net<Listener = TcpListener, Stream = TcpStream>>(
+    rt: &R,
+    words: &[&str],
+    bytes: &[u8],
+) -> Outcome {
     let mut input: &[u8] = bytes;
     let mut output = Vec::new(rt.alloc());
     let mut errors = Vec::new(rt.alloc());
@@ -29,7 +42,7 @@ pub(crate) fn outcome_of<R: Files + AllocGlobal>(rt: &R, words: &[&str], bytes: 
 }
 
 /// The command prints this line alone, and ends with the status.
-pub(crate) fn expect_line<R: Files + AllocGlobal + Abort>(
+pub(crate) fn expect_line<R: Machine + Net<Listener = TcpListener, Stream = TcpStream> + Abort>(
     rt: &R,
     words: &[&str],
     bytes: &[u8],
@@ -43,7 +56,7 @@ pub(crate) fn expect_line<R: Files + AllocGlobal + Abort>(
 }
 
 /// The command prints nothing but a message to the errors, and ends with the status.
-pub(crate) fn expect_message<R: Files + AllocGlobal + Abort>(
+pub(crate) fn expect_message<R: Machine + Net<Listener = TcpListener, Stream = TcpStream> + Abort>(
     rt: &R,
     words: &[&str],
     bytes: &[u8],
@@ -66,7 +79,7 @@ fn front(bytes: &[u8], count: usize) -> &[u8] {
 
 const VERIFY: [&str; 3] = ["csa", "verify", "-"];
 
-fn verify_words<R: Files + AllocGlobal + Abort>(
+fn verify_words<R: Machine + Net<Listener = TcpListener, Stream = TcpStream> + Abort>(
     rt: &R,
     image: &[u32],
     status: u8,
@@ -235,7 +248,7 @@ fn journey_words<'a>(text: &'a str, until: &'a str) -> [&'a str; 14] {
     ]
 }
 
-fn judge_journey<R: Files + AllocGlobal + Abort>(
+fn judge_journey<R: Machine + Net<Listener = TcpListener, Stream = TcpStream> + Abort>(
     rt: &R,
     image: &[u32],
     text: &str,

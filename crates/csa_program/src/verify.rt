@@ -21,7 +21,8 @@ pub fn run<H: Files + AllocGlobal, I: Read, O: Write, E: Write>(
     }
 }
 
-fn counts(alloc: Global, image: &Verified) -> Result<String, AllocError> {
+/// What is printed of an accepted image.
+pub fn counts(alloc: Global, image: &Verified) -> Result<String, AllocError> {
     format!(in alloc;
         "ok stops {} trips {} connections {} footpaths {}\n",
         image.stops(),

@@ -4,11 +4,11 @@ use Rattle.timetable.specs.Legal.{HasFootpath, AreInOrder}
 use Rattle.timetable.specs.declared.limits.TheConstants.{MAX_FOOTPATHS, MAX_WALK_SECS}
 use Rattle.timetable.specs.declared.network.Footpath.{Footpath}
 use Rattle.gtfs_tables.specs.declared.tables.Feed.{Feed}
-use Rattle.transfers.specs.Listed.{listed_secs}
+use Rattle.transfers.specs.Listed.{ListsMore, listed_secs}
 use Rattle.footpaths.specs.Closure.{HasLoops, HasMorePairs, IsClosure, IsFault}
 use Rattle.footpaths.specs.Walks.{AreJoined}
 use Rattle.footpaths.specs.declared.fault.FootFault.{FootFault}
-use Rattle.footpaths.specs.declared.fault.FootFault.TheVariants.{OutOfMemory}
+use Rattle.footpaths.specs.declared.fault.FootFault.TheVariants.{OutOfMemory, TooManyFootpaths}
 use Rattle.feed_loader.specs.Loaded.{AreFeedPaths, IsFeedClosure}
 
 -- each stop's loop, whatever the number of stops is called
@@ -42,6 +42,10 @@ module _ {Z : Type 0} (feed : Feed) (listed paths : List Footpath) (result : Res
 one_step : (listed : List Footpath) (f : Footpath) → Contains listed f → AreJoined listed f.from f.to
 one_step listed f there = (f ∷ [], record { leads = (there, refl, tt); some = λ none. cc; ends = refl })
 
--- where too many footpaths are listed, too many pairs are joined
-pub many_listed : (listed : List Footpath) (most : ℕ) → AreInOrder listed → most < length listed → HasMorePairs listed most
+many_listed : (listed : List Footpath) (most : ℕ) → AreInOrder listed → most < length listed → HasMorePairs listed most
 many_listed listed most order many = (listed, record { in_order = order; joined = one_step listed; more = many })
+
+-- where too many footpaths are listed, too many pairs are joined
+pub too_many : (feed : Feed) → ListsMore feed MAX_FOOTPATHS
+    → (TooManyFootpaths ≡ OutOfMemory) ⊎ ((listed : List Footpath) × AreFeedPaths feed listed × IsFault listed MAX_FOOTPATHS MAX_WALK_SECS TooManyFootpaths)
+too_many feed h = inr (h.paths, record { times = h.times; in_order = h.in_order }, many_listed h.paths MAX_FOOTPATHS h.in_order h.more)

@@ -22,9 +22,9 @@ use Rattle.feed_loader.specs.declared.plan.Plan.{Plan}
 abbrev pub day_number : Day → ℕ
 day_number d = 10000 * d.year + 100 * d.month + d.day
 
--- a run has the name of its trip, which is its trip_id, and its day
+-- a run has the name of its trip, which is its trip_id, and its day; none is a repeat of another
 abbrev pub name_on : Option Trip → Day → TripNameValue
-name_on trip day = record { name = option_map_or (λ trip. string_bytes trip.id) trip []; day = day_number day }
+name_on trip day = record { name = option_map_or (λ trip. string_bytes trip.id) trip []; day = day_number day; repeat = 0 }
 
 abbrev pub run_name : List Trip → Run → TripNameValue
 run_name trips run = name_on (slice_get trips run.trip) run.day

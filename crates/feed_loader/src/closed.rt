@@ -11,10 +11,10 @@ use gtfs_tables::Feed;
 use std::alloc::Global;
 use timetable::Footpath;
 use timetable::limits::MAX_FOOTPATHS;
-use transfers::listed;
+use transfers::{ListingFault, listed_within};
 
 /// The closure of the footpaths that a feed lists. Each of these joins a pair of stops in the closure too, so where there are too
-/// many of them nothing is closed.
+/// many of them no more are listed, and nothing is closed.
 pub fn closed_footpaths(alloc: Global, feed: &Feed, stops: u32) -> Result<Vec<Footpath>, FootFault>
     requires names { NamesItsStops feed.now }
     requires stops { stops ≡ length feed.now.stops.items }
@@ -24,11 +24,9 @@ pub fn closed_footpaths(alloc: Global, feed: &Feed, stops: u32) -> Result<Vec<Fo
     ensures short { IfOk result (λ v. All (λ f. f.secs ≤ MAX_WALK_SECS) v.items) }
     ensures fault { IfErr result (λ fault. (fault ≡ FootFault.OutOfMemory) ⊎ ((paths : _) × AreFeedPaths feed.now paths × IsFault paths MAX_FOOTPATHS MAX_WALK_SECS fault)) }
 {
-    let Ok(listed) = listed(alloc, feed) else {
-        return Err(FootFault::OutOfMemory);
-    };
-    if listed.len() > MAX_FOOTPATHS as usize {
-        return Err(FootFault::TooManyFootpaths);
+    match listed_within(alloc, feed, MAX_FOOTPATHS as usize) {
+        Ok(listed) => close(alloc, stops, &listed),
+        Err(ListingFault::TooMany) => Err(FootFault::TooManyFootpaths),
+        Err(ListingFault::OutOfMemory) => Err(FootFault::OutOfMemory),
     }
-    close(alloc, stops, &listed)
 }

@@ -75,7 +75,11 @@ pub fn run_names(alloc: Global, trips: &[Trip], runs: &[Run]) -> Result<Vec<Trip
     for run in runs {
         let name = String::from_str(alloc, run_id(trips, run))?;
         let day = day_number(run.day);
-        names.push(TripName { name, day })?;
+        names.push(TripName {
+            name,
+            day,
+            repeat: 0,
+        })?;
     }
     Ok(names)
 }

@@ -5,7 +5,7 @@ ghost use Rattle.std.specs.Prelude.{◌≡◌};
 use super::*;
 use footpaths::FootFault;
 use gtfs_tables::{Day, FaultKind, Table, TableFault};
-use image_layout::sample_words;
+use image_layout::second_sample_words;
 use service_days::{DayFault, Zone};
 use std::alloc::{AllocError, Global};
 use std::test::*;
@@ -46,7 +46,7 @@ fn a_feed_makes_its_image(rt: HostRuntime) -> Result<(), Fail> {
     let Ok((image, report)) = load(rt.alloc(), &mut files, &one_day()) else {
         panic!(rt; "the feed is refused");
     };
-    assert!(rt; image.words() == sample_words().as_slice());
+    assert!(rt; image.words() == second_sample_words().as_slice());
     let counted = Report {
         stops: 3,
         runs: 2,
@@ -190,7 +190,7 @@ fn refused_growth_is_told(rt: HostRuntime) -> Result<(), Fail> {
     let mut files = MemoryFiles { files: &FILES };
     match load(rt.alloc(), &mut files, &one_day()) {
         Ok((image, _report)) => {
-            assert!(rt; image.words() == sample_words().as_slice());
+            assert!(rt; image.words() == second_sample_words().as_slice());
             Ok(())
         }
         Err(LoadFault::Table(fault)) => {

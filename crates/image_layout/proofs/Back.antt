@@ -1,7 +1,8 @@
 -- An image shows the timetable and the names that it was spelled from.
-use Rattle.std.proofs.Common.{◌≡◌, ℕ, ◌+◌, ◌/◌, ◌<◌, List, [], ◌∷◌, ◌++◌, length, get_or, map, Some, refl, ap, ◌∙◌, arith}
+use Rattle.std.proofs.Common.{◌≡◌, ℕ, ◌+◌, ◌/◌, ◌<◌, cond, eqb, List, [], ◌∷◌, length, get_or, map, Some, refl, ap, ◌∙◌, arith, inl, inr}
 use Rattle.std.specs.Prelude.{slice_get}
 use Rattle.std.specs.List.{flat_map}
+use Rattle.std.proofs.lemmas.Bool.{cases_Bool}
 use Rattle.std.proofs.lemmas.Option.{slice_get-get_or, get_or_from_slice_get}
 use Rattle.std.proofs.lemmas.List.{same_lists, length-append, length-map}
 use Rattle.std.proofs.lemmas.List.FromFn.{length-map-range_with_len}
@@ -9,14 +10,15 @@ use Rattle.timetable.specs.declared.network.Footpath.{Footpath}
 use Rattle.timetable.specs.TimetableValue.{TimetableValue}
 use Rattle.timetable.specs.NamesValue.{NamesValue, TripNameValue}
 use Rattle.timetable.specs.Legal.{At, IsLegal}
+use Rattle.image_layout.specs.declared.layout.TheConstants.{LAYOUT}
 use Rattle.image_layout.specs.Places.{IsWhole}
-use Rattle.image_layout.specs.Spelling.{connection_words, footpath_words, footpath_count_below, foot_index, name_list, byte_count_before, name_index, text, text_words, image_in}
+use Rattle.image_layout.specs.Spelling.{connection_words, footpath_words, footpath_count_below, foot_index, name_list, byte_count_before, name_index, text, text_words, repeats_in, image_in}
 use Rattle.image_layout.specs.Shown.{footpaths_of, timetable_of}
 use Rattle.image_layout.specs.Image.{HasImage}
 use Rattle.image_layout.proofs.Feet.{IsFootIndex}
 use Rattle.image_layout.proofs.Whole.{length-footpaths_of}
 use Rattle.image_layout.proofs.Found.{footpath_is}
-use Rattle.image_layout.proofs.Spelled.{pieces_long, from_names, from_footpaths, from_foot_index, NeverFalls, place_below, place_above, none_below_zero, all_below, below_rises, foot_index_back, footpath_back, connections_back}
+use Rattle.image_layout.proofs.Spelled.{pieces_long, from_repeats, from_days, from_names, from_footpaths, from_foot_index, NeverFalls, place_below, place_above, none_below_zero, all_below, below_rises, foot_index_back, footpath_back, connections_back}
 
 never_falls : (p : TimetableValue) → IsLegal p → NeverFalls p.footpaths
 never_falls p legal i d e at_d at_e =
@@ -36,25 +38,35 @@ pub length-name_list : (p : TimetableValue) (n : NamesValue) → HasImage p n �
 length-name_list p n can =
     omega (arith, length-append n.stops (map (λ (t : TripNameValue). t.name) n.trips), length-map n.trips (λ (t : TripNameValue). t.name), can.names.stop_names, can.names.trip_names)
 
+-- the section of the repeats has a word for each trip, or none
+pub length-repeats_in : (layout : ℕ) (n : NamesValue) (trips : ℕ) → length n.trips ≡ trips → length (repeats_in layout n) ≡ cond (eqb layout LAYOUT) trips 0
+length-repeats_in layout n trips e =
+    elim (cases_Bool (eqb layout LAYOUT)) [
+      | inl has ↦ rw has (length-map n.trips (λ (t : TripNameValue). t.repeat) ∙ e)
+      | inr lacks ↦ rw lacks refl
+    ]
+
 pub image_is_whole : (layout : ℕ) (p : TimetableValue) (n : NamesValue) → HasImage p n → IsWhole (image_in layout p n)
 unfolding image_in
 image_is_whole layout p n can =
     let connections = flat_map connection_words p.connections in
     let feet = flat_map footpath_words p.footpaths in
     let days = map (λ (t : TripNameValue). t.day) n.trips in
-    let a = length-append connections (from_foot_index p n) in
-    let b = length-append (foot_index p) (from_footpaths p n) in
-    let d = length-append feet (from_names n) in
-    let e = length-append (name_index n) (days ++ text_words (text n)) in
-    let f = length-append days (text_words (text n)) in
+    let a = length-append connections (from_foot_index layout p n) in
+    let b = length-append (foot_index p) (from_footpaths layout p n) in
+    let d = length-append feet (from_names layout n) in
+    let e = length-append (name_index n) (from_days layout n) in
+    let f = length-append days (from_repeats layout n) in
+    let g = length-append (repeats_in layout n) (text_words (text n)) in
     let connections_long = pieces_long connection_words 6 (λ x. refl) p.connections in
     let feet_long = pieces_long footpath_words 2 (λ x. refl) p.footpaths in
     let index_long = length-map-range_with_len (footpath_count_below p.footpaths) 0 (p.stops + 1) in
     let names_long = length-map-range_with_len (byte_count_before (name_list n)) 0 (length (name_list n) + 1) in
     let days_long = length-map n.trips (λ (t : TripNameValue). t.day) in
+    let repeats_long = length-repeats_in layout n p.trips can.names.trip_names in
     record {
       has_header = omega arith;
-      all_there = omega (arith, a, b, d, e, f, connections_long, feet_long, index_long, names_long, days_long, length-text_words (text n), length-name_list p n can, can.names.trip_names);
+      all_there = omega (arith, a, b, d, e, f, g, connections_long, feet_long, index_long, names_long, days_long, repeats_long, length-text_words (text n), length-name_list p n can, can.names.trip_names);
     }
 
 pub image_has_index : (layout : ℕ) (p : TimetableValue) (n : NamesValue) → HasImage p n → IsFootIndex (image_in layout p n)

@@ -1,8 +1,9 @@
 -- An image shows the names that it was spelled from.
-use Rattle.std.proofs.Common.{◌≡◌, ℕ, zero, suc, ◌+◌, ◌-◌, ◌*◌, ◌/◌, ◌%◌, ◌^◌, ◌<◌, ◌≤◌, Bool, true, false, cond, eqb, List, [], ◌∷◌, ◌++◌, length, get_or, take, drop, map, Some, refl, sym, ap, ◌∙◌, arith}
+use Rattle.std.proofs.Common.{◌≡◌, ℕ, zero, suc, ◌+◌, ◌-◌, ◌*◌, ◌/◌, ◌%◌, ◌^◌, ◌<◌, ◌≤◌, Bool, true, false, ◌||◌, cond, eqb, List, [], ◌∷◌, ◌++◌, length, get_or, take, drop, map, Some, refl, sym, ap, ◌∙◌, arith, inl, inr}
 use Rattle.std.specs.Prelude.{ℤ, slice_get, slice_index, slice_range}
 use Rattle.std.specs.List.{flat_map, concat, range_with_len, list_all}
 use Rattle.std.specs.Int.{w32, w64, to_le_bytes, from_le_bytes, cast_signed, cast_unsigned}
+use Rattle.std.proofs.lemmas.Bool.{cases_Bool, eqb-true}
 use Rattle.std.proofs.lemmas.Int.{to_z-of_z}
 use Rattle.std.proofs.lemmas.Nat.{le_bytes_4}
 use Rattle.std.proofs.lemmas.Option.{slice_get-get_or, slice_get_within}
@@ -11,15 +12,16 @@ use Rattle.std.proofs.lemmas.List.{take_all, append_assoc, append-nil, length-ap
 use Rattle.std.proofs.lemmas.List.FromFn.{fill_by_all, length-map-range_with_len, get_or-map-range_with_len}
 use Rattle.timetable.specs.TimetableValue.{TimetableValue}
 use Rattle.timetable.specs.NamesValue.{NamesValue, TripNameValue}
-use Rattle.image_layout.specs.Places.{is_layout, header_of, name_index_place, day_place, text_place}
-use Rattle.image_layout.specs.Fields.{name_index_of, day_of}
+use Rattle.image_layout.specs.declared.layout.TheConstants.{FIRST_LAYOUT, LAYOUT}
+use Rattle.image_layout.specs.Places.{is_layout, header_of, name_index_place, day_place, repeat_place, text_place}
+use Rattle.image_layout.specs.Fields.{name_index_of, day_of, repeat_of}
 use Rattle.image_layout.specs.Text.{bytes_of, padded_text_of}
-use Rattle.image_layout.specs.Spelling.{connection_words, footpath_words, footpath_count_below, foot_index, name_list, byte_count_before, name_index, text, text_words, image_in}
+use Rattle.image_layout.specs.Spelling.{connection_words, footpath_words, footpath_count_below, foot_index, name_list, byte_count_before, name_index, text, text_words, repeats_in, image_in}
 use Rattle.image_layout.specs.Shown.{connection_of, name_of, trip_name_of, names_of}
-use Rattle.image_layout.specs.Image.{HasImage}
-use Rattle.image_layout.proofs.Spelled.{flags_back, skip, word_in, pieces_long, from_names, from_footpaths, from_foot_index}
+use Rattle.image_layout.specs.Image.{AreFirst, HasImage}
+use Rattle.image_layout.proofs.Spelled.{flags_back, skip, word_in, pieces_long, from_repeats, from_days, from_names, from_footpaths, from_foot_index}
 use Rattle.image_layout.proofs.Bytes.{concat_are_bytes}
-use Rattle.image_layout.proofs.Back.{length-name_list, image_is_whole, image_has_index}
+use Rattle.image_layout.proofs.Back.{length-repeats_in, length-name_list, image_is_whole, image_has_index}
 use Rattle.image_layout.proofs.Whole.{IsWellFormed, connection_is}
 
 abbrev IsBytes : List ℕ → Type 0
@@ -78,8 +80,9 @@ name_there (x ∷ xs) rest (suc i) name e =
 
 -- where the sections behind the footpaths stand
 record AreBehind (layout : ℕ) (p : TimetableValue) (n : NamesValue) : Type 0 where
-  index : drop (name_index_place (header_of (image_in layout p n))) (image_in layout p n) ≡ from_names n
-  days : drop (day_place (header_of (image_in layout p n))) (image_in layout p n) ≡ map (λ (t : TripNameValue). t.day) n.trips ++ text_words (text n)
+  index : drop (name_index_place (header_of (image_in layout p n))) (image_in layout p n) ≡ from_names layout n
+  days : drop (day_place (header_of (image_in layout p n))) (image_in layout p n) ≡ from_days layout n
+  repeats : drop (repeat_place (header_of (image_in layout p n))) (image_in layout p n) ≡ from_repeats layout n
   text : drop (text_place (header_of (image_in layout p n))) (image_in layout p n) ≡ text_words (text n)
 
 behind : (layout : ℕ) (p : TimetableValue) (n : NamesValue) → HasImage p n → AreBehind layout p n
@@ -94,25 +97,29 @@ behind layout p n can =
     let place3 : ℕ = place2 + 2 * length p.footpaths in
     let place4 : ℕ = place3 + (length (name_list n) + 1) in
     let place5 : ℕ = place4 + length n.trips in
-    let at1 : drop place1 w ≡ from_foot_index p n = skip w connections (from_foot_index p n) 9 (6 * length p.connections) (pieces_long connection_words 6 (λ x. refl) p.connections) refl in
-    let at2 : drop place2 w ≡ from_footpaths p n = skip w (foot_index p) (from_footpaths p n) place1 (p.stops + 1) (length-map-range_with_len (footpath_count_below p.footpaths) 0 (p.stops + 1)) at1 in
-    let at3 : drop place3 w ≡ from_names n = skip w feet (from_names n) place2 (2 * length p.footpaths) (pieces_long footpath_words 2 (λ x. refl) p.footpaths) at2 in
-    let at4 : drop place4 w ≡ days ++ text_words (text n) = skip w (name_index n) (days ++ text_words (text n)) place3 (length (name_list n) + 1) (length-map-range_with_len (byte_count_before (name_list n)) 0 (length (name_list n) + 1)) at3 in
-    let at5 : drop place5 w ≡ text_words (text n) = skip w days (text_words (text n)) place4 (length n.trips) (length-map n.trips (λ (t : TripNameValue). t.day)) at4 in
+    let place6 : ℕ = place5 + length (repeats_in layout n) in
+    let at1 : drop place1 w ≡ from_foot_index layout p n = skip w connections (from_foot_index layout p n) 9 (6 * length p.connections) (pieces_long connection_words 6 (λ x. refl) p.connections) refl in
+    let at2 : drop place2 w ≡ from_footpaths layout p n = skip w (foot_index p) (from_footpaths layout p n) place1 (p.stops + 1) (length-map-range_with_len (footpath_count_below p.footpaths) 0 (p.stops + 1)) at1 in
+    let at3 : drop place3 w ≡ from_names layout n = skip w feet (from_names layout n) place2 (2 * length p.footpaths) (pieces_long footpath_words 2 (λ x. refl) p.footpaths) at2 in
+    let at4 : drop place4 w ≡ from_days layout n = skip w (name_index n) (from_days layout n) place3 (length (name_list n) + 1) (length-map-range_with_len (byte_count_before (name_list n)) 0 (length (name_list n) + 1)) at3 in
+    let at5 : drop place5 w ≡ from_repeats layout n = skip w days (from_repeats layout n) place4 (length n.trips) (length-map n.trips (λ (t : TripNameValue). t.day)) at4 in
+    let at6 : drop place6 w ≡ text_words (text n) = skip w (repeats_in layout n) (text_words (text n)) place5 (length (repeats_in layout n)) refl at5 in
     let many = length-name_list p n can in
     let e3 : name_index_place (header_of w) ≡ place3 = omega arith in
     let e4 : day_place (header_of w) ≡ place4 = omega (arith, many) in
-    let e5 : text_place (header_of w) ≡ place5 = omega (arith, many, can.names.trip_names) in
+    let e5 : repeat_place (header_of w) ≡ place5 = omega (arith, many, can.names.trip_names) in
+    let e6 : text_place (header_of w) ≡ place6 = omega (arith, e5, length-repeats_in layout n p.trips can.names.trip_names) in
     record {
       index = ap (λ (k : ℕ). drop k w) e3 ∙ at3;
       days = ap (λ (k : ℕ). drop k w) e4 ∙ at4;
-      text = ap (λ (k : ℕ). drop k w) e5 ∙ at5;
+      repeats = ap (λ (k : ℕ). drop k w) e5 ∙ at5;
+      text = ap (λ (k : ℕ). drop k w) e6 ∙ at6;
     }
 
 pub name_index_back : (layout : ℕ) (p : TimetableValue) (n : NamesValue) → HasImage p n → (i : ℕ) → i ≤ length (name_list n) → name_index_of (image_in layout p n) i ≡ byte_count_before (name_list n) i
 name_index_back layout p n can i le =
     let size = length-map-range_with_len (byte_count_before (name_list n)) 0 (length (name_list n) + 1) in
-    word_in (image_in layout p n) (name_index n) (map (λ (t : TripNameValue). t.day) n.trips ++ text_words (text n)) (name_index_place (header_of (image_in layout p n))) i (behind layout p n can).index (omega (arith, size))
+    word_in (image_in layout p n) (name_index n) (from_days layout n) (name_index_place (header_of (image_in layout p n))) i (behind layout p n can).index (omega (arith, size))
     ∙ get_or-map-range_with_len (byte_count_before (name_list n)) 0 (length (name_list n) + 1) i i 0 (omega arith) (omega arith)
 
 pub name_back : (layout : ℕ) (p : TimetableValue) (n : NamesValue) → HasImage p n → (i : ℕ) (name : List ℕ) → slice_get (name_list n) i ≡ Some name → name_of (image_in layout p n) i ≡ name
@@ -127,11 +134,39 @@ name_back layout p n can i name e =
 day_back : (layout : ℕ) (p : TimetableValue) (n : NamesValue) → HasImage p n → (i : ℕ) → i < length n.trips → (d : TripNameValue) → day_of (image_in layout p n) i ≡ (get_or n.trips i d).day
 day_back layout p n can i lt d =
     let size = length-map n.trips (λ (t : TripNameValue). t.day) in
-    word_in (image_in layout p n) (map (λ (t : TripNameValue). t.day) n.trips) (text_words (text n)) (day_place (header_of (image_in layout p n))) i (behind layout p n can).days (omega (arith, size))
+    word_in (image_in layout p n) (map (λ (t : TripNameValue). t.day) n.trips) (from_repeats layout n) (day_place (header_of (image_in layout p n))) i (behind layout p n can).days (omega (arith, size))
     ∙ get_or-map (λ (t : TripNameValue). t.day) n.trips i d 0 lt
 
-abbrev label : List ℕ → ℕ → TripNameValue
-label name day = record { name = name; day = day }
+-- what is read and isn't the layout that is written is the first one
+the_first : (k : ℕ) → is_layout k ≡ true → eqb k LAYOUT ≡ false → k ≡ FIRST_LAYOUT
+the_first k known other = eqb-true k FIRST_LAYOUT (one_of_two (eqb k FIRST_LAYOUT) (eqb k LAYOUT) known other)
+  where
+    one_of_two : (a b : Bool) → (a || b) ≡ true → b ≡ false → a ≡ true
+    one_of_two true b e f = refl
+    one_of_two false true e f = absurd cc
+    one_of_two false false e f = absurd cc
+
+repeat_back : (layout : ℕ) (p : TimetableValue) (n : NamesValue) → is_layout layout ≡ true → (layout ≡ FIRST_LAYOUT → AreFirst n) → HasImage p n
+    → (i : ℕ) → i < length n.trips → (d : TripNameValue) → repeat_of (image_in layout p n) i ≡ (get_or n.trips i d).repeat
+unfolding image_in
+repeat_back layout p n known first can i lt d =
+    let w = image_in layout p n in
+    let word = slice_index w (repeat_place (header_of w) + i) in
+    elim (cases_Bool (eqb layout LAYOUT)) [
+      | inl has ↦
+          let repeats = map (λ (t : TripNameValue). t.repeat) n.trips in
+          let section : repeats_in layout n ≡ repeats = ap (λ (b : Bool). cond {A = List ℕ} b repeats []) has in
+          let size = length-map n.trips (λ (t : TripNameValue). t.repeat) in
+          ap (λ (b : Bool). cond {A = ℕ} b word 0) has
+          ∙ word_in w (repeats_in layout n) (text_words (text n)) (repeat_place (header_of w)) i (behind layout p n can).repeats (omega (arith, size, ap length section))
+          ∙ ap (λ (x : List ℕ). get_or x i 0) section
+          ∙ get_or-map (λ (t : TripNameValue). t.repeat) n.trips i d 0 lt
+      | inr lacks ↦
+          ap (λ (b : Bool). cond {A = ℕ} b word 0) lacks ∙ sym (first (the_first layout known lacks) i d lt)
+    ]
+
+abbrev label : List ℕ → ℕ → ℕ → TripNameValue
+label name day repeat = record { name = name; day = day; repeat = repeat }
 
 abbrev labels : ℤ → List (List ℕ) → List TripNameValue → NamesValue
 labels base stops trips = record { base = base; stops = stops; trips = trips }
@@ -152,8 +187,8 @@ trip_named n k d lt =
     ∙ ap (λ (j : ℕ). get_or (map (λ (t : TripNameValue). t.name) n.trips) j []) back ∙ get_or-map (λ (t : TripNameValue). t.name) n.trips k d [] lt)
 
 -- labels of equal parts
-label_is : (name : List ℕ) (day : ℕ) (t : TripNameValue) → name ≡ t.name → day ≡ t.day → label name day ≡ t
-label_is name day t e f = rw (e, f) refl
+label_is : (name : List ℕ) (day repeat : ℕ) (t : TripNameValue) → name ≡ t.name → day ≡ t.day → repeat ≡ t.repeat → label name day repeat ≡ t
+label_is name day repeat t e f g = rw (e, f, g) refl
 
 labels_are : (base : ℤ) (stops : List (List ℕ)) (trips : List TripNameValue) (n : NamesValue) → base ≡ n.base → stops ≡ n.stops → trips ≡ n.trips → labels base stops trips ≡ n
 labels_are base stops trips n e f g = rw (e, f, g) refl
@@ -162,9 +197,9 @@ halves : (a : ℕ) → a % 4294967296 + 4294967296 * (a / 4294967296) ≡ a
 halves a = omega arith
 
 -- an image shows the names that it was spelled from
-pub names_back : (layout : ℕ) (p : TimetableValue) (n : NamesValue) → HasImage p n → names_of (image_in layout p n) ≡ n
+pub names_back : (layout : ℕ) (p : TimetableValue) (n : NamesValue) → is_layout layout ≡ true → (layout ≡ FIRST_LAYOUT → AreFirst n) → HasImage p n → names_of (image_in layout p n) ≡ n
 unfolding image_in
-names_back layout p n can =
+names_back layout p n known first can =
     let w = image_in layout p n in
     let base : cast_signed w64 (cast_unsigned w64 n.base % 4294967296 + 4294967296 * (cast_unsigned w64 n.base / 4294967296)) ≡ n.base =
     ap (λ (a : ℕ). cast_signed w64 a) (halves (cast_unsigned w64 n.base)) ∙ to_z-of_z w64 n.base can.names.base in
@@ -177,7 +212,8 @@ names_back layout p n can =
     let place : p.stops + k ≡ length n.stops + k = omega (arith, can.names.stop_names) in
     let name : name_of w (p.stops + k) ≡ (get_or n.trips k d).name = ap (λ (j : ℕ). name_of w j) place ∙ name_back layout p n can (length n.stops + k) (get_or n.trips k d).name (trip_named n k d within) in
     let day : day_of w k ≡ (get_or n.trips k d).day = day_back layout p n can k within d in
-    sym (label_is (name_of w (p.stops + k)) (day_of w k) (get_or n.trips k d) name day))) in
+    let repeat : repeat_of w k ≡ (get_or n.trips k d).repeat = repeat_back layout p n known first can k within d in
+    sym (label_is (name_of w (p.stops + k)) (day_of w k) (repeat_of w k) (get_or n.trips k d) name day repeat))) in
     labels_are (cast_signed w64 (cast_unsigned w64 n.base % 4294967296 + 4294967296 * (cast_unsigned w64 n.base / 4294967296))) (map (name_of w) (range_with_len 0 p.stops)) (map (trip_name_of w) (range_with_len 0 p.trips)) n base stops trips
 
 flags_small : (a b : Bool) → cond {A = ℕ} a 1 0 + cond {A = ℕ} b 2 0 ≤ 3

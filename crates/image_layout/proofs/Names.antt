@@ -1,16 +1,19 @@
 -- The names that words show spell their index, and their text, again.
-use Rattle.std.proofs.Common.{◌≡◌, ℕ, zero, suc, ◌+◌, ◌-◌, ◌<◌, ◌≤◌, List, [], ◌∷◌, ◌++◌, length, get_or, take, drop, map, refl, sym, ap, ◌∙◌, arith, add-zero}
+use Rattle.std.proofs.Common.{◌≡◌, ℕ, zero, suc, ◌+◌, ◌-◌, ◌<◌, ◌≤◌, Bool, cond, eqb, List, [], ◌∷◌, ◌++◌, length, get_or, take, drop, map, refl, sym, ap, ◌∙◌, arith, add-zero, inl, inr}
 use Rattle.std.specs.Prelude.{slice_range}
 use Rattle.std.specs.List.{concat, range_with_len}
 use Rattle.std.proofs.Math.Seq.{take-add}
+use Rattle.std.proofs.lemmas.Bool.{cases_Bool}
 use Rattle.std.proofs.lemmas.List.{take_all, drop-drop, length-take, length-take-le, length-drop, get_or-take, get_or-drop}
-use Rattle.std.proofs.lemmas.List.FromFn.{fill_by_all, length-map-range_with_len, take-map-range_with_len}
+use Rattle.std.proofs.lemmas.List.FromFn.{fill_by_all, length-map-range_with_len, get_or-map-range_with_len, take-map-range_with_len}
 use Rattle.timetable.specs.NamesValue.{TripNameValue}
-use Rattle.image_layout.specs.Places.{header_of, name_index_place, day_place, IsWhole}
-use Rattle.image_layout.specs.Fields.{name_index_of, day_of}
+use Rattle.image_layout.specs.declared.layout.TheConstants.{FIRST_LAYOUT, LAYOUT}
+use Rattle.image_layout.specs.Places.{header_of, name_index_place, day_place, repeat_place, repeat_words, IsWhole}
+use Rattle.image_layout.specs.Fields.{layout_of, name_index_of, day_of, repeat_of}
 use Rattle.image_layout.specs.Text.{padded_text_of}
-use Rattle.image_layout.specs.Spelling.{name_list, byte_count_before, name_index, text}
+use Rattle.image_layout.specs.Spelling.{name_list, byte_count_before, name_index, text, repeats_in}
 use Rattle.image_layout.specs.Shown.{name_count, name_of, trip_name_of, names_of}
+use Rattle.image_layout.specs.Image.{AreFirst}
 
 -- the index of the names begins with 0, never falls, and ends with the number of bytes
 pub record IsNameIndex (w : List ℕ) : Type 0 where
@@ -59,6 +62,34 @@ days_again w whole =
     let long : length (take trips (drop place w)) ≡ trips = omega (arith, length-take trips (drop place w), length-drop place w, whole.all_there) in
     map-map (λ (t : TripNameValue). t.day) (trip_name_of w) (range_with_len 0 trips)
     ∙ sym (fill_by_all (day_of w) (take trips (drop place w)) trips 0 long (λ t lt. get_or-take trips (drop place w) t 0 lt ∙ get_or-drop place w t 0))
+
+-- and so are the repeats, where there are any
+pub repeats_again : (w : List ℕ) → IsWhole w → repeats_in (layout_of w) (names_of w) ≡ take (repeat_words (header_of w)) (drop (repeat_place (header_of w)) w)
+repeats_again w whole =
+    let trips = (header_of w).trips in
+    let place = repeat_place (header_of w) in
+    let shown = map (λ (t : TripNameValue). t.repeat) (names_of w).trips in
+    elim (cases_Bool (eqb (layout_of w) LAYOUT)) [
+      | inl has ↦
+          let many : repeat_words (header_of w) ≡ trips = ap (λ (b : Bool). cond {A = ℕ} b trips 0) has in
+          let long : length (take trips (drop place w)) ≡ trips = omega (arith, many, length-take trips (drop place w), length-drop place w, whole.all_there) in
+          let word : (t : ℕ) → repeat_of w t ≡ get_or w (place + t) 0 = λ t. ap (λ (b : Bool). cond {A = ℕ} b (get_or w (place + t) 0) 0) has in
+          ap (λ (b : Bool). cond {A = List ℕ} b shown []) has
+          ∙ map-map (λ (t : TripNameValue). t.repeat) (trip_name_of w) (range_with_len 0 trips)
+          ∙ sym (fill_by_all (repeat_of w) (take trips (drop place w)) trips 0 long (λ t lt. get_or-take trips (drop place w) t 0 lt ∙ get_or-drop place w t 0 ∙ sym (word t)))
+          ∙ ap (λ (k : ℕ). take k (drop place w)) (sym many)
+      | inr lacks ↦
+          let none : repeat_words (header_of w) ≡ 0 = ap (λ (b : Bool). cond {A = ℕ} b trips 0) lacks in
+          ap (λ (b : Bool). cond {A = List ℕ} b shown []) lacks ∙ ap (λ (k : ℕ). take k (drop place w)) (sym none)
+    ]
+
+-- words of the first layout show no repeats
+pub first_again : (w : List ℕ) → layout_of w ≡ FIRST_LAYOUT → AreFirst (names_of w)
+first_again w is_first k d lt =
+    let trips = (header_of w).trips in
+    let within : k < trips = omega (arith, lt, length-map-range_with_len (trip_name_of w) 0 trips) in
+    ap (λ (t : TripNameValue). t.repeat) (get_or-map-range_with_len (trip_name_of w) 0 trips k k d within (omega arith))
+    ∙ ap (λ (layout : ℕ). cond {A = ℕ} (eqb layout LAYOUT) (get_or w (repeat_place (header_of w) + k) 0) 0) is_first
 
 pub at_rises : (at : ℕ → ℕ) (n a : ℕ) → ((i : ℕ) → i < a + n → at i ≤ at (i + 1)) → at a ≤ at (a + n)
 at_rises at zero a rises = let e : at (a + 0) ≡ at a = ap at (add-zero a) in omega (arith, e)

@@ -10,7 +10,7 @@ use Rattle.timetable.specs.NamesValue.{TripNameValue}
 use Rattle.timetable.specs.Legal.{At, HasFootpath, IsOrderedBefore, IsLegal}
 use Rattle.timetable.specs.Limits.{IsWithinLimits}
 use Rattle.image_layout.specs.Spelling.{name_list}
-use Rattle.image_layout.specs.Image.{NamesFit, HasImage}
+use Rattle.image_layout.specs.Image.{AreFirst, NamesFit, HasImage}
 use Rattle.image_layout.specs.Sample.{sample_timetable, sample_names}
 
 -- what holds of three holds at each place of their list
@@ -88,6 +88,11 @@ day_is_a_word zero trip at = subst (λ (t : TripNameValue). t.day < 4294967296) 
 day_is_a_word (suc zero) trip at = subst (λ (t : TripNameValue). t.day < 4294967296) (same_Some _ trip at) (lit< tt)
 day_is_a_word (suc (suc i)) trip at = absurd cc
 
+repeat_is_a_word : (i : ℕ) (trip : TripNameValue) → At sample_names.trips i trip → trip.repeat < 4294967296
+repeat_is_a_word zero trip at = subst (λ (t : TripNameValue). t.repeat < 4294967296) (same_Some _ trip at) (lit< tt)
+repeat_is_a_word (suc zero) trip at = subst (λ (t : TripNameValue). t.repeat < 4294967296) (same_Some _ trip at) (lit< tt)
+repeat_is_a_word (suc (suc i)) trip at = absurd cc
+
 sample_names_fit : NamesFit sample_timetable sample_names
 sample_names_fit = record {
   stop_names = refl;
@@ -95,8 +100,15 @@ sample_names_fit = record {
   utf8 = name_is_text;
   bytes = lit≤ tt;
   days = day_is_a_word;
+  repeats = repeat_is_a_word;
   base = search rules;
 }
 
 pub sample_has_image : HasImage sample_timetable sample_names
 sample_has_image = record { legal = sample_is_legal; limits = sample_is_within_limits; names = sample_names_fit }
+
+-- no trip of it is a repeat
+pub sample_is_first : AreFirst sample_names
+sample_is_first zero d lt = refl
+sample_is_first (suc zero) d lt = refl
+sample_is_first (suc (suc k)) d lt = absurd (omega (arith, lt))

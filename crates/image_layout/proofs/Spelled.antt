@@ -14,21 +14,24 @@ use Rattle.timetable.specs.NamesValue.{NamesValue, TripNameValue}
 use Rattle.timetable.specs.Legal.{At}
 use Rattle.image_layout.specs.Places.{header_of, footpath_place}
 use Rattle.image_layout.specs.Fields.{from_of, to_of, dep_of, arr_of, trip_of, flags_of, foot_index_of, foot_from_of, foot_secs_of}
-use Rattle.image_layout.specs.Spelling.{flags, connection_words, footpath_words, footpath_count_below, foot_index, name_index, text_words, text, image_in}
+use Rattle.image_layout.specs.Spelling.{flags, connection_words, footpath_words, footpath_count_below, foot_index, name_index, text_words, text, repeats_in, image_in}
 use Rattle.image_layout.specs.Shown.{connection_of, connections_of, footpath_of}
 
 -- what stands from the connections on, from the index of the footpaths on, and so forth
-abbrev pub from_names : NamesValue → List ℕ
-from_names n = name_index n ++ (map (λ (t : TripNameValue). t.day) n.trips ++ text_words (text n))
+abbrev pub from_repeats : ℕ → NamesValue → List ℕ
+from_repeats layout n = repeats_in layout n ++ text_words (text n)
 
-abbrev pub from_footpaths : TimetableValue → NamesValue → List ℕ
-from_footpaths p n = flat_map footpath_words p.footpaths ++ from_names n
+abbrev pub from_days : ℕ → NamesValue → List ℕ
+from_days layout n = map (λ (t : TripNameValue). t.day) n.trips ++ from_repeats layout n
 
-abbrev pub from_foot_index : TimetableValue → NamesValue → List ℕ
-from_foot_index p n = foot_index p ++ from_footpaths p n
+abbrev pub from_names : ℕ → NamesValue → List ℕ
+from_names layout n = name_index n ++ from_days layout n
 
-abbrev from_connections : TimetableValue → NamesValue → List ℕ
-from_connections p n = flat_map connection_words p.connections ++ from_foot_index p n
+abbrev pub from_footpaths : ℕ → TimetableValue → NamesValue → List ℕ
+from_footpaths layout p n = flat_map footpath_words p.footpaths ++ from_names layout n
+
+abbrev pub from_foot_index : ℕ → TimetableValue → NamesValue → List ℕ
+from_foot_index layout p n = foot_index p ++ from_footpaths layout p n
 
 -- behind a section stands the next one
 pub skip : (w s rest : List ℕ) (p n : ℕ) → length s ≡ n → drop p w ≡ s ++ rest → drop (p + n) w ≡ rest
@@ -77,7 +80,7 @@ connection_word layout p n i r c e lt =
     let size : length (flat_map connection_words p.connections) ≡ 6 * length p.connections = pieces_long connection_words 6 (λ x. refl) p.connections in
     let within : i < length p.connections = slice_get_within p.connections i c e in
     ap (λ (j : ℕ). get_or (image_in layout p n) j 0) place
-    ∙ word_in (image_in layout p n) (flat_map connection_words p.connections) (from_foot_index p n) 9 (6 * i + r) refl (omega (arith, size))
+    ∙ word_in (image_in layout p n) (flat_map connection_words p.connections) (from_foot_index layout p n) 9 (6 * i + r) refl (omega (arith, size))
     ∙ piece_word connection_words 6 (λ x. refl) p.connections i r c e lt
 
 connection_back : (layout : ℕ) (p : TimetableValue) (n : NamesValue) (i : ℕ) (c : Connection) → At p.connections i c → connection_of (image_in layout p n) i ≡ c
@@ -173,9 +176,9 @@ pub foot_index_back : (layout : ℕ) (p : TimetableValue) (n : NamesValue) (s : 
 unfolding image_in
 foot_index_back layout p n s le =
     let size : length (flat_map connection_words p.connections) ≡ 6 * length p.connections = pieces_long connection_words 6 (λ x. refl) p.connections in
-    let at : drop (9 + 6 * length p.connections) (image_in layout p n) ≡ from_foot_index p n = skip (image_in layout p n) (flat_map connection_words p.connections) (from_foot_index p n) 9 (6 * length p.connections) size refl in
+    let at : drop (9 + 6 * length p.connections) (image_in layout p n) ≡ from_foot_index layout p n = skip (image_in layout p n) (flat_map connection_words p.connections) (from_foot_index layout p n) 9 (6 * length p.connections) size refl in
     let long = length-map-range_with_len (footpath_count_below p.footpaths) 0 (p.stops + 1) in
-    word_in (image_in layout p n) (foot_index p) (from_footpaths p n) (9 + 6 * length p.connections) s at (omega (arith, long))
+    word_in (image_in layout p n) (foot_index p) (from_footpaths layout p n) (9 + 6 * length p.connections) s at (omega (arith, long))
     ∙ get_or-map-range_with_len (footpath_count_below p.footpaths) 0 (p.stops + 1) s s 0 (omega arith) (omega arith)
 
 -- the first footpath leads below nothing, and all lead below the number of stops
@@ -201,14 +204,14 @@ footpath_word : (layout : ℕ) (p : TimetableValue) (n : NamesValue) (k r : ℕ)
 unfolding image_in
 footpath_word layout p n k r f e lt =
     let size : length (flat_map connection_words p.connections) ≡ 6 * length p.connections = pieces_long connection_words 6 (λ x. refl) p.connections in
-    let at_index : drop (9 + 6 * length p.connections) (image_in layout p n) ≡ from_foot_index p n = skip (image_in layout p n) (flat_map connection_words p.connections) (from_foot_index p n) 9 (6 * length p.connections) size refl in
+    let at_index : drop (9 + 6 * length p.connections) (image_in layout p n) ≡ from_foot_index layout p n = skip (image_in layout p n) (flat_map connection_words p.connections) (from_foot_index layout p n) 9 (6 * length p.connections) size refl in
     let long : length (foot_index p) ≡ p.stops + 1 = length-map-range_with_len (footpath_count_below p.footpaths) 0 (p.stops + 1) in
-    let at_feet : drop ((9 + 6 * length p.connections) + (p.stops + 1)) (image_in layout p n) ≡ from_footpaths p n = skip (image_in layout p n) (foot_index p) (from_footpaths p n) (9 + 6 * length p.connections) (p.stops + 1) long at_index in
+    let at_feet : drop ((9 + 6 * length p.connections) + (p.stops + 1)) (image_in layout p n) ≡ from_footpaths layout p n = skip (image_in layout p n) (foot_index p) (from_footpaths layout p n) (9 + 6 * length p.connections) (p.stops + 1) long at_index in
     let place : footpath_place (header_of (image_in layout p n)) + (2 * k + r) ≡ ((9 + 6 * length p.connections) + (p.stops + 1)) + (2 * k + r) = omega arith in
     let many : length (flat_map footpath_words p.footpaths) ≡ 2 * length p.footpaths = pieces_long footpath_words 2 (λ x. refl) p.footpaths in
     let within : k < length p.footpaths = slice_get_within p.footpaths k f e in
     ap (λ (j : ℕ). get_or (image_in layout p n) j 0) place
-    ∙ word_in (image_in layout p n) (flat_map footpath_words p.footpaths) (from_names n) ((9 + 6 * length p.connections) + (p.stops + 1)) (2 * k + r) at_feet (omega (arith, many))
+    ∙ word_in (image_in layout p n) (flat_map footpath_words p.footpaths) (from_names layout n) ((9 + 6 * length p.connections) + (p.stops + 1)) (2 * k + r) at_feet (omega (arith, many))
     ∙ piece_word footpath_words 2 (λ x. refl) p.footpaths k r f e lt
 
 pub footpath_back : (layout : ℕ) (p : TimetableValue) (n : NamesValue) (k : ℕ) (f : Footpath) → At p.footpaths k f → footpath_of (image_in layout p n) f.to k ≡ f

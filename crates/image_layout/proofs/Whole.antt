@@ -11,7 +11,7 @@ use Rattle.std.proofs.lemmas.Nat.{from_le_bytes-to_le_bytes_4}
 use Rattle.std.proofs.lemmas.List.{drop-drop, take-append-drop, nil_from_length, get_or-drop, length-append, length-drop, length-take-le}
 use Rattle.std.proofs.lemmas.List.FromFn.{length-map-range_with_len, get_or-map-range_with_len}
 use Rattle.timetable.specs.declared.network.Footpath.{Footpath}
-use Rattle.image_layout.specs.Places.{is_layout, header_of, foot_index_place, footpath_place, name_index_place, day_place, text_place, IsWhole}
+use Rattle.image_layout.specs.Places.{is_layout, header_of, foot_index_place, footpath_place, name_index_place, day_place, repeat_place, repeat_words, text_place, IsWhole}
 use Rattle.image_layout.specs.Fields.{layout_of, flags_of}
 use Rattle.image_layout.specs.Text.{bytes_of, padded_text_of}
 use Rattle.image_layout.specs.declared.layout.TheConstants.{MAGIC}
@@ -19,7 +19,7 @@ use Rattle.image_layout.specs.Spelling.{footpath_words, text, text_words, header
 use Rattle.image_layout.specs.Shown.{name_count, connection_of, connections_of, footpaths_of, timetable_of, names_of}
 use Rattle.image_layout.proofs.Sections.{take_next, take_six, connections_again}
 use Rattle.image_layout.proofs.Feet.{IsFootIndex, foot_index_again, footpaths_again}
-use Rattle.image_layout.proofs.Names.{IsNameIndex, days_again, name_index_again, text_again}
+use Rattle.image_layout.proofs.Names.{IsNameIndex, days_again, repeats_again, name_index_again, text_again}
 
 -- four bytes are the word that spells them
 word_again : (x : ℕ) → x < 2 ^ 32 → from_le_bytes w32 (byte_at 0 x ∷ byte_at 1 x ∷ byte_at 2 x ∷ byte_at 3 x ∷ []) ≡ x
@@ -153,7 +153,8 @@ image_again w form =
     (join w (foot_index_place h) (h.stops + 1) (footpath_place h) _ _ (omega arith) (foot_index_again w form.whole form.feet)
     (join w (footpath_place h) (2 * h.footpaths) (name_index_place h) _ _ (omega arith) (footpaths_again w form.whole form.feet)
     (join w (name_index_place h) (name_count w + 1) (day_place h) _ _ (omega arith) (name_index_again w form.whole form.names long)
-    (join w (day_place h) h.trips (text_place h) _ _ (omega arith) (days_again w form.whole) last)))))
+    (join w (day_place h) h.trips (repeat_place h) _ _ (omega arith) (days_again w form.whole)
+    (join w (repeat_place h) (repeat_words h) (text_place h) _ _ (omega arith) (repeats_again w form.whole) last))))))
 
 -- what a shown connection is at its place
 pub connection_is : (w : List ℕ) (i : ℕ) → i < (header_of w).connections → slice_get (connections_of w) i ≡ Some (connection_of w i)

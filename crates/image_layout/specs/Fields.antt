@@ -1,6 +1,7 @@
 -- The word of each field, at its place.
-use Rattle.std.specs.Prelude.{ℕ, ◌+◌, ◌*◌, List, slice_index}
-use Rattle.image_layout.specs.Places.{header_of, foot_index_place, footpath_place, name_index_place, day_place}
+use Rattle.std.specs.Prelude.{ℕ, ◌+◌, ◌*◌, ◌==◌, List, slice_index, if◌then◌else◌}
+use Rattle.image_layout.specs.declared.layout.TheConstants.{LAYOUT}
+use Rattle.image_layout.specs.Places.{header_of, foot_index_place, footpath_place, name_index_place, day_place, repeat_place}
 
 abbrev pub magic_of : List ℕ → ℕ
 magic_of w = slice_index w 0
@@ -44,3 +45,7 @@ name_index_of w i = slice_index w (name_index_place (header_of w) + i)
 
 abbrev pub day_of : List ℕ → ℕ → ℕ
 day_of w i = slice_index w (day_place (header_of w) + i)
+
+-- the first layout has no repeats: there each is 0
+abbrev pub repeat_of : List ℕ → ℕ → ℕ
+repeat_of w i = if layout_of w == LAYOUT then slice_index w (repeat_place (header_of w) + i) else 0

@@ -1,8 +1,9 @@
 -- Which words are the image of which timetable and names.
-use Rattle.std.specs.Prelude.{FitsSigned, ◌≡◌, ℕ, ◌<◌, ◌≤◌, ◌^◌, true, List, length}
+use Rattle.std.specs.Prelude.{FitsSigned, ◌≡◌, ℕ, ◌<◌, ◌≤◌, ◌^◌, true, List, length, All}
 use Rattle.std.specs.Int.{w64}
 use Rattle.std.specs.Str.{IsUtf8}
 use Rattle.timetable.specs.declared.limits.TheConstants.{MAX_NAME_BYTES}
+use Rattle.image_layout.specs.declared.layout.TheConstants.{FIRST_LAYOUT}
 use Rattle.timetable.specs.TimetableValue.{TimetableValue}
 use Rattle.timetable.specs.NamesValue.{NamesValue, TripNameValue}
 use Rattle.timetable.specs.Legal.{At, IsLegal}
@@ -20,8 +21,9 @@ pub record NamesFit (t : TimetableValue) (n : NamesValue) : Type 0 where
   pub utf8 : (i : ℕ) (name : List ℕ) → At (name_list n) i name → IsUtf8 name
   -- they aren't too long together
   pub bytes : length (text n) ≤ MAX_NAME_BYTES
-  -- a service day is a word, and the base two words
+  -- a service day and a repeat are a word each, and the base two words
   pub days : (i : ℕ) (trip : TripNameValue) → At n.trips i trip → trip.day < 2 ^ 32
+  pub repeats : (i : ℕ) (trip : TripNameValue) → At n.trips i trip → trip.repeat < 2 ^ 32
   pub base : FitsSigned w64 n.base
 
 -- a legal timetable and its names, within the limits
@@ -30,10 +32,15 @@ pub record HasImage (t : TimetableValue) (n : NamesValue) : Type 0 where
   pub limits : IsWithinLimits t
   pub names : NamesFit t n
 
+-- no trip is a repeat of another: what the first layout can hold
+abbrev pub AreFirst : NamesValue → Type 0
+AreFirst n = All (λ (trip : TripNameValue). trip.repeat ≡ 0) n.trips
+
 -- the words are the sections of the timetable and the names, set end to end, in the layout that the words name
 pub record IsImage (w : List ℕ) (t : TimetableValue) (n : NamesValue) : Type 0 where
   pub can_be : HasImage t n
   pub layout : is_layout (layout_of w) ≡ true
+  pub first : layout_of w ≡ FIRST_LAYOUT → AreFirst n
   pub spelled : w ≡ image_in (layout_of w) t n
 
 -- what an image holds

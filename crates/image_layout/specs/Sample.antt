@@ -1,4 +1,4 @@
--- Two small timetables with their names, and the words of the second.
+-- Two small timetables with their names, and words of the second, in each layout.
 use Rattle.std.specs.Prelude.{ℕ, List, [], ◌∷◌, true, false, pos, negsuc, codes}
 use Rattle.timetable.specs.TimetableValue.{TimetableValue}
 use Rattle.timetable.specs.NamesValue.{NamesValue}
@@ -20,7 +20,7 @@ abbrev pub sample_names : NamesValue
 sample_names = record {
   base = pos 1705276800;
   stops = codes "A" ∷ codes "B" ∷ codes "C" ∷ [];
-  trips = record { name = codes "T1"; day = 20240115 } ∷ record { name = codes "T2"; day = 20240115 } ∷ [];
+  trips = record { name = codes "T1"; day = 20240115; repeat = 0 } ∷ record { name = codes "T2"; day = 20240115; repeat = 0 } ∷ [];
 }
 
 -- connections for boarding alone, for alighting alone and for both, and walks between the two stops
@@ -44,10 +44,18 @@ abbrev pub early_names : NamesValue
 early_names = record {
   base = negsuc 86399;
   stops = [] ∷ codes "Port" ∷ [];
-  trips = record { name = codes "12"; day = 19691231 } ∷ record { name = codes "ABC"; day = 19700101 } ∷ [];
+  trips = record { name = codes "12"; day = 19691231; repeat = 0 } ∷ record { name = codes "ABC"; day = 19700101; repeat = 0 } ∷ [];
 }
 
--- worked out by hand, a section a line
+-- the same trips as repeats of others
+abbrev pub repeated_names : NamesValue
+repeated_names = record {
+  base = negsuc 86399;
+  stops = [] ∷ codes "Port" ∷ [];
+  trips = record { name = codes "12"; day = 19691231; repeat = 5 } ∷ record { name = codes "ABC"; day = 19700101; repeat = 0 } ∷ [];
+}
+
+-- worked out by hand, a section a line; in the first layout
 abbrev pub early_words : List ℕ
 early_words =
     1346458435 ∷ 1 ∷ 2 ∷ 2 ∷ 3 ∷ 4 ∷ 9 ∷ 4294880896 ∷ 4294967295
@@ -56,4 +64,16 @@ early_words =
     ∷ 0 ∷ 120 ∷ 1 ∷ 300 ∷ 0 ∷ 240 ∷ 1 ∷ 90
     ∷ 0 ∷ 0 ∷ 4 ∷ 6 ∷ 9
     ∷ 19691231 ∷ 19700101
+    ∷ 0x7472_6f50 ∷ 0x4241_3231 ∷ 0x43 ∷ []
+
+-- and with the repeats, before the text
+abbrev pub repeated_words : List ℕ
+repeated_words =
+    1346458435 ∷ 2 ∷ 2 ∷ 2 ∷ 3 ∷ 4 ∷ 9 ∷ 4294880896 ∷ 4294967295
+    ∷ 0 ∷ 1 ∷ 10 ∷ 20 ∷ 1 ∷ 1 ∷ 1 ∷ 0 ∷ 30 ∷ 50 ∷ 1 ∷ 2 ∷ 1 ∷ 0 ∷ 40 ∷ 60 ∷ 0 ∷ 3
+    ∷ 0 ∷ 2 ∷ 4
+    ∷ 0 ∷ 120 ∷ 1 ∷ 300 ∷ 0 ∷ 240 ∷ 1 ∷ 90
+    ∷ 0 ∷ 0 ∷ 4 ∷ 6 ∷ 9
+    ∷ 19691231 ∷ 19700101
+    ∷ 5 ∷ 0
     ∷ 0x7472_6f50 ∷ 0x4241_3231 ∷ 0x43 ∷ []

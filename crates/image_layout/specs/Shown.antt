@@ -7,7 +7,7 @@ use Rattle.timetable.specs.declared.network.Footpath.{Footpath}
 use Rattle.timetable.specs.TimetableValue.{TimetableValue}
 use Rattle.timetable.specs.NamesValue.{NamesValue, TripNameValue}
 use Rattle.image_layout.specs.Places.{header_of}
-use Rattle.image_layout.specs.Fields.{from_of, to_of, dep_of, arr_of, trip_of, flags_of, foot_index_of, foot_from_of, foot_secs_of, name_index_of, day_of}
+use Rattle.image_layout.specs.Fields.{from_of, to_of, dep_of, arr_of, trip_of, flags_of, foot_index_of, foot_from_of, foot_secs_of, name_index_of, day_of, repeat_of}
 use Rattle.image_layout.specs.Text.{padded_text_of}
 
 abbrev pub connection_of : List ℕ → ℕ → Connection
@@ -47,7 +47,7 @@ name_of w i = slice_range (padded_text_of w) (name_index_of w i) (name_index_of 
 
 -- trips' names stand after those of the stops
 abbrev pub trip_name_of : List ℕ → ℕ → TripNameValue
-trip_name_of w t = record { name = name_of w ((header_of w).stops + t); day = day_of w t }
+trip_name_of w t = record { name = name_of w ((header_of w).stops + t); day = day_of w t; repeat = repeat_of w t }
 
 abbrev pub base_of : List ℕ → ℤ
 base_of w = cast_signed w64 (slice_index w 7 + 4294967296 * slice_index w 8)

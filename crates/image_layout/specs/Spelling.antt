@@ -1,5 +1,5 @@
 -- The words of a timetable and its names: the sections, spelled and set end to end.
-use Rattle.std.specs.Prelude.{ℕ, ◌+◌, ◌/◌, ◌%◌, nat_lt, List, [], ◌∷◌, ◌++◌, length, take, map, count_by, if◌then◌else◌}
+use Rattle.std.specs.Prelude.{ℕ, ◌+◌, ◌/◌, ◌%◌, ◌==◌, nat_lt, List, [], ◌∷◌, ◌++◌, length, take, map, count_by, if◌then◌else◌}
 use Rattle.std.specs.List.{flat_map, concat, range_with_len}
 use Rattle.std.specs.Int.{w32, w64, from_le_bytes, cast_unsigned}
 use Rattle.timetable.specs.declared.network.Connection.{Connection}
@@ -52,6 +52,10 @@ header layout p n =
     MAGIC ∷ layout ∷ p.stops ∷ p.trips ∷ length p.connections ∷ length p.footpaths ∷ length (text n)
     ∷ cast_unsigned w64 n.base % 4294967296 ∷ cast_unsigned w64 n.base / 4294967296 ∷ []
 
+-- the repeats of the trips, which the first layout leaves out
+abbrev pub repeats_in : ℕ → NamesValue → List ℕ
+repeats_in layout n = if layout == LAYOUT then map (λ (t : TripNameValue). t.repeat) n.trips else []
+
 -- the image in a layout
 unfoldable pub image_in : ℕ → TimetableValue → NamesValue → List ℕ
 image_in layout p n =
@@ -61,8 +65,9 @@ image_in layout p n =
     ++ (flat_map footpath_words p.footpaths
     ++ (name_index n
     ++ (map (λ (t : TripNameValue). t.day) n.trips
-    ++ text_words (text n))))))
+    ++ (repeats_in layout n
+    ++ text_words (text n)))))))
 
--- the image as it is written
+-- the image as it is written: in layout 2
 abbrev pub image : TimetableValue → NamesValue → List ℕ
 image p n = image_in LAYOUT p n

@@ -5,10 +5,12 @@ ghost use Rattle.timetable.specs.TimetableValue.{TimetableValue};
 ghost use Rattle.timetable.specs.NamesValue.{NamesValue};
 ghost use Rattle.image_layout.specs.Places.{IsWhole};
 ghost use Rattle.image_layout.specs.Text.{bytes_of};
-ghost use Rattle.image_layout.specs.Spelling.{image};
+ghost use Rattle.image_layout.specs.declared.layout.TheConstants.{FIRST_LAYOUT};
+ghost use Rattle.image_layout.specs.Fields.{layout_of};
+ghost use Rattle.image_layout.specs.Spelling.{image, image_in};
 ghost use Rattle.image_layout.specs.Shown.{timetable_of, names_of};
-ghost use Rattle.image_layout.specs.Image.{HasImage, IsImage};
-ghost use Rattle.image_layout.specs.Sample.{early_timetable, early_names, early_words};
+ghost use Rattle.image_layout.specs.Image.{AreFirst, HasImage, IsImage};
+ghost use Rattle.image_layout.specs.Sample.{early_timetable, early_names, early_words, repeated_names, repeated_words};
 
 /// Words that are the image of a timetable and its names are as many as their header says, and show that timetable and those names:
 /// so the readers tell of it.
@@ -23,14 +25,17 @@ pub fn one_timetable()
     ensures { (w : List ℕ) (t u : TimetableValue) (n m : NamesValue) → IsImage w t n → IsImage w u m → (t ≡ u) × (n ≡ m) }
 {}
 
-/// A timetable and its names have one image at most.
+/// A timetable and its names have one image at most in each layout.
 pub fn one_image()
-    ensures { (v w : List ℕ) (t : TimetableValue) (n : NamesValue) → IsImage v t n → IsImage w t n → v ≡ w }
+    ensures { (v w : List ℕ) (t : TimetableValue) (n : NamesValue) → IsImage v t n → IsImage w t n → layout_of v ≡ layout_of w → v ≡ w }
 {}
 
-/// A legal timetable and names that fit it have an image: the one that is spelled.
-pub fn spelled_image()
-    ensures { (t : TimetableValue) (n : NamesValue) → HasImage t n → IsImage (image t n) t n }
+/// A legal timetable and names that fit it have an image, which is spelled in the layout that is written; and where all repeats
+/// are 0, one in the first layout.
+pub fn which_layouts()
+    ensures written { (t : TimetableValue) (n : NamesValue) → HasImage t n → IsImage (image t n) t n }
+    ensures first { (t : TimetableValue) (n : NamesValue) → HasImage t n → AreFirst n → IsImage (image_in FIRST_LAYOUT t n) t n }
+    ensures first_alone { (t : TimetableValue) (n : NamesValue) → IsImage (image_in FIRST_LAYOUT t n) t n → AreFirst n }
 {}
 
 /// Bytes are those of one word list at most: so the words read from the bytes of words are these words again.
@@ -38,10 +43,17 @@ pub fn one_word_list()
     ensures { (v w : List ℕ) → All (λ x. x < 2 ^ 32) v → All (λ x. x < 2 ^ 32) w → bytes_of v ≡ bytes_of w → v ≡ w }
 {}
 
-/// A small image, computed from both ends: its connections are flagged 1, 2 and 3, its base is before 1970, and one of its
-/// names is empty.
+/// A small image of the first layout, computed from both ends: its connections are flagged 1, 2 and 3, its base is before 1970,
+/// and one of its names is empty.
 pub fn early_image()
-    ensures spelled { image early_timetable early_names ≡ early_words }
+    ensures spelled { image_in FIRST_LAYOUT early_timetable early_names ≡ early_words }
     ensures timetable { timetable_of early_words ≡ early_timetable }
     ensures names { names_of early_words ≡ early_names }
+{}
+
+/// The same with repeats 5 and 0, in the layout that is written.
+pub fn repeated_image()
+    ensures spelled { image early_timetable repeated_names ≡ repeated_words }
+    ensures timetable { timetable_of repeated_words ≡ early_timetable }
+    ensures names { names_of repeated_words ≡ repeated_names }
 {}

@@ -2,7 +2,7 @@ ghost use Rattle.std.specs.Prelude.{◌≡◌, length};
 ghost use Rattle.image_layout.specs.Places.{IsWhole, header_of};
 ghost use Rattle.image_layout.specs.Shown.{name_of};
 
-use super::layout::{LAYOUT, MAGIC};
+use super::layout::{FIRST_LAYOUT, LAYOUT, MAGIC, is_layout};
 use super::*;
 use std::alloc::AllocError;
 use std::test::*;
@@ -18,6 +18,19 @@ fn early_words() -> [u32; 48]
         0x50415343, 1, 2, 2, 3, 4, 9, 4294880896, 4294967295, 0, 1, 10, 20, 1, 1, 1, 0, 30, 50, 1,
         2, 1, 0, 40, 60, 0, 3, 0, 2, 4, 0, 120, 1, 300, 0, 240, 1, 90, 0, 0, 4, 6, 9, 19691231,
         19700101, 0x74726f50, 0x42413231, 0x43,
+    ]
+}
+
+/// The same in the layout that is written, with repeats 5 and 0.
+fn repeated_words() -> [u32; 50]
+    ensures whole { IsWhole result }
+    ensures counts { header_of result ≡ record { layout = 2; stops = 2; trips = 2; connections = 3; footpaths = 4; name_bytes = 9 } }
+    ensures port { length (name_of result 1) ≡ 4 }
+{
+    [
+        0x50415343, 2, 2, 2, 3, 4, 9, 4294880896, 4294967295, 0, 1, 10, 20, 1, 1, 1, 0, 30, 50, 1,
+        2, 1, 0, 40, 60, 0, 3, 0, 2, 4, 0, 120, 1, 300, 0, 240, 1, 90, 0, 0, 4, 6, 9, 19691231,
+        19700101, 5, 0, 0x74726f50, 0x42413231, 0x43,
     ]
 }
 
@@ -72,7 +85,7 @@ fn connections_are_read(rt: HostRuntime) {
 fn other_fields_are_read(rt: HostRuntime) {
     let words = early_words();
     assert_eq!(rt; magic_at(&words), MAGIC);
-    assert_eq!(rt; layout_at(&words), LAYOUT);
+    assert_eq!(rt; layout_at(&words), FIRST_LAYOUT);
     assert_eq!(rt; base_at(&words), -86400);
     for (stop, index) in [0, 2, 4].into_iter().enumerate() {
         assert_eq!(rt; foot_index_at(&words, stop), index);
@@ -92,6 +105,28 @@ fn other_fields_are_read(rt: HostRuntime) {
     }
     assert_eq!(rt; day_at(&words, 0), 19691231);
     assert_eq!(rt; day_at(&words, 1), 19700101);
+    assert_eq!(rt; repeat_at(&words, 0), 0);
+    assert_eq!(rt; repeat_at(&words, 1), 0);
+}
+
+#[test]
+fn repeats_are_read(rt: HostRuntime) {
+    let words = repeated_words();
+    assert_eq!(rt; layout_at(&words), LAYOUT);
+    assert_eq!(rt; day_at(&words, 0), 19691231);
+    assert_eq!(rt; day_at(&words, 1), 19700101);
+    assert_eq!(rt; repeat_at(&words, 0), 5);
+    assert_eq!(rt; repeat_at(&words, 1), 0);
+    for (byte, letter) in [b'P', b'o', b'r', b't'].into_iter().enumerate() {
+        assert_eq!(rt; name_byte_at(&words, 1, byte), letter);
+    }
+}
+
+#[test]
+fn two_layouts_are_read(rt: HostRuntime) {
+    for (number, wanted) in [(0, false), (1, true), (2, true), (3, false)] {
+        assert_eq!(rt; is_layout(number), wanted);
+    }
 }
 
 #[test]
@@ -101,8 +136,14 @@ fn sections_stand_in_their_order(rt: HostRuntime) {
     assert_eq!(rt; header.footpath_place(), 30);
     assert_eq!(rt; header.name_index_place(), 38);
     assert_eq!(rt; header.day_place(), 43);
+    assert_eq!(rt; header.repeat_place(), 45);
     assert_eq!(rt; header.text_place(), 45);
     assert_eq!(rt; header.word_count(), 48);
+    let header = Header::of(&repeated_words());
+    assert_eq!(rt; header.day_place(), 43);
+    assert_eq!(rt; header.repeat_place(), 45);
+    assert_eq!(rt; header.text_place(), 47);
+    assert_eq!(rt; header.word_count(), 50);
 }
 
 /// Bytes of the sample's front give its words; others, and want of memory, are told.

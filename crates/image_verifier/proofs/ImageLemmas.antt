@@ -1,11 +1,11 @@
 -- Accepted words are an image.
-use Rattle.std.proofs.Common.{◌≡◌, ℕ, ◌+◌, ◌*◌, ◌^◌, ◌<◌, ◌≤◌, false, List, length, map, Some, refl, sym, ap, subst, ◌∙◌, arith, Fits}
+use Rattle.std.proofs.Common.{◌≡◌, ℕ, ◌+◌, ◌*◌, ◌^◌, ◌<◌, ◌≤◌, false, eqb, List, length, map, Some, refl, sym, ap, subst, ◌∙◌, arith, inl, inr, Fits}
 use Rattle.std.specs.Prelude.{slice_get, slice_index}
 use Rattle.std.specs.Int.{w64}
 use Rattle.std.specs.List.{range_with_len}
 use Rattle.std.specs.Str.{IsUtf8}
 use Rattle.std.proofs.Math.Facts.{sfits_to_z}
-use Rattle.std.proofs.lemmas.Bool.{or_parts, ltb-false}
+use Rattle.std.proofs.lemmas.Bool.{cases_Bool, or_parts, ltb-false}
 use Rattle.std.proofs.lemmas.Option.{slice_get_within, same_Some, slice_get-get_or}
 use Rattle.std.proofs.lemmas.List.{length-take-le}
 use Rattle.std.proofs.lemmas.List.FromFn.{length-map-range_with_len, get_or-map-range_with_len}
@@ -14,11 +14,13 @@ use Rattle.timetable.specs.declared.network.Connection.{Connection}
 use Rattle.timetable.specs.declared.network.Footpath.{Footpath}
 use Rattle.timetable.specs.declared.limits.TheConstants.{MAX_STOPS, MAX_TRIPS, MAX_CONNECTIONS, MAX_FOOTPATHS, MAX_WALK_SECS, MAX_NAME_BYTES, TIME_END}
 use Rattle.timetable.specs.NamesValue.{TripNameValue}
-use Rattle.image_layout.specs.Places.{header_of, day_place}
+use Rattle.image_layout.specs.declared.layout.TheConstants.{LAYOUT}
+use Rattle.image_layout.specs.Places.{header_of, day_place, repeat_place}
+use Rattle.image_layout.specs.Fields.{layout_of, repeat_of}
 use Rattle.image_layout.specs.Text.{padded_text_of}
 use Rattle.image_layout.specs.Shown.{name_count, name_of, trip_name_of, timetable_of, names_of}
 use Rattle.image_layout.specs.Image.{HasImage, IsImage}
-use Rattle.image_layout.proofs.Names.{names_are, text_again}
+use Rattle.image_layout.proofs.Names.{names_are, text_again, first_again}
 use Rattle.image_layout.proofs.Whole.{IsWellFormed, text_is_long, length-connections_of, length-footpaths_of, image_again}
 use Rattle.image_layout.proofs.Found.{connection_shown, footpath_shown}
 use Rattle.image_verifier.specs.FirstFault.{is_too_large}
@@ -54,6 +56,14 @@ IsSmall-from w e =
 Fits-at : (a b : ℕ) → a < 2 ^ 32 → b < 2 ^ 32 → Fits w64 (a + 4294967296 * b)
 Fits-at a b p q = record { fits = omega arith }
 
+-- a repeat is a word of its section, or 0
+repeat_fits : (w : List ℕ) (i : ℕ) → ((k : ℕ) → slice_index w k < 2 ^ 32) → repeat_of w i < 2 ^ 32
+repeat_fits w i fits =
+    elim (cases_Bool (eqb (layout_of w) LAYOUT)) [
+      | inl has ↦ rw has (fits (repeat_place (header_of w) + i))
+      | inr lacks ↦ rw lacks (omega arith)
+    ]
+
 HasImage-from : (w : List ℕ) → IsWellFormed w → AreFaultless w → HasImage (timetable_of w) (names_of w)
 HasImage-from w form good =
     let small = IsSmall-from w (IsHeader-from w good.header).limits in
@@ -77,6 +87,7 @@ HasImage-from w form good =
             subst (λ (x : List ℕ). IsUtf8 x) (sym s.1) (IsUtf8-from_is_utf8 (name_of w i) (IsName-from w i (good.names i s.0)).utf8));
         bytes = omega (arith, small.name_bytes, ap length (text_again w form.names) ∙ length-take-le (header_of w).name_bytes (padded_text_of w) (text_is_long w (padded_text_of w) form.whole refl));
         days = λ i t e. (let s = shown_in (trip_name_of w) trips i t e in subst (λ (x : TripNameValue). x.day < 2 ^ 32) (sym s.1) (form.fits (day_place (header_of w) + i)));
+        repeats = λ i t e. (let s = shown_in (trip_name_of w) trips i t e in subst (λ (x : TripNameValue). x.repeat < 2 ^ 32) (sym s.1) (repeat_fits w i form.fits));
         base = sfits_to_z {w = w64} {n = slice_index w 7 + 4294967296 * slice_index w 8} (Fits-at (slice_index w 7) (slice_index w 8) (form.fits 7) (form.fits 8));
       };
     }
@@ -86,4 +97,4 @@ pub IsImage-from : (w : List ℕ) → IsAccepted w → IsImage w (timetable_of w
 IsImage-from w accepted =
     let good = AreFaultless-from w accepted.faultless in
     let form = IsWellFormed-from w accepted.fits accepted.whole good in
-    record { can_be = HasImage-from w form good; layout = form.layout; spelled = sym (image_again w form) }
+    record { can_be = HasImage-from w form good; layout = form.layout; first = first_again w; spelled = sym (image_again w form) }

@@ -12,3 +12,4 @@ pub mod NameReads
 pub mod ImageReads
 pub mod SearchLemmas
 pub mod WordLemmas
+pub mod Unpacking

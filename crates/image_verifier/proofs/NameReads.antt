@@ -10,7 +10,7 @@ use Rattle.image_layout.specs.Places.{header_of}
 use Rattle.image_layout.specs.Fields.{name_index_of}
 use Rattle.image_layout.specs.Text.{padded_text_of}
 use Rattle.image_layout.specs.Spelling.{name_list}
-use Rattle.image_layout.specs.Shown.{name_count, name_of, names_of}
+use Rattle.image_layout.specs.Shown.{name_count, name_of, trip_name_of, names_of}
 use Rattle.image_layout.proofs.Names.{names_are}
 use Rattle.image_layout.proofs.Whole.{text_is_long}
 use Rattle.image_verifier.specs.Accepted.{IsAccepted}
@@ -50,3 +50,6 @@ stop_name_is w s lt = made_at (name_of w) (header_of w).stops s lt
 
 pub stop_name_shown : (w : List ℕ) (s : ℕ) (name : List ℕ) → At (names_of w).stops s name → (s < (header_of w).stops) × (name ≡ name_of w s)
 stop_name_shown w s name e = shown_in (name_of w) (header_of w).stops s name e
+
+pub trip_name_is : (w : List ℕ) (t : ℕ) → t < (header_of w).trips → At (names_of w).trips t (trip_name_of w t)
+trip_name_is w t lt = made_at (trip_name_of w) (header_of w).trips t lt

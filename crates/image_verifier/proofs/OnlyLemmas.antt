@@ -85,7 +85,7 @@ image_is_faultless w p n fits is_image =
     let layout = layout_of w in
     let fits_image : (i : ℕ) → slice_index (image_in layout p n) i < 2 ^ 32 = subst (λ (x : List ℕ). (i : ℕ) → slice_index x i < 2 ^ 32) e fits in
     let timetable = sym (timetable_back layout p n can) in
-    let names = sym (names_back layout p n can) in
+    let names = sym (names_back layout p n is_image.layout is_image.first can) in
     let shown : HasImage (timetable_of (image_in layout p n)) (names_of (image_in layout p n)) =
     subst (λ (q : TimetableValue). HasImage q (names_of (image_in layout p n))) timetable (subst (λ (m : NamesValue). HasImage p m) names can) in
     subst (λ (x : List ℕ). first_fault x ≡ None) (sym e)

@@ -1,9 +1,9 @@
 -- Every word of an image fits 32 bits.
-use Rattle.std.proofs.Common.{ℕ, zero, suc, ◌+◌, ◌/◌, ◌%◌, ◌^◌, ◌<◌, ◌≤◌, Bool, true, false, cond, List, [], ◌∷◌, length, take, map, refl, arith, inl, inr}
+use Rattle.std.proofs.Common.{ℕ, zero, suc, ◌+◌, ◌/◌, ◌%◌, ◌^◌, ◌<◌, ◌≤◌, Bool, true, false, cond, eqb, List, [], ◌∷◌, length, take, map, refl, arith, inl, inr}
 use Rattle.std.specs.Prelude.{FitsSigned, ℤ, All, nat_lt, slice_index}
 use Rattle.std.specs.List.{flat_map, concat, range_with_len}
 use Rattle.std.specs.Int.{w32, w64, from_le_bytes, cast_unsigned}
-use Rattle.std.proofs.lemmas.Bool.{cases_lt}
+use Rattle.std.proofs.lemmas.Bool.{cases_Bool, cases_lt}
 use Rattle.std.proofs.Math.Facts.{Fits-of_z}
 use Rattle.std.proofs.lemmas.List.{length-append, get_or_past}
 use Rattle.std.proofs.lemmas.List.Sums.{count_by-le-length}
@@ -13,7 +13,8 @@ use Rattle.timetable.specs.declared.network.Footpath.{Footpath}
 use Rattle.timetable.specs.TimetableValue.{TimetableValue}
 use Rattle.timetable.specs.NamesValue.{NamesValue, TripNameValue}
 use Rattle.timetable.specs.Legal.{At}
-use Rattle.image_layout.specs.Spelling.{connection_words, footpath_words, footpath_count_below, name_list, byte_count_before, text, text_words, header, image_in}
+use Rattle.image_layout.specs.declared.layout.TheConstants.{LAYOUT}
+use Rattle.image_layout.specs.Spelling.{connection_words, footpath_words, footpath_count_below, name_list, byte_count_before, text, text_words, header, repeats_in, image_in}
 use Rattle.image_layout.specs.Image.{HasImage}
 use Rattle.image_layout.proofs.Bytes.{concat_are_bytes}
 
@@ -85,6 +86,13 @@ footpath_fits p n can k f at =
     let ends = can.legal.ends_in_range k f at in
     all_words (footpath_words f) (omega (arith, ends.0, can.limits.stops), (omega (arith, can.limits.walks k f at), tt))
 
+all_repeats : (layout : ℕ) (p : TimetableValue) (n : NamesValue) → HasImage p n → All IsWord (repeats_in layout n)
+all_repeats layout p n can =
+    elim (cases_Bool (eqb layout LAYOUT)) [
+      | inl has ↦ rw has (all_mapped (λ (t : TripNameValue). t.repeat) n.trips can.names.repeats)
+      | inr lacks ↦ rw lacks (All-nil IsWord)
+    ]
+
 -- each word of an image fits 32 bits
 pub image_fits : (layout : ℕ) (p : TimetableValue) (n : NamesValue) → IsWord layout → HasImage p n → All IsWord (image_in layout p n)
 unfolding image_in
@@ -95,7 +103,8 @@ image_fits layout p n fits can =
     (All-append IsWord _ _ (all_flat footpath_words p.footpaths (footpath_fits p n can))
     (All-append IsWord _ _ (all_mapped (byte_count_before (name_list n)) (range_with_len 0 (length (name_list n) + 1)) (λ i k at. omega (arith, before_within (name_list n) k, can.names.bytes)))
     (All-append IsWord _ _ (all_mapped (λ (t : TripNameValue). t.day) n.trips can.names.days)
-    (all_text (text n) (concat_are_bytes (name_list n) can.names.utf8)))))))
+    (All-append IsWord _ _ (all_repeats layout p n can)
+    (all_text (text n) (concat_are_bytes (name_list n) can.names.utf8))))))))
 
 -- each word of a list by its place, also past its end
 pub word_at : (w : List ℕ) → All (λ x. x < 2 ^ 32) w → (i : ℕ) → slice_index w i < 2 ^ 32

@@ -1,6 +1,7 @@
 //! Words that were found to be an image.
 
 ghost use Rattle.std.specs.Prelude.{◌≡◌, ◌<◌, ◌≤◌, ◌+◌, length, slice_get, Some, ℕ, ◌↔◌, List, IfOk, IfErr, IfSome, IfNone};
+ghost use Rattle.std.specs.Option.{option_map};
 ghost use Rattle.timetable.specs.TimetableValue.{TimetableValue};
 ghost use Rattle.timetable.specs.Legal.{At};
 ghost use Rattle.timetable.specs.declared.network.Connection.{Connection};
@@ -9,7 +10,7 @@ ghost use Rattle.image_layout.specs.Places.{IsWhole, header_of};
 ghost use Rattle.image_layout.specs.Fields.{foot_index_of};
 ghost use Rattle.image_layout.specs.Shown.{footpaths_of};
 ghost use Rattle.image_verifier.specs.Accepted.{IsAccepted};
-ghost use Rattle.timetable.specs.NamesValue.{NamesValue};
+ghost use Rattle.timetable.specs.NamesValue.{NamesValue, TripNameValue};
 ghost use Rattle.image_layout.specs.Spelling.{name_list};
 ghost use Rattle.image_layout.specs.Image.{HasImage, IsImage};
 ghost use Rattle.image_verifier.specs.declared.fault.ImageFault.TheVariants.{OutOfMemory};
@@ -20,12 +21,14 @@ use crate::fault::ImageFault;
 use crate::find::{name_len_at, stop_named};
 use crate::judge::judge;
 use crate::search::first_departure;
+use crate::unpacked::{unpack_names, unpack_timetable};
 use image_layout::{
-    Header, base_at, connection_at, foot_from_at, foot_index_at, foot_secs_at, name_byte_at,
+    Header, base_at, connection_at, day_at, foot_from_at, foot_index_at, foot_secs_at,
+    name_byte_at, repeat_at,
 };
-use std::alloc::Global;
+use std::alloc::{AllocError, Global};
 use std::marker::Model;
-use timetable::{Connection, Footpath};
+use timetable::{Connection, Footpath, Names, Timetable};
 
 /// An image: contracts see the timetable and the names that it holds.
 #[derive(Drop)]
@@ -222,5 +225,33 @@ impl Verified {
         ensures { (name : List ℕ) → At (name_list self.now.names) i name → At name j result }
     {
         name_byte_at(&self.words, i, j)
+    }
+
+    /// The service day of a trip, as the number YYYYMMDD.
+    pub fn trip_day(&self, trip: usize) -> u32
+        requires { trip < self.now.timetable.trips }
+        ensures { option_map (λ (t : TripNameValue). t.day) (slice_get self.now.names.trips trip) ≡ Some result }
+    {
+        day_at(&self.words, trip)
+    }
+
+    /// Which of its day's repeats a trip is, from 0 on.
+    pub fn trip_repeat(&self, trip: usize) -> u32
+        requires { trip < self.now.timetable.trips }
+        ensures { option_map (λ (t : TripNameValue). t.repeat) (slice_get self.now.names.trips trip) ≡ Some result }
+    {
+        repeat_at(&self.words, trip)
+    }
+
+    /// The timetable and the names as values of their own. This is the one call that takes memory, and want of it is its one
+    /// error; the image stays as it is.
+    pub fn to_timetable(&self, alloc: Global) -> Result<(Timetable, Names), AllocError>
+        ensures timetable { IfOk result (λ made. made.0 ≡ self.now.timetable) }
+        ensures names { IfOk result (λ made. made.1 ≡ self.now.names) }
+        ensures kept { IfOk result (λ made. HasImage made.0 made.1) }
+    {
+        let timetable = unpack_timetable(alloc, &self.words)?;
+        let names = unpack_names(alloc, &self.words)?;
+        Ok((timetable, names))
     }
 }

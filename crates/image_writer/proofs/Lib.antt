@@ -1,5 +1,5 @@
 pub mod NameCounts
 pub mod Fours
 pub mod Sections
-pub mod Days
+pub mod Fits
 pub mod Legal

@@ -8,7 +8,7 @@ use Rattle.timetable.specs.Limits.{IsWithinLimits}
 use Rattle.image_layout.specs.Spelling.{text}
 
 -- a legal timetable within the limits, and a name for each stop and each trip that are not too long together;
--- that names are UTF-8, days words and the base two words is so by their types
+-- that names are UTF-8, days and repeats words and the base two words is so by their types
 pub record IsWritable (t : TimetableValue) (n : NamesValue) : Type 0 where
   pub legal : IsLegal t
   pub limits : IsWithinLimits t

@@ -3,12 +3,13 @@
 ghost use Rattle.std.specs.Prelude.{FitsSigned, ◌≡◌, ◌++◌, IfOk, OnOk};
 ghost use Rattle.std.specs.Int.{w64};
 ghost use Rattle.timetable.specs.TimetableValue.{TimetableValue};
+ghost use Rattle.image_layout.specs.Fields.{layout_of};
 ghost use Rattle.image_layout.specs.Spelling.{header};
 ghost use Rattle.image_layout.specs.Image.{IsImage};
 ghost use Rattle.image_writer.specs.Writable.{IsWritable};
 ghost use Rattle.image_writer.specs.Header.{counts_of};
 
-use crate::names::{text_len, write_days, write_name_index};
+use crate::names::{text_len, write_days, write_name_index, write_repeats};
 use crate::network::{write_connections, write_foot_index, write_footpaths};
 use crate::text::write_text;
 use image_layout::Header;
@@ -16,14 +17,15 @@ use image_layout::layout::{LAYOUT, MAGIC};
 use std::alloc::{AllocError, Global};
 use timetable::{Names, Timetable};
 
-/// The image of a timetable and its names, of which there is exactly one.
+/// The image of a timetable and its names in the layout that is written, of which there is exactly one.
 ///
 /// The timetable is legal and within the limits, with its footpaths by the stop led into, then by the stop left; there is a
 /// name for each stop and each trip, and together they have at most `MAX_NAME_BYTES` bytes. All memory is taken at once,
 /// before the first word, and want of it is the one error.
 pub fn write(alloc: Global, timetable: &Timetable, names: &Names) -> Result<Vec<u32>, AllocError>
     requires { IsWritable timetable.now names.now }
-    ensures { IfOk result (λ words. IsImage words.items timetable.now names.now) }
+    ensures image { IfOk result (λ words. IsImage words.items timetable.now names.now) }
+    ensures layout { IfOk result (λ words. layout_of words.items ≡ LAYOUT) }
 {
     let counts = counts(timetable, names);
     let mut words = Vec::with_capacity(alloc, counts.word_count())?;
@@ -33,6 +35,7 @@ pub fn write(alloc: Global, timetable: &Timetable, names: &Names) -> Result<Vec<
     write_footpaths(&mut words, &timetable.footpaths)?;
     write_name_index(&mut words, names)?;
     write_days(&mut words, &names.trips)?;
+    write_repeats(&mut words, &names.trips)?;
     write_text(&mut words, names)?;
     Ok(words)
 }

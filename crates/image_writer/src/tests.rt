@@ -4,7 +4,7 @@ ghost use Rattle.timetable.specs.Limits.{IsWithinLimits};
 ghost use Rattle.image_layout.specs.Spelling.{text};
 
 use super::*;
-use image_layout::{sample_names, sample_timetable, sample_words};
+use image_layout::{sample_names, sample_timetable, second_sample_words};
 use std::alloc::{AllocError, Global};
 use std::test::*;
 use timetable::{Footpath, Names, Timetable};
@@ -25,7 +25,7 @@ fn sample_is_written(rt: HostRuntime) -> Result<(), Fail> {
     let timetable = sample_timetable(rt.alloc())?;
     let names = sample_names(rt.alloc())?;
     let words = write(rt.alloc(), &timetable, &names)?;
-    assert_eq!(rt; words.as_slice(), sample_words().as_slice());
+    assert_eq!(rt; words.as_slice(), second_sample_words().as_slice());
     Ok(())
 }
 
@@ -51,7 +51,7 @@ fn empty_timetable_is_written(rt: HostRuntime) -> Result<(), Fail> {
         trips: Vec::new(rt.alloc()),
     };
     let words = write(rt.alloc(), &empty(rt.alloc()), &names)?;
-    let wanted = [0x50415343, 1, 0, 0, 0, 0, 0, 0, 0, 0, 0];
+    let wanted = [0x50415343, 2, 0, 0, 0, 0, 0, 0, 0, 0, 0];
     assert_eq!(rt; words.as_slice(), wanted.as_slice());
     Ok(())
 }
@@ -103,7 +103,7 @@ fn names_fill_words(rt: HostRuntime) -> Result<(), Fail> {
         }
         let bytes = bytes as u32;
         let front = [
-            0x50415343, 1, 1, 0, 0, 1, bytes, 4294880896, 4294967295, 0, 1, 0, 60, 0, bytes,
+            0x50415343, 2, 1, 0, 0, 1, bytes, 4294880896, 4294967295, 0, 1, 0, 60, 0, bytes,
         ];
         let mut wanted = front.to_vec(rt.alloc())?;
         wanted.extend_from_slice(text)?;

@@ -40,6 +40,10 @@ module _ {V : Type 0} (rules : Rules V) (laws : Laws rules) (t : TimetableValue)
       (walked_worsens f.to fs v is.2 a)
       (laws.walk_worsens f.secs (walked rules fs v) (walk_limit t limits f is.0) rest)
 
+  pub started_worsens : (source : ℕ) (start : Option Footpath) (v : V) → IsStart t source start → Admits rules v → NoWorse rules v (started rules start v)
+  started_worsens source None v is a = laws.reflexive v a
+  started_worsens source (Some f) v is a = laws.walk_worsens f.secs v (walk_limit t limits f is.0) a
+
   module _ (legal : IsLegal t) where
     pub chain_gives_way : (stop : ℕ) (f : Footpath) (fs : List Footpath) → IsWalk t stop (f ∷ fs) → (h : Footpath) × IsInstead rules t stop (f ∷ fs) h
     chain_gives_way stop f [] is = (

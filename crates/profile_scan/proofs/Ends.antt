@@ -10,7 +10,7 @@ use Rattle.timetable.specs.declared.query.Query.{Query}
 use Rattle.timetable.proofs.LegalFacts.{hop_takes_time}
 use Rattle.sources.specs.FirstAt.{IsFirstAt}
 use Rattle.profile_scan.specs.Continuations.{Onward, Aboard, BoardsFrom, IsOnward, IsAboard, CountsFrom, time_off}
-use Rattle.profile_scan.specs.Matching.{Matches}
+use Rattle.profile_scan.specs.Matching.{Matches, MatchesBut}
 use Rattle.profile_scan.specs.LawStatements.{NothingFollows, CutIsTheSources}
 use Rattle.profile_scan.proofs.Times.{final_is_later, leg_takes_time}
 
@@ -46,10 +46,16 @@ empty_matches rules spelled IsThere IsPlainWay value none = record {
   complete = λ d x there. absurd (none d x there);
 }
 
+empty_matches_but : {V X : Type 0} (rules : Rules V) (spelled : ℕ → Option X) (IsThere : ℕ → X → Type 0) (IsPlainWay : X → Type 0) (value : X → V) (Outdone : V → Type 0) → ((d : ℕ) (x : X) → IsThere d x → ⊥) → MatchesBut rules spelled IsThere IsPlainWay value Outdone []
+empty_matches_but rules spelled IsThere IsPlainWay value Outdone none = record {
+  sound = λ p is. absurd (omega (arith, is.1));
+  complete = λ d x there. absurd (none d x there);
+}
+
 pub nothing_follows : {V : Type 0} (rules : Rules V) → NothingFollows rules
 nothing_follows rules t q can end is_end tags = record {
-  at_stops = λ stop _. empty_matches rules _ _ _ _ (λ time x on. none_onward t q can.legal end stop time is_end x on);
-  in_trips = λ trip _. empty_matches rules _ _ _ _ (λ _ x l. none_aboard t q can.legal end trip is_end x l.aboard);
+  at_stops = λ stop _. empty_matches_but rules _ _ _ _ _ (λ time x on. none_onward t q can.legal end stop time is_end x on);
+  in_trips = λ trip _. empty_matches_but rules _ _ _ _ _ (λ _ x l. none_aboard t q can.legal end trip is_end x l.aboard);
   at_source = empty_matches rules _ _ _ _ (λ departure j c. none_counts t q can.legal end departure is_end j c);
 }
 

@@ -1,5 +1,5 @@
 -- A timetable of one trip over two connections: a step that forgets the trip's labels is refuted on it.
-use Rattle.std.proofs.Common.{◌≡◌, ◌≢◌, ℕ, zero, suc, ◌+◌, ◌<◌, ◌≤◌, List, [], ◌∷◌, Contains, Some, None, arith, refl, sym, subst, inl, inr}
+use Rattle.std.proofs.Common.{◌≡◌, ◌≢◌, ℕ, zero, suc, ◌+◌, ◌<◌, ◌≤◌, [], ◌∷◌, Some, None, arith, refl, sym, subst, inl, inr}
 use Rattle.criteria.specs.Laws.{Rules, Laws}
 use Rattle.bags.specs.declared.point.Point.{Point}
 use Rattle.timetable.specs.declared.network.Connection.{Connection}
@@ -10,11 +10,12 @@ use Rattle.sources.specs.FirstAt.{IsFirstAt}
 use Rattle.profile_scan.specs.Points.{Covers}
 use Rattle.profile_scan.specs.Continuations.{Aboard}
 use Rattle.profile_scan.specs.Matching.{Spelling, Spellings, Keeps, from_to, ScanValue, MatchesFrom, IsLabelled}
-use Rattle.profile_scan.specs.Steps.{TakesIn, IsOffered, Leaving, ends, ends_after, changes, MayLeave, leaving_value, leavings, boardings, settings_out, IsStep}
+use Rattle.profile_scan.specs.Steps.{TakesIn, IsOffered, Leaving, ends, ends_after, changes, MayLeave, leaving_value, leavings, boardings, settings_out}
 use Rattle.profile_scan.specs.LawStatements.{CanScan, OneIndexDown}
 use Rattle.profile_scan.specs.Examples.{two_hops, over_one_hop}
 use Rattle.profile_scan.specs.WrongSteps.{IsStepWithoutLabels}
 use Rattle.profile_scan.proofs.Ends.{nothing_follows}
+use Rattle.profile_scan.proofs.Outdone.{all_carried}
 use Rattle.profile_scan.proofs.StepLemmas.{one_index_down}
 use Rattle.profile_scan.proofs.Refutations.{at_two, one_hop_legal, one_hop_within, none_in, one_in, takes_none, takes_from_nothing, covers_itself, nothing, at_zero}
 
@@ -124,6 +125,10 @@ module _ {V : Type 0} (rules : Rules V) (laws : Laws rules) where
         between = spoken;
         kept_first = spoken_stays;
         kept_then = spoken_stays;
+        changing = [];
+        changing_are = all_carried rules two_hops [] 1 [];
+        boarding = label ∷ [];
+        boarding_are = all_carried rules two_hops [] 1 (label ∷ []);
         leaves = leaves_at_the_target;
         other_trips = other_trips;
         boards = λ stop in_stops. takes_none rules laws (boardings rules two_hops turn 1 stop (label ∷ [])) (λ way may. let nobody = may.boards in cc);
@@ -147,5 +152,7 @@ module _ {V : Type 0} (rules : Rules V) (laws : Laws rules) where
         departed = refl;
         aboard = record { later = omega arith; in_range = omega arith; on_trip = refl; alights = refl; is_walk = tt; walks = λ some. absurd (some refl); leads = refl; arrives = omega arith };
       } in
-      let covered = (matched.in_trips 0 (omega arith)).complete 0 stays_seated is_seated in
-      none_in covered.0 covered.1
+      elim ((matched.in_trips 0 (omega arith)).complete 0 stays_seated is_seated) [
+        | inl covered ↦ none_in covered.0 covered.1
+        | inr outdone ↦ none_in outdone.by outdone.is_found
+      ]

@@ -1,6 +1,7 @@
 pub mod Offers
 pub mod NodeLemmas
 pub mod StoryLemmas
+pub mod BoundLemmas
 pub mod ChangeLemmas
 pub mod EndLemmas
 pub mod KeptLemmas
@@ -17,6 +18,7 @@ pub mod Chains
 pub mod Times
 pub mod Admitted
 pub mod Sound
+pub mod Outdone
 pub mod Complete
 pub mod StepLemmas
 pub mod Ends

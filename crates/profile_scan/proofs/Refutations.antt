@@ -23,6 +23,7 @@ use Rattle.profile_scan.specs.Examples.{one_hop, over_one_hop, with_loops, asked
 use Rattle.profile_scan.specs.WrongSteps.{cut_boardings, IsStepWithBagCut, loop_starts, LeavesSource, MayBoardAtOnce, at_once_departure, at_once_value, IsStepWithLoopStart, Unchanged, on_foot, at_once, at_once_boardings, IsStepWithoutChange, CountsLegByLeg}
 use Rattle.profile_scan.proofs.Ends.{nothing_follows}
 use Rattle.profile_scan.proofs.StepLemmas.{one_index_down}
+use Rattle.profile_scan.proofs.Outdone.{all_carried}
 use Rattle.profile_scan.proofs.Answer.{match_is_the_answer}
 
 abbrev long_loop : Footpath
@@ -267,8 +268,10 @@ module _ {V : Type 0} (rules : Rules V) (laws : Laws rules) where
         leads = (record { rising = omega arith; in_range = omega arith; one_trip = refl; boards = refl; alights = refl }, refl, omega arith, tt, λ some. absurd (some refl), refl);
         arrives = omega arith;
       } in
-      let covered = (matched.at_stops 0 (omega arith)).complete 40 onward is_onward in
-      none_in covered.0 covered.1
+      elim ((matched.at_stops 0 (omega arith)).complete 40 onward is_onward) [
+        | inl covered ↦ none_in covered.0 covered.1
+        | inr outdone ↦ none_in outdone.by outdone.is_found
+      ]
     where
       by_start : (start : Option Footpath) → IsStart one_hop 0 start → start_end 0 start ≡ 0 → 100 - start_secs start ≤ 30 → ⊥
       by_start None is leads late = omega arith
@@ -423,6 +426,10 @@ module _ {V : Type 0} (rules : Rules V) (laws : Laws rules) where
         between = spoken;
         kept_first = spoken_stays;
         kept_then = spoken_stays;
+        changing = [];
+        changing_are = all_carried rules one_hop [] 0 [];
+        boarding = label ∷ [];
+        boarding_are = all_carried rules one_hop (at_stop ∷ []) 0 (label ∷ []);
         leaves = leaves_by_end 1000;
         other_trips = other_trips;
         boards = λ stop in_stops. takes_loop stop;

@@ -1,6 +1,6 @@
 -- Labels after the ride, and what comes of boarding by them.
-use Rattle.std.proofs.Common.{◌≡◌, ◌⊎◌, ℕ, ◌+◌, ◌-◌, ◌<◌, ◌≤◌, List, [], ◌∷◌, ◌++◌, length, set, Contains, slice_get, slice_index, Some, get_or-set_same, get_or-set_other, refl, sym, ◌∙◌, ap, subst, inl, inr, arith}
-use Rattle.std.proofs.lemmas.Bool.{cases_eq}
+use Rattle.std.proofs.Common.{◌≡◌, true, false, ℕ, ◌+◌, ◌-◌, ◌<◌, ◌≤◌, List, [], ◌∷◌, ◌++◌, length, set, Contains, slice_get, slice_index, Some, get_or-set_same, get_or-set_other, sym, ◌∙◌, ap, subst, inl, inr, arith}
+use Rattle.std.proofs.lemmas.Bool.{cases_eq, true≢false}
 use Rattle.std.proofs.lemmas.List.Elements.{Contains-push, Contains-push_cases, Contains-append_left}
 use Rattle.criteria.specs.Laws.{Rules, Laws, Admits}
 use Rattle.bags.specs.declared.point.Point.{Point}
@@ -9,54 +9,83 @@ use Rattle.fronts.specs.declared.entry.Step.{Step}
 use Rattle.fronts.specs.declared.entry.Ridden.{Ridden}
 use Rattle.fronts.specs.Lists.{TakesRidden}
 use Rattle.fronts.specs.Front.{Extends}
-use Rattle.profile_scan.specs.Continuations.{Aboard}
 use Rattle.profile_scan.specs.Matching.{from_to}
-use Rattle.profile_scan.specs.Steps.{TakesIn, boarded}
+use Rattle.profile_scan.specs.Steps.{TakesIn}
 use Rattle.profile_scan.specs.Points.{Covers}
 use Rattle.profile_scan.specs.Story.{Story, Grows, told}
 use Rattle.profile_scan.specs.Adding.{StandsBefore, AreRidden, boardings_after, only_if}
+use Rattle.profile_scan.specs.Bound.{is_bettered, carried, RidesLabel}
+use Rattle.profile_scan.proofs.BoundLemmas.{from_carried, into_carried}
 use Rattle.profile_scan.proofs.Admitted.{AreAdmitted}
 use Rattle.profile_scan.proofs.Offers.{stands_in, all_stand, stands_split, takes_if, takes_unless}
 use Rattle.profile_scan.proofs.StoryLemmas.{stays, step_told}
 
--- values are those of labels after the ride, and all labels below a place are among them
-pub record RiddenBefore {V : Type 0} (rules : Rules V) (labels : List (Point V)) (n : ℕ) (ridden : List (Ridden V)) : Type 0 where
-  pub of_label : (r : Ridden V) → Contains ridden r → (l : Point V) × Contains labels l × (r.value ≡ rules.ride l.value) × (r.label ≡ l.tag)
-  pub each : (l : Point V) → StandsBefore labels n l → (r : Ridden V) × Contains ridden r × (r.value ≡ rules.ride l.value)
+-- values are those of labels after the ride that aren't bettered, and all such labels below a place are among them
+pub record RiddenBefore {V : Type 0} (rules : Rules V) (values : List V) (labels : List (Point V)) (n : ℕ) (ridden : List (Ridden V)) : Type 0 where
+  pub of_label : (r : Ridden V) → Contains ridden r → (l : Point V) × Contains (carried rules values labels) l × (r.value ≡ rules.ride l.value) × (r.label ≡ l.tag)
+  pub each : (l : Point V) → StandsBefore labels n l → is_bettered rules values (rules.ride l.value) ≡ false → (r : Ridden V) × Contains ridden r × (r.value ≡ rules.ride l.value)
 
 not_in_nil : {X : Type 0} (x : X) → Contains {X = X} [] x → ⊥
 not_in_nil x h = omega (arith, h.1)
 
-module _ {V : Type 0} (rules : Rules V) (labels : List (Point V)) where
-  pub ridden_none : (ridden : List (Ridden V)) → ridden ≡ [] → RiddenBefore rules labels 0 ridden
+module _ {V : Type 0} (rules : Rules V) (values : List V) where
+  -- one label
+  pub rides_one : (x : Point V) (r : Ridden V) (old new : List (Ridden V)) → is_bettered rules values r.value ≡ false → r.value ≡ rules.ride x.value → r.label ≡ x.tag → new ≡ old ++ r ∷ [] → RidesLabel rules values x old new
+  rides_one x r old new free worth label pushed =
+      let is_free : is_bettered rules values (rules.ride x.value) ≡ false = ap (is_bettered rules values) (sym worth) ∙ free in
+      record {
+        only = λ s h. elim (Contains-push_cases old r s (subst (λ rs. Contains rs s) pushed h)) [
+          | inl was ↦ inl was
+          | inr e ↦ inr (is_free, ap (λ (z : Ridden V). z.value) (sym e) ∙ worth, ap (λ (z : Ridden V). z.label) (sym e) ∙ label)
+        ];
+        kept = λ s h. subst (λ rs. Contains rs s) (sym pushed) (Contains-append_left old (r ∷ []) s h);
+        rides = λ _. (r, subst (λ rs. Contains rs r) (sym pushed) (Contains-push old r), worth);
+      }
+
+  pub rides_none : (x : Point V) (v : V) (ridden : List (Ridden V)) → v ≡ rules.ride x.value → is_bettered rules values v ≡ true → RidesLabel rules values x ridden ridden
+  rides_none x v ridden worth bettered = record {
+    only = λ s h. inl h;
+    kept = λ s h. h;
+    rides = λ free. absurd (true≢false (sym bettered ∙ ap (is_bettered rules values) worth ∙ free));
+  }
+
+module _ {V : Type 0} (rules : Rules V) (values : List V) (labels : List (Point V)) where
+  pub ridden_none : (ridden : List (Ridden V)) → ridden ≡ [] → RiddenBefore rules values labels 0 ridden
   ridden_none ridden e = record {
     of_label = λ r h. absurd (not_in_nil r (subst (λ rs. Contains rs r) e h));
-    each = λ l s. absurd (omega (arith, s.1));
+    each = λ l s free. absurd (omega (arith, s.1));
   }
 
-  pub ridden_more : (n : ℕ) (x : Point V) (r : Ridden V) (old new : List (Ridden V)) → slice_get labels n ≡ Some x → r.value ≡ rules.ride x.value → r.label ≡ x.tag → new ≡ old ++ r ∷ [] → RiddenBefore rules labels n old → RiddenBefore rules labels (n + 1) new
-  ridden_more n x r old new at worth label pushed is = record {
-    of_label = λ s h. elim (Contains-push_cases old r s (subst (λ rs. Contains rs s) pushed h)) [
+  pub ridden_more : (n : ℕ) (x : Point V) (old new : List (Ridden V)) → slice_get labels n ≡ Some x → RidesLabel rules values x old new → RiddenBefore rules values labels n old → RiddenBefore rules values labels (n + 1) new
+  ridden_more n x old new at takes is = record {
+    of_label = λ s h. elim (takes.only s h) [
       | inl was ↦ is.of_label s was
-      | inr e ↦ subst (λ (z : Ridden V). (l : Point V) × Contains labels l × (z.value ≡ rules.ride l.value) × (z.label ≡ l.tag)) e (x, stands_in labels (n + 1) x (n, omega arith, at), worth, label)
+      | inr rides ↦ (x, into_carried rules values labels x (stands_in labels (n + 1) x (n, omega arith, at)) rides.0, rides.1, rides.2)
     ];
-    each = λ l s. elim (stands_split labels n x l at s) [
-      | inl before ↦ (let y = is.each l before in (y.0, subst (λ rs. Contains rs y.0) (sym pushed) (Contains-append_left old (r ∷ []) y.0 y.1), y.2))
-      | inr e ↦ (r, subst (λ rs. Contains rs r) (sym pushed) (Contains-push old r), worth ∙ ap (λ (z : Point V). rules.ride z.value) (sym e))
+    each = λ l s free. elim (stands_split labels n x l at s) [
+      | inl before ↦ (let y = is.each l before free in (y.0, takes.kept y.0 y.1, y.2))
+      | inr e ↦
+          let here = takes.rides (ap (λ (z : Point V). is_bettered rules values (rules.ride z.value)) (sym e) ∙ free) in
+          (here.0, here.1, here.2 ∙ ap (λ (z : Point V). rules.ride z.value) (sym e))
     ];
   }
 
-  pub ridden_all : (n : ℕ) (ridden : List (Ridden V)) → length labels ≤ n → RiddenBefore rules labels n ridden → AreRidden rules labels ridden
+  pub ridden_all : (n : ℕ) (ridden : List (Ridden V)) → length labels ≤ n → RiddenBefore rules values labels n ridden → AreRidden rules (carried rules values labels) ridden
   ridden_all n ridden long is = record {
     of_label = is.of_label;
-    each = λ l h. is.each l (all_stand labels n l long h);
+    each = λ l h. let in_labels = from_carried rules values labels l h in is.each l (all_stand labels n l long in_labels.0) in_labels.1;
   }
 
+module _ {V : Type 0} (rules : Rules V) (labels : List (Point V)) where
   -- each of them is admitted
   pub ridden_admitted : (laws : Laws rules) → AreAdmitted rules labels → (ridden : List (Ridden V)) → AreRidden rules labels ridden → (r : Ridden V) → Contains ridden r → Admits rules r.value
   ridden_admitted laws admitted ridden are r h =
       let l = are.of_label r h in
       subst (Admits rules) (sym l.2) (laws.ride_admits l.0.value (admitted l.0 l.1))
+
+  -- where there are none, there are no labels
+  pub no_ridden : (ridden : List (Ridden V)) → AreRidden rules labels ridden → length ridden ≡ 0 → (l : Point V) → Contains labels l → ⊥
+  no_ridden ridden are none l h = let r = are.each l h in omega (arith, r.1.1, none)
 
   -- a list that takes them in after a footpath takes the labels in
   pub boardings_of_ridden : (walks : List Footpath) (ridden : List (Ridden V)) → AreRidden rules labels ridden → (steps : List Step) (departure first place : ℕ) (walk : Footpath) (old new : List (Point V)) → slice_get walks place ≡ Some walk

@@ -1,14 +1,14 @@
 -- What is told stays so while more is written down.
-use Rattle.std.proofs.Common.{◌≡◌, ℕ, zero, suc, ◌+◌, ◌<◌, ◌≤◌, List, [], ◌∷◌, ◌++◌, length, slice_get, Option, Some, None, refl, sym, ◌∙◌, ap, subst, arith}
+use Rattle.std.proofs.Common.{◌≡◌, ℕ, zero, suc, ◌≤◌, List, [], ◌∷◌, ◌++◌, length, slice_get, Option, Some, None, refl, ◌∙◌, ap, arith}
 use Rattle.std.proofs.lemmas.List.{length_push}
-use Rattle.std.proofs.lemmas.Option.{slice_get_within, same_Some}
+use Rattle.std.proofs.lemmas.Option.{slice_get_within}
 use Rattle.timetable.specs.declared.network.Footpath.{Footpath}
 use Rattle.timetable.specs.JourneyValue.{JourneyValue}
 use Rattle.fronts.specs.declared.entry.Step.{Step}
 use Rattle.fronts.specs.Front.{Extends}
 use Rattle.fronts.proofs.Growth.{extends_none, extends_on, extends_long, same_at, at_new}
 use Rattle.profile_scan.specs.Continuations.{Onward, Aboard}
-use Rattle.profile_scan.specs.Matching.{Spelling, Keeps, from_to}
+use Rattle.profile_scan.specs.Matching.{Keeps, from_to}
 use Rattle.profile_scan.specs.Steps.{boarded}
 use Rattle.profile_scan.specs.Nodes.{changed_at, boarded_after, set_out_by}
 use Rattle.profile_scan.specs.Story.{Story, story, Grows, exit_tells, boards_by, step_tells, set_out_tells, label_tells, told, IsExit}

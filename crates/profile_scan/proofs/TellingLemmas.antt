@@ -1,5 +1,5 @@
 -- What a story tells of a label, node by node.
-use Rattle.std.proofs.Common.{◌≡◌, ◌≢◌, ℕ, zero, suc, ◌+◌, ◌-◌, ◌<◌, ◌≤◌, List, [], ◌∷◌, ◌++◌, length, slice_get, get_or, map, take, Contains, Option, Some, None, refl, sym, ◌∙◌, ap, subst, inl, inr, arith}
+use Rattle.std.proofs.Common.{◌≡◌, ℕ, zero, suc, ◌+◌, ◌-◌, ◌<◌, List, [], ◌∷◌, ◌++◌, length, slice_get, get_or, map, take, Contains, Option, Some, None, refl, sym, ◌∙◌, ap, subst, inl, inr, arith}
 use Rattle.std.proofs.lemmas.Option.{same_Some, slice_get_within}
 use Rattle.std.proofs.lemmas.List.{map-append, take_more}
 use Rattle.std.proofs.lemmas.List.Elements.{Contains-push_cases}
@@ -8,10 +8,9 @@ use Rattle.timetable.specs.declared.network.Footpath.{Footpath}
 use Rattle.timetable.specs.JourneyValue.{JourneyValue}
 use Rattle.fronts.specs.declared.entry.Step.{Step}
 use Rattle.fronts.proofs.Growth.{extends_none}
-use Rattle.profile_scan.specs.Continuations.{Onward, Aboard}
-use Rattle.profile_scan.specs.Matching.{from_to}
+use Rattle.profile_scan.specs.Continuations.{Aboard}
 use Rattle.profile_scan.specs.Steps.{boarded}
-use Rattle.profile_scan.specs.Nodes.{Extends, spelling, walk_of, changed_at, boarded_after, set_out_by}
+use Rattle.profile_scan.specs.Nodes.{Extends, walk_of, changed_at, set_out_by}
 use Rattle.profile_scan.specs.Story.{Story, exit_tells, boards_by, step_tells, set_out_tells, label_tells, told}
 use Rattle.profile_scan.specs.Points.{untagged}
 use Rattle.profile_scan.specs.Telling.{with_last, change_by, change, ending_by, ending, IsRoute, IsLabelTold, SaysLabel, IsJourneyTold, SaysJourney, IsRetold}

@@ -5,6 +5,7 @@ pub mod Continuations
 pub mod Plain
 pub mod Matching
 pub mod Steps
+pub mod Bound
 pub mod LawStatements
 pub mod Nodes
 pub mod Story

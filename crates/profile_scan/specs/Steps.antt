@@ -11,7 +11,7 @@ use Rattle.timetable.specs.declared.query.Query.{Query}
 use Rattle.profile_scan.specs.Values.{started}
 use Rattle.profile_scan.specs.Points.{Covers}
 use Rattle.profile_scan.specs.Continuations.{Onward, Aboard}
-use Rattle.profile_scan.specs.Matching.{Spelling, Spellings, Keeps, from_to, ScanValue}
+use Rattle.profile_scan.specs.Matching.{Spelling, Spellings, Keeps, from_to, IsOutdone, ScanValue}
 
 -- what is offered to a list of points: of the ways A those that are open, and for each a departure, a value, and the tags that fit
 pub record Offer (A V : Type 0) : Type 1 where
@@ -124,14 +124,23 @@ settings_out rules t q tags i labels = record {
   fits_tag = λ way tag. (x : Aboard) → tags.earlier.aboard way.label.tag ≡ Some x → tags.later.journey tag ≡ Some (record { start = way.start; rides = boarded i x });
 }
 
--- one connection, from what a scan keeps of the later ones: first the labels of its trip, by the bag of the stop where it ends; then, by these labels and what their tags spell between, every bag and the points found
+-- of some points those that are carried on: each but those that a point found outdoes, after the ride, for who boards no later than by connection i
+pub record AreCarried {V : Type 0} (rules : Rules V) (t : TimetableValue) (found : List (Point V)) (i : ℕ) (points carried : List (Point V)) : Type 0 where
+  pub only : (p : Point V) → Contains carried p → Contains points p
+  pub all : (p : Point V) → Contains points p → Contains carried p ⊎ IsOutdone rules t found (i + 1) (rules.ride p.value)
+
+-- one connection, from what a scan keeps of the later ones: first the labels of its trip, by the bag of the stop where it ends; then, by these labels and what their tags spell between, the points found and every bag. The points found are offered all labels; what they outdo isn't carried on to labels and bags
 pub record IsStep {V : Type 0} (rules : Rules V) (t : TimetableValue) (q : Query) (tags : Spellings) (i : ℕ) (old new : ScanValue V) : Type 0 where
   pub between : Spelling
   pub kept_first : Keeps tags.earlier between
   pub kept_then : Keeps between tags.later
-  pub leaves : TakesIn rules (leavings rules t q (from_to tags.earlier between) i (old.bag (connection_at t i).to)) (old.labels (connection_at t i).trip) (new.labels (connection_at t i).trip)
+  pub changing : List (Point V)
+  pub changing_are : AreCarried rules t old.found i (old.bag (connection_at t i).to) changing
+  pub boarding : List (Point V)
+  pub boarding_are : AreCarried rules t new.found i (new.labels (connection_at t i).trip) boarding
+  pub leaves : TakesIn rules (leavings rules t q (from_to tags.earlier between) i changing) (old.labels (connection_at t i).trip) (new.labels (connection_at t i).trip)
   pub other_trips : (trip : ℕ) → trip ≢ (connection_at t i).trip → new.labels trip ≡ old.labels trip
-  pub boards : (stop : ℕ) → stop < t.stops → TakesIn rules (boardings rules t (from_to between tags.later) i stop (new.labels (connection_at t i).trip)) (old.bag stop) (new.bag stop)
+  pub boards : (stop : ℕ) → stop < t.stops → TakesIn rules (boardings rules t (from_to between tags.later) i stop boarding) (old.bag stop) (new.bag stop)
   pub sets_out : TakesIn rules (settings_out rules t q (from_to between tags.later) i (new.labels (connection_at t i).trip)) old.found new.found
 
 -- where nothing is offered at a connection: its trip has no labels, and who gets off can neither be at the target nor go on, by foot or by a point of the stop's bag

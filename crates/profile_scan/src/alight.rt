@@ -1,7 +1,7 @@
 //! Leaving a trip where a connection ends: at the target, one footpath before it, or to change.
 
-ghost use Rattle.std.specs.Prelude.{◌≡◌, ◌+◌, ◌<◌, ◌≤◌, true, List, OnOk, IfSome, MatchOption, Option, length};
-ghost use Rattle.criteria.specs.Laws.{IsTime, IsSecs};
+ghost use Rattle.std.specs.Prelude.{◌≡◌, ◌+◌, ◌<◌, ◌≤◌, true, false, List, Contains, OnOk, IfSome, MatchOption, Option, length};
+ghost use Rattle.criteria.specs.Laws.{Admits, IsTime, IsSecs};
 ghost use Rattle.timetable.specs.declared.network.Footpath.{Footpath};
 ghost use Rattle.timetable.specs.Journeys.{start_secs};
 ghost use Rattle.bags.specs.Bag.{criterion_of, points_of};
@@ -9,21 +9,52 @@ ghost use Rattle.profile_scan.specs.Values.{started};
 ghost use Rattle.fronts.specs.declared.entry.Step.{Step};
 ghost use Rattle.fronts.specs.Front.{Extends};
 ghost use Rattle.fronts.specs.Lists.{IsSound, lists_criterion, entries_of, list_points};
-ghost use Rattle.profile_scan.specs.Story.{story};
+ghost use Rattle.profile_scan.specs.Bound.{is_bettered, carried};
+ghost use Rattle.profile_scan.specs.Story.{story, IsExit};
 ghost use Rattle.profile_scan.specs.declared.story.SetOut.{SetOut};
-ghost use Rattle.profile_scan.specs.Adding.{Takes, only_if, changes_from, endings, endings_and_changes, IsEnding};
+ghost use Rattle.profile_scan.specs.declared.story.Exit.TheVariants.{Changes};
+ghost use Rattle.profile_scan.specs.Adding.{Takes, only_if, one_way, changes_from, endings, endings_and_changes, IsEnding};
 
 use crate::adding::add_label;
+use crate::bound::is_bettered;
 use crate::story::Exit;
-use bags::Bag;
+use bags::{Bag, Point};
 use criteria::Criterion;
 use fronts::FrontLists;
 use std::alloc::AllocError;
 use timetable::{Connection, Footpath, Query};
 
-/// Offers labels each point of a list that departs at a time or later. The front from that time on is enough.
+// Offers labels one point of a list, unless it is bettered after the ride.
+fn change_by<C: Criterion>(
+    criterion: &C,
+    bound: &[C::V],
+    labels: &mut Bag<C>,
+    exits: &mut Vec<Exit>,
+    point: &Point<C::V>,
+    last: u32,
+) -> Result<(), AllocError>
+    requires labels { criterion_of labels.old ≡ criterion.now }
+    requires bound { (b : _) → Contains bound.now b → Admits (C.rules criterion.now) b }
+    requires point { Admits (C.rules criterion.now) point.now.value }
+    ensures same { criterion_of labels.new ≡ criterion.now }
+    ensures exits { Extends exits.old.items exits.new.items }
+    ensures takes { OnOk result ((walks : List Footpath) (steps : List Step) (set_outs : List SetOut) → Takes (C.rules criterion.now) walks (story exits.old.items steps set_outs) (story exits.new.items steps set_outs) (λ tags. only_if (is_bettered (C.rules criterion.now) bound.now ((C.rules criterion.now).ride point.now.value) ≡ false) (one_way 0 point.now.value (IsExit tags (Changes last point.now.tag)))) (points_of labels.old) (points_of labels.new)) }
+{
+    if is_bettered(criterion, bound, &criterion.ride(&point.value)) {
+        return Ok(());
+    }
+    let exit = Exit::Changes {
+        last,
+        step: point.tag,
+    };
+    add_label(criterion, labels, exits, point.value, exit)
+}
+
+/// Offers labels each point of a list that departs at a time or later and isn't bettered after the ride. The front from that time on
+/// is enough.
 pub fn change<C: Criterion>(
     criterion: &C,
+    bound: &[C::V],
     labels: &mut Bag<C>,
     exits: &mut Vec<Exit>,
     lists: &FrontLists<C>,
@@ -32,21 +63,18 @@ pub fn change<C: Criterion>(
     last: u32,
 ) -> Result<(), AllocError>
     requires labels { criterion_of labels.old ≡ criterion.now }
+    requires bound { (b : _) → Contains bound.now b → Admits (C.rules criterion.now) b }
     requires under { lists_criterion lists.now ≡ criterion.now }
     requires sound { IsSound C.rules lists.now }
     requires head { head < length (entries_of lists.now) }
     ensures same { criterion_of labels.new ≡ criterion.now }
     ensures exits { Extends exits.old.items exits.new.items }
-    ensures takes { OnOk result ((walks : List Footpath) (steps : List Step) (set_outs : List SetOut) → Takes (C.rules criterion.now) walks (story exits.old.items steps set_outs) (story exits.new.items steps set_outs) (λ tags. changes_from tags last time (list_points lists.now head)) (points_of labels.old) (points_of labels.new)) }
+    ensures takes { OnOk result ((walks : List Footpath) (steps : List Step) (set_outs : List SetOut) → Takes (C.rules criterion.now) walks (story exits.old.items steps set_outs) (story exits.new.items steps set_outs) (λ tags. changes_from tags last time (carried (C.rules criterion.now) bound.now (list_points lists.now head))) (points_of labels.old) (points_of labels.new)) }
 {
     let place = lists.front_from(head, time);
     for k in 0..lists.front_len(place) {
         let point = lists.front_point(place, k);
-        let exit = Exit::Changes {
-            last,
-            step: point.tag,
-        };
-        add_label(criterion, labels, exits, point.value, exit)?;
+        change_by(criterion, bound, labels, exits, &point, last)?;
     }
     Ok(())
 }
@@ -137,13 +165,14 @@ pub fn end<C: Criterion>(
 }
 
 /// Leaves a trip where a connection ends, if passengers may get off there: offers its labels the end, and the changes by the list of
-/// that stop.
+/// that stop that aren't bettered.
 pub fn alight<C: Criterion>(
     criterion: &C,
     query: &Query,
     way: Option<u32>,
     connection: &Connection,
     last: u32,
+    bound: &[C::V],
     labels: &mut Bag<C>,
     exits: &mut Vec<Exit>,
     lists: &FrontLists<C>,
@@ -152,18 +181,28 @@ pub fn alight<C: Criterion>(
     requires arrival { IsTime connection.now.arr }
     requires by { IsTime query.now.by }
     requires secs { IfSome way (λ secs. IsSecs secs) }
+    requires bound { (b : _) → Contains bound.now b → Admits (C.rules criterion.now) b }
     requires labels { criterion_of labels.old ≡ criterion.now }
     requires under { lists_criterion lists.now ≡ criterion.now }
     requires sound { IsSound C.rules lists.now }
     requires head { head < length (entries_of lists.now) }
     ensures same { criterion_of labels.new ≡ criterion.now }
     ensures exits { Extends exits.old.items exits.new.items }
-    ensures takes { OnOk result ((walks : List Footpath) (steps : List Step) (set_outs : List SetOut) → Takes (C.rules criterion.now) walks (story exits.old.items steps set_outs) (story exits.new.items steps set_outs) (λ tags. only_if (connection.now.alight ≡ true) (endings_and_changes (C.rules criterion.now) tags last connection.now query.now way (list_points lists.now head))) (points_of labels.old) (points_of labels.new)) }
+    ensures takes { OnOk result ((walks : List Footpath) (steps : List Step) (set_outs : List SetOut) → Takes (C.rules criterion.now) walks (story exits.old.items steps set_outs) (story exits.new.items steps set_outs) (λ tags. only_if (connection.now.alight ≡ true) (endings_and_changes (C.rules criterion.now) tags last connection.now query.now way (carried (C.rules criterion.now) bound.now (list_points lists.now head)))) (points_of labels.old) (points_of labels.new)) }
 {
     if !connection.alight {
         return Ok(());
     }
     end(criterion, query, way, connection, last, labels, exits)?;
-    change(criterion, labels, exits, lists, head, connection.arr, last)?;
+    change(
+        criterion,
+        bound,
+        labels,
+        exits,
+        lists,
+        head,
+        connection.arr,
+        last,
+    )?;
     Ok(())
 }

@@ -15,12 +15,15 @@ ghost use Rattle.profile_scan.specs.declared.story.Exit.{Exit};
 ghost use Rattle.profile_scan.specs.declared.story.SetOut.{SetOut};
 ghost use Rattle.profile_scan.specs.Adding.{Takes, only_if, each_of, boardings_after, settings_out_after, MayStart, StandsBetween, IsTried, boardings_by, settings_out_by, AreRidden};
 ghost use Rattle.profile_scan.specs.Steps.{boardings, settings_out};
+ghost use Rattle.profile_scan.specs.Bound.{carried, RidesLabel};
+ghost use Rattle.bags.specs.declared.point.Point.{Point};
 ghost use Rattle.profile_scan.specs.Kept.{AreStops, points_at};
 
 use crate::adding::add_found;
+use crate::bound::is_bettered;
 use crate::stops::Stops;
 use crate::story::SetOut;
-use bags::Bag;
+use bags::{Bag, Point};
 use criteria::Criterion;
 use fronts::Ridden;
 use sources::ConnSource;
@@ -37,24 +40,44 @@ fn number_of(tag: usize) -> Result<u32, AllocError>
     Ok(tag as u32)
 }
 
-/// Puts the labels' values after the ride into a list.
+// Puts a label's value after the ride into a list, unless it is bettered.
+fn ride_label<C: Criterion>(
+    criterion: &C,
+    bound: &[C::V],
+    label: &Point<C::V>,
+    ridden: &mut Vec<Ridden<C::V>>,
+) -> Result<(), AllocError>
+    requires bound { (b : _) → Contains bound.now b → Admits (C.rules criterion.now) b }
+    requires label { Admits (C.rules criterion.now) label.now.value }
+    ensures { OnOk result (RidesLabel (C.rules criterion.now) bound.now label.now ridden.old.items ridden.new.items) }
+{
+    let value = criterion.ride(&label.value);
+    if is_bettered(criterion, bound, &value) {
+        return Ok(());
+    }
+    let number = number_of(label.tag)?;
+    ridden.push(Ridden {
+        value,
+        label: number,
+    })?;
+    Ok(())
+}
+
+/// Puts the labels' values after the ride into a list, but for those that are bettered.
 pub fn ride_labels<C: Criterion>(
     criterion: &C,
+    bound: &[C::V],
     labels: &Bag<C>,
     ridden: &mut Vec<Ridden<C::V>>,
 ) -> Result<(), AllocError>
+    requires bound { (b : _) → Contains bound.now b → Admits (C.rules criterion.now) b }
     requires labels { criterion_of labels.now ≡ criterion.now }
-    ensures { OnOk result (AreRidden (C.rules criterion.now) (points_of labels.now) ridden.new.items) }
+    ensures { OnOk result (AreRidden (C.rules criterion.now) (carried (C.rules criterion.now) bound.now (points_of labels.now)) ridden.new.items) }
 {
     ridden.clear();
     for place in 0..labels.len() {
         let label = labels.point(place);
-        let value = criterion.ride(&label.value);
-        let number = number_of(label.tag)?;
-        ridden.push(Ridden {
-            value,
-            label: number,
-        })?;
+        ride_label(criterion, bound, &label, ridden)?;
     }
     Ok(())
 }
@@ -180,19 +203,16 @@ pub fn board_from<C: Criterion>(
     Ok(())
 }
 
-// Goes over the footpaths into a connection's start, from a place up to before another: boards after each, and sets out by none and by
-// each.
-fn board_walks<S: ConnSource, C: Criterion>(
+// Goes over the footpaths into a connection's start, from a place up to before another, and sets out by none and by each.
+fn set_out_walks<S: ConnSource, C: Criterion>(
     source: &S,
     criterion: &C,
     query: &Query,
     connection: &Connection,
     first: u32,
-    stops: &mut Stops<C>,
     found: &mut Bag<C>,
     set_outs: &mut Vec<SetOut>,
     labels: &Bag<C>,
-    ridden: &[Ridden<C::V>],
     begin: usize,
     end: usize,
 ) -> Result<(), AllocError>
@@ -200,22 +220,17 @@ fn board_walks<S: ConnSource, C: Criterion>(
     requires into { (k : ℕ) (f : Footpath) → At (S.timetable source.now).footpaths k f → begin ≤ k → k < end → f.to ≡ connection.now.from }
     requires within { end ≤ length (S.timetable source.now).footpaths }
     requires order { begin ≤ end }
-    requires stops { AreStops C.rules criterion.now (S.timetable source.now).stops stops.old }
     requires found { criterion_of found.old ≡ criterion.now }
     requires labels { criterion_of labels.now ≡ criterion.now }
-    requires ridden { AreRidden (C.rules criterion.now) (points_of labels.now) ridden.now }
-    ensures stops { OnOk result (AreStops C.rules criterion.now (S.timetable source.now).stops stops.new) }
     ensures found { OnOk result (criterion_of found.new ≡ criterion.now) }
-    ensures grows { OnOk result ((exits : List Exit) → Grows (story exits (steps_of stops.old.lists) set_outs.old.items) (story exits (steps_of stops.new.lists) set_outs.new.items)) }
-    ensures boards { OnOk result ((exits : List Exit) (stop : ℕ) → Takes (C.rules criterion.now) (S.timetable source.now).footpaths (story exits (steps_of stops.old.lists) set_outs.old.items) (story exits (steps_of stops.new.lists) set_outs.new.items) (λ tags. each_of (StandsBetween (S.timetable source.now).footpaths begin end) (boardings_by (C.rules criterion.now) tags first connection.now stop (points_of labels.now))) (points_at stops.old stop) (points_at stops.new stop)) }
-    ensures sets_out { OnOk result ((exits : List Exit) → Takes (C.rules criterion.now) (S.timetable source.now).footpaths (story exits (steps_of stops.old.lists) set_outs.old.items) (story exits (steps_of stops.new.lists) set_outs.new.items) (λ tags. each_of (IsTried (S.timetable source.now).footpaths begin end) (settings_out_by (C.rules criterion.now) tags first connection.now query.now (points_of labels.now))) (points_of found.old) (points_of found.new)) }
+    ensures set_outs { OnOk result (Extends set_outs.old.items set_outs.new.items) }
+    ensures takes { OnOk result ((exits : List Exit) (steps : List Step) → Takes (C.rules criterion.now) (S.timetable source.now).footpaths (story exits steps set_outs.old.items) (story exits steps set_outs.new.items) (λ tags. each_of (IsTried (S.timetable source.now).footpaths begin end) (settings_out_by (C.rules criterion.now) tags first connection.now query.now (points_of labels.now))) (points_of found.old) (points_of found.new)) }
 {
     set_out(
         criterion, query, connection, first, None, found, set_outs, labels,
     )?;
     for place in begin..end {
         let walk = source.footpath_into(connection.from as usize, place);
-        board_from(criterion, stops, ridden, walk, place, first, connection.dep)?;
         set_out(
             criterion,
             query,
@@ -230,14 +245,43 @@ fn board_walks<S: ConnSource, C: Criterion>(
     Ok(())
 }
 
-/// Boards a connection, if passengers may get on there and its trip has labels: offers the bag of every stop its boardings, and the
-/// points found its settings out.
+// Goes over the footpaths into a connection's start, from a place up to before another, and boards after each.
+fn board_walks<S: ConnSource, C: Criterion>(
+    source: &S,
+    criterion: &C,
+    connection: &Connection,
+    first: u32,
+    stops: &mut Stops<C>,
+    ridden: &[Ridden<C::V>],
+    begin: usize,
+    end: usize,
+) -> Result<(), AllocError>
+    requires from { connection.now.from < (S.timetable source.now).stops }
+    requires into { (k : ℕ) (f : Footpath) → At (S.timetable source.now).footpaths k f → begin ≤ k → k < end → f.to ≡ connection.now.from }
+    requires within { end ≤ length (S.timetable source.now).footpaths }
+    requires order { begin ≤ end }
+    requires stops { AreStops C.rules criterion.now (S.timetable source.now).stops stops.old }
+    requires ridden { (r : _) → Contains ridden.now r → Admits (C.rules criterion.now) r.value }
+    ensures stops { OnOk result (AreStops C.rules criterion.now (S.timetable source.now).stops stops.new) }
+    ensures steps { OnOk result (Extends (steps_of stops.old.lists) (steps_of stops.new.lists)) }
+    ensures takes { OnOk result ((labels : _) → AreRidden (C.rules criterion.now) labels ridden.now → ((l : Point _) → Contains labels l → Admits (C.rules criterion.now) l.value) → (exits : List Exit) (set_outs : List SetOut) (stop : ℕ) → Takes (C.rules criterion.now) (S.timetable source.now).footpaths (story exits (steps_of stops.old.lists) set_outs) (story exits (steps_of stops.new.lists) set_outs) (λ tags. each_of (StandsBetween (S.timetable source.now).footpaths begin end) (boardings_by (C.rules criterion.now) tags first connection.now stop labels)) (points_at stops.old stop) (points_at stops.new stop)) }
+{
+    for place in begin..end {
+        let walk = source.footpath_into(connection.from as usize, place);
+        board_from(criterion, stops, ridden, walk, place, first, connection.dep)?;
+    }
+    Ok(())
+}
+
+/// Boards a connection, if passengers may get on there and its trip has labels: offers the points found its settings out, and then the
+/// bag of every stop its boardings by the labels that aren't bettered.
 pub fn board<S: ConnSource, C: Criterion>(
     source: &S,
     criterion: &C,
     query: &Query,
     connection: &Connection,
     first: u32,
+    bound: &[C::V],
     stops: &mut Stops<C>,
     found: &mut Bag<C>,
     set_outs: &mut Vec<SetOut>,
@@ -246,13 +290,14 @@ pub fn board<S: ConnSource, C: Criterion>(
 ) -> Result<(), AllocError>
     requires place { first < length (S.timetable source.now).connections }
     requires connection { connection.now ≡ connection_at (S.timetable source.now) first }
+    requires bound { (b : _) → Contains bound.now b → Admits (C.rules criterion.now) b }
     requires stops { AreStops C.rules criterion.now (S.timetable source.now).stops stops.old }
     requires found { criterion_of found.old ≡ criterion.now }
     requires labels { criterion_of labels.now ≡ criterion.now }
     ensures stops { OnOk result (AreStops C.rules criterion.now (S.timetable source.now).stops stops.new) }
     ensures found { OnOk result (criterion_of found.new ≡ criterion.now) }
     ensures grows { OnOk result ((exits : List Exit) → Grows (story exits (steps_of stops.old.lists) set_outs.old.items) (story exits (steps_of stops.new.lists) set_outs.new.items)) }
-    ensures boards { OnOk result ((exits : List Exit) (stop : ℕ) → Takes (C.rules criterion.now) (S.timetable source.now).footpaths (story exits (steps_of stops.old.lists) set_outs.old.items) (story exits (steps_of stops.new.lists) set_outs.new.items) (λ tags. boardings (C.rules criterion.now) (S.timetable source.now) tags first stop (points_of labels.now)) (points_at stops.old stop) (points_at stops.new stop)) }
+    ensures boards { OnOk result ((exits : List Exit) (stop : ℕ) → Takes (C.rules criterion.now) (S.timetable source.now).footpaths (story exits (steps_of stops.old.lists) set_outs.old.items) (story exits (steps_of stops.new.lists) set_outs.new.items) (λ tags. boardings (C.rules criterion.now) (S.timetable source.now) tags first stop (carried (C.rules criterion.now) bound.now (points_of labels.now))) (points_at stops.old stop) (points_at stops.new stop)) }
     ensures sets_out { OnOk result ((exits : List Exit) → Takes (C.rules criterion.now) (S.timetable source.now).footpaths (story exits (steps_of stops.old.lists) set_outs.old.items) (story exits (steps_of stops.new.lists) set_outs.new.items) (λ tags. settings_out (C.rules criterion.now) (S.timetable source.now) query.now tags first (points_of labels.now)) (points_of found.old) (points_of found.new)) }
 {
     if !connection.board {
@@ -261,11 +306,16 @@ pub fn board<S: ConnSource, C: Criterion>(
     if labels.len() == 0 {
         return Ok(());
     }
-    ride_labels(criterion, labels, ridden)?;
     let (begin, end) = source.walks_into(connection.from as usize);
+    set_out_walks(
+        source, criterion, query, connection, first, found, set_outs, labels, begin, end,
+    )?;
+    ride_labels(criterion, bound, labels, ridden)?;
+    if ridden.len() == 0 {
+        return Ok(());
+    }
     board_walks(
-        source, criterion, query, connection, first, stops, found, set_outs, labels, ridden, begin,
-        end,
+        source, criterion, connection, first, stops, ridden, begin, end,
     )?;
     Ok(())
 }

@@ -11,6 +11,7 @@ mod adding;
 mod alight;
 mod answering;
 mod board;
+mod bound;
 #[cfg(test)]
 mod examples;
 mod found;

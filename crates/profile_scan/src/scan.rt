@@ -13,6 +13,7 @@ ghost use Rattle.profile_scan.specs.Kept.{AreWays, IsScan, kept_by, story_of};
 ghost use Rattle.profile_scan.specs.Matching.{ScanValue};
 ghost use Rattle.profile_scan.specs.Window.{falling};
 
+use crate::bound::Bound;
 use crate::step::step;
 use crate::stops::{Stops, no_stops};
 use crate::story::{Exit, SetOut};
@@ -24,7 +25,8 @@ use sources::ConnSource;
 use std::alloc::{AllocError, Global};
 use timetable::Query;
 
-/// What a scan keeps: the points of each stop, the labels of each trip, and the points found; and by number how one goes on from each.
+/// What a scan keeps: the points of each stop, the labels of each trip, and the points found and what they better; and by
+/// number how one goes on from each.
 #[derive(Drop)]
 pub struct Scan<C: Criterion> {
     pub stops: Stops<C>,
@@ -32,6 +34,7 @@ pub struct Scan<C: Criterion> {
     pub exits: Vec<Exit>,
     pub found: Bag<C>,
     pub set_outs: Vec<SetOut>,
+    pub bound: Bound<C::V>,
     // room for the labels of one trip, after the ride
     pub ridden: Vec<Ridden<C::V>>,
 }
@@ -47,6 +50,7 @@ fn nothing_read<C: Criterion>(
     ensures bags { IfOk result (λ scan. (stop : ℕ) → (kept_by scan).bag stop ≡ []) }
     ensures labels { IfOk result (λ scan. (trip : ℕ) → (kept_by scan).labels trip ≡ []) }
     ensures found { IfOk result (λ scan. points_of scan.found ≡ []) }
+    ensures bound { IfOk result (λ scan. scan.bound.values.items ≡ []) }
 {
     let stops = no_stops(alloc, criterion, stops)?;
     let labels = no_labels(alloc, trips)?;
@@ -57,6 +61,7 @@ fn nothing_read<C: Criterion>(
         exits: Vec::new(alloc),
         found,
         set_outs: Vec::new(alloc),
+        bound: Bound::new(alloc),
         ridden: Vec::new(alloc),
     })
 }

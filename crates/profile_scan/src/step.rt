@@ -1,11 +1,12 @@
 //! One connection: first the labels of its trip, then by them every bag and the points found.
 
-ghost use Rattle.std.specs.Prelude.{◌≡◌, ◌≢◌, ◌<◌, ℕ, true, List, None, OnOk, length, vec_len};
-ghost use Rattle.criteria.specs.Laws.{IsTime};
+ghost use Rattle.std.specs.Prelude.{◌≡◌, ◌≢◌, ◌<◌, ◌+◌, ℕ, true, List, None, OnOk, Contains, length, vec_len};
+ghost use Rattle.criteria.specs.Laws.{Admits, IsTime};
 ghost use Rattle.timetable.specs.Journeys.{connection_at};
 ghost use Rattle.bags.specs.Bag.{criterion_of, points_of};
 ghost use Rattle.fronts.specs.Lists.{IsSound, steps_of};
 ghost use Rattle.profile_scan.specs.Steps.{leavings, boardings, settings_out, IsIdle, IsStep};
+ghost use Rattle.profile_scan.specs.Bound.{AreBounds, carried};
 ghost use Rattle.profile_scan.specs.Story.{Grows, story, told};
 ghost use Rattle.profile_scan.specs.Matching.{from_to};
 ghost use Rattle.profile_scan.specs.Adding.{Takes};
@@ -14,6 +15,7 @@ ghost use Rattle.profile_scan.specs.declared.story.Exit.{Exit};
 
 use crate::alight::alight;
 use crate::board::board;
+use crate::bound::renew;
 use crate::scan::Scan;
 use crate::stops::Stops;
 use crate::story::{Exit, SetOut};
@@ -33,6 +35,7 @@ fn step_in<S: ConnSource, C: Criterion>(
     way: Option<u32>,
     connection: &Connection,
     place: u32,
+    bound: &[C::V],
     stops: &mut Stops<C>,
     labels: &mut Bag<C>,
     exits: &mut Vec<Exit>,
@@ -44,6 +47,7 @@ fn step_in<S: ConnSource, C: Criterion>(
     requires connection { connection.now ≡ connection_at (S.timetable source.now) place }
     requires by { IsTime query.now.by }
     requires way { IsWay (S.timetable source.now) query.now.target connection.now.to way }
+    requires bound { (b : _) → Contains bound.now b → Admits (C.rules criterion.now) b }
     requires stops { AreStops C.rules criterion.now (S.timetable source.now).stops stops.old }
     requires labels { criterion_of labels.old ≡ criterion.now }
     requires found { criterion_of found.old ≡ criterion.now }
@@ -53,8 +57,8 @@ fn step_in<S: ConnSource, C: Criterion>(
     ensures takes { OnOk result ((mid : List Exit)
         × Grows (story exits.old.items (steps_of stops.old.lists) set_outs.old.items) (story mid (steps_of stops.old.lists) set_outs.old.items)
         × Grows (story mid (steps_of stops.old.lists) set_outs.old.items) (story exits.new.items (steps_of stops.new.lists) set_outs.new.items)
-        × Takes (C.rules criterion.now) (S.timetable source.now).footpaths (story exits.old.items (steps_of stops.old.lists) set_outs.old.items) (story mid (steps_of stops.old.lists) set_outs.old.items) (λ tags. leavings (C.rules criterion.now) (S.timetable source.now) query.now tags place (points_at stops.old (connection_at (S.timetable source.now) place).to)) (points_of labels.old) (points_of labels.new)
-        × ((stop : ℕ) → Takes (C.rules criterion.now) (S.timetable source.now).footpaths (story mid (steps_of stops.old.lists) set_outs.old.items) (story exits.new.items (steps_of stops.new.lists) set_outs.new.items) (λ tags. boardings (C.rules criterion.now) (S.timetable source.now) tags place stop (points_of labels.new)) (points_at stops.old stop) (points_at stops.new stop))
+        × Takes (C.rules criterion.now) (S.timetable source.now).footpaths (story exits.old.items (steps_of stops.old.lists) set_outs.old.items) (story mid (steps_of stops.old.lists) set_outs.old.items) (λ tags. leavings (C.rules criterion.now) (S.timetable source.now) query.now tags place (carried (C.rules criterion.now) bound.now (points_at stops.old (connection_at (S.timetable source.now) place).to))) (points_of labels.old) (points_of labels.new)
+        × ((stop : ℕ) → Takes (C.rules criterion.now) (S.timetable source.now).footpaths (story mid (steps_of stops.old.lists) set_outs.old.items) (story exits.new.items (steps_of stops.new.lists) set_outs.new.items) (λ tags. boardings (C.rules criterion.now) (S.timetable source.now) tags place stop (carried (C.rules criterion.now) bound.now (points_of labels.new))) (points_at stops.old stop) (points_at stops.new stop))
         × Takes (C.rules criterion.now) (S.timetable source.now).footpaths (story mid (steps_of stops.old.lists) set_outs.old.items) (story exits.new.items (steps_of stops.new.lists) set_outs.new.items) (λ tags. settings_out (C.rules criterion.now) (S.timetable source.now) query.now tags place (points_of labels.new)) (points_of found.old) (points_of found.new)) }
 {
     let head = stops.heads[connection.to as usize];
@@ -64,13 +68,14 @@ fn step_in<S: ConnSource, C: Criterion>(
         way,
         connection,
         place,
+        bound,
         labels,
         exits,
         &stops.lists,
         head,
     )?;
     board(
-        source, criterion, query, connection, place, stops, found, set_outs, labels, ridden,
+        source, criterion, query, connection, place, bound, stops, found, set_outs, labels, ridden,
     )?;
     Ok(())
 }
@@ -141,6 +146,8 @@ pub fn step<S: ConnSource, C: Criterion>(
     requires by { IsTime query.now.by }
     requires ways { AreWays (S.timetable source.now) query.now.target ways.now }
     requires scan { IsScan C.rules criterion.now (S.timetable source.now).stops (S.timetable source.now).trips scan.old }
+    requires bound { AreBounds (C.rules criterion.now) (S.timetable source.now) (points_of scan.old.found) (place + 1) scan.old.bound.values.items }
+    ensures bound { OnOk result (AreBounds (C.rules criterion.now) (S.timetable source.now) (points_of scan.new.found) place scan.new.bound.values.items) }
     ensures scan { OnOk result (IsScan C.rules criterion.now (S.timetable source.now).stops (S.timetable source.now).trips scan.new) }
     ensures step { OnOk result (IsStep (C.rules criterion.now) (S.timetable source.now) query.now (from_to (told (S.timetable source.now).footpaths (story_of scan.old)) (told (S.timetable source.now).footpaths (story_of scan.new))) place (kept_by scan.old) (kept_by scan.new)) }
 {
@@ -148,6 +155,13 @@ pub fn step<S: ConnSource, C: Criterion>(
     if is_idle(scan, query, way, connection) {
         return Ok(());
     }
+    renew(
+        criterion,
+        &scan.found,
+        scan.set_outs.len(),
+        connection.dep,
+        &mut scan.bound,
+    )?;
     let slot = place_of(alloc, criterion, &mut scan.labels, connection.trip)?;
     let labels = &mut scan.labels.bags[slot];
     step_in(
@@ -157,6 +171,7 @@ pub fn step<S: ConnSource, C: Criterion>(
         way,
         connection,
         place,
+        &scan.bound.values,
         &mut scan.stops,
         labels,
         &mut scan.exits,

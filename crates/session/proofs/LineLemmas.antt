@@ -1,6 +1,6 @@
 -- What a session has read, done and written so far, and how it ends.
-use Rattle.std.proofs.Common.{◌≡◌, ◌⊎◌, ◌<◌, ◌+◌, ◌-◌, ◌^◌, ℕ, suc, List, [], ◌∷◌, ◌++◌, Bool, true, false, MatchBool, length, take, drop, Option, Ok, Err, refl, sym, ap, ◌∙◌, subst, append_assoc, append-nil, length-append, arith, inl, inr}
-use Rattle.std.proofs.lemmas.List.{take-append-drop, take-append-le, take_all}
+use Rattle.std.proofs.Common.{◌≡◌, ◌⊎◌, ◌<◌, ◌≤◌, ◌+◌, ◌-◌, ◌^◌, ℕ, suc, List, [], ◌∷◌, ◌++◌, Bool, true, false, MatchBool, length, take, Option, Ok, Err, refl, sym, ap, ◌∙◌, subst, append_assoc, append-nil, length-append, arith, inl, inr}
+use Rattle.std.proofs.lemmas.List.{take-append-le, take_all}
 use Rattle.std.specs.Io.KnownBytes.{Appends, Consumes, IsAtEnd}
 use Rattle.std.proofs.KnownBytes.{Appends-nil, Appends-trans}
 use Rattle.epochs.specs.Seats.{SeatValue}
@@ -13,7 +13,7 @@ use Rattle.lines.proofs.GivenLemmas.{HasGiven-start, HasGiven-read, HasGiven-end
 use Rattle.orders.specs.Ordering.{OrderValue}
 use Rattle.session.specs.declared.fault.Ended.{Ended}
 use Rattle.session.specs.declared.fault.SessionFault.{SessionFault}
-use Rattle.session.specs.Sessions.{AreTurns, Serves, lines_in, text_of}
+use Rattle.session.specs.Sessions.{AreShort, AreTurns, IsCutShort, Serves, lines_in, text_of}
 use Rattle.session.specs.Turns.{Turn, TurnsTo}
 use Rattle.session.proofs.TurnLemmas.{AreTurns-more, lines_in-more, text_of-more}
 
@@ -24,9 +24,10 @@ pub record SoFar (number : ℕ) (to_read read_then : Option (List ℕ)) (unread 
   pub writes : Appends contents contents_then (text_of turns)
   pub does : AreTurns number a asked turns b asked_then
   pub many : length turns ≡ count
+  pub short : AreShort turns
 
 pub SoFar-start : (number : ℕ) (known : Option (List ℕ)) (unread : List ℕ) (contents : Option (List ℕ)) (a : SeatValue) (asked : List OrderValue) → unread ≡ [] → SoFar number known known unread contents contents a asked a asked 0
-SoFar-start number known unread contents a asked none = record { turns = []; given = HasGiven-start known unread none; writes = Appends-nil contents; does = (refl, refl); many = refl }
+SoFar-start number known unread contents a asked none = record { turns = []; given = HasGiven-start known unread none; writes = Appends-nil contents; does = (refl, refl); many = refl; short = tt }
 
 -- a turn for a line: what it does, and how much of its reply is written
 pub record TurnOf (number : ℕ) (line : List ℕ) (b : SeatValue) (between : List OrderValue) (after : SeatValue) (asked_then : List OrderValue) (contents contents_then : Option (List ℕ)) (written : ℕ) : Type 0 where
@@ -41,6 +42,16 @@ more_lines turns t line is = lines_in-more turns t ∙ ap (λ (l : List ℕ). li
 lines_many : (turns : List Turn) → length (lines_in turns) ≡ length turns
 lines_many [] = refl
 lines_many (t ∷ turns) = ap suc (lines_many turns)
+
+one_turn_more : (turns : List Turn) (t : Turn) → length (turns ++ t ∷ []) ≡ length turns + 1
+one_turn_more turns t = length-append turns (t ∷ [])
+
+short_turn : (t : Turn) (line : List ℕ) → t.line ≡ line → length line ≤ 16_777_216 → length t.line ≤ 16_777_216
+short_turn t line is short = subst (λ (l : List ℕ). length l ≤ 16_777_216) (sym is) short
+
+AreShort-more : (turns : List Turn) (t : Turn) → AreShort turns → length t.line ≤ 16_777_216 → AreShort (turns ++ t ∷ [])
+AreShort-more [] t all short = (short, tt)
+AreShort-more (u ∷ turns) t all short = (all.0, AreShort-more turns t all.1 short)
 
 -- the lines of all that was read, of which so many were given first
 first_of : (given rest : List (List ℕ)) (all : List (List ℕ)) → all ≡ given ++ rest → given ≡ take (length given) all
@@ -61,6 +72,7 @@ SoFar-more number to_read known later unread bytes contents wrote writes a b aft
       writes = subst (λ (xs : List ℕ). Appends contents writes xs) text (Appends-trans contents wrote writes (text_of so_far.turns) t.reply so_far.writes written);
       does = AreTurns-more number a b after asked between asked_then so_far.turns t so_far.does turn;
       many = omega (arith, so_far.many, length-append so_far.turns (t ∷ []));
+      short = AreShort-more so_far.turns t so_far.short (short_turn t gives.line line_is gives.short);
     }
 
 -- a count rose, or didn't
@@ -72,9 +84,9 @@ not_rose first now same up = absurd (omega (arith, same, up))
 
 -- nothing is left
 pub ends_at_end : (number : ℕ) (to_read known later : Option (List ℕ)) (unread bytes : List ℕ) (contents wrote : Option (List ℕ)) (a b : SeatValue) (asked asked_then : List OrderValue) (count : ℕ) (read_failed write_failed : Type 0) (ended : Ended)
-    → SoFar number to_read known unread contents wrote a asked b asked_then count → Consumes known later bytes → unread ++ bytes ≡ [] → IsAtEnd later → (¬ read_failed) → (¬ write_failed)
+    → count ≤ 1_000_000 → SoFar number to_read known unread contents wrote a asked b asked_then count → Consumes known later bytes → unread ++ bytes ≡ [] → IsAtEnd later → (¬ read_failed) → (¬ write_failed)
     → Serves number (Ok ended) to_read later contents wrote read_failed write_failed a asked b asked_then
-ends_at_end number to_read known later unread bytes contents wrote a b asked asked_then count read_failed write_failed ended so_far came none end no_read no_write =
+ends_at_end number to_read known later unread bytes contents wrote a b asked asked_then count read_failed write_failed ended few so_far came none end no_read no_write =
     let more = HasGiven-read to_read known later unread bytes (lines_in so_far.turns) so_far.given came in
     record {
       read = more.read;
@@ -83,15 +95,17 @@ ends_at_end number to_read known later unread bytes contents wrote a b asked ask
       reads = more.consumed;
       writes = so_far.writes;
       does = so_far.does;
+      few = omega (arith, so_far.many, few);
+      short = so_far.short;
       ends = (end, no_read, no_write, sym (HasGiven-nothing to_read later (unread ++ bytes) (lines_in so_far.turns) more none), refl);
     }
 
 -- the rest was the last line
 pub ends_with_rest : (number : ℕ) (to_read known later : Option (List ℕ)) (unread bytes : List ℕ) (contents wrote writes : Option (List ℕ)) (a b after : SeatValue) (asked between asked_then : List OrderValue) (count : ℕ) (new : LineReader) (read_failed write_failed : Type 0) (ended : Ended)
-    → SoFar number to_read known unread contents wrote a asked b between count → Consumes known later bytes → GivesRest (unread ++ bytes) new (IsAtEnd later)
+    → count < 1_000_000 → SoFar number to_read known unread contents wrote a asked b between count → Consumes known later bytes → GivesRest (unread ++ bytes) new (IsAtEnd later)
     → (t : Turn) → t.line ≡ unread ++ bytes → TurnsTo number b between t after asked_then → Appends wrote writes t.reply → (¬ read_failed) → (¬ write_failed)
     → Serves number (Ok ended) to_read later contents writes read_failed write_failed a asked after asked_then
-ends_with_rest number to_read known later unread bytes contents wrote writes a b after asked between asked_then count new read_failed write_failed ended so_far came gives t line_is turn written no_read no_write =
+ends_with_rest number to_read known later unread bytes contents wrote writes a b after asked between asked_then count new read_failed write_failed ended few so_far came gives t line_is turn written no_read no_write =
     let more = HasGiven-read to_read known later unread bytes (lines_in so_far.turns) so_far.given came in
     let lines : lines_in (so_far.turns ++ t ∷ []) ≡ lines_of more.read = more_lines so_far.turns t (unread ++ bytes) line_is ∙ sym (HasGiven-rest to_read later (unread ++ bytes) (lines_in so_far.turns) more gives.one gives.some) in
     let text : text_of so_far.turns ++ t.reply ≡ text_of (so_far.turns ++ t ∷ []) = sym (text_of-more so_far.turns t) in
@@ -102,18 +116,20 @@ ends_with_rest number to_read known later unread bytes contents wrote writes a b
       reads = more.consumed;
       writes = subst (λ (xs : List ℕ). Appends contents writes xs) text (Appends-trans contents wrote writes (text_of so_far.turns) t.reply so_far.writes written);
       does = AreTurns-more number a b after asked between asked_then so_far.turns t so_far.does turn;
+      few = omega (arith, so_far.many, few, one_turn_more so_far.turns t);
+      short = AreShort-more so_far.turns t so_far.short (short_turn t (unread ++ bytes) line_is gives.short);
       ends = (gives.end, no_read, no_write, lines, refl);
     }
 
 -- a reply isn't wholly written: these bytes were read, and of all their lines those given are the first
 cut_short : (number : ℕ) (to_read later : Option (List ℕ)) (read : List ℕ) (rest : List (List ℕ)) (line : List ℕ) (contents wrote writes : Option (List ℕ)) (a b after : SeatValue) (asked between asked_then : List OrderValue) (read_failed write_failed : Type 0) (turns : List Turn)
     → Consumes to_read later read → AreTurns number a asked turns b between → Appends contents wrote (text_of turns) → lines_of read ≡ (lines_in turns ++ line ∷ []) ++ rest
+    → length turns < 1_000_000 → AreShort turns → length line ≤ 16_777_216
     → (t : Turn) → t.line ≡ line → TurnsTo number b between t after asked_then → (n : ℕ) → Appends wrote writes (take n t.reply) → (¬ read_failed) → write_failed
     → Serves number (Err SessionFault.WriteFailed) to_read later contents writes read_failed write_failed a asked after asked_then
-cut_short number to_read later read rest line contents wrote writes a b after asked between asked_then read_failed write_failed turns consumed does before all t line_is turn n written no_read failed =
+cut_short number to_read later read rest line contents wrote writes a b after asked between asked_then read_failed write_failed turns consumed does before all few short short_line t line_is turn n written no_read failed =
     let lines : lines_of read ≡ lines_in (turns ++ t ∷ []) ++ rest = all ∙ ap (λ (ls : List (List ℕ)). ls ++ rest) (sym (more_lines turns t line line_is)) in
-    let text : text_of (turns ++ t ∷ []) ≡ (text_of turns ++ take n t.reply) ++ drop n t.reply =
-    text_of-more turns t ∙ ap (λ (xs : List ℕ). text_of turns ++ xs) (sym (take-append-drop n t.reply)) ∙ sym (append_assoc (text_of turns) (take n t.reply) (drop n t.reply)) in
+    let cut : IsCutShort (text_of turns ++ take n t.reply) (turns ++ t ∷ []) = record { answered = turns; last = t; count = n; turns_are = refl; written_is = refl } in
     record {
       read = read;
       written = text_of turns ++ take n t.reply;
@@ -121,35 +137,39 @@ cut_short number to_read later read rest line contents wrote writes a b after as
       reads = consumed;
       writes = Appends-trans contents wrote writes (text_of turns) (take n t.reply) before written;
       does = AreTurns-more number a b after asked between asked_then turns t does turn;
-      ends = (failed, no_read, (length (lines_in (turns ++ t ∷ [])), first_of (lines_in (turns ++ t ∷ [])) rest (lines_of read) lines), (drop n t.reply, text));
+      few = omega (arith, few, one_turn_more turns t);
+      short = AreShort-more turns t short (short_turn t line line_is short_line);
+      ends = (failed, no_read, (length (lines_in (turns ++ t ∷ [])), first_of (lines_in (turns ++ t ∷ [])) rest (lines_of read) lines), cut);
     }
 
 pub cut_short_at_line : (number : ℕ) (to_read known later : Option (List ℕ)) (unread bytes : List ℕ) (contents wrote writes : Option (List ℕ)) (a b after : SeatValue) (asked between asked_then : List OrderValue) (count : ℕ) (new : LineReader) (read_failed write_failed : Type 0)
-    → SoFar number to_read known unread contents wrote a asked b between count → Consumes known later bytes → (gives : GivesEnded (unread ++ bytes) new)
+    → count < 1_000_000 → SoFar number to_read known unread contents wrote a asked b between count → Consumes known later bytes → (gives : GivesEnded (unread ++ bytes) new)
     → (t : Turn) → t.line ≡ gives.line → TurnsTo number b between t after asked_then → (n : ℕ) → Appends wrote writes (take n t.reply) → (¬ read_failed) → write_failed
     → Serves number (Err SessionFault.WriteFailed) to_read later contents writes read_failed write_failed a asked after asked_then
-cut_short_at_line number to_read known later unread bytes contents wrote writes a b after asked between asked_then count new read_failed write_failed so_far came gives t line_is turn n written no_read failed =
+cut_short_at_line number to_read known later unread bytes contents wrote writes a b after asked between asked_then count new read_failed write_failed few so_far came gives t line_is turn n written no_read failed =
     let given = HasGiven-ended to_read known later unread bytes (lines_in so_far.turns) new so_far.given came gives in
     cut_short number to_read later given.read (lines_of (unread_of new)) gives.line contents wrote writes a b after asked between asked_then read_failed write_failed so_far.turns given.consumed so_far.does so_far.writes
-    (IsCut-lines given.read (unread_of new) (lines_in so_far.turns ++ gives.line ∷ []) given.cut) t line_is turn n written no_read failed
+    (IsCut-lines given.read (unread_of new) (lines_in so_far.turns ++ gives.line ∷ []) given.cut)
+    (omega (arith, few, so_far.many)) so_far.short gives.short t line_is turn n written no_read failed
 
 pub cut_short_at_rest : (number : ℕ) (to_read known later : Option (List ℕ)) (unread bytes : List ℕ) (contents wrote writes : Option (List ℕ)) (a b after : SeatValue) (asked between asked_then : List OrderValue) (count : ℕ) (new : LineReader) (read_failed write_failed : Type 0)
-    → SoFar number to_read known unread contents wrote a asked b between count → Consumes known later bytes → GivesRest (unread ++ bytes) new (IsAtEnd later)
+    → count < 1_000_000 → SoFar number to_read known unread contents wrote a asked b between count → Consumes known later bytes → GivesRest (unread ++ bytes) new (IsAtEnd later)
     → (t : Turn) → t.line ≡ unread ++ bytes → TurnsTo number b between t after asked_then → (n : ℕ) → Appends wrote writes (take n t.reply) → (¬ read_failed) → write_failed
     → Serves number (Err SessionFault.WriteFailed) to_read later contents writes read_failed write_failed a asked after asked_then
-cut_short_at_rest number to_read known later unread bytes contents wrote writes a b after asked between asked_then count new read_failed write_failed so_far came gives t line_is turn n written no_read failed =
+cut_short_at_rest number to_read known later unread bytes contents wrote writes a b after asked between asked_then count new read_failed write_failed few so_far came gives t line_is turn n written no_read failed =
     let more = HasGiven-read to_read known later unread bytes (lines_in so_far.turns) so_far.given came in
     let lines : lines_of more.read ≡ (lines_in so_far.turns ++ (unread ++ bytes) ∷ []) ++ [] = HasGiven-rest to_read later (unread ++ bytes) (lines_in so_far.turns) more gives.one gives.some ∙ sym (append-nil (lines_in so_far.turns ++ (unread ++ bytes) ∷ [])) in
-    cut_short number to_read later more.read [] (unread ++ bytes) contents wrote writes a b after asked between asked_then read_failed write_failed so_far.turns more.consumed so_far.does so_far.writes lines t line_is turn n written no_read failed
+    cut_short number to_read later more.read [] (unread ++ bytes) contents wrote writes a b after asked between asked_then read_failed write_failed so_far.turns more.consumed so_far.does so_far.writes lines
+    (omega (arith, few, so_far.many)) so_far.short gives.short t line_is turn n written no_read failed
 
 -- a line can't be read: the lines before it are answered
 pub read_fails : (number : ℕ) (to_read known later : Option (List ℕ)) (unread bytes : List ℕ) (contents wrote : Option (List ℕ)) (a b : SeatValue) (asked asked_then : List OrderValue) (count : ℕ) (read_failed write_failed : Type 0)
-    → SoFar number to_read known unread contents wrote a asked b asked_then count → Consumes known later bytes → IsOneLine (unread ++ bytes) → read_failed ⊎ (16_777_216 < length (unread ++ bytes)) → (¬ write_failed)
+    → count ≤ 1_000_000 → SoFar number to_read known unread contents wrote a asked b asked_then count → Consumes known later bytes → IsOneLine (unread ++ bytes) → read_failed ⊎ (length (unread ++ bytes) ≡ 16_777_217) → (¬ write_failed)
     → Serves number (Err SessionFault.ReadFailed) to_read later contents wrote read_failed write_failed a asked b asked_then
-read_fails number to_read known later unread bytes contents wrote a b asked asked_then count read_failed write_failed so_far came one failed no_write =
+read_fails number to_read known later unread bytes contents wrote a b asked asked_then count read_failed write_failed few so_far came one failed no_write =
     let more = HasGiven-read to_read known later unread bytes (lines_in so_far.turns) so_far.given came in
     let rest : rest_of more.read ≡ unread ++ bytes = IsCut-rest more.read (unread ++ bytes) (lines_in so_far.turns) one more.cut in
-    let why : read_failed ⊎ (16_777_216 < length (rest_of more.read)) = subst (λ (xs : List ℕ). read_failed ⊎ (16_777_216 < length xs)) (sym rest) failed in
+    let why : read_failed ⊎ (length (rest_of more.read) ≡ 16_777_217) = subst (λ (xs : List ℕ). read_failed ⊎ (length xs ≡ 16_777_217)) (sym rest) failed in
     record {
       read = more.read;
       written = text_of so_far.turns;
@@ -157,6 +177,8 @@ read_fails number to_read known later unread bytes contents wrote a b asked aske
       reads = more.consumed;
       writes = so_far.writes;
       does = so_far.does;
+      few = omega (arith, so_far.many, few);
+      short = so_far.short;
       ends = (why, no_write, sym (IsCut-whole more.read (unread ++ bytes) (lines_in so_far.turns) one more.cut), refl);
     }
 
@@ -177,11 +199,13 @@ too_many number to_read known later unread bytes contents wrote a b asked asked_
       reads = more.consumed;
       writes = so_far.writes;
       does = so_far.does;
+      few = omega (arith, so_far.many, million);
+      short = so_far.short;
       ends = (no_read, no_write, so_far.many ∙ million, long, first_of (lines_in so_far.turns) (lines_of (unread ++ bytes)) (lines_of more.read) all ∙ ap (λ (n : ℕ). take n (lines_of more.read)) full, refl);
     }
 
 -- why a read fails
-pub why_failed : (first before now long : ℕ) → first < 2 ^ 64 - 1 → before ≡ first → (now ≡ one_more before) ⊎ ((now ≡ before) × (16_777_216 < long)) → (first < now) ⊎ (16_777_216 < long)
+pub why_failed : (first before now long : ℕ) → first < 2 ^ 64 - 1 → before ≡ first → (now ≡ one_more before) ⊎ ((now ≡ before) × (long ≡ 16_777_217)) → (first < now) ⊎ (long ≡ 16_777_217)
 why_failed first before now long below same (inl more) = inl (rose first before now below same more)
 why_failed first before now long below same (inr too_long) = inr too_long.1
 

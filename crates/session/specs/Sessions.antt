@@ -1,5 +1,5 @@
 -- A session: turns one after the other, one for each line that was read.
-use Rattle.std.specs.Prelude.{◌≡◌, ◌≢◌, ◌<◌, ◌⊎◌, ◌++◌, ◌∷◌, ℕ, List, [], None, length, take, Option, Result, Ok, Err}
+use Rattle.std.specs.Prelude.{◌≡◌, ◌≢◌, ◌<◌, ◌≤◌, ◌⊎◌, ◌++◌, ◌∷◌, ℕ, List, [], None, length, take, Option, Result, Ok, Err}
 use Rattle.std.specs.Io.KnownBytes.{Appends, Consumes, IsAtEnd}
 use Rattle.epochs.specs.declared.seats.Answer.{Answer}
 use Rattle.epochs.specs.Seats.{SeatValue}
@@ -33,8 +33,18 @@ abbrev pub orders_of : List Turn → List OrderValue
 orders_of [] = []
 orders_of (t ∷ turns) = t.orders ++ orders_of turns
 
-abbrev pub IsBeginning : List ℕ → List ℕ → Type 0
-IsBeginning front whole = (behind : List ℕ) × (whole ≡ front ++ behind)
+-- no line goes on for longer
+abbrev pub AreShort : List Turn → Type 0
+AreShort [] = Unit {0}
+AreShort (t ∷ turns) = (length t.line ≤ 16_777_216) × AreShort turns
+
+-- the replies are written, the last one not wholly; nothing is done behind it
+pub record IsCutShort (written : List ℕ) (turns : List Turn) : Type 0 where
+  pub answered : List Turn
+  pub last : Turn
+  pub count : ℕ  -- of the bytes of the last reply
+  pub turns_are : turns ≡ answered ++ last ∷ []
+  pub written_is : written ≡ text_of answered ++ take count last.reply
 
 -- at the end what is held is given back
 abbrev pub LastRelease : ℕ → SeatValue → SeatValue → Type 0
@@ -45,18 +55,19 @@ abbrev pub EndsSo : Result Ended SessionFault → List ℕ → List ℕ → List
 -- all is read and answered
 EndsSo (Ok ended) read written turns at_end read_failed write_failed =
     at_end × (¬ read_failed) × (¬ write_failed) × (lines_in turns ≡ lines_of read) × (written ≡ text_of turns)
--- the lines before are answered
+-- the lines before are answered; of a line that goes on for longer than one may, one byte more is read
 EndsSo (Err SessionFault.ReadFailed) read written turns at_end read_failed write_failed =
-    (read_failed ⊎ (16_777_216 < length (rest_of read))) × (¬ write_failed) × (lines_in turns ≡ whole_lines read) × (written ≡ text_of turns)
+    (read_failed ⊎ (length (rest_of read) ≡ 16_777_217)) × (¬ write_failed) × (lines_in turns ≡ whole_lines read) × (written ≡ text_of turns)
 -- the last line that was read isn't answered, or not wholly
 EndsSo (Err SessionFault.WriteFailed) read written turns at_end read_failed write_failed =
-    write_failed × (¬ read_failed) × ((n : ℕ) × (lines_in turns ≡ take n (lines_of read))) × IsBeginning written (text_of turns)
+    write_failed × (¬ read_failed) × ((n : ℕ) × (lines_in turns ≡ take n (lines_of read))) × IsCutShort written turns
 -- the first million lines are answered, and a byte behind them was read
 EndsSo (Err SessionFault.TooManyRequests) read written turns at_end read_failed write_failed =
     (¬ read_failed) × (¬ write_failed) × (length turns ≡ 1_000_000) × (1_000_000 < length (lines_of read))
     × (lines_in turns ≡ take 1_000_000 (lines_of read)) × (written ≡ text_of turns)
 
--- what a session reads, does and writes. Its reader and its writer each have a count of failures, and know their bytes or don't
+-- what a session reads, does and writes: a million lines at most. Its reader and its writer each have a count of failures, and know
+-- their bytes or don't
 pub record Serves (number : ℕ) (result : Result Ended SessionFault)
     (to_read read_then contents contents_then : Option (List ℕ)) (read_failed write_failed : Type 0)
     (a : SeatValue) (asked : List OrderValue) (b : SeatValue) (asked_then : List OrderValue) : Type 0 where
@@ -66,4 +77,6 @@ pub record Serves (number : ℕ) (result : Result Ended SessionFault)
   pub reads : Consumes to_read read_then read
   pub writes : Appends contents contents_then written
   pub does : AreTurns number a asked turns b asked_then
+  pub few : length turns ≤ 1_000_000
+  pub short : AreShort turns
   pub ends : EndsSo result read written turns (IsAtEnd read_then) read_failed write_failed

@@ -92,6 +92,10 @@ fn image(alloc: Global, change: u32) -> Result<Arc<Verified, Global>, Fail> {
     if let Some(word) = words.get_mut(34) {
         *word = change;
     }
+    image_of(alloc, words)
+}
+
+fn image_of(alloc: Global, words: Vec<u32>) -> Result<Arc<Verified, Global>, Fail> {
     match verify(alloc, words) {
         Ok(image) => match Arc::new(alloc, image) {
             Ok(shared) => Ok(shared),
@@ -106,8 +110,26 @@ fn image(alloc: Global, change: u32) -> Result<Arc<Verified, Global>, Fail> {
     }
 }
 
-fn new_shelves(alloc: Global) -> Result<(SoloShelves, LoaderSeat, WorkerSeat), Fail> {
-    match SoloShelves::new(alloc, image(alloc, 0)?) {
+/// The sample with a footpath of 900 seconds from B to C.
+fn image_with_a_footpath(alloc: Global) -> Result<Arc<Verified, Global>, Fail> {
+    let sample = sample_words();
+    let (front, back) = sample.split_at(35);
+    let mut words = front.to_vec(alloc)?;
+    words.extend_from_slice(&[1, 900])?;
+    words.extend_from_slice(back)?;
+    for place in [5, 30] {
+        if let Some(word) = words.get_mut(place) {
+            *word = 4;
+        }
+    }
+    image_of(alloc, words)
+}
+
+fn new_shelves(
+    alloc: Global,
+    first: Arc<Verified, Global>,
+) -> Result<(SoloShelves, LoaderSeat, WorkerSeat), Fail> {
+    match SoloShelves::new(alloc, first) {
         Ok(made) => Ok(made),
         Err(_) => Err(AllocError.into()),
     }
@@ -159,11 +181,25 @@ fn served<R: Wait>(
     room: usize,
     is_failing: bool,
 ) -> Result<(Result<Ended, SessionFault>, Vec<u8>), Fail> {
-    let (shelves, loader, mut seat) = new_shelves(alloc)?;
+    let (first, slow) = (image(alloc, 0)?, image(alloc, 121)?);
+    served_from(rt, alloc, first, slow, reader, room, is_failing)
+}
+
+// The same on shelves with a first image, beside the one of a feed.
+fn served_from<R: Wait>(
+    rt: &R,
+    alloc: Global,
+    first: Arc<Verified, Global>,
+    slow: Arc<Verified, Global>,
+    reader: Pieces<'_>,
+    room: usize,
+    is_failing: bool,
+) -> Result<(Result<Ended, SessionFault>, Vec<u8>), Fail> {
+    let (shelves, loader, mut seat) = new_shelves(alloc, first)?;
     let mut feeds = Vec::new(alloc);
     feeds.push(FeedImage {
         name: String::from_str(alloc, "slow")?,
-        image: image(alloc, 121)?,
+        image: slow,
     })?;
     let mut orders = SoloOrders::new(&shelves, loader, feeds);
     let mut reader = Counted::new(reader);
@@ -238,7 +274,7 @@ fn a_reader_that_fails_ends_the_session(rt: HostRuntime) -> Result<(), Fail> {
 
 #[test]
 fn a_million_requests_are_answered(rt: HostRuntime) -> Result<(), Fail> {
-    let (shelves, loader, mut seat) = new_shelves(rt.alloc())?;
+    let (shelves, loader, mut seat) = new_shelves(rt.alloc(), image(rt.alloc(), 0)?)?;
     let mut orders = SoloOrders::new(&shelves, loader, Vec::new(rt.alloc()));
     let mut reader = Counted::new(EmptyLines);
     let mut writer = Counted::new(Tally { bytes: 0 });
@@ -254,5 +290,31 @@ fn a_million_requests_are_answered(rt: HostRuntime) -> Result<(), Fail> {
     );
     assert!(&rt; ended == Err(SessionFault::TooManyRequests));
     assert_eq!(&rt; writer.into_inner().bytes, 31_000_000);
+    Ok(())
+}
+
+const BY_WALKING: &str =
+    "{\"do\":\"profile\",\"from\":\"A\",\"to\":\"C\",\"after\":\"07:00:00\",\"until\":\"09:00:00\",\"by\":\"10:00:00\",\"criterion\":\"arrival+trips+walk\"}";
+
+const WALKED_REPLIES: &str =
+    "{\"ok\":\"profile\",\"points\":[{\"arr\":\"08:20:00\",\"dep\":\"08:00:00\",\"journey\":\"ride 0 0 walk 1 1 0 ride 2 2\",\"trips\":2,\"walked\":0},{\"arr\":\"08:25:00\",\"dep\":\"08:00:00\",\"journey\":\"ride 0 0 walk 1 2 900\",\"trips\":1,\"walked\":900},{\"arr\":\"08:30:00\",\"dep\":\"08:00:00\",\"journey\":\"ride 0 1\",\"trips\":1,\"walked\":0}],\"version\":1,\"walk\":null}\n{\"feed\":\"slow\",\"ok\":\"load\"}\n{\"ok\":\"profile\",\"points\":[{\"arr\":\"08:20:00\",\"dep\":\"08:00:00\",\"journey\":\"ride 0 0 walk 1 1 60 ride 2 2\",\"trips\":2,\"walked\":60},{\"arr\":\"08:30:00\",\"dep\":\"08:00:00\",\"journey\":\"ride 0 1\",\"trips\":1,\"walked\":0}],\"version\":2,\"walk\":null}\n";
+
+/// What is walked is told where the criterion counts it: behind the last ride, and by a loop on the way.
+#[test]
+fn walked_seconds_are_told(rt: HostRuntime) -> Result<(), Fail> {
+    let alloc: Global = rt.alloc();
+    let mut bytes = Vec::new(alloc);
+    add_line(&mut bytes, BY_WALKING)?;
+    add_line(&mut bytes, "{\"do\":\"load\",\"feed\":\"slow\"}")?;
+    add_line(&mut bytes, BY_WALKING)?;
+    let reader = Pieces {
+        rest: &bytes,
+        most: 100_000,
+        is_failing: false,
+    };
+    let (first, slow) = (image_with_a_footpath(alloc)?, image(alloc, 60)?);
+    let (ended, written) = served_from(&rt, alloc, first, slow, reader, 10_000, true)?;
+    assert!(&rt; ended == Ok(Ended));
+    assert_eq!(&rt; str::from_utf8(&written).unwrap_or("?"), WALKED_REPLIES);
     Ok(())
 }

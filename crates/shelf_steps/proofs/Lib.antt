@@ -12,3 +12,4 @@ pub mod Loadings
 pub mod Says
 pub mod Events
 pub mod Stepping
+pub mod Shown

@@ -24,10 +24,10 @@ use Rattle.shelf_steps.proofs.WordsAfter.{few_counted}
 use Rattle.shelf_steps.proofs.Works.{held_on}
 
 module _ (table : Shelved) (l : LoaderView) (r : Ruled table) (at : IsLoader table l) where
-  is_loader : l ≡ r.loader
+  pub is_loader : l ≡ r.loader
   is_loader = (r.seats.each 0 (View.Loading l) at).1
 
-  knows : LoaderFits r.course l
+  pub knows : LoaderFits r.course l
   knows = subst (λ (x : LoaderView). LoaderFits r.course x) (sym is_loader) r.seats.loads
 
   same_shelf : (k : ℕ) (x : Shelf) → slice_get l.shelves k ≡ Some x → slice_get r.course.state.shelves k ≡ Some x

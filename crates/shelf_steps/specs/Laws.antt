@@ -5,13 +5,14 @@ use lib.ListN.{get_elem?}
 use Rattle.atomic_table.specs.Table.{State as Table}
 use Rattle.version_core.specs.declared.state.Shelf.{Shelf}
 use Rattle.version_core.specs.declared.state.Worker.{Worker}
-use Rattle.version_core.specs.Kept.{version_on, is_at}
+use Rattle.version_core.specs.State.{State}
+use Rattle.version_core.specs.Kept.{Kept, version_on, is_at}
 use Rattle.shelf_steps.specs.declared.edition.Edition.{Edition}
 use Rattle.shelf_steps.specs.declared.views.WorkerView.{WorkerView}
 use Rattle.shelf_steps.specs.declared.views.LoaderView.{LoaderView}
 use Rattle.shelf_steps.specs.declared.views.View.{View}
 use Rattle.shelf_steps.specs.Course.{Course, Goes, Begins, IsEdition}
-use Rattle.version_core.specs.Shown.{shelf_word}
+use Rattle.version_core.specs.Shown.{WordsShow, WorkerShows, LoaderShows, shelf_word}
 use Rattle.shelf_steps.specs.Ruled.{Ruled}
 
 abbrev pub Shelved : Type 0
@@ -76,3 +77,17 @@ OneHistory =
     → (c : Course) × Goes c
     × ((i : ℕ) (v : WorkerView) → get_elem? table.views i ≡ some (View.Working v) → Begins v.known (Some v.number) c)
     × ((l : LoaderView) → IsLoader table l → Begins l.known None c × (l.known.images ≡ c.images))
+
+-- the words, and what each seat knows, show the state: editions are places in the loader's list of images, and a worker with no seat yet is idle and has seen nothing
+pub record TableShows (table : Shelved) (l : LoaderView) (s : State) : Type 0 where
+  pub words : WordsShow table.words s
+  pub loader : LoaderShows l.current l.current_shelf l.shelves (length l.known.images) s
+  pub numbered : (i edition : ℕ) → slice_get s.editions i ≡ Some edition → edition ≡ i
+  pub workers : (i : ℕ) (v : WorkerView) → get_elem? table.views i ≡ some (View.Working v) → WorkerShows v.number v.now v.seen s
+  pub unseated : (w : ℕ) → l.handed ≤ w → w < 16 → (slice_get s.workers w ≡ Some Worker.Idle) × (slice_index s.seen w ≡ 0)
+
+-- they show one state that every law of the table of versions is true of, and no other
+abbrev pub OneStateIsShown : Type 0
+OneStateIsShown =
+    (table : Shelved) (l : LoaderView) → Ruled table → IsLoader table l
+    → (s : State) × Kept s × TableShows table l s × ((t : State) → Kept t → TableShows table l t → t ≡ s)

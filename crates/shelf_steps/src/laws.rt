@@ -1,6 +1,6 @@
 //! What the rule of the shelves says, and the steps that keep it, one by one. Functions without arguments do nothing: their
 //! contracts are the laws.
-ghost use Rattle.shelf_steps.specs.Laws.{WordsAreTheLoaders, CountsAreWorkers, NumbersDiffer, HeldHaveEditions, SlotsOutAreHeld, SlotsAtHomeAreFilled, LooksAreSo, OneHistory};
+ghost use Rattle.shelf_steps.specs.Laws.{WordsAreTheLoaders, CountsAreWorkers, NumbersDiffer, HeldHaveEditions, SlotsOutAreHeld, SlotsAtHomeAreFilled, LooksAreSo, OneHistory, OneStateIsShown};
 ghost use Rattle.shelf_steps.specs.Events.{LooksAreEvents, TakesAreEvents, DropsAreEvents, OpensAreEvents, PublishesAreEvents, ClosesAreEvents, CollectsAreEvents, SpareTriesAreEvents, LateTakesTell, LateTakesRise};
 
 pub use crate::blocks::{empty_block, fill_block};
@@ -19,6 +19,11 @@ pub fn the_rule_says()
     ensures home { SlotsAtHomeAreFilled }
     ensures looks { LooksAreSo }
     ensures history { OneHistory }
+{}
+
+/// The words and what the seats know show one state of the table of versions, and no two.
+pub fn one_state_is_shown()
+    ensures { OneStateIsShown }
 {}
 
 /// Each step is one event of the table of versions: it is the last of which the seat then knows, and nothing of the seat's own

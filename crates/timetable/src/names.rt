@@ -1,11 +1,13 @@
 use std::marker::Model;
 
-/// What a trip on one service day is called.
+/// What a trip on one service day is called. A trip that is repeated on a day is a trip for each time.
 #[derive(Drop)]
 pub struct TripName {
     pub name: String,
     /// The service day as the number YYYYMMDD.
     pub day: u32,
+    /// Which of the day's repeats it is, from 0 on.
+    pub repeat: u32,
 }
 
 /// What a timetable's numbers stand for.
@@ -25,7 +27,7 @@ impl Model for TripName {
 
     ghost Value = { TripNameValue };
 
-    ghost view = { λ t. record { name = string_bytes t.name; day = t.day } };
+    ghost view = { λ t. record { name = string_bytes t.name; day = t.day; repeat = t.repeat } };
 }
 
 impl Model for Names {

@@ -72,21 +72,3 @@ module _ {X : Type 0} (xs : List X) (made : X → Claim → Type 0) where
   adds_end i old new e h =
       let all : take i xs ≡ xs = take_all i xs (omega (arith, e)) in
       subst (λ (ys : List X). Adds old new (ForOneOf ys made)) all h
-
--- of three rounds, what is there at the end is what one of them made
-pub claims_are : (z a b v : List Claim) (P Q R : Claim → Type 0) → z ≡ [] → Adds z a P → Adds a b Q → Adds b v R → (c : Claim) → Contains v c ↔ (P c ⊎ (Q c ⊎ R c))
-claims_are z a b v P Q R empty first second third c = (there, back)
-  where
-    there : Contains v c → P c ⊎ (Q c ⊎ R c)
-    there h = elim (third.only c h) [
-      | inl in_b ↦ elim (second.only c in_b) [
-        | inl in_a ↦ elim (first.only c in_a) [ inl none ↦ absurd (contains_nothing c (subst (λ (xs : List Claim). Contains xs c) empty none)) | inr p ↦ inl p ]
-        | inr q ↦ inr (inl q)
-      ]
-      | inr r ↦ inr (inr r)
-    ]
-
-    back : P c ⊎ (Q c ⊎ R c) → Contains v c
-    back (inl p) = third.kept c (second.kept c (first.added c p))
-    back (inr (inl q)) = third.kept c (second.added c q)
-    back (inr (inr r)) = third.added c r

@@ -1,17 +1,24 @@
 -- What is claimed, and of which pairs of stops.
-use Rattle.std.proofs.Common.{◌≡◌, ◌==◌, ℕ, ◌+◌, inl, inr, List, [], ◌∷◌, ◌++◌, length, true, Option, Some, None, refl, sym, ap, subst, ◌∙◌, arith}
-use Rattle.std.specs.List.{slice_index}
-use Rattle.std.proofs.lemmas.Bool.{cases_eq, eqb-true, eq-eqb, false≢true}
+use Rattle.std.proofs.Common.{◌≡◌, ◌==◌, ℕ, ◌<◌, ◌⊎◌, inl, inr, List, [], ◌∷◌, ◌++◌, length, map, true, Option, Some, None, Contains, refl, sym, ap, subst, ◌∙◌}
+use Rattle.std.specs.List.{slice_get}
+use Rattle.std.proofs.lemmas.Bool.{eqb-true, eq-eqb, false≢true}
+use Rattle.std.proofs.lemmas.Option.{same_Some, none-some, slice_get_within}
+use Rattle.timetable.specs.Legal.{At}
 use Rattle.gtfs_tables.specs.declared.tables.Stop.{Stop}
 use Rattle.gtfs_tables.specs.declared.tables.Transfer.{Transfer}
+use Rattle.gtfs_tables.specs.declared.tables.Place.{Place}
+use Rattle.gtfs_tables.specs.declared.tables.Place.TheVariants.{Stop as TheStop, Station as TheStation}
 use Rattle.transfers.specs.declared.claims.Source.{Source}
 use Rattle.transfers.specs.declared.claims.Source.TheVariants.{Default}
 use Rattle.transfers.specs.declared.claims.Word.{Word}
 use Rattle.transfers.specs.declared.claims.Word.TheVariants.{Takes}
 use Rattle.transfers.specs.declared.claims.Claim.{Claim}
-use Rattle.transfers.specs.Listed.{stands_for, station_of, is_station, is_child, is_of, word_of}
-use Rattle.transfers.specs.Claims.{Adds, ForOneOf, IsPairClaim, IsRowClaim, IsSiblingPair, IsSiblingInto, IsSiblingBelow, IsSiblingClaim, IsLoopClaim, AreStations, AreStoodFor, AreChildren}
-use Rattle.transfers.proofs.AddLemmas.{adds_one, adds_same, adds_then}
+use Rattle.transfers.specs.Listed.{stands_for, station_of, station_in, is_station, is_child, is_of, word_of}
+use Rattle.transfers.specs.Groups.{IsGroup}
+use Rattle.transfers.specs.Lookup.{stop_named, station_named}
+use Rattle.transfers.specs.Claims.{Adds, ForOneOf, IsPairClaim, IsRowInto, IsNumberedClaim, IsClaimBy, IsSiblingPair, IsSiblingInto, IsSiblingClaim, IsRowClaim, IsLoopClaim, IsLoopOf, IsStationClaim, IsStopClaim, IsClaimInto, AreStoodFor, AreChildren}
+use Rattle.transfers.proofs.AddLemmas.{adds_one, adds_same, adds_then, adds_nothing}
+use Rattle.transfers.proofs.ListLemmas.{at_contains, contains_at, same_at, at_map, from_map, at_below}
 
 -- a station is the one that it is
 pub station_is : (o : Option ℕ) (station : ℕ) → is_station o station ≡ true → o ≡ Some station
@@ -25,26 +32,103 @@ abbrev pub claim_of : ℕ → ℕ → Source → Word → Claim
 claim_of to from source word = record { to = to; from = from; source = source; word = word }
 
 -- claims with the same parts are the same
-pub same_claim : (to from : ℕ) (source : Source) (word : Word) (c : Claim) → to ≡ c.to → from ≡ c.from → source ≡ c.source → word ≡ c.word → claim_of to from source word ≡ c
+pub same_claim : (to from : ℕ) (source : Source) (word : Word) (c : Claim) → to ≡ c.to → from ≡ c.from → source ≡ c.source → word ≡ c.word
+    → claim_of to from source word ≡ c
 same_claim to from source word c e_to e_from e_source e_word =
-    ap (λ (n : ℕ). claim_of n from source word) e_to ∙ ap (λ (n : ℕ). claim_of c.to n source word) e_from ∙ ap (λ (s : Source). claim_of c.to c.from s word) e_source
+    ap (λ (n : ℕ). claim_of n from source word) e_to ∙ ap (λ (n : ℕ). claim_of c.to n source word) e_from
+    ∙ ap (λ (s : Source). claim_of c.to c.from s word) e_source
     ∙ ap (λ (w : Word). claim_of c.to c.from c.source w) e_word
 
-module _ (all : List Stop) (row : Transfer) (froms tos : List ℕ) (from_stops : AreStoodFor all row.from froms) (to_stops : AreStoodFor all row.to tos) where
-  row_there : (c : Claim) → ForOneOf tos (λ to. ForOneOf froms (λ from. IsPairClaim row from to)) c → IsRowClaim all row c
-  row_there c (to, in_tos, (from, in_froms, p)) = record {
+-- the stops whose station is keyed so are its children
+pub children_are : (all : List Stop) (station : ℕ) (stops : List ℕ) → IsGroup (map (λ (stop : Stop). stop.station) all) station stops
+    → AreChildren all station stops
+children_are all station stops group = record {
+  has = λ stop is_in.
+      let (x, at, is) = from_map (λ (stop : Stop). stop.station) all stop (Some station) (group.has stop is_in) in
+      is_its_station (station_of all stop) station (ap (λ (o : Option Stop). station_in o) at ∙ is);
+  each = λ stop child. group.each stop (keyed stop (slice_get all stop) refl (station_is (station_of all stop) station child));
+}
+  where
+    keyed : (stop : ℕ) (o : Option Stop) → slice_get all stop ≡ o → station_in o ≡ Some station
+        → At (map (λ (stop : Stop). stop.station) all) stop (Some station)
+    keyed stop None at is = absurd (none-some station is)
+    keyed stop (Some x) at is = at_map (λ (stop : Stop). stop.station) all stop x at ∙ ap (λ (o : Option ℕ). Some o) is
+
+-- a place that names a stop, or a station, is that one
+stop_is : (place : Place) (stop : ℕ) → stop_named place ≡ Some stop → place ≡ TheStop stop
+stop_is (TheStop named) stop e = ap (λ (n : ℕ). TheStop n) (same_Some named stop e)
+stop_is (TheStation named) stop e = absurd (none-some stop e)
+
+named_station : (place : Place) (station : ℕ) → station_named place ≡ Some station → place ≡ TheStation station
+named_station (TheStop named) station e = absurd (none-some station e)
+named_station (TheStation named) station e = ap (λ (n : ℕ). TheStation n) (same_Some named station e)
+
+module _ (all : List Stop) (to : ℕ) (row : Transfer) (froms : List ℕ) (from_stops : AreStoodFor all row.from froms) where
+  into_there : (c : Claim) → ForOneOf froms (λ from. IsPairClaim row from to) c → IsRowInto all to row c
+  into_there c (from, in_froms, p) = record {
     from_stands = subst (λ (n : ℕ). stands_for all row.from n ≡ true) (sym p.from_is) (from_stops.stand from in_froms);
-    to_stands = subst (λ (n : ℕ). stands_for all row.to n ≡ true) (sym p.to_is) (to_stops.stand to in_tos);
+    to_is = p.to_is;
     source_is = p.source_is;
-    word_is = subst (λ (n : ℕ). word_of row (n == c.to) ≡ Some c.word) (sym p.from_is) (subst (λ (n : ℕ). word_of row (from == n) ≡ Some c.word) (sym p.to_is) p.word_is);
+    word_is = subst (λ (n : ℕ). word_of row (n == c.to) ≡ Some c.word) (sym p.from_is) (subst
+        (λ (n : ℕ). word_of row (from == n) ≡ Some c.word) (sym p.to_is) p.word_is);
   }
 
-  row_back : (c : Claim) → IsRowClaim all row c → ForOneOf tos (λ to. ForOneOf froms (λ from. IsPairClaim row from to)) c
-  row_back c h = (c.to, to_stops.each c.to h.to_stands, (c.from, from_stops.each c.from h.from_stands, record { from_is = refl; to_is = refl; source_is = h.source_is; word_is = h.word_is }))
+  into_back : (c : Claim) → IsRowInto all to row c → ForOneOf froms (λ from. IsPairClaim row from to) c
+  into_back c h = (
+    c.from,
+    from_stops.each c.from h.from_stands,
+    record {
+      from_is = refl;
+      to_is = h.to_is;
+      source_is = h.source_is;
+      word_is = subst
+          (λ (n : ℕ). word_of row (c.from == n) ≡ Some c.word) h.to_is h.word_is;
+    },
+  )
 
-  -- what a transfer says of the stops that its ends stand for
-  pub adds_row : (old new : List Claim) → Adds old new (ForOneOf tos (λ to. ForOneOf froms (λ from. IsPairClaim row from to))) → Adds old new (IsRowClaim all row)
-  adds_row old new h = adds_same old new (ForOneOf tos (λ to. ForOneOf froms (λ from. IsPairClaim row from to))) (IsRowClaim all row) row_there row_back h
+  -- what a transfer says of the ways into a stop
+  pub adds_into : (rows : List Transfer) (number : ℕ) (old new : List Claim) → At rows number row
+      → Adds old new (ForOneOf froms (λ from. IsPairClaim row from to))
+      → Adds old new (IsNumberedClaim all rows to number)
+  adds_into rows number old new at h = adds_same old new (ForOneOf froms (λ from. IsPairClaim row from to)) (IsNumberedClaim all rows to number)
+      (λ c made. (row, at, into_there c made))
+      (λ c (other, at_other, is). into_back c (subst (λ (r : Transfer). IsRowInto all to r c) (same_at rows number other row at_other at) is))
+      h
+
+-- a transfer that isn't there says nothing
+pub adds_no_row : (all : List Stop) (rows : List Transfer) (to number : ℕ) (claims : List Claim) → slice_get rows number ≡ None
+    → Adds claims claims (IsNumberedClaim all rows to number)
+adds_no_row all rows to number claims none = adds_nothing claims (IsNumberedClaim all rows to number) (λ c (row, at, is). none-some row (sym none ∙ at))
+
+-- the transfers in a group are those that lead to its place
+module _ (all : List Stop) (rows : List Transfer) (to key : ℕ) (named : Place
+    → Option ℕ) (place : Place) (numbers : List ℕ) (group : IsGroup (map (λ (row : Transfer). named row.to) rows) key numbers)
+    (there : (p : Place) → named p ≡ Some key → p ≡ place) (back : named place ≡ Some key) where
+  pub adds_group : (old new : List Claim) → Adds old new (ForOneOf numbers (IsNumberedClaim all rows to)) → Adds old new (IsClaimBy all rows place to)
+  adds_group old new h = adds_same old new (ForOneOf numbers (IsNumberedClaim all rows to)) (IsClaimBy all rows place to)
+      (λ c (number, is_in, (row, at, is)).
+      let (other, at_other, key_is) = from_map (λ (row : Transfer). named row.to) rows number (Some key) (group.has number is_in) in
+      let own : named row.to ≡ Some key = subst (λ (r : Transfer). named r.to ≡ Some key) (same_at rows number other row at_other at) key_is in
+      (row, contains_at rows number row at, there row.to own, is))
+      (λ c (row, is_in, to_is, is).
+      let (number, at) = at_contains rows row is_in in
+      let keyed : At (map (λ (row : Transfer). named row.to) rows) number (Some key) = at_map (λ (row : Transfer). named row.to) rows number row at
+      ∙ ap (λ (o : Option ℕ). Some o) (ap (λ (p : Place). named p) to_is ∙ back) in
+      (number, group.each number keyed, (row, at, is)))
+      h
+
+-- those that lead to a stop itself, and those that lead to a station
+pub adds_to_stop : (all : List Stop) (rows : List Transfer) (to : ℕ) (numbers : List ℕ)
+    → IsGroup (map (λ (row : Transfer). stop_named row.to) rows) to numbers → (old new : List Claim)
+    → Adds old new (ForOneOf numbers (IsNumberedClaim all rows to)) → Adds old new (IsClaimBy all rows (TheStop to) to)
+adds_to_stop all rows to numbers group old new h = adds_group all rows to to (λ p. stop_named p) (TheStop to) numbers group
+    (λ p e. stop_is p to e) refl old new h
+
+pub adds_to_station : (all : List Stop) (rows : List Transfer) (to station : ℕ) (numbers : List ℕ)
+    → IsGroup (map (λ (row : Transfer). station_named row.to) rows) station numbers → (old new : List Claim)
+    → Adds old new (ForOneOf numbers (IsNumberedClaim all rows to)) → Adds old new (IsClaimBy all rows (TheStation station) to)
+adds_to_station all rows to station numbers group old new h = adds_group all rows to station (λ p. station_named p) (TheStation station) numbers group
+    (λ p e. named_station p station e) refl old new h
 
 module _ (all : List Stop) (station to : ℕ) (children : List ℕ) (they_are : AreChildren all station children) where
   sibling_there : (c : Claim) → ForOneOf children (λ from. IsSiblingPair from to) c → IsSiblingInto all station to c
@@ -57,56 +141,174 @@ module _ (all : List Stop) (station to : ℕ) (children : List ℕ) (they_are : 
   }
 
   sibling_back : (c : Claim) → IsSiblingInto all station to c → ForOneOf children (λ from. IsSiblingPair from to) c
-  sibling_back c h = (c.from, they_are.each c.from h.child, record { from_is = refl; to_is = h.to_is; differ = λ e. h.differ (e ∙ sym h.to_is); source_is = h.source_is; word_is = h.word_is })
+  sibling_back c h = (
+    c.from,
+    they_are.each c.from h.child,
+    record {
+      from_is = refl;
+      to_is = h.to_is;
+      differ = λ e. h.differ (e
+          ∙ sym h.to_is);
+      source_is = h.source_is;
+      word_is = h.word_is;
+    },
+  )
 
   -- what holds of the ways from the stops of a station
   pub adds_siblings : (old new : List Claim) → Adds old new (ForOneOf children (λ from. IsSiblingPair from to)) → Adds old new (IsSiblingInto all station to)
   adds_siblings old new h = adds_same old new (ForOneOf children (λ from. IsSiblingPair from to)) (IsSiblingInto all station to) sibling_there sibling_back h
 
-module _ (all : List Stop) (stations stops : List ℕ) where
-  -- one stop more
-  pub siblings_more : (i : ℕ) (old mid new : List Claim) → Adds old mid (IsSiblingBelow all stations stops i) → Adds mid new (IsSiblingInto all (slice_index stations i) (slice_index stops i))
-      → Adds old new (IsSiblingBelow all stations stops (i + 1))
-  siblings_more i old mid new before step = adds_then old mid new (IsSiblingBelow all stations stops i) (IsSiblingInto all (slice_index stations i) (slice_index stops i)) (IsSiblingBelow all stations stops (i + 1))
-      (λ c (k, below, h). (k, omega (arith, below), h))
-      (λ c h. (i, omega arith, h))
-      (λ c (k, below, h). elim (cases_eq k i) [
-        | inl same ↦ inr (subst (λ (n : ℕ). IsSiblingInto all (slice_index stations n) (slice_index stops n) c) same h)
-        | inr differ ↦ inl (k, omega (arith, below, differ), h)
-      ])
-      before step
+-- first by transfers, then within the station
+pub adds_station : (all : List Stop) (rows : List Transfer) (station to : ℕ) (old mid new : List Claim)
+    → Adds old mid (IsClaimBy all rows (TheStation station) to) → Adds mid new (IsSiblingInto all station to)
+    → Adds old new (IsStationClaim all rows station to)
+adds_station all rows station to old mid new first second = adds_then old mid new (IsClaimBy all rows (TheStation station) to)
+    (IsSiblingInto all station to) (IsStationClaim all rows station to)
+    (λ c h. inl h) (λ c h. inr h) (λ c h. h) first second
 
-  -- all stops that have a station
-  pub siblings_all : (old new : List Claim) → AreStations all stations stops → Adds old new (IsSiblingBelow all stations stops (length stations)) → Adds old new (IsSiblingClaim all)
-  siblings_all old new they_are h = adds_same old new (IsSiblingBelow all stations stops (length stations)) (IsSiblingClaim all) there back h
+-- the loop
+pub adds_loop : (to : ℕ) (old : List Claim) → Adds old (old ++ claim_of to to Default (Takes 0) ∷ []) (IsLoopOf to)
+adds_loop to old = adds_one old (claim_of to to Default (Takes 0)) (IsLoopOf to) (record { to_is = refl; from_is = refl; source_is = refl; word_is = refl })
+    (λ c h. same_claim to to Default (Takes 0) c (sym h.to_is) (sym h.from_is) (sym h.source_is) (sym h.word_is))
+
+-- first as one of its station, then the loop
+pub adds_stop : (all : List Stop) (rows : List Transfer) (station to : ℕ) (old mid new : List Claim) → Adds old mid (IsStationClaim all rows station to)
+    → Adds mid new (IsLoopOf to)
+    → Adds old new (IsStopClaim all rows (Some station) to)
+adds_stop all rows station to old mid new first second = adds_then old mid new (IsStationClaim all rows station to) (IsLoopOf to) (IsStopClaim all rows
+    (Some station) to)
+    (λ c h. inl h) (λ c h. inr h) (λ c h. h) first second
+
+module _ (all : List Stop) (rows : List Transfer) (to : ℕ) where
+  by_there : (place : Place) (c : Claim) → stands_for all place to ≡ true → IsClaimBy all rows place to c → IsClaimInto all rows to c
+  by_there place c stands (row, is_in, place_is, h) = (
+    inl (
+      row,
+      is_in,
+      record {
+        from_stands = h.from_stands;
+        to_stands = subst (λ (p : Place). stands_for all p c.to ≡ true) (sym place_is) (subst (λ (n : ℕ). stands_for all place n ≡ true) (sym h.to_is) stands);
+        source_is = h.source_is;
+        word_is = h.word_is;
+      },
+    ),
+    h.to_is,
+  )
+
+  by_back : (c : Claim) (row : Transfer) → Contains rows row → IsRowClaim all row c → c.to ≡ to → (place : Place) → row.to ≡ place
+      → IsClaimBy all rows place to c
+  by_back c row is_in h to_is place place_is =
+      (row, is_in, place_is, record { from_stands = h.from_stands; to_is = to_is; source_is = h.source_is; word_is = h.word_is })
+
+  loop_there : (stop : Stop) → At all to stop → (c : Claim) → IsLoopOf to c → IsClaimInto all rows to c
+  loop_there stop at c h = (
+    inr (inr (record {
+      below = subst
+          (λ (n : ℕ). n < length all) (sym h.to_is) (slice_get_within all to stop at);
+      loop = h.from_is
+          ∙ sym h.to_is;
+      source_is = h.source_is;
+      word_is = h.word_is;
+    })),
+    h.to_is,
+  )
+
+  stop_there : (stop : Stop) → At all to stop → (o : Option ℕ) → stop.station ≡ o → (c : Claim) → IsStopClaim all rows o to c → IsClaimInto all rows to c
+  stop_there stop at None is c h = loop_there stop at c h
+  stop_there stop at (Some station) is c (inl (inl h)) = by_there (TheStation station) c (is_its_station (station_of all to) station (ap
+      (λ (o : Option Stop). station_in o) at ∙ is)) h
+  stop_there stop at (Some station) is c (inl (inr h)) =
+      let its : station_of all c.to ≡ Some station = subst (λ (n : ℕ). station_of all n ≡ Some station) (sym h.to_is) (ap
+      (λ (o : Option Stop). station_in o) at ∙ is) in (
+        inr (inl (record {
+          siblings = subst
+              (λ (o : Option ℕ). is_of all o c.from ≡ true) (sym its) h.child;
+          differ = h.differ;
+          source_is = h.source_is;
+          word_is = h.word_is;
+        })),
+        h.to_is,
+      )
+  stop_there stop at (Some station) is c (inr h) = loop_there stop at c h
+
+  -- a way into a stop of the feed is claimed by a transfer to that stop, or beside these
+  stop_cases : (stop : Stop) → At all to stop → (o : Option ℕ) → stop.station ≡ o → (c : Claim) → IsClaimInto all rows to c
+      → IsClaimBy all rows (TheStop to) to c ⊎ IsStopClaim all rows o to c
+  stop_cases stop at o is c (inl (row, is_in, h), to_is) = by_place row.to refl
     where
-      there : (c : Claim) → IsSiblingBelow all stations stops (length stations) c → IsSiblingClaim all c
-      there c (k, below, h) =
-          let own : station_of all (slice_index stops k) ≡ Some (slice_index stations k) = station_is (station_of all (slice_index stops k)) (slice_index stations k) (they_are.has k below) in
-          let its : station_of all c.to ≡ Some (slice_index stations k) = subst (λ (n : ℕ). station_of all n ≡ Some (slice_index stations k)) (sym h.to_is) own in
-          record {
-            siblings = subst (λ (o : Option ℕ). is_of all o c.from ≡ true) (sym its) h.child;
-            differ = h.differ;
-            source_is = h.source_is;
-            word_is = h.word_is;
-          }
+      own : (station : ℕ) → station_of all to ≡ Some station → (o : Option ℕ) → stop.station ≡ o → row.to ≡ TheStation station → IsStopClaim all rows o to c
+      own station its None is place = absurd (none-some station (sym is ∙ sym (ap (λ (o : Option Stop). station_in o) at) ∙ its))
+      own station its (Some other) is place =
+          let same : other ≡ station = same_Some other station (sym is ∙ sym (ap (λ (o : Option Stop). station_in o) at) ∙ its) in
+          inl (inl (by_back c row is_in h to_is (TheStation other) (place ∙ ap (λ (n : ℕ). TheStation n) (sym same))))
 
-      at_station : (c : Claim) → IsSiblingClaim all c → (o : Option ℕ) → station_of all c.to ≡ o → is_of all o c.from ≡ true → IsSiblingBelow all stations stops (length stations) c
-      at_station c h None is of = absurd (false≢true of)
-      at_station c h (Some p) is of =
-          let (k, below, station_at, stop_at) = they_are.each p c.to (is_its_station (station_of all c.to) p is) in
-          (k, below, record { child = subst (λ (n : ℕ). is_child all n c.from ≡ true) (sym station_at) of; to_is = sym stop_at; differ = h.differ; source_is = h.source_is; word_is = h.word_is })
+      by_place : (place : Place) → row.to ≡ place → IsClaimBy all rows (TheStop to) to c ⊎ IsStopClaim all rows o to c
+      by_place (TheStop named) place =
+          let stands : (named == c.to) ≡ true = subst (λ (p : Place). stands_for all p c.to ≡ true) place h.to_stands in
+          inl (by_back c row is_in h to_is (TheStop to) (place ∙ ap (λ (n : ℕ). TheStop n) (eqb-true named c.to stands ∙ to_is)))
+      by_place (TheStation station) place =
+          let stands : is_child all station c.to ≡ true = subst (λ (p : Place). stands_for all p c.to ≡ true) place h.to_stands in
+          inr (own station (subst (λ (n : ℕ). station_of all n ≡ Some station) to_is (station_is (station_of all c.to) station stands)) o is place)
+  stop_cases stop at None is c (inr (inl h), to_is) =
+      let none : station_of all c.to ≡ None = ap (λ (n : ℕ). station_of all n) to_is ∙ ap (λ (o : Option Stop). station_in o) at ∙ is in
+      absurd (false≢true (subst (λ (o : Option ℕ). is_of all o c.from ≡ true) none h.siblings))
+  stop_cases stop at (Some station) is c (inr (inl h), to_is) =
+      let its : station_of all c.to ≡ Some station = ap (λ (n : ℕ). station_of all n) to_is ∙ ap (λ (o : Option Stop). station_in o) at ∙ is in
+      inr (inl (inr (record {
+        child = subst
+            (λ (o : Option ℕ). is_of all o c.from ≡ true) its h.siblings;
+        to_is = to_is;
+        differ = h.differ;
+        source_is = h.source_is;
+        word_is = h.word_is;
+      })))
+  stop_cases stop at None is c (inr (inr h), to_is) = inr (record { to_is = to_is; from_is = h.loop ∙ to_is; source_is = h.source_is; word_is = h.word_is })
+  stop_cases stop at (Some station) is c (inr (inr h), to_is) = inr (inr (record {
+    to_is = to_is;
+    from_is = h.loop
+        ∙ to_is;
+    source_is = h.source_is;
+    word_is = h.word_is;
+  }))
 
-      back : (c : Claim) → IsSiblingClaim all c → IsSiblingBelow all stations stops (length stations) c
-      back c h = at_station c h (station_of all c.to) refl h.siblings
+  own_stands : (n : ℕ) → (n == n) ≡ true
+  own_stands n = eq-eqb n n refl
 
--- one loop more
-pub loops_more : (i : ℕ) (old mid : List Claim) → Adds old mid (IsLoopClaim i) → Adds old (mid ++ claim_of i i Default (Takes 0) ∷ []) (IsLoopClaim (i + 1))
-loops_more i old mid before = adds_then old mid (mid ++ claim_of i i Default (Takes 0) ∷ []) (IsLoopClaim i) (λ c. claim_of i i Default (Takes 0) ≡ c) (IsLoopClaim (i + 1))
-    (λ c h. record { below = omega (arith, h.below); loop = h.loop; source_is = h.source_is; word_is = h.word_is })
-    (λ c e. subst (λ (c : Claim). IsLoopClaim (i + 1) c) e (record { below = omega arith; loop = refl; source_is = refl; word_is = refl }))
-    (λ c h. elim (cases_eq c.to i) [
-      | inl same ↦ inr (same_claim i i Default (Takes 0) c (sym same) (sym same ∙ sym h.loop) (sym h.source_is) (sym h.word_is))
-      | inr differ ↦ inl (record { below = omega (arith, h.below, differ); loop = h.loop; source_is = h.source_is; word_is = h.word_is })
-    ])
-    before (adds_one mid (claim_of i i Default (Takes 0)) (λ c. claim_of i i Default (Takes 0) ≡ c) refl (λ c e. e))
+  -- all that is claimed of the ways into a stop of the feed
+  pub adds_ways : (stop : Stop) (old mid new : List Claim) → At all to stop → Adds old mid (IsClaimBy all rows (TheStop to) to)
+      → Adds mid new (IsStopClaim all rows stop.station to) → Adds old new (IsClaimInto all rows to)
+  adds_ways stop old mid new at first second = adds_then old mid new (IsClaimBy all rows (TheStop to) to) (IsStopClaim all rows stop.station to)
+      (IsClaimInto all rows to)
+      (λ c h. by_there (TheStop to) c (own_stands to) h)
+      (λ c h. stop_there stop at stop.station refl c h)
+      (λ c h. stop_cases stop at stop.station refl c h)
+      first second
+
+  -- into a stop that the feed hasn't, transfers to that stop alone claim it
+  pub adds_no_stop : (old new : List Claim) → slice_get all to ≡ None → Adds old new (IsClaimBy all rows (TheStop to) to)
+      → Adds old new (IsClaimInto all rows to)
+  adds_no_stop old new none h = adds_same old new (IsClaimBy all rows (TheStop to) to) (IsClaimInto all rows to)
+      (λ c h. by_there (TheStop to) c (own_stands to) h)
+      back h
+    where
+      no_station : (c : Claim) → c.to ≡ to → station_of all c.to ≡ None
+      no_station c to_is = ap (λ (n : ℕ). station_of all n) to_is ∙ ap (λ (o : Option Stop). station_in o) none
+
+      back : (c : Claim) → IsClaimInto all rows to c → IsClaimBy all rows (TheStop to) to c
+      back c (inl (row, is_in, h), to_is) = by_place row.to refl
+        where
+          by_place : (place : Place) → row.to ≡ place → IsClaimBy all rows (TheStop to) to c
+          by_place (TheStop named) place =
+              let stands : (named == c.to) ≡ true = subst (λ (p : Place). stands_for all p c.to ≡ true) place h.to_stands in
+              by_back c row is_in h to_is (TheStop to) (place ∙ ap (λ (n : ℕ). TheStop n) (eqb-true named c.to stands ∙ to_is))
+          by_place (TheStation station) place =
+              let stands : is_child all station c.to ≡ true = subst (λ (p : Place). stands_for all p c.to ≡ true) place h.to_stands in
+              absurd (none-some station (sym (no_station c to_is) ∙ station_is (station_of all c.to) station stands))
+      back c (inr (inl h), to_is) = absurd (false≢true (subst (λ (o : Option ℕ). is_of all o c.from ≡ true) (no_station c to_is) h.siblings))
+      back c (inr (inr h), to_is) =
+          let (x, at) = at_below all to (subst (λ (n : ℕ). n < length all) to_is h.below) in
+          absurd (none-some x (sym none ∙ at))
+
+-- the stops of a station are what it stands for
+pub station_stands : (all : List Stop) (station : ℕ) (stops : List ℕ) → AreChildren all station stops → AreStoodFor all (TheStation station) stops
+station_stands all station stops h = record { stand = h.has; each = h.each }

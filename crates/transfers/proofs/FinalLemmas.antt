@@ -1,35 +1,39 @@
 -- The footpaths of the first claims are those that the feed lists.
-use Rattle.std.proofs.Common.{◌≡◌, ◌↔◌, ℕ, zero, suc, ◌-◌, ◌<◌, ◌≤◌, inl, inr, List, length, Option, Some, None, Contains, refl, sym, ap, subst, ◌∙◌, arith, get_or}
-use Rattle.std.proofs.lemmas.Option.{same_Some, none-some, slice_get-get_or, slice_get_within}
+use Rattle.std.proofs.Common.{◌≡◌, ◌↔◌, ℕ, zero, suc, ◌-◌, ◌<◌, ◌≤◌, inl, inr, List, [], length, Option, Some, Contains, refl, sym, ap, subst, ◌∙◌, arith, get_or}
+use Rattle.std.proofs.lemmas.Option.{same_Some, slice_get-get_or, slice_get_within}
 use Rattle.std.proofs.lemmas.Bool.{cases_eq, cases_order}
 use Rattle.timetable.specs.declared.network.Footpath.{Footpath}
-use Rattle.timetable.specs.Legal.{At, HasFootpath}
+use Rattle.timetable.specs.Legal.{At, HasFootpath, AreInOrder}
 use Rattle.std.specs.List.Sorted.{IsPermutation}
 use Rattle.std.proofs.lemmas.List.Sorted.{Contains-permutation, IsPermutation-sym}
 use Rattle.gtfs_tables.specs.declared.tables.Feed.{Feed}
-use Rattle.gtfs_tables.specs.declared.tables.Stop.{Stop}
-use Rattle.gtfs_tables.specs.declared.tables.Transfer.{Transfer}
-use Rattle.transfers.specs.declared.claims.Source.TheVariants.{Default}
 use Rattle.transfers.specs.declared.claims.Word.{Word}
-use Rattle.transfers.specs.declared.claims.Word.TheVariants.{Never, Takes}
+use Rattle.transfers.specs.declared.claims.Word.TheVariants.{Takes}
 use Rattle.transfers.specs.declared.claims.Claim.{Claim}
-use Rattle.transfers.specs.Listed.{word_between, secs_of, listed_secs, NamesStops}
-use Rattle.transfers.specs.Claims.{AreSorted, ComesBefore, IsClaim, IsFirstAt, ArePathsBelow, IsHeardBefore, source_number}
-use Rattle.transfers.proofs.ClaimLemmas.{claim_of}
-use Rattle.transfers.proofs.RangeLemmas.{claim_below, loop_takes}
-use Rattle.transfers.proofs.PathLemmas.{contains_at, at_contains, same_at, first_strict, footpath_of}
+use Rattle.transfers.specs.Listed.{AreListed, word_between, secs_of, listed_secs}
+use Rattle.transfers.specs.Claims.{Adds, AreSorted, ComesBefore, IsClaimInto, IsFirstAt, ArePathsBelow, IsHeardBefore, source_number}
+use Rattle.transfers.proofs.AddLemmas.{contains_nothing}
+use Rattle.transfers.proofs.ListLemmas.{contains_at, at_contains, same_at}
+use Rattle.transfers.proofs.PathLemmas.{first_strict, footpath_of}
+use Rattle.transfers.proofs.RangeLemmas.{secs_given}
 use Rattle.transfers.proofs.WordLemmas.{IsHeardFirst, word_of_first, claim_between, heard_refl}
 
 -- behind a claim on another pair a claim is the first on its own
-first_behind : (claims : List Claim) (j : ℕ) (b d : Claim) → At claims j b → At claims (suc j) d → ((b.to ≡ d.to) × (b.from ≡ d.from) → ⊥) → IsFirstAt claims (suc j)
+first_behind : (claims : List Claim) (j : ℕ) (b d : Claim) → At claims j b → At claims (suc j) d → ((b.to ≡ d.to) × (b.from ≡ d.from) → ⊥)
+    → IsFirstAt claims (suc j)
 first_behind claims j b d at_b at_d differ b' d' at_b' at_d' below same =
     let back : suc j - 1 ≡ j = omega arith in
     let is_b : b' ≡ b = same_at claims j b' b (subst (λ (n : ℕ). At claims n b') back at_b') at_b in
     let is_d : d' ≡ d = same_at claims (suc j) d' d at_d' at_d in
-    differ (sym (ap (λ (x : Claim). x.to) is_b) ∙ same.0 ∙ ap (λ (x : Claim). x.to) is_d, sym (ap (λ (x : Claim). x.from) is_b) ∙ same.1 ∙ ap (λ (x : Claim). x.from) is_d)
+    differ (
+      sym (ap (λ (x : Claim). x.to) is_b) ∙ same.0 ∙ ap (λ (x : Claim). x.to) is_d,
+      sym (ap (λ (x : Claim). x.from) is_b) ∙ same.1
+          ∙ ap (λ (x : Claim). x.from) is_d,
+    )
 
 -- some claim is the first on its pair
-first_place : (claims : List Claim) (j : ℕ) (d : Claim) → At claims j d → (k : ℕ) × (c : Claim) × At claims k c × IsFirstAt claims k × (c.to ≡ d.to) × (c.from ≡ d.from)
+first_place : (claims : List Claim) (j : ℕ) (d : Claim) → At claims j d
+    → (k : ℕ) × (c : Claim) × At claims k c × IsFirstAt claims k × (c.to ≡ d.to) × (c.from ≡ d.from)
 first_place claims zero d at = (zero, d, at, (λ b c at_b at_c below. absurd (omega (arith, below))), refl, refl)
 first_place claims (suc j) d at =
     let b : Claim = get_or claims j d in
@@ -42,16 +46,15 @@ first_place claims (suc j) d at =
       | inr differ ↦ (suc j, d, at, first_behind claims j b d at_b at (λ same. differ same.0), refl, refl)
     ]
 
-secs_given : (o : Option Word) (secs : ℕ) → secs_of o ≡ Some secs → o ≡ Some (Takes secs)
-secs_given None secs e = absurd (none-some secs e)
-secs_given (Some Never) secs e = absurd (none-some secs e)
-secs_given (Some (Takes n)) secs e = ap (λ (m : ℕ). let w : Word = Takes m in Some w) (same_Some n secs e)
+module _ (feed : Feed) (into : ℕ) (claims : List Claim) (paths : List Footpath) (sorted : AreSorted claims) (all : (c : Claim)
+    → Contains claims c ↔ IsClaimInto feed.stops.items feed.transfers.items into c) (they_are : ArePathsBelow claims (length claims) paths) where
+  claim_at : (k : ℕ) (c : Claim) → At claims k c → IsClaimInto feed.stops.items feed.transfers.items into c
+  claim_at k c at = (all c).0 (contains_at claims k c at)
 
-module _ (feed : Feed) (claims : List Claim) (paths : List Footpath) (sorted : AreSorted claims) (all : (c : Claim) → Contains claims c ↔ IsClaim feed.stops.items feed.transfers.items c) (they_are : ArePathsBelow claims (length claims) paths) where
   -- the first claim on a pair is heard before all others
   heard_first : (k : ℕ) (c : Claim) → At claims k c → IsFirstAt claims k → IsHeardFirst feed c
   heard_first k c at first d claim to from =
-      let (j, at_d) = at_contains claims d ((all d).1 claim) in
+      let (j, at_d) = at_contains claims d ((all d).1 (claim, to ∙ (claim_at k c at).1)) in
       elim (cases_order k j) [
         | inl same ↦
             let is_d : c ≡ d = same_at claims j c d (subst (λ (n : ℕ). At claims n c) same at) at_d in
@@ -63,49 +66,44 @@ module _ (feed : Feed) (claims : List Claim) (paths : List Footpath) (sorted : A
       ]
 
   word_at : (k : ℕ) (c : Claim) → At claims k c → IsFirstAt claims k → word_between feed c.from c.to ≡ Some c.word
-  word_at k c at first = word_of_first feed c ((all c).0 (contains_at claims k c at)) (heard_first k c at first)
+  word_at k c at first = word_of_first feed c (claim_at k c at).0 (heard_first k c at first)
 
-  there : (from to secs : ℕ) → HasFootpath paths from to secs → listed_secs feed from to ≡ Some secs
+  there : (from to secs : ℕ) → HasFootpath paths from to secs → (to ≡ into) × (listed_secs feed from to ≡ Some secs)
   there from to secs (i, at) =
       let (k, below, path) = they_are.has (footpath_of from to secs) (contains_at paths i (footpath_of from to secs) at) in
-      let is : word_between feed path.claim.from path.claim.to ≡ Some path.claim.word = word_at k path.claim path.at path.first in
-      ap (λ (n : ℕ). listed_secs feed n to) (sym path.from_is) ∙ ap (λ (n : ℕ). listed_secs feed path.claim.from n) (sym path.to_is) ∙ ap (λ (o : Option Word). secs_of o) is
-      ∙ ap (λ (w : Word). let o : Option Word = Some w in secs_of o) path.word_is
+      let is : word_between feed path.claim.from path.claim.to ≡ Some path.claim.word = word_at k path.claim path.at path.first in (
+        sym path.to_is ∙ (claim_at k path.claim path.at).1,
+        ap (λ (n : ℕ). listed_secs feed n to) (sym path.from_is) ∙ ap (λ (n : ℕ). listed_secs feed path.claim.from n) (sym path.to_is)
+            ∙ ap (λ (o : Option Word). secs_of o) is
+            ∙ ap (λ (w : Word). let o : Option Word = Some w in secs_of o) path.word_is,
+      )
 
-  back : (from to secs : ℕ) → listed_secs feed from to ≡ Some secs → HasFootpath paths from to secs
-  back from to secs e =
+  back : (from to secs : ℕ) → to ≡ into → listed_secs feed from to ≡ Some secs → HasFootpath paths from to secs
+  back from to secs meant e =
       let says : word_between feed from to ≡ Some (Takes secs) = secs_given (word_between feed from to) secs e in
       let (d, claim, d_to, d_from) = claim_between feed from to (Takes secs) says in
-      let (j, at_d) = at_contains claims d ((all d).1 claim) in
+      let (j, at_d) = at_contains claims d ((all d).1 (claim, d_to ∙ meant)) in
       let (k, c, at_c, first, c_to, c_from) = first_place claims j d at_d in
       let to_is : c.to ≡ to = c_to ∙ d_to in
       let from_is : c.from ≡ from = c_from ∙ d_from in
       let is : word_between feed c.from c.to ≡ Some c.word = word_at k c at_c first in
-      let same : word_between feed c.from c.to ≡ Some (Takes secs) = ap (λ (n : ℕ). word_between feed n c.to) from_is ∙ ap (λ (n : ℕ). word_between feed from n) to_is ∙ says in
+      let same : word_between feed c.from c.to ≡ Some (Takes secs) = ap (λ (n : ℕ). word_between feed n c.to) from_is
+      ∙ ap (λ (n : ℕ). word_between feed from n) to_is ∙ says in
       let word_is : c.word ≡ Takes secs = same_Some c.word (Takes secs) (sym is ∙ same) in
-      at_contains paths (footpath_of from to secs) (they_are.each k (footpath_of from to secs) (slice_get_within claims k c at_c) (record { claim = c; at = at_c; first = first; from_is = from_is; to_is = to_is; word_is = word_is }))
+      at_contains paths (footpath_of from to secs) (they_are.each k (footpath_of from to secs) (slice_get_within claims k c at_c)
+      (record { claim = c; at = at_c; first = first; from_is = from_is; to_is = to_is; word_is = word_is }))
 
-  pub as_listed : (from to secs : ℕ) → HasFootpath paths from to secs ↔ (listed_secs feed from to ≡ Some secs)
-  as_listed from to secs = (there from to secs, back from to secs)
+  -- the footpaths of the first claims are those that are listed into the stop
+  pub ways_listed : AreInOrder paths → AreListed feed (λ from to. to ≡ into) paths
+  ways_listed in_order = record { in_order = in_order; has = there; each = back }
 
-  -- the footpaths join stops of the feed
-  pub paths_below : NamesStops feed → (f : Footpath) → Contains paths f → (f.from < length feed.stops.items) × (f.to < length feed.stops.items)
-  paths_below names f is_in =
-      let (k, below, path) = they_are.has f is_in in
-      let ends : (path.claim.from < length feed.stops.items) × (path.claim.to < length feed.stops.items) = claim_below feed names path.claim ((all path.claim).0 (contains_at claims k path.claim path.at)) in
-      (omega (arith, ends.0, path.from_is), omega (arith, ends.1, path.to_is))
-
-  -- each stop has a loop
-  pub has_loops : (stop : ℕ) → stop < length feed.stops.items → (secs : ℕ) × HasFootpath paths stop stop secs
-  has_loops stop below =
-      let loop : Claim = claim_of stop stop Default (Takes 0) in
-      let (j, at_loop) = at_contains claims loop ((all loop).1 (inr (inr (record { below = below; loop = refl; source_is = refl; word_is = refl })))) in
-      let (k, c, at_c, first, c_to, c_from) = first_place claims j loop at_loop in
-      let (secs, word_is) = loop_takes feed.stops.items feed.transfers.items c ((all c).0 (contains_at claims k c at_c)) (c_from ∙ sym c_to) in
-      (secs, at_contains paths (footpath_of stop stop secs) (they_are.each k (footpath_of stop stop secs) (slice_get_within claims k c at_c) (record { claim = c; at = at_c; first = first; from_is = c_from; to_is = c_to; word_is = word_is })))
-
--- claims that are sorted are those that there were
-pub moved_claims : (before claims : List Claim) (stops : List Stop) (rows : List Transfer) → IsPermutation before claims → ((c : Claim) → Contains before c ↔ IsClaim stops rows c)
-    → (c : Claim) → Contains claims c ↔ IsClaim stops rows c
-moved_claims before claims stops rows moved all c =
-    (λ h. (all c).0 (Contains-permutation claims before c (IsPermutation-sym before claims moved) h), λ h. Contains-permutation before claims c moved ((all c).1 h))
+-- claims that are sorted are those that there were, and those are what was added to none
+pub moved_claims : (none before claims : List Claim) (made : Claim → Type 0) → none ≡ [] → Adds none before made → IsPermutation before claims
+    → (c : Claim) → Contains claims c ↔ made c
+moved_claims none before claims made empty h moved c = (
+  λ is_in. elim (h.only c (Contains-permutation claims before c (IsPermutation-sym before claims moved) is_in)) [
+    | inl was ↦ absurd (contains_nothing c (subst (λ (xs : List Claim). Contains xs c) empty was))
+    | inr is ↦ is
+  ],
+  λ is. Contains-permutation before claims c moved (h.added c is),
+)

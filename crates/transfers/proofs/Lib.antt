@@ -1,9 +1,11 @@
+pub mod ListLemmas
 pub mod AddLemmas
 pub mod ClaimLemmas
-pub mod StationLemmas
+pub mod BorderLemmas
 pub mod OrderLemmas
 pub mod WordLemmas
 pub mod MemberLemmas
 pub mod PathLemmas
 pub mod RangeLemmas
 pub mod FinalLemmas
+pub mod ListedLemmas

@@ -1,7 +1,7 @@
 -- The footpaths of the first claims on their pairs.
 use Rattle.std.proofs.Common.{◌≡◌, ℕ, zero, suc, ◌+◌, ◌-◌, ◌<◌, ◌≤◌, inl, inr, List, [], ◌∷◌, ◌++◌, length, Some, Contains, get_or, refl, sym, ap, subst, ◌∙◌, arith, append-nil, length-append}
 use Rattle.std.specs.List.{slice_get}
-use Rattle.std.proofs.lemmas.Option.{same_Some, slice_get-get_or, slice_get_within, get_or_from_slice_get}
+use Rattle.std.proofs.lemmas.Option.{same_Some, slice_get-get_or, slice_get_within}
 use Rattle.std.proofs.lemmas.Bool.{cases_eq, cases_lt, cases_order}
 use Rattle.std.proofs.lemmas.List.Elements.{Contains-push, Contains-push_cases, Contains-append_left}
 use Rattle.timetable.specs.declared.network.Footpath.{Footpath}
@@ -10,16 +10,7 @@ use Rattle.transfers.specs.declared.claims.Word.{Word}
 use Rattle.transfers.specs.declared.claims.Word.TheVariants.{Never, Takes}
 use Rattle.transfers.specs.declared.claims.Claim.{Claim}
 use Rattle.transfers.specs.Claims.{ComesBefore, AreSorted, IsFirstAt, IsPathAt, ArePathsBelow, path_of}
-
--- what stands at a place is an element, and the other way round
-pub contains_at : {X : Type 0} (xs : List X) (i : ℕ) (x : X) → At xs i x → Contains xs x
-contains_at xs i x at = (i, slice_get_within xs i x at, get_or_from_slice_get xs i x x at)
-
-pub at_contains : {X : Type 0} (xs : List X) (x : X) → Contains xs x → (i : ℕ) × At xs i x
-at_contains {X} xs x (k, below, is) = (k, slice_get-get_or xs k x below ∙ ap (λ (y : X). Some y) is)
-
-pub same_at : {X : Type 0} (xs : List X) (i : ℕ) (x y : X) → At xs i x → At xs i y → x ≡ y
-same_at xs i x y at_x at_y = same_Some x y (sym at_x ∙ at_y)
+use Rattle.transfers.proofs.ListLemmas.{contains_at, same_at}
 
 abbrev pub secs_in : Word → ℕ
 secs_in Never = 0
@@ -38,7 +29,7 @@ same_path : (from to secs : ℕ) (f : Footpath) → from ≡ f.from → to ≡ f
 same_path from to secs f e_from e_to e_secs =
     ap (λ (n : ℕ). footpath_of n to secs) e_from ∙ ap (λ (n : ℕ). footpath_of f.from n secs) e_to ∙ ap (λ (n : ℕ). footpath_of f.from f.to n) e_secs
 
-get_left : (xs ys : List Footpath) (i : ℕ) → i < length xs → slice_get (xs ++ ys) i ≡ slice_get xs i
+pub get_left : (xs ys : List Footpath) (i : ℕ) → i < length xs → slice_get (xs ++ ys) i ≡ slice_get xs i
 get_left [] ys i below = absurd (omega (arith, below))
 get_left (x ∷ xs) ys zero below = refl
 get_left (x ∷ xs) ys (suc i) below = get_left xs ys i (omega (arith, below))

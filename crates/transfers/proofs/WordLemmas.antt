@@ -189,7 +189,7 @@ module _ (feed : Feed) where
   rows = feed.transfers.items
 
   -- what is said from a source is claimed
-  said_claim : (source : Source) (from to : ℕ) (w : Word) → IsSaid stops source from to rows w → IsClaim stops rows (claim_of to from source w)
+  pub said_claim : (source : Source) (from to : ℕ) (w : Word) → IsSaid stops source from to rows w → IsClaim stops rows (claim_of to from source w)
   said_claim source from to w (row, is_in, is) = inl (row, is_in, claim_of_word stops source from to row w is)
 
   -- a claim that isn't by default is said

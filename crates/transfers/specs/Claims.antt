@@ -1,11 +1,11 @@
 -- What is claimed of ordered pairs of stops, and in what order.
-use Rattle.std.specs.Prelude.{◌≡◌, ◌≢◌, ◌==◌, ◌-◌, ◌<◌, ◌≤◌, ◌⊎◌, ℕ, true, List, [], ◌∷◌, length, slice_index, Contains, Option, Some, None}
+use Rattle.std.specs.Prelude.{◌≡◌, ◌≢◌, ◌==◌, ◌-◌, ◌<◌, ◌≤◌, ◌⊎◌, ℕ, true, List, [], ◌∷◌, length, Contains, Option, Some, None}
 use Rattle.timetable.specs.Legal.{At}
 use Rattle.timetable.specs.declared.network.Footpath.{Footpath}
 use Rattle.gtfs_tables.specs.declared.tables.Stop.{Stop}
 use Rattle.gtfs_tables.specs.declared.tables.Transfer.{Transfer}
 use Rattle.gtfs_tables.specs.declared.tables.Place.{Place}
-use Rattle.transfers.specs.declared.stations.Member.{Member}
+use Rattle.gtfs_tables.specs.declared.tables.Place.TheVariants.{Stop as TheStop, Station as TheStation}
 use Rattle.transfers.specs.declared.claims.Source.{Source}
 use Rattle.transfers.specs.declared.claims.Source.TheVariants.{Stops, Station, Default}
 use Rattle.transfers.specs.declared.claims.Word.{Word}
@@ -60,10 +60,6 @@ pub record IsSiblingInto (all : List Stop) (station to : ℕ) (c : Claim) : Type
   pub source_is : c.source ≡ Default
   pub word_is : c.word ≡ Takes 120
 
--- it is claimed of a way to one of so many stops that have a station
-abbrev pub IsSiblingBelow : List Stop → List ℕ → List ℕ → ℕ → Claim → Type 0
-IsSiblingBelow all stations stops count c = (k : ℕ) × (k < count) × IsSiblingInto all (slice_index stations k) (slice_index stops k) c
-
 -- it is claimed of the loop of one of so many stops
 pub record IsLoopClaim (stops : ℕ) (c : Claim) : Type 0 where
   pub below : c.to < stops
@@ -75,10 +71,40 @@ pub record IsLoopClaim (stops : ℕ) (c : Claim) : Type 0 where
 abbrev pub IsClaim : List Stop → List Transfer → Claim → Type 0
 IsClaim stops transfers c = ForOneOf transfers (IsRowClaim stops) c ⊎ (IsSiblingClaim stops c ⊎ IsLoopClaim (length stops) c)
 
--- these are the stops that have a station, each beside its station, by station
-pub record AreStations (all : List Stop) (stations stops : List ℕ) : Type 0 where
-  pub has : (k : ℕ) → k < length stations → is_child all (slice_index stations k) (slice_index stops k) ≡ true
-  pub each : (station stop : ℕ) → is_child all station stop ≡ true → (k : ℕ) × (k < length stations) × (slice_index stations k ≡ station) × (slice_index stops k ≡ stop)
+-- a transfer claims it of the ways into a stop
+pub record IsRowInto (stops : List Stop) (to : ℕ) (row : Transfer) (c : Claim) : Type 0 where
+  pub from_stands : stands_for stops row.from c.from ≡ true
+  pub to_is : c.to ≡ to
+  pub source_is : c.source ≡ source_of row
+  pub word_is : word_of row (c.from == c.to) ≡ Some c.word
+
+-- the transfer of that number claims it of the ways into a stop
+abbrev pub IsNumberedClaim : List Stop → List Transfer → ℕ → ℕ → Claim → Type 0
+IsNumberedClaim stops rows to number c = (row : Transfer) × At rows number row × IsRowInto stops to row c
+
+-- a transfer that leads to that place does
+abbrev pub IsClaimBy : List Stop → List Transfer → Place → ℕ → Claim → Type 0
+IsClaimBy stops rows place to c = (row : Transfer) × Contains rows row × (row.to ≡ place) × IsRowInto stops to row c
+
+-- it is claimed of the ways into a stop as one of a station
+abbrev pub IsStationClaim : List Stop → List Transfer → ℕ → ℕ → Claim → Type 0
+IsStationClaim stops rows station to c = IsClaimBy stops rows (TheStation station) to c ⊎ IsSiblingInto stops station to c
+
+-- it is claimed of the loop of a stop
+pub record IsLoopOf (stop : ℕ) (c : Claim) : Type 0 where
+  pub to_is : c.to ≡ stop
+  pub from_is : c.from ≡ stop
+  pub source_is : c.source ≡ Default
+  pub word_is : c.word ≡ Takes 0
+
+-- it is claimed of the ways into a stop of the feed, beside what transfers that lead to the stop itself claim
+abbrev pub IsStopClaim : List Stop → List Transfer → Option ℕ → ℕ → Claim → Type 0
+IsStopClaim stops rows None to c = IsLoopOf to c
+IsStopClaim stops rows (Some station) to c = IsStationClaim stops rows station to c ⊎ IsLoopOf to c
+
+-- the feed claims it of the ways into a stop
+abbrev pub IsClaimInto : List Stop → List Transfer → ℕ → Claim → Type 0
+IsClaimInto stops rows to c = IsClaim stops rows c × (c.to ≡ to)
 
 -- these are the stops that a place stands for
 pub record AreStoodFor (all : List Stop) (place : Place) (stops : List ℕ) : Type 0 where
@@ -89,16 +115,6 @@ pub record AreStoodFor (all : List Stop) (place : Place) (stops : List ℕ) : Ty
 pub record AreChildren (all : List Stop) (station : ℕ) (stops : List ℕ) : Type 0 where
   pub has : (stop : ℕ) → Contains stops stop → is_child all station stop ≡ true
   pub each : (stop : ℕ) → is_child all station stop ≡ true → Contains stops stop
-
--- the member that a stop with a station is
-abbrev pub member_of : Option ℕ → ℕ → List Member
-member_of None stop = []
-member_of (Some station) stop = record { station = station; stop = stop } ∷ []
-
--- stops that have a station, of the first so many
-pub record AreMembers (all : List Stop) (count : ℕ) (members : List Member) : Type 0 where
-  pub has : (m : Member) → Contains members m → (m.stop < count) × (station_of all m.stop ≡ Some m.station)
-  pub each : (m : Member) → m.stop < count → station_of all m.stop ≡ Some m.station → Contains members m
 
 -- the sources in the order in which they are heard
 abbrev pub source_number : Source → ℕ

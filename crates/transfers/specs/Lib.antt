@@ -1,2 +1,4 @@
 pub mod Listed
+pub mod Groups
+pub mod Lookup
 pub mod Claims

@@ -1,6 +1,8 @@
 -- The footpaths that a feed lists. (GTFS Schedule Reference, stops.txt and transfers.txt; the times where none is given are our own.)
-use Rattle.std.specs.Prelude.{◌==◌, ◌&&◌, ◌<◌, ℕ, min, nat_lt, Bool, true, false, if◌then◌else◌, List, [], ◌∷◌, All, length, slice_get, Option, Some, None}
+use Rattle.std.specs.Prelude.{◌≡◌, ◌==◌, ◌&&◌, ◌<◌, ◌≤◌, ◌↔◌, ℕ, min, nat_lt, Bool, true, false, if◌then◌else◌, List, [], ◌∷◌, All, length, slice_get, Option, Some, None}
 use Rattle.timetable.specs.First.{or_else}
+use Rattle.timetable.specs.Legal.{HasFootpath, AreInOrder}
+use Rattle.timetable.specs.declared.network.Footpath.{Footpath}
 use Rattle.gtfs_rows.specs.declared.rows.TransferKind.{TransferKind}
 use Rattle.gtfs_rows.specs.declared.rows.TransferKind.TheVariants.{Recommended, Timed, Minimum, Impossible, Skipped}
 use Rattle.gtfs_tables.specs.declared.tables.Feed.{Feed}
@@ -124,3 +126,24 @@ secs_of (Some (Takes secs)) = Some secs
 -- the seconds of the listed footpath from a stop to a stop, where there is one
 abbrev pub listed_secs : Feed → ℕ → ℕ → Option ℕ
 listed_secs feed from to = secs_of (word_between feed from to)
+
+-- these are the listed footpaths from and to some stops
+pub record AreListed (feed : Feed) (meant : ℕ → ℕ → Type 0) (paths : List Footpath) : Type 0 where
+  pub in_order : AreInOrder paths
+  pub has : (from to secs : ℕ) → HasFootpath paths from to secs → meant from to × (listed_secs feed from to ≡ Some secs)
+  pub each : (from to secs : ℕ) → meant from to → listed_secs feed from to ≡ Some secs → HasFootpath paths from to secs
+
+-- from whatever stop to one below a number
+abbrev pub LeadBelow : ℕ → ℕ → ℕ → Type 0
+LeadBelow end from to = to < end
+
+-- into stops below a number more footpaths are listed than that
+abbrev pub ListsMoreBelow : Feed → ℕ → ℕ → Type 0
+ListsMoreBelow feed end most = (few : ℕ) × (few ≤ end) × (paths : List Footpath) × AreListed feed (LeadBelow few) paths × (most < length paths)
+
+-- the feed lists more footpaths than that
+pub record ListsMore (feed : Feed) (most : ℕ) : Type 0 where
+  pub paths : List Footpath
+  pub in_order : AreInOrder paths
+  pub times : (from to secs : ℕ) → HasFootpath paths from to secs ↔ (listed_secs feed from to ≡ Some secs)
+  pub more : most < length paths

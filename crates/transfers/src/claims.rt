@@ -1,14 +1,14 @@
 // What is said of a way on foot from a stop to a stop, and who says it.
 
-ghost use Rattle.std.specs.Prelude.{◌≡◌, List, length, IfOk, OnOk, Contains, ◌↔◌};
-ghost use Rattle.gtfs_tables.specs.declared.tables.Stop.{Stop as TheStop};
+ghost use Rattle.std.specs.Prelude.{◌≡◌, OnOk};
 ghost use Rattle.transfers.specs.declared.claims.Claim.{Claim};
 ghost use Rattle.transfers.specs.Listed.{source_of, given_or, word_of};
-ghost use Rattle.transfers.specs.Claims.{Adds, ForOneOf, IsPairClaim, IsRowClaim, IsSiblingPair, IsSiblingClaim, IsLoopClaim, IsClaim, AreStations};
+ghost use Rattle.transfers.specs.Claims.{Adds, ForOneOf, IsPairClaim, IsNumberedClaim, IsSiblingPair, IsStationClaim, IsLoopOf, IsStopClaim, IsClaimInto};
+ghost use Rattle.transfers.specs.Lookup.{IsLookup};
 
-use crate::stations::Stations;
-use gtfs_tables::{Place, Transfer, TransferKind};
-use std::alloc::{AllocError, Global};
+use crate::lookup::Lookup;
+use gtfs_tables::{Feed, Place, Transfer, TransferKind};
+use std::alloc::AllocError;
 
 /// The time of a transfer where none is given, in seconds.
 pub const USUAL_SECS: u32 = 120;
@@ -112,33 +112,36 @@ fn claim_into(
     Ok(())
 }
 
-// Adds what a transfer says of the ways from one of some stops to one of others.
-fn claim_between(
+// Adds what the transfer of a number says of the ways into a stop.
+fn claim_row(
     claims: &mut Vec<Claim>,
-    row: &Transfer,
-    froms: &[u32],
-    tos: &[u32],
+    feed: &Feed,
+    lookup: &Lookup,
+    number: u32,
+    to: u32,
 ) -> Result<(), AllocError>
-    ensures { OnOk result (Adds claims.old.items claims.new.items (ForOneOf tos.now (λ to. ForOneOf froms.now (λ from. IsPairClaim row.now from to)))) }
+    requires { IsLookup feed.now.stops.items feed.now.transfers.items lookup.now }
+    ensures { OnOk result (Adds claims.old.items claims.new.items (IsNumberedClaim feed.now.stops.items feed.now.transfers.items to number)) }
 {
-    for to in tos {
-        claim_into(claims, row, froms, *to)?;
+    match feed.transfers.get(number as usize) {
+        Some(row) => claim_into(claims, row, lookup.stood_for(&row.from), to),
+        None => Ok(()),
     }
-    Ok(())
 }
 
-// Adds what the transfers say.
-fn claim_transfers(
+// Adds what transfers say of the ways into a stop.
+fn claim_rows(
     claims: &mut Vec<Claim>,
-    stations: &Stations,
-    transfers: &[Transfer],
+    feed: &Feed,
+    lookup: &Lookup,
+    numbers: &[u32],
+    to: u32,
 ) -> Result<(), AllocError>
-    ensures { (all : List TheStop) → AreStations all stations.now.stations.items stations.now.stops.items → OnOk result (Adds claims.old.items claims.new.items (ForOneOf transfers.now (IsRowClaim all))) }
+    requires { IsLookup feed.now.stops.items feed.now.transfers.items lookup.now }
+    ensures { OnOk result (Adds claims.old.items claims.new.items (ForOneOf numbers.now (IsNumberedClaim feed.now.stops.items feed.now.transfers.items to))) }
 {
-    for row in transfers {
-        let froms = stations.stood_for(&row.from);
-        let tos = stations.stood_for(&row.to);
-        claim_between(claims, row, froms, tos)?;
+    for number in numbers {
+        claim_row(claims, feed, lookup, *number, to)?;
     }
     Ok(())
 }
@@ -168,59 +171,73 @@ fn claim_siblings_of(claims: &mut Vec<Claim>, children: &[u32], to: u32) -> Resu
     Ok(())
 }
 
-// Adds what holds between the stops of each station, where no transfer counts.
-fn claim_siblings(claims: &mut Vec<Claim>, stations: &Stations) -> Result<(), AllocError>
-    ensures { (all : List TheStop) → AreStations all stations.now.stations.items stations.now.stops.items → OnOk result (Adds claims.old.items claims.new.items (IsSiblingClaim all)) }
+// Adds what is said of the ways into a stop as one of a station.
+fn claim_station(
+    claims: &mut Vec<Claim>,
+    feed: &Feed,
+    lookup: &Lookup,
+    station: u32,
+    to: u32,
+) -> Result<(), AllocError>
+    requires { IsLookup feed.now.stops.items feed.now.transfers.items lookup.now }
+    ensures { OnOk result (Adds claims.old.items claims.new.items (IsStationClaim feed.now.stops.items feed.now.transfers.items station to)) }
 {
-    for (place, to) in stations.stops.iter().enumerate() {
-        let children = stations.children(stations.stations[place]);
-        claim_siblings_of(claims, children, *to)?;
-    }
+    claim_rows(
+        claims,
+        feed,
+        lookup,
+        lookup.into_stations.group(station),
+        to,
+    )?;
+    claim_siblings_of(claims, lookup.children_of(station), to)
+}
+
+// Adds what holds of the loop of a stop, where no transfer counts.
+fn claim_loop(claims: &mut Vec<Claim>, stop: u32) -> Result<(), AllocError>
+    ensures { OnOk result (Adds claims.old.items claims.new.items (IsLoopOf stop)) }
+{
+    claims.push(Claim {
+        to: stop,
+        from: stop,
+        source: Source::Default,
+        word: Word::Takes(0),
+    })?;
     Ok(())
 }
 
-// Adds what holds of the loop of each stop, where no transfer counts.
-fn claim_loops(claims: &mut Vec<Claim>, stops: u32) -> Result<(), AllocError>
-    ensures { OnOk result (Adds claims.old.items claims.new.items (IsLoopClaim stops)) }
+// Adds what is said of the ways into a stop of the feed, beside the transfers that lead to the stop itself.
+fn claim_stop(
+    claims: &mut Vec<Claim>,
+    feed: &Feed,
+    lookup: &Lookup,
+    station: Option<u32>,
+    to: u32,
+) -> Result<(), AllocError>
+    requires { IsLookup feed.now.stops.items feed.now.transfers.items lookup.now }
+    ensures { OnOk result (Adds claims.old.items claims.new.items (IsStopClaim feed.now.stops.items feed.now.transfers.items station to)) }
 {
-    for stop in 0..stops {
-        claims.push(Claim {
-            to: stop,
-            from: stop,
-            source: Source::Default,
-            word: Word::Takes(0),
-        })?;
+    match station {
+        Some(station) => {
+            claim_station(claims, feed, lookup, station, to)?;
+            claim_loop(claims, to)
+        }
+        None => claim_loop(claims, to),
     }
-    Ok(())
 }
 
-// How many claims there are at most.
-fn count_claims(stops: u32, stations: &Stations, transfers: &[Transfer]) -> usize {
-    let mut count = stops as usize;
-    for station in &stations.stations {
-        count = count.saturating_add(stations.children(*station).len());
-    }
-    for row in transfers {
-        let froms = stations.stood_for(&row.from).len();
-        let tos = stations.stood_for(&row.to).len();
-        count = count.saturating_add(froms.saturating_mul(tos));
-    }
-    count
-}
-
-/// All that is said of ordered pairs of so many stops. Room is made for all of it at once: a station of very many stops says something
-/// of each pair of them.
-pub(crate) fn claims_of(
-    alloc: Global,
-    stops: u32,
-    stations: &Stations,
-    transfers: &[Transfer],
-) -> Result<Vec<Claim>, AllocError>
-    ensures { (all : List TheStop) (c : Claim) → AreStations all stations.now.stations.items stations.now.stops.items → length all ≡ stops → IfOk result (λ v. Contains v.items c ↔ IsClaim all transfers.now c) }
+/// Adds all that is said of the ways into a stop.
+pub(crate) fn claim_ways(
+    claims: &mut Vec<Claim>,
+    feed: &Feed,
+    lookup: &Lookup,
+    to: u32,
+) -> Result<(), AllocError>
+    requires { IsLookup feed.now.stops.items feed.now.transfers.items lookup.now }
+    ensures { OnOk result (Adds claims.old.items claims.new.items (IsClaimInto feed.now.stops.items feed.now.transfers.items to)) }
 {
-    let mut claims = Vec::with_capacity(alloc, count_claims(stops, stations, transfers))?;
-    claim_transfers(&mut claims, stations, transfers)?;
-    claim_siblings(&mut claims, stations)?;
-    claim_loops(&mut claims, stops)?;
-    Ok(claims)
+    claim_rows(claims, feed, lookup, lookup.into_stops.group(to), to)?;
+    match feed.stops.get(to as usize) {
+        Some(stop) => claim_stop(claims, feed, lookup, stop.station, to),
+        None => Ok(()),
+    }
 }

@@ -2,10 +2,13 @@
 #![tactic(auto)]
 
 mod claims;
+mod fault;
+mod groups;
 mod listing;
-mod stations;
+mod lookup;
 
-pub use listing::listed;
+pub use fault::ListingFault;
+pub use listing::{listed, listed_within};
 
 #[cfg(test)]
 mod tests;

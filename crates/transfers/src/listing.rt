@@ -1,12 +1,15 @@
 // The footpaths that a feed lists.
 
-ghost use Rattle.std.specs.Prelude.{◌≡◌, ◌<◌, ◌↔◌, ◌++◌, ◌+◌, ℕ, All, length, Some, IfOk, OnOk, true, false};
+ghost use Rattle.std.specs.Prelude.{◌≡◌, ◌<◌, ◌≤◌, ◌↔◌, ◌++◌, ◌+◌, ◌^◌, ℕ, All, length, Some, IfOk, IfErr, OnOk, true, false};
 ghost use Rattle.timetable.specs.Legal.{HasFootpath, AreInOrder};
-ghost use Rattle.transfers.specs.Listed.{NamesStops, listed_secs};
+ghost use Rattle.transfers.specs.Listed.{NamesStops, AreListed, LeadBelow, ListsMore, ListsMoreBelow, listed_secs};
 ghost use Rattle.transfers.specs.Claims.{AreSorted, IsFirstAt, ArePathsBelow, path_of};
+ghost use Rattle.transfers.specs.Lookup.{IsLookup};
+ghost use Rattle.transfers.specs.declared.fault.ListingFault.TheVariants.{TooMany};
 
-use crate::claims::{Claim, Word, claims_of};
-use crate::stations::Stations;
+use crate::claims::{Claim, Word, claim_ways};
+use crate::fault::ListingFault;
+use crate::lookup::{Lookup, end_of_stops};
 use gtfs_tables::Feed;
 use std::alloc::{AllocError, Global};
 use timetable::Footpath;
@@ -64,8 +67,71 @@ fn paths_of(alloc: Global, claims: &[Claim]) -> Result<Vec<Footpath>, AllocError
     Ok(paths)
 }
 
+// Adds the footpaths into a stop, behind those into the stops before it.
+fn add_ways(
+    alloc: Global,
+    paths: &mut Vec<Footpath>,
+    feed: &Feed,
+    lookup: &Lookup,
+    to: u32,
+) -> Result<(), AllocError>
+    requires { IsLookup feed.now.stops.items feed.now.transfers.items lookup.now }
+    ensures { AreListed feed.now (LeadBelow to) paths.old.items → OnOk result (AreListed feed.now (LeadBelow (to + 1)) paths.new.items) }
+{
+    let mut claims = Vec::new(alloc);
+    claim_ways(&mut claims, feed, lookup, to)?;
+    claims.sort()?;
+    let ways = paths_of(alloc, &claims)?;
+    paths.extend_from_slice(&ways)
+}
+
+// Adds the footpaths into a stop, unless there are more than that many then.
+fn add_within(
+    alloc: Global,
+    paths: &mut Vec<Footpath>,
+    feed: &Feed,
+    lookup: &Lookup,
+    to: u32,
+    most: usize,
+) -> Result<(), ListingFault>
+    requires lookup { IsLookup feed.now.stops.items feed.now.transfers.items lookup.now }
+    requires before { AreListed feed.now (LeadBelow to) paths.old.items }
+    ensures listed { OnOk result (AreListed feed.now (LeadBelow (to + 1)) paths.new.items) }
+    ensures few { OnOk result (length paths.new.items ≤ most) }
+    ensures many { IfErr result (λ fault. fault ≡ TooMany → AreListed feed.now (LeadBelow (to + 1)) paths.new.items × (most < length paths.new.items)) }
+{
+    add_ways(alloc, paths, feed, lookup, to)?;
+    if paths.len() > most {
+        return Err(ListingFault::TooMany);
+    }
+    Ok(())
+}
+
+// The footpaths into the stops below a number, unless there are more than that many.
+fn paths_below(
+    alloc: Global,
+    feed: &Feed,
+    lookup: &Lookup,
+    end: usize,
+    most: usize,
+) -> Result<Vec<Footpath>, ListingFault>
+    requires lookup { IsLookup feed.now.stops.items feed.now.transfers.items lookup.now }
+    requires small { end ≤ 2 ^ 32 }
+    ensures listed { IfOk result (λ v. AreListed feed.now (LeadBelow end) v.items) }
+    ensures few { IfOk result (λ v. length v.items ≤ most) }
+    ensures many { IfErr result (λ fault. fault ≡ TooMany → ListsMoreBelow feed.now end most) }
+{
+    let mut paths = Vec::new(alloc);
+    for to in 0..end {
+        if let Err(fault) = add_within(alloc, &mut paths, feed, lookup, to as u32, most) {
+            return Err(fault);
+        }
+    }
+    Ok(paths)
+}
+
 /// The footpaths that a feed lists, with their times in seconds, by the stop led into, then by the stop left, as the GTFS
-/// Schedule Reference has them.
+/// Schedule Reference has them, where they are that many at most.
 ///
 /// A transfer that names a station stands for each stop of it. For an ordered pair of stops the transfers that name both
 /// stops themselves count, where there are any, else those that name a station. Where one of them says that no transfer is
@@ -78,18 +144,36 @@ fn paths_of(alloc: Global, claims: &[Claim]) -> Result<Vec<Footpath>, AllocError
 ///
 /// Where the feed's transfers name its own stops, the footpaths join its stops.
 ///
-/// The only error is want of memory; more stops than a `u32` can number count as that.
+/// # Errors
+///
+/// `TooMany` where the feed lists more footpaths than that. It is told as soon as more are found, stop by stop: never is there
+/// room for more than those and the footpaths into one stop. `OutOfMemory` where memory was wanting; more stops than a `u32` can
+/// number count as that.
+pub fn listed_within(alloc: Global, feed: &Feed, most: usize) -> Result<Vec<Footpath>, ListingFault>
+    ensures times { IfOk result (λ v. (from to secs : ℕ) → HasFootpath v.items from to secs ↔ (listed_secs feed.now from to ≡ Some secs)) }
+    ensures order { IfOk result (λ v. AreInOrder v.items) }
+    ensures in_range { NamesStops feed.now → IfOk result (λ v. All (λ f. (f.from < length feed.now.stops.items) × (f.to < length feed.now.stops.items)) v.items) }
+    ensures loops { IfOk result (λ v. (stop : ℕ) → stop < length feed.now.stops.items → (secs : ℕ) × HasFootpath v.items stop stop secs) }
+    ensures few { IfOk result (λ v. length v.items ≤ most) }
+    ensures many { IfErr result (λ fault. fault ≡ TooMany → ListsMore feed.now most) }
+{
+    if feed.stops.len() > u32::MAX as usize {
+        return Err(ListingFault::OutOfMemory);
+    }
+    let lookup = Lookup::new(alloc, feed)?;
+    let end = end_of_stops(feed);
+    paths_below(alloc, feed, &lookup, end, most)
+}
+
+/// The footpaths that a feed lists, as `listed_within` gives them, however many they are. Want of memory is the only error.
 pub fn listed(alloc: Global, feed: &Feed) -> Result<Vec<Footpath>, AllocError>
     ensures times { IfOk result (λ v. (from to secs : ℕ) → HasFootpath v.items from to secs ↔ (listed_secs feed.now from to ≡ Some secs)) }
     ensures order { IfOk result (λ v. AreInOrder v.items) }
     ensures in_range { NamesStops feed.now → IfOk result (λ v. All (λ f. (f.from < length feed.now.stops.items) × (f.to < length feed.now.stops.items)) v.items) }
     ensures loops { IfOk result (λ v. (stop : ℕ) → stop < length feed.now.stops.items → (secs : ℕ) × HasFootpath v.items stop stop secs) }
 {
-    let Ok(stops) = u32::try_from(feed.stops.len()) else {
-        return Err(AllocError);
-    };
-    let stations = Stations::new(alloc, &feed.stops)?;
-    let mut claims = claims_of(alloc, stops, &stations, &feed.transfers)?;
-    claims.sort()?;
-    paths_of(alloc, &claims)
+    match listed_within(alloc, feed, usize::MAX) {
+        Ok(paths) => Ok(paths),
+        Err(_) => Err(AllocError),
+    }
 }

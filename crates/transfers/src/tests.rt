@@ -218,6 +218,25 @@ fn the_files_of_a_station(rt: HostRuntime) -> Result<(), Fail> {
     Ok(())
 }
 
+// How many footpaths are listed where no transfer counts, or None where they are more than that.
+fn count_within(alloc: Global, most: usize) -> Result<Option<usize>, AllocError> {
+    let feed = feed_of(alloc, &[])?;
+    match listed_within(alloc, &feed, most) {
+        Ok(paths) => Ok(Some(paths.len())),
+        Err(ListingFault::TooMany) => Ok(None),
+        Err(ListingFault::OutOfMemory) => Err(AllocError),
+    }
+}
+
+#[test]
+fn no_more_than_allowed(rt: HostRuntime) -> Result<(), Fail> {
+    assert_eq!(rt; count_within(rt.alloc(), 6)?, Some(5));
+    assert_eq!(rt; count_within(rt.alloc(), 5)?, Some(5));
+    assert_eq!(rt; count_within(rt.alloc(), 4)?, None);
+    assert_eq!(rt; count_within(rt.alloc(), 0)?, None);
+    Ok(())
+}
+
 // Whichever growth is refused, want of memory is told. A refused growth ends the test with `AllocError`.
 #[test]
 fn refused_growth_is_told(rt: HostRuntime) -> Result<(), Fail> {

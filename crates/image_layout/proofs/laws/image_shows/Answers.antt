@@ -13,4 +13,4 @@ pub returns-clause-timetable : goal.returns-clause-timetable
 returns-clause-timetable c = λ w t n is. ap (λ (v : List ℕ). timetable_of v) is.spelled ∙ timetable_back (layout_of w) t n is.can_be
 
 pub returns-clause-names : goal.returns-clause-names
-returns-clause-names c = λ w t n is. ap (λ (v : List ℕ). names_of v) is.spelled ∙ names_back (layout_of w) t n is.can_be
+returns-clause-names c = λ w t n is. ap (λ (v : List ℕ). names_of v) is.spelled ∙ names_back (layout_of w) t n is.layout is.first is.can_be

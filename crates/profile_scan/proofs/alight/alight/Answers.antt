@@ -3,6 +3,7 @@ use Rattle.bags.specs.Bag.{points_of}
 use Rattle.profile_scan.specs.Matching.{from_to}
 use Rattle.profile_scan.specs.Story.{story, told}
 use Rattle.fronts.specs.Lists.{list_points}
+use Rattle.profile_scan.specs.Bound.{carried}
 use Rattle.profile_scan.specs.Adding.{endings, changes_from, endings_and_changes}
 use Rattle.profile_scan.proofs.Offers.{takes_if, takes_either}
 use Rattle.profile_scan.proofs.EndLemmas.{end_admits}
@@ -14,7 +15,7 @@ returns-clause-takes g c walks steps set_outs before all ext_before ext =
     let rules = g.C.Criterion.rules c.args.criterion.now in
     let cn = c.args.connection.now in
     let q = c.args.query.now in
-    let bag = list_points c.args.lists.now c.args.head in
+    let bag = carried rules c.args.bound.now (list_points c.args.lists.now c.args.head) in
     let first = story c.args.exits.now.items steps set_outs in
     let second = story c.end.new.exits.items steps set_outs in
     let third = story c.change.new.exits.items steps set_outs in

@@ -1,19 +1,15 @@
-use Rattle.std.proofs.Common.{sym, subst, arith}
-use Rattle.criteria.specs.Laws.{Admits}
+use Rattle.std.proofs.Common.{subst, arith}
 use Rattle.timetable.proofs.LegalFacts.{Contains-At}
 use Rattle.bags.specs.Bag.{points_of}
-use Rattle.bags.specs.declared.point.Point.{Point}
 use Rattle.fronts.specs.Lists.{lists_criterion, front_at, list_points}
 use Rattle.fronts.proofs.Growth.{extends_none, extends_on}
 use Rattle.fronts.proofs.Mapped.{list_admitted}
 use Rattle.profile_scan.specs.Matching.{from_to}
-use Rattle.profile_scan.specs.Story.{IsExit, story, told}
-use Rattle.profile_scan.specs.Adding.{one_way}
-use Rattle.profile_scan.specs.declared.story.Exit.TheVariants.{Changes}
+use Rattle.profile_scan.specs.Story.{story, told}
 use Rattle.profile_scan.proofs.Admitted.{AreAdmitted}
 use Rattle.profile_scan.proofs.Offers.{bag_under, takes_first, takes_next}
 use Rattle.profile_scan.proofs.StoryLemmas.{exits_grow, grows_on}
-use Rattle.profile_scan.proofs.ChangeLemmas.{AreOf, changes_under}
+use Rattle.profile_scan.proofs.ChangeLemmas.{AreOf, change_way, changes_under}
 use Rattle.profile_scan.proofs.alight.change.Goals as goal
 
 pub loop-k-init : goal.loop-k-init
@@ -23,8 +19,8 @@ loop-k-init g c = record {
   takes = λ walks steps set_outs before all ext_before ext. takes_first (g.C.Criterion.rules c.args.criterion.now) (front_at c.args.lists.now c.front_from-place.result) _ (points_of c.args.labels.now);
 }
 
-pub add_label-requires-clause-admitted : goal.add_label-requires-clause-admitted
-add_label-requires-clause-admitted g c =
+pub change_by-requires-clause-point : goal.change_by-requires-clause-point
+change_by-requires-clause-point g c =
     let front = front_at c.args.lists.now c.front_from-place.result in
     let are = subst (λ k. AreOf (g.C.Criterion.rules k) (list_points c.args.lists.now c.args.head) c.args.time front) c.requires.under c.front_from-place.ensures.made_of in
     (are c.front_point-point.result (Contains-At front c.loop-k.k c.front_point-point.result c.front_point-point.ensures)).2
@@ -36,17 +32,17 @@ loop-k-preserved g c =
     let x = c.front_point-point.result in
     let are = subst (λ k. AreOf (g.C.Criterion.rules k) (list_points c.args.lists.now c.args.head) c.args.time front) c.requires.under c.front_from-place.ensures.made_of in
     record {
-      same = c.in_ok-add_label.ensures.same;
-      exits = extends_on c.args.exits.now.items c.loop-k.exits.items c.add_label.new.exits.items c.loop-k.invariant.exits c.in_ok-add_label.ensures.exits;
+      same = c.in_ok-change_by.ensures.same;
+      exits = extends_on c.args.exits.now.items c.loop-k.exits.items c.change_by.new.exits.items c.loop-k.invariant.exits c.in_ok-change_by.ensures.exits;
       takes = λ walks steps set_outs before all ext_before ext.
           let was = story c.args.exits.now.items steps set_outs in
           let mid = story c.loop-k.exits.items steps set_outs in
-          let now = story c.add_label.new.exits.items steps set_outs in
-          takes_next rules front (λ (p : Point g.row.C-V.Denot). one_way 0 p.value (IsExit (from_to (told walks before) (told walks all)) (Changes c.args.last p.tag)))
-          c.loop-k.k x (points_of c.args.labels.now) (points_of c.loop-k.labels) (points_of c.add_label.new.labels) c.front_point-point.ensures
+          let now = story c.change_by.new.exits.items steps set_outs in
+          takes_next rules front (change_way rules (from_to (told walks before) (told walks all)) c.args.last c.args.bound.now)
+          c.loop-k.k x (points_of c.args.labels.now) (points_of c.loop-k.labels) (points_of c.change_by.new.labels) c.front_point-point.ensures
           (λ y way is opened. (are y is).2)
-          (c.loop-k.invariant.takes walks steps set_outs before all ext_before (grows_on mid now all (exits_grow c.loop-k.exits.items c.add_label.new.exits.items steps set_outs c.in_ok-add_label.ensures.exits) ext))
-          (c.in_ok-add_label.ensures.takes walks steps set_outs before all (grows_on before was mid ext_before (exits_grow c.args.exits.now.items c.loop-k.exits.items steps set_outs c.loop-k.invariant.exits)) ext);
+          (c.loop-k.invariant.takes walks steps set_outs before all ext_before (grows_on mid now all (exits_grow c.loop-k.exits.items c.change_by.new.exits.items steps set_outs c.in_ok-change_by.ensures.exits) ext))
+          (c.in_ok-change_by.ensures.takes walks steps set_outs before all (grows_on before was mid ext_before (exits_grow c.args.exits.now.items c.loop-k.exits.items steps set_outs c.loop-k.invariant.exits)) ext);
     }
 
 pub returns-clause-takes : goal.returns-clause-takes
@@ -57,6 +53,6 @@ returns-clause-takes g c walks steps set_outs before all ext_before ext =
     let points = list_points lists c.args.head in
     let admitted = subst (λ k. AreAdmitted (g.C.Criterion.rules k) points) c.requires.under (list_admitted (g.C.Criterion.rules (lists_criterion lists)) lists.entries.items lists.items.items c.requires.sound c.args.head) in
     let labels = bag_under g.C.Criterion.rules c.loop-k.labels.criterion c.args.criterion.now (points_of c.loop-k.labels) c.loop-k.invariant.same c.loop-k.labels.kept in
-    changes_under g.C.Criterion.rules (lists_criterion lists) c.args.criterion.now c.requires.under points laws admitted (from_to (told walks before) (told walks all)) c.args.last c.args.time front c.loop-k.k (points_of c.args.labels.now) (points_of c.loop-k.labels) labels.admitted
+    changes_under g.C.Criterion.rules (lists_criterion lists) c.args.criterion.now c.requires.under points laws admitted (from_to (told walks before) (told walks all)) c.args.last c.args.time c.args.bound.now c.requires.bound front c.loop-k.k (points_of c.args.labels.now) (points_of c.loop-k.labels) labels.admitted
     c.front_from-place.ensures.made_of c.front_from-place.ensures.betters (omega arith)
     (c.loop-k.invariant.takes walks steps set_outs before all ext_before ext)

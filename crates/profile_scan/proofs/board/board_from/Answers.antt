@@ -1,4 +1,4 @@
-use Rattle.std.proofs.Common.{◌-◌, ◌≡◌, ◌<◌, length, slice_get, slice_index, Some, subst, sym, ◌∙◌}
+use Rattle.std.proofs.Common.{◌≡◌, ◌<◌, length, slice_get, slice_index, Some, subst, sym, ◌∙◌}
 use Rattle.std.proofs.lemmas.List.{get_or_default}
 use Rattle.fronts.specs.Lists.{lists_criterion, entries_of, list_points, steps_of}
 use Rattle.profile_scan.specs.Story.{story}

@@ -1,4 +1,6 @@
 use Rattle.std.proofs.Common.{◌≡◌, ◌-◌, ◌≤◌, ◌++◌}
+use Rattle.bags.specs.Bag.{points_of}
+use Rattle.profile_scan.specs.Bound.{AreBounds}
 use Rattle.profile_scan.specs.Matching.{MatchesFrom}
 use Rattle.profile_scan.specs.Story.{told}
 use Rattle.profile_scan.specs.Kept.{IsScan, kept_by, story_of}
@@ -14,6 +16,7 @@ invariant-loop-place g l =
       timetable : g.S.ConnSource.timetable l.source ≡ g.S.ConnSource.timetable l.fn.source;
       log : g.S.ConnSource.log l.source ≡ g.S.ConnSource.log l.fn.source ++ falling l.place (l.end - l.place);
       scan : IsScan g.C.Criterion.rules l.criterion t.stops t.trips l.scan;
+      bound : AreBounds (g.C.Criterion.rules l.criterion) t (points_of l.scan.found) l.place l.scan.bound.values.items;
       matched : MatchesFrom (g.C.Criterion.rules l.criterion) t l.query (told t.footpaths (story_of l.scan)) l.place (kept_by l.scan);
     }
 

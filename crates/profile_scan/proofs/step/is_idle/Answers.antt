@@ -1,8 +1,8 @@
-use Rattle.std.proofs.Common.{◌≡◌, ◌<◌, [], length, slice_index, sym, ◌∙◌, ap, subst, map}
+use Rattle.std.proofs.Common.{◌≡◌, ◌<◌, length, slice_index, sym, ◌∙◌, ap, subst, map}
 use Rattle.std.proofs.lemmas.List.{get_or_default}
 use Rattle.fronts.specs.Lists.{entries_of, items_of, list_points, lists_criterion, point_of}
 use Rattle.fronts.proofs.Points.{none_at_end}
-use Rattle.profile_scan.specs.Kept.{labels_in, points_at}
+use Rattle.profile_scan.specs.Kept.{labels_in}
 use Rattle.profile_scan.proofs.step.is_idle.Goals as goal
 
 pub returns : goal.returns

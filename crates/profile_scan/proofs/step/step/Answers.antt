@@ -1,13 +1,20 @@
-use Rattle.std.proofs.Common.{◌≡◌, ◌<◌, ◌+◌, ◌∙◌, ℕ, All, length-set, slice_index, sym, subst}
+use Rattle.std.proofs.Common.{◌≡◌, ◌<◌, ◌+◌, ◌∙◌, ℕ, List, Contains, length-set, slice_index, arith, ap, sym, subst}
+use Rattle.criteria.specs.Laws.{Admits}
 use Rattle.std.proofs.lemmas.List.Elements.{All-set}
 use Rattle.timetable.specs.declared.network.Connection.{Connection}
 use Rattle.timetable.specs.Journeys.{connection_at}
 use Rattle.timetable.proofs.LegalFacts.{connection_at-stands}
 use Rattle.profile_scan.specs.Matching.{from_to}
 use Rattle.bags.specs.Bag.{criterion_of, points_of}
-use Rattle.fronts.specs.Lists.{steps_of}
+use Rattle.fronts.specs.Lists.{entries_of, items_of, lists_criterion, steps_of}
+use Rattle.fronts.proofs.Mapped.{list_admitted}
+use Rattle.profile_scan.specs.Bound.{carried}
+use Rattle.profile_scan.specs.Steps.{TakesIn, leavings, boardings}
 use Rattle.profile_scan.specs.Story.{story, told}
 use Rattle.profile_scan.specs.Kept.{ArePlaced, kept_by, points_at, story_of}
+use Rattle.profile_scan.proofs.Admitted.{AreAdmitted}
+use Rattle.profile_scan.proofs.Offers.{bag_under}
+use Rattle.profile_scan.proofs.BoundLemmas.{bounds_renewed, bounds_on, carried_by_bounds}
 use Rattle.profile_scan.proofs.StoryLemmas.{grows_none, grows_keeps}
 use Rattle.profile_scan.proofs.StepFacts.{step_holds, step_idle_at}
 use Rattle.profile_scan.proofs.step.step.Goals as goal
@@ -60,20 +67,73 @@ returns-clause-scan g c = record {
   found = c.in_ok-step_in.ensures.found;
 }
 
+-- the values of a bound, renewed
+pub step_in-requires-clause-bound : goal.step_in-requires-clause-bound
+step_in-requires-clause-bound g c =
+    let rules = g.C.Criterion.rules c.args.criterion.now in
+    let laws = g.met.C.Criterion.laws c.args.criterion.now in
+    let t = g.S.ConnSource.timetable c.args.source.now in
+    let legal = g.met.S.ConnSource.legal c.args.source.now in
+    let scan = c.args.scan.now in
+    let found = bag_under g.C.Criterion.rules scan.found.criterion c.args.criterion.now (points_of scan.found) c.requires.scan.found scan.found.kept in
+    let bounds = bounds_renewed rules laws t legal (points_of scan.found) found.admitted c.args.place c.args.connection.now.dep c.requires.place (ap (λ (x : Connection). x.dep) c.requires.connection) scan.bound.values.items c.renew.new.bound.values.items c.requires.bound c.in_ok-renew.ensures in
+    subst (λ (values : List g.row.C-V.Denot). (b : g.row.C-V.Denot) → Contains values b → Admits rules b) (sym c.deref.ensures.value) bounds.admitted
+
+pub returns-clause-bound : goal.returns-clause-bound
+returns-clause-bound g c =
+    let rules = g.C.Criterion.rules c.args.criterion.now in
+    let laws = g.met.C.Criterion.laws c.args.criterion.now in
+    let t = g.S.ConnSource.timetable c.args.source.now in
+    let legal = g.met.S.ConnSource.legal c.args.source.now in
+    let scan = c.args.scan.now in
+    let found = bag_under g.C.Criterion.rules scan.found.criterion c.args.criterion.now (points_of scan.found) c.requires.scan.found scan.found.kept in
+    let bounds = bounds_renewed rules laws t legal (points_of scan.found) found.admitted c.args.place c.args.connection.now.dep c.requires.place (ap (λ (x : Connection). x.dep) c.requires.connection) scan.bound.values.items c.renew.new.bound.values.items c.requires.bound c.in_ok-renew.ensures in
+    let now = story c.step_in.new.exits.items (steps_of c.step_in.new.stops.lists) c.step_in.new.set_outs.items in
+    let taken = c.in_ok-step_in.ensures.takes in
+    let mid = story taken.0 (steps_of scan.stops.lists) scan.set_outs.items in
+    bounds_on rules laws t (points_of scan.found) (points_of c.step_in.new.found) (c.args.place + 1) c.args.place c.renew.new.bound.values.items (omega arith)
+    (taken.5 mid now (grows_none mid) (grows_none now)).kept bounds
+
+pub returns-then-is_idle-clause-bound : goal.returns-then-is_idle-clause-bound
+returns-then-is_idle-clause-bound g c =
+    let rules = g.C.Criterion.rules c.args.criterion.now in
+    let laws = g.met.C.Criterion.laws c.args.criterion.now in
+    let t = g.S.ConnSource.timetable c.args.source.now in
+    let scan = c.args.scan.now in
+    bounds_on rules laws t (points_of scan.found) (points_of scan.found) (c.args.place + 1) c.args.place scan.bound.values.items (omega arith) (λ d v a covers. covers) c.requires.bound
+
 pub returns-clause-step : goal.returns-clause-step
 returns-clause-step g c =
+    let rules = g.C.Criterion.rules c.args.criterion.now in
+    let laws = g.met.C.Criterion.laws c.args.criterion.now in
     let t = g.S.ConnSource.timetable c.args.source.now in
+    let legal = g.met.S.ConnSource.legal c.args.source.now in
     let scan = c.args.scan.now in
     let was = story_of scan in
     let now = story c.step_in.new.exits.items (steps_of c.step_in.new.stops.lists) c.step_in.new.set_outs.items in
     let taken = c.in_ok-step_in.ensures.takes in
     let mid = story taken.0 (steps_of scan.stops.lists) scan.set_outs.items in
-    step_holds (g.C.Criterion.rules c.args.criterion.now) t c.args.query.now (from_to (told t.footpaths was) (told t.footpaths now)) c.args.place
+    let values = c.renew.new.bound.values.items in
+    let values_is = c.deref.ensures.value in
+    let sets_out = taken.5 mid now (grows_none mid) (grows_none now) in
+    let found = bag_under g.C.Criterion.rules scan.found.criterion c.args.criterion.now (points_of scan.found) c.requires.scan.found scan.found.kept in
+    let new_found = bag_under g.C.Criterion.rules c.step_in.new.found.criterion c.args.criterion.now (points_of c.step_in.new.found) c.in_ok-step_in.ensures.found c.step_in.new.found.kept in
+    let labels = bag_under g.C.Criterion.rules c.step_in.new.labels.criterion c.args.criterion.now (points_of c.step_in.new.labels) c.in_ok-step_in.ensures.labels c.step_in.new.labels.kept in
+    let bounds = bounds_renewed rules laws t legal (points_of scan.found) found.admitted c.args.place c.args.connection.now.dep c.requires.place (ap (λ (x : Connection). x.dep) c.requires.connection) scan.bound.values.items values c.requires.bound c.in_ok-renew.ensures in
+    let new_bounds = bounds_on rules laws t (points_of scan.found) (points_of c.step_in.new.found) (c.args.place + 1) (c.args.place + 1) values (omega arith) sets_out.kept bounds in
+    let bag = points_at scan.stops (connection_at t c.args.place).to in
+    let bag_admitted = subst (λ k. AreAdmitted (g.C.Criterion.rules k) bag) c.requires.scan.at_stops.under (list_admitted (g.C.Criterion.rules (lists_criterion scan.stops.lists)) (entries_of scan.stops.lists) (items_of scan.stops.lists) c.requires.scan.at_stops.sound (slice_index scan.stops.heads.items (connection_at t c.args.place).to)) in
+    step_holds rules t c.args.query.now (from_to (told t.footpaths was) (told t.footpaths now)) c.args.place
     (points_at scan.stops) (points_at c.step_in.new.stops) scan.labels.slots.items c.place_of.new.labels.slots.items scan.labels.bags.items c.place_of.new.labels.bags.items (points_of scan.found) (points_of c.step_in.new.found) c.index_mut-labels.result.now c.step_in.new.labels c.in_ok-slot.slot
+    (carried rules values bag) (carried rules values (points_of c.step_in.new.labels))
     (told t.footpaths mid) (grows_keeps t.footpaths was mid taken.1) (grows_keeps t.footpaths mid now taken.2)
     c.in_ok-slot.ensures.same c.in_ok-slot.ensures.placed
     (subst (λ (x : Connection). slice_index c.place_of.new.labels.slots.items x.trip ≡ c.in_ok-slot.slot + 1) c.requires.connection c.in_ok-slot.ensures.place)
     c.index_mut-labels.ensures.value
-    (taken.3 was mid (grows_none was) (grows_none mid))
-    (λ stop. taken.4 stop mid now (grows_none mid) (grows_none now))
-    (taken.5 mid now (grows_none mid) (grows_none now))
+    (carried_by_bounds rules laws t (points_of scan.found) found.admitted c.args.place values bounds bag bag_admitted)
+    (carried_by_bounds rules laws t (points_of c.step_in.new.found) new_found.admitted c.args.place values new_bounds (points_of c.step_in.new.labels) labels.admitted)
+    (subst (λ (vs : List g.row.C-V.Denot). TakesIn rules (leavings rules t c.args.query.now (from_to (told t.footpaths was) (told t.footpaths mid)) c.args.place (carried rules vs bag)) (points_of c.index_mut-labels.result.now) (points_of c.step_in.new.labels)) values_is
+    (taken.3 was mid (grows_none was) (grows_none mid)))
+    (λ stop. subst (λ (vs : List g.row.C-V.Denot). TakesIn rules (boardings rules t (from_to (told t.footpaths mid) (told t.footpaths now)) c.args.place stop (carried rules vs (points_of c.step_in.new.labels))) (points_at scan.stops stop) (points_at c.step_in.new.stops stop)) values_is
+    (taken.4 stop mid now (grows_none mid) (grows_none now)))
+    sets_out

@@ -7,6 +7,7 @@ use Rattle.timetable.specs.declared.network.Connection.{Connection}
 use Rattle.timetable.specs.Journeys.{connection_at}
 use Rattle.timetable.proofs.LegalFacts.{connection_at-stands, arrival_limit}
 use Rattle.profile_scan.specs.Steps.{leavings, TakesIn}
+use Rattle.profile_scan.specs.Bound.{carried}
 use Rattle.profile_scan.specs.Matching.{from_to}
 use Rattle.fronts.specs.Lists.{entries_of, list_points, steps_of}
 use Rattle.profile_scan.specs.Story.{told}
@@ -55,13 +56,13 @@ returns-clause-takes g c =
     let to_in = (legal.stops_in_range c.args.place (connection_at t c.args.place) (connection_at-stands t c.args.place c.requires.place)).1 in
     let within : c.args.connection.now.to < length heads.items = subst (λ (n : ℕ). c.args.connection.now.to < n) (sym c.requires.stops.long ∙ heads.ok.0) (subst (λ (x : Connection). x.to < t.stops) (sym c.requires.connection) to_in) in
     let is : c.index-head.result.now ≡ slice_index heads.items cn.to = c.index-head.ensures ∙ get_or_default heads.items cn.to c.index-head.result.now 0 within in
-    let bag_is : list_points stops.lists c.index-head.result.now ≡ points_at stops (connection_at t c.args.place).to = ap (list_points stops.lists) is ∙ ap (λ (x : Connection). points_at stops x.to) c.requires.connection in (
+    let bag_is : carried rules c.args.bound.now (list_points stops.lists c.index-head.result.now) ≡ carried rules c.args.bound.now (points_at stops (connection_at t c.args.place).to) = ap (λ (n : ℕ). carried rules c.args.bound.now (list_points stops.lists n)) is ∙ ap (λ (x : Connection). carried rules c.args.bound.now (points_at stops x.to)) c.requires.connection in (
       mid,
       exits_grow c.args.exits.now.items mid steps set_outs c.in_ok-alight.ensures.exits,
       c.in_ok-board.ensures.grows mid,
       (λ before all ext_before ext.
           subst (λ (bag : List (Point g.row.C-V.Denot)). TakesIn rules (leavings rules t c.args.query.now (from_to (told t.footpaths before) (told t.footpaths all)) c.args.place bag) old new) bag_is
-          (leavings_taken rules t legal c.args.query.now (from_to (told t.footpaths before) (told t.footpaths all)) c.args.place cn c.requires.connection c.args.way c.requires.way (list_points stops.lists c.index-head.result.now) old new
+          (leavings_taken rules t legal c.args.query.now (from_to (told t.footpaths before) (told t.footpaths all)) c.args.place cn c.requires.connection c.args.way c.requires.way (carried rules c.args.bound.now (list_points stops.lists c.index-head.result.now)) old new
           (c.in_ok-alight.ensures.takes t.footpaths steps set_outs before all ext_before ext))),
       (λ stop. c.in_ok-board.ensures.boards mid stop),
       c.in_ok-board.ensures.sets_out mid,

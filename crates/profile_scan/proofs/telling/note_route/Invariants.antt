@@ -1,4 +1,4 @@
-use Rattle.std.proofs.Common.{◌≡◌, ◌-◌, ℕ, List, length, Some}
+use Rattle.std.proofs.Common.{◌≡◌, ◌-◌, List, length, Some}
 use Rattle.timetable.specs.declared.network.Footpath.{Footpath}
 use Rattle.profile_scan.specs.Continuations.{Aboard}
 use Rattle.profile_scan.specs.Story.{label_tells}

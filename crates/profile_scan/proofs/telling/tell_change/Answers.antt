@@ -1,4 +1,4 @@
-use Rattle.std.proofs.Common.{◌≡◌, ◌<◌, ◌++◌, ◌∷◌, [], length, sym, ◌∙◌, ap, subst}
+use Rattle.std.proofs.Common.{◌≡◌, ◌++◌, ◌∷◌, [], sym, ◌∙◌, ap, subst}
 use Rattle.std.proofs.lemmas.Option.{slice_get_within, same_Some}
 use Rattle.profile_scan.specs.Kept.{story_of}
 use Rattle.profile_scan.specs.Telling.{SaysLabel}

@@ -1,4 +1,4 @@
-use Rattle.std.proofs.Common.{map, take, sym, ◌∙◌, ap, arith}
+use Rattle.std.proofs.Common.{map, sym, ◌∙◌, ap, arith}
 use Rattle.std.proofs.lemmas.List.{take_all}
 use Rattle.profile_scan.specs.Kept.{story_of}
 use Rattle.profile_scan.specs.Points.{untagged}

@@ -1,4 +1,4 @@
-use Rattle.std.proofs.Common.{◌≡◌, Contains, map, take, length}
+use Rattle.std.proofs.Common.{◌≡◌, Contains, map, take}
 use Rattle.profile_scan.specs.Points.{untagged}
 use Rattle.profile_scan.specs.Kept.{story_of}
 use Rattle.profile_scan.specs.Telling.{IsRetold}

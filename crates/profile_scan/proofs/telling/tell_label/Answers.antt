@@ -1,4 +1,4 @@
-use Rattle.std.proofs.Common.{◌≡◌, sym, ◌∙◌, ap, subst}
+use Rattle.std.proofs.Common.{sym, subst}
 use Rattle.fronts.proofs.Growth.{extends_on}
 use Rattle.profile_scan.specs.Kept.{story_of}
 use Rattle.profile_scan.specs.Telling.{IsRoute, SaysLabel}

@@ -1,7 +1,7 @@
 use Rattle.std.proofs.Common.{ℕ, length}
 use Rattle.fronts.specs.Front.{Extends}
 use Rattle.profile_scan.specs.Kept.{story_of}
-use Rattle.profile_scan.specs.Telling.{IsRoute, IsLabelTold, SaysLabel}
+use Rattle.profile_scan.specs.Telling.{IsRoute, SaysLabel}
 use Rattle.profile_scan.proofs.telling.tell_label.Given as goal
 
 abbrev pub invariant-loop-earlier : goal.invariant-loop-earlier

@@ -9,13 +9,15 @@ loop-init g c = record { fits = c.requires.fits; number = refl; reads = refl; wr
 pub returns-in-Err-clause-session : goal.returns-in-Err-clause-session
 returns-in-Err-clause-session g c =
     let e = c.in-Err.ensures in
-    read_fails _ _ _ _ _ e.0 _ _ _ _ _ _ _ _ _ c.loop.invariant.so_far e.1 e.2.0 (why_failed _ _ _ _ c.requires.reads c.loop.invariant.reads e.2.2) (not_rose _ _ c.loop.invariant.writes)
+    read_fails _ _ _ _ _ e.0 _ _ _ _ _ _ _ _ _ (omega (arith, c.loop-test.true, c.loop.auto.counter-end))
+    c.loop.invariant.so_far e.1 e.2.0 (why_failed _ _ _ _ c.requires.reads c.loop.invariant.reads e.2.2) (not_rose _ _ c.loop.invariant.writes)
 
 pub returns-in-Ok-Nothing-clause-session : goal.returns-in-Ok-Nothing-clause-session
 returns-in-Ok-Nothing-clause-session g c =
     let e = c.in-Ok-Nothing.ensures in
     let nothing = Gives-nothing _ _ _ _ c.in-Ok-Nothing.field-0-is e.2.0 in
-    ends_at_end _ _ _ _ _ e.0 _ _ _ _ _ _ _ _ _ _ c.loop.invariant.so_far e.1 nothing.0 nothing.2 (not_rose _ _ (e.2.1 ∙ c.loop.invariant.reads)) (not_rose _ _ c.loop.invariant.writes)
+    ends_at_end _ _ _ _ _ e.0 _ _ _ _ _ _ _ _ _ _ (omega (arith, c.loop-test.true, c.loop.auto.counter-end))
+    c.loop.invariant.so_far e.1 nothing.0 nothing.2 (not_rose _ _ (e.2.1 ∙ c.loop.invariant.reads)) (not_rose _ _ c.loop.invariant.writes)
 
 pub returns-in-Err-answer_line-2-clause-session : goal.returns-in-Err-answer_line-2-clause-session
 returns-in-Err-answer_line-2-clause-session g c =
@@ -23,7 +25,8 @@ returns-in-Err-answer_line-2-clause-session g c =
     let gives = Gives-ended _ _ _ _ c.in-Ok-Ended.field-0-is e.2.0 in
     let done = c.in-Err-answer_line-2.ensures.turn gives.line (c.line-line-in-Ok-Ended.ensures gives.line gives.shown) in
     let turn = TurnsTo-number _ _ _ _ _ _ _ c.loop.invariant.number done.2 in
-    cut_short_at_line _ _ _ _ _ e.0 _ _ _ _ _ _ _ _ _ _ _ _ _ c.loop.invariant.so_far e.1 gives done.0 done.1 turn done.3.0 done.3.1 (not_rose _ _ (e.2.1 ∙ c.loop.invariant.reads))
+    cut_short_at_line _ _ _ _ _ e.0 _ _ _ _ _ _ _ _ _ _ _ _ _ (omega (arith, c.loop-test.true, c.loop.auto.counter-end))
+    c.loop.invariant.so_far e.1 gives done.0 done.1 turn done.3.0 done.3.1 (not_rose _ _ (e.2.1 ∙ c.loop.invariant.reads))
     (rose _ _ _ c.requires.writes c.loop.invariant.writes c.in-Err-answer_line-2.ensures.failures)
 
 pub loop-preserved : goal.loop-preserved
@@ -46,7 +49,8 @@ returns-in-Ok-clause-session g c =
     let gives = Gives-rest _ _ _ _ c.in-Ok-Rest.field-0-is e.2.0 in
     let done = c.in-Ok.ensures.turn _ (c.line-line.ensures _ gives.shown) in
     let turn = TurnsTo-number _ _ _ _ _ _ _ c.loop.invariant.number done.2 in
-    ends_with_rest _ _ _ _ _ e.0 _ _ _ _ _ _ _ _ _ _ _ _ _ _ c.loop.invariant.so_far e.1 gives done.0 done.1 turn done.3 (not_rose _ _ (e.2.1 ∙ c.loop.invariant.reads)) (not_rose _ _ (c.in-Ok.ensures.failures ∙ c.loop.invariant.writes))
+    ends_with_rest _ _ _ _ _ e.0 _ _ _ _ _ _ _ _ _ _ _ _ _ _ (omega (arith, c.loop-test.true, c.loop.auto.counter-end))
+    c.loop.invariant.so_far e.1 gives done.0 done.1 turn done.3 (not_rose _ _ (e.2.1 ∙ c.loop.invariant.reads)) (not_rose _ _ (c.in-Ok.ensures.failures ∙ c.loop.invariant.writes))
 
 pub returns-in-Err-answer_line-clause-session : goal.returns-in-Err-answer_line-clause-session
 returns-in-Err-answer_line-clause-session g c =
@@ -54,7 +58,8 @@ returns-in-Err-answer_line-clause-session g c =
     let gives = Gives-rest _ _ _ _ c.in-Ok-Rest.field-0-is e.2.0 in
     let done = c.in-Err-answer_line.ensures.turn _ (c.line-line.ensures _ gives.shown) in
     let turn = TurnsTo-number _ _ _ _ _ _ _ c.loop.invariant.number done.2 in
-    cut_short_at_rest _ _ _ _ _ e.0 _ _ _ _ _ _ _ _ _ _ _ _ _ c.loop.invariant.so_far e.1 gives done.0 done.1 turn done.3.0 done.3.1 (not_rose _ _ (e.2.1 ∙ c.loop.invariant.reads))
+    cut_short_at_rest _ _ _ _ _ e.0 _ _ _ _ _ _ _ _ _ _ _ _ _ (omega (arith, c.loop-test.true, c.loop.auto.counter-end))
+    c.loop.invariant.so_far e.1 gives done.0 done.1 turn done.3.0 done.3.1 (not_rose _ _ (e.2.1 ∙ c.loop.invariant.reads))
     (rose _ _ _ c.requires.writes c.loop.invariant.writes c.in-Err-answer_line.ensures.failures)
 
 pub returns-in-Ok-true-clause-session : goal.returns-in-Ok-true-clause-session
@@ -67,9 +72,11 @@ pub returns-in-Ok-false-clause-session : goal.returns-in-Ok-false-clause-session
 returns-in-Ok-false-clause-session g c =
     let e = c.in-Ok-false.ensures in
     let none = is_not_there _ _ _ c.in-Ok-false.field-0-test e.3.0 in
-    ends_at_end _ _ _ _ _ e.0 _ _ _ _ _ _ _ _ _ _ c.loop.invariant.so_far e.1 (sym e.2 ∙ none.0) none.1 (not_rose _ _ (e.3.1 ∙ c.loop.invariant.reads)) (not_rose _ _ c.loop.invariant.writes)
+    ends_at_end _ _ _ _ _ e.0 _ _ _ _ _ _ _ _ _ _ (omega (arith, c.loop-test.false, c.loop.auto.counter-end))
+    c.loop.invariant.so_far e.1 (sym e.2 ∙ none.0) none.1 (not_rose _ _ (e.3.1 ∙ c.loop.invariant.reads)) (not_rose _ _ c.loop.invariant.writes)
 
 pub returns-clause-session : goal.returns-clause-session
 returns-clause-session g c =
     let e = c.in-Err-has_byte.ensures in
-    read_fails _ _ _ _ _ e.0 _ _ _ _ _ _ _ _ _ c.loop.invariant.so_far e.1 (nothing_is_one_line _ (sym e.2 ∙ e.3.0)) (inl (rose _ _ _ c.requires.reads c.loop.invariant.reads e.3.1)) (not_rose _ _ c.loop.invariant.writes)
+    read_fails _ _ _ _ _ e.0 _ _ _ _ _ _ _ _ _ (omega (arith, c.loop-test.false, c.loop.auto.counter-end))
+    c.loop.invariant.so_far e.1 (nothing_is_one_line _ (sym e.2 ∙ e.3.0)) (inl (rose _ _ _ c.requires.reads c.loop.invariant.reads e.3.1)) (not_rose _ _ c.loop.invariant.writes)

@@ -5,8 +5,10 @@ use Rattle.transfers.proofs.claims.claim_into.Goals as goal
 
 pub loop-from-preserved : goal.loop-from-preserved
 loop-from-preserved c =
-    adds_more c.args.froms.now (λ from. IsPairClaim c.args.row.now from c.args.to) c.loop-from.from-index 0 c.args.claims.now.items c.loop-from.claims.items c.claim_pair.new.claims.items (omega arith) c.loop-from.invariant c.in_ok-claim_pair.ensures
+    adds_more c.args.froms.now (λ from. IsPairClaim c.args.row.now from c.args.to) c.loop-from.from-index 0 c.args.claims.now.items
+    c.loop-from.claims.items c.claim_pair.new.claims.items (omega arith) c.loop-from.invariant c.in_ok-claim_pair.ensures
 
 pub returns : goal.returns
 returns c =
-    adds_end c.args.froms.now (λ from. IsPairClaim c.args.row.now from c.args.to) c.loop-from.from-index c.args.claims.now.items c.loop-from.claims.items (omega arith) c.loop-from.invariant
+    adds_end c.args.froms.now (λ from. IsPairClaim c.args.row.now from c.args.to) c.loop-from.from-index c.args.claims.now.items c.loop-from.claims.items
+    (omega arith) c.loop-from.invariant

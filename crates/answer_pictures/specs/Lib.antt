@@ -1,0 +1,5 @@
+pub mod LineValue
+pub mod Words
+pub mod Style
+pub mod Pictures
+pub mod Told

@@ -1,0 +1,19 @@
+-- Words as XML tells them.
+use Rattle.std.specs.Prelude.{ℕ, List, Bool, not, ◌==◌, ◌&&◌, nat_le, if◌then◌else◌, codes, chars}
+use Rattle.std.specs.List.{flat_map}
+use Rattle.std.specs.Char.{encode_utf8}
+
+-- XML allows each character but the controls and two that are none
+abbrev pub is_xml : ℕ → Bool
+is_xml c = nat_le 32 c && (not (c == 65534) && not (c == 65535))
+
+-- a character by its name where it would be markup, and a replacement where XML has none
+abbrev pub escaped_letter : ℕ → List ℕ
+escaped_letter c =
+    if c == 38 then codes "&amp;"
+    else if c == 60 then codes "&lt;"
+    else if c == 62 then codes "&gt;"
+    else if is_xml c then encode_utf8 c else encode_utf8 65533
+
+abbrev pub escaped : List ℕ → List ℕ
+escaped text = flat_map escaped_letter (chars text)

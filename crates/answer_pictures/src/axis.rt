@@ -1,0 +1,83 @@
+//! The axis of time.
+
+ghost use Rattle.std.specs.Prelude.{◌≡◌, ◌≤◌};
+ghost use Rattle.answer_pictures.specs.Pictures.{length_between, place};
+
+use std::alloc::{AllocError, Global};
+
+// Where the axis begins, and how long it is.
+const LEFT: u64 = 190;
+
+const LENGTH: u64 = 740;
+
+// As many marks as there are, at most, beside the first.
+const MOST_STEPS: u32 = 8;
+
+// How far marks may be from one another, in seconds.
+const STEPS: [u32; 13] = [
+    60, 120, 300, 600, 900, 1800, 3600, 7200, 10800, 21600, 43200, 86400, 172800,
+];
+
+/// From when to when the axis of a picture goes, in seconds after the base, and how far its marks are from one another.
+#[derive(Clone, Copy, Debug, PartialEq, Eq)]
+pub struct Axis {
+    pub start: u32,
+    pub end: u32,
+    pub step: u32,
+}
+
+impl Axis {
+    /// An axis on which two times and all between them lie, with both of its ends on marks.
+    pub fn covering(first: u32, last: u32) -> Axis
+        ensures { (result.start ≤ first) × (last ≤ result.end) }
+    {
+        let step = step_for(last.saturating_sub(first)).max(1);
+        let start = first.saturating_sub(first % step);
+        let over = last % step;
+        let end = if over == 0 {
+            last
+        } else {
+            last.saturating_add(step - over)
+        };
+        Axis { start, end, step }
+    }
+
+    /// Where a time lies, from the left; one before the axis at its start, one behind it at its end.
+    pub(crate) fn place(&self, time: u32) -> u64
+        ensures { result ≡ place self.now time }
+    {
+        let span = self.end.saturating_sub(self.start).max(1);
+        let after = time.min(self.end).saturating_sub(self.start);
+        LEFT + after as u64 * LENGTH / span as u64
+    }
+
+    /// How long it is from one time to another.
+    pub(crate) fn length(&self, start: u32, end: u32) -> u64
+        ensures { result ≡ length_between self.now start end }
+    {
+        self.place(end).saturating_sub(self.place(start)).max(1)
+    }
+
+    /// The times at which the axis is marked.
+    pub(crate) fn marks(&self, alloc: Global) -> Result<Vec<u32>, AllocError> {
+        let mut times = Vec::new(alloc);
+        let mut time = self.start;
+        for _ in 0..MOST_STEPS + 2 {
+            if time <= self.end {
+                times.push(time)?;
+            }
+            time = time.saturating_add(self.step);
+        }
+        Ok(times)
+    }
+}
+
+/// How far marks are from one another on an axis of so many seconds.
+fn step_for(span: u32) -> u32 {
+    for step in STEPS {
+        if span as u64 <= step as u64 * MOST_STEPS as u64 {
+            return step;
+        }
+    }
+    span / MOST_STEPS + 1
+}

@@ -1,0 +1,40 @@
+//! Words as XML tells them.
+
+ghost use Rattle.std.specs.Prelude.{◌≡◌, ◌++◌, OnOk, string_bytes};
+ghost use Rattle.answer_pictures.specs.Words.{escaped, escaped_letter, is_xml};
+
+use std::alloc::AllocError;
+
+/// Whether XML allows a character.
+fn is_xml(letter: char) -> bool
+    ensures { result ≡ is_xml letter }
+{
+    letter >= ' ' && letter != '\u{FFFE}' && letter != '\u{FFFF}'
+}
+
+/// Adds a character so that XML tells it: by its name where it would be markup, and as a replacement where XML has none.
+fn put_letter(out: &mut String, letter: char) -> Result<(), AllocError>
+    ensures { OnOk result (string_bytes out.new ≡ string_bytes out.old ++ escaped_letter letter) }
+{
+    if letter == '&' {
+        out.push_str("&amp;")
+    } else if letter == '<' {
+        out.push_str("&lt;")
+    } else if letter == '>' {
+        out.push_str("&gt;")
+    } else if is_xml(letter) {
+        out.push(letter)
+    } else {
+        out.push('\u{FFFD}')
+    }
+}
+
+/// Adds words as XML tells them.
+pub(crate) fn put_words(out: &mut String, words: &str) -> Result<(), AllocError>
+    ensures { OnOk result (string_bytes out.new ≡ string_bytes out.old ++ escaped words.now) }
+{
+    for letter in words.chars() {
+        put_letter(out, letter)?;
+    }
+    Ok(())
+}

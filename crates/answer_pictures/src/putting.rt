@@ -1,0 +1,59 @@
+//! Numbers, times and words added to an SVG text.
+
+ghost use Rattle.std.specs.Prelude.{◌≡◌, ◌++◌, codes, decimal, OnOk, string_bytes};
+ghost use Rattle.timetable.specs.Clocks.{clock_bytes};
+ghost use Rattle.answer_pictures.specs.Pictures.{attribute_text};
+ghost use Rattle.answer_pictures.specs.Words.{escaped};
+
+use crate::escaping::put_words;
+use std::alloc::AllocError;
+use std::fmt::Write as _;
+use timetable::clocks::Clock;
+
+/// Adds a text as it is.
+pub(crate) fn put_text(out: &mut String, text: &str) -> Result<(), AllocError>
+    ensures { OnOk result (string_bytes out.new ≡ string_bytes out.old ++ text.now) }
+{
+    out.push_str(text)
+}
+
+/// Adds a number in decimal digits.
+pub(crate) fn put_number(out: &mut String, number: u64) -> Result<(), AllocError>
+    ensures { OnOk result (string_bytes out.new ≡ string_bytes out.old ++ decimal number) }
+{
+    write!(out, "{number}")
+}
+
+/// Adds an attribute, whose name has a space before it.
+pub(crate) fn put_attribute(out: &mut String, name: &str, number: u64) -> Result<(), AllocError>
+    ensures { OnOk result (string_bytes out.new ≡ string_bytes out.old ++ attribute_text name.now number) }
+{
+    put_text(out, name)?;
+    put_text(out, "=\"")?;
+    put_number(out, number)?;
+    put_text(out, "\"")
+}
+
+/// Adds a time as the content of an element, and the end of that.
+pub(crate) fn put_clock(out: &mut String, time: u32) -> Result<(), AllocError>
+    ensures { OnOk result (string_bytes out.new ≡ string_bytes out.old ++ (codes ">" ++ clock_bytes time ++ codes "</text>\n")) }
+{
+    let clock = Clock(time);
+    put_text(out, ">")?;
+    write!(out, "{clock}")?;
+    put_text(out, "</text>\n")
+}
+
+/// Adds words between an element's beginning and its end.
+pub(crate) fn put_element(
+    out: &mut String,
+    opening: &str,
+    words: &str,
+    closing: &str,
+) -> Result<(), AllocError>
+    ensures { OnOk result (string_bytes out.new ≡ string_bytes out.old ++ (opening.now ++ escaped words.now ++ closing.now)) }
+{
+    put_text(out, opening)?;
+    put_words(out, words)?;
+    put_text(out, closing)
+}

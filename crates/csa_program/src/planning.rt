@@ -1,0 +1,97 @@
+//! What is made of feeds: the service days and the zone that a command line tells.
+
+ghost use Rattle.std.specs.Prelude.{◌≤◌, IfOk};
+ghost use Rattle.connections.specs.declared.days.TheConstants.{MAX_DAYS};
+
+use connections::MAX_DAYS;
+use feed_loader::{LoadFault, Plan};
+use gtfs_tables::Day;
+use service_days::{DayFault, Zone};
+use std::fs;
+use std::io::ErrorKind;
+use std::rt::Files;
+
+/// How a time zone is told.
+#[derive(Clone, Copy, Debug)]
+pub enum ZoneText<'a> {
+    /// Seconds ahead of UTC.
+    Fixed(i32),
+    /// A POSIX rule.
+    Posix(&'a str),
+    /// The path of a time zone file (TZif).
+    File(&'a str),
+}
+
+/// What is to be made of a feed.
+#[derive(Clone, Copy, Debug)]
+pub struct PlanText<'a> {
+    pub first_day: Day,
+    pub days: u32,
+    pub zone: ZoneText<'a>,
+    pub strict: bool,
+}
+
+/// Why there is no plan.
+#[derive(Drop)]
+pub enum PlanFailure<'a> {
+    /// A word of the command line has a wrong form.
+    WrongForm,
+    /// The zone is none.
+    Refused(LoadFault),
+    /// The file at the path can't be read.
+    Unreadable(&'a str),
+    OutOfMemory,
+}
+
+impl<'a> From<DayFault> for PlanFailure<'a> {
+    fn from(fault: DayFault) -> PlanFailure<'a> {
+        PlanFailure::Refused(LoadFault::Day(fault))
+    }
+}
+
+/// Seconds ahead of UTC, at most.
+const MOST_AHEAD: i32 = 86_399;
+
+/// The plan that is told, for 1 to 14 days.
+pub fn plan_of<'a, H: Files + AllocGlobal>(
+    rt: &H,
+    text: PlanText<'a>,
+) -> Result<Plan, PlanFailure<'a>>
+    ensures some { IfOk result (λ plan. 1 ≤ plan.days) }
+    ensures few { IfOk result (λ plan. plan.days ≤ MAX_DAYS) }
+{
+    if text.days < 1 || text.days > MAX_DAYS {
+        return Err(PlanFailure::WrongForm);
+    }
+    match zone_of(rt, text.zone) {
+        Ok(zone) => Ok(Plan {
+            first_day: text.first_day,
+            days: text.days,
+            zone,
+            strict: text.strict,
+        }),
+        Err(failure) => Err(failure),
+    }
+}
+
+fn zone_of<'a, H: Files + AllocGlobal>(
+    rt: &H,
+    text: ZoneText<'a>,
+) -> Result<Zone, PlanFailure<'a>> {
+    match text {
+        ZoneText::Fixed(seconds) => {
+            if seconds < -MOST_AHEAD || seconds > MOST_AHEAD {
+                return Err(PlanFailure::WrongForm);
+            }
+            Ok(Zone::fixed(seconds))
+        }
+        ZoneText::Posix(rule) => Ok(Zone::posix(rule)?),
+        ZoneText::File(path) => match fs::read(rt, path) {
+            Ok(bytes) => Ok(Zone::file_bytes(rt.alloc(), &bytes)?),
+            Err(error) => match error.kind() {
+                ErrorKind::OutOfMemory => Err(PlanFailure::OutOfMemory),
+                _ => Err(PlanFailure::Unreadable(path)),
+            },
+        },
+    }
+}

@@ -1,0 +1,225 @@
+//! `csa serve --image IMAGE --port P --workers W --sessions N --first DAY --days N --zone ZONE [NAME=FOLDER]..`.
+
+ghost use Rattle.std.specs.Prelude.{◌≡◌, ◌≤◌, All, length, IfOk};
+ghost use Rattle.connections.specs.declared.days.TheConstants.{MAX_DAYS};
+ghost use Rattle.csa_program.specs.Serving.{sessions_in, status_of_ends};
+
+use crate::command_line::WRONG_PLAN_FORM;
+use crate::disk::{Disk, DiskFolder};
+use crate::opening::open_image;
+use crate::planning::{PlanFailure, PlanText, plan_of};
+use crate::refusal::refuse_feed;
+use crate::sockets::Door;
+use crate::status;
+use epochs::{ShelfLoader, ShelfSeat, Shelves};
+use feed_loader::Plan;
+use image_verifier::Verified;
+use orders::OpenGate;
+use std::alloc::{AllocError, Global};
+use std::io::{Read, Write};
+use std::net::{Ipv4Addr, Net, TcpListener, TcpStream};
+use std::rt::Files;
+use std::sync::{Arc, Wait};
+use std::thread::Threads;
+use workers::{Feeds, Served, run_workers};
+
+/// How many sessions may be served at once.
+pub const MOST_WORKERS: u32 = 16;
+
+/// A feed that may be loaded by its name.
+#[derive(Clone, Copy, Debug)]
+pub struct NamedFolder<'a> {
+    pub name: &'a str,
+    pub folder: &'a str,
+}
+
+/// What is served, where, and how often.
+#[derive(Drop)]
+pub struct ServeRequest<'a> {
+    pub image: &'a str,
+    pub port: u16,
+    pub workers: usize,
+    ghost some: { 1 ≤ workers },
+    ghost few: { workers ≤ 16 },
+    /// How many sessions are served in all, 0 for no end.
+    pub sessions: u64,
+    pub plan: PlanText<'a>,
+    pub feeds: Vec<NamedFolder<'a>>,
+}
+
+/// The folders of the feeds that may be loaded.
+#[derive(Drop)]
+struct Folders<'a, H> {
+    disk: &'a H,
+    names: Vec<String>,
+    feeds: &'a [NamedFolder<'a>],
+    plan: Plan,
+    ghost some: { 1 ≤ plan.days },
+    ghost few: { plan.days ≤ MAX_DAYS },
+}
+
+impl<'a, H: Disk + Sync> Feeds for Folders<'a, H> {
+    type Files = DiskFolder<'a, H>;
+
+    fn names(&self) -> &[String] {
+        &self.names
+    }
+
+    fn plan(&self) -> &Plan {
+        &self.plan
+    }
+
+    fn files(&self, place: usize) -> Option<DiskFolder<'a, H>> {
+        match self.feeds.get(place) {
+            Some(feed) => Some(DiskFolder::new(self.disk, feed.folder)),
+            None => None,
+        }
+    }
+}
+
+/// Serves sessions until as many were served as are asked for, or tells the first thing that is wrong.
+pub fn run<
+    H: Files
+        + Disk
+        + AllocGlobal
+        + Net<Listener = TcpListener, Stream = TcpStream>
+        + Threads
+        + Wait
+        + Sync,
+    I: Read,
+    O: Write,
+    E: Write + Send,
+>(rt: &H, request: ServeRequest<'_>, input: &mut I, output: &mut O, errors: &mut E) -> u8 {
+    let alloc = rt.alloc();
+    let plan = match plan_of(rt, request.plan) {
+        Ok(plan) => plan,
+        Err(PlanFailure::WrongForm) => {
+            return status::written(errors, WRONG_PLAN_FORM, status::COMMAND_LINE);
+        }
+        Err(PlanFailure::Refused(fault)) => return refuse_feed(alloc, output, fault),
+        Err(PlanFailure::Unreadable(path)) => return status::unreadable(alloc, errors, path),
+        Err(PlanFailure::OutOfMemory) => return status::OUT_OF_MEMORY,
+    };
+    let image = match open_image(rt, request.image, input, output, errors) {
+        Ok(image) => image,
+        Err(status) => return status,
+    };
+    let Ok(names) = names_of(alloc, &request.feeds) else {
+        return status::OUT_OF_MEMORY;
+    };
+    let folders = Folders {
+        disk: rt,
+        names,
+        feeds: &request.feeds,
+        plan,
+    };
+    listen(rt, alloc, &request, image, &folders, output, errors)
+}
+
+fn names_of(alloc: Global, feeds: &[NamedFolder<'_>]) -> Result<Vec<String>, AllocError> {
+    let mut names = Vec::with_capacity(alloc, feeds.len())?;
+    for feed in feeds {
+        names.push(String::from_str(alloc, feed.name)?)?;
+    }
+    Ok(names)
+}
+
+// Listens at the port, and serves whoever comes.
+fn listen<
+    H: Disk + Net<Listener = TcpListener, Stream = TcpStream> + Threads + Wait + Sync,
+    O: Write,
+    E: Write + Send,
+>(
+    rt: &H,
+    alloc: Global,
+    request: &ServeRequest<'_>,
+    image: Verified,
+    folders: &Folders<'_, H>,
+    output: &mut O,
+    errors: &mut E,
+) -> u8 {
+    let Ok((shelves, loader, seats)) = shelves_of(alloc, image, request.workers) else {
+        return status::OUT_OF_MEMORY;
+    };
+    let Ok(listener) = TcpListener::bind(rt, (Ipv4Addr::LOCALHOST, request.port)) else {
+        return unheard(alloc, errors, request.port);
+    };
+    let Ok(address) = listener.local_addr() else {
+        return unheard(alloc, errors, request.port);
+    };
+    let begun = status::line_written(
+        output,
+        format!(in alloc; "listening {}\n", address.port()),
+        status::ACCEPTED,
+    );
+    if begun != status::ACCEPTED {
+        return begun;
+    }
+    let mut door = Door::new(&listener, request.sessions);
+    match run_workers(
+        rt, alloc, &mut door, &shelves, seats, loader, folders, &OpenGate, errors,
+    ) {
+        Ok(served) => tell_served(alloc, &served, door.has_failed(), output),
+        Err(_) => status::OUT_OF_MEMORY,
+    }
+}
+
+// Shelves with the image as version 1, and seats for so many workers.
+fn shelves_of(
+    alloc: Global,
+    image: Verified,
+    workers: usize,
+) -> Result<(Shelves, ShelfLoader, Vec<ShelfSeat>), AllocError>
+    requires { workers ≤ 16 }
+    ensures loader { IfOk result (λ made. made.1.table ≡ made.0) }
+    ensures seats { IfOk result (λ made. All (λ seat. seat.table ≡ made.0) made.2.items) }
+    ensures count { IfOk result (λ made. length made.2.items ≡ workers) }
+{
+    let Ok(shared) = Arc::new(alloc, image) else {
+        return Err(AllocError);
+    };
+    let Ok((shelves, loader, mut seats)) = Shelves::new(alloc, shared) else {
+        return Err(AllocError);
+    };
+    seats.truncate(workers);
+    Ok((shelves, loader, seats))
+}
+
+// Tells that nobody can listen at the port.
+fn unheard<E: Write>(alloc: Global, errors: &mut E, port: u16) -> u8 {
+    status::line_written(
+        errors,
+        format!(in alloc; "csa: port {port} can't be listened at\n"),
+        status::INPUT_OUTPUT,
+    )
+}
+
+// Tells how many sessions there were.
+fn tell_served<O: Write>(alloc: Global, served: &Served, is_deaf: bool, output: &mut O) -> u8 {
+    let sessions = sessions_of(served);
+    let status = status_of(served, is_deaf);
+    status::line_written(output, format!(in alloc; "served {sessions}\n"), status)
+}
+
+// How many sessions there were.
+fn sessions_of(served: &Served) -> u64
+    ensures { result ≡ sessions_in served.now }
+{
+    served
+        .ended()
+        .saturating_add(served.failed())
+        .saturating_add(served.spent())
+}
+
+// The status of a server whose sessions ended so, and which may have failed to accept one.
+fn status_of(served: &Served, is_deaf: bool) -> u8
+    ensures { result ≡ status_of_ends is_deaf served.now }
+{
+    if is_deaf || served.failed() > 0 {
+        status::INPUT_OUTPUT
+    } else if served.spent() > 0 {
+        status::REFUSED
+    } else {
+        status::ACCEPTED
+    }
+}

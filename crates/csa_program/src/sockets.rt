@@ -1,0 +1,80 @@
+//! Sessions over TCP.
+
+use std::io::ErrorKind;
+use std::net::{TcpListener, TcpStream};
+use workers::{Client, Clients, ConnFault};
+
+/// A connection that was accepted.
+#[derive(Drop)]
+pub struct Connection {
+    stream: TcpStream,
+}
+
+impl Client for Connection {
+    type Reader = TcpStream;
+
+    type Writer = TcpStream;
+
+    ghost opens = { λ _ _. Unit {0} };
+
+    /// Each reply is sent at once.
+    fn open(self) -> Result<(TcpStream, TcpStream), ConnFault> {
+        let Connection { stream } = self;
+        match (stream.set_nodelay(true), stream.try_clone()) {
+            (Ok(()), Ok(reader)) => Ok((reader, stream)),
+            _ => Err(ConnFault),
+        }
+    }
+}
+
+/// Accepts connections, as many as are wanted.
+#[derive(Drop)]
+pub struct Door<'a> {
+    listener: &'a TcpListener,
+    left: u64,
+    is_endless: bool,
+    failed: bool,
+}
+
+impl<'a> Door<'a> {
+    /// So many connections, or without end for 0.
+    pub fn new(listener: &'a TcpListener, connections: u64) -> Door<'a> {
+        Door {
+            listener,
+            left: connections,
+            is_endless: connections == 0,
+            failed: false,
+        }
+    }
+
+    /// Whether accepting failed.
+    pub fn has_failed(&self) -> bool {
+        self.failed
+    }
+
+    // Whoever is gone before it was accepted isn't counted.
+    fn accept(&mut self) -> Option<Connection> {
+        for _ in 0..u64::MAX {
+            match self.listener.accept() {
+                Ok((stream, _)) => return Some(Connection { stream }),
+                Err(error) => match error.kind() {
+                    ErrorKind::Interrupted
+                    | ErrorKind::ConnectionAborted
+                    | ErrorKind::ConnectionReset => {}
+                    _ => break,
+                },
+            }
+        }
+        self.failed = true;
+        None
+    }
+}
+
+impl<'a> Clients<Connection> for Door<'a> {
+    fn next(&mut self) -> Option<Connection> {
+        if !self.is_endless {
+            self.left = self.left.checked_sub(1)?;
+        }
+        self.accept()
+    }
+}

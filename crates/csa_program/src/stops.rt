@@ -1,0 +1,66 @@
+//! `csa stops IMAGE [TEXT]`.
+
+ghost use Rattle.std.specs.Prelude.{◌+◌, ◌<◌};
+
+use crate::opening::open_image;
+use crate::status;
+use image_verifier::Verified;
+use std::alloc::{AllocError, Global};
+use std::fmt::Write as _;
+use std::io::{Read, Write};
+use std::rt::Files;
+
+/// The image, and what the names of the stops that are listed have in them.
+#[derive(Clone, Copy, Debug, Drop)]
+pub struct StopsRequest<'a> {
+    pub image: &'a str,
+    pub text: &'a str,
+}
+
+/// Prints number and name of each stop whose name has the text in it, in order.
+pub fn run<H: Files + AllocGlobal, I: Read, O: Write, E: Write>(
+    rt: &H,
+    request: StopsRequest<'_>,
+    input: &mut I,
+    output: &mut O,
+    errors: &mut E,
+) -> u8 {
+    let image = match open_image(rt, request.image, input, output, errors) {
+        Ok(image) => image,
+        Err(status) => return status,
+    };
+    status::line_written(
+        output,
+        lines_of(rt.alloc(), &image, request.text),
+        status::ACCEPTED,
+    )
+}
+
+fn lines_of(alloc: Global, image: &Verified, text: &str) -> Result<String, AllocError> {
+    let mut lines = String::new(alloc);
+    for stop in 0..image.stops() {
+        let name = name_of(alloc, image, stop as usize)?;
+        append_stop(&mut lines, stop, name.as_str(), text)?;
+    }
+    Ok(lines)
+}
+
+fn append_stop(lines: &mut String, stop: u32, name: &str, text: &str) -> Result<(), AllocError> {
+    if !name.contains(text) {
+        return Ok(());
+    }
+    write!(lines, "{stop} {name}\n")
+}
+
+fn name_of(alloc: Global, image: &Verified, number: usize) -> Result<String, AllocError>
+    requires { number < image.now.timetable.stops + image.now.timetable.trips }
+{
+    let mut bytes = Vec::with_capacity(alloc, image.name_len(number))?;
+    for place in 0..image.name_len(number) {
+        bytes.push(image.name_byte(number, place))?;
+    }
+    match String::from_utf8(bytes) {
+        Ok(name) => Ok(name),
+        Err(_) => Ok(String::new(alloc)),
+    }
+}

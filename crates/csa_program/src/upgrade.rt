@@ -1,0 +1,57 @@
+//! `csa upgrade IMAGE OUT`.
+
+ghost use Rattle.std.specs.Prelude.{◌≡◌, IfOk};
+ghost use Rattle.image_layout.specs.declared.layout.TheConstants.{LAYOUT};
+ghost use Rattle.image_layout.specs.Fields.{layout_of};
+ghost use Rattle.image_layout.specs.Image.{IsImage};
+
+use crate::opening::open_image;
+use crate::status;
+use crate::verify::counts;
+use crate::writing::put_image;
+use image_verifier::Verified;
+use image_writer::write;
+use std::alloc::{AllocError, Global};
+use std::io::{ErrorKind, Read, Write};
+use std::rt::Files;
+
+/// Which image is written anew, and where to.
+#[derive(Clone, Copy, Debug, Drop)]
+pub struct UpgradeRequest<'a> {
+    pub image: &'a str,
+    pub out: &'a str,
+}
+
+/// Writes the image in the layout that is written today, and prints its counts as `verify` does; or tells the image's first
+/// fault. The file is written only where there is none.
+pub fn run<H: Files + AllocGlobal, I: Read, O: Write, E: Write>(
+    rt: &H,
+    request: UpgradeRequest<'_>,
+    input: &mut I,
+    output: &mut O,
+    errors: &mut E,
+) -> u8 {
+    let image = match open_image(rt, request.image, input, output, errors) {
+        Ok(image) => image,
+        Err(status) => return status,
+    };
+    let Ok(words) = upgraded(rt.alloc(), &image) else {
+        return status::OUT_OF_MEMORY;
+    };
+    match put_image(rt, request.out, &words) {
+        Ok(()) => status::line_written(output, counts(rt.alloc(), &image), status::ACCEPTED),
+        Err(error) => match error.kind() {
+            ErrorKind::OutOfMemory => status::OUT_OF_MEMORY,
+            _ => status::unwritable(rt.alloc(), errors, request.out),
+        },
+    }
+}
+
+/// The image of the same timetable and names in the layout that is written. Want of memory is the one error.
+fn upgraded(alloc: Global, image: &Verified) -> Result<Vec<u32>, AllocError>
+    ensures image { IfOk result (λ words. IsImage words.items image.now.timetable image.now.names) }
+    ensures layout { IfOk result (λ words. layout_of words.items ≡ LAYOUT) }
+{
+    let (timetable, names) = image.to_timetable(alloc)?;
+    write(alloc, &timetable, &names)
+}

@@ -1,0 +1,52 @@
+//! An image's words into a file.
+
+use image_layout::Words;
+use std::fs::File;
+use std::io::Write;
+use std::rt::Files;
+use std::{fs, io};
+
+/// How many words are written at once.
+const PIECE_WORDS: usize = 16_384;
+
+// Whether there is something at the path that isn't a plain file: a device, a pipe, a link.
+fn is_special<H: Files>(rt: &H, path: &str) -> bool {
+    match fs::symlink_metadata(rt, path) {
+        Ok(metadata) => !metadata.is_file(),
+        Err(_) => false,
+    }
+}
+
+/// Puts an image's words at the path. A plain file is replaced by a whole one, made beside it: so it is never half an image, also where
+/// it is the one that was read. Into anything else the words are written.
+pub fn put_image<H: Files + AllocGlobal>(rt: &H, path: &str, words: &[u32]) -> io::Result<()> {
+    if is_special(rt, path) {
+        return write_words(rt, path, words);
+    }
+    let beside = format!(in rt.alloc(); "{path}.part")?;
+    let outcome = put_by_way_of(rt, beside.as_str(), path, words);
+    if outcome.is_err() {
+        let _ = fs::remove_file(rt, beside.as_str());
+    }
+    outcome
+}
+
+fn put_by_way_of<H: Files + AllocGlobal>(
+    rt: &H,
+    beside: &str,
+    path: &str,
+    words: &[u32],
+) -> io::Result<()> {
+    write_words(rt, beside, words)?;
+    fs::rename(rt, beside, path)
+}
+
+// Writes the words by pieces, so that they aren't held as bytes beside them.
+fn write_words<H: Files + AllocGlobal>(rt: &H, path: &str, words: &[u32]) -> io::Result<()> {
+    let mut file = File::create(rt, path)?;
+    for piece in words.chunks(PIECE_WORDS) {
+        let bytes = Words::to_bytes(rt.alloc(), piece)?;
+        file.write_all(&bytes)?;
+    }
+    file.flush()
+}

@@ -1,0 +1,35 @@
+-- What a scan leaves out by a bound: values of points found, none of which departs earlier than the connections that are still to come.
+use Rattle.std.specs.Prelude.{◌≡◌, ◌⊎◌, ℕ, ◌≤◌, Bool, false, not, List, filter, Contains}
+use Rattle.std.specs.List.{list_any}
+use Rattle.criteria.specs.Laws.{Rules, Admits, RidingWorsens}
+use Rattle.bags.specs.declared.point.Point.{Point}
+use Rattle.timetable.specs.TimetableValue.{TimetableValue}
+use Rattle.fronts.specs.declared.entry.Ridden.{Ridden}
+use Rattle.profile_scan.specs.Matching.{IsOutdone}
+
+-- whether one of some values is no worse than v
+abbrev pub is_bettered : {V : Type 0} → Rules V → List V → V → Bool
+is_bettered rules values v = list_any (λ b. rules.no_worse b v) values
+
+-- the points that aren't bettered after the ride
+abbrev pub carried : {V : Type 0} → Rules V → List V → List (Point V) → List (Point V)
+carried rules values points = filter (λ p. not (is_bettered rules values (rules.ride p.value))) points
+
+-- values that points found outdo, each
+pub record AreBounds {V : Type 0} (rules : Rules V) (t : TimetableValue) (found : List (Point V)) (i : ℕ) (values : List V) : Type 0 where
+  pub admitted : (b : V) → Contains values b → Admits rules b
+  pub outdone : (b : V) → Contains values b → IsOutdone rules t found i b
+
+-- a value of a point found that departs at a time or later, where riding never makes one better
+pub record IsLateValue {V : Type 0} (rules : Rules V) (found : List (Point V)) (time : ℕ) (b : V) : Type 0 where
+  pub worsens : RidingWorsens rules
+  pub of : Point V
+  pub is_found : Contains found of
+  pub late : time ≤ of.departure
+  pub worth : of.value ≡ b
+
+-- a label comes after the ride, unless it is bettered then
+pub record RidesLabel {V : Type 0} (rules : Rules V) (values : List V) (label : Point V) (old new : List (Ridden V)) : Type 0 where
+  pub only : (r : Ridden V) → Contains new r → Contains old r ⊎ ((is_bettered rules values (rules.ride label.value) ≡ false) × (r.value ≡ rules.ride label.value) × (r.label ≡ label.tag))
+  pub kept : (r : Ridden V) → Contains old r → Contains new r
+  pub rides : is_bettered rules values (rules.ride label.value) ≡ false → (r : Ridden V) × Contains new r × (r.value ≡ rules.ride label.value)

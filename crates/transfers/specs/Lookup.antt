@@ -1,0 +1,30 @@
+-- What a feed's stops and transfers are looked up by.
+use Rattle.std.specs.Prelude.{ℕ, ◌≤◌, List, length, map, All, Option, Some, None}
+use Rattle.gtfs_tables.specs.declared.tables.Feed.{Feed}
+use Rattle.gtfs_tables.specs.declared.tables.Stop.{Stop}
+use Rattle.gtfs_tables.specs.declared.tables.Transfer.{Transfer}
+use Rattle.gtfs_tables.specs.declared.tables.Place.{Place}
+use Rattle.gtfs_tables.specs.declared.tables.Place.TheVariants.{Stop as TheStop, Station as TheStation}
+use Rattle.transfers.specs.declared.lookup.Lookup.{Lookup}
+use Rattle.transfers.specs.Groups.{AreGroups}
+use Rattle.transfers.specs.Listed.{NamesBelow}
+
+-- the stop, or the station, that a place is
+abbrev pub stop_named : Place → Option ℕ
+stop_named (TheStop stop) = Some stop
+stop_named (TheStation station) = None
+
+abbrev pub station_named : Place → Option ℕ
+station_named (TheStop stop) = None
+station_named (TheStation station) = Some station
+
+-- stops by their stations, transfers by the stop or the station that they lead to
+pub record IsLookup (stops : List Stop) (rows : List Transfer) (l : Lookup) : Type 0 where
+  pub children : AreGroups (map (λ stop. stop.station) stops) l.children.keys.items l.children.numbers.items
+  pub into_stops : AreGroups (map (λ row. stop_named row.to) rows) l.into_stops.keys.items l.into_stops.numbers.items
+  pub into_stations : AreGroups (map (λ row. station_named row.to) rows) l.into_stations.keys.items l.into_stations.numbers.items
+
+-- the number is above those of all stops that the feed has or its transfers name
+pub record EndsBelow (feed : Feed) (end : ℕ) : Type 0 where
+  pub stops : length feed.stops.items ≤ end
+  pub named : All (λ row. NamesBelow end row.from × NamesBelow end row.to) feed.transfers.items

@@ -1,0 +1,94 @@
+// The places of a list in groups, by their keys.
+
+ghost use Rattle.std.specs.Prelude.{◌≡◌, ◌≤◌, ◌++◌, List, Option, ℕ, length, map, slice_range, IfOk, OnOk};
+ghost use Rattle.std.specs.List.Sorted.{IsNonDecreasing};
+ghost use Rattle.transfers.specs.Groups.{AreGroups, AreMembers, IsGroup, member_of};
+
+use std::alloc::{AllocError, Global};
+
+// A place and its key.
+#[derive(Clone, Copy, Debug, PartialEq, Eq)]
+struct Member {
+    key: u32,
+    number: u32,
+}
+
+/// The places of a list of keys that have one, by their keys.
+#[derive(Drop)]
+pub(crate) struct Groups {
+    /// The key of each such place, the lowest first.
+    pub keys: Vec<u32>,
+    /// The places, in the same order.
+    pub numbers: Vec<u32>,
+    ghost same_length: { length keys.items ≡ length numbers.items },
+    ghost rising: { IsNonDecreasing keys.items },
+}
+
+// Adds a place that has a key.
+fn add_member(members: &mut Vec<Member>, key: Option<u32>, number: usize) -> Result<(), AllocError>
+    ensures { OnOk result (members.new.items ≡ members.old.items ++ member_of key number) }
+{
+    if let Some(key) = key {
+        let Ok(number) = u32::try_from(number) else {
+            return Err(AllocError);
+        };
+        members.push(Member { key, number })?;
+    }
+    Ok(())
+}
+
+// The places that have a key, by their numbers.
+fn members_of(alloc: Global, keys: &[Option<u32>]) -> Result<Vec<Member>, AllocError>
+    ensures { IfOk result (λ v. AreMembers keys.now (length keys.now) v.items) }
+{
+    let mut members = Vec::new(alloc);
+    for (number, key) in keys.iter().enumerate() {
+        add_member(&mut members, *key, number)?;
+    }
+    Ok(members)
+}
+
+// The keys of members.
+fn keys_of(alloc: Global, members: &[Member]) -> Result<Vec<u32>, AllocError>
+    ensures { IfOk result (λ v. v.items ≡ map (λ m. m.key) members.now) }
+{
+    members.iter().map(|member| member.key).collect(alloc)
+}
+
+// The numbers of members.
+fn numbers_of(alloc: Global, members: &[Member]) -> Result<Vec<u32>, AllocError>
+    ensures { IfOk result (λ v. v.items ≡ map (λ m. m.number) members.now) }
+{
+    members.iter().map(|member| member.number).collect(alloc)
+}
+
+// The numbers from a place up to before another.
+fn part(numbers: &[u32], first: usize, end: usize) -> &[u32]
+    requires order { first ≤ end }
+    requires inside { end ≤ length numbers.now }
+    ensures { result.now ≡ slice_range numbers.now first end }
+{
+    &numbers[first..end]
+}
+
+impl Groups {
+    /// Brings the places that have a key into order. Places that a `u32` can't number count as want of memory.
+    pub fn new(alloc: Global, keys: &[Option<u32>]) -> Result<Groups, AllocError>
+        ensures { IfOk result (λ g. AreGroups keys.now g.keys.items g.numbers.items) }
+    {
+        let mut members = members_of(alloc, keys)?;
+        members.sort_by_key(|member| member.key)?;
+        let keys = keys_of(alloc, &members)?;
+        let numbers = numbers_of(alloc, &members)?;
+        Ok(Groups { keys, numbers })
+    }
+
+    /// The places with a key.
+    pub fn group(&self, key: u32) -> &[u32]
+        ensures { (all : List (Option ℕ)) → AreGroups all self.now.keys.items self.now.numbers.items → IsGroup all key result.now }
+    {
+        let first = self.keys.partition_point(|other| *other < key);
+        let end = self.keys.partition_point(|other| *other <= key);
+        part(&self.numbers, first, end)
+    }
+}
