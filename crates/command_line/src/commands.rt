@@ -96,16 +96,20 @@ fn profile<'a>(alloc: Global) -> Result<Command<'a>, AllocError> {
         .after_help(PROFILE_EXAMPLE)
         .arg(image(alloc))?;
     with_query(alloc, command)?
-        .arg(option(alloc, "criterion", "NAME", "What is best").value_parser(
-            CriterionName::NAMES.as_slice(),
-        ))?
-        .arg(
-            Arg::new(alloc, "picture")
-                .long("picture")
-                .value_name("FILE")
-                .help("Draws the answer, and writes the picture as SVG into FILE")
-                .action(ArgAction::Set),
-        )
+        .arg(criterion(alloc))?
+        .arg(picture(alloc))
+}
+
+fn criterion<'a>(alloc: Global) -> Arg<'a> {
+    option(alloc, "criterion", "NAME", "What is best").value_parser(CriterionName::NAMES.as_slice())
+}
+
+fn picture<'a>(alloc: Global) -> Arg<'a> {
+    Arg::new(alloc, "picture")
+        .long("picture")
+        .value_name("FILE")
+        .help("Draws the answer, and writes the picture as SVG into FILE")
+        .action(ArgAction::Set)
 }
 
 fn stops<'a>(alloc: Global) -> Result<Command<'a>, AllocError> {

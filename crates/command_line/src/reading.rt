@@ -153,11 +153,10 @@ fn workers(matches: &ArgMatches<'_>) -> Option<usize>
     ensures { IfSome result (λ workers. (1 ≤ workers) × (workers ≤ 16)) }
 {
     let workers = number(matches.get_str("workers")?)?;
-    if (1..=MOST_WORKERS).contains(&workers) {
-        Some(workers as usize)
-    } else {
-        None
+    if workers < 1 || workers > MOST_WORKERS {
+        return None;
     }
+    Some(workers as usize)
 }
 
 fn named_folders<'a>(

@@ -14,13 +14,17 @@ pub(crate) fn port(text: &str) -> Option<u16> {
     u16::try_from(number(text)?).ok()
 }
 
-/// Decimal digits, of a number below 2^64.
+/// Decimal digits and nothing else, of a number below 2^64.
 pub(crate) fn count(text: &str) -> Option<u64> {
-    if text.bytes().all(|byte| byte.is_ascii_digit()) {
-        text.parse().ok()
-    } else {
-        None
+    if text.starts_with('+') {
+        return None;
     }
+    text.parse().ok()
+}
+
+/// Decimal digits and nothing else, of a number below 2^32.
+pub(crate) fn number(text: &str) -> Option<u32> {
+    u32::try_from(count(text)?).ok()
 }
 
 /// A name and a folder, neither of them empty.
@@ -36,15 +40,6 @@ pub(crate) fn day(text: &str) -> Option<Day> {
     Day::parse(text.as_bytes()).ok()
 }
 
-/// Decimal digits, and nothing else.
-pub(crate) fn number(text: &str) -> Option<u32> {
-    if text.bytes().all(|byte| byte.is_ascii_digit()) {
-        text.parse().ok()
-    } else {
-        None
-    }
-}
-
 /// `fixed:SECS`, `posix:TEXT` or `file:PATH`.
 pub(crate) fn zone(text: &str) -> Option<ZoneText<'_>> {
     match text.split_once(':')? {
@@ -58,7 +53,11 @@ pub(crate) fn zone(text: &str) -> Option<ZoneText<'_>> {
 /// Decimal digits, with a hyphen before them for a zone west of Greenwich.
 fn offset(text: &str) -> Option<i32> {
     match text.strip_prefix('-') {
-        Some(digits) => i32::try_from(number(digits)?).ok().map(|seconds| -seconds),
-        None => i32::try_from(number(text)?).ok(),
+        Some(digits) => seconds(digits)?.checked_neg(),
+        None => seconds(text),
     }
+}
+
+fn seconds(digits: &str) -> Option<i32> {
+    i32::try_from(number(digits)?).ok()
 }
