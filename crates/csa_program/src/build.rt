@@ -1,24 +1,16 @@
 //! `csa build FOLDER OUT --first DAY --days N --zone ZONE [--strict]`.
 
-use crate::command_line::WRONG_PLAN_FORM;
-use crate::planning::{PlanFailure, PlanText, plan_of};
+use crate::planning::{PlanFailure, plan_of};
 use crate::refusal::refuse_feed;
 use crate::status;
 use crate::writing::put_image;
+use command_line::{BuildRequest, WRONG_PLAN_FORM};
 use feed_files::FolderFiles;
 use feed_loader::{LoadFault, Report, load};
 use std::alloc::{AllocError, Global};
 use std::io;
 use std::io::{ErrorKind, Write};
 use std::rt::Files;
-
-/// Where a feed is, where its image goes, and what is made of it.
-#[derive(Clone, Copy, Debug, Drop)]
-pub struct BuildRequest<'a> {
-    pub folder: &'a str,
-    pub out: &'a str,
-    pub plan: PlanText<'a>,
-}
 
 /// Why no image is written.
 enum Failure<'a> {

@@ -1,9 +1,10 @@
 //! `csa journey IMAGE TEXT QUERY`.
 
 use crate::opening::open_image;
-use crate::question::Question;
+use crate::question::window_of;
 use crate::refusal::Refusal;
 use crate::status;
+use command_line::JourneyRequest;
 use image_verifier::Verified;
 use journeys::{TextFault, check, journey_parse, query_of};
 use std::alloc::Global;
@@ -11,14 +12,6 @@ use std::io::{Read, Write};
 use std::rt::Files;
 use timetable::Times;
 use timetable::clocks::Clock;
-
-/// A journey's text, the image that it is of, and the query that it is to answer.
-#[derive(Clone, Copy, Drop)]
-pub struct JourneyRequest<'a> {
-    pub image: &'a str,
-    pub text: &'a str,
-    pub question: Question<'a>,
-}
 
 /// Why a journey isn't accepted.
 enum Failure {
@@ -52,7 +45,7 @@ pub fn run<H: Files + AllocGlobal, I: Read, O: Write, E: Write>(
 fn judge(alloc: Global, image: &Verified, request: JourneyRequest<'_>) -> Result<Times, Failure> {
     let question = request.question;
     let (from, to) = (question.from.as_bytes(), question.to.as_bytes());
-    let query = match query_of(image, from, to, question.window) {
+    let query = match query_of(image, from, to, window_of(&question)) {
         Ok(query) => query,
         Err(fault) => return Err(Failure::Refused(Refusal::Query(fault))),
     };

@@ -2,39 +2,25 @@
 #![tactic(auto)]
 
 mod build;
-#[cfg(test)]
-mod build_tests;
-mod command_line;
 mod disk;
-#[cfg(test)]
-mod feed_tests;
-mod image_file;
 mod journey;
 mod opening;
 mod pictured;
 mod planning;
 mod profile;
-#[cfg(test)]
-mod profile_tests;
 mod question;
 mod refusal;
 mod serve;
-#[cfg(test)]
-mod serve_tests;
 mod sockets;
 mod status;
 mod stops;
 mod tables;
-#[cfg(test)]
-mod tests;
 mod upgrade;
-#[cfg(test)]
-mod upgrade_tests;
 mod verify;
 mod writing;
 
-use crate::command_line::{Request, Unread, read};
 pub use crate::disk::Disk;
+use command_line::{Request, Unread, read};
 use std::convert::AsStr;
 use std::io::{Read, Write};
 use std::net::{Net, TcpListener, TcpStream};

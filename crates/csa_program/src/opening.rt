@@ -3,9 +3,9 @@
 ghost use Rattle.std.specs.Prelude.{◌≡◌, codes, IfOk, IfSome};
 ghost use Rattle.csa_program.specs.Opening.{SpellsImage};
 
-use crate::image_file::{ImageFileFault, image_words};
 use crate::refusal::Refusal;
 use crate::status;
+use image_files::{ImageFileFault, image_words};
 use image_verifier::{ImageFault, Verified, verify};
 use std::io::{Read, Write};
 use std::rt::Files;

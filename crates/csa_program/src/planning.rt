@@ -3,33 +3,13 @@
 ghost use Rattle.std.specs.Prelude.{◌≤◌, IfOk};
 ghost use Rattle.connections.specs.declared.days.TheConstants.{MAX_DAYS};
 
+use command_line::{PlanText, ZoneText};
 use connections::MAX_DAYS;
 use feed_loader::{LoadFault, Plan};
-use gtfs_tables::Day;
 use service_days::{DayFault, Zone};
 use std::fs;
 use std::io::ErrorKind;
 use std::rt::Files;
-
-/// How a time zone is told.
-#[derive(Clone, Copy, Debug)]
-pub enum ZoneText<'a> {
-    /// Seconds ahead of UTC.
-    Fixed(i32),
-    /// A POSIX rule.
-    Posix(&'a str),
-    /// The path of a time zone file (TZif).
-    File(&'a str),
-}
-
-/// What is to be made of a feed.
-#[derive(Clone, Copy, Debug)]
-pub struct PlanText<'a> {
-    pub first_day: Day,
-    pub days: u32,
-    pub zone: ZoneText<'a>,
-    pub strict: bool,
-}
 
 /// Why there is no plan.
 #[derive(Drop)]

@@ -4,9 +4,10 @@ ghost use Rattle.timetable.specs.Queries.{IsAskable};
 
 use crate::opening::open_image;
 use crate::pictured::{PictureFailure, draw};
-use crate::question::Question;
+use crate::question::window_of;
 use crate::refusal::Refusal;
 use crate::status;
+use command_line::ProfileRequest;
 use criteria::{Arrival, ArrivalTrips, ArrivalTripsWalk, CriterionName, Told};
 use image_verifier::Verified;
 use journeys::{Answer, Departure, answer_query, journey_text, query_of};
@@ -17,16 +18,6 @@ use std::io::{Read, Write};
 use std::rt::Files;
 use timetable::clocks::Clock;
 use timetable::{Journey, Query};
-
-/// The image, the query that is asked of it, and what is best.
-#[derive(Clone, Copy, Drop)]
-pub struct ProfileRequest<'a> {
-    pub image: &'a str,
-    pub question: Question<'a>,
-    pub criterion: CriterionName,
-    /// The file into which the answer is drawn.
-    pub picture: Option<&'a str>,
-}
 
 /// Prints each best departure with a journey, and then how many there are, how many connections were read, and the direct footpath.
 /// A picture that is asked for is written before.
@@ -43,7 +34,7 @@ pub fn run<H: Files + AllocGlobal, I: Read, O: Write, E: Write>(
     };
     let question = request.question;
     let (from, to) = (question.from.as_bytes(), question.to.as_bytes());
-    let query = match query_of(&image, from, to, question.window) {
+    let query = match query_of(&image, from, to, window_of(&question)) {
         Ok(query) => query,
         Err(fault) => return status::refused(rt.alloc(), output, &Refusal::Query(fault)),
     };

@@ -1,11 +1,19 @@
-//! A query as the command line asks it.
+//! The window of a query as the command line asks it.
 
+ghost use Rattle.std.specs.Prelude.{◌≡◌};
+
+use command_line::Question;
 use journeys::Window;
 
-/// Where from and where to, by the names of stops, and when.
-#[derive(Clone, Copy, Drop)]
-pub struct Question<'a> {
-    pub from: &'a str,
-    pub to: &'a str,
-    pub window: Window,
+/// From the earliest departure until the latest, and by when.
+pub fn window_of(question: &Question<'_>) -> Window
+    ensures from { result.from ≡ question.entry.after }
+    ensures until { result.until ≡ question.entry.until }
+    ensures by { result.by ≡ question.entry.by }
+{
+    Window {
+        from: question.after,
+        until: question.until,
+        by: question.by,
+    }
 }

@@ -4,13 +4,13 @@ ghost use Rattle.std.specs.Prelude.{◌≡◌, ◌≤◌, All, length, IfOk};
 ghost use Rattle.connections.specs.declared.days.TheConstants.{MAX_DAYS};
 ghost use Rattle.csa_program.specs.Serving.{sessions_in, status_of_ends};
 
-use crate::command_line::WRONG_PLAN_FORM;
 use crate::disk::{Disk, DiskFolder};
 use crate::opening::open_image;
-use crate::planning::{PlanFailure, PlanText, plan_of};
+use crate::planning::{PlanFailure, plan_of};
 use crate::refusal::refuse_feed;
 use crate::sockets::Door;
 use crate::status;
+use command_line::{NamedFolder, ServeRequest, WRONG_PLAN_FORM};
 use epochs::{ShelfLoader, ShelfSeat, Shelves};
 use feed_loader::Plan;
 use image_verifier::Verified;
@@ -22,30 +22,6 @@ use std::rt::Files;
 use std::sync::{Arc, Wait};
 use std::thread::Threads;
 use workers::{Feeds, Served, run_workers};
-
-/// How many sessions may be served at once.
-pub const MOST_WORKERS: u32 = 16;
-
-/// A feed that may be loaded by its name.
-#[derive(Clone, Copy, Debug)]
-pub struct NamedFolder<'a> {
-    pub name: &'a str,
-    pub folder: &'a str,
-}
-
-/// What is served, where, and how often.
-#[derive(Drop)]
-pub struct ServeRequest<'a> {
-    pub image: &'a str,
-    pub port: u16,
-    pub workers: usize,
-    ghost some: { 1 ≤ workers },
-    ghost few: { workers ≤ 16 },
-    /// How many sessions are served in all, 0 for no end.
-    pub sessions: u64,
-    pub plan: PlanText<'a>,
-    pub feeds: Vec<NamedFolder<'a>>,
-}
 
 /// The folders of the feeds that may be loaded.
 #[derive(Drop)]

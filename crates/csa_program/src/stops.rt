@@ -4,18 +4,12 @@ ghost use Rattle.std.specs.Prelude.{◌+◌, ◌<◌};
 
 use crate::opening::open_image;
 use crate::status;
+use command_line::StopsRequest;
 use image_verifier::Verified;
 use std::alloc::{AllocError, Global};
 use std::fmt::Write as _;
 use std::io::{Read, Write};
 use std::rt::Files;
-
-/// The image, and what the names of the stops that are listed have in them.
-#[derive(Clone, Copy, Debug, Drop)]
-pub struct StopsRequest<'a> {
-    pub image: &'a str,
-    pub text: &'a str,
-}
 
 /// Prints number and name of each stop whose name has the text in it, in order.
 pub fn run<H: Files + AllocGlobal, I: Read, O: Write, E: Write>(

@@ -9,18 +9,12 @@ use crate::opening::open_image;
 use crate::status;
 use crate::verify::counts;
 use crate::writing::put_image;
+use command_line::UpgradeRequest;
 use image_verifier::Verified;
 use image_writer::write;
 use std::alloc::{AllocError, Global};
 use std::io::{ErrorKind, Read, Write};
 use std::rt::Files;
-
-/// Which image is written anew, and where to.
-#[derive(Clone, Copy, Debug, Drop)]
-pub struct UpgradeRequest<'a> {
-    pub image: &'a str,
-    pub out: &'a str,
-}
 
 /// Writes the image in the layout that is written today, and prints its counts as `verify` does; or tells the image's first
 /// fault. The file is written only where there is none.

@@ -1,6 +1,6 @@
 use Rattle.std.proofs.Common.{rules}
-use Rattle.csa_program.proofs.Reading.{filled_further}
-use Rattle.csa_program.proofs.image_file.fill.Goals as goal
+use Rattle.image_files.proofs.Pieces.{filled_further}
+use Rattle.image_files.proofs.reading.fill.Goals as goal
 
 pub pieces-preserved : goal.pieces-preserved
 pieces-preserved g c = record {

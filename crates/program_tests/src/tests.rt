@@ -1,6 +1,6 @@
 //! The commands as a user runs them: words and input in, lines and a status out.
 
-use crate::{Disk, run};
+use csa_program::{Disk, run};
 use image_layout::{Words, sample_words};
 use std::alloc::{AllocError, Global};
 use std::fs;

@@ -1,50 +1,16 @@
-//! The words of an image, from a file or a reader.
+//! Bytes by pieces, and the words that they spell.
 
 ghost use Rattle.std.specs.Prelude.{◌≡◌, ◌≢◌, ◌<◌, ◌≤◌, ◌%◌, ◌*◌, ◌^◌, length, take, codes, ◌++◌, IfOk, OnOk, IfSome};
 ghost use Rattle.std.specs.Io.KnownBytes.{Consumes, IsAtEnd};
 ghost use Rattle.image_layout.specs.Text.{bytes_of};
 
+use crate::fault::ImageFileFault;
 use image_layout::Words;
 use std::alloc::{AllocError, Global};
 use std::fs::OpenFile;
 use std::io::Read;
 use std::rt::Files;
 use std::{fs, io};
-
-/// Why there are no words.
-#[derive(Debug, Drop)]
-pub enum ImageFileFault {
-    /// The bytes aren't whole words.
-    OddLength,
-    /// They couldn't be read.
-    Unreadable,
-    OutOfMemory,
-}
-
-impl From<AllocError> for ImageFileFault {
-    ghost use Rattle.std.specs.Prelude.{◌≡◌};
-    ghost use Rattle.csa_program.specs.declared.image_file.ImageFileFault.TheVariants.{OutOfMemory};
-
-    ghost from_gives = { λ _ fault. fault ≡ OutOfMemory };
-
-    fn from(_error: AllocError) -> ImageFileFault {
-        ImageFileFault::OutOfMemory
-    }
-}
-
-impl From<io::Error> for ImageFileFault {
-    ghost use Rattle.std.specs.Prelude.{◌≢◌};
-    ghost use Rattle.csa_program.specs.declared.image_file.ImageFileFault.TheVariants.{OddLength};
-
-    ghost from_gives = { λ _ fault. fault ≢ OddLength };
-
-    fn from(error: io::Error) -> ImageFileFault {
-        match error.kind() {
-            io::ErrorKind::OutOfMemory => ImageFileFault::OutOfMemory,
-            _ => ImageFileFault::Unreadable,
-        }
-    }
-}
 
 /// How many words are read at once: so an image is held once, and not as bytes beside words.
 const PIECE_WORDS: usize = 16_384;

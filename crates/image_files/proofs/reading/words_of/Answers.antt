@@ -1,6 +1,6 @@
 use Rattle.std.proofs.Common.{ℕ, ap, sym, ◌∙◌, arith, length-take-le, ◌≡◌, ◌%◌, length, take}
-use Rattle.csa_program.proofs.Reading.{odd_rest, not_whole}
-use Rattle.csa_program.proofs.image_file.words_of.Goals as goal
+use Rattle.image_files.proofs.Pieces.{odd_rest, not_whole}
+use Rattle.image_files.proofs.reading.words_of.Goals as goal
 
 pub returns-then-count-ne0-clause-odd : goal.returns-then-count-ne0-clause-odd
 returns-then-count-ne0-clause-odd g c = λ _.

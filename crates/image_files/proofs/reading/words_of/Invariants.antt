@@ -1,7 +1,7 @@
 use Rattle.std.proofs.Common.{◌≡◌, length}
 use Rattle.std.specs.Io.KnownBytes.{Consumes}
 use Rattle.image_layout.specs.Text.{bytes_of}
-use Rattle.csa_program.proofs.image_file.words_of.Given as goal
+use Rattle.image_files.proofs.reading.words_of.Given as goal
 
 abbrev pub invariant-pieces : goal.invariant-pieces
 invariant-pieces g l = record {

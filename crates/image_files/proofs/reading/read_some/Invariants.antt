@@ -1,6 +1,6 @@
 use Rattle.std.proofs.Common.{[]}
 use Rattle.std.specs.Io.KnownBytes.{Consumes}
-use Rattle.csa_program.proofs.image_file.read_some.Given as goal
+use Rattle.image_files.proofs.reading.read_some.Given as goal
 
 -- an interrupted read takes nothing
 abbrev pub invariant-loop : goal.invariant-loop

@@ -1,0 +1,179 @@
+//! From words to a request, or to what is said of them.
+
+ghost use Rattle.std.specs.Prelude.{◌≤◌, IfSome};
+
+use crate::commands::program;
+use crate::requests::{
+    BuildRequest, JourneyRequest, MOST_WORKERS, NamedFolder, PlanText, ProfileRequest, Question,
+    Request, ServeRequest, StopsRequest, Unread, UpgradeRequest, WRONG_PLAN_FORM,
+};
+use crate::values::{clock, count, day, named_folder, number, port, zone};
+use clap::error::ErrorKind;
+use clap::{ArgMatches, Error};
+use criteria::CriterionName;
+use std::alloc::Global;
+use std::convert::AsStr;
+
+const WRONG_FORM: &str =
+    "error: a clock is HH:MM:SS: hours of one to six digits, minutes and seconds below 60\n";
+
+/// What is said where other words of `serve` have a wrong form.
+const WRONG_SERVE_FORM: &str =
+    "error: a port is 0 to 65535, the number of workers 1 to 16, the number of sessions decimal, and a feed NAME=FOLDER\n";
+
+fn unread_of(alloc: Global, error: &Error) -> Unread {
+    if error.kind() == ErrorKind::OutOfMemory {
+        return Unread::OutOfMemory;
+    }
+    match error.to_string(alloc) {
+        Ok(text) if error.use_stderr() => Unread::Mistake(text),
+        Ok(text) => Unread::Help(text),
+        Err(_) => Unread::OutOfMemory,
+    }
+}
+
+/// What the words ask for; the first is the program's name.
+pub fn read<'a, S: AsStr>(alloc: Global, words: &'a [S]) -> Result<Request<'a>, Unread> {
+    let Ok(command) = program(alloc) else {
+        return Err(Unread::OutOfMemory);
+    };
+    let matches = match command.try_get_matches_from(words) {
+        Ok(matches) => matches,
+        Err(error) => return Err(unread_of(alloc, &error)),
+    };
+    let request = match matches.subcommand() {
+        Some(("verify", inner)) => inner.get_str("image").map(Request::Verify),
+        Some(("journey", inner)) => journey_request(inner).map(Request::Journey),
+        Some(("profile", inner)) => profile_request(inner).map(Request::Profile),
+        Some(("stops", inner)) => stops_request(inner).map(Request::Stops),
+        Some(("tables", inner)) => inner.get_str("folder").map(Request::Tables),
+        Some(("build", inner)) => match build_request(inner) {
+            Some(request) => Some(Request::Build(request)),
+            None => return Err(mistake(alloc, WRONG_PLAN_FORM)),
+        },
+        Some(("upgrade", inner)) => upgrade_request(inner).map(Request::Upgrade),
+        Some(("serve", inner)) => return serve_request(alloc, inner),
+        _ => None,
+    };
+    match request {
+        Some(request) => Ok(request),
+        None => Err(mistake(alloc, WRONG_FORM)),
+    }
+}
+
+/// A text that clap takes, of a wrong form.
+fn mistake(alloc: Global, form: &str) -> Unread {
+    match String::from_str(alloc, form) {
+        Ok(text) => Unread::Mistake(text),
+        Err(_) => Unread::OutOfMemory,
+    }
+}
+
+fn stops_request<'a>(matches: &ArgMatches<'a>) -> Option<StopsRequest<'a>> {
+    Some(StopsRequest {
+        image: matches.get_str("image")?,
+        text: matches.get_str("text").unwrap_or(""),
+    })
+}
+
+fn upgrade_request<'a>(matches: &ArgMatches<'a>) -> Option<UpgradeRequest<'a>> {
+    Some(UpgradeRequest {
+        image: matches.get_str("image")?,
+        out: matches.get_str("out")?,
+    })
+}
+
+fn journey_request<'a>(matches: &ArgMatches<'a>) -> Option<JourneyRequest<'a>> {
+    Some(JourneyRequest {
+        image: matches.get_str("image")?,
+        text: matches.get_str("text")?,
+        question: question(matches)?,
+    })
+}
+
+fn profile_request<'a>(matches: &ArgMatches<'a>) -> Option<ProfileRequest<'a>> {
+    Some(ProfileRequest {
+        image: matches.get_str("image")?,
+        question: question(matches)?,
+        criterion: CriterionName::of(matches.get_str("criterion")?)?,
+        picture: matches.get_str("picture"),
+    })
+}
+
+fn question<'a>(matches: &ArgMatches<'a>) -> Option<Question<'a>> {
+    Some(Question {
+        from: matches.get_str("from")?,
+        to: matches.get_str("to")?,
+        after: clock(matches.get_str("after")?)?,
+        until: clock(matches.get_str("until")?)?,
+        by: clock(matches.get_str("by")?)?,
+    })
+}
+
+fn build_request<'a>(matches: &ArgMatches<'a>) -> Option<BuildRequest<'a>> {
+    Some(BuildRequest {
+        folder: matches.get_str("folder")?,
+        out: matches.get_str("out")?,
+        plan: plan(matches, matches.get_flag("strict"))?,
+    })
+}
+
+fn plan<'a>(matches: &ArgMatches<'a>, strict: bool) -> Option<PlanText<'a>> {
+    Some(PlanText {
+        first_day: day(matches.get_str("first")?)?,
+        days: number(matches.get_str("days")?)?,
+        zone: zone(matches.get_str("zone")?)?,
+        strict,
+    })
+}
+
+fn serve_request<'a>(alloc: Global, matches: &ArgMatches<'a>) -> Result<Request<'a>, Unread> {
+    let Some(plan) = plan(matches, false) else {
+        return Err(mistake(alloc, WRONG_PLAN_FORM));
+    };
+    let (Some(image), Some(port), Some(workers), Some(sessions)) = (
+        matches.get_str("image"),
+        matches.get_str("port").and_then(port),
+        workers(matches),
+        matches.get_str("sessions").and_then(count),
+    ) else {
+        return Err(mistake(alloc, WRONG_SERVE_FORM));
+    };
+    Ok(Request::Serve(ServeRequest {
+        image,
+        port,
+        workers,
+        sessions,
+        plan,
+        feeds: named_folders(alloc, matches)?,
+    }))
+}
+
+fn workers(matches: &ArgMatches<'_>) -> Option<usize>
+    ensures { IfSome result (λ workers. (1 ≤ workers) × (workers ≤ 16)) }
+{
+    let workers = number(matches.get_str("workers")?)?;
+    if workers < 1 || workers > MOST_WORKERS {
+        return None;
+    }
+    Some(workers as usize)
+}
+
+fn named_folders<'a>(
+    alloc: Global,
+    matches: &ArgMatches<'a>,
+) -> Result<Vec<NamedFolder<'a>>, Unread> {
+    let mut feeds = Vec::new(alloc);
+    let Some(words) = matches.get_strs("feeds") else {
+        return Ok(feeds);
+    };
+    for word in words {
+        let Some(feed) = named_folder(*word) else {
+            return Err(mistake(alloc, WRONG_SERVE_FORM));
+        };
+        if feeds.push(feed).is_err() {
+            return Err(Unread::OutOfMemory);
+        }
+    }
+    Ok(feeds)
+}

@@ -1,0 +1,138 @@
+//! What a command line asks for.
+
+ghost use Rattle.std.specs.Prelude.{◌≤◌};
+
+use criteria::CriterionName;
+use gtfs_rows::Day;
+
+/// A command with its arguments.
+#[derive(Drop)]
+pub enum Request<'a> {
+    /// To verify the image in a file, or in the standard input for `-`.
+    Verify(&'a str),
+    /// To check a journey against an image.
+    Journey(JourneyRequest<'a>),
+    /// To answer a profile query over an image.
+    Profile(ProfileRequest<'a>),
+    /// To read the tables of a feed's folder.
+    Tables(&'a str),
+    /// To make the image of a feed's folder.
+    Build(BuildRequest<'a>),
+    /// To list stops by their names.
+    Stops(StopsRequest<'a>),
+    /// To write an image anew, in the layout that is written.
+    Upgrade(UpgradeRequest<'a>),
+    /// To serve sessions.
+    Serve(ServeRequest<'a>),
+}
+
+/// Why the words ask for no command.
+#[derive(Drop)]
+pub enum Unread {
+    /// They ask for a text of help.
+    Help(String),
+    /// They are wrong, as the text says.
+    Mistake(String),
+    OutOfMemory,
+}
+
+/// Where from and where to, by the names of stops, and when: seconds after the image's base.
+#[derive(Clone, Copy, Drop)]
+pub struct Question<'a> {
+    pub from: &'a str,
+    pub to: &'a str,
+    /// The earliest departure.
+    pub after: u32,
+    /// The latest departure.
+    pub until: u32,
+    /// The latest arrival.
+    pub by: u32,
+}
+
+/// A journey's text, the image that it is of, and the query that it is to answer.
+#[derive(Clone, Copy, Drop)]
+pub struct JourneyRequest<'a> {
+    pub image: &'a str,
+    pub text: &'a str,
+    pub question: Question<'a>,
+}
+
+/// The image, the query that is asked of it, and what is best.
+#[derive(Clone, Copy, Drop)]
+pub struct ProfileRequest<'a> {
+    pub image: &'a str,
+    pub question: Question<'a>,
+    pub criterion: CriterionName,
+    /// The file into which the answer is drawn.
+    pub picture: Option<&'a str>,
+}
+
+/// The image, and what the names of the stops that are listed have in them.
+#[derive(Clone, Copy, Drop)]
+pub struct StopsRequest<'a> {
+    pub image: &'a str,
+    pub text: &'a str,
+}
+
+/// Which image is written anew, and where to.
+#[derive(Clone, Copy, Drop)]
+pub struct UpgradeRequest<'a> {
+    pub image: &'a str,
+    pub out: &'a str,
+}
+
+/// How a time zone is told.
+#[derive(Clone, Copy, Drop)]
+pub enum ZoneText<'a> {
+    /// Seconds ahead of UTC.
+    Fixed(i32),
+    /// A POSIX rule.
+    Posix(&'a str),
+    /// The path of a time zone file (TZif).
+    File(&'a str),
+}
+
+/// What is to be made of a feed.
+#[derive(Clone, Copy, Drop)]
+pub struct PlanText<'a> {
+    pub first_day: Day,
+    pub days: u32,
+    pub zone: ZoneText<'a>,
+    pub strict: bool,
+}
+
+/// Where a feed is, where its image goes, and what is made of it.
+#[derive(Clone, Copy, Drop)]
+pub struct BuildRequest<'a> {
+    pub folder: &'a str,
+    pub out: &'a str,
+    pub plan: PlanText<'a>,
+}
+
+/// How many sessions may be served at once.
+pub const MOST_WORKERS: u32 = 16;
+
+/// A feed that may be loaded by its name.
+#[derive(Clone, Copy, Drop)]
+pub struct NamedFolder<'a> {
+    pub name: &'a str,
+    pub folder: &'a str,
+}
+
+/// What is served, where, and how often.
+#[derive(Drop)]
+pub struct ServeRequest<'a> {
+    pub image: &'a str,
+    pub port: u16,
+    pub workers: usize,
+    ghost some: { 1 ≤ workers },
+    ghost few: { workers ≤ 16 },
+    /// How many sessions are served in all, 0 for no end.
+    pub sessions: u64,
+    pub plan: PlanText<'a>,
+    pub feeds: Vec<NamedFolder<'a>>,
+}
+
+/// What is said where a day, a number of days or a zone has a wrong form.
+pub const WRONG_PLAN_FORM: &str =
+    "error: a day is YYYYMMDD, the number of days 1 to 14, a zone fixed:SECS with at most 86399 seconds either way, posix:TEXT or file:PATH\n";
