@@ -11,7 +11,7 @@ ghost use Rattle.profile_scan.specs.Nodes.{spelling};
 ghost use Rattle.profile_scan.specs.declared.nodes.Node.TheVariants.{Ends, Changes, Boards, SetsOut};
 ghost use Rattle.profile_scan.specs.Examples.{asked, by_change, direct, footpath, from_start, on_foot, ride, with_chain, with_loops, with_walk};
 
-use criteria::{Arrival, ArrivalTrips, Criterion};
+use criteria::{Arrival, ArrivalTrips, ArrivalTripsWalk, Criterion};
 
 // from A by a change at B or without one
 fn both_ways_count()
@@ -49,11 +49,13 @@ fn the_latest_arrival_counts()
 {}
 
 // a start on foot moves the departure
-fn a_start_on_foot_counts(arrival: &Arrival)
+fn a_start_on_foot_counts(arrival: &Arrival, walking: &ArrivalTripsWalk)
     ensures late { Counts with_walk (asked 32400 36000) 29400 (on_foot 120 2) }
     ensures too_late { (departure : ℕ) → Counts with_walk (asked 29399 36000) departure (on_foot 120 2) → ⊥ }
     ensures earlier { Counts with_walk (asked 29399 36000) 29280 (on_foot 120 1) }
     ensures worth { journey_value (⟦<Arrival as Criterion>⟧.rules arrival.now) with_walk (on_foot 120 1) ≡ 30600 }
+    ensures walked { journey_value (⟦<ArrivalTripsWalk as Criterion>⟧.rules walking.now) with_walk (on_foot 120 1)
+        ≡ record { time = 30600; trips = 1; walked = 120 } }
 {}
 
 // a walk after the last leg, and one before the first; a chain may stand after a leg, and is no start
@@ -112,7 +114,7 @@ fn they_hold() {
     a_slow_change_misses_the_trip();
     the_latest_departure_counts();
     the_latest_arrival_counts();
-    a_start_on_foot_counts(&Arrival);
+    a_start_on_foot_counts(&Arrival, &ArrivalTripsWalk);
     walks_count();
     windows_are_computed();
     one_dominates_by_arrival_alone(&Arrival, &ArrivalTrips);

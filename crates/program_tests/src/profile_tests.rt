@@ -211,7 +211,14 @@ fn a_footpath_may_be_the_start(rt: HostRuntime) -> Result<(), Fail> {
         &image,
         "walk 0 1 120 ride 1 1",
         "ok dep 08:08:00 arr 08:30:00\n",
-    )
+    )?;
+    let counted = Asked {
+        until: "08:09:59",
+        ..LEAST_ON_FOOT
+    };
+    let three =
+        "dep 08:00:00 arr 08:20:00 trips 2 walked 0 : ride 0 0 walk 1 1 0 ride 2 2\ndep 08:00:00 arr 08:30:00 trips 1 walked 0 : ride 0 1\ndep 08:08:00 arr 08:30:00 trips 1 walked 120 : walk 0 1 120 ride 1 1\npoints 3 read 3 walk none\n";
+    ask(&rt, &image, counted, three)
 }
 
 /// The direct footpath is told beside the answer, and takes nothing out of it.
@@ -244,7 +251,7 @@ fn with_long_walk() -> [u32; 49] {
     ]
 }
 
-/// Each footpath counts, the loop of a change too; who counts trips alone prefers the walk.
+/// Each footpath counts, the loop of a change too; by trips alone the walk is preferred.
 #[test]
 fn walking_may_be_counted(rt: HostRuntime) -> Result<(), Fail> {
     let image = with_long_walk();
@@ -264,7 +271,13 @@ fn walking_may_be_counted(rt: HostRuntime) -> Result<(), Fail> {
     loops[34] = 60;
     let two =
         "dep 08:00:00 arr 08:20:00 trips 2 walked 60 : ride 0 0 walk 1 1 60 ride 2 2\ndep 08:00:00 arr 08:30:00 trips 1 walked 0 : ride 0 1\npoints 2 read 3 walk none\n";
-    ask(&rt, &loops, LEAST_ON_FOOT, two)
+    ask(&rt, &loops, LEAST_ON_FOOT, two)?;
+    holds(
+        &rt,
+        &loops,
+        "ride 0 0 walk 1 1 60 ride 2 2",
+        "ok dep 08:00:00 arr 08:20:00\n",
+    )
 }
 
 #[test]
