@@ -14,10 +14,13 @@ const JOURNEY_EXAMPLE: &str =
 
 const PROFILE_EXAMPLE: &str =
     "Example: csa profile examples/base.csa --from A --to C --after 07:00:00 --until 09:00:00 \
---by 10:00:00 --criterion arrival+trips";
+--by 10:00:00 --criterion arrival+trips\n\
+With --names a line is as: dep 08:00:00 arr 08:30:00 trips 1 : ride T1 08:00:00 A 08:30:00 C\n\
+With --json it is as: {\"ok\":\"profile\",\"points\":[{\"arr\":\"08:30:00\",\"dep\":\"08:00:00\",\
+\"journey\":\"ride 0 1\",\"trips\":1}],\"version\":1,\"walk\":null}";
 
 const BUILD_EXAMPLE: &str =
-    "Example: csa build examples/base base.csa --first 20240115 --days 1 --zone fixed:0";
+    "Example: csa build examples/base base.csa --first 20240115 --days 1 --zone fixed:0 --progress";
 
 const SERVE_EXAMPLE: &str =
     "Example: csa serve --image examples/base.csa --port 7077 --workers 2 --sessions 0 --first 20240115 --days 1 --zone fixed:0 \
@@ -36,6 +39,13 @@ fn word<'a>(alloc: Global, id: &'a str, name: &'a str, help: &'a str) -> Arg<'a>
 
 fn option<'a>(alloc: Global, id: &'a str, name: &'a str, help: &'a str) -> Arg<'a> {
     word(alloc, id, name, help).long(id)
+}
+
+fn flag<'a>(alloc: Global, id: &'a str, help: &'a str) -> Arg<'a> {
+    Arg::new(alloc, id)
+        .long(id)
+        .help(help)
+        .action(ArgAction::SetTrue)
 }
 
 fn image<'a>(alloc: Global) -> Arg<'a> {
@@ -97,7 +107,18 @@ fn profile<'a>(alloc: Global) -> Result<Command<'a>, AllocError> {
         .arg(image(alloc))?;
     with_query(alloc, command)?
         .arg(criterion(alloc))?
-        .arg(picture(alloc))
+        .arg(picture(alloc))?
+        .arg(flag(
+            alloc,
+            "names",
+            "Prints names in the place of numbers: ride TRIP CLOCK STOP CLOCK STOP, walk STOP STOP SECS",
+        ))?
+        .arg(flag(
+            alloc,
+            "json",
+            "Prints the answer as a session would reply it: a line of JSON",
+        )
+        .conflicts_with("names")?)
 }
 
 fn criterion<'a>(alloc: Global) -> Arg<'a> {
@@ -153,12 +174,17 @@ fn build<'a>(alloc: Global) -> Result<Command<'a>, AllocError> {
             "OUT",
             "The file to which the image is written",
         ))?;
-    with_days(alloc, command)?.arg(
-        Arg::new(alloc, "strict")
-            .long("strict")
-            .help("Refuses an arrival that isn't after the departure before it")
-            .action(ArgAction::SetTrue),
-    )
+    with_days(alloc, command)?
+        .arg(flag(
+            alloc,
+            "strict",
+            "Refuses an arrival that isn't after the departure before it",
+        ))?
+        .arg(flag(
+            alloc,
+            "progress",
+            "Tells on standard error what is read and done, as where that is a terminal",
+        ))
 }
 
 /// The options that tell the service days of a feed.

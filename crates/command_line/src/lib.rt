@@ -8,6 +8,7 @@ mod values;
 
 pub use reading::read;
 pub use requests::{
-    BuildRequest, JourneyRequest, MOST_WORKERS, NamedFolder, PlanText, ProfileRequest, Question,
-    Request, ServeRequest, StopsRequest, Unread, UpgradeRequest, WRONG_PLAN_FORM, ZoneText,
+    AnswerForm, BuildRequest, JourneyRequest, MOST_WORKERS, NamedFolder, PlanText, ProfileRequest,
+    Question, Request, ServeRequest, StopsRequest, Unread, UpgradeRequest, WRONG_PLAN_FORM,
+    ZoneText,
 };

@@ -4,8 +4,8 @@ ghost use Rattle.std.specs.Prelude.{◌≤◌, IfSome};
 
 use crate::commands::program;
 use crate::requests::{
-    BuildRequest, JourneyRequest, MOST_WORKERS, NamedFolder, PlanText, ProfileRequest, Question,
-    Request, ServeRequest, StopsRequest, Unread, UpgradeRequest, WRONG_PLAN_FORM,
+    AnswerForm, BuildRequest, JourneyRequest, MOST_WORKERS, NamedFolder, PlanText, ProfileRequest,
+    Question, Request, ServeRequest, StopsRequest, Unread, UpgradeRequest, WRONG_PLAN_FORM,
 };
 use crate::values::{clock, count, day, named_folder, number, port, zone};
 use clap::error::ErrorKind;
@@ -96,8 +96,19 @@ fn profile_request<'a>(matches: &ArgMatches<'a>) -> Option<ProfileRequest<'a>> {
         image: matches.get_str("image")?,
         question: question(matches)?,
         criterion: CriterionName::of(matches.get_str("criterion")?)?,
+        form: answer_form(matches),
         picture: matches.get_str("picture"),
     })
+}
+
+fn answer_form(matches: &ArgMatches<'_>) -> AnswerForm {
+    if matches.get_flag("json") {
+        AnswerForm::Json
+    } else if matches.get_flag("names") {
+        AnswerForm::Names
+    } else {
+        AnswerForm::Numbers
+    }
 }
 
 fn question<'a>(matches: &ArgMatches<'a>) -> Option<Question<'a>> {
@@ -115,6 +126,7 @@ fn build_request<'a>(matches: &ArgMatches<'a>) -> Option<BuildRequest<'a>> {
         folder: matches.get_str("folder")?,
         out: matches.get_str("out")?,
         plan: plan(matches, matches.get_flag("strict"))?,
+        progress: matches.get_flag("progress"),
     })
 }
 

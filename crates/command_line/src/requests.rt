@@ -57,12 +57,24 @@ pub struct JourneyRequest<'a> {
     pub question: Question<'a>,
 }
 
-/// The image, the query that is asked of it, and what is best.
+/// How an answer is printed.
+#[derive(Clone, Copy, Drop)]
+pub enum AnswerForm {
+    /// Lines, whose journeys are of numbers, as `csa journey` reads them.
+    Numbers,
+    /// Lines, whose journeys are of names.
+    Names,
+    /// The reply of a session.
+    Json,
+}
+
+/// The image, the query that is asked of it, what is best, and how that is printed.
 #[derive(Clone, Copy, Drop)]
 pub struct ProfileRequest<'a> {
     pub image: &'a str,
     pub question: Question<'a>,
     pub criterion: CriterionName,
+    pub form: AnswerForm,
     /// The file into which the answer is drawn.
     pub picture: Option<&'a str>,
 }
@@ -107,6 +119,8 @@ pub struct BuildRequest<'a> {
     pub folder: &'a str,
     pub out: &'a str,
     pub plan: PlanText<'a>,
+    /// Whether it is told what is done.
+    pub progress: bool,
 }
 
 /// How many sessions may be served at once.

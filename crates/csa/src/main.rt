@@ -3,6 +3,7 @@
 
 use csa_program::run;
 use std::env;
+use std::io::IsTerminal;
 use std::process::ExitCode;
 
 fn main(rt: HostRuntime) -> ExitCode {
@@ -16,5 +17,13 @@ fn main(rt: HostRuntime) -> ExitCode {
     let mut input = rt.stdin();
     let mut output = rt.stdout();
     let mut errors = rt.stderr();
-    ExitCode::from(run(&rt, words.as_slice(), &mut input, &mut output, &mut errors))
+    let is_terminal = errors.is_terminal();
+    ExitCode::from(run(
+        &rt,
+        words.as_slice(),
+        &mut input,
+        &mut output,
+        &mut errors,
+        is_terminal,
+    ))
 }

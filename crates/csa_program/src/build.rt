@@ -1,6 +1,7 @@
-//! `csa build FOLDER OUT --first DAY --days N --zone ZONE [--strict]`.
+//! `csa build FOLDER OUT --first DAY --days N --zone ZONE [--strict] [--progress]`.
 
 use crate::planning::{PlanFailure, plan_of};
+use crate::progress::ToldFiles;
 use crate::refusal::refuse_feed;
 use crate::status;
 use crate::writing::put_image;
@@ -43,15 +44,21 @@ impl<'a> From<PlanFailure<'a>> for Failure<'a> {
 }
 
 /// Makes the image of the folder's feed, writes it, and prints what was counted; or tells the first thing that is wrong. The file
-/// is written only where nothing was.
+/// is written only where nothing was. Where that is asked for, or `errors` is a terminal, it is told there what is done.
 pub fn run<H: Files + AllocGlobal, O: Write, E: Write>(
     rt: &H,
     request: BuildRequest<'_>,
     output: &mut O,
     errors: &mut E,
+    is_terminal: bool,
 ) -> u8 {
     let alloc = rt.alloc();
-    match build(rt, request) {
+    let log = if request.progress || is_terminal {
+        Some(&mut *errors)
+    } else {
+        None
+    };
+    match build(rt, request, log) {
         Ok(report) => status::line_written(output, counts(alloc, &report), status::ACCEPTED),
         Err(Failure::WrongForm) => status::written(errors, WRONG_PLAN_FORM, status::COMMAND_LINE),
         Err(Failure::Refused(fault)) => refuse_feed(alloc, output, fault),
@@ -61,13 +68,15 @@ pub fn run<H: Files + AllocGlobal, O: Write, E: Write>(
     }
 }
 
-fn build<'a, H: Files + AllocGlobal>(
+fn build<'a, H: Files + AllocGlobal, E: Write>(
     rt: &H,
     request: BuildRequest<'a>,
+    log: Option<&mut E>,
 ) -> Result<Report, Failure<'a>> {
     let plan = plan_of(rt, request.plan)?;
-    let mut files = FolderFiles::new(rt, request.folder);
+    let mut files = ToldFiles::new(FolderFiles::new(rt, request.folder), log);
     let (image, report) = load(rt.alloc(), &mut files, &plan)?;
+    files.tell(rt.alloc(), "writing", request.out);
     match put_image(rt, request.out, image.words()) {
         Ok(()) => Ok(report),
         Err(error) => Err(write_failure(&error, request.out)),

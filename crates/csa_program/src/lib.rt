@@ -4,12 +4,15 @@
 mod build;
 mod disk;
 mod journey;
+mod naming;
 mod opening;
 mod pictured;
 mod planning;
 mod profile;
+mod progress;
 mod question;
 mod refusal;
+mod replying;
 mod serve;
 mod sockets;
 mod status;
@@ -32,7 +35,8 @@ use std::thread::Threads;
 ///
 /// What a command finds goes to `output`, what is wrong with the command line or with a file to `errors`. The status is 0 for an
 /// accepted request, 2 for a refused one, 3 where a file can't be read or written, a line can't be written or a socket fails, 4 for want
-/// of memory, and 64 for a command line that asks for nothing.
+/// of memory, and 64 for a command line that asks for nothing. Where `errors` is a terminal, what takes long also tells there what is
+/// done.
 pub fn run<
     H: Files
         + Disk
@@ -45,14 +49,14 @@ pub fn run<
     I: Read,
     O: Write,
     E: Write + Send,
->(rt: &H, words: &[S], input: &mut I, output: &mut O, errors: &mut E) -> u8 {
+>(rt: &H, words: &[S], input: &mut I, output: &mut O, errors: &mut E, is_terminal: bool) -> u8 {
     match read(rt.alloc(), words) {
         Ok(Request::Verify(image)) => verify::run(rt, image, input, output, errors),
         Ok(Request::Journey(request)) => journey::run(rt, request, input, output, errors),
         Ok(Request::Profile(request)) => profile::run(rt, request, input, output, errors),
         Ok(Request::Stops(request)) => stops::run(rt, request, input, output, errors),
         Ok(Request::Tables(folder)) => tables::run(rt, folder, output),
-        Ok(Request::Build(request)) => build::run(rt, request, output, errors),
+        Ok(Request::Build(request)) => build::run(rt, request, output, errors, is_terminal),
         Ok(Request::Upgrade(request)) => upgrade::run(rt, request, input, output, errors),
         Ok(Request::Serve(request)) => serve::run(rt, request, input, output, errors),
         Err(Unread::Help(text)) => status::written(output, text.as_str(), status::ACCEPTED),

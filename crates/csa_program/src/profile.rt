@@ -1,13 +1,15 @@
-//! `csa profile IMAGE QUERY --criterion NAME [--picture FILE]`.
+//! `csa profile IMAGE QUERY --criterion NAME [--names | --json] [--picture FILE]`.
 
 ghost use Rattle.timetable.specs.Queries.{IsAskable};
 
+use crate::naming::append_named;
 use crate::opening::open_image;
 use crate::pictured::{PictureFailure, draw};
 use crate::question::window_of;
 use crate::refusal::Refusal;
+use crate::replying::reply_line;
 use crate::status;
-use command_line::ProfileRequest;
+use command_line::{AnswerForm, ProfileRequest};
 use criteria::{Arrival, ArrivalTrips, ArrivalTripsWalk, CriterionName, Told};
 use image_verifier::Verified;
 use journeys::{Answer, Departure, answer_query, journey_text, query_of};
@@ -19,8 +21,8 @@ use std::rt::Files;
 use timetable::clocks::Clock;
 use timetable::{Journey, Query};
 
-/// Prints each best departure with a journey, and then how many there are, how many connections were read, and the direct footpath.
-/// A picture that is asked for is written before.
+/// Prints each best departure with a journey, and then how many there are, how many connections were read, and the direct footpath;
+/// or else what a session replies. A picture that is asked for is written before.
 pub fn run<H: Files + AllocGlobal, I: Read, O: Write, E: Write>(
     rt: &H,
     request: ProfileRequest<'_>,
@@ -38,11 +40,10 @@ pub fn run<H: Files + AllocGlobal, I: Read, O: Write, E: Write>(
         Ok(query) => query,
         Err(fault) => return status::refused(rt.alloc(), output, &Refusal::Query(fault)),
     };
-    let drawing = request.picture;
     let lines = match request.criterion {
-        CriterionName::Arrival => answered(rt, &image, &Arrival, &query, drawing),
-        CriterionName::ArrivalTrips => answered(rt, &image, &ArrivalTrips, &query, drawing),
-        CriterionName::ArrivalTripsWalk => answered(rt, &image, &ArrivalTripsWalk, &query, drawing),
+        CriterionName::Arrival => answered(rt, &image, &Arrival, &query, request),
+        CriterionName::ArrivalTrips => answered(rt, &image, &ArrivalTrips, &query, request),
+        CriterionName::ArrivalTripsWalk => answered(rt, &image, &ArrivalTripsWalk, &query, request),
     };
     match lines {
         Ok(lines) => status::written(output, lines.as_str(), status::ACCEPTED),
@@ -51,35 +52,44 @@ pub fn run<H: Files + AllocGlobal, I: Read, O: Write, E: Write>(
     }
 }
 
-/// The lines that answer a query, once the answer is drawn where that is asked for.
+/// The text that answers a query, once the answer is drawn where that is asked for.
 fn answered<'a, H: Files + AllocGlobal, C: Told>(
     rt: &H,
     image: &Verified,
     criterion: &C,
     query: &Query,
-    drawing: Option<&'a str>,
+    request: ProfileRequest<'a>,
 ) -> Result<String, PictureFailure<'a>>
     requires { IsAskable image.now.timetable.stops query.now }
 {
     let mut source = InPlace::new(image);
     let answer = answer_query(rt.alloc(), &mut source, criterion, query)?;
-    if let Some(path) = drawing {
+    if let Some(path) = request.picture {
         draw(rt, image, criterion, query, &answer.departures, path)?;
     }
-    let lines = answer_lines(rt.alloc(), criterion, &answer)?;
-    Ok(lines)
+    let text = match request.form {
+        AnswerForm::Numbers => answer_lines(rt.alloc(), criterion, &answer, None)?,
+        AnswerForm::Names => answer_lines(rt.alloc(), criterion, &answer, Some(image))?,
+        AnswerForm::Json => reply_line(rt.alloc(), criterion, &answer)?,
+    };
+    Ok(text)
 }
 
-/// The lines of an answer.
+/// The lines of an answer, with the names of an image in the place of numbers where one is given.
 fn answer_lines<C: Told>(
     alloc: Global,
     criterion: &C,
     answer: &Answer<C>,
+    names: Option<&Verified>,
 ) -> Result<String, AllocError> {
     let mut lines = String::new(alloc);
     for departure in &answer.departures {
         append_departure(&mut lines, criterion, departure)?;
-        append_journey(&mut lines, alloc, &departure.journey)?;
+        match names {
+            Some(image) => append_named(&mut lines, alloc, image, &departure.journey)?,
+            None => append_journey(&mut lines, alloc, &departure.journey)?,
+        }
+        lines.push_str("\n")?;
     }
     append_end(&mut lines, answer)?;
     Ok(lines)
@@ -99,16 +109,16 @@ fn append_departure<C: Told>(
     if let Some(walked) = told.walked {
         write!(lines, " walked {walked}")?;
     }
-    Ok(())
+    lines.push_str(" :")
 }
 
 fn append_journey(lines: &mut String, alloc: Global, journey: &Journey) -> Result<(), AllocError> {
-    lines.push_str(" : ")?;
+    lines.push_str(" ")?;
     let text = journey_text(alloc, journey)?;
     for byte in &text {
         lines.push(char::from(*byte))?;
     }
-    lines.push_str("\n")
+    Ok(())
 }
 
 fn append_end<C: Told>(lines: &mut String, answer: &Answer<C>) -> Result<(), AllocError> {

@@ -7,9 +7,9 @@ use journeys::Window;
 
 /// From the earliest departure until the latest, and by when.
 pub fn window_of(question: &Question<'_>) -> Window
-    ensures from { result.from ≡ question.entry.after }
-    ensures until { result.until ≡ question.entry.until }
-    ensures by { result.by ≡ question.entry.by }
+    ensures from { result.from ≡ question.now.after }
+    ensures until { result.until ≡ question.now.until }
+    ensures by { result.by ≡ question.now.by }
 {
     Window {
         from: question.after,

@@ -1,7 +1,6 @@
 //! `csa stops IMAGE [TEXT]`.
 
-ghost use Rattle.std.specs.Prelude.{◌+◌, ◌<◌};
-
+use crate::naming::stop_name;
 use crate::opening::open_image;
 use crate::status;
 use command_line::StopsRequest;
@@ -33,7 +32,7 @@ pub fn run<H: Files + AllocGlobal, I: Read, O: Write, E: Write>(
 fn lines_of(alloc: Global, image: &Verified, text: &str) -> Result<String, AllocError> {
     let mut lines = String::new(alloc);
     for stop in 0..image.stops() {
-        let name = name_of(alloc, image, stop as usize)?;
+        let name = stop_name(alloc, image, stop)?;
         append_stop(&mut lines, stop, name.as_str(), text)?;
     }
     Ok(lines)
@@ -44,17 +43,4 @@ fn append_stop(lines: &mut String, stop: u32, name: &str, text: &str) -> Result<
         return Ok(());
     }
     write!(lines, "{stop} {name}\n")
-}
-
-fn name_of(alloc: Global, image: &Verified, number: usize) -> Result<String, AllocError>
-    requires { number < image.now.timetable.stops + image.now.timetable.trips }
-{
-    let mut bytes = Vec::with_capacity(alloc, image.name_len(number))?;
-    for place in 0..image.name_len(number) {
-        bytes.push(image.name_byte(number, place))?;
-    }
-    match String::from_utf8(bytes) {
-        Ok(name) => Ok(name),
-        Err(_) => Ok(String::new(alloc)),
-    }
 }

@@ -1,7 +1,7 @@
 //! `csa build` over folders: what is counted, what is written, and what is refused.
 
 use crate::feed_tests::{base_feed, clear_feed, lay_feed};
-use crate::tests::{Machine, expect_line, expect_message};
+use crate::tests::{Machine, expect_line, expect_message, outcome_of};
 use image_layout::{Words, second_sample_words};
 use std::fs;
 use std::net::{Net, TcpListener, TcpStream};
@@ -406,5 +406,23 @@ fn failed_reads_and_refusals_are_told_first(rt: HostRuntime) -> Result<(), Fail>
     let missing = "refused 1 MissingFile agency.txt 0\n";
     expect_line(&rt, &build_words(unread), b"", 2, missing);
     fs::remove_dir(&rt, "unread")?;
+    Ok(())
+}
+
+/// What is done is told beside the counts, each file as it is read.
+#[test]
+fn progress_is_told(rt: HostRuntime) -> Result<(), Fail> {
+    lay_feed(&rt, "told", &base_feed())?;
+    let [a, b, c, d, e, f, g, h, i, j] = build_words(one_day("told", "told.csa"));
+    let words = [a, b, c, d, e, f, g, h, i, j, "--progress"];
+    let outcome = outcome_of(&rt, &words, b"");
+    let told =
+        "csa: reading agency.txt\ncsa: reading stops.txt\ncsa: reading trips.txt\ncsa: reading stop_times.txt\n\
+csa: reading calendar.txt\ncsa: reading calendar_dates.txt\ncsa: reading transfers.txt\ncsa: reading frequencies.txt\n\
+csa: making connections and footpaths\ncsa: writing told.csa\n";
+    assert_eq!(&rt; outcome.status, 0);
+    assert!(&rt; outcome.errors.as_slice() == told.as_bytes());
+    clear_feed(&rt, "told", &base_feed())?;
+    fs::remove_file(&rt, "told.csa")?;
     Ok(())
 }

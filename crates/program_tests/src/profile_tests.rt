@@ -352,3 +352,33 @@ fn an_answer_is_drawn(rt: HostRuntime) -> Result<(), Fail> {
     expect_message(&rt, &drawn_words("none/answer.svg"), &image, 3);
     Ok(())
 }
+
+fn formed_words<'a>(form: &'a str) -> [&'a str; 16] {
+    let [a, b, c, d, e, f, g, h, i, j, k, l, m, n, o] = profile_words(FEWEST);
+    [a, b, c, d, e, f, g, h, i, j, k, l, m, n, o, form]
+}
+
+/// The lines have the names of trips and stops, and when each trip is boarded and left; a walk keeps its seconds.
+#[test]
+fn an_answer_is_told_by_names(rt: HostRuntime) -> Result<(), Fail> {
+    let image = Words::to_bytes(rt.alloc(), &with_long_walk())?;
+    let lines =
+        "dep 08:00:00 arr 08:20:00 trips 2 : ride T1 08:00:00 A 08:10:00 B walk B B 0 ride T2 08:12:00 B 08:20:00 C\n\
+dep 08:00:00 arr 08:25:00 trips 1 : ride T1 08:00:00 A 08:10:00 B walk B C 900\npoints 2 read 3 walk none\n";
+    expect_line(&rt, &formed_words("--names"), &image, 0, lines);
+    Ok(())
+}
+
+/// The line is the one that a session replies; it is asked for without names.
+#[test]
+fn an_answer_is_a_reply(rt: HostRuntime) -> Result<(), Fail> {
+    let image = Words::to_bytes(rt.alloc(), &walks(120))?;
+    let line =
+        "{\"ok\":\"profile\",\"points\":[{\"arr\":\"08:11:00\",\"dep\":\"08:00:00\",\"journey\":\"ride 0 0 walk 1 2 60\",\"trips\":1},\
+{\"arr\":\"08:20:00\",\"dep\":\"08:11:00\",\"journey\":\"walk 0 1 60 ride 2 2\",\"trips\":1}],\"version\":1,\"walk\":120}\n";
+    expect_line(&rt, &formed_words("--json"), &image, 0, line);
+    let [a, b, c, d, e, f, g, h, i, j, k, l, m, n, o, p] = formed_words("--json");
+    let both = [a, b, c, d, e, f, g, h, i, j, k, l, m, n, o, p, "--names"];
+    expect_message(&rt, &both, &image, 64);
+    Ok(())
+}

@@ -33,7 +33,7 @@ pub(crate) fn outcome_of<R: Machine + Net<Listener = TcpListener, Stream = TcpSt
     let mut input: &[u8] = bytes;
     let mut output = Vec::new(rt.alloc());
     let mut errors = Vec::new(rt.alloc());
-    let status = run(rt, words, &mut input, &mut output, &mut errors);
+    let status = run(rt, words, &mut input, &mut output, &mut errors, false);
     Outcome {
         status,
         output,
@@ -355,7 +355,7 @@ fn a_line_that_cannot_be_written_is_told(rt: HostRuntime) -> Result<(), Fail> {
     let mut output: &mut [u8] = &mut room;
     let mut errors = Vec::new(rt.alloc());
     let mut input: &[u8] = &bytes;
-    let status = run(&rt, &VERIFY, &mut input, &mut output, &mut errors);
+    let status = run(&rt, &VERIFY, &mut input, &mut output, &mut errors, false);
     assert_eq!(rt; status, 3);
     Ok(())
 }
