@@ -89,6 +89,18 @@ fn leave_front<C: Criterion>(
     Ok(())
 }
 
+// Pushes all points but the first. Mostly there is no other, and then nothing is asked of the vector.
+fn push_others<V: Copy>(items: &mut Vec<Item<V>>, points: &[Item<V>]) -> Result<(), AllocError>
+    requires some { 0 < length points.now }
+    ensures extends { Extends items.old.items items.new.items }
+    ensures pushed { OnOk result (items.new.items ≡ items.old.items ++ drop 1 points.now) }
+{
+    if points.len() > 1 {
+        items.extend_from_slice(&points[1..])?;
+    }
+    Ok(())
+}
+
 // Pushes all points but the first, and what they leave of the front at a place.
 fn fill<C: Criterion>(
     criterion: &C,
@@ -104,7 +116,7 @@ fn fill<C: Criterion>(
     ensures extends { Extends items.old.items items.new.items }
     ensures filled { OnOk result (items.new.items ≡ items.old.items ++ (drop 1 points.now ++ left_by (C.rules criterion.now) points.now (front entries.now items.old.items place))) }
 {
-    items.extend_from_slice(&points[1..])?;
+    push_others(items, points)?;
     leave_front(criterion, entries, items, points, place)?;
     Ok(())
 }
