@@ -9,4 +9,5 @@ pub mod OrderSteps
 pub mod ReadySteps
 pub mod RepeatSteps
 pub mod RunSteps
+pub mod StartSteps
 pub mod TimeSteps

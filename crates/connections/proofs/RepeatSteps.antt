@@ -141,7 +141,7 @@ starts_skip rows from (suc n) le none = elim (cases_eq from (suc n)) [
   | inr other ↦ rw (none n (omega (arith, le, other)) (omega arith)) (starts_skip rows from n (omega (arith, le, other)) (λ s low high. none s low (omega (arith, high))))
 ]
 
-start_here : (rows : List Frequency) (s : ℕ) → is_start rows s ≡ true → starts_before rows (suc s) ≡ starts_before rows s ++ s ∷ []
+pub start_here : (rows : List Frequency) (s : ℕ) → is_start rows s ≡ true → starts_before rows (suc s) ≡ starts_before rows s ++ s ∷ []
 unfolding starts_before
 start_here rows s is = rw is refl
 
