@@ -14,6 +14,7 @@ use Rattle.gtfs_rows.specs.declared.fault.Table.TheVariants as tables
 use Rattle.gtfs_rows.specs.declared.values.Day.{Day}
 use Rattle.gtfs_tables.specs.Joined.{makes_connections}
 use Rattle.gtfs_tables.specs.declared.tables.Feed.{Feed}
+use Rattle.gtfs_tables.specs.declared.tables.Frequency.{Frequency}
 use Rattle.gtfs_tables.specs.declared.tables.Trip.{Trip}
 use Rattle.gtfs_rows.specs.declared.rows.StopTimeRow.{StopTimeRow}
 use Rattle.service_days.specs.Services.{is_active}
@@ -30,7 +31,8 @@ use Rattle.connections.specs.Faults.{IsWantOfMemory, range_fault, too_many_of}
 use Rattle.connections.specs.Hops.{AreInside}
 use Rattle.connections.specs.Listed.{AreListed, HasRunOutside}
 use Rattle.connections.specs.Outcome.{IsFirstRefusal, IsListing, is_lifted_trip}
-use Rattle.connections.specs.Runs.{IsTripRun, count_hops, run_if, runs_from, runs_of_days, runs_on}
+use Rattle.connections.specs.Repeats.{rows_for, starts_of}
+use Rattle.connections.specs.Runs.{IsTripRun, count_hops, repeats_from, run_as_it_stands, runs_at, runs_from, runs_of_days, runs_of_trip, runs_on}
 use Rattle.connections.specs.Times.{AreTimesOf, AreTripTimes}
 use Rattle.connections.specs.declared.days.ServiceDay.{ServiceDay}
 use Rattle.connections.specs.declared.fault.RunsFault.{RunsFault}
@@ -99,17 +101,27 @@ times_refused feed zone first days started runs count most base fault s runs_are
 abbrev IsOf : Feed → List Day → Run → Type 0
 IsOf feed days run = IsTripRun feed.trips.items run × Contains days run.day
 
-one_run : (feed : Feed) (days : List Day) (day : Day) (t : ℕ) (trip : Trip) (b : Bool) → (b ≡ true → makes_connections trip ≡ true) → slice_get feed.trips.items t ≡ Some trip → Contains days day → All (IsOf feed days) (run_if b day t)
-one_run feed days day t trip false makes at inside = All-nil (IsOf feed days)
-one_run feed days day t trip true makes at inside = All-cons (IsOf feed days) (record { day = day; trip = t }) [] (record { trip = trip; is_trip = at; makes = makes refl }, inside) (All-nil (IsOf feed days))
+repeats_of : (feed : Feed) (days : List Day) (day : Day) (t r : ℕ) (trip : Trip) (starts : List ℕ) → makes_connections trip ≡ true → slice_get feed.trips.items t ≡ Some trip → Contains days day → All (IsOf feed days) (repeats_from day t r starts)
+unfolding repeats_from
+repeats_of feed days day t r trip [] makes at inside = All-nil (IsOf feed days)
+repeats_of feed days day t r trip (s ∷ starts) makes at inside =
+    All-cons (IsOf feed days) (record { day = day; trip = t; repeat = r; start = Some s }) (repeats_from day t (r + 1) starts) (record { trip = trip; is_trip = at; makes = makes }, inside) (repeats_of feed days day t (r + 1) trip starts makes at inside)
+
+one_trip : (feed : Feed) (days : List Day) (day : Day) (t : ℕ) (trip : Trip) (rows : List Frequency) (b : Bool) → b ≡ trip.repeats → makes_connections trip ≡ true → slice_get feed.trips.items t ≡ Some trip → Contains days day → All (IsOf feed days) (runs_of_trip rows day t trip)
+one_trip feed days day t trip rows false b makes at inside = rw (sym b) (All-cons (IsOf feed days) (run_as_it_stands day t) [] (record { trip = trip; is_trip = at; makes = makes }, inside) (All-nil (IsOf feed days)))
+one_trip feed days day t trip rows true b makes at inside = rw (sym b) (repeats_of feed days day t 0 trip (starts_of rows) makes at inside)
+
+one_run : (feed : Feed) (days : List Day) (day : Day) (t : ℕ) (trip : Trip) (b : Bool) → b ≡ runs_on feed day trip → (b ≡ true → makes_connections trip ≡ true) → slice_get feed.trips.items t ≡ Some trip → Contains days day → All (IsOf feed days) (runs_at feed day t trip)
+one_run feed days day t trip false b makes at inside = rw (sym b) (All-nil (IsOf feed days))
+one_run feed days day t trip true b makes at inside = rw (sym b) (one_trip feed days day t trip (rows_for feed.frequencies.items t) trip.repeats refl (makes refl) at inside)
 
 runs_of_day : (feed : Feed) (days : List Day) (day : Day) (t : ℕ) (trips : List Trip) → ((k : ℕ) (trip : Trip) → slice_get trips k ≡ Some trip → slice_get feed.trips.items (t + k) ≡ Some trip) → Contains days day
     → All (IsOf feed days) (runs_from feed day t trips)
 runs_of_day feed days day t [] at inside = All-nil (IsOf feed days)
 runs_of_day feed days day t (trip ∷ trips) at inside =
     let here : t + 0 ≡ t = omega arith in
-    All-append (IsOf feed days) (run_if (runs_on feed day trip) day t) (runs_from feed day (t + 1) trips)
-    (one_run feed days day t trip (runs_on feed day trip) (λ e. (and_parts (makes_connections trip) (is_active feed.calendar.items feed.calendar_dates.items (string_bytes trip.service) day) e).0) (subst (λ (n : ℕ). slice_get feed.trips.items n ≡ Some trip) here (at 0 trip refl)) inside)
+    All-append (IsOf feed days) (runs_at feed day t trip) (runs_from feed day (t + 1) trips)
+    (one_run feed days day t trip (runs_on feed day trip) refl (λ e. (and_parts (makes_connections trip) (is_active feed.calendar.items feed.calendar_dates.items (string_bytes trip.service) day) e).0) (subst (λ (n : ℕ). slice_get feed.trips.items n ≡ Some trip) here (at 0 trip refl)) inside)
     (runs_of_day feed days day (t + 1) trips (λ k x e. let next : t + suc k ≡ t + 1 + k = omega arith in subst (λ (n : ℕ). slice_get feed.trips.items n ≡ Some x) next (at (suc k) x e)) inside)
 
 runs_of_some : (feed : Feed) (all : List Day) (days : List Day) → ((day : Day) → Contains days day → Contains all day) → All (IsOf feed all) (runs_of_days feed days)
@@ -222,7 +234,7 @@ listing_made feed zone first days started runs count most cs sorted base s runs_
       counted = size ∙ whole;
       few = omega (arith, size, whole, counted, under, room);
       inside = λ other is_other r start rows at.
-          subst (λ (z : ℤ). AreInside z start rows) (same_start zone first base other is_base is_other) (b.inside r start rows (slice_get_within runs r at.run at.is_run) at);
+          subst (λ (z : ℤ). AreInside z start at.run.start rows) (same_start zone first base other is_base is_other) (b.inside r start rows (slice_get_within runs r at.run at.is_run) at);
       listed = λ other is_other. subst (λ (z : ℤ). AreListed feed zone z runs sorted) (same_start zone first base other is_base is_other) (listed_of feed zone base runs cs sorted b moved up);
     }
 

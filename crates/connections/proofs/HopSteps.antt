@@ -6,7 +6,7 @@ use Rattle.std.proofs.lemmas.List.{append-nil, get_or_append_left, get_or_push, 
 use Rattle.std.proofs.lemmas.Option.{slice_get-get_or}
 use Rattle.gtfs_rows.specs.declared.rows.StopTimeRow.{StopTimeRow}
 use Rattle.timetable.specs.declared.network.Connection.{Connection}
-use Rattle.connections.specs.Hops.{AddsHops, IsClock, IsHop, IsOutside}
+use Rattle.connections.specs.Hops.{AddsHops, IsClock, IsHop, IsOutside, IsUsed}
 use Rattle.connections.specs.Times.{AreTimesBefore}
 use Rattle.connections.specs.declared.times.RowTimes.{RowTimes}
 
@@ -14,6 +14,11 @@ use Rattle.connections.specs.declared.times.RowTimes.{RowTimes}
 pub never_outside : (base start : ℤ) (time clock : ℕ) → IsClock base start time clock → IsOutside base start time → ⊥
 never_outside base start time clock is (inl before) = let told = is.told in omega (arith, ints, before)
 never_outside base start time clock is (inr late) = let told = is.told in let in_time = is.in_time in omega (arith, ints, late)
+
+-- the arrival at a later row counts
+pub used_later : (o : Option ℕ) (k : ℕ) → IsUsed o (k + 1)
+used_later None k = tt
+used_later (Some s) k = omega arith
 
 pub hop_made : (base start : ℤ) (rows : List StopTimeRow) (times : List RowTimes) (run p from to dep arr : ℕ) (d : StopTimeRow) (e : RowTimes)
     → p + 1 < length rows → AreTimesBefore rows times (length rows)

@@ -24,6 +24,7 @@ use Rattle.connections.specs.Times.{arrives, departs}
 use Rattle.connections.specs.declared.runs.Run.{Run}
 use Rattle.connections.proofs.DaySteps.{days_next}
 use Rattle.connections.proofs.FinalSteps.{runs_are_of}
+use Rattle.connections.proofs.HopSteps.{used_later}
 use Rattle.connections.proofs.ListSteps.{hop_along, hop_within, hops_rise, same_hop, same_run_at}
 use Rattle.connections.proofs.ReadySteps.{runnable_at}
 
@@ -106,7 +107,7 @@ module _ (feed : Feed) (zone : Zone) (base : ℤ) (runs : List Run) (cs : List C
       let to = some_value (get_or rows (p + 1) none).stop (length feed.stops.items) (stops_at r start rows at (p + 1) none lt) in
       let times = inside r start rows at in
       let dep = times.departures p (omega (arith, lt)) in
-      let arr = times.arrivals (p + 1) lt in (
+      let arr = times.arrivals (p + 1) lt (used_later at.run.start p) in (
         record { from = from.0; to = to.0; dep = dep.0; arr = arr.0; trip = r; board = (get_or rows p none).board; alight = (get_or rows (p + 1) none).alight },
         record {
           row = get_or rows p none;

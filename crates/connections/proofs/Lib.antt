@@ -1,10 +1,13 @@
 pub mod DaySteps
 pub mod FinalSteps
+pub mod GroupSteps
 pub mod HopSteps
 pub mod LegalSteps
 pub mod ListSteps
 pub mod OneSteps
 pub mod OrderSteps
 pub mod ReadySteps
+pub mod RepeatSteps
 pub mod RunSteps
+pub mod StartSteps
 pub mod TimeSteps

@@ -1,5 +1,6 @@
 -- The connections of the runs, a run on.
 use Rattle.std.proofs.Common.{◌≡◌, ℕ, zero, suc, ℤ, ◌+◌, ◌-◌, ◌<◌, inl, inr, List, [], ◌++◌, length, get_or, take, Option, Some, Contains, refl, sym, ap, ◌∙◌, subst, arith, length-append}
+use Rattle.std.specs.Prelude.{◌+ℤ◌}
 use Rattle.std.specs.List.{slice_get}
 use Rattle.std.specs.Option.{option_map_or}
 use Rattle.std.proofs.lemmas.Bool.{cases_eq, cases_lt}
@@ -12,13 +13,12 @@ use Rattle.gtfs_rows.specs.declared.rows.StopTimeRow.{StopTimeRow}
 use Rattle.gtfs_tables.specs.Joined.{rows_of}
 use Rattle.gtfs_tables.specs.declared.tables.Feed.{Feed}
 use Rattle.gtfs_tables.specs.declared.tables.Trip.{Trip}
-use Rattle.service_days.specs.Zones.{IsDayStart}
 use Rattle.service_days.specs.declared.zone.Zone.{Zone}
 use Rattle.service_days.proofs.StartFacts.{same_start}
 use Rattle.timetable.specs.declared.network.Connection.{Connection}
 use Rattle.connections.specs.Building.{AddsRun, AreByRun, AreRunRows, IsEarlier}
-use Rattle.connections.specs.Hops.{AreInside, IsClock, IsHop}
-use Rattle.connections.specs.Listed.{IsRunAt, IsRunHop}
+use Rattle.connections.specs.Hops.{AreInside, IsClock, IsHop, shift_of}
+use Rattle.connections.specs.Listed.{IsRunAt, IsRunHop, IsRunStart}
 use Rattle.connections.specs.Runs.{count_hops, hops_of, run_hops}
 use Rattle.connections.specs.Times.{arrives, departs}
 use Rattle.connections.specs.declared.runs.Run.{Run}
@@ -66,21 +66,30 @@ hops_rise base start rows r s p q c d x y lt =
 
 -- ---- one run of a number
 
+same_run : (feed : Feed) (zone : Zone) (runs : List Run) (r : ℕ) (start other : ℤ) (rows rest : List StopTimeRow) (x : IsRunAt feed zone runs r start rows) (y : IsRunAt feed zone runs r other rest) → x.run ≡ y.run
+same_run feed zone runs r start other rows rest x y = same_Some x.run y.run (sym x.is_run ∙ y.is_run)
+
+same_run_start : (zone : Zone) (x y : Run) (rows rest : List StopTimeRow) (start other : ℤ) → x ≡ y → rows ≡ rest → IsRunStart zone x rows start → IsRunStart zone y rest other → start ≡ other
+same_run_start zone x y rows rest start other run same a b =
+    let moved : IsRunStart zone y rest start = subst (λ (t : Run). IsRunStart zone t rest start) run (subst (λ (rs : List StopTimeRow). IsRunStart zone x rs start) same a) in
+    moved.is ∙ ap (λ day. day +ℤ shift_of y.start rest) (same_start zone y.day moved.day b.day moved.is_day b.is_day) ∙ sym b.is
+
 pub same_run_at : (feed : Feed) (zone : Zone) (runs : List Run) (r : ℕ) (start other : ℤ) (rows rest : List StopTimeRow) → IsRunAt feed zone runs r start rows → IsRunAt feed zone runs r other rest
     → (start ≡ other) × (rows ≡ rest)
 same_run_at feed zone runs r start other rows rest x y =
-    let run : x.run ≡ y.run = same_Some x.run y.run (sym x.is_run ∙ y.is_run) in
+    let run : x.run ≡ y.run = same_run feed zone runs r start other rows rest x y in
     let trip : x.trip ≡ y.trip = same_Some x.trip y.trip (sym x.is_trip ∙ ap (λ (t : Run). slice_get feed.trips.items t.trip) run ∙ y.is_trip) in
-    let starts : IsDayStart zone y.run.day start = subst (λ (t : Run). IsDayStart zone t.day start) run x.starts in
-    (same_start zone y.run.day start other starts y.starts, x.rows_are ∙ ap (rows_of feed.stop_times.items) trip ∙ sym y.rows_are)
+    let same : rows ≡ rest = x.rows_are ∙ ap (rows_of feed.stop_times.items) trip ∙ sym y.rows_are in
+    (same_run_start zone x.run y.run rows rest start other run same x.starts y.starts, same)
 
 pub hop_along : (base s t : ℤ) (xs ys : List StopTimeRow) (r p : ℕ) (c : Connection) → s ≡ t → xs ≡ ys → IsHop base s xs r p c → IsHop base t ys r p c
 hop_along base s t xs ys r p c e f x = subst (λ (z : ℤ). IsHop base z ys r p c) e (subst (λ (zs : List StopTimeRow). IsHop base s zs r p c) f x)
 
-inside_along : (base s t : ℤ) (xs ys : List StopTimeRow) → s ≡ t → xs ≡ ys → AreInside base s xs → AreInside base t ys
-inside_along base s t xs ys e f x = subst (λ (z : ℤ). AreInside base z ys) e (subst (λ (zs : List StopTimeRow). AreInside base s zs) f x)
+inside_along : (base s t : ℤ) (o p : Option ℕ) (xs ys : List StopTimeRow) → s ≡ t → o ≡ p → xs ≡ ys → AreInside base s o xs → AreInside base t p ys
+inside_along base s t o p xs ys e d f x =
+    subst (λ (z : ℤ). AreInside base z p ys) e (subst (λ (q : Option ℕ). AreInside base s q ys) d (subst (λ (zs : List StopTimeRow). AreInside base s o zs) f x))
 
-pub run_rows_at : (feed : Feed) (zone : Zone) (runs : List Run) (n : ℕ) (run : Run) (start : ℤ) (rows : List StopTimeRow) → slice_get runs n ≡ Some run → AreRunRows feed zone run start rows → IsRunAt feed zone runs n start rows
+abbrev pub run_rows_at : (feed : Feed) (zone : Zone) (runs : List Run) (n : ℕ) (run : Run) (start : ℤ) (rows : List StopTimeRow) → slice_get runs n ≡ Some run → AreRunRows feed zone run start rows → IsRunAt feed zone runs n start rows
 run_rows_at feed zone runs n run start rows at x = record { run = run; trip = x.trip; is_run = at; is_trip = x.is_trip; starts = x.starts; rows_are = x.rows_are }
 
 -- ---- a run more
@@ -170,12 +179,13 @@ module _ (feed : Feed) (zone : Zone) (base : ℤ) (runs : List Run) (n : ℕ) (r
       let old = was.counted in
       omega (arith, size, more, mine, hops, len, old)
 
-  inside_more : (r : ℕ) (start : ℤ) (rows : List StopTimeRow) → r < n + 1 → IsRunAt feed zone runs r start rows → AreInside base start rows
+  inside_more : (r : ℕ) (start : ℤ) (rows : List StopTimeRow) → r < n + 1 → (x : IsRunAt feed zone runs r start rows) → AreInside base start x.run.start rows
   inside_more r start rows lt x = elim (cases_eq r n) [
     | inl same ↦
         let y : IsRunAt feed zone runs n start rows = subst (λ (k : ℕ). IsRunAt feed zone runs k start rows) same x in
         let both = same_run_at feed zone runs n a.start start a.rows rows here y in
-        inside_along base a.start start a.rows rows both.0 both.1 a.inside
+        let mine : x.run ≡ run = same_Some x.run run (sym x.is_run ∙ ap (λ k. slice_get runs k) same ∙ at) in
+        inside_along base a.start start run.start x.run.start a.rows rows both.0 (ap (λ (t : Run). t.start) (sym mine)) both.1 a.inside
     | inr other ↦ was.inside r start rows (omega (arith, lt, other)) x
   ]
 

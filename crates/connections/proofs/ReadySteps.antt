@@ -1,6 +1,6 @@
 -- A run whose rows and times are at hand.
 use Rattle.std.proofs.Common.{◌≡◌, ℕ, ℤ, ◌+◌, ◌-◌, ◌<◌, ◌≤◌, min, List, length, get_or, take, Option, Some, None, IsSome, IsSomeAnd, All, true, refl, sym, ap, ◌∙◌, subst, arith}
-use Rattle.std.specs.Prelude.{Any}
+use Rattle.std.specs.Prelude.{◌+ℤ◌}
 use Rattle.std.specs.List.{slice_get}
 use Rattle.std.specs.Option.{option_map_or}
 use Rattle.std.proofs.lemmas.Bool.{and_parts, leb-true}
@@ -13,9 +13,10 @@ use Rattle.gtfs_tables.specs.declared.tables.Trip.{Trip}
 use Rattle.service_days.specs.Zones.{IsDayStart}
 use Rattle.service_days.specs.declared.zone.Zone.{Zone}
 use Rattle.connections.specs.Building.{AreRunRows}
-use Rattle.connections.specs.Hops.{AreInside, HasOutside, IsInside, LiesOutside}
+use Rattle.connections.specs.Hops.{AreInside, HasOutside, HaveClocks, IsInside, LackClocks, LiesOutside, shift_by, shift_of, zero_of}
 use Rattle.connections.specs.Runs.{IsTripRun, count_hops, hops_of, run_hops}
-use Rattle.connections.specs.Times.{AreTimesBefore, AreTimesOf, row_times}
+use Rattle.connections.specs.Times.{AreTimesBefore, AreTimesOf, departs, row_times}
+use Rattle.connections.specs.declared.hops.RunClock.{RunClock}
 use Rattle.connections.specs.declared.runs.Run.{Run}
 use Rattle.connections.specs.declared.times.RowTimes.{RowTimes}
 use Rattle.connections.specs.declared.times.TripTimes.{TripTimes}
@@ -69,22 +70,34 @@ ready feed run all trip rows mine times runnable timed is read rows_are len got 
       stops = rw rows_are (λ k d lt. some_stop (get_or (rows_of feed.stop_times.items trip) k d).stop (length feed.stops.items) (good.stops_below makes k d lt));
     }
 
-pub run_rows : (feed : Feed) (zone : Zone) (run : Run) (start : ℤ) (rows : List StopTimeRow) (times : List RowTimes) → IsReady feed run rows times → IsDayStart zone run.day start → AreRunRows feed zone run start rows
-run_rows feed zone run start rows times r starts = record { trip = r.trip; is_trip = r.is_trip; starts = starts; rows_are = r.rows_are; hops_are = r.hops_are }
+-- the instant from which a run's clock counts is that of the run
+pub run_rows : (feed : Feed) (zone : Zone) (run : Run) (clock : RunClock) (rows : List StopTimeRow) (times : List RowTimes) → IsReady feed run rows times → IsDayStart zone run.day clock.day.start → clock.start ≡ run.start
+    → clock.own ≡ departs rows 0 → AreRunRows feed zone run (zero_of clock) rows
+run_rows feed zone run clock rows times r starts same own = record {
+  trip = r.trip;
+  is_trip = r.is_trip;
+  starts = record { day = clock.day.start; is_day = starts; is = ap (λ n. clock.day.start +ℤ shift_by clock.start n) own ∙ ap (λ (o : Option ℕ). clock.day.start +ℤ shift_of o rows) same };
+  rows_are = r.rows_are;
+  hops_are = r.hops_are;
+}
 
 no_times : RowTimes
 no_times = record { arrival = 0; departure = 0 }
 
-pub all_inside : (feed : Feed) (run : Run) (base start : ℤ) (rows : List StopTimeRow) (times : List RowTimes) → IsReady feed run rows times → All (IsInside base start) times → AreInside base start rows
-all_inside feed run base start rows times r inside =
-    let at : (k : ℕ) → k < length rows → IsInside base start (row_times rows k) = λ k lt. subst (λ (t : RowTimes). IsInside base start t) (r.times_are k no_times lt) (inside k no_times (let len = r.same_length in omega (arith, len, lt))) in
-    record { arrivals = λ k lt. (at k lt).0; departures = λ k lt. (at k lt).1 }
+-- when the first row departs
+pub first_departs : (feed : Feed) (run : Run) (rows : List StopTimeRow) (times : List RowTimes) (d : RowTimes) → IsReady feed run rows times → (get_or times 0 d).departure ≡ departs rows 0
+first_departs feed run rows times d r = ap (λ (t : RowTimes). t.departure) (r.times_are 0 d r.some)
 
-pub some_outside : (feed : Feed) (run : Run) (base start : ℤ) (rows : List StopTimeRow) (times : List RowTimes) → IsReady feed run rows times → Any (LiesOutside base start) times → HasOutside base start rows
-some_outside feed run base start rows times r outside =
+pub all_inside : (feed : Feed) (run : Run) (base start : ℤ) (repeat : Option ℕ) (rows : List StopTimeRow) (times : List RowTimes) → IsReady feed run rows times → HaveClocks base start repeat times → AreInside base start repeat rows
+all_inside feed run base start repeat rows times r inside =
+    let at : (k : ℕ) → k < length rows → IsInside base start repeat k (row_times rows k) = λ k lt. subst (λ (t : RowTimes). IsInside base start repeat k t) (r.times_are k no_times lt) (inside k no_times (let len = r.same_length in omega (arith, len, lt))) in
+    record { arrivals = λ k lt used. (at k lt).arrival used; departures = λ k lt. (at k lt).departure }
+
+pub some_outside : (feed : Feed) (run : Run) (base start : ℤ) (repeat : Option ℕ) (rows : List StopTimeRow) (times : List RowTimes) → IsReady feed run rows times → LackClocks base start repeat times → HasOutside base start repeat rows
+some_outside feed run base start repeat rows times r outside =
     let lt : outside.0 < length rows = (let len = r.same_length in let within = outside.2 in omega (arith, len, within)) in
-    let is : outside.1 ≡ row_times rows outside.0 = sym outside.3 ∙ r.times_are outside.0 outside.1 lt in
-    (outside.0, lt, subst (λ (t : RowTimes). LiesOutside base start t) is outside.4)
+    let is : get_or times outside.0 outside.1 ≡ row_times rows outside.0 = r.times_are outside.0 outside.1 lt in
+    (outside.0, lt, subst (λ (t : RowTimes). LiesOutside base start repeat outside.0 t) is outside.3)
 
 -- the connections of one run more
 pub hops_step : (trips : List Trip) (runs : List Run) (i : ℕ) (run : Run) (trip : Trip) (count new most : ℕ) → i < length runs → run ≡ get_or runs i run → IsTripRun trips run → trip ≡ get_or trips run.trip trip

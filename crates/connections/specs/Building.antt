@@ -4,20 +4,19 @@ use Rattle.gtfs_rows.specs.declared.rows.StopTimeRow.{StopTimeRow}
 use Rattle.gtfs_tables.specs.Joined.{rows_of}
 use Rattle.gtfs_tables.specs.declared.tables.Feed.{Feed}
 use Rattle.gtfs_tables.specs.declared.tables.Trip.{Trip}
-use Rattle.service_days.specs.Zones.{IsDayStart}
 use Rattle.service_days.specs.declared.zone.Zone.{Zone}
 use Rattle.timetable.specs.Legal.{At}
 use Rattle.timetable.specs.declared.network.Connection.{Connection}
 use Rattle.connections.specs.Hops.{AddsHops, AreInside, HasOutside}
-use Rattle.connections.specs.Listed.{IsRunAt, IsRunHop}
+use Rattle.connections.specs.Listed.{IsRunAt, IsRunHop, IsRunStart}
 use Rattle.connections.specs.Runs.{count_hops, hops_of}
 use Rattle.connections.specs.declared.runs.Run.{Run}
 
--- the rows of a run, on a day that starts then
+-- the rows of a run, whose times are counted from an instant
 pub record AreRunRows (feed : Feed) (zone : Zone) (run : Run) (start : ℤ) (rows : List StopTimeRow) : Type 0 where
   pub trip : Trip
   pub is_trip : At feed.trips.items run.trip trip
-  pub starts : IsDayStart zone run.day start
+  pub starts : IsRunStart zone run rows start
   pub rows_are : rows ≡ rows_of feed.stop_times.items trip
   pub hops_are : hops_of trip ≡ length rows - 1
 
@@ -26,7 +25,7 @@ pub record AddsRun (feed : Feed) (zone : Zone) (base : ℤ) (run : Run) (number 
   pub start : ℤ
   pub rows : List StopTimeRow
   pub rows_are : AreRunRows feed zone run start rows
-  pub inside : AreInside base start rows
+  pub inside : AreInside base start run.start rows
   pub adds : AddsHops base start rows number (length rows - 1) old new
 
 -- a time of a run lies outside
@@ -34,7 +33,7 @@ pub record LeavesRange (feed : Feed) (zone : Zone) (base : ℤ) (run : Run) : Ty
   pub start : ℤ
   pub rows : List StopTimeRow
   pub rows_are : AreRunRows feed zone run start rows
-  pub outside : HasOutside base start rows
+  pub outside : HasOutside base start run.start rows
 
 -- of an earlier run, or earlier in the same run
 abbrev pub IsEarlier : Connection → Connection → Type 0
@@ -46,7 +45,7 @@ pub record AreByRun (feed : Feed) (zone : Zone) (base : ℤ) (runs : List Run) (
   pub only : (c : Connection) → Contains connections c → (r : ℕ) × (p : ℕ) × (r < n) × IsRunHop feed zone base runs r p c
   pub rising : (i j : ℕ) (d : Connection) → i < j → j < length connections → IsEarlier (slice_index_or connections i d) (slice_index_or connections j d)
   pub counted : length connections ≡ count_hops feed.trips.items (take n runs)
-  pub inside : (r : ℕ) (start : ℤ) (rows : List StopTimeRow) → r < n → IsRunAt feed zone runs r start rows → AreInside base start rows
+  pub inside : (r : ℕ) (start : ℤ) (rows : List StopTimeRow) → r < n → (at : IsRunAt feed zone runs r start rows) → AreInside base start at.run.start rows
 
 -- by departure, arrival and run
 pub record IsNotAfter (c d : Connection) : Type 0 where

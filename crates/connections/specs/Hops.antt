@@ -1,10 +1,11 @@
 -- The connection of a run from a row to the next.
-use Rattle.std.specs.Prelude.{◌≡◌, ◌+◌, ◌<◌, ◌⊎◌, ℕ, ℤ, pos, ◌+ℤ◌, ◌<ℤ◌, ◌≤ℤ◌, List, length, slice_index_or, ◌++◌, Some}
+use Rattle.std.specs.Prelude.{◌≡◌, ◌+◌, ◌<◌, ◌⊎◌, ℕ, ℤ, pos, ◌+ℤ◌, ◌-ℤ◌, ◌<ℤ◌, ◌≤ℤ◌, List, length, slice_index_or, ◌++◌, Option, None, Some}
 use Rattle.gtfs_rows.specs.declared.rows.StopTimeRow.{StopTimeRow}
 use Rattle.timetable.specs.Legal.{At}
 use Rattle.timetable.specs.declared.limits.TheConstants.{TIME_END}
 use Rattle.timetable.specs.declared.network.Connection.{Connection}
 use Rattle.connections.specs.Times.{arrives, departs}
+use Rattle.connections.specs.declared.hops.RunClock.{RunClock}
 use Rattle.connections.specs.declared.times.RowTimes.{RowTimes}
 
 -- a time of a day that starts then is told as so many seconds after the base
@@ -16,22 +17,48 @@ pub record IsClock (base start : ℤ) (time clock : ℕ) : Type 0 where
 abbrev pub IsOutside : ℤ → ℤ → ℕ → Type 0
 IsOutside base start time = ((start +ℤ pos time) <ℤ base) ⊎ ((base +ℤ pos TIME_END) ≤ℤ (start +ℤ pos time))
 
--- all times of the rows have their clocks
-pub record AreInside (base start : ℤ) (rows : List StopTimeRow) : Type 0 where
-  pub arrivals : (k : ℕ) → k < length rows → (clock : ℕ) × IsClock base start (arrives rows k) clock
+-- the arrival at a row counts, but for a repeat's at its first row
+abbrev pub IsUsed : Option ℕ → ℕ → Type 0
+IsUsed None k = Unit {0}
+IsUsed (Some s) k = 0 < k
+
+-- all times of the rows that count have their clocks, in a run of which the start is told where it is a repeat
+pub record AreInside (base start : ℤ) (repeat : Option ℕ) (rows : List StopTimeRow) : Type 0 where
+  pub arrivals : (k : ℕ) → k < length rows → IsUsed repeat k → (clock : ℕ) × IsClock base start (arrives rows k) clock
   pub departures : (k : ℕ) → k < length rows → (clock : ℕ) × IsClock base start (departs rows k) clock
 
--- a time of a row lies outside
-abbrev pub HasOutside : ℤ → ℤ → List StopTimeRow → Type 0
-HasOutside base start rows = (k : ℕ) × (k < length rows) × (IsOutside base start (arrives rows k) ⊎ IsOutside base start (departs rows k))
+-- a time of a row that counts lies outside
+abbrev pub HasOutside : ℤ → ℤ → Option ℕ → List StopTimeRow → Type 0
+HasOutside base start repeat rows = (k : ℕ) × (k < length rows) × ((IsUsed repeat k × IsOutside base start (arrives rows k)) ⊎ IsOutside base start (departs rows k))
 
--- a clock for both times of a row
-abbrev pub IsInside : ℤ → ℤ → RowTimes → Type 0
-IsInside base start times = ((clock : ℕ) × IsClock base start times.arrival clock) × ((clock : ℕ) × IsClock base start times.departure clock)
+-- a clock for the times of the row at a position, as far as they count
+pub record IsInside (base start : ℤ) (repeat : Option ℕ) (k : ℕ) (times : RowTimes) : Type 0 where
+  pub arrival : IsUsed repeat k → (clock : ℕ) × IsClock base start times.arrival clock
+  pub departure : (clock : ℕ) × IsClock base start times.departure clock
 
 -- one of them lies outside
-abbrev pub LiesOutside : ℤ → ℤ → RowTimes → Type 0
-LiesOutside base start times = IsOutside base start times.arrival ⊎ IsOutside base start times.departure
+abbrev pub LiesOutside : ℤ → ℤ → Option ℕ → ℕ → RowTimes → Type 0
+LiesOutside base start repeat k times = (IsUsed repeat k × IsOutside base start times.arrival) ⊎ IsOutside base start times.departure
+
+-- such clocks for each of the rows
+abbrev pub HaveClocks : ℤ → ℤ → Option ℕ → List RowTimes → Type 0
+HaveClocks base start repeat times = (k : ℕ) (d : RowTimes) → k < length times → IsInside base start repeat k (slice_index_or times k d)
+
+-- one of the rows has none
+abbrev pub LackClocks : ℤ → ℤ → Option ℕ → List RowTimes → Type 0
+LackClocks base start repeat times = (k : ℕ) × (d : RowTimes) × (k < length times) × LiesOutside base start repeat k (slice_index_or times k d)
+
+-- by how much a repeat is later than its rows' times: it departs from its first row at its start
+abbrev pub shift_by : Option ℕ → ℕ → ℤ
+shift_by None own = pos 0
+shift_by (Some s) own = pos s -ℤ pos own
+
+abbrev pub shift_of : Option ℕ → List StopTimeRow → ℤ
+shift_of start rows = shift_by start (departs rows 0)
+
+-- the instant from which a clock counts the times of its rows
+abbrev pub zero_of : RunClock → ℤ
+zero_of clock = clock.day.start +ℤ shift_by clock.start clock.own
 
 -- c leads from the row at a position to the next, in the run of that number
 pub record IsHop (base start : ℤ) (rows : List StopTimeRow) (run position : ℕ) (c : Connection) : Type 0 where

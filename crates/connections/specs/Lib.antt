@@ -1,9 +1,12 @@
 pub mod Building
 pub mod Days
 pub mod Faults
+pub mod Grouping
 pub mod Hops
 pub mod Legal
 pub mod Listed
 pub mod Outcome
+pub mod Repeats
 pub mod Runs
+pub mod Starts
 pub mod Times

@@ -1,5 +1,5 @@
 -- The listed connections: one for each run and each two neighbouring rows, by departure, arrival, run and position.
-use Rattle.std.specs.Prelude.{◌≡◌, ◌<◌, ◌≤◌, ℕ, ℤ, List, Contains}
+use Rattle.std.specs.Prelude.{◌≡◌, ◌<◌, ◌≤◌, ℕ, ℤ, ◌+ℤ◌, List, Contains}
 use Rattle.gtfs_rows.specs.declared.rows.StopTimeRow.{StopTimeRow}
 use Rattle.gtfs_tables.specs.Joined.{rows_of}
 use Rattle.gtfs_tables.specs.declared.tables.Feed.{Feed}
@@ -8,16 +8,22 @@ use Rattle.service_days.specs.Zones.{IsDayStart}
 use Rattle.service_days.specs.declared.zone.Zone.{Zone}
 use Rattle.timetable.specs.Legal.{At}
 use Rattle.timetable.specs.declared.network.Connection.{Connection}
-use Rattle.connections.specs.Hops.{AreInside, HasOutside, IsHop}
+use Rattle.connections.specs.Hops.{AreInside, HasOutside, IsHop, shift_of}
 use Rattle.connections.specs.declared.runs.Run.{Run}
 
--- the run of a number has these rows, on a day that starts then
+-- the times of a run's rows are counted from an instant: the start of its day, moved by as much as a repeat is later
+pub record IsRunStart (zone : Zone) (run : Run) (rows : List StopTimeRow) (start : ℤ) : Type 0 where
+  pub day : ℤ
+  pub is_day : IsDayStart zone run.day day
+  pub is : start ≡ (day +ℤ shift_of run.start rows)
+
+-- the run of a number has these rows, whose times are counted from that instant
 pub record IsRunAt (feed : Feed) (zone : Zone) (runs : List Run) (number : ℕ) (start : ℤ) (rows : List StopTimeRow) : Type 0 where
   pub run : Run
   pub trip : Trip
   pub is_run : At runs number run
   pub is_trip : At feed.trips.items run.trip trip
-  pub starts : IsDayStart zone run.day start
+  pub starts : IsRunStart zone run rows start
   pub rows_are : rows ≡ rows_of feed.stop_times.items trip
 
 -- c is the connection of a run at a position
@@ -27,17 +33,17 @@ pub record IsRunHop (feed : Feed) (zone : Zone) (base : ℤ) (runs : List Run) (
   pub run_at : IsRunAt feed zone runs number start rows
   pub hop : IsHop base start rows number position c
 
--- all times of all runs have their clocks
+-- all times of all runs that count have their clocks
 abbrev pub AreRunsInside : Feed → Zone → ℤ → List Run → Type 0
-AreRunsInside feed zone base runs = (number : ℕ) (start : ℤ) (rows : List StopTimeRow) → IsRunAt feed zone runs number start rows → AreInside base start rows
+AreRunsInside feed zone base runs = (number : ℕ) (start : ℤ) (rows : List StopTimeRow) → (at : IsRunAt feed zone runs number start rows) → AreInside base start at.run.start rows
 
--- a time of a run lies outside
+-- a time of a run that counts lies outside
 pub record HasRunOutside (feed : Feed) (zone : Zone) (base : ℤ) (runs : List Run) : Type 0 where
   pub number : ℕ
   pub start : ℤ
   pub rows : List StopTimeRow
   pub run_at : IsRunAt feed zone runs number start rows
-  pub outside : HasOutside base start rows
+  pub outside : HasOutside base start run_at.run.start rows
 
 -- a connection at one position stands before one at another
 pub record IsBefore (c d : Connection) (p q : ℕ) : Type 0 where

@@ -1,7 +1,7 @@
 // The connections of one run.
 
-ghost use Rattle.std.specs.Prelude.{◌≡◌, ◌≤◌, ◌<◌, ◌+◌, ◌-◌, length, OnOk, MatchOption, MatchBool, All, Any, IsSome};
-ghost use Rattle.connections.specs.Hops.{AddsHops, IsClock, IsHop, IsInside, IsOutside, LiesOutside};
+ghost use Rattle.std.specs.Prelude.{◌≡◌, ◌≤◌, ◌<◌, ◌+◌, ◌-◌, ◌^◌, pos, ◌+ℤ◌, ◌≤ℤ◌, length, OnOk, MatchOption, MatchBool, All, IsSome};
+ghost use Rattle.connections.specs.Hops.{AddsHops, HaveClocks, IsClock, IsHop, IsInside, IsOutside, LackClocks, LiesOutside, zero_of};
 ghost use Rattle.connections.specs.Times.{AreTimesBefore};
 
 use crate::times::RowTimes;
@@ -17,12 +17,33 @@ pub(crate) struct DayClock {
     pub start: i64,
 }
 
-impl DayClock {
-    // The seconds after the base of a time of the day; none before the base and from the end of time on.
-    fn at(&self, time: u64) -> Option<u32>
-        ensures { MatchOption result (IsOutside self.now.base self.now.start time) (IsClock self.now.base self.now.start time) }
+// A run's clock. A repeat departs from its first stop so many seconds after the day's start, in place of its first row's
+// own departure; another run keeps the times of its rows.
+#[derive(Clone, Copy, Debug)]
+pub(crate) struct RunClock {
+    pub day: DayClock,
+    pub start: Option<u32>,
+    pub own: u64,
+}
+
+impl RunClock {
+    // The instant from which the times of the rows are counted.
+    fn zero(&self) -> i128
+        ensures is { result ≡ zero_of self.now }
+        ensures range { (pos 0 ≤ℤ (result +ℤ pos (2 ^ 66))) × (result ≤ℤ pos (2 ^ 66)) }
     {
-        let after = self.start as i128 + time as i128 - self.base as i128;
+        let day = self.day.start as i128;
+        match self.start {
+            None => day,
+            Some(start) => day + start as i128 - self.own as i128,
+        }
+    }
+
+    // The seconds after the base of a time of the rows; none before the base and from the end of time on.
+    fn at(&self, time: u64) -> Option<u32>
+        ensures { MatchOption result (IsOutside self.now.day.base (zero_of self.now) time) (IsClock self.now.day.base (zero_of self.now) time) }
+    {
+        let after = self.zero() + time as i128 - self.day.base as i128;
         if after < 0 {
             return None;
         }
@@ -32,11 +53,13 @@ impl DayClock {
         Some(after as u32)
     }
 
-    // Whether both times of a row lie from the base to before the end of time.
-    fn is_inside(&self, times: RowTimes) -> bool
-        ensures { MatchBool result (IsInside self.now.base self.now.start times) (LiesOutside self.now.base self.now.start times) }
+    // Whether the times of the row at a position lie from the base to before the end of time. The arrival at a repeat's first
+    // row doesn't count.
+    fn is_inside(&self, position: usize, times: RowTimes) -> bool
+        ensures { MatchBool result (IsInside self.now.day.base (zero_of self.now) self.now.start position times) (LiesOutside self.now.day.base (zero_of self.now) self.now.start position times) }
     {
-        if self.at(times.arrival).is_none() {
+        let counts = position > 0 || self.start.is_none();
+        if counts && self.at(times.arrival).is_none() {
             return false;
         }
         self.at(times.departure).is_some()
@@ -44,11 +67,11 @@ impl DayClock {
 }
 
 // Whether all times lie from the base to before the end of time.
-pub(crate) fn are_inside(clock: DayClock, times: &[RowTimes]) -> bool
-    ensures { MatchBool result (All (IsInside clock.base clock.start) times.now) (Any (LiesOutside clock.base clock.start) times.now) }
+pub(crate) fn are_inside(clock: RunClock, times: &[RowTimes]) -> bool
+    ensures { MatchBool result (HaveClocks clock.day.base (zero_of clock) clock.start times.now) (LackClocks clock.day.base (zero_of clock) clock.start times.now) }
 {
-    for row in times {
-        if !clock.is_inside(*row) {
+    for (position, row) in times.iter().enumerate() {
+        if !clock.is_inside(position, *row) {
             return false;
         }
     }
@@ -57,7 +80,7 @@ pub(crate) fn are_inside(clock: DayClock, times: &[RowTimes]) -> bool
 
 // The connection from the row at a position of a run to the next.
 fn connection(
-    clock: DayClock,
+    clock: RunClock,
     rows: &[StopTimeRow],
     times: &[RowTimes],
     position: usize,
@@ -66,9 +89,9 @@ fn connection(
     requires position { position + 1 < length rows.now }
     requires same_length { length times.now ≡ length rows.now }
     requires times_are { AreTimesBefore rows.now times.now (length rows.now) }
-    requires inside { All (IsInside clock.base clock.start) times.now }
+    requires inside { HaveClocks clock.day.base (zero_of clock) clock.start times.now }
     requires stops { All (λ row. IsSome row.stop) rows.now }
-    ensures { IsHop clock.base clock.start rows.now run position result }
+    ensures { IsHop clock.day.base (zero_of clock) rows.now run position result }
 {
     let row = rows[position];
     let next = rows[position + 1];
@@ -100,7 +123,7 @@ fn connection(
 // Adds the connections of a run, whose times lie inside.
 pub(crate) fn add_hops(
     connections: &mut Vec<Connection>,
-    clock: DayClock,
+    clock: RunClock,
     rows: &[StopTimeRow],
     times: &[RowTimes],
     run: u32,
@@ -108,9 +131,9 @@ pub(crate) fn add_hops(
     requires some { 0 < length rows.now }
     requires same_length { length times.now ≡ length rows.now }
     requires times_are { AreTimesBefore rows.now times.now (length rows.now) }
-    requires inside { All (IsInside clock.base clock.start) times.now }
+    requires inside { HaveClocks clock.day.base (zero_of clock) clock.start times.now }
     requires stops { All (λ row. IsSome row.stop) rows.now }
-    ensures { OnOk result (AddsHops clock.base clock.start rows.now run (length rows.now - 1) connections.old.items connections.new.items) }
+    ensures { OnOk result (AddsHops clock.day.base (zero_of clock) rows.now run (length rows.now - 1) connections.old.items connections.new.items) }
 {
     for position in 0..rows.len() - 1 {
         let hop = connection(clock, rows, times, position, run);

@@ -1,15 +1,22 @@
 //! Laws of listed connections. The functions do nothing: their contracts are the laws.
 
-ghost use Rattle.std.specs.Prelude.{◌≡◌, ◌≤◌, ℕ, List, length};
+ghost use Rattle.std.specs.Prelude.{◌≡◌, ◌≤◌, ◌<◌, ◌+◌, ◌*◌, ◌↔◌, ℕ, ℤ, List, [], ◌∷◌, None, Contains, length, slice_index_or, if◌then◌else◌, false};
+ghost use Rattle.gtfs_rows.specs.declared.rows.StopTimeRow.{StopTimeRow};
 ghost use Rattle.gtfs_rows.specs.declared.values.Day.{Day};
 ghost use Rattle.gtfs_tables.specs.Joined.{IsRunnable};
 ghost use Rattle.gtfs_tables.specs.declared.tables.Feed.{Feed};
+ghost use Rattle.gtfs_tables.specs.declared.tables.Frequency.{Frequency};
+ghost use Rattle.gtfs_tables.specs.declared.tables.Trip.{Trip};
+ghost use Rattle.service_days.specs.Zones.{IsDayStart};
 ghost use Rattle.service_days.specs.declared.zone.Zone.{Zone};
 ghost use Rattle.timetable.specs.Legal.{IsLegal};
 ghost use Rattle.timetable.specs.TimetableValue.{TimetableValue};
 ghost use Rattle.timetable.specs.declared.network.Connection.{Connection};
 ghost use Rattle.connections.specs.Legal.{AreWithinLimits, HasLegalConnections};
+ghost use Rattle.connections.specs.Listed.{IsRunStart};
 ghost use Rattle.connections.specs.Outcome.{IsListing};
+ghost use Rattle.connections.specs.Repeats.{starts_of};
+ghost use Rattle.connections.specs.Runs.{run_as_it_stands, runs_at, runs_on};
 ghost use Rattle.connections.specs.declared.runs.Run.{Run};
 
 use crate::days::MAX_DAYS;
@@ -17,6 +24,20 @@ use crate::days::MAX_DAYS;
 /// The limit of days, in numbers: definitions and code cite the constant.
 pub fn limits()
     ensures { MAX_DAYS ≡ 14 }
+{}
+
+/// The starts of a trip are those of its rows, each once, rising: a row with a headway starts the trip at its start time and a
+/// whole number of headways later, before its end time.
+pub fn starts_are_theirs()
+    ensures only { (rows : List Frequency) (s : ℕ) → Contains (starts_of rows) s → (row : Frequency) × Contains rows row × (n : ℕ) × (s ≡ row.start + n * row.headway) × (s < row.end) }
+    ensures each { (rows : List Frequency) (row : Frequency) (n : ℕ) → Contains rows row → 0 < row.headway → row.start + n * row.headway < row.end → Contains (starts_of rows) (row.start + n * row.headway) }
+    ensures rising { (rows : List Frequency) (i j d : ℕ) → i < j → j < length (starts_of rows) → slice_index_or (starts_of rows) i d < slice_index_or (starts_of rows) j d }
+{}
+
+/// Where no trip repeats, each trip that runs on a day runs once, as its stop times stand: its times count from the day's start.
+pub fn without_frequencies()
+    ensures once { (feed : Feed) (day : Day) (t : ℕ) (trip : Trip) → trip.repeats ≡ false → runs_at feed day t trip ≡ (if runs_on feed day trip then run_as_it_stands day t ∷ [] else []) }
+    ensures stands { (zone : Zone) (run : Run) (rows : List StopTimeRow) (start : ℤ) → run.start ≡ None → IsDayStart zone run.day start ↔ IsRunStart zone run rows start }
 {}
 
 /// A feed makes one list of runs and one list of connections on some days.

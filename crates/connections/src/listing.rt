@@ -13,7 +13,7 @@ ghost use Rattle.connections.specs.Times.{AreTimesOf, AreTripTimes};
 
 use crate::days::{MAX_DAYS, ServiceDay, service_days};
 use crate::fault::{RunsFault, out_of_memory, out_of_range, too_many};
-use crate::hops::{DayClock, add_hops, are_inside};
+use crate::hops::{DayClock, RunClock, add_hops, are_inside};
 use crate::report::{Report, report_of};
 use crate::runs::{Run, makes_connections, runs_on};
 use crate::times::{TripTimes, trip_times};
@@ -94,20 +94,25 @@ fn list_run(
     connections: &mut Vec<Connection>,
     feed: &Feed,
     times: &[TripTimes],
-    clock: DayClock,
+    day: DayClock,
     run: &Run,
     number: u32,
 ) -> Result<(), RunsFault>
     requires runnable { IsRunnable feed.now }
     requires times { AreTimesOf feed.now.stop_times.items feed.now.trips.items times.now }
     requires trip { IsTripRun feed.now.trips.items run.now }
-    ensures ok { (zone : DayZone) → IsDayStart zone run.now.day clock.start → OnOk result (AddsRun feed.now zone clock.base run.now number connections.old.items connections.new.items) }
-    ensures err { (zone : DayZone) → IsDayStart zone run.now.day clock.start → IfErr result (λ fault. IsWantOfMemory fault ⊎ ((fault ≡ range_fault) × LeavesRange feed.now zone clock.base run.now)) }
+    ensures ok { (zone : DayZone) → IsDayStart zone run.now.day day.start → OnOk result (AddsRun feed.now zone day.base run.now number connections.old.items connections.new.items) }
+    ensures err { (zone : DayZone) → IsDayStart zone run.now.day day.start → IfErr result (λ fault. IsWantOfMemory fault ⊎ ((fault ≡ range_fault) × LeavesRange feed.now zone day.base run.now)) }
 {
     let place = run.trip as usize;
     let trip = &feed.trips[place];
     let rows = rows_of(&feed.stop_times, trip);
     let row_times = &times[place].rows;
+    let clock = RunClock {
+        day,
+        start: run.start,
+        own: row_times[0].departure,
+    };
     if !are_inside(clock, row_times) {
         return Err(out_of_range());
     }
@@ -143,11 +148,11 @@ fn connections_by_run(
     let first = days[0];
     for (number, run) in runs.iter().enumerate() {
         let start = start_of(days, run.day);
-        let clock = DayClock {
+        let day = DayClock {
             base: first.start,
             start,
         };
-        match list_run(&mut connections, feed, times, clock, run, number as u32) {
+        match list_run(&mut connections, feed, times, day, run, number as u32) {
             Ok(()) => {}
             Err(fault) => return Err(fault),
         }

@@ -16,6 +16,8 @@ use timetable::Connection;
 
 const STOPS: &[u8] = b"stop_id\nA\nB\nC\nD\n";
 
+const NO_FREQUENCIES: &[u8] = b"trip_id,start_time,end_time,headway_secs\n";
+
 // A feed without a calendar: its trips, the rows of its trips, and the days that are added and removed.
 #[derive(Clone, Copy)]
 struct Texts {
@@ -76,6 +78,8 @@ fn run(text: &str, trip: u32) -> Result<Run, Fail> {
     Ok(Run {
         day: Day::parse(text.as_bytes())?,
         trip,
+        repeat: 0,
+        start: None,
     })
 }
 
@@ -85,7 +89,7 @@ fn level() -> Texts {
         trips: b"service_id,trip_id\nS,T\n",
         stop_times: b"trip_id,arrival_time,departure_time,stop_id,stop_sequence\nT,08:00:00,08:00:00,A,1\nT,08:00:00,08:00:00,B,2\nT,08:00:00,08:00:00,C,3\nT,08:01:00,08:01:00,D,4\n",
         dates: b"service_id,date,exception_type\nS,20240115,1\n",
-        frequencies: b"trip_id\nT\n",
+        frequencies: NO_FREQUENCIES,
     }
 }
 
@@ -106,7 +110,7 @@ fn times_are_lifted(rt: HostRuntime) -> Result<(), Fail> {
         footpaths: 0,
         lifted: 1,
         flex: 0,
-        frequencies: 1,
+        frequencies: 0,
         skipped: 1,
     };
     assert!(rt; report == counts);
@@ -120,7 +124,7 @@ fn times_are_counted_from_the_first_day(rt: HostRuntime) -> Result<(), Fail> {
         trips: b"service_id,trip_id\nfirst,T\nsecond,U\n",
         stop_times: b"trip_id,arrival_time,departure_time,stop_id,stop_sequence\nT,25:10:00,25:10:00,A,1\nT,25:11:00,25:11:00,B,2\nU,08:00:00,08:00:00,A,1\nU,08:01:00,08:01:00,B,2\n",
         dates: b"service_id,date,exception_type\nfirst,20240330,1\nsecond,20240331,1\n",
-        frequencies: b"trip_id\n",
+        frequencies: NO_FREQUENCIES,
     };
     let zone = Zone::posix("CET-1CEST,M3.5.0,M10.5.0/3")?;
     let (connections, runs, _report) = made(rt.alloc(), texts, "20240330", 2, &zone)??;
@@ -141,7 +145,7 @@ fn trips_run_with_their_services(rt: HostRuntime) -> Result<(), Fail> {
         trips: b"service_id,trip_id\nY,T\nX,U\nX,F\nX,V\n",
         stop_times: b"trip_id,arrival_time,departure_time,stop_id,stop_sequence,pickup_type,drop_off_type\nT,08:00:00,08:00:00,A,1,,\nT,08:10:00,08:10:00,B,2,,\nU,08:00:00,08:00:00,A,1,1,\nU,,,B,2,,1\nU,08:10:00,08:12:00,C,3,,\nF,08:00:00,08:00:00,A,1,,\nF,08:10:00,08:10:00,,2,,\nV,08:00:00,08:00:00,A,1,,\n",
         dates: b"service_id,date,exception_type\nX,20240115,1\nX,20240116,2\n",
-        frequencies: b"trip_id\n",
+        frequencies: NO_FREQUENCIES,
     };
     let (connections, runs, report) = made(rt.alloc(), texts, "20240115", 2, &Zone::fixed(0))??;
     let mut first = ride(0, 1, 28_800, 29_100, 0);
@@ -162,7 +166,7 @@ fn connections_are_in_order(rt: HostRuntime) -> Result<(), Fail> {
         trips: b"service_id,trip_id\nS,T\nS,U\n",
         stop_times: b"trip_id,arrival_time,departure_time,stop_id,stop_sequence\nT,08:00:00,08:00:00,A,1\nT,08:20:00,08:20:00,B,2\nU,08:00:00,08:00:00,A,1\nU,08:10:00,08:10:00,B,2\nU,32:00:00,32:00:00,C,3\nU,32:20:00,32:20:00,D,4\n",
         dates: b"service_id,date,exception_type\nS,20240115,1\nS,20240116,1\n",
-        frequencies: b"trip_id\n",
+        frequencies: NO_FREQUENCIES,
     };
     let (connections, runs, _report) = made(rt.alloc(), texts, "20240115", 2, &Zone::fixed(3600))??;
     let wanted = [
@@ -176,6 +180,86 @@ fn connections_are_in_order(rt: HostRuntime) -> Result<(), Fail> {
         ride(2, 3, 201_600, 202_800, 3),
     ];
     assert_eq!(rt; runs.len(), 4);
+    assert!(rt; connections.as_slice() == wanted.as_slice());
+    Ok(())
+}
+
+// Two trips, T of three stops and U of two, and these rows of frequencies.txt.
+fn repeated(frequencies: &'static [u8]) -> Texts {
+    Texts {
+        trips: b"service_id,trip_id\nS,T\nS,U\n",
+        stop_times: b"trip_id,arrival_time,departure_time,stop_id,stop_sequence\nT,07:00:00,08:00:00,A,1\nT,08:10:00,08:10:00,B,2\nT,08:30:00,08:30:00,C,3\nU,08:12:00,08:12:00,B,1\nU,08:20:00,08:20:00,C,2\n",
+        dates: b"service_id,date,exception_type\nS,20240115,1\nS,20240116,1\n",
+        frequencies,
+    }
+}
+
+// How many runs and connections two days have, whichever the starts are, exact or not, in whichever order of the rows.
+#[test]
+fn starts_are_counted_once(rt: HostRuntime) -> Result<(), Fail> {
+    let tables: [(&'static [u8], usize, usize, usize); 6] = [
+        (
+            b"trip_id,start_time,end_time,headway_secs\nT,09:00:00,10:00:00,1200\n",
+            8,
+            14,
+            1,
+        ),
+        (
+            b"trip_id,start_time,end_time,headway_secs\nT,09:00:00,09:40:00,1200\n",
+            6,
+            10,
+            1,
+        ),
+        (
+            b"trip_id,start_time,end_time,headway_secs\nT,09:00:00,09:00:00,1200\n",
+            2,
+            2,
+            1,
+        ),
+        (
+            b"trip_id,start_time,end_time,headway_secs,exact_times\nT,09:20:00,09:40:01,600,1\nT,09:00:00,10:00:00,1200,0\n",
+            10,
+            18,
+            1,
+        ),
+        (
+            b"trip_id,start_time,end_time,headway_secs\nU,00:00:00,00:00:01,99999\nT,00:00:00,24:00:00,86399\n",
+            6,
+            10,
+            2,
+        ),
+        (NO_FREQUENCIES, 4, 6, 0),
+    ];
+    for (frequencies, some_runs, some_connections, trips) in tables {
+        let texts = repeated(frequencies);
+        let (connections, runs, report) = made(rt.alloc(), texts, "20240115", 2, &Zone::fixed(0))??;
+        assert_eq!(rt; runs.len(), some_runs);
+        assert_eq!(rt; connections.len(), some_connections);
+        assert_eq!(rt; report.frequencies, trips);
+    }
+    Ok(())
+}
+
+// Runs stand by day, trip and repeat. A repeat's first arrival isn't used: it lies before the base here.
+#[test]
+fn repeats_depart_at_their_starts(rt: HostRuntime) -> Result<(), Fail> {
+    let frequencies =
+        b"trip_id,start_time,end_time,headway_secs\nT,00:20:00,00:20:01,7\nT,00:00:00,00:40:00,1200\n";
+    let texts = repeated(frequencies);
+    let (connections, runs, _report) = made(rt.alloc(), texts, "20240115", 1, &Zone::fixed(0))??;
+    let mut first = run("20240115", 0)?;
+    first.start = Some(0);
+    let mut second = first;
+    second.repeat = 1;
+    second.start = Some(1200);
+    assert!(rt; runs.as_slice() == [first, second, run("20240115", 1)?].as_slice());
+    let wanted = [
+        ride(0, 1, 0, 600, 0),
+        ride(1, 2, 600, 1800, 0),
+        ride(0, 1, 1200, 1800, 1),
+        ride(1, 2, 1800, 3000, 1),
+        ride(1, 2, 29_520, 30_000, 2),
+    ];
     assert!(rt; connections.as_slice() == wanted.as_slice());
     Ok(())
 }

@@ -22,12 +22,12 @@ use Rattle.feed_loader.specs.declared.plan.Plan.{Plan}
 abbrev pub day_number : Day → ℕ
 day_number d = 10000 * d.year + 100 * d.month + d.day
 
--- a run has the name of its trip, which is its trip_id, and its day; none is a repeat of another
-abbrev pub name_on : Option Trip → Day → TripNameValue
-name_on trip day = record { name = option_map_or (λ trip. string_bytes trip.id) trip []; day = day_number day; repeat = 0 }
+-- a run has the name of its trip, which is its trip_id, its day, and its number among those of the trip on that day
+abbrev pub name_on : Option Trip → Day → ℕ → TripNameValue
+name_on trip day repeat = record { name = option_map_or (λ trip. string_bytes trip.id) trip []; day = day_number day; repeat = repeat }
 
 abbrev pub run_name : List Trip → Run → TripNameValue
-run_name trips run = name_on (slice_get trips run.trip) run.day
+run_name trips run = name_on (slice_get trips run.trip) run.day run.repeat
 
 -- times count from the start of the first day; a stop has the name of its stop_id
 pub record AreNames (feed : Feed) (plan : Plan) (runs : List Run) (names : NamesValue) : Type 0 where

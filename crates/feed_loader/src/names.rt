@@ -67,7 +67,7 @@ pub fn stop_names(alloc: Global, stops: &[Stop]) -> Result<Vec<String>, AllocErr
     Ok(names)
 }
 
-/// The names of runs: each has its trip's, and its day.
+/// The names of runs: each has its trip's, its day, and its number among those of the trip on that day.
 pub fn run_names(alloc: Global, trips: &[Trip], runs: &[Run]) -> Result<Vec<TripName>, AllocError>
     ensures { IfOk result (λ names. names.items ≡ map (run_name trips.now) runs.now) }
 {
@@ -78,7 +78,7 @@ pub fn run_names(alloc: Global, trips: &[Trip], runs: &[Run]) -> Result<Vec<Trip
         names.push(TripName {
             name,
             day,
-            repeat: 0,
+            repeat: run.repeat,
         })?;
     }
     Ok(names)

@@ -61,6 +61,66 @@ fn a_feed_makes_its_image(rt: HostRuntime) -> Result<(), Fail> {
     Ok(())
 }
 
+// The small feed with these rows of frequencies.txt.
+fn repeated(frequencies: &'static [u8]) -> [(&'static str, &'static [u8]); 6] {
+    let [agencies, stops, trips, times, calendar] = FILES;
+    [
+        agencies,
+        stops,
+        trips,
+        times,
+        calendar,
+        ("frequencies.txt", frequencies),
+    ]
+}
+
+/// A trip that repeats runs once for each of its starts, and the image has the runs' numbers.
+#[test]
+fn repeats_are_numbered(rt: HostRuntime) -> Result<(), Fail> {
+    let files =
+        repeated(b"trip_id,start_time,end_time,headway_secs\nT1,09:00:00,10:00:00,1200\n");
+    let mut files = MemoryFiles { files: &files };
+    let Ok((image, report)) = load(rt.alloc(), &mut files, &one_day()) else {
+        panic!(rt; "the feed is refused");
+    };
+    assert_eq!(rt; report.runs, 4);
+    assert_eq!(rt; report.connections, 7);
+    assert_eq!(rt; report.frequencies, 1);
+    assert_eq!(rt; image.words().len(), 80);
+    assert_eq!(rt; image.trips(), 4);
+    assert_eq!(rt; image.trip_repeat(1), 1);
+    assert_eq!(rt; image.trip_repeat(2), 2);
+    assert_eq!(rt; image.trip_repeat(3), 0);
+    Ok(())
+}
+
+/// The last start lies before the end time; a headway of 0 is refused.
+#[test]
+fn an_end_time_is_no_start(rt: HostRuntime) -> Result<(), Fail> {
+    let files =
+        repeated(b"trip_id,start_time,end_time,headway_secs\nT1,09:00:00,09:40:00,1200\n");
+    let mut files = MemoryFiles { files: &files };
+    let Ok((_, report)) = load(rt.alloc(), &mut files, &one_day()) else {
+        panic!(rt; "the feed is refused");
+    };
+    assert_eq!(rt; report.runs, 3);
+    assert_eq!(rt; report.connections, 5);
+    let files = repeated(b"trip_id,start_time,end_time,headway_secs\nT1,09:00:00,10:00:00,0\n");
+    let mut files = MemoryFiles { files: &files };
+    let headway = TableFault {
+        table: Table::Frequencies,
+        row: 1,
+        kind: FaultKind::BadHeadway,
+    };
+    match load(rt.alloc(), &mut files, &one_day()) {
+        Ok(_) => panic!(rt; "a headway of 0 is taken"),
+        Err(fault) => {
+            assert_eq!(rt; fault, LoadFault::Table(headway));
+        }
+    }
+    Ok(())
+}
+
 /// On a day on which nothing runs there are no trips.
 #[test]
 fn a_day_without_runs_has_an_image(rt: HostRuntime) -> Result<(), Fail> {

@@ -205,7 +205,20 @@ pub record SpellsTransfer (places : Places) (r : Record) (row : TransferRow) : T
   pub kind : row.kind ≡ transfer_of places r
   pub seconds : row.seconds ≡ number_of (value places 3 r)
 
--- ---- frequencies.txt: trip_id
+-- ---- frequencies.txt: trip_id, start_time, end_time, headway_secs
+
+-- a headway is a number, and not 0
+abbrev pub headway_fault : Option ℕ → Option FaultKind
+headway_fault None = Some kinds.BadNumber
+headway_fault (Some n) = fault_if (n == 0) kinds.BadHeadway
+
+abbrev pub frequency_row_fault : Places → Record → Option FaultKind
+frequency_row_fault places r =
+    or_fault (fault_unless (time_of (value places 1 r)) kinds.BadTime)
+    (or_fault (fault_unless (time_of (value places 2 r)) kinds.BadTime) (headway_fault (number_of (value places 3 r))))
 
 pub record SpellsFrequency (places : Places) (r : Record) (row : FrequencyRow) : Type 0 where
   pub trip : string_bytes row.trip ≡ value places 0 r
+  pub start : time_of (value places 1 r) ≡ Some row.start
+  pub end : time_of (value places 2 r) ≡ Some row.end
+  pub headway : number_of (value places 3 r) ≡ Some row.headway

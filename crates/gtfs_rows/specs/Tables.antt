@@ -1,7 +1,7 @@
 -- The eight files of a feed, each with its columns, and what their bytes hold.
 use Rattle.std.specs.Prelude.{◌≡◌, ◌<◌, ◌⊎◌, List, [], ◌∷◌, ℕ, Bool, true, false, codes, length, count_by}
 use Rattle.gtfs_rows.specs.Faults.{HoldsFile, HoldsRows, IsFaultOf, Shape, values_then_key}
-use Rattle.gtfs_rows.specs.Rows.{AreStopTimes, SpellsAgency, SpellsCalendar, SpellsCalendarDate, SpellsFrequency, SpellsStop, SpellsTransfer, SpellsTrip, calendar_date_fault, calendar_fault, judge_agency, no_fault, no_key, service_day_key, no_key, service_key, stop_key, stop_time_fault, trip_key}
+use Rattle.gtfs_rows.specs.Rows.{AreStopTimes, SpellsAgency, SpellsCalendar, SpellsCalendarDate, SpellsFrequency, SpellsStop, SpellsTransfer, SpellsTrip, calendar_date_fault, calendar_fault, frequency_row_fault, judge_agency, no_fault, no_key, service_day_key, no_key, service_key, stop_key, stop_time_fault, trip_key}
 use Rattle.gtfs_rows.specs.declared.fault.FaultKind.{FaultKind}
 use Rattle.gtfs_rows.specs.declared.fault.FaultKind.TheVariants as kinds
 use Rattle.gtfs_rows.specs.declared.rows.AgencyRow.{AgencyRow}
@@ -91,9 +91,9 @@ HoldsTransfers = HoldsRows transfers_shape SpellsTransfer
 -- frequencies.txt
 abbrev pub frequencies_shape : Shape
 frequencies_shape = record {
-  names = codes "trip_id" ∷ [];
-  required = 1;
-  judge = λ places. values_then_key (no_fault places) (no_key places);
+  names = codes "trip_id" ∷ codes "start_time" ∷ codes "end_time" ∷ codes "headway_secs" ∷ [];
+  required = 4;
+  judge = λ places. values_then_key (frequency_row_fault places) (no_key places);
 }
 
 abbrev pub HoldsFrequencies : List ℕ → List FrequencyRow → Type 0

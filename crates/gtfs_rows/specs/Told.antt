@@ -24,6 +24,7 @@ fault_number kinds.HopWithoutDuration = 14
 fault_number kinds.NotAStop = 15
 fault_number kinds.TooMany = 16
 fault_number kinds.OutOfMemory = 17
+fault_number kinds.BadHeadway = 18
 
 -- the name by which a kind is told
 abbrev pub fault_name : FaultKind → List ℕ
@@ -44,6 +45,7 @@ fault_name kinds.HopWithoutDuration = codes "HopWithoutDuration"
 fault_name kinds.NotAStop = codes "NotAStop"
 fault_name kinds.TooMany = codes "TooMany"
 fault_name kinds.OutOfMemory = codes "OutOfMemory"
+fault_name kinds.BadHeadway = codes "BadHeadway"
 
 -- the name of a table's file
 abbrev pub file_name : Table → List ℕ

@@ -1,14 +1,17 @@
 // transfers.txt and frequencies.txt.
 
-ghost use Rattle.std.specs.Prelude.{◌≡◌, ◌<◌, length, None, Some};
+ghost use Rattle.std.specs.Prelude.{◌≡◌, ◌<◌, length, None, Some, IfOk, IfErr};
 ghost use Rattle.csv.specs.Records.{fields_of};
-ghost use Rattle.gtfs_rows.specs.Rows.{SpellsFrequency, SpellsTransfer, no_fault, no_key, transfer_of, typed_transfer};
+ghost use Rattle.gtfs_rows.specs.Cells.{cell as cell_of};
+ghost use Rattle.gtfs_rows.specs.Faults.{fault_unless};
+ghost use Rattle.gtfs_rows.specs.Rows.{SpellsFrequency, SpellsTransfer, frequency_row_fault, headway_fault, no_fault, no_key, transfer_of, typed_transfer};
+ghost use Rattle.gtfs_rows.specs.Values.{number_of, time_of};
 
 use crate::cells::{cell, text_in};
 use crate::fault::FaultKind;
 use crate::keyed::Row;
 use crate::rows::{FrequencyRow, TransferKind, TransferRow};
-use crate::values::number;
+use crate::values::{Time, number};
 use csv::ByteRecord;
 use std::alloc::{AllocError, Global};
 
@@ -81,10 +84,31 @@ impl Row for TransferRow {
     }
 }
 
-impl Row for FrequencyRow {
-    ghost columns = { 1 };
+// The time in a column, which isn't blank.
+fn clock_in(fields: &ByteRecord, place: Option<usize>) -> Result<u32, FaultKind>
+    ensures ok { IfOk result (λ t. time_of (cell_of place (fields_of fields.now)) ≡ Some t) }
+    ensures err { IfErr result (λ kind. fault_unless (time_of (cell_of place (fields_of fields.now))) FaultKind.BadTime ≡ Some kind) }
+{
+    Time::parse(cell(fields, place)).map_err(|_| FaultKind::BadTime)
+}
 
-    ghost values = { no_fault };
+// The headway that a text tells.
+fn headway(text: &[u8]) -> Result<u32, FaultKind>
+    ensures fine { IfOk result (λ n. headway_fault (number_of text.now) ≡ None) }
+    ensures ok { IfOk result (λ n. number_of text.now ≡ Some n) }
+    ensures err { IfErr result (λ kind. headway_fault (number_of text.now) ≡ Some kind) }
+{
+    match number(text) {
+        None => Err(FaultKind::BadNumber),
+        Some(0) => Err(FaultKind::BadHeadway),
+        Some(seconds) => Ok(seconds),
+    }
+}
+
+impl Row for FrequencyRow {
+    ghost columns = { 4 };
+
+    ghost values = { frequency_row_fault };
 
     ghost key = { no_key };
 
@@ -95,10 +119,18 @@ impl Row for FrequencyRow {
         places: &[Option<usize>],
         fields: &ByteRecord,
     ) -> Result<FrequencyRow, FaultKind> {
+        let start = clock_in(fields, places[1])?;
+        let end = clock_in(fields, places[2])?;
+        let headway = headway(cell(fields, places[3]))?;
         let Ok(trip) = text_in(alloc, fields, places[0]) else {
             return Err(FaultKind::OutOfMemory);
         };
-        Ok(FrequencyRow { trip })
+        Ok(FrequencyRow {
+            trip,
+            start,
+            end,
+            headway,
+        })
     }
 
     fn key_of(

@@ -63,6 +63,8 @@ pub enum FaultKind {
     TooMany,
     #[error("out of memory")]
     OutOfMemory,
+    #[error("the headway is 0")]
+    BadHeadway,
 }
 
 /// A fault of a feed: the file, the record's number (from 1 after the header; 0 is the file) and what is wrong.
@@ -75,7 +77,7 @@ pub struct TableFault {
 }
 
 impl FaultKind {
-    /// The number by which the kind is told, from 1 to 17 in the order of the enum.
+    /// The number by which the kind is told, from 1 to 18 in the order of the enum.
     pub fn number(self) -> u8
         ensures { result ≡ fault_number self }
     {
@@ -97,6 +99,7 @@ impl FaultKind {
             FaultKind::NotAStop => 15,
             FaultKind::TooMany => 16,
             FaultKind::OutOfMemory => 17,
+            FaultKind::BadHeadway => 18,
         }
     }
 
@@ -122,6 +125,7 @@ impl FaultKind {
             FaultKind::NotAStop => "NotAStop",
             FaultKind::TooMany => "TooMany",
             FaultKind::OutOfMemory => "OutOfMemory",
+            FaultKind::BadHeadway => "BadHeadway",
         }
     }
 }

@@ -37,6 +37,7 @@ fn told_by_number_and_name(rt: HostRuntime) {
         (FaultKind::NotAStop, 15, "NotAStop"),
         (FaultKind::TooMany, 16, "TooMany"),
         (FaultKind::OutOfMemory, 17, "OutOfMemory"),
+        (FaultKind::BadHeadway, 18, "BadHeadway"),
     ];
     for (kind, number, name) in told {
         assert!(rt; kind.number() == number);
@@ -103,7 +104,9 @@ fn a_header_alone(rt: HostRuntime) -> Result<(), Fail> {
     assert!(rt; calendar.is_empty());
     assert!(rt; read_calendar_dates(alloc, b"date,service_id,exception_type\n")?.is_empty());
     assert!(rt; read_transfers(alloc, b"to_stop_id,from_stop_id\n\n\n")?.is_empty());
-    assert!(rt; read_frequencies(alloc, b"\"trip_id\"\n")?.is_empty());
+    assert!(rt;
+        read_frequencies(alloc, b"\"trip_id\",start_time,end_time,headway_secs\n")?.is_empty()
+    );
     Ok(())
 }
 

@@ -97,7 +97,8 @@ fn refused_growth_of_transfers(rt: HostRuntime) -> Result<(), Fail> {
 
 #[test]
 fn refused_growth_of_frequencies(rt: HostRuntime) -> Result<(), Fail> {
-    let answer = read_frequencies(rt.alloc(), b"trip_id\nT\n");
+    let bytes = b"trip_id,start_time,end_time,headway_secs\nT,9:00:00,10:00:00,60\n";
+    let answer = read_frequencies(rt.alloc(), bytes);
     let rows = read_or_refused(&rt, Table::Frequencies, answer)?;
     assert_eq!(rt; rows.len(), 1);
     Ok(())

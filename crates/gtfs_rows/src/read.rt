@@ -134,14 +134,14 @@ pub fn read_transfers(alloc: Global, bytes: &[u8]) -> Result<Vec<TransferRow>, T
     read_rows(alloc, Table::Transfers, bytes, &names, 2)
 }
 
-/// The trips that repeat of the bytes of `frequencies.txt`.
+/// The rows of the bytes of `frequencies.txt`.
 pub fn read_frequencies(alloc: Global, bytes: &[u8]) -> Result<Vec<FrequencyRow>, TableFault>
     ensures ok { IfOk result (λ rows. HoldsFrequencies bytes.now rows.items) }
     ensures file { IfErr result (λ fault. fault.table ≡ Table.Frequencies) }
     ensures err { IfErr result (λ fault. fault.kind ≢ FaultKind.OutOfMemory → IsFaultOf frequencies_shape bytes.now fault.row fault.kind) }
 {
-    let names = ["trip_id"];
-    read_rows(alloc, Table::Frequencies, bytes, &names, 1)
+    let names = ["trip_id", "start_time", "end_time", "headway_secs"];
+    read_rows(alloc, Table::Frequencies, bytes, &names, 4)
 }
 
 /// The stops and other places of the bytes of `stops.txt`, of which at most [`MAX_STOPS`] are stops.

@@ -106,8 +106,15 @@ pub struct TransferRow {
     pub seconds: Option<u32>,
 }
 
-/// A trip that `frequencies.txt` names.
+/// A row of `frequencies.txt`: the trip starts at the start time, and again after each headway, before the end time. That
+/// the starts are exact, or aren't, makes no difference.
 #[derive(Debug, Drop)]
 pub struct FrequencyRow {
     pub trip: String,
+    /// Seconds after the start of the service day.
+    pub start: u32,
+    /// Seconds after the start of the service day.
+    pub end: u32,
+    /// Seconds from a start to the next.
+    pub headway: u32,
 }

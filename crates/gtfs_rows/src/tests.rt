@@ -288,16 +288,59 @@ fn transfers(rt: HostRuntime) -> Result<(), Fail> {
             FaultKind::MissingColumn
         )
     );
-    let rows = read_frequencies(alloc, b"headway_secs,trip_id\nx,T1\n,T1\n")?;
+    Ok(())
+}
+
+// Whether the starts are exact isn't read.
+#[test]
+fn frequencies(rt: HostRuntime) -> Result<(), Fail> {
+    let alloc = rt.alloc();
+    let rows = read_frequencies(
+        alloc,
+        b"exact_times,headway_secs,end_time,start_time,trip_id\n1,60,9:00:00,10:00:00,T1\nx,1200.0,25:00:01,24:00:00,T2\n",
+    )?;
     assert_eq!(rt; rows.len(), 2);
-    assert_eq!(rt; rows[1].trip.as_str(), "T1");
-    assert!(rt;
-        tells(
-            read_frequencies(alloc, b"trip\nT\n"),
-            Table::Frequencies,
-            0,
-            FaultKind::MissingColumn
-        )
-    );
+    assert_eq!(rt; rows[1].trip.as_str(), "T2");
+    assert_eq!(rt; rows[1].start, 86_400);
+    assert_eq!(rt; rows[1].end, 90_001);
+    assert_eq!(rt; rows[1].headway, 1200);
+    let wrong: [(&[u8], u64, FaultKind); 6] = [
+        (b"trip_id\nT\n", 0, FaultKind::MissingColumn),
+        (
+            b"trip_id,start_time,end_time,headway_secs\nT,,x,0\n",
+            1,
+            FaultKind::BadTime,
+        ),
+        (
+            b"trip_id,start_time,end_time,headway_secs\nT,9:00:00,,0\n",
+            1,
+            FaultKind::BadTime,
+        ),
+        (
+            b"trip_id,start_time,end_time,headway_secs\nT,9:00:00,9:00:00,\n",
+            1,
+            FaultKind::BadNumber,
+        ),
+        (
+            b"trip_id,start_time,end_time,headway_secs\nT,9:00:00,9:00:00,1.5\n",
+            1,
+            FaultKind::BadNumber,
+        ),
+        (
+            b"trip_id,start_time,end_time,headway_secs\nT,9:00:00,9:00:00,0.0\nU\n",
+            1,
+            FaultKind::BadHeadway,
+        ),
+    ];
+    for (bytes, row, kind) in wrong {
+        assert!(rt;
+            tells(
+                read_frequencies(alloc, bytes),
+                Table::Frequencies,
+                row,
+                kind
+            )
+        );
+    }
     Ok(())
 }

@@ -80,6 +80,7 @@ one_feed strict t f g a b =
       stops = a.feed_is.stops ∙ sym b.feed_is.stops;
       trips = a.feed_is.trips ∙ rw turns (sym b.feed_is.trips);
       stop_times = a.feed_is.stop_times ∙ rw turns (sym b.feed_is.stop_times);
+      frequencies = a.feed_is.frequencies ∙ sym b.feed_is.frequencies;
       transfers = one_list (stop_named t.stops.items) (filter is_kept t.transfers.items) f.transfers.items g.transfers.items a.feed_is.transfers b.feed_is.transfers;
       skipped = a.feed_is.skipped ∙ sym b.feed_is.skipped;
       calendar = a.feed_is.calendar ∙ sym b.feed_is.calendar;

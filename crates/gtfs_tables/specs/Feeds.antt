@@ -14,7 +14,7 @@ use Rattle.gtfs_rows.specs.declared.rows.TripRow.{TripRow}
 use Rattle.gtfs_tables.specs.First.{first_below, first_fault_of}
 use Rattle.gtfs_tables.specs.Names.{stop_named, trip_named}
 use Rattle.gtfs_tables.specs.Order.{IsInOrder, first_turn, of_trip, row_of}
-use Rattle.gtfs_tables.specs.Rows.{IsTransferOf, frequency_fault, is_flex_id, is_kept, is_repeated, linked_fault, linked_row, parent_fault, station_of, transfer_fault}
+use Rattle.gtfs_tables.specs.Rows.{IsTransferOf, frequency_fault, frequency_of, is_flex_id, is_kept, is_repeated, linked_fault, linked_row, parent_fault, station_of, transfer_fault}
 use Rattle.gtfs_tables.specs.Times.{first_wrong, is_flex}
 use Rattle.gtfs_tables.specs.declared.joining.Links.{Links}
 use Rattle.gtfs_tables.specs.declared.names.Named.{Named}
@@ -90,6 +90,7 @@ pub record IsFeed (named : List ℕ → Option Named) (placed : List ℕ → Opt
   pub stops : feed.stops.items ≡ map (feed_stop named) (filter is_stop t.stops.items)
   pub trips : feed.trips.items ≡ feed_trips turns (rows_by named placed t turns) (is_repeated placed t.frequencies.items) 0 t.trips.items
   pub stop_times : feed.stop_times.items ≡ rows_by named placed t turns
+  pub frequencies : feed.frequencies.items ≡ map (frequency_of placed) t.frequencies.items
   pub transfers : AllZip (IsTransferOf named) (filter is_kept t.transfers.items) feed.transfers.items
   pub skipped : feed.skipped ≡ count_by (λ row. not (is_kept row)) t.transfers.items
   pub calendar : feed.calendar ≡ t.calendar
@@ -117,6 +118,7 @@ pub record IsLinked (named : List ℕ → Option Named) (placed : List ℕ → O
   pub stations : links.stations.items ≡ map (station_of named) t.stops.items
   pub stop_times : links.stop_times.items ≡ rows_by named placed t links.turns.items
   pub repeats : (i : ℕ) → i < length t.trips.items → slice_index_or links.repeats.items i false ≡ is_repeated placed t.frequencies.items i
+  pub frequencies : links.frequencies.items ≡ map (frequency_of placed) t.frequencies.items
   pub transfers_fine : IfOk links.transfers (λ kept. first_fault_of tables.Transfers (transfer_fault named) t.transfers.items ≡ None)
   pub transfers : IfOk links.transfers (λ kept. AllZip (IsTransferOf named) (filter is_kept t.transfers.items) kept.items)
   pub transfers_wrong : IfErr links.transfers (λ fault. fault.kind ≢ kinds.OutOfMemory → first_fault_of tables.Transfers (transfer_fault named) t.transfers.items ≡ Some fault)

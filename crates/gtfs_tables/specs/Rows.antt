@@ -16,6 +16,7 @@ use Rattle.gtfs_rows.specs.declared.rows.TransferRow.{TransferRow}
 use Rattle.gtfs_tables.specs.Names.{named_at}
 use Rattle.gtfs_tables.specs.declared.names.Named.{Named}
 use Rattle.gtfs_tables.specs.declared.names.Named.TheVariants as names
+use Rattle.gtfs_tables.specs.declared.tables.Frequency.{Frequency}
 use Rattle.gtfs_tables.specs.declared.tables.Place.{Place}
 use Rattle.gtfs_tables.specs.declared.tables.Place.TheVariants as places
 use Rattle.gtfs_tables.specs.declared.tables.Transfer.{Transfer}
@@ -74,6 +75,10 @@ linked_row trips stops flex row =
 
 abbrev pub frequency_fault : (List ℕ → Option ℕ) → FrequencyRow → Option FaultKind
 frequency_fault named row = fault_unless (named (string_bytes row.trip)) kinds.UnknownId
+
+-- a row with its trip's place
+abbrev pub frequency_of : (List ℕ → Option ℕ) → FrequencyRow → Frequency
+frequency_of named row = record { trip = unwrap_or (named (string_bytes row.trip)) 0; start = row.start; end = row.end; headway = row.headway }
 
 abbrev pub is_place : Option ℕ → ℕ → Bool
 is_place None t = false

@@ -13,12 +13,12 @@ ghost use Rattle.gtfs_tables.specs.Feeds.{IsFirstFault, IsJoined, IsLinked, IsNa
 ghost use Rattle.gtfs_tables.specs.declared.names.Named.{Named as NamedBy};
 
 use crate::links::{
-    flex_at, flex_ids, judge_rows, linked_rows, out_of_memory, repeating, skipped_in, stations,
-    transfers as linked_transfers,
+    flex_at, flex_ids, judge_rows, linked_frequencies, linked_rows, out_of_memory, repeating,
+    skipped_in, stations, transfers as linked_transfers,
 };
 use crate::names::{Named, named_each, stops_by_id, trips_by_id};
 use crate::order::{Turn, turns_in_order};
-use crate::tables::{Feed, Stop, Tables, Transfer, Trip};
+use crate::tables::{Feed, Frequency, Stop, Tables, Transfer, Trip};
 use crate::times::{first_wrong, is_flex};
 use gtfs_rows::{FaultKind, Location, StopRow, StopTimeRow, StopTimes, Table, TableFault, TripRow};
 use indexmap::IndexMap;
@@ -31,6 +31,7 @@ struct Links {
     stations: Vec<Option<u32>>,
     stop_times: Vec<StopTimeRow>,
     repeats: Vec<bool>,
+    frequencies: Vec<Frequency>,
     transfers: Result<Vec<Transfer>, TableFault>,
 }
 
@@ -99,12 +100,16 @@ fn link_by(
         Ok(repeats) => repeats,
         Err(fault) => return Err(fault),
     };
+    let Ok(frequencies) = linked_frequencies(alloc, &tables.frequencies, places) else {
+        return Err(out_of_memory());
+    };
     let transfers = linked_transfers(alloc, &tables.transfers, names);
     Ok(Links {
         turns,
         stations,
         stop_times,
         repeats,
+        frequencies,
         transfers,
     })
 }
@@ -157,6 +162,7 @@ fn feed_of(alloc: Global, tables: Tables, links: Links, strict: bool) -> Result<
         stations,
         stop_times,
         repeats,
+        frequencies,
         transfers: kept,
     } = links;
     let skipped = skipped_in(&transfers);
@@ -175,6 +181,7 @@ fn feed_of(alloc: Global, tables: Tables, links: Links, strict: bool) -> Result<
         stops,
         trips,
         stop_times,
+        frequencies,
         transfers,
         skipped,
         calendar,

@@ -21,7 +21,7 @@ pub use gtfs_rows::{
     read_frequencies, read_stop_times, read_stops, read_transfers, read_trips,
 };
 pub use joining::join;
-pub use tables::{Feed, Place, Stop, Tables, Transfer, Trip};
+pub use tables::{Feed, Frequency, Place, Stop, Tables, Transfer, Trip};
 
 #[cfg(test)]
 mod memory_tests;

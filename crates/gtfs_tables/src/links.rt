@@ -5,11 +5,11 @@ ghost use Rattle.std.specs.List.{AllZip};
 ghost use Rattle.gtfs_tables.specs.First.{fault_at as fault_of, first_fault_of};
 ghost use Rattle.gtfs_tables.specs.Names.{held_at, named_at};
 ghost use Rattle.gtfs_tables.specs.Order.{row_of};
-ghost use Rattle.gtfs_tables.specs.Rows.{IsTransferOf, ends_fault, end_fault, frequency_fault, is_flex_id, is_kept, is_repeated, linked_fault, linked_row, named_by, parent_fault, station_of, stop_fault, stop_number, stop_of, transfer_fault};
+ghost use Rattle.gtfs_tables.specs.Rows.{IsTransferOf, ends_fault, end_fault, frequency_fault, frequency_of, is_flex_id, is_kept, is_repeated, linked_fault, linked_row, named_by, parent_fault, station_of, stop_fault, stop_number, stop_of, transfer_fault};
 
 use crate::names::Named;
 use crate::order::Turn;
-use crate::tables::{Place, Transfer};
+use crate::tables::{Frequency, Place, Transfer};
 use gtfs_rows::{
     FaultKind, FrequencyRow, Location, StopRow, StopTimeRow, Table, TableFault, TransferKind,
     TransferRow,
@@ -258,6 +258,34 @@ pub(crate) fn repeating(
         mark(&mut repeats, *place as usize);
     }
     Ok(repeats)
+}
+
+// A row of frequencies.txt with the place of its trip, 0 for one that isn't known.
+fn frequency(row: &FrequencyRow, places: &IndexMap<&str, u32>) -> Frequency
+    ensures { result ≡ frequency_of (held_at places.now) row.now }
+{
+    let place = places.get(row.trip.as_str()).copied();
+    Frequency {
+        trip: place.unwrap_or(0),
+        start: row.start,
+        end: row.end,
+        headway: row.headway,
+    }
+}
+
+// The rows of frequencies.txt with the places of their trips.
+pub(crate) fn linked_frequencies(
+    alloc: Global,
+    rows: &[FrequencyRow],
+    places: &IndexMap<&str, u32>,
+) -> Result<Vec<Frequency>, AllocError>
+    ensures { IfOk result (λ linked. linked.items ≡ map (frequency_of (held_at places.now)) rows.now) }
+{
+    let mut linked = Vec::with_capacity(alloc, rows.len())?;
+    for row in rows {
+        linked.push(frequency(row, places))?;
+    }
+    Ok(linked)
 }
 
 // Marks a place, if it is one.

@@ -66,6 +66,9 @@ fn tables(alloc: Global) -> Result<Tables, AllocError> {
     let mut frequencies = Vec::new(alloc);
     frequencies.push(FrequencyRow {
         trip: String::new(alloc),
+        start: 28_800,
+        end: 32_400,
+        headway: 600,
     })?;
     Ok(Tables {
         agencies: Vec::new(alloc),
@@ -87,6 +90,7 @@ fn refused_growth_of_a_feed(rt: HostRuntime) -> Result<(), Fail> {
             assert_eq!(rt; feed.trips.len(), 1);
             assert_eq!(rt; feed.stop_times.len(), 2);
             assert_eq!(rt; feed.transfers.len(), 1);
+            assert_eq!(rt; feed.frequencies.len(), 1);
         }
         Err(fault) => {
             assert!(rt; fault.kind == FaultKind::OutOfMemory);

@@ -60,6 +60,19 @@ pub struct Transfer {
     pub seconds: Option<u32>,
 }
 
+/// A row of `frequencies.txt`: the trip starts at the start time, and again after each headway, before the end time.
+#[derive(Clone, Copy, Debug, PartialEq, Eq)]
+pub struct Frequency {
+    /// The trip's place among the feed's trips.
+    pub trip: u32,
+    /// Seconds after the start of the service day.
+    pub start: u32,
+    /// Seconds after the start of the service day.
+    pub end: u32,
+    /// Seconds from a start to the next.
+    pub headway: u32,
+}
+
 /// The tables of a feed, each id replaced by what it names.
 #[derive(Drop)]
 pub struct Feed {
@@ -70,6 +83,8 @@ pub struct Feed {
     /// All rows of `stop_times.txt`, by trip, then by rising stop_sequence, then by record. A row's trip is its place
     /// among the trips, its stop the stop's number, None for each row of a flex trip.
     pub stop_times: Vec<StopTimeRow>,
+    /// The rows of `frequencies.txt`, in their order.
+    pub frequencies: Vec<Frequency>,
     /// The transfers that aren't skipped, in the order of `transfers.txt`.
     pub transfers: Vec<Transfer>,
     /// How many rows of `transfers.txt` were skipped.

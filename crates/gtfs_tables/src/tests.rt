@@ -1,7 +1,7 @@
 // Small feeds joined: what each row becomes, and the first fault of each kind.
 
 use crate::{
-    FaultKind, Feed, Place, Table, TableFault, Tables, join, read_agency, read_calendar,
+    FaultKind, Feed, Frequency, Place, Table, TableFault, Tables, join, read_agency, read_calendar,
     read_calendar_dates, read_frequencies, read_stop_times, read_stops, read_transfers, read_trips,
 };
 use std::alloc::Global;
@@ -20,7 +20,7 @@ S,1,1,1,1,1,1,1,20240101,20241231\n";
 
 const NO_TRANSFERS: &[u8] = b"from_stop_id,to_stop_id\n";
 
-const NO_FREQUENCIES: &[u8] = b"trip_id\n";
+const NO_FREQUENCIES: &[u8] = b"trip_id,start_time,end_time,headway_secs\n";
 
 // The feed of these files, without transfers and frequencies.
 fn joined(alloc: Global, stops: &[u8], times: &[u8], strict: bool) -> Result<Feed, TableFault> {
@@ -100,7 +100,7 @@ T2,08:20:00,,C,2\nT1,08:10:00,,Z,2\nT2,08:12:00,,B,1\nT1,08:00:00,,,1\n";
         STOPS,
         times,
         NO_TRANSFERS,
-        b"trip_id\nT2\n",
+        b"trip_id,start_time,end_time,headway_secs\nT2,9:00:00,10:00:00,1200\n",
         false,
     );
     let Ok(feed) = found else {
@@ -112,6 +112,13 @@ T2,08:20:00,,C,2\nT1,08:10:00,,Z,2\nT2,08:12:00,,B,1\nT1,08:00:00,,,1\n";
     for (row, (trip, stop, sequence)) in feed.stop_times.iter().zip(rows) {
         assert!(rt; row.trip == trip && row.stop == stop && row.sequence == sequence);
     }
+    let repeats = Frequency {
+        trip: 1,
+        start: 32_400,
+        end: 36_000,
+        headway: 1200,
+    };
+    assert!(rt; feed.frequencies.as_slice() == [repeats].as_slice());
     for (trip, flex) in feed.trips.iter().zip([true, false]) {
         assert!(rt; trip.flex == flex && trip.repeats == !flex);
     }
@@ -155,7 +162,7 @@ fn unknown_ids(rt: HostRuntime) -> Result<(), Fail> {
         STOPS,
         TIMES,
         NO_TRANSFERS,
-        b"trip_id\nT2\nT3\n",
+        b"trip_id,start_time,end_time,headway_secs\nT2,9:00:00,10:00:00,1200\nT3,9:00:00,9:00:00,1\n",
         false,
     );
     assert!(rt; is_fault(repeats, Table::Frequencies, 2, FaultKind::UnknownId));

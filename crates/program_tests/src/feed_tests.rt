@@ -270,7 +270,7 @@ fn later_steps_are_told_later(rt: HostRuntime) -> Result<(), Fail> {
         "calendar_dates.txt",
         "service_id,date,exception_type\nS,20240115,3\n",
     );
-    let no_trip = ("frequencies.txt", "trip_id\nT2\nT9\n");
+    let no_trip = ("frequencies.txt", "trip_id,start_time,end_time,headway_secs\nT2,9:00:00,10:00:00,1200\nT9,9:00:00,10:00:00,1200\n");
     let no_end = ("transfers.txt", "from_stop_id,to_stop_id\nA,Q\n");
     let in_file = "refused 7 BadNumber calendar_dates.txt 1\n";
     judge_more(
@@ -299,7 +299,10 @@ fn later_steps_are_told_later(rt: HostRuntime) -> Result<(), Fail> {
         2,
         repeats,
     )?;
-    let trips = ("frequencies.txt", "trip_id\nT2\n");
+    let trips = (
+        "frequencies.txt",
+        "trip_id,start_time,end_time,headway_secs\nT2,9:00:00,10:00:00,1200\n",
+    );
     let back = "refused 13 TimeGoesBack stop_times.txt 3\n";
     judge_more(
         &rt,
@@ -321,7 +324,10 @@ const BACK: &str =
 #[test]
 fn places_that_are_no_stops_are_told(rt: HostRuntime) -> Result<(), Fail> {
     let places = "stop_id,location_type\nA,\nB,1\nC,2\n";
-    let none = ("frequencies.txt", "trip_id\n");
+    let none = (
+        "frequencies.txt",
+        "trip_id,start_time,end_time,headway_secs\n",
+    );
     let skipped = (
         "transfers.txt",
         "from_stop_id,to_stop_id,transfer_type\nC,Q,4\n",

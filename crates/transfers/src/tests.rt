@@ -33,6 +33,7 @@ fn feed_of(alloc: Global, transfers: &[Transfer]) -> Result<Feed, AllocError> {
         stops,
         trips: Vec::new(alloc),
         stop_times: Vec::new(alloc),
+        frequencies: Vec::new(alloc),
         transfers: Vec::from_slice(alloc, transfers)?,
         skipped: 0,
         calendar: Vec::new(alloc),

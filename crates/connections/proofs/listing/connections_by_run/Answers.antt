@@ -1,4 +1,4 @@
-use Rattle.std.proofs.Common.{◌≡◌, ℕ, ℤ, pos, length, get_or, Some, inl, sym, ap, ◌∙◌, subst, arith, rules, FitsSigned, w64, to_z, of_z}
+use Rattle.std.proofs.Common.{◌≡◌, ℕ, ℤ, pos, length, get_or, None, Some, inl, sym, ap, ◌∙◌, subst, arith, rules, FitsSigned, w64, to_z, of_z}
 use Rattle.std.specs.List.{slice_get}
 use Rattle.std.proofs.lemmas.Int.{to_z-of_z}
 use Rattle.std.proofs.lemmas.List.{get_or_default}
@@ -12,7 +12,7 @@ use Rattle.connections.proofs.ListSteps.{by_run_more, by_run_none}
 use Rattle.connections.proofs.listing.connections_by_run.Goals as goal
 
 no_run : Run
-no_run = record { day = record { year = 0; month = 0; day = 0 }; trip = 0 }
+no_run = record { day = record { year = 0; month = 0; day = 0 }; trip = 0; repeat = 0; start = None }
 
 pub returns-in_default-clause-err : goal.returns-in_default-clause-err
 returns-in_default-clause-err c zone base d e starts = inl c.out_of_memory.ensures
@@ -21,15 +21,15 @@ pub loop-number-init : goal.loop-number-init
 loop-number-init c zone base d e starts = rw c.in-Ok.ensures.items (by_run_none c.args.feed.now zone base c.args.runs.now)
 
 pub start_of-start-requires : goal.start_of-start-requires
-start_of-start-requires c = c.requires.days c.loop-number.number (record { day = record { year = 0; month = 0; day = 0 }; trip = 0 }) c.loop-number-test.true
+start_of-start-requires c = c.requires.days c.loop-number.number (record { day = record { year = 0; month = 0; day = 0 }; trip = 0; repeat = 0; start = None }) c.loop-number-test.true
 
 pub list_run-requires-clause-trip : goal.list_run-requires-clause-trip
-list_run-requires-clause-trip c = c.requires.trips c.loop-number.number (record { day = record { year = 0; month = 0; day = 0 }; trip = 0 }) c.loop-number-test.true
+list_run-requires-clause-trip c = c.requires.trips c.loop-number.number (record { day = record { year = 0; month = 0; day = 0 }; trip = 0; repeat = 0; start = None }) c.loop-number-test.true
 
 pub returns-in-Err-clause-err : goal.returns-in-Err-clause-err
 returns-in-Err-clause-err c zone base d e starts =
     let none : ServiceDay = record { day = record { year = 0; month = 0; day = 0 }; start = pos 0 } in
-    let absent : Run = record { day = record { year = 0; month = 0; day = 0 }; trip = 0 } in
+    let absent : Run = record { day = record { year = 0; month = 0; day = 0 }; trip = 0; repeat = 0; start = None } in
     let first : ℤ = (get_or c.args.days.now 0 none).start in
     let fits : FitsSigned w64 first = search rules in
     let also : FitsSigned w64 c.start_of-start.result = search rules in
@@ -42,7 +42,7 @@ returns-in-Err-clause-err c zone base d e starts =
 pub loop-number-preserved : goal.loop-number-preserved
 loop-number-preserved c zone base d e starts =
     let none : ServiceDay = record { day = record { year = 0; month = 0; day = 0 }; start = pos 0 } in
-    let absent : Run = record { day = record { year = 0; month = 0; day = 0 }; trip = 0 } in
+    let absent : Run = record { day = record { year = 0; month = 0; day = 0 }; trip = 0; repeat = 0; start = None } in
     let first : ℤ = (get_or c.args.days.now 0 none).start in
     let fits : FitsSigned w64 first = search rules in
     let also : FitsSigned w64 c.start_of-start.result = search rules in

@@ -1,10 +1,12 @@
-use Rattle.std.proofs.Common.{◌≡◌, ◌∙◌, ap, sym, subst, inr, List, All, length, get_or}
+use Rattle.std.proofs.Common.{◌≡◌, ◌∙◌, ap, sym, subst, refl, inr, List, length, get_or}
 use Rattle.gtfs_rows.specs.declared.rows.StopTimeRow.{StopTimeRow}
 use Rattle.gtfs_tables.specs.Joined.{rows_of}
-use Rattle.connections.specs.Hops.{IsInside}
+use Rattle.connections.specs.Hops.{HaveClocks, zero_of}
+use Rattle.connections.specs.Times.{departs}
+use Rattle.connections.specs.declared.hops.RunClock.{RunClock}
 use Rattle.connections.specs.declared.times.RowTimes.{RowTimes}
 use Rattle.connections.specs.declared.times.TripTimes.{TripTimes}
-use Rattle.connections.proofs.ReadySteps.{IsReady, all_inside, ready, run_rows, some_outside}
+use Rattle.connections.proofs.ReadySteps.{IsReady, all_inside, first_departs, ready, run_rows, some_outside}
 use Rattle.connections.proofs.listing.list_run.Goals as goal
 
 is_ready : (c : goal.After-deref-3) → IsReady c.args.feed.now c.args.run.now c.rows_of-rows.result.now c.deref-2.result.now
@@ -15,13 +17,16 @@ pub returns-then-not-are_inside-clause-err : goal.returns-then-not-are_inside-cl
 returns-then-not-are_inside-clause-err c zone starts =
     let known : IsReady c.args.feed.now c.args.run.now c.rows_of-rows.result.now c.deref-2.result.now = ready c.args.feed.now c.args.run.now c.args.times.now c.index-trip.result.now c.rows_of-rows.result.now c.index-times-place.result c.deref-2.result.now c.requires.runnable c.requires.times c.requires.trip
     c.index-trip.ensures (c.rows_of-rows.ensures.rows ∙ ap (λ (st : List StopTimeRow). rows_of st c.index-trip.result.now) c.deref.ensures.value) c.rows_of-rows.ensures.len c.index-times-place.is (c.deref-2.ensures.value ∙ ap (λ (t : TripTimes). t.rows.items) (sym c.index-times-place.is)) in
+    let clock : RunClock = record { day = c.args.day; start = c.args.run.now.start; own = c.index.result.now.departure } in
+    let own : clock.own ≡ departs c.rows_of-rows.result.now 0 = ap (λ (t : RowTimes). t.departure) c.index.ensures ∙ ap (λ (ts : List RowTimes). (get_or ts 0 c.index.result.now).departure) (sym c.deref-2.ensures.value)
+    ∙ first_departs c.args.feed.now c.args.run.now c.rows_of-rows.result.now c.deref-2.result.now c.index.result.now known in
     inr (
       c.out_of_range.ensures,
       record {
-        start = c.args.clock.start;
+        start = zero_of clock;
         rows = c.rows_of-rows.result.now;
-        rows_are = run_rows c.args.feed.now zone c.args.run.now c.args.clock.start c.rows_of-rows.result.now c.deref-2.result.now known starts;
-        outside = some_outside c.args.feed.now c.args.run.now c.args.clock.base c.args.clock.start c.rows_of-rows.result.now c.deref-2.result.now known c.if-not-are_inside.ensures;
+        rows_are = run_rows c.args.feed.now zone c.args.run.now clock c.rows_of-rows.result.now c.deref-2.result.now known starts refl own;
+        outside = some_outside c.args.feed.now c.args.run.now c.args.day.base (zero_of clock) c.args.run.now.start c.rows_of-rows.result.now c.deref-2.result.now known c.if-not-are_inside.ensures;
       },
     )
 
@@ -38,7 +43,9 @@ pub add_hops-requires-clause-times_are : goal.add_hops-requires-clause-times_are
 add_hops-requires-clause-times_are c k d lt = ap (λ (ts : List RowTimes). get_or ts k d) (same_times c) ∙ (is_ready c).times_are k d lt
 
 pub add_hops-requires-clause-inside : goal.add_hops-requires-clause-inside
-add_hops-requires-clause-inside c = subst (λ (ts : List RowTimes). All (IsInside c.args.clock.base c.args.clock.start) ts) (sym (same_times c)) c.if-not-are_inside.ensures
+add_hops-requires-clause-inside c =
+    let clock : RunClock = record { day = c.args.day; start = c.args.run.now.start; own = c.index.result.now.departure } in
+    subst (λ (ts : List RowTimes). HaveClocks c.args.day.base (zero_of clock) c.args.run.now.start ts) (sym (same_times c)) c.if-not-are_inside.ensures
 
 pub add_hops-requires-clause-stops : goal.add_hops-requires-clause-stops
 add_hops-requires-clause-stops c = (is_ready c).stops
@@ -47,10 +54,13 @@ pub returns-in-Ok-clause-ok : goal.returns-in-Ok-clause-ok
 returns-in-Ok-clause-ok c zone starts =
     let known : IsReady c.args.feed.now c.args.run.now c.rows_of-rows.result.now c.deref-2.result.now = ready c.args.feed.now c.args.run.now c.args.times.now c.index-trip.result.now c.rows_of-rows.result.now c.index-times-place.result c.deref-2.result.now c.requires.runnable c.requires.times c.requires.trip
     c.index-trip.ensures (c.rows_of-rows.ensures.rows ∙ ap (λ (st : List StopTimeRow). rows_of st c.index-trip.result.now) c.deref.ensures.value) c.rows_of-rows.ensures.len c.index-times-place.is (c.deref-2.ensures.value ∙ ap (λ (t : TripTimes). t.rows.items) (sym c.index-times-place.is)) in
+    let clock : RunClock = record { day = c.args.day; start = c.args.run.now.start; own = c.index.result.now.departure } in
+    let own : clock.own ≡ departs c.rows_of-rows.result.now 0 = ap (λ (t : RowTimes). t.departure) c.index.ensures ∙ ap (λ (ts : List RowTimes). (get_or ts 0 c.index.result.now).departure) (sym c.deref-2.ensures.value)
+    ∙ first_departs c.args.feed.now c.args.run.now c.rows_of-rows.result.now c.deref-2.result.now c.index.result.now known in
     record {
-      start = c.args.clock.start;
+      start = zero_of clock;
       rows = c.rows_of-rows.result.now;
-      rows_are = run_rows c.args.feed.now zone c.args.run.now c.args.clock.start c.rows_of-rows.result.now c.deref-2.result.now known starts;
-      inside = all_inside c.args.feed.now c.args.run.now c.args.clock.base c.args.clock.start c.rows_of-rows.result.now c.deref-2.result.now known c.if-not-are_inside.ensures;
+      rows_are = run_rows c.args.feed.now zone c.args.run.now clock c.rows_of-rows.result.now c.deref-2.result.now known starts refl own;
+      inside = all_inside c.args.feed.now c.args.run.now c.args.day.base (zero_of clock) c.args.run.now.start c.rows_of-rows.result.now c.deref-2.result.now known c.if-not-are_inside.ensures;
       adds = c.in-Ok.ensures;
     }

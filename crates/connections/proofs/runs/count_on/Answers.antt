@@ -1,18 +1,21 @@
-use Rattle.std.proofs.Common.{◌≡◌, ◌+◌, arith}
-use Rattle.std.specs.Prelude.{cond}
-use Rattle.connections.proofs.RunSteps.{count_step}
+use Rattle.std.proofs.Common.{◌≡◌, ◌∙◌, length, ap, sym, arith}
+use Rattle.std.specs.Global.{Vec}
+use Rattle.gtfs_tables.specs.declared.tables.Frequency.{Frequency}
+use Rattle.connections.specs.Repeats.{rows_for}
+use Rattle.connections.proofs.RunSteps.{count_step, runs_here, runs_nowhere}
 use Rattle.connections.proofs.runs.count_on.Goals as goal
 use Rattle.connections.proofs.runs.count_on.Goals.{then-is_running, else-is_running}
 
-counted_by : (c : goal.Joined-is_running) → c.if-is_running.count ≡ c.loop-trip.count + cond c.is_running.result 1 0
-counted_by c = elim c.if-is_running.branch [
-  | then-is_running w ↦ rw w.if-is_running.true w.count-is
-  | else-is_running w ↦ rw w.if-is_running.false (omega (arith, w.count-is))
-]
-
-pub loop-trip-preserved : goal.loop-trip-preserved
-loop-trip-preserved c = record {
-  few = elim c.if-is_running.branch [ then-is_running w ↦ (let few = c.loop-trip.invariant.few in omega arith) | else-is_running w ↦ (let few = c.loop-trip.invariant.few in omega arith) ];
-  counted = λ feed holds. count_step feed c.args.day c.args.trips.now c.loop-trip.trip-index c.trip-item.result c.loop-trip.count c.if-is_running.count c.is_running.result c.loop-trip-test.true c.trip-item.is
-      (c.is_running.ensures feed holds) (c.loop-trip.invariant.counted feed holds) (counted_by c);
-}
+pub loop-place-preserved : goal.loop-place-preserved
+loop-place-preserved c feed grouped holds =
+    let runs = c.is_running.ensures feed holds in
+    let was = c.loop-place.invariant feed grouped holds in
+    elim c.if-is_running.branch [
+      | then-is_running w ↦
+          let rows : w.deref.result.now ≡ rows_for feed.frequencies.items c.loop-place.place = w.deref.ensures.value ∙ ap (λ (v : Vec Frequency). v.items) w.index-groups-place.is ∙ grouped.each c.loop-place.place w.index-groups-place.result c.loop-place-test.true in
+          count_step feed c.args.day c.args.trips.now c.loop-place.place c.index-trips-place.result c.loop-place.count c.if-is_running.count w.count_repeats.result 18446744073709551615 c.loop-place-test.true c.index-trips-place.is
+          (w.count_repeats.ensures c.args.day c.loop-place.place ∙ ap length (runs_here feed c.args.day c.loop-place.place c.index-trips-place.result w.deref.result.now c.is_running.result w.if-is_running.true runs rows)) was (w.count-is ∙ w.saturating_add-count.ensures)
+      | else-is_running w ↦
+          count_step feed c.args.day c.args.trips.now c.loop-place.place c.index-trips-place.result c.loop-place.count c.if-is_running.count 0 18446744073709551615 c.loop-place-test.true c.index-trips-place.is
+          (sym (ap length (runs_nowhere feed c.args.day c.loop-place.place c.index-trips-place.result c.is_running.result w.if-is_running.false runs))) was (let is = w.count-is in omega (arith, is, was))
+    ]

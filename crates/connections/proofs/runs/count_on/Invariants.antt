@@ -1,11 +1,10 @@
-use Rattle.std.proofs.Common.{◌≡◌, ◌≤◌, length, take}
+use Rattle.std.proofs.Common.{◌≡◌, length, min, take}
 use Rattle.gtfs_tables.specs.declared.tables.Feed.{Feed}
 use Rattle.service_days.specs.Services.{HoldsServices}
+use Rattle.connections.specs.Grouping.{AreGrouped}
 use Rattle.connections.specs.Runs.{runs_from}
 use Rattle.connections.proofs.runs.count_on.Given as goal
 
-abbrev pub invariant-loop-trip : goal.invariant-loop-trip
-invariant-loop-trip l = record {
-  few : l.count ≤ l.trip-index;
-  counted : (feed : Feed) → HoldsServices feed.calendar.items feed.calendar_dates.items l.services → l.count ≡ length (runs_from feed l.day 0 (take l.trip-index l.trips));
-}
+abbrev pub invariant-loop-place : goal.invariant-loop-place
+invariant-loop-place l = (feed : Feed) → AreGrouped feed.frequencies.items (length l.trips) l.groups → HoldsServices feed.calendar.items feed.calendar_dates.items l.services
+    → l.count ≡ min (length (runs_from feed l.day 0 (take l.place l.trips))) 18446744073709551615

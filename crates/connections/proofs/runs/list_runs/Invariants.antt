@@ -1,9 +1,10 @@
-use Rattle.std.proofs.Common.{◌≡◌, map, take}
+use Rattle.std.proofs.Common.{◌≡◌, length, map, take}
 use Rattle.gtfs_tables.specs.declared.tables.Feed.{Feed}
 use Rattle.service_days.specs.Services.{HoldsServices}
+use Rattle.connections.specs.Grouping.{AreGrouped}
 use Rattle.connections.specs.Runs.{runs_of_days}
 use Rattle.connections.proofs.runs.list_runs.Given as goal
 
 abbrev pub invariant-loop-day : goal.invariant-loop-day
-invariant-loop-day l = (feed : Feed) → feed.trips.items ≡ l.trips → HoldsServices feed.calendar.items feed.calendar_dates.items l.services
+invariant-loop-day l = (feed : Feed) → feed.trips.items ≡ l.trips → AreGrouped feed.frequencies.items (length l.trips) l.groups → HoldsServices feed.calendar.items feed.calendar_dates.items l.services
     → l.runs.items ≡ runs_of_days feed (map (λ d. d.day) (take l.day-index l.days))

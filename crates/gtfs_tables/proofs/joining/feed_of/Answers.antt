@@ -47,6 +47,7 @@ returns-clause-ok c = record {
     trips = trips_made c.deref-3.result.now c.args.links.turns.items c.deref-2.result.now (rows_by (stop_named c.args.tables.stops.items) (trip_named c.args.tables.trips.items) c.args.tables c.args.links.turns.items) c.deref-4.result.now c.args.links.repeats.items (is_repeated (trip_named c.args.tables.trips.items) c.args.tables.frequencies.items) c.args.tables.trips.items c.in-Ok.trips.items
         c.deref-3.ensures.value (c.deref-2.ensures.value ∙ c.requires.stop_times) c.deref-4.ensures.value c.requires.repeats c.in-Ok.ensures.ok;
     stop_times = c.requires.stop_times;
+    frequencies = c.requires.frequencies;
     transfers = of_ok c.args.links.transfers c.in-Ok-kept.kept (λ kept. AllZip (IsTransferOf (stop_named c.args.tables.stops.items)) (filter is_kept c.args.tables.transfers.items) kept.items) c.in-Ok-kept.is c.requires.transfers;
     skipped = c.skipped_in-skipped.ensures ∙ ap (count_by (λ row. not (is_kept row))) c.deref.ensures.value;
     calendar = refl;
