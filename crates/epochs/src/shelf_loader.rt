@@ -1,6 +1,6 @@
 //! The seat from which a loader publishes versions without a lock.
 
-ghost use Rattle.std.specs.Prelude.{◌≡◌, ℕ, ◌<◌, ◌≤◌, [], Some, IfOk, IfErr, OnErr, MatchBool, MatchOption, MatchResult};
+ghost use Rattle.std.specs.Prelude.{◌≡◌, ℕ, ◌<◌, ◌≤◌, [], ◌∷◌, ◌++◌, Some, IfOk, IfErr, OnErr, MatchBool, MatchOption, MatchResult};
 ghost use Rattle.std.specs.Arc.{arc_value};
 ghost use Rattle.image_layout.specs.Image.{ImageValue};
 ghost use Rattle.version_core.specs.declared.state.Shelf.{Shelf};
@@ -69,8 +69,15 @@ impl ShelfLoader {
         ensures steps { CollectsBySteps self.old.view result self.new.view }
     {
         let found = self.try_all(table);
-        self.answers.note(&LoaderAnswer::Collected { found });
+        self.tell(LoaderAnswer::Collected { found });
         found
+    }
+
+    // The seat is told something, and stays as it is.
+    pub(crate) fn tell(&mut self, answer: LoaderAnswer)
+        ensures { self.new ≡ record self.old { answers = self.old.answers ++ answer ∷ [] } }
+    {
+        self.answers.note(&answer);
     }
 
     // Publishes, or says why not; and notes it.
@@ -90,14 +97,14 @@ impl ShelfLoader {
         match self.publish_quietly(table, alloc, &image) {
             Ok(version) => {
                 let shown = Snapshot::of(&*image);
-                self.answers.note(&LoaderAnswer::Published {
+                self.tell(LoaderAnswer::Published {
                     version,
                     image: shown,
                 });
                 Ok(version)
             }
             Err(fault) => {
-                self.answers.note(&LoaderAnswer::PublishRefused { fault });
+                self.tell(LoaderAnswer::PublishRefused { fault });
                 Err((image, fault))
             }
         }

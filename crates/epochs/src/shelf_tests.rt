@@ -9,6 +9,8 @@ use image_verifier::{Verified, verify};
 use std::alloc::{AllocError, Global};
 use std::sync::Arc;
 use std::test::*;
+use std::thread;
+use std::thread::Threads;
 
 /// The sample, begun at another second, so that images can be told apart.
 fn image(alloc: Global, base: u32) -> Result<Arc<Verified, Global>, Fail> {
@@ -210,4 +212,138 @@ fn goes_with(version: u64, base: i64) -> bool {
         Ok(second) => second == base,
         Err(_) => false,
     }
+}
+
+/// Where a growth is refused the image comes back, and the version that was current stays so. The test then ends with `AllocError`.
+#[test]
+fn a_refused_growth_gives_the_image_back(rt: HostRuntime) -> Result<(), Fail> {
+    let alloc: Global = rt.alloc();
+    let (shelves, mut loader, mut seats) = new_shelves(alloc)?;
+    match publish(&shelves, &mut loader, alloc, 2)? {
+        Ok(version) => assert_eq!(&rt; version, 2),
+        Err((second, fault)) => {
+            assert_eq!(&rt; second, 2);
+            assert_eq!(&rt; fault, PublishFault::OutOfMemory);
+            assert_eq!(&rt; pin_next(&shelves, &mut seats)?, 1);
+            return Err(AllocError.into());
+        }
+    }
+    Ok(())
+}
+
+/// Whether a pin holds the image of its version, which is given back.
+fn pins_well(shelves: &Shelves, seat: &mut ShelfSeat) -> bool
+    requires { seat.old.table ≡ shelves.now }
+    ensures { seat.new.table ≡ seat.old.table }
+{
+    let well = match pin(shelves, seat) {
+        Ok(Some((version, base))) => goes_with(version, base),
+        Ok(None) | Err(_) => false,
+    };
+    release(shelves, seat).is_ok() && well
+}
+
+/// How many of a thousand pins held the image of their version.
+fn pins_in_turn(shelves: &Shelves, seat: &mut ShelfSeat) -> u32
+    requires { seat.old.table ≡ shelves.now }
+{
+    let mut held = 0u32;
+    for _ in 0..1000u32 {
+        if pins_well(shelves, seat) {
+            held = held.wrapping_add(1);
+        }
+    }
+    held
+}
+
+/// How many of the images became versions, with a collection after each.
+fn publishes_in_turn(
+    shelves: &Shelves,
+    loader: &mut ShelfLoader,
+    images: Vec<Arc<Verified, Global>>,
+) -> u32
+    requires { loader.old.table ≡ shelves.now }
+    ensures { loader.new.table ≡ loader.old.table }
+{
+    let mut published = 0u32;
+    for image in images {
+        if shelves.publish(loader, image).is_ok() {
+            published = published.wrapping_add(1);
+        }
+        let _ = collect(shelves, loader);
+    }
+    published
+}
+
+/// Two seats pin beside one another.
+fn two_pin<R: Threads>(
+    rt: &R,
+    shelves: &Shelves,
+    mut first: ShelfSeat,
+    mut second: ShelfSeat,
+) -> (u32, u32)
+    requires { (first.table ≡ shelves.now) × (second.table ≡ shelves.now) }
+{
+    thread::join(
+        rt,
+        move || -> u32
+            requires { first.table ≡ shelves.now }
+        { pins_in_turn(shelves, &mut first) },
+        move || -> u32
+            requires { second.table ≡ shelves.now }
+        { pins_in_turn(shelves, &mut second) },
+    )
+}
+
+/// A loader publishes beside them, and comes back.
+fn one_publishes<R: Threads>(
+    rt: &R,
+    shelves: &Shelves,
+    seats: (ShelfSeat, ShelfSeat),
+    mut loader: ShelfLoader,
+    images: Vec<Arc<Verified, Global>>,
+) -> ((u32, ShelfLoader), (u32, u32))
+    requires { (loader.table ≡ shelves.now) × (seats.0.table ≡ shelves.now) × (seats.1.table ≡ shelves.now) }
+    ensures { result.0.1.table ≡ shelves.now }
+{
+    thread::join(
+        rt,
+        move || -> (u32, ShelfLoader)
+            requires { loader.table ≡ shelves.now }
+            ensures { result.1.table ≡ shelves.entry.now }
+        {
+            let published = publishes_in_turn(shelves, &mut loader, images);
+            (published, loader)
+        },
+        move || -> (u32, u32)
+            requires { (seats.0.table ≡ shelves.now) × (seats.1.table ≡ shelves.now) }
+        { two_pin(rt, shelves, seats.0, seats.1) },
+    )
+}
+
+/// A refused pin found four versions that were gone, each newer than those before: with fifty that go, that is at most twelve times.
+#[test]
+fn two_workers_beside_a_loader(rt: HostRuntime) -> Result<(), Fail> {
+    let alloc: Global = rt.alloc();
+    let (shelves, loader, mut seats) = new_shelves(alloc)?;
+    let first = next_seat(&shelves, &mut seats)?;
+    let second = next_seat(&shelves, &mut seats)?;
+    let mut images = Vec::new(alloc);
+    for base in 2..52u32 {
+        images.push(image(alloc, base)?)?;
+    }
+    let ((published, mut loader), (held, also_held)) = one_publishes(
+        &rt,
+        &shelves,
+        (first, second),
+        loader,
+        images,
+    );
+    assert_eq!(&rt; published, 50);
+    assert!(&rt; held >= 988);
+    assert!(&rt; also_held >= 988);
+    let found = collect(&shelves, &mut loader);
+    assert_eq!(&rt; found.busy, [0; 8]);
+    assert_eq!(&rt; shelves.word(0) / 8, 51);
+    Ok(())
 }

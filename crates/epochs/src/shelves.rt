@@ -143,7 +143,14 @@ impl Versions for Shelves {
 
     ghost number = { λ seat. seat.number };
 
-    fn pin<R: Wait>(&self, _rt: &R, seat: &mut ShelfSeat) -> Result<(), PinFault> {
+    fn pin<R: Wait>(&self, _rt: &R, seat: &mut ShelfSeat) -> Result<(), PinFault>
+        requires { seat.old.table ≡ self.now }
+        ensures fits { seat.new.table ≡ self.now }
+        ensures number { seat.new.number ≡ seat.old.number }
+        ensures pin { PinStep seat.old.shown result seat.new.shown }
+        ensures known { OnOk result (HoldsInHistory seat.new.number seat.new.shown.held) }
+        ensures steps { PinsBySteps seat.old result seat.new }
+    {
         Shelves::pin(self, seat)
     }
 
@@ -151,7 +158,13 @@ impl Versions for Shelves {
         seat.edition()
     }
 
-    fn release<R: Wait>(&self, _rt: &R, seat: &mut ShelfSeat) -> Result<(), PinFault> {
+    fn release<R: Wait>(&self, _rt: &R, seat: &mut ShelfSeat) -> Result<(), PinFault>
+        requires { seat.old.table ≡ self.now }
+        ensures fits { seat.new.table ≡ self.now }
+        ensures number { seat.new.number ≡ seat.old.number }
+        ensures release { ReleaseStep seat.old.shown result seat.new.shown }
+        ensures steps { ReleasesBySteps seat.old result seat.new }
+    {
         Shelves::release(self, seat)
     }
 }
@@ -170,11 +183,23 @@ impl Loads for Shelves {
         _rt: &R,
         loader: &mut ShelfLoader,
         image: Arc<Verified, Global>,
-    ) -> Result<u64, (Arc<Verified, Global>, PublishFault)> {
+    ) -> Result<u64, (Arc<Verified, Global>, PublishFault)>
+        requires { loader.old.table ≡ self.now }
+        ensures loads { loader.new.table ≡ self.now }
+        ensures back { IfErr result (λ e. e.0 ≡ image) }
+        ensures current { MatchResult result (λ v. loader.new.current ≡ v) (λ _. loader.new.current ≡ loader.old.current) }
+        ensures loader { MatchResult result (λ v. PublishStep loader.old.answers (arc_value image) v loader.new.answers) (λ e. RefuseStep loader.old.answers e.1 loader.new.answers) }
+        ensures steps { MatchResult result (λ v. (room : View) × MakesRoomBySteps loader.old.view room × PublishesBySteps room (arc_value image) v loader.new.view) (λ e. RefusesBySteps loader.old.view e.1 loader.new.view) }
+    {
         Shelves::publish(self, loader, image)
     }
 
-    fn collect<R: Wait>(&self, _rt: &R, loader: &mut ShelfLoader) -> Collected {
+    fn collect<R: Wait>(&self, _rt: &R, loader: &mut ShelfLoader) -> Collected
+        requires { loader.old.table ≡ self.now }
+        ensures loads { (loader.new.table ≡ self.now) × (loader.new.current ≡ loader.old.current) }
+        ensures loader { CollectStep loader.old.answers result loader.new.answers }
+        ensures steps { CollectsBySteps loader.old.view result loader.new.view }
+    {
         Shelves::collect(self, loader)
     }
 }

@@ -22,15 +22,16 @@ looks_so (View.Working v) c m' n h = subst (λ (m : Mine). IsWorkers Event.Look 
 pub looks_events : LooksAreEvents
 looks_events m m' n h = looks_so m.0 m.1 m' n h
 
-takes_found_so : (v : WorkerView) (c : List (ℕ × Option Edition)) (version k : ℕ) (b : Bool) (m' : Mine) → TakesFound v c version k b m'
+takes_found_so : (v : WorkerView) (c : List (ℕ × Option Edition)) (version k n : ℕ) (b : Bool) (m' : Mine) → TakesFound v c version k n b m'
     → ((held : ℕ) × IsWorkers Event.Take (Reply.Holds held) (View.Working v) m'.0) ⊎ IsWorkers Event.Take Reply.Late (View.Working v) m'.0
-takes_found_so v c version k true m' h =
+takes_found_so v c version k n true m' h =
     inl (version, subst (λ (m : Mine). IsWorkers Event.Take (Reply.Holds version) (View.Working v) m.0) (sym h.2) (v.number, refl, refl, h.3))
-takes_found_so v c version k false m' h = inr (subst (λ (m : Mine). IsWorkers Event.Take Reply.Late (View.Working v) m.0) (sym h.1) (v.number, refl, refl, h.2))
+takes_found_so v c version k n false m' h =
+    inr (subst (λ (m : Mine). IsWorkers Event.Take Reply.Late (View.Working v) m.0) (sym h.1) (v.number, refl, refl, h.2))
 
 takes_as_so : (v : WorkerView) (c : List (ℕ × Option Edition)) (now : Worker) (n : ℕ) (m' : Mine) → TakesAs v c now n m'
     → ((held : ℕ) × IsWorkers Event.Take (Reply.Holds held) (View.Working v) m'.0) ⊎ IsWorkers Event.Take Reply.Late (View.Working v) m'.0
-takes_as_so v c (Worker.Looked version k) n m' h = takes_found_so v c version k (is_open n version) m' h
+takes_as_so v c (Worker.Looked version k) n m' h = takes_found_so v c version k n (is_open n version) m' h
 takes_as_so v c Worker.Idle n m' h = absurd h
 takes_as_so v c (Worker.Late k) n m' h = absurd h
 takes_as_so v c (Worker.Holding k x) n m' h = absurd h
@@ -102,19 +103,19 @@ spares_events m m' k h = spares_so m.0 m.1 m' k h
 abbrev Passed : ℕ → View → Type 0
 Passed version u = OfWorker u (λ v. (v.last ≡ version) × (v.passed ≡ true))
 
-late_found : (v : WorkerView) (c : List (ℕ × Option Edition)) (version k : ℕ) (b : Bool) (m' : Mine) → TakesFound v c version k b m' → IsLate k m'.0 → OfWorker m'.0 (λ x. (x.last ≡ v.last) × (x.passed ≡ true))
-late_found v c version k true m' h late = absurd (let z = subst (λ (m : Mine). IsLate k m.0) h.2 late in cc)
-late_found v c version k false m' h late = subst (λ (m : Mine). OfWorker m.0 (λ x. (x.last ≡ v.last) × (x.passed ≡ true))) (sym h.1) (refl, refl)
+late_found : (v : WorkerView) (c : List (ℕ × Option Edition)) (version k n : ℕ) (b : Bool) (m' : Mine) → TakesFound v c version k n b m' → IsLate k m'.0 → OfWorker m'.0 (λ x. (x.last ≡ v.last) × (x.passed ≡ true))
+late_found v c version k n true m' h late = absurd (let z = subst (λ (m : Mine). IsLate k m.0) h.2 late in cc)
+late_found v c version k n false m' h late = subst (λ (m : Mine). OfWorker m.0 (λ x. (x.last ≡ v.last) × (x.passed ≡ true))) (sym h.1) (refl, refl)
 
 late_so : (u : View) (c : List (ℕ × Option Edition)) (m1 m2 : Mine) (n word : ℕ) → Looks (u, c) n m1 → Takes m1 word m2 → IsLate (n % 8) m2.0 → Passed (n / 8) m2.0
 late_so (View.Loading l) c m1 m2 n word look take late = absurd look
 late_so (View.Working v) c m1 m2 n word look take late =
-    let t : TakesFound (looked_at v n look.0) c (n / 8) (n % 8) (is_open word (n / 8)) m2 = subst (λ (m : Mine). Takes m word m2) look.1 take in
-    late_found (looked_at v n look.0) c (n / 8) (n % 8) (is_open word (n / 8)) m2 t late
+    let t : TakesFound (looked_at v n look.0) c (n / 8) (n % 8) word (is_open word (n / 8)) m2 = subst (λ (m : Mine). Takes m word m2) look.1 take in
+    late_found (looked_at v n look.0) c (n / 8) (n % 8) word (is_open word (n / 8)) m2 t late
 
 tells_so : (u : View) (version : ℕ) → Passed version u → (table : Shelved) (l : LoaderView) (i : ℕ) → Ruled table → IsLoader table l → get_elem? table.views i ≡ some u → version < l.current
 tells_so (View.Loading x) version p table l i r loads at = absurd p
-tells_so (View.Working v) version p table l i r loads at = subst (λ n. n < l.current) p.0 ((looks_are table l i v r loads at).1 p.1)
+tells_so (View.Working v) version p table l i r loads at = subst (λ n. n < l.current) p.0 ((looks_are table l i v r loads at).2 p.1)
 
 pub late_tells : LateTakesTell
 late_tells m m1 m2 n word look take late table l i r loads at = tells_so m2.0 (n / 8) (late_so m.0 m.1 m1 m2 n word look take late) table l i r loads at

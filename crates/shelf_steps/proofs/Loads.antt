@@ -31,7 +31,7 @@ use Rattle.shelf_steps.specs.Ruled.{Ruled}
 use Rattle.shelf_steps.specs.Plays.{Mine, newest_of, with_open, with_current, with_closing, with_free, with_hand, AllHave, Noted, Opens, Publishes, Closes, CollectsFound, Collects, Gathers, PutsBack, MayOpenOn, MayPublish, MayClose, MayCollect, MayGather, MayPutBack}
 use Rattle.shelf_steps.proofs.Courses.{kept_of, none_snoc, begins_longer, happened, goes_on, goes_same, begins_all, prefix_same, other_fits}
 use Rattle.shelf_steps.proofs.Frames.{loader_moves}
-use Rattle.shelf_steps.proofs.WordsAfter.{words_same, words_after, few_counted, version_bound}
+use Rattle.shelf_steps.proofs.WordsAfter.{words_same, words_after, few_counted, version_bound, found_at}
 use Rattle.shelf_steps.proofs.SlotsAfter.{slots_block}
 use Rattle.shelf_steps.proofs.Chains.{take_block, give_block, IsHome, block_valid, block_else, block_out, carried_down, gives_valid, given_else, given_home, given_rest}
 
@@ -319,7 +319,13 @@ collects_found id k version l table r at many small shelf hand true found =
           (λ i h. block_else table.homes [] f (16 * k) 16 i h) (prefix_same r.course.images)
           (λ j ne q. let z : None ≡ Some j = sym hand ∙ q in absurd (cc)) (λ j ne q. absurd (ne (cc)))
           (λ u less. inr (refl, block_out table.homes [] f (16 * k) 16 (16 * k + u) (omega arith) (omega arith) (omega arith))) (loader_slots table r id l at)),
-      (f, all_of d, (λ i. (View.Loading l', carried_down f (16 * k) 16 [] i)), noted table r id l l' at refl e reply t refl is_step refl refl refl (omega arith)),
+      (
+        f,
+        all_of d,
+        (λ i. (View.Loading l', carried_down f (16 * k) 16 [] i)),
+        noted table r id l l' at refl e reply t refl is_step refl refl refl (omega arith),
+        found_at table.words r.course r.goes r.words k e d refl small,
+      ),
     )
 collects_found id k version l table r at many small shelf hand false found =
     let s = r.course.state in let n = get_or table.words (k + 1) 0 in
@@ -340,7 +346,13 @@ collects_found id k version l table r at many small shelf hand false found =
       tt,
       noted_ruled table r id l l' at refl e reply s refl is_step refl refl refl (omega arith) (set table.words (k + 1) n) table.homes fits'
           (words_same table.words (k + 1) s s r.words refl refl refl refl) (subst (λ (x : Option ℕ). SlotsFit table.homes s.shelves s.workers r.course.images x) hand (loader_slots table r id l at)),
-      (all_of d, refl, noted table r id l l' at refl e reply s refl is_step refl refl refl (omega arith), some_one),
+      (
+        all_of d,
+        refl,
+        noted table r id l l' at refl e reply s refl is_step refl refl refl (omega arith),
+        some_one,
+        found_at table.words r.course r.goes r.words k e d refl small,
+      ),
     )
   where
     some_one_there : (n count version : ℕ) → n ≡ count + 512 + 65536 * version → n ≢ 512 + 65536 * version → count ≡ n % 256 → 0 < n % 256

@@ -12,10 +12,10 @@ looked_here (View.Loading l) c n m' h = absurd h
 looked_here (View.Working v) c n m' h = subst (λ (x : Mine). HasLooked (n % 8) x.0) (sym h.1) (n / 8, refl)
 
 took : (a : WorkerView) (c : List (ℕ × Option Edition)) (n word : ℕ) (m1 m2 : Mine) (b : Bool) → (look : Looks (View.Working a, c) n m1) → Takes m1 word m2 → is_open word (n / 8) ≡ b
-    → TakesFound (looked_at a n look.0) c (n / 8) (n % 8) b m2
+    → TakesFound (looked_at a n look.0) c (n / 8) (n % 8) word b m2
 took a c n word m1 m2 b look take is =
-    let t : TakesFound (looked_at a n look.0) c (n / 8) (n % 8) (is_open word (n / 8)) m2 = subst (λ (m : Mine). Takes m word m2) look.1 take in
-    subst (λ x. TakesFound (looked_at a n look.0) c (n / 8) (n % 8) x m2) is t
+    let t : TakesFound (looked_at a n look.0) c (n / 8) (n % 8) word (is_open word (n / 8)) m2 = subst (λ (m : Mine). Takes m word m2) look.1 take in
+    subst (λ x. TakesFound (looked_at a n look.0) c (n / 8) (n % 8) word x m2) is t
 
 pub well_so : (u : View) (c : List (ℕ × Option Edition)) (number n word : ℕ) (m1 m2 : Mine) → OfWorker u (λ a. (a.now ≡ Worker.Idle) × (a.number ≡ number)) → c ≡ []
     → Looks (u, c) n m1 → Takes m1 word m2 → is_open word (n / 8) ≡ true

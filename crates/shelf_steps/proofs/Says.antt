@@ -8,7 +8,8 @@ use lib.ListN.{get_elem?}
 use Rattle.std.proofs.lemmas.Option.{slice_get_within}
 use Rattle.version_core.specs.declared.state.Shelf.{Shelf}
 use Rattle.version_core.specs.declared.state.Worker.{Worker}
-use Rattle.version_core.specs.Kept.{Kept, version_of, version_on}
+use Rattle.version_core.specs.State.{State}
+use Rattle.version_core.specs.Kept.{Kept, Fits, version_of, version_on}
 use Rattle.version_core.proofs.Keeps.{held_known, looked_fits}
 use Rattle.shelf_steps.specs.declared.edition.Edition.{Edition}
 use Rattle.shelf_steps.specs.declared.views.LoaderView.{LoaderView}
@@ -18,7 +19,7 @@ use Rattle.version_core.specs.Shown.{shelf_word}
 use Rattle.shelf_steps.specs.Seats.{WorkerFits, LoaderFits, HasEdition}
 use Rattle.shelf_steps.specs.Slots.{SlotFits, IsFilled, Slot}
 use Rattle.shelf_steps.specs.Ruled.{Ruled}
-use Rattle.shelf_steps.specs.Laws.{Shelved, IsLoader, WordsAreTheLoaders, CountsAreWorkers, NumbersDiffer, HeldHaveEditions, SlotsOutAreHeld, SlotsAtHomeAreFilled, LooksAreSo, OneHistory}
+use Rattle.shelf_steps.specs.Laws.{Shelved, IsLoader, WordsAreTheLoaders, CountsAreWorkers, NumbersDiffer, HeldHaveEditions, SlotsOutAreHeld, SlotsAtHomeAreFilled, LooksAreSo, OneSeatLoads}
 use Rattle.shelf_steps.proofs.Courses.{kept_of}
 use Rattle.shelf_steps.proofs.WordsAfter.{few_counted}
 use Rattle.shelf_steps.proofs.Works.{held_on}
@@ -98,15 +99,26 @@ slots_home table l k w v x r at is less home =
       | inr b ↦ absurd (let z : some (some x) ≡ some none = sym home ∙ b.0 in cc)
     ])
 
+seen_fits : (current shelf seen : ℕ) (shelves : List Shelf) (worker : Worker) → Fits current shelf shelves worker seen → seen ≤ current
+seen_fits current shelf seen shelves Worker.Idle f = f
+seen_fits current shelf seen shelves (Worker.Looked v k) f = let a = f.1 in let b = f.2 in omega arith
+seen_fits current shelf seen shelves (Worker.Late k) f = let a = f.1 in omega arith
+seen_fits current shelf seen shelves (Worker.Holding k v) f = f.3
+
+-- nobody has seen a version newer than the current one
+seen_small : (s : State) (w : ℕ) (worker : Worker) → Kept s → slice_get s.workers w ≡ Some worker → get_or s.seen w 0 ≤ s.current
+seen_small s w worker kept here = seen_fits s.current s.current_shelf (get_or s.seen w 0) s.shelves worker (kept.workers.each w worker here)
+
+pub one_loads : OneSeatLoads
+one_loads table r = ((r.loader, r.seats.loader_seat), (λ i l at. (r.seats.each i (View.Loading l) at).0))
+
 pub looks_are : LooksAreSo
 looks_are table l i w r loads at =
     let f : WorkerFits r.course w = (r.seats.each i (View.Working w) at).2 in let kn = knows table l r loads in let kept : Kept r.course.state = kept_of r.course r.goes in
     let c = kn.shows.current in (
+      (let a = seen_small r.course.state w.number w.now kept f.shows.now in let b = f.shows.seen in omega arith),
       (let a = f.last.0 in omega arith),
       (λ p. let a = f.passed p in omega arith),
       λ v k now. let q = looked_fits r.course.state w.number v k kept (f.shows.now ∙ ap (λ (x : Worker). Some x) now) in
           ((let a = q.3 in omega arith), (λ e. q.4 (e ∙ c) ∙ sym kn.shows.current_shelf)),
     )
-
-pub one_history : OneHistory
-one_history table r = (r.course, r.goes, (λ i v at. (r.seats.each i (View.Working v) at).2.known), (λ l at. let k = knows table l r at in (k.known, k.images)))

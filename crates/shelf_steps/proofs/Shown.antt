@@ -1,5 +1,5 @@
 -- The words and the views show one state.
-use Rattle.std.proofs.Common.{◌≡◌, ℕ, ◌+◌, ◌<◌, ◌≤◌, List, length, get_or, Option, Some, slice_get, ap, sym, ◌∙◌, subst, arith, ext_get_or, lt_of_not-le}
+use Rattle.std.proofs.Common.{◌≡◌, ℕ, ◌<◌, ◌≤◌, List, length, get_or, Some, slice_get, ap, sym, ◌∙◌, subst, arith, ext_get_or, lt_of_not-le}
 use Rattle.std.proofs.lemmas.Option.{get_or_from_slice_get, slice_get-get_or}
 use mathlib.Core.Logic.{dite}
 use native.Mathlib.Decide.{dec_le}
@@ -11,7 +11,7 @@ use Rattle.version_core.specs.Shown.{shelf_word}
 use Rattle.shelf_steps.specs.declared.views.LoaderView.{LoaderView}
 use Rattle.shelf_steps.specs.declared.views.View.{View}
 use Rattle.shelf_steps.specs.Ruled.{Ruled}
-use Rattle.shelf_steps.specs.Laws.{Shelved, IsLoader, TableShows, OneStateIsShown}
+use Rattle.shelf_steps.specs.Laws.{Shelved, IsLoader, TableShows, OneStateIsShown, OneHistory}
 use Rattle.shelf_steps.proofs.Courses.{kept_of}
 use Rattle.shelf_steps.proofs.Says.{is_loader, knows}
 
@@ -89,3 +89,11 @@ pub one_state : OneStateIsShown
 one_state table l r at =
     let kept : Kept r.course.state = kept_of r.course r.goes in
     (r.course.state, kept, shown table l r at, (λ t kept' b. same_state table l r at r.course.state t kept kept' (shown table l r at) b))
+
+pub one_history : OneHistory
+one_history table r = (
+  r.course,
+  r.goes,
+  (λ i v at. (r.seats.each i (View.Working v) at).2.known),
+  (λ l at. let k = knows table l r at in (k.known, k.images, shown table l r at)),
+)

@@ -56,16 +56,16 @@ abbrev taken : ℕ → ℕ → Bool → Worker
 taken version k true = Worker.Holding k version
 taken version k false = Worker.Late k
 
-found_so : (v : WorkerView) (c : List (ℕ × Option Edition)) (version k : ℕ) (b : Bool) (m' : Mine) → k < 8 → c ≡ [] → TakesFound v c version k b m' → DoesSo (taken version k b) m'
-found_so v c version k true m' small empty t =
+found_so : (v : WorkerView) (c : List (ℕ × Option Edition)) (version k n : ℕ) (b : Bool) (m' : Mine) → k < 8 → c ≡ [] → TakesFound v c version k n b m' → DoesSo (taken version k b) m'
+found_so v c version k n true m' small empty t =
     subst (λ (m : Mine). DoesSo (Worker.Holding k version) m) (sym t.2) (refl, (small, ap (λ (l : List (ℕ × Option Edition)). (16 * k + v.number, Some t.0) ∷ l) empty))
-found_so v c version k false m' small empty t = subst (λ (m : Mine). DoesSo (Worker.Late k) m) (sym t.1) (refl, (small, empty))
+found_so v c version k n false m' small empty t = subst (λ (m : Mine). DoesSo (Worker.Late k) m) (sym t.1) (refl, (small, empty))
 
 after_take : (u : View) (c : List (ℕ × Option Edition)) (version k n : ℕ) (b : Bool) (m' : Mine) → DoesSo (Worker.Looked version k) (u, c) → Takes (u, c) n m' → is_open n version ≡ b → DoesSo (taken version k b) m'
 after_take (View.Loading l) c version k n b m' h take is = absurd h
 after_take (View.Working v) c version k n b m' h take is =
-    let t : TakesFound v c version k (is_open n version) m' = subst (λ (w : Worker). Rattle.shelf_steps.specs.Plays.TakesAs v c w n m') h.0 take in
-    found_so v c version k b m' h.1.0 h.1.1 (subst (λ x. TakesFound v c version k x m') is t)
+    let t : TakesFound v c version k n (is_open n version) m' = subst (λ (w : Worker). Rattle.shelf_steps.specs.Plays.TakesAs v c w n m') h.0 take in
+    found_so v c version k n b m' h.1.0 h.1.1 (subst (λ x. TakesFound v c version k n x m') is t)
 
 pub held_so : (m m' : Mine) (version k n : ℕ) → DoesSo (Worker.Looked version k) m → Takes m n m' → is_open n version ≡ true → DoesSo (Worker.Holding k version) m'
 held_so m m' version k n h take is = after_take m.0 m.1 version k n true m' h take is

@@ -1,18 +1,21 @@
 -- Words, and what they show.
-use Rattle.std.proofs.Common.{◌≡◌, ◌≢◌, ℕ, zero, suc, ◌+◌, ◌-◌, ◌*◌, ◌/◌, ◌%◌, ◌<◌, ◌≤◌, ◌==◌, Bool, true, false, MatchBool, List, [], ◌∷◌, length, set, get_or, Some, slice_get, refl, ap, sym, ◌∙◌, subst, arith, length-set, get_or-set_same, get_or-set_other, ◌⊎◌, inl, inr}
+use Rattle.std.proofs.Common.{◌≡◌, ◌≢◌, ℕ, zero, suc, ◌+◌, ◌-◌, ◌*◌, ◌/◌, ◌%◌, ◌<◌, ◌≤◌, ◌==◌, Bool, true, false, MatchBool, List, [], ◌∷◌, ◌++◌, length, set, get_or, Some, slice_get, refl, ap, sym, ◌∙◌, subst, arith, length-set, get_or-set_same, get_or-set_other, ◌⊎◌, inl, inr}
 use Rattle.std.proofs.lemmas.List.{set-get_or}
 use Rattle.std.proofs.lemmas.List.Sums.{count_by-le-length}
 use Rattle.std.proofs.lemmas.Option.{slice_get_within}
 use Rattle.std.proofs.lemmas.Bool.Decides.{nat_tests}
 use mathlib.Core.Logic.{dite}
 use native.Mathlib.Decide.{ℕ_discrete}
+use Rattle.version_core.specs.declared.event.Event.{Event}
 use Rattle.version_core.specs.declared.state.Shelf.{Shelf}
 use Rattle.version_core.specs.State.{State}
 use Rattle.version_core.specs.Steps.{IsOpen}
 use Rattle.version_core.specs.Kept.{Kept, is_at, version_on}
 use Rattle.version_core.proofs.Shelves.{version_at}
 use Rattle.version_core.specs.Shown.{WordsShow, shelf_word}
+use Rattle.shelf_steps.specs.Course.{Course, Goes, FoundAt, all_of}
 use Rattle.shelf_steps.specs.Plays.{is_open}
+use Rattle.shelf_steps.proofs.Courses.{kept_of}
 
 -- the word that `CUR` was found to be
 pub current_word : (s : State) (n : ℕ) → Kept s → n ≡ 8 * s.current + s.current_shelf → (s.current_shelf < 8) × (n / 8 ≡ s.current) × (n % 8 ≡ s.current_shelf)
@@ -68,6 +71,13 @@ found_shelf words s k kept w small =
     let l = kept.shelves.eight in let x = shelf_at s.shelves k (omega arith) in let few = few_counted s k kept small in
     let is = w.each k x.0 x.1 in let top = word_small x.0 (get_or s.counts k 0) (omega arith) (version_bound s k x.0 kept x.1) in
     (x.0, x.1, is, (omega arith))
+
+-- the word at which an event finds a shelf
+pub found_at : (words : List ℕ) (c : Course) → Goes c → WordsShow words c.state → (k : ℕ) (e : Event) (d : Course)
+    → d.events ≡ c.events ++ e ∷ [] → k < 8 → FoundAt (all_of d) e k (get_or words (k + 1) 0)
+found_at words c goes shown k e d added small =
+    let x = found_shelf words c.state k (kept_of c goes) shown small in
+    record { before = c; goes = goes; events = added; shelf = x.0; stands = x.1; is = x.2 }
 
 one_more : (n : ℕ) → n + 1 < 18446744073709551616 → (n + 1) % 18446744073709551616 ≡ n + 1
 one_more n small = omega arith

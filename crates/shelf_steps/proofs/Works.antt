@@ -27,7 +27,7 @@ use Rattle.shelf_steps.specs.Ruled.{Ruled}
 use Rattle.shelf_steps.specs.Plays.{Mine, looked_at, is_open, holding, come_late, gone, Looks, TakesFound, TakesAs, Takes, Leaves, GivesBack, IsIdle, HasLooked, IsLate, HoldsOut, ShowsIn}
 use Rattle.shelf_steps.proofs.Courses.{kept_of, none_snoc, begins_longer, happened, goes_same, begins_all, prefix_same, other_fits}
 use Rattle.shelf_steps.proofs.Frames.{there, worker_moves}
-use Rattle.shelf_steps.proofs.WordsAfter.{current_word, words_same, words_after, word_rises, word_falls, word_tells}
+use Rattle.shelf_steps.proofs.WordsAfter.{current_word, words_same, words_after, word_rises, word_falls, word_tells, found_at}
 use Rattle.shelf_steps.proofs.SlotsAfter.{slots_worker, slots_one}
 
 -- a step of a worker changes what is so of that worker alone
@@ -124,7 +124,7 @@ words_counted words k new count ws s kept shown small is =
 
 takes_found : (id k : ℕ) (v : WorkerView) (version : ℕ) (c : List (ℕ × Option Edition)) (table : Table (Option Edition) View) (r : Ruled table) → get_elem? table.views id ≡ some (View.Working v) → v.now ≡ Worker.Looked version k
     → (b : Bool) → MatchBool b (IsOpen r.course.state k version) (¬ (IsOpen r.course.state k version))
-    → (w : View) × (a : Act (Option Edition)) × Valid table.homes c a × Ruled (stepped table (k + 1) ((get_or table.words (k + 1) 0 + 1) % 18446744073709551616) id c w a) × TakesFound v c version k b (w, carried_after c a)
+    → (w : View) × (a : Act (Option Edition)) × Valid table.homes c a × Ruled (stepped table (k + 1) ((get_or table.words (k + 1) 0 + 1) % 18446744073709551616) id c w a) × TakesFound v c version k (get_or table.words (k + 1) 0) b (w, carried_after c a)
 takes_found id k v version c table r at now true stands =
     let s = r.course.state in let w = v.number in let n = get_or table.words (k + 1) 0 in
     let kept : Kept s = kept_of r.course r.goes in
@@ -165,7 +165,15 @@ takes_found id k v version c table r at now true stands =
         slots = slots_one table.homes s.shelves s.workers r.course.images r.loader.hand k w (Worker.Looked version k) (Worker.Holding k version) (Shelf.Open version) none has (λ j x ne q. cc) stands z.0
             (there table.homes (16 * k + w) _ filled) (inr (refl, slice_get-set_same s.workers w (Worker.Holding k version) within)) r.slots;
       },
-      (edition, all_of d, refl, next_happened table r id v v' at refl e reply t refl is_step refl refl refl refl rest, is_its, (t, next_goes table r id v v' at refl e reply t refl is_step refl refl refl refl rest, fits.shows)),
+      (
+        edition,
+        all_of d,
+        refl,
+        next_happened table r id v v' at refl e reply t refl is_step refl refl refl refl rest,
+        is_its,
+        (t, next_goes table r id v v' at refl e reply t refl is_step refl refl refl refl rest, fits.shows),
+        found_at table.words r.course r.goes r.words k e d refl z.1,
+      ),
     )
 takes_found id k v version c table r at now false shut =
     let s = r.course.state in let w = v.number in let n = get_or table.words (k + 1) 0 in
@@ -200,7 +208,13 @@ takes_found id k v version c table r at now false shut =
         seats = next_seats table r id v v' at refl e reply t refl is_step refl refl refl refl rest fits;
         slots = slots_worker table.homes s.shelves s.workers r.course.images r.loader.hand w (Worker.Looked version k) (Worker.Late k) has (λ j x q. cc) r.slots;
       },
-      (all_of d, refl, next_happened table r id v v' at refl e reply t refl is_step refl refl refl refl rest, (t, goes', fits.shows)),
+      (
+        all_of d,
+        refl,
+        next_happened table r id v v' at refl e reply t refl is_step refl refl refl refl rest,
+        (t, goes', fits.shows),
+        found_at table.words r.course r.goes r.words k e d refl z.1,
+      ),
     )
 
 takes_as : (slots id k : ℕ) (u : View) (c : List (ℕ × Option Edition)) → HasLooked k u → Allows Ruled slots id (u, c) (k + 1) (λ n. (n + 1) % 18446744073709551616) (Takes (u, c))

@@ -1,11 +1,13 @@
 -- What happened so far: one list of events with their replies, the state that it leads to, and the image of each version.
-use Rattle.std.specs.Prelude.{◌≡◌, ℕ, zero, suc, List, [], ◌∷◌, ◌++◌, length, slice_get, Option, Some, None}
+use Rattle.std.specs.Prelude.{◌≡◌, ℕ, zero, suc, List, [], ◌∷◌, ◌++◌, length, slice_get, slice_index, Option, Some, None}
 use Rattle.std.specs.Arc.{arc_value}
 use mathlib.Core.List.{IsPrefix}
 use Rattle.image_layout.specs.Image.{ImageValue}
 use Rattle.version_core.specs.declared.event.Event.{Event}
 use Rattle.version_core.specs.declared.event.Reply.{Reply}
+use Rattle.version_core.specs.declared.state.Shelf.{Shelf}
 use Rattle.version_core.specs.State.{State, start, newest}
+use Rattle.version_core.specs.Shown.{shelf_word}
 use Rattle.version_core.specs.Runs.{Run}
 use Rattle.version_core.specs.Actors.{actor, NoneOf}
 use Rattle.shelf_steps.specs.declared.edition.Edition.{Edition}
@@ -46,6 +48,15 @@ pub record Happened (before : Known) (e : Event) (r : Reply) (after : Known) : T
   pub events : (rest : List Event) × (after.events ≡ (before.events ++ rest) ++ e ∷ []) × NoneOf (actor e) rest
   pub replies : (rest : List Reply) × (after.replies ≡ (before.replies ++ rest) ++ r ∷ [])
   pub images : IsPrefix before.images after.images
+
+-- the word at which this event, the last that is known, found the shelf k: all that happened before leads to a state that has the shelf and its count so
+pub record FoundAt (known : Known) (e : Event) (k word : ℕ) : Type 0 where
+  pub before : Course
+  pub goes : Goes before
+  pub events : known.events ≡ before.events ++ e ∷ []
+  pub shelf : Shelf
+  pub stands : slice_get before.state.shelves k ≡ Some shelf
+  pub is : word ≡ shelf_word shelf (slice_index before.state.counts k)
 
 -- the image of a version. Versions count from 1
 abbrev pub image_of : List ImageValue → ℕ → Option ImageValue

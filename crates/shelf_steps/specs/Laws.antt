@@ -22,6 +22,12 @@ Shelved = Table (Option Edition) View
 abbrev pub IsLoader : Shelved → LoaderView → Type 0
 IsLoader table l = get_elem? table.views 0 ≡ some (View.Loading l)
 
+-- there is a loader, and no other seat loads
+abbrev pub OneSeatLoads : Type 0
+OneSeatLoads =
+    (table : Shelved) → Ruled table
+    → ((l : LoaderView) × IsLoader table l) × ((i : ℕ) (l : LoaderView) → get_elem? table.views i ≡ some (View.Loading l) → i ≡ 0)
+
 -- the first word, and the state and version of each shelf word, are those of the loader's view, in which the current shelf is open with the current version
 abbrev pub WordsAreTheLoaders : Type 0
 WordsAreTheLoaders =
@@ -68,15 +74,8 @@ SlotsAtHomeAreFilled =
 abbrev pub LooksAreSo : Type 0
 LooksAreSo =
     (table : Shelved) (l : LoaderView) (i : ℕ) (w : WorkerView) → Ruled table → IsLoader table l → get_elem? table.views i ≡ some (View.Working w)
-    → (w.last ≤ l.current) × (w.passed ≡ true → w.last < l.current) × ((v k : ℕ) → w.now ≡ Worker.Looked v k → (v ≤ l.current) × (v ≡ l.current → k ≡ l.current_shelf))
-
--- there is one course of events, of which each seat knows a beginning, behind which nothing of its own stands
-abbrev pub OneHistory : Type 0
-OneHistory =
-    (table : Shelved) → Ruled table
-    → (c : Course) × Goes c
-    × ((i : ℕ) (v : WorkerView) → get_elem? table.views i ≡ some (View.Working v) → Begins v.known (Some v.number) c)
-    × ((l : LoaderView) → IsLoader table l → Begins l.known None c × (l.known.images ≡ c.images))
+    → (w.seen ≤ l.current) × (w.last ≤ l.current) × (w.passed ≡ true → w.last < l.current)
+    × ((v k : ℕ) → w.now ≡ Worker.Looked v k → (v ≤ l.current) × (v ≡ l.current → k ≡ l.current_shelf))
 
 -- the words, and what each seat knows, show the state: editions are places in the loader's list of images, and a worker with no seat yet is idle and has seen nothing
 pub record TableShows (table : Shelved) (l : LoaderView) (s : State) : Type 0 where
@@ -86,7 +85,15 @@ pub record TableShows (table : Shelved) (l : LoaderView) (s : State) : Type 0 wh
   pub workers : (i : ℕ) (v : WorkerView) → get_elem? table.views i ≡ some (View.Working v) → WorkerShows v.number v.now v.seen s
   pub unseated : (w : ℕ) → l.handed ≤ w → w < 16 → (slice_get s.workers w ≡ Some Worker.Idle) × (slice_index s.seen w ≡ 0)
 
--- they show one state that every law of the table of versions is true of, and no other
+-- there is one course of events, of which each seat knows a beginning, behind which nothing of its own stands. It leads to the state that words and seats show
+abbrev pub OneHistory : Type 0
+OneHistory =
+    (table : Shelved) → Ruled table
+    → (c : Course) × Goes c
+    × ((i : ℕ) (v : WorkerView) → get_elem? table.views i ≡ some (View.Working v) → Begins v.known (Some v.number) c)
+    × ((l : LoaderView) → IsLoader table l → Begins l.known None c × (l.known.images ≡ c.images) × TableShows table l c.state)
+
+-- words and seats show one state that every law of the table of versions is true of, and no other
 abbrev pub OneStateIsShown : Type 0
 OneStateIsShown =
     (table : Shelved) (l : LoaderView) → Ruled table → IsLoader table l

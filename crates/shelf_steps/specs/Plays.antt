@@ -15,7 +15,7 @@ use Rattle.shelf_steps.specs.declared.views.Known.{Known}
 use Rattle.shelf_steps.specs.declared.views.WorkerView.{WorkerView}
 use Rattle.shelf_steps.specs.declared.views.LoaderView.{LoaderView}
 use Rattle.shelf_steps.specs.declared.views.View.{View}
-use Rattle.shelf_steps.specs.Course.{Goes, leading_to, Happened, IsEdition}
+use Rattle.shelf_steps.specs.Course.{Goes, leading_to, Happened, FoundAt, IsEdition}
 use Rattle.shelf_steps.specs.Slots.{down_from, nothings}
 
 -- what holds of a worker's view
@@ -60,16 +60,18 @@ Looks m n m' = OfWorker m.0 (λ v.
     × Happened v.known (Event.Look v.number) (Reply.Looked (n / 8) (n % 8)) known
     × (v.seen ≤ n / 8) × (v.passed ≡ true → v.last < n / 8) × ShowsIn (looked_at v n known))
 
--- whether the shelf was found open with the version that was looked at. Only then is it held, with its edition in the slot
-abbrev pub TakesFound : WorkerView → List (ℕ × Option Edition) → ℕ → ℕ → Bool → Mine → Type 0
-TakesFound v c version k true m' =
+-- whether the shelf, found at the word n, was open with the version that was looked at. Only then is it held, with its edition in the slot
+abbrev pub TakesFound : WorkerView → List (ℕ × Option Edition) → ℕ → ℕ → ℕ → Bool → Mine → Type 0
+TakesFound v c version k n true m' =
     (e : Edition) × (known : Known) × (m' ≡ (View.Working (holding v k version e known), (16 * k + v.number, Some e) ∷ c))
     × Happened v.known (Event.Take v.number) (Reply.Holds version) known × IsEdition known.images version (Some e) × ShowsIn (holding v k version e known)
-TakesFound v c version k false m' =
+    × FoundAt known (Event.Take v.number) k n
+TakesFound v c version k n false m' =
     (known : Known) × (m' ≡ (View.Working (come_late v k known), c)) × Happened v.known (Event.Take v.number) Reply.Late known × ShowsIn (come_late v k known)
+    × FoundAt known (Event.Take v.number) k n
 
 abbrev pub TakesAs : WorkerView → List (ℕ × Option Edition) → Worker → ℕ → Mine → Type 0
-TakesAs v c (Worker.Looked version k) n m' = TakesFound v c version k (is_open n version) m'
+TakesAs v c (Worker.Looked version k) n m' = TakesFound v c version k n (is_open n version) m'
 TakesAs v c _ n m' = ⊥
 
 abbrev pub Takes : Mine → ℕ → Mine → Type 0
@@ -158,13 +160,14 @@ ClosesOn k m m' = OfLoader m.0 (λ l.
 abbrev pub Closes : Step (Option Edition) → Mine → ℕ → Mine → Type 0
 Closes st m n m' = (k : ℕ) × (st.word ≡ k + 1) × ClosesOn k m m'
 
--- the shelf is free and its slots are out with the loader, or the count was above 0
+-- the shelf, found at the word n, is free and its slots are out with the loader, or the count was above 0
 abbrev pub CollectsFound : LoaderView → ℕ → ℕ → ℕ → Bool → Mine → Type 0
 CollectsFound l k version n true m' =
     (f : ℕ → Option Edition) × (known : Known) × (m' ≡ (View.Loading (with_free l k known), down_from f (16 * k) 16 []))
-    × Noted l (Event.Collect k) Reply.Freed known
+    × Noted l (Event.Collect k) Reply.Freed known × FoundAt known (Event.Collect k) k n
 CollectsFound l k version n false m' =
     (known : Known) × (m' ≡ (View.Loading (with_hand l None known), [])) × Noted l (Event.Collect k) (Reply.Busy (n % 256)) known × (0 < n % 256)
+    × FoundAt known (Event.Collect k) k n
 
 abbrev pub CollectsOn : ℕ → ℕ → ℕ → Mine → Mine → Type 0
 CollectsOn k version n m m' = OfLoader m.0 (λ l. CollectsFound l k version n (n == 512 + 65536 * version) m')

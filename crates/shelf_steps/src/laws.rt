@@ -1,6 +1,6 @@
 //! What the rule of the shelves says, and the steps that keep it, one by one. Functions without arguments do nothing: their
 //! contracts are the laws.
-ghost use Rattle.shelf_steps.specs.Laws.{WordsAreTheLoaders, CountsAreWorkers, NumbersDiffer, HeldHaveEditions, SlotsOutAreHeld, SlotsAtHomeAreFilled, LooksAreSo, OneHistory, OneStateIsShown};
+ghost use Rattle.shelf_steps.specs.Laws.{WordsAreTheLoaders, CountsAreWorkers, NumbersDiffer, HeldHaveEditions, SlotsOutAreHeld, SlotsAtHomeAreFilled, LooksAreSo, OneSeatLoads, OneHistory, OneStateIsShown};
 ghost use Rattle.shelf_steps.specs.Events.{LooksAreEvents, TakesAreEvents, DropsAreEvents, OpensAreEvents, PublishesAreEvents, ClosesAreEvents, CollectsAreEvents, SpareTriesAreEvents, LateTakesTell, LateTakesRise};
 
 pub use crate::blocks::{empty_block, fill_block};
@@ -18,6 +18,7 @@ pub fn the_rule_says()
     ensures out { SlotsOutAreHeld }
     ensures home { SlotsAtHomeAreFilled }
     ensures looks { LooksAreSo }
+    ensures loader { OneSeatLoads }
     ensures history { OneHistory }
 {}
 

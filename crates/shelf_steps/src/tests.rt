@@ -48,14 +48,14 @@ fn a_late_take_at_the_shelf_opened_again(rt: HostRuntime) -> Result<(), Fail> {
     assert!(&rt; loader.close(&table, 0));
     assert_eq!(&rt; loader.collect(&table, 0), Some(0));
     assert!(&rt; loader.open(&table, alloc, 0, &image(alloc, 3)?)?);
-    assert_eq!(&rt; worker.take(&table), Some(false));
+    assert_eq!(&rt; worker.take(&table), Some(None));
     assert_eq!(&rt; table.word(1), 196865);
     assert!(&rt; worker.leave(&table));
     assert_eq!(&rt; table.word(1), 196864);
     assert!(&rt; loader.publish(&table, 0));
     assert_eq!(&rt; table.word(0), 24);
     assert_eq!(&rt; worker.look(&table), Some(24));
-    assert_eq!(&rt; worker.take(&table), Some(true));
+    assert_eq!(&rt; worker.take(&table), Some(Some(3)));
     assert!(&rt; loader.close(&table, 1));
     assert_eq!(&rt; loader.collect(&table, 1), Some(0));
     Ok(())
@@ -70,7 +70,7 @@ fn a_late_take_before_the_shelf_is_opened_again(rt: HostRuntime) -> Result<(), F
     assert!(&rt; loader.publish(&table, 1));
     assert!(&rt; loader.close(&table, 0));
     assert_eq!(&rt; loader.collect(&table, 0), Some(0));
-    assert_eq!(&rt; worker.take(&table), Some(false));
+    assert_eq!(&rt; worker.take(&table), Some(None));
     assert_eq!(&rt; table.word(1), 1);
     assert!(&rt; loader.open(&table, alloc, 0, &image(alloc, 3)?)?);
     assert_eq!(&rt; table.word(1), 196865);
@@ -79,11 +79,35 @@ fn a_late_take_before_the_shelf_is_opened_again(rt: HostRuntime) -> Result<(), F
     Ok(())
 }
 
+/// How often something rare came about.
+#[derive(Default, Drop)]
+struct Rare {
+    late_at_free: u32,
+    late_at_open: u32,
+    opened_over_late: u32,
+    busy_with_two: u32,
+}
+
+impl Rare {
+    /// The worker came late: what became of its shelf is counted.
+    fn came_late(&mut self, core: &Core, number: usize) {
+        let Some(Worker::Late { shelf }) = core.worker(number) else {
+            return;
+        };
+        match core.shelf(shelf) {
+            Some(Shelf::Free) => self.late_at_free = self.late_at_free.wrapping_add(1),
+            Some(Shelf::Open { .. }) => self.late_at_open = self.late_at_open.wrapping_add(1),
+            Some(Shelf::Closing { .. }) | None => {}
+        }
+    }
+}
+
 /// One step of a worker, here and in the state machine: whether both tell the same.
 fn worker_steps(
     table: &ShelfTable,
     worker: &mut WorkerSteps,
     core: &mut Core,
+    rare: &mut Rare,
     number: usize,
     choice: u64,
 ) -> bool
@@ -99,12 +123,16 @@ fn worker_steps(
             _ => false,
         },
         1 => match (worker.take(table), core.take(number)) {
-            (Some(holds), Reply::Holds { version: _ }) => holds,
-            (Some(holds), Reply::Late) => !holds,
+            (Some(Some(held)), Reply::Holds { version }) => held == version,
+            (Some(None), Reply::Late) => {
+                rare.came_late(core, number);
+                true
+            }
             (None, Reply::NotNow) => true,
             _ => false,
         },
-        _ => worker.leave(table) == (core.leave(number) == Reply::Dropped),
+        2 => worker.leave(table) == (core.leave(number) == Reply::Dropped),
+        _ => true,
     }
 }
 
@@ -113,6 +141,7 @@ fn loader_steps(
     table: &ShelfTable,
     loader: &mut LoaderSteps,
     core: &mut Core,
+    rare: &mut Rare,
     alloc: Global,
     image: &Arc<Verified, Global>,
     shelf: usize,
@@ -125,6 +154,9 @@ fn loader_steps(
         0 => match core.free_shelf() {
             Some(free) => {
                 let opened = free < 8 && loader.open(table, alloc, free, image)?;
+                if opened && table.word(free + 1) % 256 > 0 {
+                    rare.opened_over_late = rare.opened_over_late.wrapping_add(1);
+                }
                 let reply = core.open(0)?;
                 Ok(opened == (reply != Reply::NotNow))
             }
@@ -141,7 +173,12 @@ fn loader_steps(
         2 => Ok(loader.close(table, shelf) == (core.close(shelf) == Reply::Closing)),
         _ => Ok(match (loader.collect(table, shelf), core.collect(shelf)) {
             (Some(found), Reply::Freed) => found == 0,
-            (Some(found), Reply::Busy { count }) => found == count,
+            (Some(found), Reply::Busy { count }) => {
+                if found > 1 {
+                    rare.busy_with_two = rare.busy_with_two.wrapping_add(1);
+                }
+                found == count
+            }
             (None, Reply::NotNow) => true,
             _ => false,
         }),
@@ -182,6 +219,7 @@ fn words_agree(table: &ShelfTable, core: &Core) -> bool {
     agree
 }
 
+/// Two workers that leave seldom, and a loader that closes and collects the first four shelves.
 #[test]
 fn random_steps_beside_the_state_machine(rt: HostRuntime) -> Result<(), Fail> {
     let alloc: Global = rt.alloc();
@@ -193,20 +231,34 @@ fn random_steps_beside_the_state_machine(rt: HostRuntime) -> Result<(), Fail> {
     let mut first = WorkerSteps::of(first);
     let mut second = WorkerSteps::of(second);
     let mut core = Core::new(alloc)?;
-    let mut random = 1u64;
+    let mut rare = Rare::default();
+    let mut random = 19u64;
     for _round in 0..2000u32 {
         random = random
             .wrapping_mul(6364136223846793005)
             .wrapping_add(1442695040888963407);
         let choice = random / 8589934592 % 4;
-        let shelf = (random / 1099511627776 % 8) as usize;
-        let same = match random / 281474976710656 % 4 {
-            0 => worker_steps(&table, &mut first, &mut core, 0, choice),
-            1 => worker_steps(&table, &mut second, &mut core, 1, choice),
-            _ => loader_steps(&table, &mut loader, &mut core, alloc, &image, shelf, choice)?,
+        let shelf = (random / 1099511627776 % 4) as usize;
+        let same = match random / 281474976710656 % 8 {
+            0 => worker_steps(&table, &mut first, &mut core, &mut rare, 0, choice),
+            1 => worker_steps(&table, &mut second, &mut core, &mut rare, 1, choice),
+            _ => loader_steps(
+                &table,
+                &mut loader,
+                &mut core,
+                &mut rare,
+                alloc,
+                &image,
+                shelf,
+                choice,
+            )?,
         };
         assert!(&rt; same);
         assert!(&rt; words_agree(&table, &core));
     }
+    assert!(&rt; rare.late_at_free > 3);
+    assert!(&rt; rare.late_at_open > 3);
+    assert!(&rt; rare.opened_over_late > 3);
+    assert!(&rt; rare.busy_with_two > 3);
     Ok(())
 }

@@ -64,9 +64,9 @@ impl WorkerSteps {
         }
     }
 
-    /// Whether the worker holds the version, where it had looked at one.
+    /// The version that the worker holds, or none where it is late, where it had looked at one.
     #[tactic(auto, using(crate::proofs::Stepping::looked_now, crate::proofs::Stepping::held_so, crate::proofs::Stepping::late_so))]
-    pub(crate) fn take(&mut self, shelves: &ShelfTable) -> Option<bool>
+    pub(crate) fn take(&mut self, shelves: &ShelfTable) -> Option<Option<u64>>
         requires { self.old ≡ shelves.now }
         ensures { self.new ≡ self.old }
     {
@@ -75,10 +75,10 @@ impl WorkerSteps {
                 let word = take(shelves, &mut self.place, shelf);
                 if says_open(word, version) {
                     self.now = Worker::Holding { shelf, version };
-                    Some(true)
+                    Some(Some(version))
                 } else {
                     self.now = Worker::Late { shelf };
-                    Some(false)
+                    Some(None)
                 }
             }
             Worker::Idle | Worker::Late { .. } | Worker::Holding { .. } => None,

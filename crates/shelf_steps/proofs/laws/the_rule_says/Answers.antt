@@ -1,4 +1,5 @@
-use Rattle.shelf_steps.proofs.Says.{words_are, counts_are, numbers_differ, held_have, slots_out, slots_home, looks_are, one_history}
+use Rattle.shelf_steps.proofs.Says.{words_are, counts_are, numbers_differ, held_have, slots_out, slots_home, looks_are, one_loads}
+use Rattle.shelf_steps.proofs.Shown.{one_history}
 use Rattle.shelf_steps.proofs.laws.the_rule_says.Goals as goal
 
 pub returns-clause-words : goal.returns-clause-words
@@ -24,3 +25,6 @@ returns-clause-looks c = looks_are
 
 pub returns-clause-history : goal.returns-clause-history
 returns-clause-history c = one_history
+
+pub returns-clause-loader : goal.returns-clause-loader
+returns-clause-loader c = one_loads
