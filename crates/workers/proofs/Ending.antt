@@ -1,37 +1,66 @@
 -- How a session and an order end.
-use Rattle.std.proofs.Common.{◌≡◌, ◌<◌, ℕ, List, Option, Result, refl, subst, inl}
+use Rattle.std.proofs.Common.{◌≡◌, ◌<◌, ◌∷◌, ◌++◌, ℕ, List, [], Option, Result, Err, refl, subst, inl}
 use Rattle.epochs.specs.Seats.{SeatValue}
 use Rattle.epochs.specs.declared.seats.LoaderAnswer.{LoaderAnswer}
+use Rattle.feed_loader.specs.Faults.{failed_by, failed_in}
+use Rattle.feed_loader.specs.declared.fault.LoadFault.{LoadFault}
 use Rattle.orders.specs.Ordering.{OrderValue}
 use Rattle.session.specs.declared.fault.Ended.{Ended}
 use Rattle.session.specs.declared.fault.SessionFault.{SessionFault}
 use Rattle.session.specs.Sessions.{LastRelease, Serves}
 use Rattle.workers.specs.Ends.{end_of}
 use Rattle.workers.specs.Loading.{IsEarly, IsNotPublished}
-use Rattle.workers.specs.Sessions.{IsSession}
+use Rattle.workers.specs.Sessions.{AreServed, IsServed, IsSession}
+use Rattle.workers.specs.declared.clients.ConnFault.{ConnFault}
 use Rattle.workers.specs.declared.refusal.LoadRefusal.{LoadRefusal}
 use Rattle.workers.specs.declared.served.End.{End}
+use Rattle.workers.specs.declared.streams.Streams.{Streams}
 
--- what is served from a counted reader and writer is served from what they hold
-pub session_of : (number : ℕ) (end : End) (result : Result Ended SessionFault) (counted_to_read to_read counted_contents contents read_then contents_then : Option (List ℕ))
+-- what is served from a new counted reader and writer is served from what they hold, and each failure is counted
+pub session_of : (number : ℕ) (end : End) (result : Result Ended SessionFault) (counted_to_read to_read read_then counted_contents contents contents_then : Option (List ℕ))
     (reads reads_then writes writes_then : ℕ) (a b last : SeatValue) (asked asked_then : List OrderValue)
-    → end ≡ end_of result → counted_to_read ≡ to_read → counted_contents ≡ contents → LastRelease number last b
+    → end ≡ end_of result → counted_to_read ≡ to_read → counted_contents ≡ contents → reads ≡ 0 → writes ≡ 0 → LastRelease number last b
     → Serves number result counted_to_read read_then counted_contents contents_then (reads < reads_then) (writes < writes_then) a asked last asked_then
-    → IsSession number end to_read contents a asked b asked_then
-session_of number end result counted_to_read to_read counted_contents contents read_then contents_then reads reads_then writes writes_then a b last asked asked_then end_is same_read same_contents released serves = record {
-  result = result;
-  read_then = read_then;
-  contents_then = contents_then;
-  last = last;
-  failed_reads = (reads, reads_then);
-  failed_writes = (writes, writes_then);
-  end_is = end_is;
-  released = released;
-  serves = subst (λ c. Serves number result to_read read_then c contents_then (reads < reads_then) (writes < writes_then) a asked last asked_then) same_contents
-      (subst (λ r. Serves number result r read_then counted_contents contents_then (reads < reads_then) (writes < writes_then) a asked last asked_then) same_read serves);
-}
+    → IsSession number end to_read read_then contents contents_then (0 < reads_then) (0 < writes_then) a asked b asked_then
+session_of number end result counted_to_read to_read read_then counted_contents contents contents_then reads reads_then writes writes_then a b last asked asked_then end_is same_read same_contents no_reads no_writes released serves =
+    let read = subst (λ r. Serves number result r read_then counted_contents contents_then (reads < reads_then) (writes < writes_then) a asked last asked_then) same_read serves in
+    let written = subst (λ c. Serves number result to_read read_then c contents_then (reads < reads_then) (writes < writes_then) a asked last asked_then) same_contents read in
+    let from_no_read = subst (λ n. Serves number result to_read read_then contents contents_then (n < reads_then) (writes < writes_then) a asked last asked_then) no_reads written in
+    record {
+      result = result;
+      last = last;
+      end_is = end_is;
+      released = released;
+      serves = subst (λ n. Serves number result to_read read_then contents contents_then (0 < reads_then) (n < writes_then) a asked last asked_then) no_writes from_no_read;
+    }
+
+module _ {C R W : Type 0} (opens : C → Result (R × W) ConnFault → Type 0) (remaining : R → Option (List ℕ)) (contents : W → Option (List ℕ)) (number : ℕ) where
+  -- one client more is served behind the others
+  pub served_also : (ends : List End) (end : End) (client : C) (now : Option (Streams R W)) (a m b : SeatValue) (asked between asked_then : List OrderValue)
+      → AreServed opens remaining contents number ends a asked m between → IsServed opens remaining contents number client now end m between b asked_then
+      → AreServed opens remaining contents number (ends ++ end ∷ []) a asked b asked_then
+  served_also [] end client now a m b asked between asked_then before also =
+      let at_seat = subst (λ seat. IsServed opens remaining contents number client now end seat between b asked_then) before.0 also in
+      (client, now, b, asked_then, subst (λ orders. IsServed opens remaining contents number client now end a orders b asked_then) before.1 at_seat, (refl, refl))
+  served_also (first ∷ ends) end client now a m b asked between asked_then before also =
+      (before.0, before.1, before.2, before.3, before.4, served_also ends end client now before.2 m b before.3 between asked_then before.5 also)
 
 -- what is told before a publish was tried leaves the loader's seat as it was
 pub not_published : (answers : List LoaderAnswer) (refusal : LoadRefusal) → IsEarly refusal → IsNotPublished answers refusal answers
 not_published answers (LoadRefusal.Load fault) early = refl
 not_published answers (LoadRefusal.Publish fault) early = inl (refl, early)
+
+-- how many reads failed is told by the fault alone
+pub failed_in_same : {A B : Type 0} (fault : LoadFault) → failed_in {A} (Err fault) ≡ failed_in {B} (Err fault)
+failed_in_same (LoadFault.Table fault) = refl
+failed_in_same (LoadFault.Day fault) = refl
+failed_in_same (LoadFault.Footpaths fault) = refl
+failed_in_same (LoadFault.Image fault) = refl
+failed_in_same (LoadFault.FileFailed table) = refl
+
+pub failed_by_same : {A B : Type 0} (before : List (List ℕ)) (fault : LoadFault) → failed_by {A} before (Err fault) ≡ failed_by {B} before (Err fault)
+failed_by_same before (LoadFault.Table fault) = refl
+failed_by_same before (LoadFault.Day fault) = refl
+failed_by_same before (LoadFault.Footpaths fault) = refl
+failed_by_same before (LoadFault.Image fault) = refl
+failed_by_same before (LoadFault.FileFailed table) = refl
