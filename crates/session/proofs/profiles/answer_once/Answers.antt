@@ -9,4 +9,4 @@ returns-in-Err-clause-met g c = profile_refused _ _ _ _ _ _ c.requires.idle c.in
 pub returns-clause-met : goal.returns-clause-met
 returns-clause-met g c =
     let known = subst (λ n. HoldsInHistory n (g.T.Versions.value c.pin.new.seat).held) c.in_default.ensures.number c.in_default.ensures.known in
-    profile_met_once _ _ _ _ _ _ _ _ _ c.in_default.ensures.pin known c.in-Some.ensures c.release.ensures.release c.answer_from.ensures
+    profile_met_once _ _ _ _ _ _ _ _ _ c.in_default.ensures.pin known c.in-Some.ensures c.release.ensures.release c.answer_from-reply.ensures
