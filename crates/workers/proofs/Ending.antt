@@ -1,9 +1,7 @@
 -- How a session and an order end.
-use Rattle.std.proofs.Common.{◌≡◌, ◌<◌, ◌∷◌, ◌++◌, ℕ, List, [], Option, Result, Err, refl, subst, inl}
+use Rattle.std.proofs.Common.{◌≡◌, ◌<◌, ◌∷◌, ◌++◌, ℕ, List, [], Option, Result, refl, sym, subst, inl}
 use Rattle.epochs.specs.Seats.{SeatValue}
 use Rattle.epochs.specs.declared.seats.LoaderAnswer.{LoaderAnswer}
-use Rattle.feed_loader.specs.Faults.{failed_by, failed_in}
-use Rattle.feed_loader.specs.declared.fault.LoadFault.{LoadFault}
 use Rattle.orders.specs.Ordering.{OrderValue}
 use Rattle.session.specs.declared.fault.Ended.{Ended}
 use Rattle.session.specs.declared.fault.SessionFault.{SessionFault}
@@ -45,22 +43,16 @@ module _ {C R W : Type 0} (opens : C → Result (R × W) ConnFault → Type 0) (
   served_also (first ∷ ends) end client now a m b asked between asked_then before also =
       (before.0, before.1, before.2, before.3, before.4, served_also ends end client now before.2 m b before.3 between asked_then before.5 also)
 
+  -- and the ends are those from before with its own
+  pub served_next : (number_then : ℕ) (ends ends_then : List End) (client : C) (now : Option (Streams R W)) (a m b : SeatValue) (asked between asked_then : List OrderValue)
+      → number_then ≡ number → AreServed opens remaining contents number ends a asked m between
+      → ((end : End) × (ends_then ≡ ends ++ end ∷ []) × IsServed opens remaining contents number_then client now end m between b asked_then)
+      → AreServed opens remaining contents number ends_then a asked b asked_then
+  served_next number_then ends ends_then client now a m b asked between asked_then same before also =
+      let one = subst (λ n. IsServed opens remaining contents n client now also.0 m between b asked_then) same also.2 in
+      subst (λ all. AreServed opens remaining contents number all a asked b asked_then) (sym also.1) (served_also ends also.0 client now a m b asked between asked_then before one)
+
 -- what is told before a publish was tried leaves the loader's seat as it was
 pub not_published : (answers : List LoaderAnswer) (refusal : LoadRefusal) → IsEarly refusal → IsNotPublished answers refusal answers
 not_published answers (LoadRefusal.Load fault) early = refl
 not_published answers (LoadRefusal.Publish fault) early = inl (refl, early)
-
--- how many reads failed is told by the fault alone
-pub failed_in_same : {A B : Type 0} (fault : LoadFault) → failed_in {A} (Err fault) ≡ failed_in {B} (Err fault)
-failed_in_same (LoadFault.Table fault) = refl
-failed_in_same (LoadFault.Day fault) = refl
-failed_in_same (LoadFault.Footpaths fault) = refl
-failed_in_same (LoadFault.Image fault) = refl
-failed_in_same (LoadFault.FileFailed table) = refl
-
-pub failed_by_same : {A B : Type 0} (before : List (List ℕ)) (fault : LoadFault) → failed_by {A} before (Err fault) ≡ failed_by {B} before (Err fault)
-failed_by_same before (LoadFault.Table fault) = refl
-failed_by_same before (LoadFault.Day fault) = refl
-failed_by_same before (LoadFault.Footpaths fault) = refl
-failed_by_same before (LoadFault.Image fault) = refl
-failed_by_same before (LoadFault.FileFailed table) = refl

@@ -100,7 +100,7 @@ pub(crate) fn work<R: Wait, C: Client + Drop, T: Versions, O: Orders, G: Gate>(
         let Ok(client) = clients.recv(rt) else {
             break;
         };
-        let _ = serve_client(
+        drop(serve_client(
             rt,
             alloc,
             client,
@@ -109,7 +109,7 @@ pub(crate) fn work<R: Wait, C: Client + Drop, T: Versions, O: Orders, G: Gate>(
             &mut orders,
             gate,
             &mut served,
-        );
+        ));
     }
     (served, seat, orders)
 }
