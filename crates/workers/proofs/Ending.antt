@@ -15,42 +15,55 @@ use Rattle.workers.specs.declared.served.End.{End}
 use Rattle.workers.specs.declared.streams.Streams.{Streams}
 
 -- what is served from a new counted reader and writer is served from what they hold, and each failure is counted
-pub session_of : (number : ℕ) (end : End) (result : Result Ended SessionFault) (counted_to_read to_read read_then counted_contents contents contents_then : Option (List ℕ))
+pub session_of : (number : ℕ) (end : End) (result : Result Ended SessionFault)
+    (counted_to_read to_read read_then counted_contents contents contents_then : Option (List ℕ))
     (reads reads_then writes writes_then : ℕ) (a b last : SeatValue) (asked asked_then : List OrderValue)
     → end ≡ end_of result → counted_to_read ≡ to_read → counted_contents ≡ contents → reads ≡ 0 → writes ≡ 0 → LastRelease number last b
-    → Serves number result counted_to_read read_then counted_contents contents_then (reads < reads_then) (writes < writes_then) a asked last asked_then
+    → Serves number result counted_to_read read_then counted_contents contents_then (reads < reads_then) (writes < writes_then)
+      a asked last asked_then
     → IsSession number end to_read read_then contents contents_then (0 < reads_then) (0 < writes_then) a asked b asked_then
-session_of number end result counted_to_read to_read read_then counted_contents contents contents_then reads reads_then writes writes_then a b last asked asked_then end_is same_read same_contents no_reads no_writes released serves =
-    let read = subst (λ r. Serves number result r read_then counted_contents contents_then (reads < reads_then) (writes < writes_then) a asked last asked_then) same_read serves in
-    let written = subst (λ c. Serves number result to_read read_then c contents_then (reads < reads_then) (writes < writes_then) a asked last asked_then) same_contents read in
-    let from_no_read = subst (λ n. Serves number result to_read read_then contents contents_then (n < reads_then) (writes < writes_then) a asked last asked_then) no_reads written in
+session_of number end result counted_to_read to_read read_then counted_contents contents contents_then
+    reads reads_then writes writes_then a b last asked asked_then end_is same_read same_contents no_reads no_writes released serves =
+    let Told = λ (first held : Option (List ℕ)) (n m : ℕ).
+        Serves number result first read_then held contents_then (n < reads_then) (m < writes_then) a asked last asked_then in
+    let read = subst (λ first. Told first counted_contents reads writes) same_read serves in
+    let written = subst (λ held. Told to_read held reads writes) same_contents read in
+    let from_no_read = subst (λ n. Told to_read contents n writes) no_reads written in
     record {
       result = result;
       last = last;
       end_is = end_is;
       released = released;
-      serves = subst (λ n. Serves number result to_read read_then contents contents_then (0 < reads_then) (n < writes_then) a asked last asked_then) no_writes from_no_read;
+      serves = subst (λ m. Told to_read contents 0 m) no_writes from_no_read;
     }
 
-module _ {C R W : Type 0} (opens : C → Result (R × W) ConnFault → Type 0) (remaining : R → Option (List ℕ)) (contents : W → Option (List ℕ)) (number : ℕ) where
+module _ {C R W : Type 0} (opens : C → Result (R × W) ConnFault → Type 0)
+    (remaining : R → Option (List ℕ)) (contents : W → Option (List ℕ)) (number : ℕ) where
   -- one client more is served behind the others
-  pub served_also : (ends : List End) (end : End) (client : C) (now : Option (Streams R W)) (a m b : SeatValue) (asked between asked_then : List OrderValue)
-      → AreServed opens remaining contents number ends a asked m between → IsServed opens remaining contents number client now end m between b asked_then
+  pub served_also : (ends : List End) (end : End) (client : C) (now : Option (Streams R W)) (a m b : SeatValue)
+      (asked between asked_then : List OrderValue)
+      → AreServed opens remaining contents number ends a asked m between
+      → IsServed opens remaining contents number client now end m between b asked_then
       → AreServed opens remaining contents number (ends ++ end ∷ []) a asked b asked_then
   served_also [] end client now a m b asked between asked_then before also =
-      let at_seat = subst (λ seat. IsServed opens remaining contents number client now end seat between b asked_then) before.0 also in
-      (client, now, b, asked_then, subst (λ orders. IsServed opens remaining contents number client now end a orders b asked_then) before.1 at_seat, (refl, refl))
+      let from_seat = subst (λ seat. IsServed opens remaining contents number client now end seat between b asked_then) before.0 also in
+      let from_both = subst (λ orders. IsServed opens remaining contents number client now end a orders b asked_then) before.1 from_seat in
+      (client, now, b, asked_then, from_both, (refl, refl))
   served_also (first ∷ ends) end client now a m b asked between asked_then before also =
-      (before.0, before.1, before.2, before.3, before.4, served_also ends end client now before.2 m b before.3 between asked_then before.5 also)
+      let rest = served_also ends end client now before.2 m b before.3 between asked_then before.5 also in
+      (before.0, before.1, before.2, before.3, before.4, rest)
 
   -- and the ends are those from before with its own
-  pub served_next : (number_then : ℕ) (ends ends_then : List End) (client : C) (now : Option (Streams R W)) (a m b : SeatValue) (asked between asked_then : List OrderValue)
+  pub served_next : (number_then : ℕ) (ends ends_then : List End) (client : C) (now : Option (Streams R W)) (a m b : SeatValue)
+      (asked between asked_then : List OrderValue)
       → number_then ≡ number → AreServed opens remaining contents number ends a asked m between
-      → ((end : End) × (ends_then ≡ ends ++ end ∷ []) × IsServed opens remaining contents number_then client now end m between b asked_then)
+      → ((end : End) × (ends_then ≡ ends ++ end ∷ [])
+      × IsServed opens remaining contents number_then client now end m between b asked_then)
       → AreServed opens remaining contents number ends_then a asked b asked_then
   served_next number_then ends ends_then client now a m b asked between asked_then same before also =
       let one = subst (λ n. IsServed opens remaining contents n client now also.0 m between b asked_then) same also.2 in
-      subst (λ all. AreServed opens remaining contents number all a asked b asked_then) (sym also.1) (served_also ends also.0 client now a m b asked between asked_then before one)
+      let all = served_also ends also.0 client now a m b asked between asked_then before one in
+      subst (λ list. AreServed opens remaining contents number list a asked b asked_then) (sym also.1) all
 
 -- what is told before a publish was tried leaves the loader's seat as it was
 pub not_published : (answers : List LoaderAnswer) (refusal : LoadRefusal) → IsEarly refusal → IsNotPublished answers refusal answers

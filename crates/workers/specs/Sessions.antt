@@ -12,7 +12,8 @@ use Rattle.workers.specs.declared.served.End.{End}
 use Rattle.workers.specs.declared.streams.Streams.{Streams}
 
 -- a session is served at this seat, from what was to be read to what is, and ends so
-pub record IsSession (number : ℕ) (end : End) (to_read read_then contents contents_then : Option (List ℕ)) (read_failed write_failed : Type 0)
+pub record IsSession (number : ℕ) (end : End) (to_read read_then contents contents_then : Option (List ℕ))
+    (read_failed write_failed : Type 0)
     (a : SeatValue) (asked : List OrderValue) (b : SeatValue) (asked_then : List OrderValue) : Type 0 where
   pub result : Result Ended SessionFault
   pub last : SeatValue
@@ -30,7 +31,8 @@ module _ {C R W : Type 0} (opens : C → Result (R × W) ConnFault → Type 0) (
   -- the client's own reader and writer are served, which are so now, counted from no failure; or there are none
   abbrev pub IsServed : ℕ → C → Option (Streams R W) → End → SeatValue → List OrderValue → SeatValue → List OrderValue → Type 0
   IsServed number client (Some now) end a asked b asked_then =
-      (was : R × W) × opens client (Ok was) × IsSession number end (remaining was.0) (remaining (inner_of now.reader)) (contents was.1) (contents (inner_of now.writer))
+      (was : R × W) × opens client (Ok was)
+      × IsSession number end (remaining was.0) (remaining (inner_of now.reader)) (contents was.1) (contents (inner_of now.writer))
       (0 < failures_of now.reader) (0 < failures_of now.writer) a asked b asked_then
   IsServed number client None end a asked b asked_then = (fault : ConnFault) × opens client (Err fault) × IsUnopened end a asked b asked_then
 

@@ -13,6 +13,8 @@ loop-preserved g c =
       finite = tt;
       fits = one.ensures.fits;
       number = one.ensures.number ∙ was.number;
-      served = served_next g.C.Client.opens g.C.Reader.Read.remaining g.C.Writer.Write.contents (g.T.Versions.number c.args.seat) (g.T.Versions.number c.loop.seat) c.loop.served one.new.served c.in-Ok.client one.result
-          (value c.args.seat) (value c.loop.seat) (value one.new.seat) (asked c.args.orders) (asked c.loop.orders) (asked one.new.orders) was.number was.served one.ensures.session;
+      served = served_next g.C.Client.opens g.C.Reader.Read.remaining g.C.Writer.Write.contents
+          (g.T.Versions.number c.args.seat) (g.T.Versions.number c.loop.seat) c.loop.served one.new.served c.in-Ok.client one.result
+          (value c.args.seat) (value c.loop.seat) (value one.new.seat)
+          (asked c.args.orders) (asked c.loop.orders) (asked one.new.orders) was.number was.served one.ensures.session;
     }

@@ -8,5 +8,6 @@ invariant-loop g l = record {
   finite : (goal.iterator-loop g).is_finite l.iterator';
   fits : g.T.Versions.fits l.shelves l.seat;
   number : g.T.Versions.number l.seat ≡ g.T.Versions.number l.fn.seat;
-  served : AreServed g.C.Client.opens g.C.Reader.Read.remaining g.C.Writer.Write.contents (g.T.Versions.number l.fn.seat) l.served (g.T.Versions.value l.fn.seat) (g.O.Orders.asked l.fn.orders) (g.T.Versions.value l.seat) (g.O.Orders.asked l.orders);
+  served : AreServed g.C.Client.opens g.C.Reader.Read.remaining g.C.Writer.Write.contents (g.T.Versions.number l.fn.seat)
+      l.served (g.T.Versions.value l.fn.seat) (g.O.Orders.asked l.fn.orders) (g.T.Versions.value l.seat) (g.O.Orders.asked l.orders);
 }
