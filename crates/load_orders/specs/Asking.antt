@@ -3,11 +3,11 @@ use Rattle.std.specs.Prelude.{◌≡◌, ◌<◌, ℕ, List, slice_get, Some, �
 use Rattle.crossbeam_channel.specs.Fifo.{Held}
 use Rattle.orders.specs.Ordering.{OrderValue}
 use Rattle.orders.specs.declared.fault.OrderFault.{OrderFault}
-use Rattle.load_orders.specs.Queue.{AtMostFour}
+use Rattle.load_orders.specs.Queue.{AtMostFour, EndValue}
 
 pub record WorkerOrdersValue : Type 0 where
   pub names : List (List ℕ)  -- of the feeds, by place
-  pub put : List ℕ  -- the places of the feeds that this end ordered, in order
+  pub end : EndValue  -- by which it orders feeds, by place
   pub asked : List OrderValue  -- all orders that were asked for here, refused ones too
 
 -- the first feed of this name

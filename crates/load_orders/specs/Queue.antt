@@ -1,5 +1,6 @@
 -- The queue of orders.
-use Rattle.std.specs.Prelude.{◌≡◌, ◌≤◌, ◌++◌, ◌∷◌, List, [], length}
+use Rattle.std.specs.Prelude.{◌≡◌, ◌≤◌, ◌++◌, ◌∷◌, ℕ, List, [], length}
+use Rattle.atomic_table.specs.Seated.{TableId}
 use Rattle.load_orders.specs.declared.queue.Order.{Order}
 use Rattle.load_orders.specs.declared.queue.Known.{Known}
 
@@ -14,3 +15,12 @@ nothing = record { orders = [] }
 -- an end puts an order, or takes one
 abbrev pub IsOneMore : Known → Order → Known → Type 0
 IsOneMore before order after = after ≡ record { orders = before.orders ++ order.feed ∷ [] }
+
+-- which queue, of all that there are
+abbrev pub QueueId : Type 0
+QueueId = TableId
+
+-- an end of a queue, at which orders of feeds are put, or are taken
+pub record EndValue : Type 0 where
+  pub queue : QueueId
+  pub feeds : List ℕ  -- of the orders that were put or taken here, in order

@@ -13,7 +13,7 @@ use std::marker::Model;
 use std::sync::Wait;
 use timetable::Trace;
 
-/// An end of the queue at which orders are put. Contracts see the places of the feeds that it ordered, in order.
+/// An end of the queue at which orders are put. Contracts see which queue, and the places of the feeds that it ordered, in order.
 #[derive(Drop)]
 pub struct OrderEnd {
     sender: OrderSender,
@@ -21,13 +21,14 @@ pub struct OrderEnd {
 }
 
 impl Model for OrderEnd {
-    ghost use Rattle.std.specs.Prelude.{◌≡◌, ℕ, List};
+    ghost use Rattle.std.specs.Prelude.{◌≡◌};
     ghost use Rattle.crossbeam_channel.specs.Claims.{IsSeatAt, view as view_of};
     ghost use Rattle.crossbeam_channel.specs.Ends.{sends_on, ruled_capacity};
+    ghost use Rattle.load_orders.specs.Queue.{EndValue};
 
-    ghost Value = { List ℕ };
+    ghost Value = { EndValue };
 
-    ghost view = { λ s. (view_of s.pass).orders };
+    ghost view = { λ s. record { queue = s.pass.table_id; feeds = (view_of s.pass).orders } };
 
     ghost invariant = { λ s. IsSeatAt (sends_on s.sender) s.pass × (ruled_capacity (sends_on s.sender) ≡ 4) };
 }
@@ -46,10 +47,10 @@ impl<'a> Model for WorkerOrders<'a> {
 
     ghost Value = { WorkerOrdersValue };
 
-    ghost view = { λ s. record { names = map string_bytes s.names.now; put = s.end; asked = s.asked } };
+    ghost view = { λ s. record { names = map string_bytes s.names.now; end = s.end; asked = s.asked } };
 }
 
-/// The loader's end of the queue. Contracts see the feeds of the orders that it took, in order.
+/// The loader's end of the queue. Contracts see which queue, and the feeds of the orders that it took, in order.
 #[derive(Drop)]
 pub struct LoaderOrders {
     receiver: OrderReceiver,
@@ -57,21 +58,22 @@ pub struct LoaderOrders {
 }
 
 impl Model for LoaderOrders {
-    ghost use Rattle.std.specs.Prelude.{ℕ, List};
     ghost use Rattle.crossbeam_channel.specs.Claims.{IsSeatAt, view as view_of};
     ghost use Rattle.crossbeam_channel.specs.Ends.{receives_on};
+    ghost use Rattle.load_orders.specs.Queue.{EndValue};
 
-    ghost Value = { List ℕ };
+    ghost Value = { EndValue };
 
-    ghost view = { λ s. (view_of s.pass).orders };
+    ghost view = { λ s. record { queue = s.pass.table_id; feeds = (view_of s.pass).orders } };
 
     ghost invariant = { λ s. IsSeatAt (receives_on s.receiver) s.pass };
 }
 
 /// An empty queue for four orders: its first end, and the loader's.
 pub fn order_queue(alloc: Global) -> Result<(OrderEnd, LoaderOrders), AllocError>
-    ensures end { IfOk result (λ ends. ends.0 ≡ []) }
-    ensures loader { IfOk result (λ ends. ends.1 ≡ []) }
+    ensures queue { IfOk result (λ ends. ends.0.queue ≡ ends.1.queue) }
+    ensures end { IfOk result (λ ends. ends.0.feeds ≡ []) }
+    ensures loader { IfOk result (λ ends. ends.1.feeds ≡ []) }
 {
     let (sender, receiver, mut pass) = bounded_with(alloc, MOST_WAITING)?;
     let taking = sender.another::<Another>(&mut pass);
@@ -83,10 +85,11 @@ pub fn order_queue(alloc: Global) -> Result<(OrderEnd, LoaderOrders), AllocError
 }
 
 impl OrderEnd {
-    /// Another end, at which nothing was put yet.
+    /// Another end of this queue, at which nothing was put yet.
     pub fn another(&mut self) -> Result<OrderEnd, AllocError>
         ensures same { self.new ≡ self.old }
-        ensures another { IfOk result (λ end. end ≡ []) }
+        ensures queue { IfOk result (λ end. end.queue ≡ self.old.queue) }
+        ensures another { IfOk result (λ end. end.feeds ≡ []) }
     {
         let sender = self.sender.try_clone()?;
         let pass = self.sender.another::<Another>(&mut self.pass);
@@ -95,7 +98,8 @@ impl OrderEnd {
 
     // Puts an order, where there is room.
     fn put<R: Wait>(&mut self, rt: &R, order: Order) -> Result<(), OrderFault>
-        ensures put { OnOk result (self.new ≡ self.old ++ order.feed ∷ []) }
+        ensures queue { self.new.queue ≡ self.old.queue }
+        ensures put { OnOk result (self.new.feeds ≡ self.old.feeds ++ order.feed ∷ []) }
         ensures refused { IfErr result (λ fault. IsTurnedAway fault × (self.new ≡ self.old)) }
     {
         match self
@@ -113,7 +117,7 @@ impl OrderEnd {
 impl<'a> WorkerOrders<'a> {
     /// Orders of feeds of these names, by this end. Nothing was asked for yet.
     pub fn new(names: &'a [String], end: OrderEnd) -> WorkerOrders<'a>
-        ensures { result ≡ record { names = map string_bytes names.now; put = end; asked = [] } }
+        ensures { result ≡ record { names = map string_bytes names.now; end = end; asked = [] } }
     {
         WorkerOrders {
             names,
@@ -131,8 +135,9 @@ impl<'a> Orders for WorkerOrders<'a> {
     fn order<R: Wait>(&mut self, rt: &R, feed: &str) -> Result<(), OrderFault>
         ensures asked { self.new.asked ≡ self.old.asked ++ order_value feed.now result ∷ [] }
         ensures names { self.new.names ≡ self.old.names }
-        ensures put { IfOk result (λ _. (place : ℕ) × IsFirst self.old.names feed.now place × (self.new.put ≡ self.old.put ++ place ∷ [])) }
-        ensures refused { IfErr result (λ fault. RefusesOrder self.old.names feed.now fault × (self.new.put ≡ self.old.put)) }
+        ensures queue { self.new.end.queue ≡ self.old.end.queue }
+        ensures put { IfOk result (λ _. (place : ℕ) × IsFirst self.old.names feed.now place × (self.new.end.feeds ≡ self.old.end.feeds ++ place ∷ [])) }
+        ensures refused { IfErr result (λ fault. RefusesOrder self.old.names feed.now fault × (self.new.end ≡ self.old.end)) }
     {
         let outcome = match place_of(self.names, feed) {
             Some(place) => self.end.put(rt, Order { feed: place }),
@@ -147,7 +152,8 @@ impl LoaderOrders {
     /// Takes the order that waits longest, or waits for one. None comes only where the queue was empty at some moment of the call;
     /// that the workers' ends are gone then, tests show.
     pub fn next<R: Wait>(&mut self, rt: &R) -> Option<Order>
-        ensures { MatchOption result (self.new ≡ self.old) (λ order. self.new ≡ self.old ++ order.feed ∷ []) }
+        ensures queue { self.new.queue ≡ self.old.queue }
+        ensures taken { MatchOption result (self.new.feeds ≡ self.old.feeds) (λ order. self.new.feeds ≡ self.old.feeds ++ order.feed ∷ []) }
     {
         self.receiver.recv_as::<Moves, R>(rt, &mut self.pass).ok()
     }

@@ -18,4 +18,6 @@ pub use serving::{MOST_REQUESTS, serve};
 pub use solo_orders::{FeedImage, SoloOrders};
 
 #[cfg(test)]
+mod scripted_tests;
+#[cfg(test)]
 mod tests;

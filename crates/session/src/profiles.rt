@@ -1,6 +1,6 @@
 //! Profiles, answered from an edition of an image.
 
-ghost use Rattle.std.specs.Prelude.{◌≡◌, ◌⊎◌, IfOk, map, string_bytes};
+ghost use Rattle.std.specs.Prelude.{◌≡◌, ◌⊎◌, None, IfOk, map, string_bytes};
 ghost use Rattle.std.specs.Arc.{arc_value};
 ghost use Rattle.timetable.specs.Queries.{IsAskable};
 ghost use Rattle.journeys.specs.Texts.{text_of};
@@ -39,6 +39,24 @@ pub(crate) fn answer_profile<R: Wait, T: Versions, G: Gate>(
     if let Some(edition) = T::edition(seat) {
         return answer_from(alloc, edition, gate, ask);
     }
+    answer_once(rt, alloc, shelves, seat, gate, ask)
+}
+
+// Answers from the current version, which is given back.
+fn answer_once<R: Wait, T: Versions, G: Gate>(
+    rt: &R,
+    alloc: Global,
+    shelves: &T,
+    seat: &mut T::Seat,
+    gate: &G,
+    ask: &Ask<'_>,
+) -> Reply
+    requires fits { T.fits shelves.now seat.old }
+    requires idle { (T.value seat.old).held ≡ None }
+    ensures fits { T.fits shelves.now seat.new }
+    ensures number { T.number seat.new ≡ T.number seat.old }
+    ensures met { IsMet (T.number seat.old) (T.value seat.old) (asks (profile (ask_value ask.now))) (text_of_reply result) (T.value seat.new) }
+{
     if let Err(fault) = shelves.pin(rt, seat) {
         return Reply::pin_fault(fault);
     }

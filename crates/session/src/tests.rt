@@ -4,6 +4,7 @@ use crate::{Counted, Ended, FeedImage, OpenGate, SessionFault, SoloOrders, serve
 use epochs::{LoaderSeat, SoloShelves, WorkerSeat};
 use image_layout::sample_words;
 use image_verifier::{Verified, verify};
+use orders::Gate;
 use std::alloc::{AllocError, Global};
 use std::io;
 use std::io::{Read, Write};
@@ -12,10 +13,10 @@ use std::test::Fail;
 
 // A reader that gives so many bytes at once at most, and behind the last of them fails or is at its end.
 #[derive(Drop)]
-struct Pieces<'a> {
-    rest: &'a [u8],
-    most: usize,
-    is_failing: bool,
+pub(crate) struct Pieces<'a> {
+    pub(crate) rest: &'a [u8],
+    pub(crate) most: usize,
+    pub(crate) is_failing: bool,
 }
 
 impl Read for Pieces<'_> {
@@ -33,8 +34,8 @@ impl Read for Pieces<'_> {
 
 // A writer that takes so many bytes in all, and then fails or takes none.
 #[derive(Drop)]
-struct Taker {
-    taken: Vec<u8>,
+pub(crate) struct Taker {
+    pub(crate) taken: Vec<u8>,
     room: usize,
     is_failing: bool,
 }
@@ -58,13 +59,15 @@ impl Write for Taker {
     }
 }
 
-// A reader of LF without end.
+// A reader of one byte, over and over.
 #[derive(Drop)]
-struct EmptyLines;
+struct Endless {
+    byte: u8,
+}
 
-impl Read for EmptyLines {
+impl Read for Endless {
     fn read(&mut self, room: &mut [u8]) -> io::Result<usize> {
-        room.fill(b'\n');
+        room.fill(self.byte);
         Ok(room.len())
     }
 }
@@ -87,7 +90,7 @@ impl Write for Tally {
 }
 
 /// The sample, in which changing at B takes so many seconds.
-fn image(alloc: Global, change: u32) -> Result<Arc<Verified, Global>, Fail> {
+pub(crate) fn image(alloc: Global, change: u32) -> Result<Arc<Verified, Global>, Fail> {
     let mut words = sample_words().to_vec(alloc)?;
     if let Some(word) = words.get_mut(34) {
         *word = change;
@@ -195,19 +198,44 @@ fn served_from<R: Wait>(
     room: usize,
     is_failing: bool,
 ) -> Result<(Result<Ended, SessionFault>, Vec<u8>), Fail> {
-    let (shelves, loader, mut seat) = new_shelves(alloc, first)?;
     let mut feeds = Vec::new(alloc);
-    feeds.push(FeedImage {
-        name: String::from_str(alloc, "slow")?,
-        image: slow,
-    })?;
-    let mut orders = SoloOrders::new(&shelves, loader, feeds);
-    let mut reader = Counted::new(reader);
-    let mut writer = Counted::new(Taker {
+    feeds.push(feed_of(alloc, "slow", slow)?)?;
+    let taker = taker_of(alloc, room, is_failing);
+    let (ended, taker) = talked(rt, alloc, first, feeds, reader, taker, &OpenGate)?;
+    Ok((ended, taker.taken))
+}
+
+pub(crate) fn taker_of(alloc: Global, room: usize, is_failing: bool) -> Taker {
+    Taker {
         taken: Vec::new(alloc),
         room,
         is_failing,
-    });
+    }
+}
+
+pub(crate) fn feed_of(
+    alloc: Global,
+    name: &str,
+    image: Arc<Verified, Global>,
+) -> Result<FeedImage, AllocError> {
+    let name = String::from_str(alloc, name)?;
+    Ok(FeedImage { name, image })
+}
+
+/// Serves a reader and a writer on new shelves: what came of it, and the writer.
+pub(crate) fn talked<R: Wait, In: Read + Drop, Out: Write + Drop, G: Gate>(
+    rt: &R,
+    alloc: Global,
+    first: Arc<Verified, Global>,
+    feeds: Vec<FeedImage>,
+    reader: In,
+    writer: Out,
+    gate: &G,
+) -> Result<(Result<Ended, SessionFault>, Out), Fail> {
+    let (shelves, loader, mut seat) = new_shelves(alloc, first)?;
+    let mut orders = SoloOrders::new(&shelves, loader, feeds);
+    let mut reader = Counted::new(reader);
+    let mut writer = Counted::new(writer);
     let ended = serve(
         rt,
         alloc,
@@ -216,9 +244,9 @@ fn served_from<R: Wait>(
         &shelves,
         &mut seat,
         &mut orders,
-        &OpenGate,
+        gate,
     );
-    Ok((ended, writer.into_inner().taken))
+    Ok((ended, writer.into_inner()))
 }
 
 #[test]
@@ -246,7 +274,7 @@ fn a_writer_that_fails_ends_the_session(rt: HostRuntime) -> Result<(), Fail> {
             most: 100_000,
             is_failing: false,
         };
-        let (ended, written) = served(&rt, rt.alloc(), reader, room, room % 2 == 0)?;
+        let (ended, written) = served(&rt, rt.alloc(), reader, room, room % 2 == 1)?;
         assert!(&rt; ended == Err(SessionFault::WriteFailed));
         assert!(&rt; REPLIES.as_bytes().starts_with(&written));
         assert_eq!(&rt; written.len(), room);
@@ -255,42 +283,37 @@ fn a_writer_that_fails_ends_the_session(rt: HostRuntime) -> Result<(), Fail> {
 }
 
 #[test]
-fn a_reader_that_fails_ends_the_session(rt: HostRuntime) -> Result<(), Fail> {
-    let bytes = requests(rt.alloc())?;
-    let (front, _) = bytes.split_at(bytes.len().min(60));
-    let reader = Pieces {
-        rest: front,
-        most: 7,
-        is_failing: true,
-    };
-    let (ended, written) = served(&rt, rt.alloc(), reader, 100_000, true)?;
-    assert!(&rt; ended == Err(SessionFault::ReadFailed));
-    assert_eq!(&rt;
-        str::from_utf8(&written).unwrap_or("?"),
-        "{\"base\":1705276800,\"ok\":\"pin\",\"version\":1}\n{\"feed\":\"slow\",\"ok\":\"load\"}\n"
-    );
+fn a_million_requests_are_answered(rt: HostRuntime) -> Result<(), Fail> {
+    let (ended, bytes) = tallied(&rt, rt.alloc(), b'\n')?;
+    assert!(&rt; ended == Err(SessionFault::TooManyRequests));
+    assert_eq!(&rt; bytes, 31_000_000);
     Ok(())
 }
 
 #[test]
-fn a_million_requests_are_answered(rt: HostRuntime) -> Result<(), Fail> {
-    let (shelves, loader, mut seat) = new_shelves(rt.alloc(), image(rt.alloc(), 0)?)?;
-    let mut orders = SoloOrders::new(&shelves, loader, Vec::new(rt.alloc()));
-    let mut reader = Counted::new(EmptyLines);
-    let mut writer = Counted::new(Tally { bytes: 0 });
-    let ended = serve(
-        &rt,
-        rt.alloc(),
-        &mut reader,
-        &mut writer,
-        &shelves,
-        &mut seat,
-        &mut orders,
-        &OpenGate,
-    );
-    assert!(&rt; ended == Err(SessionFault::TooManyRequests));
-    assert_eq!(&rt; writer.into_inner().bytes, 31_000_000);
+fn a_line_without_end_ends_the_session(rt: HostRuntime) -> Result<(), Fail> {
+    let (ended, bytes) = tallied(&rt, rt.alloc(), b'x')?;
+    assert!(&rt; ended == Err(SessionFault::ReadFailed));
+    assert_eq!(&rt; bytes, 0);
     Ok(())
+}
+
+// Serves this byte over and over: what came of it, and how many bytes were written.
+fn tallied<R: Wait>(
+    rt: &R,
+    alloc: Global,
+    byte: u8,
+) -> Result<(Result<Ended, SessionFault>, u64), Fail> {
+    let (ended, tally) = talked(
+        rt,
+        alloc,
+        image(alloc, 0)?,
+        Vec::new(alloc),
+        Endless { byte },
+        Tally { bytes: 0 },
+        &OpenGate,
+    )?;
+    Ok((ended, tally.bytes))
 }
 
 const BY_WALKING: &str =

@@ -1,9 +1,10 @@
 -- What comes of an order to load a feed.
-use Rattle.std.specs.Prelude.{◌≡◌, ◌⊎◌, ℕ, List}
+use Rattle.std.specs.Prelude.{◌≡◌, ◌⊎◌, ℕ, List, Result, Ok, Err}
 use Rattle.image_layout.specs.Image.{ImageValue}
 use Rattle.connections.specs.declared.report.Report.{Report}
 use Rattle.feed_files.specs.Reading.{Content}
 use Rattle.feed_loader.specs.Refused.{IsLoadRefusal, IsLoaded, IsWantOfMemory}
+use Rattle.feed_loader.specs.declared.fault.LoadFault.{LoadFault}
 use Rattle.feed_loader.specs.declared.plan.Plan.{Plan}
 use Rattle.epochs.specs.Seats.{PublishStep, RefuseStep, CollectStep}
 use Rattle.epochs.specs.declared.collected.Collected.{Collected}
@@ -36,3 +37,12 @@ pub record IsPublished (before : List LoaderAnswer) (image : ImageValue) (versio
 abbrev pub IsNotPublished : List LoaderAnswer → LoadRefusal → List LoaderAnswer → Type 0
 IsNotPublished before (LoadRefusal.Load fault) after = after ≡ before
 IsNotPublished before (LoadRefusal.Publish fault) after = ((after ≡ before) × (fault ≡ PublishFault.OutOfMemory)) ⊎ RefuseStep before fault after
+
+-- what the reading of the files came to
+abbrev pub reading_refused : LoadRefusal → Result (Unit {0}) LoadFault
+reading_refused (LoadRefusal.Load fault) = Err fault
+reading_refused (LoadRefusal.Publish fault) = Ok tt
+
+abbrev pub reading : {T : Type 0} → Result T LoadRefusal → Result (Unit {0}) LoadFault
+reading (Ok t) = Ok tt
+reading (Err refusal) = reading_refused refusal

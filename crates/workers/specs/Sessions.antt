@@ -1,27 +1,44 @@
--- What a client's session does.
-use Rattle.std.specs.Prelude.{◌≡◌, ◌<◌, ℕ, Option, List, Result}
+-- What clients' sessions do.
+use Rattle.std.specs.Prelude.{◌≡◌, ◌<◌, ◌∷◌, ℕ, Option, Some, None, List, [], Result, Ok, Err}
 use Rattle.epochs.specs.Seats.{SeatValue}
+use Rattle.lines.specs.Counting.{failures_of, inner_of}
 use Rattle.orders.specs.Ordering.{OrderValue}
 use Rattle.session.specs.declared.fault.Ended.{Ended}
 use Rattle.session.specs.declared.fault.SessionFault.{SessionFault}
 use Rattle.session.specs.Sessions.{LastRelease, Serves}
 use Rattle.workers.specs.Ends.{end_of}
+use Rattle.workers.specs.declared.clients.ConnFault.{ConnFault}
 use Rattle.workers.specs.declared.served.End.{End}
+use Rattle.workers.specs.declared.streams.Streams.{Streams}
 
--- a session is served at this seat from what is to be read, and ends so
-pub record IsSession (number : ℕ) (end : End) (to_read contents : Option (List ℕ)) (a : SeatValue) (asked : List OrderValue) (b : SeatValue) (asked_then : List OrderValue) : Type 0 where
+-- a session is served at this seat, from what was to be read to what is, and ends so
+pub record IsSession (number : ℕ) (end : End) (to_read read_then contents contents_then : Option (List ℕ))
+    (read_failed write_failed : Type 0)
+    (a : SeatValue) (asked : List OrderValue) (b : SeatValue) (asked_then : List OrderValue) : Type 0 where
   pub result : Result Ended SessionFault
-  pub read_then : Option (List ℕ)
-  pub contents_then : Option (List ℕ)
   pub last : SeatValue
-  pub failed_reads : ℕ × ℕ  -- before and after
-  pub failed_writes : ℕ × ℕ
   pub end_is : end ≡ end_of result
   pub released : LastRelease number last b
-  pub serves : Serves number result to_read read_then contents contents_then (failed_reads.0 < failed_reads.1) (failed_writes.0 < failed_writes.1) a asked last asked_then
+  pub serves : Serves number result to_read read_then contents contents_then read_failed write_failed a asked last asked_then
 
 -- a client that can't be opened changes nothing
 pub record IsUnopened (end : End) (a : SeatValue) (asked : List OrderValue) (b : SeatValue) (asked_then : List OrderValue) : Type 0 where
   pub end_is : end ≡ End.Failed
   pub seat : b ≡ a
   pub orders : asked_then ≡ asked
+
+module _ {C R W : Type 0} (opens : C → Result (R × W) ConnFault → Type 0) (remaining : R → Option (List ℕ)) (contents : W → Option (List ℕ)) where
+  -- the client's own reader and writer are served, which are so now, counted from no failure; or there are none
+  abbrev pub IsServed : ℕ → C → Option (Streams R W) → End → SeatValue → List OrderValue → SeatValue → List OrderValue → Type 0
+  IsServed number client (Some now) end a asked b asked_then =
+      (was : R × W) × opens client (Ok was)
+      × IsSession number end (remaining was.0) (remaining (inner_of now.reader)) (contents was.1) (contents (inner_of now.writer))
+      (0 < failures_of now.reader) (0 < failures_of now.writer) a asked b asked_then
+  IsServed number client None end a asked b asked_then = (fault : ConnFault) × opens client (Err fault) × IsUnopened end a asked b asked_then
+
+  -- clients are served at this seat one after the other, and their sessions end so
+  abbrev pub AreServed : ℕ → List End → SeatValue → List OrderValue → SeatValue → List OrderValue → Type 0
+  AreServed number [] a asked b asked_then = (b ≡ a) × (asked_then ≡ asked)
+  AreServed number (end ∷ ends) a asked b asked_then =
+      (client : C) × (now : Option (Streams R W)) × (m : SeatValue) × (between : List OrderValue)
+      × IsServed number client now end a asked m between × AreServed number ends m between b asked_then

@@ -1,6 +1,6 @@
 //! Who is served.
 
-ghost use Rattle.std.specs.Prelude.{Result};
+ghost use Rattle.std.specs.Prelude.{Result, MatchOption, ⊤};
 ghost use Rattle.workers.specs.declared.clients.ConnFault.{ConnFault};
 
 use std::io::{Read, Write};
@@ -25,6 +25,10 @@ pub trait Client {
 
 /// Clients, one after the other.
 pub trait Clients<C> {
+    // That there is no further client.
+    ghost none_left: { Self → Type 0 };
+
     /// The next client; it may be long in coming. None after the last.
-    fn next(&mut self) -> Option<C>;
+    fn next(&mut self) -> Option<C>
+        ensures { MatchOption result (none_left self.new) (λ _. ⊤) };
 }

@@ -1,6 +1,7 @@
 //! The feeds that may be ordered.
 
-ghost use Rattle.std.specs.Prelude.{◌≡◌, ◌≤◌, IfSome};
+ghost use Rattle.std.specs.Prelude.{◌≡◌, ◌≤◌, List, String, length, MatchOption};
+ghost use Rattle.std.specs.Global.{Global};
 ghost use Rattle.connections.specs.declared.days.TheConstants.{MAX_DAYS};
 
 use feed_loader::{FeedFiles, Plan};
@@ -9,15 +10,19 @@ use feed_loader::{FeedFiles, Plan};
 pub trait Feeds {
     type Files: FeedFiles + Send + Drop;
 
+    // Their names, by place.
+    ghost named: { Self → List (String Global) };
+
     /// Their names, by place.
-    fn names(&self) -> &[String];
+    fn names(&self) -> &[String]
+        ensures { result.now ≡ named self.now };
 
     /// What is made of each.
     fn plan(&self) -> &Plan
         ensures some { 1 ≤ result.now.days }
         ensures few { result.now.days ≤ MAX_DAYS };
 
-    /// The files of the feed at the place, of which none was read yet. None where there is no such place.
+    /// The files of the feed at the place, of which no read has failed yet. None only where there is no such place.
     fn files(&self, place: usize) -> Option<Self::Files>
-        ensures { IfSome result (λ files. Self.Files.failures files ≡ 0) };
+        ensures { MatchOption result (length (named self.now) ≤ place) (λ files. Self.Files.failures files ≡ 0) };
 }

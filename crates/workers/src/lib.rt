@@ -8,6 +8,7 @@ mod refusal;
 mod running;
 mod served;
 mod serving;
+mod streams;
 
 pub use clients::{Client, Clients, ConnFault};
 pub use feeds::Feeds;
@@ -16,6 +17,7 @@ pub use refusal::LoadRefusal;
 pub use running::{WorkersFault, run_workers};
 pub use served::{End, Served};
 pub use serving::serve_client;
+pub use streams::Streams;
 
 #[cfg(test)]
 mod tests;

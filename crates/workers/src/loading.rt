@@ -1,12 +1,13 @@
 //! The loader: order after order.
 
-ghost use Rattle.std.specs.Prelude.{◌≡◌, ◌<◌, ◌≤◌, ◌-◌, ◌^◌, IfOk, IfErr, MatchResult};
+ghost use Rattle.std.specs.Prelude.{◌≡◌, ◌<◌, ◌≤◌, ◌+◌, ◌-◌, ◌^◌, IfOk, IfErr, MatchResult};
 ghost use Rattle.std.specs.Arc.{arc_value};
 ghost use Rattle.image_layout.specs.Image.{ImageValue};
 ghost use Rattle.connections.specs.declared.days.TheConstants.{MAX_DAYS};
 ghost use Rattle.feed_files.specs.Reading.{Content, Tells};
+ghost use Rattle.feed_loader.specs.Faults.{failed_by, failed_in};
 ghost use Rattle.epochs.specs.Seats.{RefuseStep};
-ghost use Rattle.workers.specs.Loading.{IsEarly, IsImageOf, IsNotPublished, IsPublished, MayRefuse};
+ghost use Rattle.workers.specs.Loading.{IsEarly, IsImageOf, IsNotPublished, IsPublished, MayRefuse, reading};
 
 use crate::feeds::Feeds;
 use crate::refusal::LoadRefusal;
@@ -14,7 +15,8 @@ use epochs::{Loads, PublishFault};
 use feed_loader::{FeedFiles, Plan, load};
 use image_verifier::Verified;
 use load_orders::LoaderOrders;
-use std::alloc::{AllocError, Global};
+use std::alloc::Global;
+use std::io;
 use std::io::Write;
 use std::sync::{Arc, Wait};
 
@@ -32,6 +34,9 @@ pub fn load_one<R: Wait, F: FeedFiles, T: Loads>(
     requires some { 1 ≤ plan.now.days }
     requires few { plan.now.days ≤ MAX_DAYS }
     ensures loads { T.loads shelves.now loader.new }
+    ensures same { F.holds files.new ≡ F.holds files.old }
+    ensures failures { F.failures files.new ≡ F.failures files.old + failed_in (reading result) }
+    ensures failed { F.failed files.new ≡ failed_by (F.failed files.old) (reading result) }
     ensures ok { (content : Content) → Tells (F.holds files.old) content → IfOk result (λ version. (image : ImageValue) × IsImageOf content plan.now image × IsPublished (T.answers loader.old) image version (T.answers loader.new)) }
     ensures err { (content : Content) → Tells (F.holds files.old) content → IfErr result (MayRefuse content plan.now) }
     ensures refused { IfErr result (λ refusal. IsNotPublished (T.answers loader.old) refusal (T.answers loader.new)) }
@@ -54,6 +59,9 @@ fn shared_image<F: FeedFiles>(
     requires failures { F.failures files.old < 2 ^ 64 - 1 }
     requires some { 1 ≤ plan.now.days }
     requires few { plan.now.days ≤ MAX_DAYS }
+    ensures same { F.holds files.new ≡ F.holds files.old }
+    ensures failures { F.failures files.new ≡ F.failures files.old + failed_in (reading result) }
+    ensures failed { F.failed files.new ≡ failed_by (F.failed files.old) (reading result) }
     ensures ok { (content : Content) → Tells (F.holds files.old) content → IfOk result (λ image. IsImageOf content plan.now (arc_value image)) }
     ensures err { (content : Content) → Tells (F.holds files.old) content → IfErr result (MayRefuse content plan.now) }
     ensures early { IfErr result IsEarly }
@@ -130,26 +138,22 @@ fn load_feed<R: Wait, T: Loads, F: Feeds, E: Write>(
     requires { T.loads shelves.now loader.old }
     ensures { T.loads shelves.now loader.new }
 {
-    let Some(mut files) = feeds.files(place) else {
+    let (Some(name), Some(mut files)) = (feeds.names().get(place), feeds.files(place)) else {
         return;
     };
     let outcome = load_one(rt, alloc, &mut files, feeds.plan(), shelves, loader);
-    if let Some(name) = feeds.names().get(place)
-        && let Ok(line) = line_of(alloc, name.as_str(), outcome)
-    {
-        // The loader goes on where its line can't be written.
-        let _ = errors.write_all(line.as_bytes());
-    }
+    // The loader goes on where its line can't be written.
+    let _ = tell(errors, name.as_str(), outcome);
 }
 
-// The line that tells what came of an order.
-fn line_of(
-    alloc: Global,
+// Tells what came of an order. It takes no memory.
+fn tell<E: Write>(
+    errors: &mut E,
     name: &str,
     outcome: Result<u64, LoadRefusal>,
-) -> Result<String, AllocError> {
+) -> io::Result<()> {
     match outcome {
-        Ok(version) => format!(in alloc; "loaded {name} version {version}\n"),
-        Err(refusal) => format!(in alloc; "load {name} refused {refusal}\n"),
+        Ok(version) => write!(errors, "loaded {name} version {version}\n"),
+        Err(refusal) => write!(errors, "load {name} refused {refusal}\n"),
     }
 }

@@ -1,13 +1,14 @@
 //! The workers and the loader, in one scope.
 
 ghost use denote.Param.Send.{IsSend, IsSync};
-ghost use Rattle.std.specs.Prelude.{◌≤◌, All, length};
+ghost use Rattle.std.specs.Prelude.{◌≤◌, All, length, IfOk};
 
 use crate::clients::{Client, Clients};
 use crate::feeds::Feeds;
 use crate::loading::load_all;
 use crate::served::Served;
 use crate::serving::work;
+use crossbeam_channel::Sender;
 use epochs::{Loads, Versions};
 use feed_loader::FeedFiles;
 use load_orders::{WorkerOrders, order_queue};
@@ -31,12 +32,13 @@ impl From<AllocError> for WorkersFault {
 }
 
 /// Serves all clients, with a worker for each seat, and loads the feeds that they order; what came of a load is told to the
-/// error writer. It returns when there are no more clients, all sessions have ended, and all orders were carried out.
+/// error writer. It returns when there are no more clients, all sessions have ended, and all orders were carried out; who asked for
+/// clients comes back.
 pub fn run_workers<
     I: Read + Send + Drop,
     O: Write + Send + Drop,
     C: Client<Reader = I, Writer = O> + Drop + Send,
-    K: Clients<C>,
+    K: Clients<C> + Drop,
     S: Send + Drop,
     L: Send + Drop,
     T: Versions<Seat = S> + Loads<Loader = L> + Sync,
@@ -48,26 +50,28 @@ pub fn run_workers<
 >(
     rt: &R,
     alloc: Global,
-    clients: &mut K,
+    clients: K,
     shelves: &T,
     seats: Vec<S>,
     loader: L,
     feeds: &F,
     gate: &G,
     errors: E,
-) -> Result<Served, WorkersFault>
+) -> Result<(Served, K), WorkersFault>
     requires seats { All (T.Versions.fits shelves.now) seats.items }
     requires loader { T.Loads.loads shelves.now loader }
     requires some { 1 ≤ length seats.items }
     requires few { length seats.items ≤ 16 }
+    ensures { IfOk result (λ served. K.none_left served.1) }
 {
     let (to, from) = crossbeam_channel::bounded(alloc, 1)?;
     let (mut asks, orders) = order_queue(alloc)?;
     thread::scope(
         thread::scope_env(),
         rt,
-        move |scope| -> Result<Served, WorkersFault>
+        move |scope| -> Result<(Served, K), WorkersFault>
             requires { IsSync R.row × IsSync T.row × IsSync F.row × IsSync G.row × IsSend S.row × IsSend L.row × IsSend C.row × IsSend I.row × IsSend O.row × IsSend D.row × IsSend E.row × All (T.Versions.fits shelves.now) seats.items × T.Loads.loads shelves.now loader }
+            ensures { IfOk result (λ served. K.none_left served.1) }
         {
             let Ok(loading) = scope.spawn(
                 move || -> ()
@@ -107,13 +111,7 @@ pub fn run_workers<
                 }
             }
             drop(from);
-            for _ in rt.forever() {
-                let Some(client) = clients.next() else {
-                    break;
-                };
-                let _ = to.send(rt, client);
-            }
-            drop(to);
+            let clients = send_all(rt, clients, to);
             let mut served = Served::new();
             for worker in workers {
                 served.join(worker.join(rt));
@@ -121,7 +119,22 @@ pub fn run_workers<
             // No order is refused for want of a loader before all sessions have ended.
             drop(asks);
             loading.join(rt);
-            Ok(served)
+            Ok((served, clients))
         },
     )
+}
+
+// Sends each client to the workers, until there are no more. A client that no worker takes any more is dropped.
+fn send_all<R: Wait, C: Drop, K: Clients<C>>(rt: &R, mut clients: K, to: Sender<C>) -> K
+    ensures { K.none_left result }
+{
+    for _ in rt.forever() {
+        match clients.next() {
+            Some(client) => {
+                let _ = to.send(rt, client);
+            }
+            None => return clients,
+        }
+    }
+    unreachable!()
 }

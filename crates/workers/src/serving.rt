@@ -1,20 +1,24 @@
 //! A worker: client after client on its seat.
 
-ghost use Rattle.std.specs.Prelude.{◌≡◌, None, Result, MatchResult};
-ghost use Rattle.workers.specs.Sessions.{IsSession, IsUnopened};
-ghost use Rattle.workers.specs.declared.clients.ConnFault.{ConnFault};
+ghost use Rattle.std.specs.Prelude.{◌≡◌, ◌<◌, ◌∷◌, ◌++◌, [], None};
+ghost use Rattle.lines.specs.Counting.{failures_of, inner_of};
+ghost use Rattle.workers.specs.Sessions.{AreServed, IsServed, IsSession};
+ghost use Rattle.workers.specs.declared.served.End.{End};
 
 use crate::clients::{Client, ConnFault};
 use crate::served::{End, Served, end_of};
+use crate::streams::Streams;
 use crossbeam_channel::Receiver;
 use epochs::Versions;
+use lines::Counted;
 use orders::{Gate, Orders};
-use session::{Counted, serve};
+use session::serve;
 use std::alloc::Global;
 use std::io::{Read, Write};
 use std::sync::Wait;
 
-/// Serves a client at this seat; how its session ended. A client that can't be opened is a session that failed.
+/// Serves a client at this seat, and adds how its session ended. A client that can't be opened is a session that failed, and then
+/// there is no reader and no writer to give back.
 pub fn serve_client<R: Wait, C: Client, T: Versions, O: Orders, G: Gate>(
     rt: &R,
     alloc: Global,
@@ -23,23 +27,30 @@ pub fn serve_client<R: Wait, C: Client, T: Versions, O: Orders, G: Gate>(
     seat: &mut T::Seat,
     orders: &mut O,
     gate: &G,
-) -> End
+    served: &mut Served,
+) -> Option<Streams<C::Reader, C::Writer>>
     requires { T.fits shelves.now seat.old }
     ensures fits { T.fits shelves.now seat.new }
     ensures number { T.number seat.new ≡ T.number seat.old }
     ensures idle { (T.value seat.old).held ≡ None → (T.value seat.new).held ≡ None }
-    ensures session { (opened : Result (C.Reader × C.Writer) ConnFault) × C.opens client opened
-        × MatchResult opened
-        (λ ends. IsSession (T.number seat.old) result (C.Reader.remaining ends.0) (C.Writer.contents ends.1) (T.value seat.old) (O.asked orders.old) (T.value seat.new) (O.asked orders.new))
-        (λ _. IsUnopened result (T.value seat.old) (O.asked orders.old) (T.value seat.new) (O.asked orders.new)) }
+    ensures session { (end : End) × (served.new ≡ served.old ++ end ∷ [])
+        × IsServed C.opens C.Reader.remaining C.Writer.contents (T.number seat.old) client result end (T.value seat.old) (O.asked orders.old) (T.value seat.new) (O.asked orders.new) }
 {
     match client.open() {
-        Ok((reader, writer)) => serve_ends(rt, alloc, reader, writer, shelves, seat, orders, gate),
-        Err(ConnFault) => End::Failed,
+        Ok((reader, writer)) => {
+            let (end, streams) =
+                serve_streams(rt, alloc, reader, writer, shelves, seat, orders, gate);
+            served.add(end);
+            Some(streams)
+        }
+        Err(ConnFault) => {
+            served.add(End::Failed);
+            None
+        }
     }
 }
 
-fn serve_ends<R: Wait, In: Read + Drop, Out: Write + Drop, T: Versions, O: Orders, G: Gate>(
+fn serve_streams<R: Wait, In: Read + Drop, Out: Write + Drop, T: Versions, O: Orders, G: Gate>(
     rt: &R,
     alloc: Global,
     reader: In,
@@ -48,12 +59,13 @@ fn serve_ends<R: Wait, In: Read + Drop, Out: Write + Drop, T: Versions, O: Order
     seat: &mut T::Seat,
     orders: &mut O,
     gate: &G,
-) -> End
+) -> (End, Streams<In, Out>)
     requires { T.fits shelves.now seat.old }
     ensures fits { T.fits shelves.now seat.new }
     ensures number { T.number seat.new ≡ T.number seat.old }
     ensures idle { (T.value seat.new).held ≡ None }
-    ensures session { IsSession (T.number seat.old) result (In.remaining reader) (Out.contents writer) (T.value seat.old) (O.asked orders.old) (T.value seat.new) (O.asked orders.new) }
+    ensures session { IsSession (T.number seat.old) result.0 (In.remaining reader) (In.remaining (inner_of result.1.reader)) (Out.contents writer) (Out.contents (inner_of result.1.writer))
+        (0 < failures_of result.1.reader) (0 < failures_of result.1.writer) (T.value seat.old) (O.asked orders.old) (T.value seat.new) (O.asked orders.new) }
 {
     let mut reader = Counted::new(reader);
     let mut writer = Counted::new(writer);
@@ -67,10 +79,10 @@ fn serve_ends<R: Wait, In: Read + Drop, Out: Write + Drop, T: Versions, O: Order
         orders,
         gate,
     );
-    end_of(outcome)
+    (end_of(outcome), Streams { reader, writer })
 }
 
-/// Serves clients until there are no more. The seat and the orders come back.
+/// Serves clients until there are no more: how their sessions ended, in turn. The seat and the orders come back.
 pub(crate) fn work<R: Wait, C: Client + Drop, T: Versions, O: Orders, G: Gate>(
     rt: &R,
     alloc: Global,
@@ -81,14 +93,23 @@ pub(crate) fn work<R: Wait, C: Client + Drop, T: Versions, O: Orders, G: Gate>(
     gate: &G,
 ) -> (Served, T::Seat, O)
     requires { T.fits shelves.now seat }
+    ensures { AreServed C.opens C.Reader.remaining C.Writer.contents (T.number seat) result.0 (T.value seat) (O.asked orders) (T.value result.1) (O.asked result.2) }
 {
     let mut served = Served::new();
     for _ in rt.forever() {
         let Ok(client) = clients.recv(rt) else {
             break;
         };
-        let end = serve_client(rt, alloc, client, shelves, &mut seat, &mut orders, gate);
-        served.add(end);
+        drop(serve_client(
+            rt,
+            alloc,
+            client,
+            shelves,
+            &mut seat,
+            &mut orders,
+            gate,
+            &mut served,
+        ));
     }
     (served, seat, orders)
 }

@@ -1,6 +1,6 @@
 //! Clients over memory, served by threads.
 
-ghost use Rattle.std.specs.Prelude.{◌≡◌, ◌≤◌, length, IfOk};
+ghost use Rattle.std.specs.Prelude.{◌≡◌, ◌≤◌, [], length, IfOk};
 
 use super::*;
 use epochs::LockedShelves;
@@ -96,6 +96,8 @@ struct Row<C> {
 }
 
 impl<C> Clients<C> for Row<C> {
+    ghost none_left = { λ row. row.visitors.items ≡ [] };
+
     fn next(&mut self) -> Option<C> {
         self.visitors.pop()
     }
@@ -111,6 +113,8 @@ struct SlowFeed {
 
 impl Feeds for SlowFeed {
     type Files = MemoryFiles<'static>;
+
+    ghost named = { λ feed. feed.names.items };
 
     fn names(&self) -> &[String] {
         &self.names
@@ -208,10 +212,10 @@ fn serve_all<R: Threads + Wait + Sync + Abort, G: Gate + Sync>(
     let (shelves, loader, seats) = shelves_for(alloc, two)?;
     let feed = slow_feed(alloc)?;
     let told = Mutex::new(Vec::new(alloc));
-    let mut row = Row { visitors };
+    let row = Row { visitors };
     let errors = Shared { rt, bytes: &told };
-    let Ok(served) = run_workers(
-        rt, alloc, &mut row, &shelves, seats, loader, &feed, gate, errors,
+    let Ok((served, _)) = run_workers(
+        rt, alloc, row, &shelves, seats, loader, &feed, gate, errors,
     ) else {
         return Err(AllocError.into());
     };

@@ -1,0 +1,20 @@
+use Rattle.std.proofs.Common.{◌∙◌}
+use Rattle.workers.proofs.Ending.{served_next}
+use Rattle.workers.proofs.serving.work.Goals as goal
+
+pub loop-preserved : goal.loop-preserved
+loop-preserved g c =
+    let was = c.loop.invariant in
+    let one = c.serve_client in
+    let value = g.T.Versions.value in
+    let asked = g.O.Orders.asked in
+    record {
+      next = tt;
+      finite = tt;
+      fits = one.ensures.fits;
+      number = one.ensures.number ∙ was.number;
+      served = served_next g.C.Client.opens g.C.Reader.Read.remaining g.C.Writer.Write.contents
+          (g.T.Versions.number c.args.seat) (g.T.Versions.number c.loop.seat) c.loop.served one.new.served c.in-Ok.client one.result
+          (value c.args.seat) (value c.loop.seat) (value one.new.seat)
+          (asked c.args.orders) (asked c.loop.orders) (asked one.new.orders) was.number was.served one.ensures.session;
+    }
