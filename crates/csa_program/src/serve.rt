@@ -30,12 +30,15 @@ struct Folders<'a, H> {
     names: Vec<String>,
     feeds: &'a [NamedFolder<'a>],
     plan: Plan,
+    ghost named: { length names.items ≡ length feeds.now },
     ghost some: { 1 ≤ plan.days },
     ghost few: { plan.days ≤ MAX_DAYS },
 }
 
 impl<'a, H: Disk + Sync> Feeds for Folders<'a, H> {
     type Files = DiskFolder<'a, H>;
+
+    ghost named = { λ folders. folders.names.items };
 
     fn names(&self) -> &[String] {
         &self.names
@@ -92,10 +95,12 @@ pub fn run<
     listen(rt, alloc, &request, image, &folders, output, errors)
 }
 
-fn names_of(alloc: Global, feeds: &[NamedFolder<'_>]) -> Result<Vec<String>, AllocError> {
+fn names_of(alloc: Global, feeds: &[NamedFolder<'_>]) -> Result<Vec<String>, AllocError>
+    ensures { IfOk result (λ names. length names.items ≡ length feeds.now) }
+{
     let mut names = Vec::with_capacity(alloc, feeds.len())?;
-    for feed in feeds {
-        names.push(String::from_str(alloc, feed.name)?)?;
+    for place in 0..feeds.len() {
+        names.push(String::from_str(alloc, feeds[place].name)?)?;
     }
     Ok(names)
 }
@@ -131,11 +136,11 @@ fn listen<
     if begun != status::ACCEPTED {
         return begun;
     }
-    let mut door = Door::new(&listener, request.sessions);
+    let door = Door::new(&listener, request.sessions);
     match run_workers(
-        rt, alloc, &mut door, &shelves, seats, loader, folders, &OpenGate, errors,
+        rt, alloc, door, &shelves, seats, loader, folders, &OpenGate, errors,
     ) {
-        Ok(served) => tell_served(alloc, &served, door.has_failed(), output),
+        Ok((served, door)) => tell_served(alloc, &served, door.has_failed(), output),
         Err(_) => status::OUT_OF_MEMORY,
     }
 }

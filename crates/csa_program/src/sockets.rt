@@ -1,5 +1,7 @@
 //! Sessions over TCP.
 
+ghost use Rattle.std.specs.Prelude.{◌≡◌, ◌⊎◌, true, false, MatchOption, ⊤};
+
 use std::io::ErrorKind;
 use std::net::{TcpListener, TcpStream};
 use workers::{Client, Clients, ConnFault};
@@ -53,7 +55,9 @@ impl<'a> Door<'a> {
     }
 
     // Whoever is gone before it was accepted isn't counted.
-    fn accept(&mut self) -> Option<Connection> {
+    fn accept(&mut self) -> Option<Connection>
+        ensures { MatchOption result (self.new.failed ≡ true) (λ _. ⊤) }
+    {
         for _ in 0..u64::MAX {
             match self.listener.accept() {
                 Ok((stream, _)) => return Some(Connection { stream }),
@@ -71,9 +75,15 @@ impl<'a> Door<'a> {
 }
 
 impl<'a> Clients<Connection> for Door<'a> {
+    // Accepting failed, or as many as are wanted were accepted.
+    ghost none_left = { λ door. (door.failed ≡ true) ⊎ ((door.is_endless ≡ false) × (door.left ≡ 0)) };
+
     fn next(&mut self) -> Option<Connection> {
         if !self.is_endless {
-            self.left = self.left.checked_sub(1)?;
+            if self.left == 0 {
+                return None;
+            }
+            self.left -= 1;
         }
         self.accept()
     }
