@@ -1,13 +1,13 @@
 //! `csa build FOLDER OUT --first DAY --days N --zone ZONE [--strict] [--progress]`.
 
 use crate::planning::{PlanFailure, plan_of};
-use crate::progress::ToldFiles;
+use crate::progress::load_told;
 use crate::refusal::refuse_feed;
 use crate::status;
 use crate::writing::put_image;
 use command_line::{BuildRequest, WRONG_PLAN_FORM};
 use feed_files::FolderFiles;
-use feed_loader::{LoadFault, Report, load};
+use feed_loader::{LoadFault, Report};
 use std::alloc::{AllocError, Global};
 use std::io;
 use std::io::{ErrorKind, Write};
@@ -74,9 +74,8 @@ fn build<'a, H: Files + AllocGlobal, E: Write>(
     log: Option<&mut E>,
 ) -> Result<Report, Failure<'a>> {
     let plan = plan_of(rt, request.plan)?;
-    let mut files = ToldFiles::new(FolderFiles::new(rt, request.folder), log);
-    let (image, report) = load(rt.alloc(), &mut files, &plan)?;
-    files.tell(rt.alloc(), "writing", request.out);
+    let files = FolderFiles::new(rt, request.folder);
+    let (image, report) = load_told(rt.alloc(), files, &plan, request.out, log)?;
     match put_image(rt, request.out, image.words()) {
         Ok(()) => Ok(report),
         Err(error) => Err(write_failure(&error, request.out)),
