@@ -96,7 +96,10 @@ impl Shown {
         }
         let version = self.published.len();
         self.held = Some(version);
-        write!(replies, "{{\"base\":1705276800,\"ok\":\"pin\",\"version\":{version}}}\n")
+        write!(
+            replies,
+            "{{\"base\":1705276800,\"ok\":\"pin\",\"version\":{version}}}\n"
+        )
     }
 
     fn release(&mut self, replies: &mut String) -> Result<(), AllocError> {
@@ -112,7 +115,10 @@ impl Shown {
             Some(&"slow") => SLOW,
             _ => FAST,
         };
-        write!(replies, "{{\"ok\":\"profile\",\"points\":[{point}],\"version\":{version},\"walk\":null}}\n")
+        write!(
+            replies,
+            "{{\"ok\":\"profile\",\"points\":[{point}],\"version\":{version},\"walk\":null}}\n"
+        )
     }
 
     fn load(&mut self, feed: &'static str, replies: &mut String) -> Result<(), AllocError> {
@@ -189,7 +195,15 @@ fn told<R: Wait, In: Read + Drop>(
     reader: In,
 ) -> Result<(Result<Ended, SessionFault>, Taker), Fail> {
     let taker = taker_of(alloc, 100_000, true);
-    talked(rt, alloc, image(alloc, 0)?, feeds(alloc)?, reader, taker, &OpenGate)
+    talked(
+        rt,
+        alloc,
+        image(alloc, 0)?,
+        feeds(alloc)?,
+        reader,
+        taker,
+        &OpenGate,
+    )
 }
 
 // Numbers that look drawn: the same ones each time.
@@ -343,7 +357,15 @@ fn scans_are_left_behind_their_replies(rt: HostRuntime) -> Result<(), Fail> {
         most: 100,
         is_failing: false,
     };
-    let (ended, notes) = talked(&rt, alloc, image(alloc, 0)?, feeds(alloc)?, reader, notes, &scans)?;
+    let (ended, notes) = talked(
+        &rt,
+        alloc,
+        image(alloc, 0)?,
+        feeds(alloc)?,
+        reader,
+        notes,
+        &scans,
+    )?;
     assert!(&rt; ended == Ok(Ended));
     assert_eq!(&rt; notes.noted.as_str(), "00101000000");
     Ok(())

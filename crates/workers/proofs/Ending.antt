@@ -20,12 +20,12 @@ pub session_of : (number : ℕ) (end : End) (result : Result Ended SessionFault)
     (reads reads_then writes writes_then : ℕ) (a b last : SeatValue) (asked asked_then : List OrderValue)
     → end ≡ end_of result → counted_to_read ≡ to_read → counted_contents ≡ contents → reads ≡ 0 → writes ≡ 0 → LastRelease number last b
     → Serves number result counted_to_read read_then counted_contents contents_then (reads < reads_then) (writes < writes_then)
-      a asked last asked_then
+    a asked last asked_then
     → IsSession number end to_read read_then contents contents_then (0 < reads_then) (0 < writes_then) a asked b asked_then
 session_of number end result counted_to_read to_read read_then counted_contents contents contents_then
     reads reads_then writes writes_then a b last asked asked_then end_is same_read same_contents no_reads no_writes released serves =
     let Told = λ (first held : Option (List ℕ)) (n m : ℕ).
-        Serves number result first read_then held contents_then (n < reads_then) (m < writes_then) a asked last asked_then in
+    Serves number result first read_then held contents_then (n < reads_then) (m < writes_then) a asked last asked_then in
     let read = subst (λ first. Told first counted_contents reads writes) same_read serves in
     let written = subst (λ held. Told to_read held reads writes) same_contents read in
     let from_no_read = subst (λ n. Told to_read contents n writes) no_reads written in

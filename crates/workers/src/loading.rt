@@ -147,11 +147,7 @@ fn load_feed<R: Wait, T: Loads, F: Feeds, E: Write>(
 }
 
 // Tells what came of an order. It takes no memory.
-fn tell<E: Write>(
-    errors: &mut E,
-    name: &str,
-    outcome: Result<u64, LoadRefusal>,
-) -> io::Result<()> {
+fn tell<E: Write>(errors: &mut E, name: &str, outcome: Result<u64, LoadRefusal>) -> io::Result<()> {
     match outcome {
         Ok(version) => write!(errors, "loaded {name} version {version}\n"),
         Err(refusal) => write!(errors, "load {name} refused {refusal}\n"),

@@ -38,8 +38,9 @@ pub fn serve_client<R: Wait, C: Client, T: Versions, O: Orders, G: Gate>(
 {
     match client.open() {
         Ok((reader, writer)) => {
-            let (end, streams) =
-                serve_streams(rt, alloc, reader, writer, shelves, seat, orders, gate);
+            let (end, streams) = serve_streams(
+                rt, alloc, reader, writer, shelves, seat, orders, gate,
+            );
             served.add(end);
             Some(streams)
         }

@@ -214,9 +214,8 @@ fn serve_all<R: Threads + Wait + Sync + Abort, G: Gate + Sync>(
     let told = Mutex::new(Vec::new(alloc));
     let row = Row { visitors };
     let errors = Shared { rt, bytes: &told };
-    let Ok((served, _)) = run_workers(
-        rt, alloc, row, &shelves, seats, loader, &feed, gate, errors,
-    ) else {
+    let Ok((served, _)) = run_workers(rt, alloc, row, &shelves, seats, loader, &feed, gate, errors)
+    else {
         return Err(AllocError.into());
     };
     Ok((served, told.into_inner()))
