@@ -1,6 +1,6 @@
-use Rattle.std.proofs.Common.{◌≡◌, ◌+◌, ◌-◌, ◌%◌, ◌≤◌, ◌<◌, max, Fits, w32, rules, arith, inl, inr, refl, ap, ◌∙◌}
+use Rattle.std.proofs.Common.{◌≡◌, ◌+◌, ◌%◌, ◌≤◌, Fits, w32, rules, arith, inl, inr, ap, ◌∙◌}
 use Rattle.std.proofs.lemmas.Bool.{cases_lt, ne_eqb}
-use Rattle.connections.proofs.RepeatSteps.{positive, row_never, row_next, row_without, wait_of}
+use Rattle.connections.proofs.RepeatSteps.{positive, row_never, row_next, wait_of}
 use Rattle.connections.proofs.repeats.next_of_row.Goals as goal
 use Rattle.connections.proofs.repeats.next_of_row.Goals.{then-past-eq0, else-past-eq0}
 
