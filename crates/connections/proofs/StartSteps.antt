@@ -1,7 +1,7 @@
 -- What the starts of a trip are.
-use Rattle.std.proofs.Common.{◌≡◌, ℕ, zero, suc, ℤ, ◌+◌, ◌-◌, ◌*◌, ◌/◌, ◌%◌, ◌<◌, ◌≤◌, ◌↔◌, inl, inr, List, [], ◌∷◌, ◌++◌, length, get_or, Option, Some, None, Bool, true, false, Contains, ◌&&◌, ◌==◌, refl, sym, ap, ◌∙◌, subst, arith}
+use Rattle.std.proofs.Common.{◌≡◌, ℕ, zero, suc, ℤ, ◌+◌, ◌-◌, ◌*◌, ◌/◌, ◌%◌, ◌<◌, ◌↔◌, inl, inr, List, [], ◌∷◌, length, get_or, Option, None, true, Contains, ◌&&◌, ◌==◌, refl, sym, ap, ◌∙◌, subst, arith}
 use Rattle.std.specs.Prelude.{nat_le, nat_lt, ◌+ℤ◌, pos}
-use Rattle.std.proofs.lemmas.Bool.{and_from, and_parts, cases_Bool, cases_eq, cases_lt, eq-eqb, eqb-true, false≢true, le-leb, leb-true, lt-ltb, ltb-true}
+use Rattle.std.proofs.lemmas.Bool.{and_from, and_parts, cases_Bool, cases_eq, eq-eqb, eqb-true, le-leb, leb-true, lt-ltb, ltb-true}
 use Rattle.std.proofs.lemmas.Int.{ints}
 use Rattle.std.proofs.lemmas.List.{get_or_append_left, get_or_push, length_push}
 use Rattle.std.proofs.lemmas.List.Elements.{Contains-append_cases, Contains-append_left, Contains-append_right, Contains-get_or}
@@ -33,7 +33,7 @@ only_before rows (suc n) s inside = elim (cases_Bool (is_start rows n)) [
     | inr fresh ↦ (let same : s ≡ n = last_one n s fresh in (omega (arith, same), ap (is_start rows) same ∙ met))
   ]
   | inr unmet ↦ (let same : starts_before rows (suc n) ≡ starts_before rows n = rw unmet refl in
-    let was = only_before rows n s (subst (λ (xs : List ℕ). Contains xs s) same inside) in (let lt = was.0 in omega (arith, lt), was.1))
+      let was = only_before rows n s (subst (λ (xs : List ℕ). Contains xs s) same inside) in (let lt = was.0 in omega (arith, lt), was.1))
 ]
 
 each_before : (rows : List Frequency) (n s : ℕ) → s < n → is_start rows s ≡ true → Contains (starts_before rows n) s

@@ -77,8 +77,7 @@ fn repeated(frequencies: &'static [u8]) -> [(&'static str, &'static [u8]); 6] {
 /// A trip that repeats runs once for each of its starts, and the image has the runs' numbers.
 #[test]
 fn repeats_are_numbered(rt: HostRuntime) -> Result<(), Fail> {
-    let files =
-        repeated(b"trip_id,start_time,end_time,headway_secs\nT1,09:00:00,10:00:00,1200\n");
+    let files = repeated(b"trip_id,start_time,end_time,headway_secs\nT1,09:00:00,10:00:00,1200\n");
     let mut files = MemoryFiles { files: &files };
     let Ok((image, report)) = load(rt.alloc(), &mut files, &one_day()) else {
         panic!(rt; "the feed is refused");
@@ -97,8 +96,7 @@ fn repeats_are_numbered(rt: HostRuntime) -> Result<(), Fail> {
 /// The last start lies before the end time; a headway of 0 is refused.
 #[test]
 fn an_end_time_is_no_start(rt: HostRuntime) -> Result<(), Fail> {
-    let files =
-        repeated(b"trip_id,start_time,end_time,headway_secs\nT1,09:00:00,09:40:00,1200\n");
+    let files = repeated(b"trip_id,start_time,end_time,headway_secs\nT1,09:00:00,09:40:00,1200\n");
     let mut files = MemoryFiles { files: &files };
     let Ok((_, report)) = load(rt.alloc(), &mut files, &one_day()) else {
         panic!(rt; "the feed is refused");

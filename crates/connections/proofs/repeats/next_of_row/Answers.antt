@@ -1,6 +1,6 @@
-use Rattle.std.proofs.Common.{◌≡◌, ◌+◌, ◌-◌, ◌%◌, ◌≤◌, ◌<◌, max, Fits, w32, rules, arith, inl, inr, refl, ap, ◌∙◌}
+use Rattle.std.proofs.Common.{◌≡◌, ◌+◌, ◌%◌, ◌≤◌, Fits, w32, rules, arith, inl, inr, ap, ◌∙◌}
 use Rattle.std.proofs.lemmas.Bool.{cases_lt, ne_eqb}
-use Rattle.connections.proofs.RepeatSteps.{positive, row_never, row_next, row_without, wait_of}
+use Rattle.connections.proofs.RepeatSteps.{positive, row_never, row_next, wait_of}
 use Rattle.connections.proofs.repeats.next_of_row.Goals as goal
 use Rattle.connections.proofs.repeats.next_of_row.Goals.{then-past-eq0, else-past-eq0}
 
@@ -17,10 +17,10 @@ pub returns-then-start-row-clause-next : goal.returns-then-start-row-clause-next
 returns-then-start-row-clause-next c =
     let waits : c.if-past-eq0.wait ≡ wait_of (c.saturating_sub.result % c.args.row.headway) c.args.row.headway =
     elim c.if-past-eq0.branch [ then-past-eq0 w ↦ rw w.if-past-eq0.true w.wait-is | else-past-eq0 w ↦ rw (ne_eqb (c.saturating_sub.result % c.args.row.headway) 0 w.if-past-eq0.false) w.wait-is ] in
-    row_next c.args.row c.args.from (c.saturating_sub.result % c.args.row.headway) c.if-past-eq0.wait c.in_ok-start.start (positive c.args.row.headway c.if-row-eq0.false) (ap (λ n. n % c.args.row.headway) c.saturating_sub.ensures) waits (c.in_ok-start.ensures.1 ∙ ap (λ n. n + c.if-past-eq0.wait) c.max.ensures) c.if-start-row.true
+    row_next c.args.row c.args.from (c.saturating_sub.result % c.args.row.headway) c.if-past-eq0.wait c.in_ok-start.start (positive c.args.row.headway c.if-row-eq0.false) (ap (λ n. n % c.args.row.headway) c.saturating_sub.ensures) waits (c.in_ok-start.ensures.1 ∙ ap (λ n. n + c.if-past-eq0.wait) c.max.ensures) (omega (arith, c.if-start-row.true))
 
 pub returns-else-start-row-clause-next : goal.returns-else-start-row-clause-next
 returns-else-start-row-clause-next c =
     let waits : c.if-past-eq0.wait ≡ wait_of (c.saturating_sub.result % c.args.row.headway) c.args.row.headway =
     elim c.if-past-eq0.branch [ then-past-eq0 w ↦ rw w.if-past-eq0.true w.wait-is | else-past-eq0 w ↦ rw (ne_eqb (c.saturating_sub.result % c.args.row.headway) 0 w.if-past-eq0.false) w.wait-is ] in
-    row_never c.args.row c.args.from (c.saturating_sub.result % c.args.row.headway) c.if-past-eq0.wait c.in_ok-start.start (positive c.args.row.headway c.if-row-eq0.false) (ap (λ n. n % c.args.row.headway) c.saturating_sub.ensures) waits (c.in_ok-start.ensures.1 ∙ ap (λ n. n + c.if-past-eq0.wait) c.max.ensures) c.if-start-row.false
+    row_never c.args.row c.args.from (c.saturating_sub.result % c.args.row.headway) c.if-past-eq0.wait c.in_ok-start.start (positive c.args.row.headway c.if-row-eq0.false) (ap (λ n. n % c.args.row.headway) c.saturating_sub.ensures) waits (c.in_ok-start.ensures.1 ∙ ap (λ n. n + c.if-past-eq0.wait) c.max.ensures) (omega (arith, c.if-start-row.false))

@@ -1,4 +1,4 @@
-use Rattle.std.proofs.Common.{◌≡◌, ◌+◌, List, get_or, subst, take, refl, MatchOption}
+use Rattle.std.proofs.Common.{◌+◌, List, get_or, subst, take, refl, MatchOption}
 use Rattle.std.proofs.lemmas.List.{take_all}
 use Rattle.gtfs_tables.specs.declared.tables.Frequency.{Frequency}
 use Rattle.connections.specs.Repeats.{is_start, leaves_at}

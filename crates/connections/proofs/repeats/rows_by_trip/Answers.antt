@@ -1,4 +1,4 @@
-use Rattle.std.proofs.Common.{◌≡◌, List, subst, refl}
+use Rattle.std.proofs.Common.{List, subst}
 use Rattle.std.proofs.lemmas.List.{take_all}
 use Rattle.gtfs_tables.specs.declared.tables.Frequency.{Frequency}
 use Rattle.connections.specs.Grouping.{AreGrouped}
