@@ -35,7 +35,8 @@ pub step_in-requires-clause-way : goal.step_in-requires-clause-way
 step_in-requires-clause-way g c =
     let t = g.S.ConnSource.timetable c.args.source.now in
     let to_in = ((g.met.S.ConnSource.legal c.args.source.now).stops_in_range c.args.place (connection_at t c.args.place) (connection_at-stands t c.args.place c.requires.place)).1 in
-    subst (IsWay t c.args.query.now.target c.args.connection.now.to) (sym c.secs_from-way.ensures) (c.requires.ways.each c.args.connection.now.to (subst (λ (x : Connection). x.to < t.stops) (sym c.requires.connection) to_in))
+    subst (IsWay t c.args.query.now.target c.args.connection.now.to) (sym c.secs_from-way.ensures)
+    (c.requires.ways.each c.args.connection.now.to (subst (λ (x : Connection). x.to < t.stops) (sym c.requires.connection) to_in))
 
 pub is_idle-requires-clause-trip : goal.is_idle-requires-clause-trip
 is_idle-requires-clause-trip g c =
@@ -55,7 +56,8 @@ returns-then-is_idle-clause-step g c =
     let q = c.args.query.now in
     let scan = c.args.scan.now in
     let to_in = ((g.met.S.ConnSource.legal c.args.source.now).stops_in_range c.args.place (connection_at t c.args.place) (connection_at-stands t c.args.place c.requires.place)).1 in
-    let is = subst (IsWay t q.target c.args.connection.now.to) (sym c.secs_from-way.ensures) (c.requires.ways.each c.args.connection.now.to (subst (λ (x : Connection). x.to < t.stops) (sym c.requires.connection) to_in)) in
+    let is = subst (IsWay t q.target c.args.connection.now.to) (sym c.secs_from-way.ensures)
+    (c.requires.ways.each c.args.connection.now.to (subst (λ (x : Connection). x.to < t.stops) (sym c.requires.connection) to_in)) in
     step_idle_at (g.C.Criterion.rules c.args.criterion.now) t q (told t.footpaths (story_of scan)) c.args.place (kept_by scan) _ c.args.connection.now c.requires.connection is (c.is_idle.ensures c.if-is_idle.true)
 
 pub returns-clause-scan : goal.returns-clause-scan
