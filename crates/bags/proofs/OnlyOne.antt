@@ -16,7 +16,8 @@ only_one x q h = only_at x q h.0 h.1 h.2
 is_one : {X : Type 0} (x q : X) → q ≡ x → Contains (x ∷ []) q
 is_one x q e = (0, omega arith, sym e)
 
-pub in_its_place : {V : Type 0} (rules : Rules V) (p : Point V) (old : List (Entry V)) → IsOnly rules old p → Inserted rules (points_in old) p true (points_in (slice_set old 0 (record { point = p; skip = 0 })))
+pub in_its_place : {V : Type 0} (rules : Rules V) (p : Point V) (old : List (Entry V)) → IsOnly rules old p
+    → Inserted rules (points_in old) p true (points_in (slice_set old 0 (record { point = p; skip = 0 })))
 in_its_place rules p [] is q = let long = is.one in absurd (omega (arith, long))
 in_its_place rules p (e ∷ []) is q = (
   λ h. inl (only_one p q h),

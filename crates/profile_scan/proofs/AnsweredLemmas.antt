@@ -1,5 +1,5 @@
 -- What a scan found, put in order, is the answer.
-use Rattle.std.proofs.Common.{◌≡◌, ◌∙◌, ◌<◌, ◌≤◌, ℕ, List, Option, None, AllPairs, Contains, length, map, get_or, inl, inr, ap, sym, subst, arith}
+use Rattle.std.proofs.Common.{◌≡◌, ◌∙◌, ◌<◌, ◌≤◌, ℕ, List, Option, AllPairs, Contains, length, map, get_or, inl, inr, ap, sym, subst, arith}
 use Rattle.std.proofs.lemmas.List.{get_or_default, length-map}
 use Rattle.std.proofs.Math.ListN.{get_or-map}
 use Rattle.criteria.specs.Laws.{Rules, Laws, NoWorse}
@@ -16,18 +16,12 @@ use Rattle.timetable.specs.Journeys.{Counts}
 use Rattle.profile_scan.specs.Matching.{Matches}
 use Rattle.profile_scan.specs.Story.{Story, told}
 use Rattle.profile_scan.specs.Telling.{IsJourneyTold, IsRetold}
-use Rattle.profile_scan.specs.Kept.{IsWay, AreWays}
+use Rattle.profile_scan.specs.Kept.{IsWay}
 use Rattle.profile_scan.specs.Answered.{IsAnswered}
 use Rattle.profile_scan.specs.LawStatements.{CanScan}
 use Rattle.profile_scan.specs.declared.nodes.Node.{Node}
 use Rattle.profile_scan.proofs.Answer.{match_is_the_answer}
 use Rattle.profile_scan.proofs.OrderLemmas.{listed_bag, listed_match}
-
--- the footpath that is kept for a stop
-pub way_at : (t : TimetableValue) (target stop : ℕ) (ways : List (Option ℕ)) (way : Option ℕ) → AreWays t target ways → stop < t.stops → way ≡ get_or ways stop way → IsWay t target stop way
-way_at t target stop ways way are lt is =
-    let within = subst (λ (n : ℕ). stop < n) (sym are.long) lt in
-    subst (IsWay t target stop) (sym (is ∙ get_or_default ways stop way None within)) (are.each stop lt)
 
 -- points alike, tags aside
 retold_in : {V : Type 0} (old new : List (Point V)) → map untagged new ≡ map untagged old → (p : Point V) → Contains new p → (q : Point V) × Contains old q × (q.departure ≡ p.departure) × (q.value ≡ p.value)

@@ -1,13 +1,13 @@
 -- The footpaths into the target, as they are found.
-use Rattle.std.proofs.Common.{◌≡◌, ◌≢◌, ℕ, zero, suc, ◌+◌, ◌<◌, ◌≤◌, List, Contains, length, Option, Some, None, get_or, set, replicate, get_or-set_same, get_or-set_other, length-set, inl, inr, refl, sym, ◌∙◌, ap, subst, arith}
-use Rattle.std.proofs.lemmas.Bool.{cases_eq}
-use Rattle.std.proofs.lemmas.List.{length-replicate}
+use Rattle.std.proofs.Common.{◌≡◌, ◌≢◌, ℕ, zero, suc, ◌+◌, ◌<◌, ◌≤◌, List, ◌∷◌, Contains, length, Option, Some, None, get_or, set, replicate, get_or-set_same, get_or-set_other, length-set, inl, inr, map, refl, sym, ◌∙◌, ap, subst, arith}
+use Rattle.std.proofs.lemmas.Bool.{cases_eq, le-leb}
+use Rattle.std.proofs.lemmas.List.{length-replicate, map-set}
 use Rattle.timetable.specs.declared.network.Footpath.{Footpath}
 use Rattle.timetable.specs.TimetableValue.{TimetableValue}
 use Rattle.timetable.specs.Legal.{At}
 use Rattle.timetable.proofs.LegalFacts.{Contains-At, At-Contains}
 use Rattle.profile_scan.specs.Adding.{StandsBetween}
-use Rattle.profile_scan.specs.Kept.{IsWay, AreWays}
+use Rattle.profile_scan.specs.Kept.{IsWay, AreWays, way_if, way_in}
 use Rattle.profile_scan.proofs.BoardLemmas.{between_split}
 
 -- ways that are there, and all of the footpaths from a place up to before another
@@ -72,3 +72,15 @@ all_found t target begin end ways into found = record {
       let place = into at.0 f at.1 to in
       found.all f (at.0, place.0, place.1, at.1) (ap (λ (n : ℕ). get_or ways n None) from ∙ none));
 }
+
+-- words that say which footpaths are found
+no_words : (n : ℕ) → map way_in (replicate n 4294967295) ≡ replicate n None
+no_words zero = refl
+no_words (suc n) = ap (λ (ways : List (Option ℕ)). None ∷ ways) (no_words n)
+
+pub none_in_words : (n : ℕ) (words : List ℕ) → words ≡ replicate n 4294967295 → map way_in words ≡ replicate n None
+none_in_words n words e = ap (map way_in) e ∙ no_words n
+
+pub one_in_words : (words : List ℕ) (stop secs : ℕ) → secs ≤ 1000000 → set (map way_in words) stop (Some secs) ≡ map way_in (set words stop secs)
+one_in_words words stop secs small =
+    ap (λ (way : Option ℕ). set (map way_in words) stop way) (sym (ap (λ b. way_if b secs) (le-leb secs 1000000 small))) ∙ sym (map-set way_in words stop secs)

@@ -1,5 +1,5 @@
 -- What the vectors of a scan keep for each stop and each trip.
-use Rattle.std.specs.Prelude.{◌≡◌, ◌≢◌, ℕ, zero, suc, ◌+◌, ◌<◌, ◌≤◌, min, List, [], ◌∷◌, length, vec_len, All, Contains, slice_index, slice_index_or, Option, Some, None}
+use Rattle.std.specs.Prelude.{◌≡◌, ◌≢◌, ℕ, zero, suc, ◌+◌, ◌<◌, ◌≤◌, min, List, [], ◌∷◌, length, vec_len, All, Contains, slice_index, slice_index_or, Option, Some, None, Bool, true, false, nat_le, map}
 use Rattle.bags.specs.Bag.{criterion_of, points_of}
 use Rattle.bags.specs.declared.bag.Bag.{Bag}
 use Rattle.bags.specs.declared.point.Point.{Point}
@@ -11,6 +11,7 @@ use Rattle.profile_scan.specs.Matching.{ScanValue}
 use Rattle.profile_scan.specs.Story.{Story, story}
 use Rattle.profile_scan.specs.declared.stops.Stops.{Stops}
 use Rattle.profile_scan.specs.declared.scan.Scan.{Scan}
+use Rattle.profile_scan.specs.declared.ways.Ways.{Ways}
 
 -- the points of a stop's list
 abbrev pub points_at : {K V : Type 0} → Stops K V → ℕ → List (Point V)
@@ -53,6 +54,18 @@ pub record ArePlaced (slots : List ℕ) (count : ℕ) : Type 0 where
 abbrev pub IsWay : TimetableValue → ℕ → ℕ → Option ℕ → Type 0
 IsWay t target stop None = (f : Footpath) → Contains t.footpaths f → f.from ≡ stop → f.to ≡ target → ⊥
 IsWay t target stop (Some secs) = Contains t.footpaths (record { from = stop; to = target; secs = secs })
+
+-- what a word says: so many seconds, or more than a footpath takes
+abbrev pub way_if : Bool → ℕ → Option ℕ
+way_if true word = Some word
+way_if false word = None
+
+abbrev pub way_in : ℕ → Option ℕ
+way_in word = way_if (nat_le word 1000000) word
+
+-- the seconds from each stop
+abbrev pub ways_of : Ways → List (Option ℕ)
+ways_of ways = map way_in ways.seconds.items
 
 -- one for each stop
 pub record AreWays (t : TimetableValue) (target : ℕ) (ways : List (Option ℕ)) : Type 0 where

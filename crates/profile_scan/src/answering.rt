@@ -48,7 +48,7 @@ pub fn profile<S: ConnSource, C: Criterion>(
         criterion: *criterion,
         points: told.points,
         nodes: told.nodes,
-        walk: ways[query.source as usize],
+        walk: ways.secs_from(query.source),
         timetable: timetable_of(source),
         query: Kept::of(query),
     })

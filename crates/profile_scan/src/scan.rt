@@ -9,7 +9,7 @@ ghost use Rattle.profile_scan.specs.Continuations.{CountsFrom};
 ghost use Rattle.profile_scan.specs.Plain.{IsPlain};
 ghost use Rattle.profile_scan.specs.Matching.{Matches};
 ghost use Rattle.profile_scan.specs.Story.{told};
-ghost use Rattle.profile_scan.specs.Kept.{AreWays, IsScan, kept_by, story_of};
+ghost use Rattle.profile_scan.specs.Kept.{AreWays, IsScan, kept_by, story_of, ways_of};
 ghost use Rattle.profile_scan.specs.Matching.{ScanValue};
 ghost use Rattle.profile_scan.specs.Window.{falling};
 
@@ -18,6 +18,7 @@ use crate::step::step;
 use crate::stops::{Stops, no_stops};
 use crate::story::{Exit, SetOut};
 use crate::trips::{TripLabels, no_labels};
+use crate::ways::Ways;
 use bags::Bag;
 use criteria::Criterion;
 use fronts::Ridden;
@@ -72,12 +73,12 @@ pub fn scan_window<S: ConnSource, C: Criterion>(
     source: &mut S,
     criterion: &C,
     query: &Query,
-    ways: &[Option<u32>],
+    ways: &Ways,
     start: usize,
     end: usize,
 ) -> Result<Scan<C>, AllocError>
     requires by { IsTime query.now.by }
-    requires ways { AreWays (S.timetable source.old) query.now.target ways.now }
+    requires ways { AreWays (S.timetable source.old) query.now.target (ways_of ways.now) }
     requires order { start ≤ end }
     requires end { IsFirstAt (S.timetable source.old) query.now.by end }
     ensures timetable { S.timetable source.new ≡ S.timetable source.old }

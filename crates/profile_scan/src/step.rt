@@ -10,7 +10,7 @@ ghost use Rattle.profile_scan.specs.Bound.{AreBounds, carried};
 ghost use Rattle.profile_scan.specs.Story.{Grows, story, told};
 ghost use Rattle.profile_scan.specs.Matching.{from_to};
 ghost use Rattle.profile_scan.specs.Adding.{Takes};
-ghost use Rattle.profile_scan.specs.Kept.{AreStops, AreWays, IsScan, IsWay, kept_by, points_at, story_of};
+ghost use Rattle.profile_scan.specs.Kept.{AreStops, AreWays, IsScan, IsWay, kept_by, points_at, story_of, ways_of};
 ghost use Rattle.profile_scan.specs.declared.story.Exit.{Exit};
 
 use crate::alight::alight;
@@ -20,6 +20,7 @@ use crate::scan::Scan;
 use crate::stops::Stops;
 use crate::story::{Exit, SetOut};
 use crate::trips::place_of;
+use crate::ways::Ways;
 use bags::Bag;
 use criteria::Criterion;
 use fronts::Ridden;
@@ -136,7 +137,7 @@ pub fn step<S: ConnSource, C: Criterion>(
     source: &S,
     criterion: &C,
     query: &Query,
-    ways: &[Option<u32>],
+    ways: &Ways,
     connection: &Connection,
     place: u32,
     scan: &mut Scan<C>,
@@ -144,14 +145,14 @@ pub fn step<S: ConnSource, C: Criterion>(
     requires place { place < length (S.timetable source.now).connections }
     requires connection { connection.now ≡ connection_at (S.timetable source.now) place }
     requires by { IsTime query.now.by }
-    requires ways { AreWays (S.timetable source.now) query.now.target ways.now }
+    requires ways { AreWays (S.timetable source.now) query.now.target (ways_of ways.now) }
     requires scan { IsScan C.rules criterion.now (S.timetable source.now).stops (S.timetable source.now).trips scan.old }
     requires bound { AreBounds (C.rules criterion.now) (S.timetable source.now) (points_of scan.old.found) (place + 1) scan.old.bound.values.items }
     ensures bound { OnOk result (AreBounds (C.rules criterion.now) (S.timetable source.now) (points_of scan.new.found) place scan.new.bound.values.items) }
     ensures scan { OnOk result (IsScan C.rules criterion.now (S.timetable source.now).stops (S.timetable source.now).trips scan.new) }
     ensures step { OnOk result (IsStep (C.rules criterion.now) (S.timetable source.now) query.now (from_to (told (S.timetable source.now).footpaths (story_of scan.old)) (told (S.timetable source.now).footpaths (story_of scan.new))) place (kept_by scan.old) (kept_by scan.new)) }
 {
-    let way = ways[connection.to as usize];
+    let way = ways.secs_from(connection.to);
     if is_idle(scan, query, way, connection) {
         return Ok(());
     }

@@ -1,32 +1,56 @@
 //! The footpaths to a query's target.
 
-ghost use Rattle.std.specs.Prelude.{◌≡◌, ◌<◌, ◌≤◌, ◌↔◌, ℕ, IfOk, length, replicate, None};
-ghost use Rattle.profile_scan.specs.Kept.{AreWays};
+ghost use Rattle.std.specs.Prelude.{◌≡◌, ◌<◌, ◌≤◌, ◌↔◌, ℕ, IfOk, length, replicate, slice_index_or, None};
+ghost use Rattle.profile_scan.specs.Kept.{AreWays, way_in, ways_of};
 
 use sources::ConnSource;
 use std::alloc::{AllocError, Global};
 
-/// For each stop the seconds of the footpath from it to the target, if there is one.
-pub fn ways_to<S: ConnSource>(
-    alloc: Global,
-    source: &S,
-    target: u32,
-) -> Result<Vec<Option<u32>>, AllocError>
-    requires { target < (S.timetable source.now).stops }
-    ensures { IfOk result (λ ways. AreWays (S.timetable source.now) target ways.items) }
+/// For each stop the seconds of the footpath from it to the target, if there is one. A word for each, since a scan asks for one at each
+/// connection.
+#[derive(Drop)]
+pub struct Ways {
+    // where there is none, more than a footpath takes
+    seconds: Vec<u32>,
+}
+
+impl Ways {
+    /// The seconds of the footpath from a stop, if there is one.
+    pub fn secs_from(&self, stop: u32) -> Option<u32>
+        requires { stop < length (ways_of self.now) }
+        ensures { result ≡ slice_index_or (ways_of self.now) stop None }
+    {
+        way_of(self.seconds[stop as usize])
+    }
+}
+
+// What a word says: so many seconds, or more than a footpath takes.
+fn way_of(word: u32) -> Option<u32>
+    ensures { result ≡ way_in word }
 {
-    let mut ways = no_ways(alloc, source.stops() as usize)?;
+    if word <= 1_000_000 {
+        return Some(word);
+    }
+    None
+}
+
+/// For each stop the seconds of the footpath from it to the target, if there is one.
+pub fn ways_to<S: ConnSource>(alloc: Global, source: &S, target: u32) -> Result<Ways, AllocError>
+    requires { target < (S.timetable source.now).stops }
+    ensures { IfOk result (λ ways. AreWays (S.timetable source.now) target (ways_of ways)) }
+{
+    let mut seconds = no_ways(alloc, source.stops() as usize)?;
     let (begin, end) = source.walks_into(target as usize);
     for place in begin..end {
         let walk = source.footpath_into(target as usize, place);
-        ways[walk.from as usize] = Some(walk.secs);
+        seconds[walk.from as usize] = walk.secs;
     }
-    Ok(ways)
+    Ok(Ways { seconds })
 }
 
 // As many stops as wanted, with no footpath yet.
-fn no_ways(alloc: Global, stops: usize) -> Result<Vec<Option<u32>>, AllocError>
-    ensures { IfOk result (λ ways. ways.items ≡ replicate stops None) }
+fn no_ways(alloc: Global, stops: usize) -> Result<Vec<u32>, AllocError>
+    ensures { IfOk result (λ seconds. seconds.items ≡ replicate stops 4294967295) }
 {
-    vec![in alloc; None; stops]
+    vec![in alloc; u32::MAX; stops]
 }

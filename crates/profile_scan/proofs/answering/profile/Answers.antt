@@ -8,9 +8,9 @@ use Rattle.profile_scan.specs.LawStatements.{CanScan}
 use Rattle.profile_scan.specs.Window.{window}
 use Rattle.profile_scan.proofs.Windows.{window_is_read_backward}
 use Rattle.profile_scan.specs.Points.{untagged}
-use Rattle.profile_scan.specs.Kept.{story_of}
+use Rattle.profile_scan.specs.Kept.{IsWay, story_of}
 use Rattle.profile_scan.specs.Telling.{IsJourneyTold, IsRetold}
-use Rattle.profile_scan.proofs.AnsweredLemmas.{answered, journeys_told, way_at}
+use Rattle.profile_scan.proofs.AnsweredLemmas.{answered, journeys_told}
 use Rattle.profile_scan.proofs.Offers.{bag_under}
 use Rattle.profile_scan.proofs.LogLemmas.{taken_all, on_err}
 use Rattle.profile_scan.proofs.answering.profile.Goals as goal
@@ -52,7 +52,7 @@ tell_journeys-requires g c =
     let t = g.S.ConnSource.timetable c.args.source.now in
     let scan = c.in_ok-scan.scan in
     let points = c.in_ok-points.points.items in
-    subst (λ (ps : List (Point g.row.C-V.Denot)). (p : Point g.row.C-V.Denot) → Contains ps p → IsJourneyTold (g.S.ConnSource.timetable c.scan_window.new.source).footpaths (story_of scan) p.tag) (sym c.deref-2.ensures.value)
+    subst (λ (ps : List (Point g.row.C-V.Denot)). (p : Point g.row.C-V.Denot) → Contains ps p → IsJourneyTold (g.S.ConnSource.timetable c.scan_window.new.source).footpaths (story_of scan) p.tag) (sym c.deref.ensures.value)
     (subst (λ (x : TimetableValue). (p : Point g.row.C-V.Denot) → Contains points p → IsJourneyTold x.footpaths (story_of scan) p.tag) (sym c.in_ok-scan.ensures.timetable)
     (journeys_told rules t c.args.query.now c.first_at-start.result (story_of scan) (points_of scan.found) points c.in_ok-scan.ensures.matches c.in_ok-points.ensures.only))
 
@@ -69,13 +69,13 @@ invariant_of-result g c =
     let points = c.in_ok-told.told.points.items in
     let nodes = c.in_ok-told.told.nodes.items in
     let bag = bag_under g.C.Criterion.rules scan.found.criterion c.args.criterion.now found c.in_ok-scan.ensures.same scan.found.kept in
-    let way = way_at t q.target q.source c.in_ok-ways.ways.items c.index.result.now c.in_ok-ways.ensures c.requires.source c.index.ensures in
+    let way = subst (IsWay t q.target q.source) (sym c.secs_from.ensures) (c.in_ok-ways.ensures.each q.source c.requires.source) in
     let says = subst (λ (x : TimetableValue). (p : Point g.row.C-V.Denot) → Contains points p → IsRetold x.footpaths (story_of scan) c.in_ok-points.points.items nodes p) c.in_ok-scan.ensures.timetable
-    (subst (λ (ps : List (Point g.row.C-V.Denot)). (p : Point g.row.C-V.Denot) → Contains points p → IsRetold (g.S.ConnSource.timetable c.scan_window.new.source).footpaths (story_of scan) ps nodes p) c.deref-2.ensures.value c.in_ok-told.ensures.says) in
-    let same = subst (λ (ps : List (Point g.row.C-V.Denot)). map untagged points ≡ map untagged ps) c.deref-2.ensures.value c.in_ok-told.ensures.same in
-    let made = answered rules laws t q can c.first_at-start.result c.first_at-start.ensures (story_of scan) nodes found c.in_ok-points.points.items points c.index.result.now c.in_ok-scan.ensures.matches bag c.in_ok-points.ensures.ordered c.in_ok-points.ensures.only c.in_ok-points.ensures.each same says way in
-    let at_t = subst (λ (x : TimetableValue). IsAnswered rules x q points nodes c.index.result.now) (sym (c.timetable_of.ensures ∙ c.in_ok-scan.ensures.timetable)) made in
-    let at_q = subst (λ (x : Query). IsAnswered rules c.timetable_of.result.value x points nodes c.index.result.now) (sym c.of.ensures) at_t in
+    (subst (λ (ps : List (Point g.row.C-V.Denot)). (p : Point g.row.C-V.Denot) → Contains points p → IsRetold (g.S.ConnSource.timetable c.scan_window.new.source).footpaths (story_of scan) ps nodes p) c.deref.ensures.value c.in_ok-told.ensures.says) in
+    let same = subst (λ (ps : List (Point g.row.C-V.Denot)). map untagged points ≡ map untagged ps) c.deref.ensures.value c.in_ok-told.ensures.same in
+    let made = answered rules laws t q can c.first_at-start.result c.first_at-start.ensures (story_of scan) nodes found c.in_ok-points.points.items points c.secs_from.result c.in_ok-scan.ensures.matches bag c.in_ok-points.ensures.ordered c.in_ok-points.ensures.only c.in_ok-points.ensures.each same says way in
+    let at_t = subst (λ (x : TimetableValue). IsAnswered rules x q points nodes c.secs_from.result) (sym (c.timetable_of.ensures ∙ c.in_ok-scan.ensures.timetable)) made in
+    let at_q = subst (λ (x : Query). IsAnswered rules c.timetable_of.result.value x points nodes c.secs_from.result) (sym c.of.ensures) at_t in
     record { answered = ∣ at_q ∣₁ }
 
 pub returns-clause-answers : goal.returns-clause-answers
@@ -90,11 +90,11 @@ returns-clause-answers g c =
     let points = c.in_ok-told.told.points.items in
     let nodes = c.in_ok-told.told.nodes.items in
     let bag = bag_under g.C.Criterion.rules scan.found.criterion c.args.criterion.now found c.in_ok-scan.ensures.same scan.found.kept in
-    let way = way_at t q.target q.source c.in_ok-ways.ways.items c.index.result.now c.in_ok-ways.ensures c.requires.source c.index.ensures in
+    let way = subst (IsWay t q.target q.source) (sym c.secs_from.ensures) (c.in_ok-ways.ensures.each q.source c.requires.source) in
     let says = subst (λ (x : TimetableValue). (p : Point g.row.C-V.Denot) → Contains points p → IsRetold x.footpaths (story_of scan) c.in_ok-points.points.items nodes p) c.in_ok-scan.ensures.timetable
-    (subst (λ (ps : List (Point g.row.C-V.Denot)). (p : Point g.row.C-V.Denot) → Contains points p → IsRetold (g.S.ConnSource.timetable c.scan_window.new.source).footpaths (story_of scan) ps nodes p) c.deref-2.ensures.value c.in_ok-told.ensures.says) in
-    let same = subst (λ (ps : List (Point g.row.C-V.Denot)). map untagged points ≡ map untagged ps) c.deref-2.ensures.value c.in_ok-told.ensures.same in
-    let made = answered rules laws t q can c.first_at-start.result c.first_at-start.ensures (story_of scan) nodes found c.in_ok-points.points.items points c.index.result.now c.in_ok-scan.ensures.matches bag c.in_ok-points.ensures.ordered c.in_ok-points.ensures.only c.in_ok-points.ensures.each same says way in
+    (subst (λ (ps : List (Point g.row.C-V.Denot)). (p : Point g.row.C-V.Denot) → Contains points p → IsRetold (g.S.ConnSource.timetable c.scan_window.new.source).footpaths (story_of scan) ps nodes p) c.deref.ensures.value c.in_ok-told.ensures.says) in
+    let same = subst (λ (ps : List (Point g.row.C-V.Denot)). map untagged points ≡ map untagged ps) c.deref.ensures.value c.in_ok-told.ensures.same in
+    let made = answered rules laws t q can c.first_at-start.result c.first_at-start.ensures (story_of scan) nodes found c.in_ok-points.points.items points c.secs_from.result c.in_ok-scan.ensures.matches bag c.in_ok-points.ensures.ordered c.in_ok-points.ensures.only c.in_ok-points.ensures.each same says way in
     record {
       answer = made.answer;
       attained = made.attained;

@@ -11,7 +11,7 @@ use Rattle.fronts.proofs.Mapped.{list_admitted}
 use Rattle.profile_scan.specs.Bound.{carried}
 use Rattle.profile_scan.specs.Steps.{TakesIn, leavings, boardings}
 use Rattle.profile_scan.specs.Story.{story, told}
-use Rattle.profile_scan.specs.Kept.{ArePlaced, kept_by, points_at, story_of}
+use Rattle.profile_scan.specs.Kept.{ArePlaced, IsWay, kept_by, points_at, story_of}
 use Rattle.profile_scan.proofs.Admitted.{AreAdmitted}
 use Rattle.profile_scan.proofs.Offers.{bag_under}
 use Rattle.profile_scan.proofs.BoundLemmas.{bounds_renewed, bounds_on, carried_by_bounds}
@@ -25,8 +25,8 @@ place_of-requires-clause-trip g c =
     let in_trips = (g.met.S.ConnSource.legal c.args.source.now).trips_in_range c.args.place (connection_at t c.args.place) (connection_at-stands t c.args.place c.requires.place) in
     subst (λ (n : ℕ). c.args.connection.now.trip < n) (sym c.requires.scan.long) (subst (λ (x : Connection). x.trip < t.trips) (sym c.requires.connection) in_trips)
 
-pub bounds-ways-connection : goal.bounds-ways-connection
-bounds-ways-connection g c =
+pub secs_from-way-requires : goal.secs_from-way-requires
+secs_from-way-requires g c =
     let t = g.S.ConnSource.timetable c.args.source.now in
     let to_in = ((g.met.S.ConnSource.legal c.args.source.now).stops_in_range c.args.place (connection_at t c.args.place) (connection_at-stands t c.args.place c.requires.place)).1 in
     subst (λ (n : ℕ). c.args.connection.now.to < n) (sym c.requires.ways.long) (subst (λ (x : Connection). x.to < t.stops) (sym c.requires.connection) to_in)
@@ -35,7 +35,8 @@ pub step_in-requires-clause-way : goal.step_in-requires-clause-way
 step_in-requires-clause-way g c =
     let t = g.S.ConnSource.timetable c.args.source.now in
     let to_in = ((g.met.S.ConnSource.legal c.args.source.now).stops_in_range c.args.place (connection_at t c.args.place) (connection_at-stands t c.args.place c.requires.place)).1 in
-    c.requires.ways.each c.args.connection.now.to (subst (λ (x : Connection). x.to < t.stops) (sym c.requires.connection) to_in)
+    subst (IsWay t c.args.query.now.target c.args.connection.now.to) (sym c.secs_from-way.ensures)
+    (c.requires.ways.each c.args.connection.now.to (subst (λ (x : Connection). x.to < t.stops) (sym c.requires.connection) to_in))
 
 pub is_idle-requires-clause-trip : goal.is_idle-requires-clause-trip
 is_idle-requires-clause-trip g c =
@@ -55,7 +56,8 @@ returns-then-is_idle-clause-step g c =
     let q = c.args.query.now in
     let scan = c.args.scan.now in
     let to_in = ((g.met.S.ConnSource.legal c.args.source.now).stops_in_range c.args.place (connection_at t c.args.place) (connection_at-stands t c.args.place c.requires.place)).1 in
-    let is = c.requires.ways.each c.args.connection.now.to (subst (λ (x : Connection). x.to < t.stops) (sym c.requires.connection) to_in) in
+    let is = subst (IsWay t q.target c.args.connection.now.to) (sym c.secs_from-way.ensures)
+    (c.requires.ways.each c.args.connection.now.to (subst (λ (x : Connection). x.to < t.stops) (sym c.requires.connection) to_in)) in
     step_idle_at (g.C.Criterion.rules c.args.criterion.now) t q (told t.footpaths (story_of scan)) c.args.place (kept_by scan) _ c.args.connection.now c.requires.connection is (c.is_idle.ensures c.if-is_idle.true)
 
 pub returns-clause-scan : goal.returns-clause-scan
