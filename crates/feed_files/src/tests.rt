@@ -261,7 +261,11 @@ fn a_folder_is_read_whole(rt: HostRuntime) -> Result<(), Fail> {
         "whole_feed/transfers.txt",
         "from_stop_id,to_stop_id\nA,B\nB,A\n",
     )?;
-    fs::write(&rt, "whole_feed/frequencies.txt", "trip_id,start_time,end_time,headway_secs\nT1,9:00:00,10:00:00,1200\n")?;
+    fs::write(
+        &rt,
+        "whole_feed/frequencies.txt",
+        "trip_id,start_time,end_time,headway_secs\nT1,9:00:00,10:00:00,1200\n",
+    )?;
     let mut files = FolderFiles::new(&rt, "whole_feed");
     let tables = read_tables(rt.alloc(), &mut files)?;
     assert_eq!(rt; tables.stops.len(), 3);

@@ -270,7 +270,10 @@ fn later_steps_are_told_later(rt: HostRuntime) -> Result<(), Fail> {
         "calendar_dates.txt",
         "service_id,date,exception_type\nS,20240115,3\n",
     );
-    let no_trip = ("frequencies.txt", "trip_id,start_time,end_time,headway_secs\nT2,9:00:00,10:00:00,1200\nT9,9:00:00,10:00:00,1200\n");
+    let no_trip = (
+        "frequencies.txt",
+        "trip_id,start_time,end_time,headway_secs\nT2,9:00:00,10:00:00,1200\nT9,9:00:00,10:00:00,1200\n",
+    );
     let no_end = ("transfers.txt", "from_stop_id,to_stop_id\nA,Q\n");
     let in_file = "refused 7 BadNumber calendar_dates.txt 1\n";
     judge_more(
