@@ -1,8 +1,8 @@
 // A number that is the length of a list that nobody keeps.
 
 ghost use Rattle.std.specs.Prelude.{◌≡◌, ◌+◌, ◌<◌, ◌^◌, ◌++◌, ◌∷◌, [], List, length};
-ghost use Rattle.timetable.specs.declared.tests.counter.Event.TheVariants.{Look};
-ghost use Rattle.timetable.specs.declared.tests.counter.Event.{Event};
+ghost use Rattle.reasoning.specs.declared.tests.counter.Event.TheVariants.{Look};
+ghost use Rattle.reasoning.specs.declared.tests.counter.Event.{Event};
 
 use crate::Trace;
 use std::marker::Model;

@@ -1,6 +1,6 @@
 -- The items that a node stands for, in order.
 use Rattle.std.specs.Prelude.{List, [], ◌∷◌, ◌++◌}
-use Rattle.timetable.specs.declared.trace.Node.{Node, Nothing, Noted', Both'}
+use Rattle.reasoning.specs.declared.trace.Node.{Node, Nothing, Noted', Both'}
 
 abbrev pub items_of : {T : Type 0} → Node T → List T
 items_of Nothing = []

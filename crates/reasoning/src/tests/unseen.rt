@@ -2,7 +2,7 @@
 
 ghost use Rattle.std.specs.Prelude.{◌≡◌, ◌+◌, ◌<◌, ◌^◌};
 
-use crate::{Kept, Timetable, Trace};
+use crate::{Kept, Trace};
 use std::mem::size_of;
 
 // What no code computes: the sum of two numbers.
@@ -35,7 +35,7 @@ fn unseen_values_take_no_bytes(rt: HostRuntime) {
     let _sum = sum_of(&1, &2);
     let next = successor_of(7);
     assert_eq!(rt; next.number, 8);
-    assert_eq!(rt; size_of::<Kept<Timetable>>(), 0);
-    assert_eq!(rt; size_of::<Trace<Timetable>>(), 0);
+    assert_eq!(rt; size_of::<Kept<String>>(), 0);
+    assert_eq!(rt; size_of::<Trace<String>>(), 0);
     assert_eq!(rt; size_of::<Successor>(), 4);
 }

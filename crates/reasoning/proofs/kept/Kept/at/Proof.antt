@@ -22,11 +22,11 @@ use denote.Steps.{nothing}
 use denote.Triple.Entry.{alive}
 use denote.Triple.Walked.{says, Stays, stay_dropped, Goes-dropped, walk_of, ends_at}
 use Rattle.std.proofs.raw_atomic.Walks.{proved}
-use Rattle.timetable.specs.contracts.kept.Kept.{the_row}
-use Rattle.timetable.specs.contracts.kept.Kept.at.{ended, clauses}
-use Rattle.timetable.specs.contracts.kept.Kept.at.Key.{name as #self}
-use Rattle.timetable.proofs.kept.Kept.at.Statement.{statement}
-use Rattle.timetable.proofs.kept.Kept.at.Code as code
+use Rattle.reasoning.specs.contracts.kept.Kept.{the_row}
+use Rattle.reasoning.specs.contracts.kept.Kept.at.{ended, clauses}
+use Rattle.reasoning.specs.contracts.kept.Kept.at.Key.{name as #self}
+use Rattle.reasoning.proofs.kept.Kept.at.Statement.{statement}
+use Rattle.reasoning.proofs.kept.Kept.at.Code as code
 
 pub at_spec : {M : Type 1} → statement M
 at_spec 𝓤 𝓛 𝓜 𝓡 wired T A B laws_T laws_A laws_B =

@@ -26,7 +26,7 @@ impl<T> Model for Trace<T> {
 
     ghost Value = { List T };
 
-    ghost use Rattle.timetable.specs.NodeItems.{items_of};
+    ghost use Rattle.reasoning.specs.NodeItems.{items_of};
 
     ghost view = { λ t. items_of t.node.value };
 }
