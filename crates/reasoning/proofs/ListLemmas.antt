@@ -12,11 +12,11 @@ not_in_nil x is = omega (arith, is.1)
 pub contains_first : {X : Type 0} (x : X) (xs : List X) → Contains (x ∷ xs) x
 contains_first x xs = (0, omega arith, refl)
 
-pub contains_rest : {X : Type 0} (x y : X) (xs : List X) → Contains xs y → Contains (x ∷ xs) y
+pub contains_rest : {X : Type 0} (x y : X) (xs : List X) → Contains xs x → Contains (y ∷ xs) x
 contains_rest x y xs (k, below, is) = (suc k, omega (arith, below), is)
 
 -- an element of a list is the first, or one of the rest
-pub contains_cases : {X : Type 0} (x y : X) (xs : List X) → Contains (x ∷ xs) y → (x ≡ y) ⊎ Contains xs y
+pub contains_cases : {X : Type 0} (x y : X) (xs : List X) → Contains (y ∷ xs) x → (y ≡ x) ⊎ Contains xs x
 contains_cases x y xs (zero, below, is) = inl is
 contains_cases x y xs (suc k, below, is) = inr (k, omega (arith, below), is)
 
@@ -43,12 +43,12 @@ into_filter p [] x is passes = is
 into_filter p (y ∷ ys) x is passes =
     let kept : p y ≡ true → Contains (cond (p y) (y ∷ filter p ys) (filter p ys)) y = λ e.
     subst (λ (b : Bool). Contains (cond b (y ∷ filter p ys) (filter p ys)) y) (sym e) (contains_first y (filter p ys)) in
-    elim (contains_cases y x ys is) [
+    elim (contains_cases x y ys is) [
       | inl same ↦ subst (Contains (filter p (y ∷ ys))) same (kept (ap p same ∙ passes))
       | inr later ↦
           let more = into_filter p ys x later passes in
           elim (p y) as (λ b. Contains (cond b (y ∷ filter p ys) (filter p ys)) x) [
-            | true ↦ contains_rest y x (filter p ys) more
+            | true ↦ contains_rest x y (filter p ys) more
             | false ↦ more
           ]
     ]

@@ -1,9 +1,10 @@
 use Rattle.std.proofs.Common.{List, ℕ, sym, subst}
 use Rattle.std.specs.Str.{IsUtf8}
 use Rattle.journeys.specs.Texts.{text_of}
-use Rattle.csa_program.proofs.PlainLemmas.{plain_is_utf8}
-use Rattle.csa_program.proofs.replying.journey_string.Goals as goal
+use Rattle.journeys.proofs.PlainLemmas.{plain_is_utf8}
+use Rattle.journeys.proofs.text.journey_string.Goals as goal
 
+-- plain bytes are a text, so none is refused
 pub unreachable-requires : goal.unreachable-requires
 unreachable-requires c =
     let plain : IsUtf8 (text_of c.args.journey.now) = plain_is_utf8 (text_of c.args.journey.now) (c.plain_texts.ensures.journeys c.args.journey.now) in
