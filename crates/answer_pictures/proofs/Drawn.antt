@@ -5,6 +5,7 @@ use Rattle.answer_pictures.specs.declared.axis.Axis.{Axis}
 use Rattle.answer_pictures.specs.LineValue.{LineValue}
 use Rattle.std.specs.List.{flat_map}
 use Rattle.answer_pictures.specs.Pictures.{AreDrawn, IsPicture, heading_text, line_text, mark_text, size_text}
+use Rattle.answer_pictures.specs.Width.{IsWideEnough}
 use Rattle.answer_pictures.proofs.Joined.{five}
 
 -- one more journey below those that are drawn
@@ -28,17 +29,19 @@ one_more axis lines i line y before now after lt there (drawn, are, is) wrote =
     )
 
 -- a picture, part by part
-pub is_picture : (title : List ℕ) (axis : Axis) (lines : List LineValue) (o p q r s t : List ℕ) (height bottom : ℕ) (marks : List ℕ)
-    → o ≡ [] → p ≡ o ++ size_text height → q ≡ p ++ heading_text title → r ≡ q ++ flat_map (mark_text axis bottom) marks
+pub is_picture : (title : List ℕ) (axis : Axis) (lines : List LineValue) (o p q r s t : List ℕ) (width height bottom : ℕ) (marks : List ℕ)
+    → IsWideEnough title lines width → o ≡ [] → p ≡ o ++ size_text width height → q ≡ p ++ heading_text title → r ≡ q ++ flat_map (mark_text axis bottom) marks
     → (drawn : List ℕ) × AreDrawn axis lines drawn × (s ≡ r ++ drawn)
     → t ≡ s ++ codes "</svg>\n"
     → IsPicture title axis lines t
-is_picture title axis lines o p q r s t height bottom marks none sized headed marked (drawn, are, on) last =
+is_picture title axis lines o p q r s t width height bottom marks wide none sized headed marked (drawn, are, on) last =
     record {
+      width = width;
       height = height;
       bottom = bottom;
       marks = marks;
       drawn = drawn;
+      wide = wide;
       are_drawn = are;
-      is = five [] p q r s t _ _ _ _ _ (sized ∙ ap (λ x. x ++ size_text height) none) headed marked on last;
+      is = five [] p q r s t _ _ _ _ _ (sized ∙ ap (λ x. x ++ size_text width height) none) headed marked on last;
     }

@@ -7,6 +7,7 @@ use Rattle.answer_pictures.specs.declared.lines.Way.{Way}
 use Rattle.answer_pictures.specs.declared.lines.Way.TheVariants.{Ride, Walk}
 use Rattle.answer_pictures.specs.LineValue.{StretchValue, LineValue}
 use Rattle.answer_pictures.specs.Style.{style}
+use Rattle.answer_pictures.specs.Width.{IsWideEnough}
 use Rattle.answer_pictures.specs.Words.{escaped}
 
 -- where a time lies on an axis that is 740 long and begins at 190
@@ -66,22 +67,27 @@ AreDrawn axis [] text = text ≡ []
 AreDrawn axis (line ∷ lines) text = (y : ℕ) × (rest : List ℕ) × AreDrawn axis lines rest × (text ≡ line_text axis y line ++ rest)
 
 -- the beginning of a picture: its size, its title and how it looks
-unfoldable pub size_text : ℕ → List ℕ
-size_text height =
-    codes "<svg xmlns=\"http://www.w3.org/2000/svg\" viewBox=\"0 0 960 " ++ decimal height ++ codes "\" width=\"960\""
-    ++ attribute_text (codes " height") height
+unfoldable pub view_text : ℕ → ℕ → List ℕ
+view_text width height =
+    codes "<svg xmlns=\"http://www.w3.org/2000/svg\" viewBox=\"0 0 " ++ decimal width ++ codes " " ++ decimal height ++ codes "\""
+
+unfoldable pub size_text : ℕ → ℕ → List ℕ
+size_text width height = view_text width height ++ attribute_text (codes " width") width ++ attribute_text (codes " height") height
 
 unfoldable pub heading_text : List ℕ → List ℕ
 heading_text title =
     (codes ">\n<title>" ++ escaped title ++ codes "</title>\n<style>") ++ style
-    ++ codes "</style>\n<rect class=\"paper\" width=\"960\" height=\"100%\"/>\n"
+    ++ codes "</style>\n<rect class=\"paper\" width=\"100%\" height=\"100%\"/>\n"
     ++ (codes "<text class=\"title\" x=\"16\" y=\"28\">" ++ escaped title ++ codes "</text>\n")
 
--- a text that begins and ends as an SVG file, with marks of the axis, and a group for each journey in order and no other
+-- a text that begins and ends as an SVG file, with marks of the axis, and a group for each journey in order and no other; it is wide enough
+-- for the title and each note
 pub record IsPicture (title : List ℕ) (axis : Axis) (lines : List LineValue) (text : List ℕ) : Type 0 where
+  pub width : ℕ
   pub height : ℕ
   pub bottom : ℕ
   pub marks : List ℕ
   pub drawn : List ℕ
+  pub wide : IsWideEnough title lines width
   pub are_drawn : AreDrawn axis lines drawn
-  pub is : text ≡ size_text height ++ heading_text title ++ flat_map (mark_text axis bottom) marks ++ drawn ++ codes "</svg>\n"
+  pub is : text ≡ size_text width height ++ heading_text title ++ flat_map (mark_text axis bottom) marks ++ drawn ++ codes "</svg>\n"

@@ -2,12 +2,13 @@
 
 ghost use Rattle.std.specs.Prelude.{◌≡◌, ◌++◌, ℕ, List, codes, decimal, IfOk, OnOk, string_bytes};
 ghost use Rattle.std.specs.List.{flat_map};
-ghost use Rattle.answer_pictures.specs.Pictures.{AreDrawn, IsPicture, extent_text, grid_text, heading_text, label_text, line_text, mark_text, note_text, size_text, stretch_text, tick_text, told_text, way_text};
+ghost use Rattle.answer_pictures.specs.Pictures.{AreDrawn, IsPicture, extent_text, grid_text, heading_text, label_text, line_text, mark_text, note_text, size_text, stretch_text, tick_text, told_text, view_text, way_text};
 
 use crate::axis::Axis;
 use crate::lines::{JourneyLine, Stretch, Way};
 use crate::putting::{put_attribute, put_clock, put_element, put_number, put_text};
 use crate::style::style;
+use crate::width::width_for;
 use std::alloc::{AllocError, Global};
 
 // Where the first line of a picture is, and how far each is from the next.
@@ -16,7 +17,7 @@ const FIRST_LINE: u64 = 92;
 const LINE_HEIGHT: u64 = 48;
 
 /// The picture of journeys along an axis, as the text of an SVG file: the title, the times at the marks of the axis, and a group for
-/// each journey in order. Rides are thick and walks thin. The only error is want of memory.
+/// each journey in order. Rides are thick and walks thin, and the picture is wide enough for each note. The only error is want of memory.
 pub fn picture(
     alloc: Global,
     title: &str,
@@ -30,7 +31,7 @@ pub fn picture(
         .saturating_add(FIRST_LINE);
     let marks = axis.marks(alloc)?;
     let mut out = String::new(alloc);
-    put_size(&mut out, bottom.saturating_add(16))?;
+    put_size(&mut out, width_for(title, lines), bottom.saturating_add(16))?;
     put_heading(&mut out, title)?;
     put_marks(&mut out, axis, bottom, &marks)?;
     put_lines(&mut out, axis, lines)?;
@@ -38,15 +39,25 @@ pub fn picture(
     Ok(out)
 }
 
-fn put_size(out: &mut String, height: u64) -> Result<(), AllocError>
-    ensures { OnOk result (string_bytes out.new ≡ string_bytes out.old ++ size_text height) }
+fn put_view(out: &mut String, width: u64, height: u64) -> Result<(), AllocError>
+    ensures { OnOk result (string_bytes out.new ≡ string_bytes out.old ++ view_text width height) }
 {
     put_text(
         out,
-        "<svg xmlns=\"http://www.w3.org/2000/svg\" viewBox=\"0 0 960 ",
+        "<svg xmlns=\"http://www.w3.org/2000/svg\" viewBox=\"0 0 ",
     )?;
+    put_number(out, width)?;
+    put_text(out, " ")?;
     put_number(out, height)?;
-    put_text(out, "\" width=\"960\"")?;
+    put_text(out, "\"")?;
+    Ok(())
+}
+
+fn put_size(out: &mut String, width: u64, height: u64) -> Result<(), AllocError>
+    ensures { OnOk result (string_bytes out.new ≡ string_bytes out.old ++ size_text width height) }
+{
+    put_view(out, width, height)?;
+    put_attribute(out, " width", width)?;
     put_attribute(out, " height", height)?;
     Ok(())
 }
@@ -58,7 +69,7 @@ fn put_heading(out: &mut String, title: &str) -> Result<(), AllocError>
     put_text(out, style())?;
     put_text(
         out,
-        "</style>\n<rect class=\"paper\" width=\"960\" height=\"100%\"/>\n",
+        "</style>\n<rect class=\"paper\" width=\"100%\" height=\"100%\"/>\n",
     )?;
     put_element(
         out,

@@ -1,11 +1,12 @@
 //! Journeys over an image as lines of a picture.
 
-ghost use Rattle.std.specs.Prelude.{◌≡◌, ◌+◌, ◌<◌, ◌++◌, ◌∷◌, [], map, slice_get, IfOk, OnOk};
+ghost use Rattle.std.specs.Prelude.{◌≡◌, ◌++◌, ◌∷◌, [], map, IfOk, OnOk};
 ghost use Rattle.std.specs.List.{flat_map};
 ghost use Rattle.answer_pictures.specs.declared.lines.Way.TheVariants.{Walk};
 ghost use Rattle.answer_pictures.specs.Told.{journey_parts, later, part, part_of, ride_parts, walk_parts};
 
 use crate::lines::{JourneyLine, Stretch, Way};
+use crate::naming::{connection_at, stop_name, trip_name};
 use criteria::ToldValue;
 use image_verifier::Verified;
 use std::alloc::{AllocError, Global};
@@ -234,47 +235,4 @@ fn walk_words(
     );
     let (start, end) = (Clock(start), Clock(end));
     format!(in alloc; "on foot: {from} {start}, {to} {end}")
-}
-
-/// A connection of an image, if it has so many.
-fn connection_at(image: &Verified, place: u32) -> Option<Connection>
-    ensures { result ≡ slice_get image.now.timetable.connections place }
-{
-    if (place as usize) < image.len() {
-        Some(image.connection(place as usize))
-    } else {
-        None
-    }
-}
-
-/// The name of a stop, and nothing where there is no such stop.
-fn stop_name(alloc: Global, image: &Verified, stop: u32) -> Result<String, AllocError> {
-    if stop < image.stops() {
-        name(alloc, image, stop as usize)
-    } else {
-        Ok(String::new(alloc))
-    }
-}
-
-/// The name of a trip, and nothing where there is no such trip.
-fn trip_name(alloc: Global, image: &Verified, trip: u32) -> Result<String, AllocError> {
-    if trip < image.trips() {
-        name(alloc, image, image.stops() as usize + trip as usize)
-    } else {
-        Ok(String::new(alloc))
-    }
-}
-
-/// A name of an image: those of the stops come first, and then those of the trips.
-fn name(alloc: Global, image: &Verified, number: usize) -> Result<String, AllocError>
-    requires { number < image.now.timetable.stops + image.now.timetable.trips }
-{
-    let mut bytes = Vec::new(alloc);
-    for place in 0..image.name_len(number) {
-        bytes.push(image.name_byte(number, place))?;
-    }
-    match String::from_utf8(bytes) {
-        Ok(text) => Ok(text),
-        Err(_) => Ok(String::new(alloc)),
-    }
 }

@@ -52,6 +52,22 @@ fn a_journey_is_drawn(rt: HostRuntime) -> Result<(), Fail> {
     Ok(())
 }
 
+/// A picture with a note of 150 letters has 206 and seven for each as its width.
+#[test]
+fn a_long_note_has_room(rt: HostRuntime) -> Result<(), Fail> {
+    let alloc = rt.alloc();
+    let mut lines = Vec::new(alloc);
+    lines.push(JourneyLine {
+        label: String::new(alloc),
+        stretches: Vec::new(alloc),
+        note: "0123456789".repeat(alloc, 15)?,
+    })?;
+    let text = picture(alloc, "A", Axis::covering(0, 60), &lines)?;
+    assert!(rt; text.contains("viewBox=\"0 0 1256 156\" width=\"1256\" height=\"156\""));
+    assert!(rt; text.contains("<rect class=\"paper\" width=\"100%\" height=\"100%\"/>"));
+    Ok(())
+}
+
 /// Whichever growth is refused, the test ends with `AllocError`.
 #[test]
 fn refused_growth_is_told(rt: HostRuntime) -> Result<(), Fail> {

@@ -1,44 +1,11 @@
-//! The names of an image, and journeys told by them.
+//! Journeys told by the names of an image.
 
-ghost use Rattle.std.specs.Prelude.{◌+◌, ◌<◌};
-
+use answer_pictures::{connection_at, stop_name, trip_name};
 use image_verifier::Verified;
 use std::alloc::{AllocError, Global};
 use std::fmt::Write as _;
 use timetable::clocks::Clock;
-use timetable::{Connection, Footpath, Journey, Leg};
-
-/// The name of a stop, and nothing where there is no such stop.
-pub fn stop_name(alloc: Global, image: &Verified, stop: u32) -> Result<String, AllocError> {
-    if stop < image.stops() {
-        name(alloc, image, stop as usize)
-    } else {
-        Ok(String::new(alloc))
-    }
-}
-
-/// The name of a trip, and nothing where there is no such trip.
-fn trip_name(alloc: Global, image: &Verified, trip: u32) -> Result<String, AllocError> {
-    if trip < image.trips() {
-        name(alloc, image, image.stops() as usize + trip as usize)
-    } else {
-        Ok(String::new(alloc))
-    }
-}
-
-/// A name of an image: those of the stops come first, and then those of the trips.
-fn name(alloc: Global, image: &Verified, number: usize) -> Result<String, AllocError>
-    requires { number < image.now.timetable.stops + image.now.timetable.trips }
-{
-    let mut bytes = Vec::with_capacity(alloc, image.name_len(number))?;
-    for place in 0..image.name_len(number) {
-        bytes.push(image.name_byte(number, place))?;
-    }
-    match String::from_utf8(bytes) {
-        Ok(name) => Ok(name),
-        Err(_) => Ok(String::new(alloc)),
-    }
-}
+use timetable::{Footpath, Journey, Leg};
 
 /// Adds a journey's rides and walks, each after a space.
 pub fn append_named(
@@ -99,13 +66,4 @@ fn append_ride(
     let to = stop_name(alloc, image, last.to)?;
     let (dep, arr) = (Clock(first.dep), Clock(last.arr));
     write!(lines, " ride {trip} {dep} {from} {arr} {to}")
-}
-
-/// A connection of an image, if it has so many.
-fn connection_at(image: &Verified, place: u32) -> Option<Connection> {
-    if (place as usize) < image.len() {
-        Some(image.connection(place as usize))
-    } else {
-        None
-    }
 }

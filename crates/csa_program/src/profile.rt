@@ -12,7 +12,7 @@ use crate::status;
 use command_line::{AnswerForm, ProfileRequest};
 use criteria::{Arrival, ArrivalTrips, ArrivalTripsWalk, CriterionName, Told};
 use image_verifier::Verified;
-use journeys::{Answer, Departure, answer_query, journey_text, query_of};
+use journeys::{Answer, Departure, answer_query, journey_string, query_of};
 use profile_scan::InPlace;
 use std::alloc::{AllocError, Global};
 use std::fmt::Write as _;
@@ -113,12 +113,8 @@ fn append_departure<C: Told>(
 }
 
 fn append_journey(lines: &mut String, alloc: Global, journey: &Journey) -> Result<(), AllocError> {
-    lines.push_str(" ")?;
-    let text = journey_text(alloc, journey)?;
-    for byte in &text {
-        lines.push(char::from(*byte))?;
-    }
-    Ok(())
+    let text = journey_string(alloc, journey)?;
+    write!(lines, " {text}")
 }
 
 fn append_end<C: Told>(lines: &mut String, answer: &Answer<C>) -> Result<(), AllocError> {

@@ -1,16 +1,14 @@
 //! An answer as a session replies it.
 
 ghost use Rattle.std.specs.Prelude.{◌≡◌, IfOk, map, string_bytes};
-ghost use Rattle.journeys.specs.Texts.{text_of};
 ghost use Rattle.session.specs.Profiles.{departure_data};
 ghost use Rattle.session_texts.specs.Replies.{line_of, profile_data};
 ghost use Rattle.session_texts.specs.Telling.{points_of};
 
 use criteria::Told;
-use journeys::{Answer, Departure, journey_text, plain_texts};
+use journeys::{Answer, Departure, journey_string};
 use session_texts::Points;
 use std::alloc::{AllocError, Global};
-use timetable::Journey;
 
 /// The version that an image is which a server has just opened.
 const FIRST_VERSION: u64 = 1;
@@ -46,16 +44,4 @@ fn points_told<C: Told>(
         )?;
     }
     Ok(points)
-}
-
-// A journey's text.
-fn journey_string(alloc: Global, journey: &Journey) -> Result<String, AllocError>
-    ensures { IfOk result (λ text. string_bytes text ≡ text_of journey.now) }
-{
-    plain_texts();
-    let text = journey_text(alloc, journey)?;
-    match String::from_utf8(text) {
-        Ok(text) => Ok(text),
-        Err(_) => unreachable!(),
-    }
 }

@@ -1,8 +1,8 @@
 //! `csa stops IMAGE [TEXT]`.
 
-use crate::naming::stop_name;
 use crate::opening::open_image;
 use crate::status;
+use answer_pictures::stop_name;
 use command_line::StopsRequest;
 use image_verifier::Verified;
 use std::alloc::{AllocError, Global};

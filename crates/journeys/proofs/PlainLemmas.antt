@@ -2,10 +2,12 @@
 use Rattle.std.proofs.Common.{ℕ, zero, suc, ◌<◌, ◌≤◌, ◌/◌, ◌%◌, ◌==◌, Bool, true, false, List, [], ◌∷◌, ◌++◌, codes, Option, Some, None, All, if◌then◌else◌, nat_lt, refl, inl, inr, arith}
 use Rattle.std.specs.Prelude.{decimal}
 use Rattle.std.specs.Fmt.{digit_glyph, digits_onto, digits}
-use Rattle.std.specs.List.{flat_map}
+use Rattle.std.specs.List.{flat_map, slice_index}
+use Rattle.std.specs.Str.{IsUtf8}
 use Rattle.std.proofs.Math.Nat.{mod-lt}
 use Rattle.std.proofs.lemmas.Bool.{lt-ltb}
-use Rattle.std.proofs.lemmas.List.Elements.{All-nil, All-cons, All-append, All-drop}
+use Rattle.std.proofs.lemmas.List.Elements.{All-nil, All-cons, All-append, All-drop, All-head, All-tail}
+use Rattle.std.proofs.lemmas.Str.{IsUtf8-from_ascii}
 use Rattle.timetable.specs.Clocks.{two_digits, clock_bytes}
 use Rattle.timetable.specs.declared.network.Footpath.{Footpath}
 use Rattle.timetable.specs.JourneyValue.{RideValue, JourneyValue}
@@ -96,3 +98,17 @@ clock_is_plain time =
     let is_colon : IsPlainByte 58 = inr (inl (omega arith, omega arith)) in
     let first = and_then (two_digits (time / 3600)) (58 ∷ two_digits (time / 60 % 60)) (two_are_plain (time / 3600)) (behind 58 (two_digits (time / 60 % 60)) is_colon (two_are_plain (time / 60 % 60))) in
     and_then (two_digits (time / 3600) ++ 58 ∷ two_digits (time / 60 % 60)) (58 ∷ two_digits (time % 60)) first (behind 58 (two_digits (time % 60)) is_colon (two_are_plain (time % 60)))
+
+-- plain bytes are characters of one byte
+plain_is_small : (b : ℕ) → IsPlainByte b → b < 128
+plain_is_small b (inl space) = omega (arith, space)
+plain_is_small b (inr (inl digit)) = omega (arith, digit.1)
+plain_is_small b (inr (inr letter)) = omega (arith, letter.1)
+
+plain_is_ascii : (bytes : List ℕ) → IsPlain bytes → (i : ℕ) → slice_index bytes i < 128
+plain_is_ascii [] plain i = omega arith
+plain_is_ascii (b ∷ bytes) plain zero = plain_is_small b (All-head IsPlainByte b bytes plain)
+plain_is_ascii (b ∷ bytes) plain (suc i) = plain_is_ascii bytes (All-tail IsPlainByte b bytes plain) i
+
+pub plain_is_utf8 : (bytes : List ℕ) → All IsPlainByte bytes → IsUtf8 bytes
+plain_is_utf8 bytes plain = IsUtf8-from_ascii bytes (plain_is_ascii bytes plain)

@@ -20,7 +20,7 @@ pub use counts::{check, faultless_counts};
 pub use extraction::extract;
 pub use fault::JourneyFault;
 pub use question::{Window, query_of};
-pub use text::{journey_parse, journey_text, one_text, plain_texts};
+pub use text::{journey_parse, journey_string, journey_text, one_text, plain_texts};
 pub use text_fault::TextFault;
 
 #[cfg(test)]

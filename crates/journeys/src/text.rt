@@ -1,6 +1,6 @@
 //! Journeys as texts.
 
-ghost use Rattle.std.specs.Prelude.{◌≡◌, ◌++◌, ◌∷◌, [], drop, codes, ℕ, All, IfOk, OnOk, MatchResult};
+ghost use Rattle.std.specs.Prelude.{◌≡◌, ◌++◌, ◌∷◌, [], drop, codes, ℕ, All, IfOk, OnOk, MatchResult, string_bytes};
 ghost use Rattle.std.specs.List.{flat_map};
 ghost use Rattle.timetable.specs.Clocks.{clock_bytes};
 ghost use Rattle.timetable.specs.JourneyValue.{JourneyValue};
@@ -87,6 +87,18 @@ pub fn journey_text(alloc: Global, journey: &Journey) -> Result<Vec<u8>, AllocEr
         out.remove(0);
     }
     Ok(out)
+}
+
+/// The text of a journey as a string: each of its bytes is a character.
+pub fn journey_string(alloc: Global, journey: &Journey) -> Result<String, AllocError>
+    ensures { IfOk result (λ text. string_bytes text ≡ text_of journey.now) }
+{
+    plain_texts();
+    let text = journey_text(alloc, journey)?;
+    match String::from_utf8(text) {
+        Ok(text) => Ok(text),
+        Err(_) => unreachable!(),
+    }
 }
 
 /// The journey whose text the bytes are. Numbers are decimal, without leading zeros, up to 4,294,967,295; at most one walk comes

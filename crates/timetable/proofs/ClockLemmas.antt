@@ -13,12 +13,6 @@ use Rattle.std.proofs.lemmas.Fmt.{decimal_digit, decimal_step, decimal_nonempty,
 use Rattle.std.proofs.lemmas.Str.Parse.{numerals_by_value, tells_digits, digit_from_value}
 use Rattle.timetable.specs.Clocks.{SpellsClock, HasNoSpareZero, two_digits, clock_bytes, colon}
 
--- up to eight digits spell less than 100,000,000
-pub few_digits : (number digits : ℕ) → digits < 9 → number < 10 ^ digits → number < 10 ^ 8
-few_digits number digits few h =
-    let more : 10 ^ digits ≤ 10 ^ 8 = pow-le-pow_right {n = 10} (lit< tt) {i = digits} {j = 8} (omega arith) in
-    omega arith
-
 minutes_there : (ms ss : List ℕ) → length ms ≡ 2 → take 2 (drop 1 (colon ∷ ms ++ colon ∷ ss)) ≡ ms
 minutes_there [] ss two = absurd (omega arith)
 minutes_there (a ∷ []) ss two = absurd (omega arith)

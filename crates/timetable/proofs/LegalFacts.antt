@@ -1,7 +1,8 @@
 -- What a legal timetable within the limits gives to those who read it by place.
-use Rattle.std.proofs.Common.{◌≡◌, ℕ, zero, suc, ◌+◌, ◌<◌, ◌≤◌, List, length, Contains, Some, slice_get, refl, sym, ap, subst, ◌∙◌, arith, inl, inr}
+use Rattle.std.proofs.Common.{◌≡◌, ℕ, zero, suc, ◌+◌, ◌<◌, ◌≤◌, length, Contains, Some, slice_get, refl, sym, ap, subst, ◌∙◌, arith, inl, inr}
 use Rattle.std.proofs.lemmas.Bool.{cases_eq}
-use Rattle.std.proofs.lemmas.Option.{slice_get-get_or, get_or_from_slice_get, slice_get_within, same_Some}
+use Rattle.std.proofs.lemmas.Option.{slice_get-get_or, get_or_from_slice_get, same_Some}
+pub use Rattle.reasoning.proofs.ListLemmas.{contains_at as Contains-At, at_contains as At-Contains}
 use Rattle.timetable.specs.declared.network.Connection.{Connection}
 use Rattle.timetable.specs.declared.network.Footpath.{Footpath}
 use Rattle.timetable.specs.declared.limits.TheConstants.{MAX_WALK_SECS, TIME_END}
@@ -10,14 +11,6 @@ use Rattle.timetable.specs.Legal.{At, HasFootpath, IsLegal}
 use Rattle.timetable.specs.LegalProp.{same_place}
 use Rattle.timetable.specs.Limits.{IsWithinLimits}
 use Rattle.timetable.specs.Journeys.{connection_at, no_connection}
-
--- what stands at a place is in the list
-pub Contains-At : {X : Type 0} (xs : List X) (i : ℕ) (x : X) → At xs i x → Contains xs x
-Contains-At xs i x at = (i, slice_get_within xs i x at, get_or_from_slice_get xs i x x at)
-
--- what is in the list stands at some place
-pub At-Contains : {X : Type 0} (xs : List X) (x : X) → Contains xs x → (i : ℕ) × At xs i x
-At-Contains xs x (i, lt, is) = (i, slice_get-get_or xs i x lt ∙ ap Some is)
 
 -- the connection at a place stands there
 pub connection_at-stands : (t : TimetableValue) (i : ℕ) → i < length t.connections → At t.connections i (connection_at t i)

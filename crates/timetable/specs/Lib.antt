@@ -8,4 +8,3 @@ pub mod First
 pub mod Journeys
 pub mod Queries
 pub mod Clocks
-pub mod NodeItems

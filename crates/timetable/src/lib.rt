@@ -3,21 +3,18 @@
 
 pub mod clocks;
 pub mod journey;
-pub mod kept;
 pub mod laws;
 pub mod limits;
 pub mod names;
 pub mod network;
 pub mod query;
-pub mod trace;
 
 pub use clocks::{CLOCK_END, Clock, clock_parse, clock_text};
 pub use journey::{Journey, Leg, Ride, Times};
-pub use kept::Kept;
 pub use names::{Names, TripName};
 pub use network::{Connection, Footpath, Timetable};
 pub use query::{Query, QueryFault};
-pub use trace::Trace;
+pub use reasoning::{Kept, Trace};
 
 #[cfg(test)]
 mod tests;

@@ -1,5 +1,2 @@
 mod clock_texts;
-mod counter;
 mod queries;
-mod shares;
-mod unseen;

@@ -1,5 +1,5 @@
 use Rattle.std.proofs.Common.{◌<◌, ◌^◌, arith}
-use Rattle.timetable.proofs.ClockLemmas.{few_digits}
+use Rattle.reasoning.proofs.DigitLemmas.{few_digits}
 use Rattle.timetable.proofs.clocks.numeral.Goals as goal
 
 pub overflow_mul-number : goal.overflow_mul-number

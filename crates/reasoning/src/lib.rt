@@ -1,0 +1,13 @@
+//! What every proof may lean on, and what contracts alone see: first places, lists, digits; traces and kept values.
+//!
+//! Nothing here knows what a timetable is: its definitions and lemmas name std's words alone.
+#![tactic(auto)]
+
+mod kept;
+mod trace;
+
+pub use kept::Kept;
+pub use trace::Trace;
+
+#[cfg(test)]
+mod tests;

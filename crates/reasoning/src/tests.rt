@@ -1,0 +1,3 @@
+mod counter;
+mod shares;
+mod unseen;

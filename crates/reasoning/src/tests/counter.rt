@@ -1,0 +1,73 @@
+// A number that is the length of a list that nobody keeps.
+
+ghost use Rattle.std.specs.Prelude.{◌≡◌, ◌+◌, ◌<◌, ◌^◌, ◌++◌, ◌∷◌, [], List, length};
+ghost use Rattle.reasoning.specs.declared.tests.counter.Event.TheVariants.{Look};
+ghost use Rattle.reasoning.specs.declared.tests.counter.Event.{Event};
+
+use crate::Trace;
+use std::marker::Model;
+
+#[derive(Drop)]
+pub enum Event {
+    Look { worker: u64 },
+}
+
+/// The events, as contracts see it. It keeps their number.
+#[derive(Drop)]
+pub struct Counter {
+    count: u64,
+    events: Trace<Event>,
+}
+
+impl Model for Counter {
+    ghost Value = { List Event };
+
+    ghost view = { λ c. c.events };
+
+    ghost invariant = { λ c. c.count ≡ length c.events };
+}
+
+impl Counter {
+    pub fn new() -> Counter
+        ensures { result ≡ [] }
+    {
+        Counter {
+            count: 0,
+            events: Trace::new(),
+        }
+    }
+
+    pub fn count(&self) -> u64
+        ensures { result ≡ length self.now }
+    {
+        self.count
+    }
+
+    pub fn look(&mut self, worker: u64)
+        requires { length self.old + 1 < 2 ^ 64 }
+        ensures { self.new ≡ self.old ++ Look worker ∷ [] }
+    {
+        self.events.note(&Event::Look { worker });
+        self.count += 1;
+    }
+
+    pub fn take_in(&mut self, other: Counter)
+        requires { length self.old + length other < 2 ^ 64 }
+        ensures { self.new ≡ self.old ++ other }
+    {
+        let Counter { count, events } = other;
+        self.count += count;
+        self.events.append(events);
+    }
+}
+
+#[test]
+fn events_are_counted(rt: HostRuntime) {
+    let mut counter = Counter::new();
+    counter.look(3);
+    let mut other = Counter::new();
+    other.look(4);
+    other.look(5);
+    counter.take_in(other);
+    assert_eq!(rt; counter.count(), 3);
+}

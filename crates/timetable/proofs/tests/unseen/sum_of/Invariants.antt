@@ -1,5 +1,0 @@
-use Rattle.std.proofs.Common.{◌+◌}
-use Rattle.timetable.proofs.tests.unseen.sum_of.Given as goal
-
-abbrev pub ghost-at : goal.ghost-at
-ghost-at a = a.first.now + a.second.now
