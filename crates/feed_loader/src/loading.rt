@@ -1,6 +1,7 @@
 //! From files to tables, from tables to a feed, from a feed to its image.
 
 ghost use Rattle.std.specs.Prelude.{◌≡◌, ◌≤◌, ◌<◌, ◌+◌, ◌-◌, ◌^◌, IfOk, IfErr};
+ghost use Rattle.image_layout.specs.declared.layout.TheConstants.{LAYOUT};
 ghost use Rattle.feed_files.specs.Reading.{Content, Tells};
 ghost use Rattle.connections.specs.declared.days.TheConstants.{MAX_DAYS};
 ghost use Rattle.feed_loader.specs.Faults.{failed_by, failed_in};
@@ -16,8 +17,8 @@ use gtfs_tables::laws::{joined_is_runnable, joined_names_its_stops};
 use image_verifier::Verified;
 use std::alloc::Global;
 
-/// The image of a feed's files (GTFS Schedule Reference), and what was counted. Each file is read and judged before the next is
-/// read; then the tables are joined, and the image is made of the feed.
+/// The image of a feed's files (GTFS Schedule Reference), in the layout that is written, and what was counted. Each file is read
+/// and judged before the next is read; then the tables are joined, and the image is made of the feed.
 ///
 /// # Errors
 ///
@@ -34,6 +35,7 @@ pub fn load<F: FeedFiles>(
     ensures same { F.holds files.new ≡ F.holds files.old }
     ensures failures { F.failures files.new ≡ F.failures files.old + failed_in result }
     ensures failed { F.failed files.new ≡ failed_by (F.failed files.old) result }
+    ensures layout { IfOk result (λ loaded. loaded.0.layout ≡ LAYOUT) }
     ensures ok { (content : Content) → Tells (F.holds files.old) content → IfOk result (λ loaded. IsLoaded content plan.now loaded.0.timetable loaded.0.names loaded.1) }
     ensures err { (content : Content) → Tells (F.holds files.old) content → IfErr result (λ fault. ¬ (IsWantOfMemory fault) → IsLoadRefusal content plan.now fault) }
 {

@@ -2,6 +2,7 @@
 
 ghost use Rattle.std.specs.Prelude.{◌≡◌, ◌≤◌, ◌<◌, ◌+◌, ◌⊎◌, length, IfOk, IfErr};
 ghost use Rattle.timetable.specs.declared.limits.TheConstants.{MAX_NAME_BYTES};
+ghost use Rattle.image_layout.specs.declared.layout.TheConstants.{LAYOUT};
 ghost use Rattle.image_layout.specs.Spelling.{text};
 ghost use Rattle.gtfs_tables.specs.Joined.{IsRunnable, NamesItsStops};
 ghost use Rattle.connections.specs.declared.days.TheConstants.{MAX_DAYS};
@@ -41,9 +42,9 @@ fn short_names(alloc: Global, feed: &Feed, plan: &Plan, runs: &[Run]) -> Result<
     Ok(Names { base, stops, trips })
 }
 
-/// The image of a joined feed: its stops with their stop_ids as names; each run on the days of the plan as a trip, with its
-/// trip_id and its day as name; the runs' connections; and the closure of the footpaths that the feed lists. Times count from the
-/// start of the first day. The report counts what was made.
+/// The image of a joined feed, in the layout that is written: its stops with their stop_ids as names; each run on the days of the
+/// plan as a trip, with its trip_id as name, its day, and its number among the trip's runs on that day; the runs' connections; and
+/// the closure of the footpaths that the feed lists. Times count from the start of the first day. The report counts what was made.
 ///
 /// # Errors
 ///
@@ -54,6 +55,7 @@ pub fn image_of(alloc: Global, feed: &Feed, plan: &Plan) -> Result<(Verified, Re
     requires names { NamesItsStops feed.now }
     requires some { 1 ≤ plan.now.days }
     requires few { plan.now.days ≤ MAX_DAYS }
+    ensures layout { IfOk result (λ made. made.0.layout ≡ LAYOUT) }
     ensures ok { IfOk result (λ made. IsMade feed.now plan.now made.0.timetable made.0.names made.1) }
     ensures err { IfErr result (λ fault. IsWantOfMemory fault ⊎ IsFeedRefusal feed.now plan.now fault) }
 {

@@ -5,7 +5,9 @@ ghost use Rattle.std.specs.Prelude.{◌≡◌};
 use super::*;
 use footpaths::FootFault;
 use gtfs_tables::{Day, FaultKind, Table, TableFault};
-use image_layout::second_sample_words;
+use image_layout::{sample_words, second_sample_words};
+use image_verifier::{Verified, verify};
+use image_writer::write;
 use service_days::{DayFault, Zone};
 use std::alloc::{AllocError, Global};
 use std::test::*;
@@ -74,6 +76,15 @@ fn repeated(frequencies: &'static [u8]) -> [(&'static str, &'static [u8]); 6] {
     ]
 }
 
+/// The image, worked out by hand, in which the first trip leaves at 09:00:00, 09:20:00 and 09:40:00: its days are followed by the
+/// repeats 0, 1, 2 of these runs and 0 of the second trip's.
+const REPEATED: [u32; 80] = [
+    0x50415343, 2, 3, 4, 7, 3, 11, 1705276800, 0, 1, 2, 29520, 30000, 3, 3, 0, 1, 32400, 33000, 0,
+    3, 1, 2, 33000, 34200, 0, 3, 0, 1, 33600, 34200, 1, 3, 1, 2, 34200, 35400, 1, 3, 0, 1, 34800,
+    35400, 2, 3, 1, 2, 35400, 36600, 2, 3, 0, 1, 2, 3, 0, 0, 1, 0, 2, 0, 0, 1, 2, 3, 5, 7, 9, 11,
+    20240115, 20240115, 20240115, 20240115, 0, 1, 2, 0, 0x54434241, 0x54315431, 0x00325431,
+];
+
 /// A trip that repeats runs once for each of its starts, and the image has the runs' numbers.
 #[test]
 fn repeats_are_numbered(rt: HostRuntime) -> Result<(), Fail> {
@@ -85,11 +96,36 @@ fn repeats_are_numbered(rt: HostRuntime) -> Result<(), Fail> {
     assert_eq!(rt; report.runs, 4);
     assert_eq!(rt; report.connections, 7);
     assert_eq!(rt; report.frequencies, 1);
-    assert_eq!(rt; image.words().len(), 80);
+    assert!(rt; image.words() == REPEATED.as_slice());
     assert_eq!(rt; image.trips(), 4);
     assert_eq!(rt; image.trip_repeat(1), 1);
     assert_eq!(rt; image.trip_repeat(2), 2);
     assert_eq!(rt; image.trip_repeat(3), 0);
+    Ok(())
+}
+
+// The image of what an image holds.
+fn written_anew(alloc: Global, image: &Verified) -> Result<Vec<u32>, AllocError> {
+    let (timetable, names) = image.to_timetable(alloc)?;
+    write(alloc, &timetable, &names)
+}
+
+/// Words that are judged, unpacked and written again are the same words; those of the first layout come out in the second.
+#[test]
+fn an_image_is_written_anew(rt: HostRuntime) -> Result<(), Fail> {
+    let first = sample_words();
+    let second = second_sample_words();
+    for (words, expected) in [
+        (first.as_slice(), second.as_slice()),
+        (second.as_slice(), second.as_slice()),
+        (REPEATED.as_slice(), REPEATED.as_slice()),
+    ] {
+        let Ok(image) = verify(rt.alloc(), words.to_vec(rt.alloc())?) else {
+            panic!(rt; "the words are refused");
+        };
+        assert!(rt; image.words() == words);
+        assert!(rt; written_anew(rt.alloc(), &image)?.as_slice() == expected);
+    }
     Ok(())
 }
 

@@ -1,6 +1,7 @@
 // The image of a timetable and its names.
 
 ghost use Rattle.std.specs.Prelude.{◌≡◌, IfOk, IfErr};
+ghost use Rattle.image_layout.specs.declared.layout.TheConstants.{LAYOUT};
 ghost use Rattle.image_writer.specs.Writable.{IsWritable};
 ghost use Rattle.feed_loader.specs.Refused.{IsWantOfMemory};
 
@@ -12,9 +13,10 @@ use image_writer::write;
 use std::alloc::Global;
 use timetable::{Names, Timetable};
 
-/// Writes the image and judges it. It has no fault, so want of memory is the only error.
+/// Writes the image, in the layout that is written, and judges it. It has no fault, so want of memory is the only error.
 pub fn written(alloc: Global, timetable: &Timetable, names: &Names) -> Result<Verified, LoadFault>
     requires { IsWritable timetable.now names.now }
+    ensures layout { IfOk result (λ image. image.layout ≡ LAYOUT) }
     ensures timetable { IfOk result (λ image. image.timetable ≡ timetable.now) }
     ensures names { IfOk result (λ image. image.names ≡ names.now) }
     ensures err { IfErr result IsWantOfMemory }

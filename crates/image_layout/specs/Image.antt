@@ -43,7 +43,12 @@ pub record IsImage (w : List ℕ) (t : TimetableValue) (n : NamesValue) : Type 0
   pub first : layout_of w ≡ FIRST_LAYOUT → AreFirst n
   pub spelled : w ≡ image_in (layout_of w) t n
 
--- what an image holds
+-- what an image holds, and the layout that its words name: these three have one spelling
 pub record ImageValue : Type 0 where
+  pub layout : ℕ
   pub timetable : TimetableValue
   pub names : NamesValue
+
+-- the words are the image of that timetable and those names, in that layout
+abbrev pub Spells : List ℕ → ImageValue → Type 0
+Spells w image = IsImage w image.timetable image.names × (layout_of w ≡ image.layout)

@@ -9,7 +9,7 @@ ghost use Rattle.image_layout.specs.declared.layout.TheConstants.{FIRST_LAYOUT};
 ghost use Rattle.image_layout.specs.Fields.{layout_of};
 ghost use Rattle.image_layout.specs.Spelling.{image, image_in};
 ghost use Rattle.image_layout.specs.Shown.{timetable_of, names_of};
-ghost use Rattle.image_layout.specs.Image.{AreFirst, HasImage, IsImage};
+ghost use Rattle.image_layout.specs.Image.{AreFirst, HasImage, ImageValue, IsImage, Spells};
 ghost use Rattle.image_layout.specs.Sample.{early_timetable, early_names, early_words, repeated_names, repeated_words};
 
 /// Words that are the image of a timetable and its names are as many as their header says, and show that timetable and those names:
@@ -28,6 +28,14 @@ pub fn one_timetable()
 /// A timetable and its names have one image at most in each layout.
 pub fn one_image()
     ensures { (v w : List ℕ) (t : TimetableValue) (n : NamesValue) → IsImage v t n → IsImage w t n → layout_of v ≡ layout_of w → v ≡ w }
+{}
+
+/// What contracts see of an image has one spelling: its words are the sections of its timetable and names in its layout. So an
+/// image is known to the word by its layout, its timetable and its names.
+pub fn one_spelling()
+    ensures words { (w : List ℕ) (image : ImageValue) → Spells w image → w ≡ image_in image.layout image.timetable image.names }
+    ensures one { (v w : List ℕ) (image : ImageValue) → Spells v image → Spells w image → v ≡ w }
+    ensures value { (w : List ℕ) (first second : ImageValue) → Spells w first → Spells w second → first ≡ second }
 {}
 
 /// A legal timetable and names that fit it have an image, which is spelled in the layout that is written; and where all repeats

@@ -7,12 +7,12 @@ ghost use Rattle.timetable.specs.Legal.{At};
 ghost use Rattle.timetable.specs.declared.network.Connection.{Connection};
 ghost use Rattle.timetable.specs.declared.network.Footpath.{Footpath};
 ghost use Rattle.image_layout.specs.Places.{IsWhole, header_of};
-ghost use Rattle.image_layout.specs.Fields.{foot_index_of};
+ghost use Rattle.image_layout.specs.Fields.{foot_index_of, layout_of};
 ghost use Rattle.image_layout.specs.Shown.{footpaths_of};
 ghost use Rattle.image_verifier.specs.Accepted.{IsAccepted};
 ghost use Rattle.timetable.specs.NamesValue.{NamesValue, TripNameValue};
 ghost use Rattle.image_layout.specs.Spelling.{name_list};
-ghost use Rattle.image_layout.specs.Image.{HasImage, IsImage};
+ghost use Rattle.image_layout.specs.Image.{HasImage, IsImage, Spells};
 ghost use Rattle.image_verifier.specs.declared.fault.ImageFault.TheVariants.{OutOfMemory};
 ghost use Rattle.image_verifier.specs.FirstFault.{Tells};
 
@@ -30,7 +30,7 @@ use std::alloc::{AllocError, Global};
 use std::marker::Model;
 use timetable::{Connection, Footpath, Names, Timetable};
 
-/// An image: contracts see the timetable and the names that it holds.
+/// An image: contracts see its layout, and the timetable and the names that it holds.
 #[derive(Drop)]
 pub struct Verified {
     words: Vec<u32>,
@@ -41,10 +41,11 @@ impl Model for Verified {
 
     ghost Value = { ImageValue };
 
+    ghost use Rattle.image_layout.specs.Fields.{layout_of};
     ghost use Rattle.image_layout.specs.Shown.{timetable_of, names_of};
     ghost use Rattle.image_verifier.specs.Accepted.{IsAccepted};
 
-    ghost view = { λ v. record { timetable = timetable_of v.words.items; names = names_of v.words.items } };
+    ghost view = { λ v. record { layout = layout_of v.words.items; timetable = timetable_of v.words.items; names = names_of v.words.items } };
 
     ghost invariant = { λ v. IsAccepted v.words.items };
 }
@@ -53,6 +54,7 @@ impl Model for Verified {
 /// that is wanted is taken after the header was judged and before anything else is.
 pub fn verify(alloc: Global, words: Vec<u32>) -> Result<Verified, (Vec<u32>, ImageFault)>
     ensures shown { IfOk result (λ v. IsImage words.items v.timetable v.names) }
+    ensures layout { IfOk result (λ v. v.layout ≡ layout_of words.items) }
     ensures every_image { (t : TimetableValue) (n : NamesValue) → IsImage words.items t n → IfErr result (λ e. e.1 ≡ OutOfMemory) }
     ensures same_words { IfErr result (λ e. e.0.items ≡ words.items) }
     ensures fault { IfErr result (λ e. Tells words.items e.1) }
@@ -138,9 +140,10 @@ impl Verified {
         connection_at(&self.words, i)
     }
 
-    /// The words, which are the image of the timetable and the names.
+    /// The words, which are the image of the timetable and the names in its layout: those that were verified, and no others
+    /// (`image_layout::laws::one_spelling`).
     pub fn words(&self) -> &[u32]
-        ensures { IsImage result.now self.now.timetable self.now.names }
+        ensures { Spells result.now self.now }
     {
         &self.words
     }

@@ -2,15 +2,15 @@
 
 use super::*;
 use criteria::{Arrival, ArrivalTrips, Criterion};
-use image_layout::sample_words;
+use image_layout::{sample_words, second_sample_words};
 use image_verifier::{Verified, verify};
 use profile_scan::profile;
 use sources::{ConnSource, Decoded, InPlace};
 use std::alloc::{AllocError, Global};
 use std::process::Abort;
 use std::test::*;
-use timetable::Query;
 use timetable::query::QueryFault;
+use timetable::{Query, Times};
 
 /// From 07:00:00 until 09:00:00, by 10:00:00.
 const ASKED: Query = Query {
@@ -40,6 +40,14 @@ const WITH_DIRECT_TRIP: [u32; 56] = [
     0x50415343, 1, 3, 3, 4, 3, 9, 1705276800, 0, 0, 1, 28800, 29400, 0, 3, 0, 2, 28800, 30000, 2,
     3, 1, 2, 29400, 30600, 0, 3, 1, 2, 29520, 30000, 1, 3, 0, 1, 2, 3, 0, 0, 1, 0, 2, 0, 0, 1, 2,
     3, 5, 7, 9, 20240115, 20240115, 20240115, 0x54434241, 0x54325431, 0x00000033,
+];
+
+/// The sample in the second layout, its first trip three times: at 09:00:00, 09:20:00 and 09:40:00, repeats 0, 1 and 2.
+const REPEATED: [u32; 80] = [
+    0x50415343, 2, 3, 4, 7, 3, 11, 1705276800, 0, 1, 2, 29520, 30000, 3, 3, 0, 1, 32400, 33000, 0,
+    3, 1, 2, 33000, 34200, 0, 3, 0, 1, 33600, 34200, 1, 3, 1, 2, 34200, 35400, 1, 3, 0, 1, 34800,
+    35400, 2, 3, 1, 2, 35400, 36600, 2, 3, 0, 1, 2, 3, 0, 0, 1, 0, 2, 0, 0, 1, 2, 3, 5, 7, 9, 11,
+    20240115, 20240115, 20240115, 20240115, 0, 1, 2, 0, 0x54434241, 0x54315431, 0x00325431,
 ];
 
 const CHANGE: &str = "ride 0 0 walk 1 1 0 ride 2 2";
@@ -122,6 +130,65 @@ fn by_a_change(rt: HostRuntime) -> Result<(), Fail> {
         &ASKED,
         &[CHANGE, "ride 0 1"],
     )
+}
+
+/// An image of the second layout is asked as one of the first is.
+#[test]
+fn in_the_second_layout(rt: HostRuntime) -> Result<(), Fail> {
+    let alloc = rt.alloc();
+    let words = second_sample_words();
+    assert_journeys(
+        &rt,
+        alloc,
+        &words,
+        &ArrivalTrips,
+        &ASKED,
+        &[CHANGE, "ride 0 1"],
+    )
+}
+
+/// Each repeat is a trip of its own: from 09:00:00 until 10:00:00 one leaves three times, and none but the last where one leaves
+/// after the second.
+#[test]
+fn by_repeats(rt: HostRuntime) -> Result<(), Fail> {
+    let alloc = rt.alloc();
+    let asked = Query {
+        from: 32400,
+        until: 36000,
+        by: 39600,
+        ..ASKED
+    };
+    let legs = ["ride 1 2", "ride 3 4", "ride 5 6"];
+    assert_journeys(&rt, alloc, &REPEATED, &ArrivalTrips, &asked, &legs)?;
+    let later = Query {
+        from: 33601,
+        ..asked
+    };
+    assert_journeys(&rt, alloc, &REPEATED, &ArrivalTrips, &later, &["ride 5 6"])
+}
+
+/// A leg stays within one repeat; from one to the next is a change.
+#[test]
+fn from_repeat_to_repeat(rt: HostRuntime) -> Result<(), Fail> {
+    let image = image(rt.alloc(), &REPEATED)?;
+    let asked = Query {
+        from: 32400,
+        until: 36000,
+        by: 39600,
+        ..ASKED
+    };
+    let journey = journey_parse(rt.alloc(), b"ride 1 4")?;
+    assert_eq!(rt;
+        check(&image, &asked, &journey),
+        Err(JourneyFault::TwoTrips(0))
+    );
+    let journey = journey_parse(rt.alloc(), b"ride 1 1 walk 1 1 0 ride 4 4")?;
+    let times = Times {
+        dep: 32400,
+        arr: 35400,
+    };
+    assert_eq!(rt; check(&image, &asked, &journey), Ok(times));
+    Ok(())
 }
 
 #[test]
