@@ -49,18 +49,20 @@ each_before rows (suc n) s lt is = elim (cases_eq s n) [
   ])
 ]
 
-pub starts_only : (rows : List Frequency) (s : ℕ) → Contains (starts_of rows) s → (row : Frequency) × Contains rows row × (n : ℕ) × (s ≡ row.start + n * row.headway) × (s < row.end)
+pub starts_only : (rows : List Frequency) (s : ℕ) → Contains (starts_of rows) s
+    → (row : Frequency) × Contains rows row × (0 < row.headway) × (n : ℕ) × (s ≡ row.start + n * row.headway) × (s < row.end)
 starts_only rows s inside =
     let found = Any-from_list_any (leaves_at s) rows (only_before rows (last_end rows) s inside).1 in
     let row = found.1 in
     let parts = and_parts (nat_lt 0 row.headway && nat_le row.start s && nat_lt s row.end) ((s - row.start) % row.headway == 0) found.4 in
     let more = and_parts (nat_lt 0 row.headway && nat_le row.start s) (nat_lt s row.end) parts.0 in
-    let late = leb-true row.start s (and_parts (nat_lt 0 row.headway) (nat_le row.start s) more.0).1 in
+    let begun = and_parts (nat_lt 0 row.headway) (nat_le row.start s) more.0 in
+    let late = leb-true row.start s begun.1 in
     let none : (s - row.start) % row.headway ≡ 0 = eqb-true ((s - row.start) % row.headway) 0 parts.1 in
     let n : ℕ = (s - row.start) / row.headway in
     let split = div-add-mod' (s - row.start) row.headway in
     let is : s ≡ row.start + n * row.headway = omega (arith, late, none, split) in
-    (row, (found.0, found.2, found.3), n, is, ltb-true s row.end more.1)
+    (row, (found.0, found.2, found.3), ltb-true 0 row.headway begun.0, n, is, ltb-true s row.end more.1)
 
 pub starts_each : (rows : List Frequency) (row : Frequency) (n : ℕ) → Contains rows row → 0 < row.headway → row.start + n * row.headway < row.end → Contains (starts_of rows) (row.start + n * row.headway)
 starts_each rows row n inside some lt =

@@ -29,9 +29,12 @@ pub fn limits()
 /// The starts of a trip are those of its rows, each once, rising: a row with a headway starts the trip at its start time and a
 /// whole number of headways later, before its end time.
 pub fn starts_are_theirs()
-    ensures only { (rows : List Frequency) (s : ℕ) → Contains (starts_of rows) s → (row : Frequency) × Contains rows row × (n : ℕ) × (s ≡ row.start + n * row.headway) × (s < row.end) }
-    ensures each { (rows : List Frequency) (row : Frequency) (n : ℕ) → Contains rows row → 0 < row.headway → row.start + n * row.headway < row.end → Contains (starts_of rows) (row.start + n * row.headway) }
-    ensures rising { (rows : List Frequency) (i j d : ℕ) → i < j → j < length (starts_of rows) → slice_index_or (starts_of rows) i d < slice_index_or (starts_of rows) j d }
+    ensures only { (rows : List Frequency) (s : ℕ) → Contains (starts_of rows) s
+        → (row : Frequency) × Contains rows row × (0 < row.headway) × (n : ℕ) × (s ≡ row.start + n * row.headway) × (s < row.end) }
+    ensures each { (rows : List Frequency) (row : Frequency) (n : ℕ) → Contains rows row → 0 < row.headway → row.start + n * row.headway < row.end
+        → Contains (starts_of rows) (row.start + n * row.headway) }
+    ensures rising { (rows : List Frequency) (i j d : ℕ) → i < j → j < length (starts_of rows)
+        → slice_index_or (starts_of rows) i d < slice_index_or (starts_of rows) j d }
 {}
 
 /// Where no trip repeats, each trip that runs on a day runs once, as its stop times stand: its times count from the day's start.
