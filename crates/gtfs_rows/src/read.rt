@@ -11,7 +11,7 @@ use crate::reader::read_table;
 use crate::rows::{
     AgencyRow, CalendarDateRow, CalendarRow, FrequencyRow, Location, StopRow, TransferRow, TripRow,
 };
-use crate::stop_times::StopTimes;
+use crate::stop_times::{StopTimes, StopTimesRead};
 use indexmap::IndexSet;
 use std::alloc::Global;
 
@@ -61,7 +61,15 @@ pub fn read_stop_times(alloc: Global, bytes: &[u8]) -> Result<StopTimes, TableFa
         "pickup_type",
         "drop_off_type",
     ];
-    read_table(stop_times, alloc, Table::StopTimes, bytes, &names, 5)
+    let read = StopTimesRead {
+        times: stop_times,
+        last: 0,
+        followers: Vec::new(alloc),
+    };
+    match read_table(read, alloc, Table::StopTimes, bytes, &names, 5) {
+        Ok(read) => Ok(read.times),
+        Err(fault) => Err(fault),
+    }
 }
 
 // The rows of the bytes of `stops.txt`, however many.

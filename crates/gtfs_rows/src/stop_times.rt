@@ -1,11 +1,12 @@
 // stop_times.txt, the longest table: its rows keep numbers, and each id is kept once.
 
-ghost use Rattle.std.specs.Prelude.{◌≡◌, ◌≢◌, ◌<◌, length, map, IfOk, IfErr, OnOk, IsUtf8, None, Some};
+ghost use Rattle.std.specs.Prelude.{◌≡◌, ◌≢◌, ◌<◌, ◌++◌, ◌∷◌, [], List, length, map, IfOk, IfErr, OnOk, IsUtf8, None, Some};
 ghost use Rattle.std.specs.String.{string_bytes};
 ghost use Rattle.csv.specs.Records.{AllText, fields_of};
 ghost use Rattle.gtfs_rows.specs.Cells.{cell as cell_of};
 ghost use Rattle.gtfs_rows.specs.Faults.{fault_unless};
 ghost use Rattle.gtfs_rows.specs.Ids.{given_also};
+ghost use Rattle.gtfs_rows.specs.Source.{Record};
 ghost use Rattle.gtfs_rows.specs.Rows.{AreStopTimes, IsStopId, given_time, is_available, stop_time_fault, time_fault, value};
 ghost use Rattle.gtfs_rows.specs.Values.{number_of};
 
@@ -17,7 +18,7 @@ use crate::rows::StopTimeRow;
 use crate::values::{Time, number};
 use csv::ByteRecord;
 use indexmap::IndexSet;
-use std::alloc::Global;
+use std::alloc::{AllocError, Global};
 
 /// The rows of `stop_times.txt`, and the ids that they name by place: of trips, and of stops. Each id is there once, in
 /// the order in which they are first seen.
@@ -62,10 +63,11 @@ fn available(text: &[u8]) -> bool
     }
 }
 
-// The place of a stop_id among the ids, unless it is blank.
+// The place of a stop_id among the ids, unless it is blank. It is first sought at a place where it is likely.
 fn stop_place(
     alloc: Global,
     stops: &mut IndexSet<String>,
+    likely: Option<u32>,
     id: &[u8],
 ) -> Result<Option<u32>, FaultKind>
     requires { IsUtf8 id.now }
@@ -76,16 +78,81 @@ fn stop_place(
     if id.is_empty() {
         return Ok(None);
     }
-    let place = place_of(alloc, stops, None, id)?;
+    let place = place_of(alloc, stops, likely, id)?;
     Ok(Some(place))
 }
 
-impl TableRows for StopTimes {
+// Takes the row of one record more, or tells what is wrong with the record. The stop is first sought at a place where
+// it is likely.
+fn add_stop_time(
+    times: &mut StopTimes,
+    alloc: Global,
+    likely: Option<u32>,
+    places: &[Option<usize>],
+    fields: &ByteRecord,
+) -> Result<Option<u32>, FaultKind>
+    requires text { AllText (fields_of fields.now) }
+    requires wide { length places.now ≡ 7 }
+    ensures ok { (before : List Record) → AreStopTimes places.now before times.old → OnOk result
+        ((stop_time_fault places.now (fields_of fields.now) ≡ None)
+        × AreStopTimes places.now (before ++ fields_of fields.now ∷ []) times.new) }
+    ensures err { IfErr result (λ kind. kind ≢ FaultKind.OutOfMemory
+        → stop_time_fault places.now (fields_of fields.now) ≡ Some kind) }
+{
+    let arrival = time_in(fields, places[1])?;
+    let departure = time_in(fields, places[2])?;
+    let sequence = number_in(fields, places[4])?;
+    let before = times.rows.last().map(|row| row.trip);
+    let trip = place_of(alloc, &mut times.trips, before, cell(fields, places[0]))?;
+    let stop = stop_place(alloc, &mut times.stops, likely, cell(fields, places[3]))?;
+    let row = StopTimeRow {
+        trip,
+        arrival,
+        departure,
+        stop,
+        sequence,
+        board: available(cell(fields, places[5])),
+        alight: available(cell(fields, places[6])),
+    };
+    if times.rows.push(row).is_err() {
+        return Err(FaultKind::OutOfMemory);
+    }
+    Ok(stop)
+}
+
+// The stop times read so far, with a guess at each row's stop: trips of a line stand together, so a stop is likely
+// followed by the one that followed it last.
+#[derive(Drop)]
+pub(crate) struct StopTimesRead {
+    pub(crate) times: StopTimes,
+    // the place of the last row's stop_id
+    pub(crate) last: u32,
+    // for the place of each stop_id the place of the one that followed it last
+    pub(crate) followers: Vec<u32>,
+}
+
+// What followed a place last, if anything.
+fn follower(followers: &[u32], place: u32) -> Option<u32> {
+    followers.get(place as usize).copied()
+}
+
+// Notes what followed a place. Each place has an entry once it was followed or came later than one that was.
+fn note_follower(followers: &mut Vec<u32>, place: u32, next: u32) -> Result<(), AllocError> {
+    let at = place as usize;
+    if at < followers.len() {
+        followers[at] = next;
+        return Ok(());
+    }
+    followers.push(next)?;
+    Ok(())
+}
+
+impl TableRows for StopTimesRead {
     ghost columns = { 7 };
 
     ghost judge = { λ places before r. stop_time_fault places r };
 
-    ghost holds = { AreStopTimes };
+    ghost holds = { λ places records read. AreStopTimes places records read.times };
 
     fn add(
         &mut self,
@@ -93,24 +160,15 @@ impl TableRows for StopTimes {
         places: &[Option<usize>],
         fields: &ByteRecord,
     ) -> Result<(), FaultKind> {
-        let arrival = time_in(fields, places[1])?;
-        let departure = time_in(fields, places[2])?;
-        let sequence = number_in(fields, places[4])?;
-        let before = self.rows.last().map(|row| row.trip);
-        let trip = place_of(alloc, &mut self.trips, before, cell(fields, places[0]))?;
-        let stop = stop_place(alloc, &mut self.stops, cell(fields, places[3]))?;
-        let row = StopTimeRow {
-            trip,
-            arrival,
-            departure,
-            stop,
-            sequence,
-            board: available(cell(fields, places[5])),
-            alight: available(cell(fields, places[6])),
+        let likely = follower(&self.followers, self.last);
+        let stop = add_stop_time(&mut self.times, alloc, likely, places, fields)?;
+        let Some(stop) = stop else {
+            return Ok(());
         };
-        if self.rows.push(row).is_err() {
+        if note_follower(&mut self.followers, self.last, stop).is_err() {
             return Err(FaultKind::OutOfMemory);
         }
+        self.last = stop;
         Ok(())
     }
 }

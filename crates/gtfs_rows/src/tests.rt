@@ -304,8 +304,13 @@ fn frequencies(rt: HostRuntime) -> Result<(), Fail> {
     assert_eq!(rt; rows[1].start, 86_400);
     assert_eq!(rt; rows[1].end, 90_001);
     assert_eq!(rt; rows[1].headway, 1200);
-    let wrong: [(&[u8], u64, FaultKind); 6] = [
+    let wrong: [(&[u8], u64, FaultKind); 7] = [
         (b"trip_id\nT\n", 0, FaultKind::MissingColumn),
+        (
+            b"trip_id,start_time,end_time,headway_secs\nT,,9:00:00,60\n",
+            1,
+            FaultKind::BadTime,
+        ),
         (
             b"trip_id,start_time,end_time,headway_secs\nT,,x,0\n",
             1,
