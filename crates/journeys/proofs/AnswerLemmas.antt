@@ -43,7 +43,7 @@ pub none_told : {V : Type 0} (rules : Rules V) (t : TimetableValue) (q : Query) 
 none_told rules t q points = record { first = refl; each = λ departure h. let lt = h.1 in absurd (omega (arith, lt)) }
 
 pub one_more : {V : Type 0} (rules : Rules V) (t : TimetableValue) (q : Query) (points : List (Point V)) (n : ℕ) (told : List (Departure V)) (p : Point V)
-(j : JourneyValue)
+    (j : JourneyValue)
     → AreTold rules t q points n told → slice_get points n ≡ Some p → Attains rules t q p j
     → AreTold rules t q points (n + 1) (told ++ record { time = p.departure; value = p.value; journey = j } ∷ [])
 one_more {V} rules t q points n told p j are at attains =

@@ -128,7 +128,7 @@ module _ (t : TimetableValue) (q : Query) (start : Option Footpath) (rides : Lis
         leg = AreLegs-from t rides x.legs i lt;
         walk = walk_of_ride t rides i each;
         changes = λ next. let change = change_of_ride t rides i each next in record
-        { some = change.0; joins = change.1; in_time = in_time t rides x.times i next };
+            { some = change.0; joins = change.1; in_time = in_time t rides x.times i next };
       }
 
   start_facts : IsStart t q.source start × (leg_stop t rides 0 ≡ start_end q.source start)
@@ -199,12 +199,12 @@ faultless t q j departure x =
     first_fault-none t q j (record {
       legs = legs_fault-none t rides some (λ i lt. (each i lt).leg);
       walks = walks_fault-none t j.start rides (start_fault-none t j.start (leg_stop t rides 0) q.source x.journey.starts at)
-      (λ i lt. walk_after-none t rides i (each i lt));
+          (λ i lt. walk_after-none t rides i (each i lt));
       times = times_fault-none t rides (λ i lt. ((each i (omega (arith, lt))).changes lt).in_time);
       ends = ends_fault-none t q j.start rides (begin_of-start t j.start (leg_stop t rides 0) q.source x.journey.starts at)
-      (EndsAt-from t q.target rides (start_end q.source j.start) 0 leads (length rides - 1) last);
+          (EndsAt-from t q.target rides (start_end q.source j.start) 0 leads (length rides - 1) last);
       window = window_fault-none t q j.start rides
-      (record { from = omega (arith, x.not_early, departs); until = omega (arith, x.not_late, departs); by = omega (arith, x.arrives, over) });
+          (record { from = omega (arith, x.not_early, departs); until = omega (arith, x.not_late, departs); by = omega (arith, x.arrives, over) });
     })
 
 -- a journey has no fault just where it counts
@@ -218,8 +218,8 @@ faultless_counts t q j = (
 )
 
 -- and so it is judged in one way
-pub judged_once : (t : TimetableValue) (q : Query) (j : JourneyValue) (r : Result Times JourneyFault) → IsJudged t q j r →
-(departure : ℕ) → Counts t q departure j → r ≡ Ok (record { dep = departure; arr = arrival t j })
+pub judged_once : (t : TimetableValue) (q : Query) (j : JourneyValue) (r : Result Times JourneyFault) → IsJudged t q j r → (departure : ℕ)
+    → Counts t q departure j → r ≡ Ok (record { dep = departure; arr = arrival t j })
 judged_once t q j (Ok times) judged departure counts =
     let dep : times.dep ≡ departure = omega (arith, judged.0.departs, counts.departs) in
     λ i. Ok (record { dep = dep i; arr = judged.1 i })

@@ -53,8 +53,8 @@ module _ (nodes : List Node) (k : ℕ) where
       ap (λ (z : Spelled). z.aboard) s.1.is ∙ ap (λ (z : Spelled). changed_at last z.onward) (s.1.none next ge)
 
   -- getting off at the end
-  pub ends_by : (last : ℕ) (walk : Option Footpath) → slice_get nodes k ≡ Some (Ends last walk) → (spelled nodes k).aboard ≡ Some
-  (record { last = last; walk = walk_of walk; rides = [] })
+  pub ends_by : (last : ℕ) (walk : Option Footpath) → slice_get nodes k ≡ Some (Ends last walk)
+      → (spelled nodes k).aboard ≡ Some (record { last = last; walk = walk_of walk; rides = [] })
   ends_by last walk at =
       let s = spelled_at nodes k (Ends last walk) at in
       ap (λ (z : Spelled). z.aboard) s.1.is
@@ -138,9 +138,9 @@ ride_more whole rides first last board walk here next before is =
     ∙ put_both rides (ride_of first last (walk ∷ []) ∷ []) (rides_on board next)
 
 -- the last ride
-pub ride_last : (whole : Option (List RideValue)) (rides : List RideValue) (first last : ℕ) (walk : List Footpath)
-(here : Option Aboard) → whole ≡ put_before rides (rides_on first here) → here ≡ Some (record { last = last; walk = walk; rides = [] }) → whole ≡ Some
-(rides ++ ride_of first last walk ∷ [])
+pub ride_last : (whole : Option (List RideValue)) (rides : List RideValue) (first last : ℕ) (walk : List Footpath) (here : Option Aboard)
+    → whole ≡ put_before rides (rides_on first here) → here ≡ Some (record { last = last; walk = walk; rides = [] })
+    → whole ≡ Some (rides ++ ride_of first last walk ∷ [])
 ride_last whole rides first last walk here before is = before ∙ ap (λ (o : Option Aboard). put_before rides (rides_on first o)) is
 
 -- no ride follows
@@ -149,8 +149,8 @@ pub ride_none : (whole : Option (List RideValue)) (rides : List RideValue) (firs
 ride_none whole rides first here before is = before ∙ ap (λ (o : Option Aboard). put_before rides (rides_on first o)) is
 
 -- a start before rides
-start_rides : (start : Option Footpath) (first : ℕ) (o : Option Aboard)
-(rides : List RideValue) → rides_on first o ≡ Some rides → set_out_by start first o ≡ Some (record { start = start; rides = rides })
+start_rides : (start : Option Footpath) (first : ℕ) (o : Option Aboard) (rides : List RideValue) → rides_on first o ≡ Some rides
+    → set_out_by start first o ≡ Some (record { start = start; rides = rides })
 start_rides start first None rides e = absurd cc
 start_rides start first (Some x) rides e =
     ap (λ (rs : List RideValue). Some (let j : JourneyValue = record { start = start; rides = rs } in j)) (same_Some (boarded first x) rides e)
@@ -159,9 +159,9 @@ no_rides : (start : Option Footpath) (first : ℕ) (o : Option Aboard) → rides
 no_rides start first None e = refl
 no_rides start first (Some x) e = absurd cc
 
-pub starts_by : (nodes : List Node) (k : ℕ) (start : Option Footpath) (first next : ℕ) (rides : List RideValue) → slice_get nodes k ≡ Some
-(SetsOut start first next) → next < k → rides_on first (spelled nodes next).aboard ≡ Some rides → (spelled nodes k).journey ≡ Some
-(record { start = start; rides = rides })
+pub starts_by : (nodes : List Node) (k : ℕ) (start : Option Footpath) (first next : ℕ) (rides : List RideValue)
+    → slice_get nodes k ≡ Some (SetsOut start first next) → next < k → rides_on first (spelled nodes next).aboard ≡ Some rides
+    → (spelled nodes k).journey ≡ Some (record { start = start; rides = rides })
 starts_by nodes k start first next rides at lt e = sets_out_by nodes k start first next at lt ∙ start_rides start first (spelled nodes next).aboard rides e
 
 pub starts_nowhere : (nodes : List Node) (k : ℕ) (start : Option Footpath) (first next : ℕ) → slice_get nodes k ≡ Some (SetsOut start first next) → next < k
@@ -193,8 +193,8 @@ attained criterion rules t q found i p answers at =
     (a.way, a.spells, record { counts = a.there; plain = a.plain; worth = a.worth })
 
 pub attains : {K V : Type 0} {c : _} (criterion : K) (rules : Rules V) (t : TimetableValue) (q : Query) (found : Found K V c) (i : ℕ) (p point : Point V)
-(j : JourneyValue) → slice_get (listed found) i ≡ Some point →
-(spelled (nodes_of found) point.tag).journey ≡ Some j → Answers criterion rules t q found → slice_get (listed found) i ≡ Some p → Attains rules t q p j
+    (j : JourneyValue) → slice_get (listed found) i ≡ Some point
+    → (spelled (nodes_of found) point.tag).journey ≡ Some j → Answers criterion rules t q found → slice_get (listed found) i ≡ Some p → Attains rules t q p j
 attains criterion rules t q found i p point j here spells answers at =
     let a = attained criterion rules t q found i p answers at in
     let same : point ≡ p = same_Some point p (sym here ∙ at) in
@@ -202,8 +202,8 @@ attains criterion rules t q found i p point j here spells answers at =
     subst (Attains rules t q p) (same_Some a.0 j (sym a.1 ∙ spells_p)) a.2
 
 pub always_spelled : {K V : Type 0} {c : _} (criterion : K) (rules : Rules V) (t : TimetableValue) (q : Query) (found : Found K V c) (i : ℕ)
-(p point : Point V) → slice_get (listed found) i ≡ Some point →
-(spelled (nodes_of found) point.tag).journey ≡ None → Answers criterion rules t q found → slice_get (listed found) i ≡ Some p → ⊥
+    (p point : Point V) → slice_get (listed found) i ≡ Some point
+    → (spelled (nodes_of found) point.tag).journey ≡ None → Answers criterion rules t q found → slice_get (listed found) i ≡ Some p → ⊥
 always_spelled criterion rules t q found i p point here none answers at =
     let a = attained criterion rules t q found i p answers at in
     let same : point ≡ p = same_Some point p (sym here ∙ at) in
@@ -223,9 +223,12 @@ none_between nodes from = record { room = omega arith; same = λ x e. (x, e, ome
 one_less : (last first : ℕ) (walk : Footpath) (o : Option Aboard) (y : Aboard) → changed_at last (boarded_after walk first o) ≡ Some y
     → (z : Aboard) × (o ≡ Some z) × (length y.rides ≡ suc (length z.rides))
 one_less last first walk None y e = absurd cc
-one_less last first walk (Some z) y e =
-    (z, refl, ap (λ (x : Aboard). length x.rides)
-    (sym (same_Some (let x : Aboard = record { last = last; walk = walk ∷ []; rides = boarded first z } in x) y e)))
+one_less last first walk (Some z) y e = (
+  z,
+  refl,
+  ap (λ (x : Aboard). length x.rides)
+      (sym (same_Some (let x : Aboard = record { last = last; walk = walk ∷ []; rides = boarded first z } in x) y e)),
+)
 
 pub one_between : (nodes : List Node) (from number rides last first next : ℕ) (walk : Footpath) → next < number
     → (spelled nodes number).aboard ≡ changed_at last (boarded_after walk first (spelled nodes next).aboard) → AreBetween nodes from number rides

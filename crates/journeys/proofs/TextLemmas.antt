@@ -122,9 +122,11 @@ number_at-takes bytes n rest e =
     let number = number_of_digits-parts (take k bytes) b.0 b.1 in
     let all = sym (digits_all (take k bytes)) ∙ front_passes is_ascii_digit bytes k refl in
     let value = decimal-digits_value own (take k bytes) all number.some number.alone (omega (arith, number.is, number.small)) in
-    let front : decimal n ≡ take k bytes = ap decimal (sym same ∙ sym number.is) ∙ value in
-    (sym (take-append-drop k bytes) ∙ ap (λ (xs : List ℕ). xs ++ drop k bytes) (sym front)
-    ∙ ap (λ (xs : List ℕ). decimal n ++ xs) back, omega (arith, number.small, same))
+    let front : decimal n ≡ take k bytes = ap decimal (sym same ∙ sym number.is) ∙ value in (
+      sym (take-append-drop k bytes) ∙ ap (λ (xs : List ℕ). xs ++ drop k bytes) (sym front)
+          ∙ ap (λ (xs : List ℕ). decimal n ++ xs) back,
+      omega (arith, number.small, same),
+    )
 
 when_true : {X : Type 0} (b : Bool) (o : Option X) (x : X) → cond b o None ≡ Some x → (b ≡ true) × (o ≡ Some x)
 when_true true o x e = (refl, e)
@@ -149,8 +151,8 @@ regroup a b rest = append_assoc a b rest
 regroup_three : (a b d rest : List ℕ) → (a ++ (b ++ d)) ++ rest ≡ a ++ (b ++ (d ++ rest))
 regroup_three a b d rest = regroup a (b ++ d) rest ∙ ap (λ (xs : List ℕ). a ++ xs) (regroup b d rest)
 
-footpath_at-steps : (bytes b d rest : List ℕ) (x y z : ℕ) → field_at bytes ≡ Some (x, b) → field_at b ≡ Some (y, d) → field_at d ≡ Some
-(z, rest) → footpath_at bytes ≡ Some (record { from = x; to = y; secs = z }, rest)
+footpath_at-steps : (bytes b d rest : List ℕ) (x y z : ℕ) → field_at bytes ≡ Some (x, b) → field_at b ≡ Some (y, d) → field_at d ≡ Some (z, rest)
+    → footpath_at bytes ≡ Some (record { from = x; to = y; secs = z }, rest)
 unfolding footpath_at
 footpath_at-steps bytes b d rest x y z e f g = rw (e, f, g) refl
 
@@ -177,8 +179,8 @@ footpath_at-takes bytes f rest e =
     ∙ sym (regroup_three (number_text a.0.0) (number_text b.0.0) (number_text d.0.0) d.0.1) in
     subst P (same_Some _ _ d.2) (all, (first.1, second.1, third.1))
 
-leg_at-steps : (bytes b rest : List ℕ) (x y : ℕ) → field_at bytes ≡ Some (x, b) → field_at b ≡ Some (y, rest) → leg_at bytes ≡ Some
-(record { first = x; last = y }, rest)
+leg_at-steps : (bytes b rest : List ℕ) (x y : ℕ) → field_at bytes ≡ Some (x, b) → field_at b ≡ Some (y, rest)
+    → leg_at bytes ≡ Some (record { first = x; last = y }, rest)
 unfolding leg_at
 leg_at-steps bytes b rest x y e f = rw (e, f) refl
 
@@ -258,8 +260,8 @@ length_walks (f ∷ fs) rest =
     let longer = length-append (footpath_text f) (flat_map walk_text fs ++ rest) in
     omega (arith, more, all, longer)
 
-ride_at-steps : (bytes behind rest : List ℕ) (leg : Leg) (walk : List Footpath) → leg_at bytes ≡ Some (leg, behind) → walks_at (length behind) behind ≡ Some
-(walk, rest) → ride_at_front bytes ≡ Some (record { leg = leg; walk = walk }, rest)
+ride_at-steps : (bytes behind rest : List ℕ) (leg : Leg) (walk : List Footpath) → leg_at bytes ≡ Some (leg, behind)
+    → walks_at (length behind) behind ≡ Some (walk, rest) → ride_at_front bytes ≡ Some (record { leg = leg; walk = walk }, rest)
 unfolding ride_at_front
 ride_at-steps bytes behind rest leg walk e f = rw (e, f) refl
 
@@ -342,18 +344,23 @@ rides_at-takes (suc n) bytes rides e =
     elim (when_not (eqb (length a.0.1) 0) (Some (a.0.0 ∷ []))
     (after (codes " ride") a.0.1 >>= λ rest. rides_at n rest >>= λ rides. Some (a.0.0 ∷ rides)) rides a.2) [
       | inl last ↦ (let none = no_length a.0.1 (eqb-true (length a.0.1) 0 last.0) in
-      (a.0.0, [], sym (same_Some _ _ last.1), one.0 ∙ ap (λ (xs : List ℕ). body_text a.0.0 ++ xs) none, (one.1, tt)))
+          (a.0.0, [], sym (same_Some _ _ last.1), one.0 ∙ ap (λ (xs : List ℕ). body_text a.0.0 ++ xs) none, (one.1, tt)))
       | inr more ↦
           let b = bind_some (after (codes " ride") a.0.1) (λ rest. rides_at n rest >>= λ rides. Some (a.0.0 ∷ rides)) rides more.1 in
           let d = bind_some (rides_at n b.0) (λ rides. Some (a.0.0 ∷ rides)) rides b.2 in
           let word = after-split (codes " ride") a.0.1 b.0 b.1 in
-          let others = rides_at-takes n b.0 d.0 d.1 in
-          (a.0.0, others.0 ∷ others.1, sym (same_Some _ _ d.2) ∙ ap (λ (rs : List RideValue). a.0.0 ∷ rs) others.2, one.0
-          ∙ ap (λ (xs : List ℕ). body_text a.0.0 ++ xs) (word ∙ ap (λ (xs : List ℕ). codes " ride" ++ xs) others.3), (one.1, others.4))
+          let others = rides_at-takes n b.0 d.0 d.1 in (
+            a.0.0,
+            others.0 ∷ others.1,
+            sym (same_Some _ _ d.2) ∙ ap (λ (rs : List RideValue). a.0.0 ∷ rs) others.2,
+            one.0
+                ∙ ap (λ (xs : List ℕ). body_text a.0.0 ++ xs) (word ∙ ap (λ (xs : List ℕ). codes " ride" ++ xs) others.3),
+            (one.1, others.4),
+          )
     ]
 
-journey_at-steps : (bytes rest : List ℕ) (start : Option Footpath) (rides : List RideValue) → start_at bytes ≡ Some (start, rest) → rides_at
-(length rest) rest ≡ Some rides → journey_at bytes ≡ Some (record { start = start; rides = rides })
+journey_at-steps : (bytes rest : List ℕ) (start : Option Footpath) (rides : List RideValue) → start_at bytes ≡ Some (start, rest)
+    → rides_at (length rest) rest ≡ Some rides → journey_at bytes ≡ Some (record { start = start; rides = rides })
 unfolding journey_at
 journey_at-steps bytes rest start rides e f = rw (e, f) refl
 
@@ -400,9 +407,11 @@ start_at-takes bytes x e = go (after (codes "walk") bytes) refl e
         let b = bind_some (after (codes " ride") a.0.1) (λ rides. Some (Some a.0.0, rides)) x a.2 in
         let walk = footpath_at-takes rest a.0.0 a.0.1 a.1 in
         let ride = after-split (codes " ride") a.0.1 b.0 b.1 in
-        subst (IsStartOf bytes) (same_Some _ _ b.2)
-        (after-split (codes "walk") bytes rest word
-        ∙ ap (λ (xs : List ℕ). codes "walk" ++ xs) (walk.0 ∙ ap (λ (xs : List ℕ). footpath_text a.0.0 ++ xs) ride), walk.1)
+        subst (IsStartOf bytes) (same_Some _ _ b.2) (
+          after-split (codes "walk") bytes rest word
+              ∙ ap (λ (xs : List ℕ). codes "walk" ++ xs) (walk.0 ∙ ap (λ (xs : List ℕ). footpath_text a.0.0 ++ xs) ride),
+          walk.1,
+        )
 
 length_rides : (rs : List RideValue) → length rs ≤ length (flat_map ride_text rs)
 length_rides [] = omega arith
@@ -417,8 +426,8 @@ enough r rs =
     let longer = length-append (body_text r) (flat_map ride_text rs) in
     omega (arith, more, longer)
 
-text_again : (start : Option Footpath) (rides : List RideValue) → HasText (record { start = start; rides = rides }) → journey_at
-(text_of (record { start = start; rides = rides })) ≡ Some (record { start = start; rides = rides })
+text_again : (start : Option Footpath) (rides : List RideValue) → HasText (record { start = start; rides = rides })
+    → journey_at (text_of (record { start = start; rides = rides })) ≡ Some (record { start = start; rides = rides })
 text_again start [] has = absurd (has.some refl)
 text_again None (r ∷ rs) has =
     let rest = body_text r ++ flat_map ride_text rs in
