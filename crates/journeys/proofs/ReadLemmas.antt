@@ -59,7 +59,7 @@ regroup_rides front r (Some x) = ap (λ (rs : List RideValue). Some rs) (simp ap
 regroup_rides front r None = refl
 
 module _ (front : List Footpath) (count i : ℕ) (bytes : List ℕ) (total : Option (List Footpath × List ℕ))
-(so_far : with_walks front (walks_at (count - i) bytes) ≡ total) where
+    (so_far : with_walks front (walks_at (count - i) bytes) ≡ total) where
   pub walks_go_on : (rest behind : List ℕ) (f : Footpath) → i < count → after (codes " walk") bytes ≡ Some rest → footpath_at rest ≡ Some (f, behind)
       → with_walks (front ++ f ∷ []) (walks_at (count - (i + 1)) behind) ≡ total
   unfolding walks_at
@@ -93,7 +93,7 @@ module _ (front : List Footpath) (count i : ℕ) (bytes : List ℕ) (total : Opt
       sym so_far ∙ one
 
 module _ (front : List RideValue) (count i : ℕ) (bytes : List ℕ) (total : Option (List RideValue))
-(so_far : with_rides front (rides_at (count - i) bytes) ≡ total) where
+    (so_far : with_rides front (rides_at (count - i) bytes) ≡ total) where
   pub rides_go_on : (behind rest : List ℕ) (r : RideValue) → i < count → ride_at_front bytes ≡ Some (r, behind) → length behind ≢ 0
       → after (codes " ride") behind ≡ Some rest → with_rides (front ++ r ∷ []) (rides_at (count - (i + 1)) rest) ≡ total
   unfolding rides_at
