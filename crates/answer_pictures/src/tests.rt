@@ -1,3 +1,5 @@
+//! Small pictures, part by part.
+
 use crate::{Axis, JourneyLine, Stretch, Way, journey_line, journeys_title, picture};
 use criteria::ToldValue;
 use image_layout::sample_words;

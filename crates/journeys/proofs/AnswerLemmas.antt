@@ -1,5 +1,6 @@
 -- An answer with its journeys, one point after the other.
-use Rattle.std.proofs.Common.{◌≡◌, ℕ, zero, suc, ◌+◌, ◌-◌, ◌<◌, ◌≤◌, List, [], ◌∷◌, ◌++◌, length, take, map, get_or, Contains, slice_get, Some, refl, sym, ◌∙◌, ap, subst, inl, inr, arith}
+use Rattle.std.proofs.Common.{◌≡◌, ℕ, zero, suc, ◌+◌, ◌-◌, ◌<◌, ◌≤◌, List, [], ◌∷◌, ◌++◌, length, take, map, get_or, Contains, slice_get, Some, refl}
+use Rattle.std.proofs.Common.{sym, ◌∙◌, ap, subst, inl, inr, arith}
 use Rattle.std.proofs.lemmas.Option.{slice_get_within, get_or_from_slice_get}
 use Rattle.std.proofs.lemmas.List.{map-append, length-map, length-reverse, get_or-map, get_or_default, take_all}
 use Rattle.std.proofs.lemmas.List.Elements.{Contains-push_cases}
@@ -23,7 +24,8 @@ length-falling : (low n : ℕ) → length (falling low n) ≡ n
 length-falling low zero = refl
 length-falling low (suc n) = ap suc (length-falling low n)
 
-pub window_count : (t : TimetableValue) (q : Query) (start end : ℕ) → IsLegal t → IsFirstAt t q.from start → IsFirstAt t q.by end → end - start ≡ length (window t q)
+pub window_count : (t : TimetableValue) (q : Query) (start end : ℕ) → IsLegal t → IsFirstAt t q.from start → IsFirstAt t q.by end
+    → end - start ≡ length (window t q)
 window_count t q start end legal is_start is_end =
     let falls = (window_is_read_backward t legal q).falls start end is_start is_end in
     sym (length-falling start (end - start)) ∙ (ap length (sym falls) ∙ length-reverse (window t q))
@@ -40,7 +42,8 @@ pub record AreTold {V : Type 0} (rules : Rules V) (t : TimetableValue) (q : Quer
 pub none_told : {V : Type 0} (rules : Rules V) (t : TimetableValue) (q : Query) (points : List (Point V)) → AreTold rules t q points 0 []
 none_told rules t q points = record { first = refl; each = λ departure h. let lt = h.1 in absurd (omega (arith, lt)) }
 
-pub one_more : {V : Type 0} (rules : Rules V) (t : TimetableValue) (q : Query) (points : List (Point V)) (n : ℕ) (told : List (Departure V)) (p : Point V) (j : JourneyValue)
+pub one_more : {V : Type 0} (rules : Rules V) (t : TimetableValue) (q : Query) (points : List (Point V)) (n : ℕ) (told : List (Departure V)) (p : Point V)
+    (j : JourneyValue)
     → AreTold rules t q points n told → slice_get points n ≡ Some p → Attains rules t q p j
     → AreTold rules t q points (n + 1) (told ++ record { time = p.departure; value = p.value; journey = j } ∷ [])
 one_more {V} rules t q points n told p j are at attains =
@@ -73,7 +76,8 @@ is_of points p (i, lt, is) =
     (get_or points i p, (i, lt_points, get_or_default points i (get_or points i p) p lt_points), sym (get_or-map tagless points i p p lt_points) ∙ is)
 
 -- an answer stays one where its points lose their tags
-pub still_answers : {V : Type 0} (rules : Rules V) (t : TimetableValue) (q : Query) (points : List (Point V)) → IsAnswer rules t q points → IsAnswer rules t q (map tagless points)
+pub still_answers : {V : Type 0} (rules : Rules V) (t : TimetableValue) (q : Query) (points : List (Point V)) → IsAnswer rules t q points
+    → IsAnswer rules t q (map tagless points)
 still_answers {V} rules t q points is = record {
   exactly = λ departure v. (
     (λ lists. (is.exactly departure v).0 (with_tag departure v lists)),
@@ -86,7 +90,8 @@ still_answers {V} rules t q points is = record {
       let i_lt : i < length points = omega (arith, before, lt_points) in
       let at_i = get_or-map tagless points i d d i_lt in
       let at_j = get_or-map tagless points j d d lt_points in
-      subst (λ (x : Point V). Before rules x (get_or (map tagless points) j d)) (sym at_i) (subst (Before rules (tagless (get_or points i d))) (sym at_j) (is.ordered i j d before lt_points));
+      subst (λ (x : Point V). Before rules x (get_or (map tagless points) j d)) (sym at_i)
+      (subst (Before rules (tagless (get_or points i d))) (sym at_j) (is.ordered i j d before lt_points));
 }
   where
     with_tag : (departure : ℕ) (v : V) → Lists (map tagless points) departure v → Lists points departure v

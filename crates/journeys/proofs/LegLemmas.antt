@@ -1,12 +1,12 @@
 -- Legs without fault.
 use Rattle.std.proofs.Common.{◌≡◌, ◌≢◌, ℕ, ◌<◌, Bool, false, not, ◌||◌, eqb, leb, ltb, cond, List, length, Some, None, refl, sym, ap, ◌∙◌, arith}
 use Rattle.std.proofs.lemmas.Bool.{or_parts, or_from, leb-false, ltb-false, le-ltb, lt-leb, eq-eqb, eqb-true, ne_eqb, eqb-false, not-false}
+use Rattle.reasoning.specs.First.{first_below}
+use Rattle.reasoning.proofs.FirstLemmas.{no_fault, first_below-none, first_below-all, passes}
 use Rattle.timetable.specs.declared.journey.Leg.{Leg}
 use Rattle.timetable.specs.TimetableValue.{TimetableValue}
 use Rattle.timetable.specs.JourneyValue.{RideValue}
-use Rattle.timetable.specs.First.{first_below}
 use Rattle.timetable.specs.Journeys.{IsLeg, connection_at}
-use Rattle.timetable.proofs.FirstLemmas.{no_fault, passes, first_below-none, first_below-all}
 use Rattle.journeys.specs.declared.fault.JourneyFault.TheVariants.{LegRange, TwoTrips, NoBoarding, NoAlighting}
 use Rattle.journeys.specs.Faults.{leg_fault, legs_fault, ride_at, AreLegs}
 
@@ -38,7 +38,8 @@ leg_fault-none t i leg is =
 pub passed : {X : Type 0} (b : Bool) (x y : X) → b ≡ false → cond b x y ≡ y
 passed b x y e = rw e refl
 
-pub legs_fault-first : (t : TimetableValue) (rides : List RideValue) → length rides ≢ 0 → legs_fault t rides ≡ first_below (λ i. leg_fault t i (ride_at rides i).leg) (length rides)
+pub legs_fault-first : (t : TimetableValue) (rides : List RideValue) → length rides ≢ 0
+    → legs_fault t rides ≡ first_below (λ i. leg_fault t i (ride_at rides i).leg) (length rides)
 unfolding legs_fault
 legs_fault-first t rides some = passed (eqb (length rides) 0) (Some (LegRange 0)) _ (ne_eqb _ _ some)
 
@@ -53,10 +54,12 @@ some_legs t rides e =
 pub AreLegs-from : (t : TimetableValue) (rides : List RideValue) → legs_fault t rides ≡ None → AreLegs t rides
 AreLegs-from t rides e i lt =
     let some : length rides ≢ 0 = omega arith in
-    IsLeg-from t i (ride_at rides i).leg (first_below-none (λ k. leg_fault t k (ride_at rides k).leg) (length rides) i lt (sym (legs_fault-first t rides some) ∙ e))
+    IsLeg-from t i (ride_at rides i).leg (first_below-none (λ k. leg_fault t k (ride_at rides k).leg) (length rides) i lt
+    (sym (legs_fault-first t rides some) ∙ e))
 
 pub legs_fault-none : (t : TimetableValue) (rides : List RideValue) → 0 < length rides → AreLegs t rides → legs_fault t rides ≡ None
 legs_fault-none t rides some legs =
-    legs_fault-first t rides (omega arith) ∙ first_below-all (λ i. leg_fault t i (ride_at rides i).leg) (length rides) (λ i lt. leg_fault-none t i (ride_at rides i).leg (legs i lt))
+    legs_fault-first t rides (omega arith) ∙ first_below-all (λ i. leg_fault t i (ride_at rides i).leg) (length rides)
+    (λ i lt. leg_fault-none t i (ride_at rides i).leg (legs i lt))
 
 pub ruleset faultless_legs = (some_legs, AreLegs-from)

@@ -1,5 +1,6 @@
 -- Numbers, a digit on.
-use Rattle.std.proofs.Common.{◌≡◌, ℕ, ◌+◌, ◌-◌, ◌*◌, ◌^◌, ◌<◌, ◌≤◌, suc, zero, List, [], ◌∷◌, length, get_or, take, drop, Some, None, Bool, true, ltb, refl, ap, ◌∙◌, arith, add-one}
+use Rattle.std.proofs.Common.{◌≡◌, ℕ, ◌+◌, ◌-◌, ◌*◌, ◌^◌, ◌<◌, ◌≤◌, suc, zero, List, [], ◌∷◌, length, get_or, take, drop, Some, None, Bool, true, ltb}
+use Rattle.std.proofs.Common.{refl, ap, ◌∙◌, arith, add-one}
 use Rattle.std.specs.List.{list_all, prefix_len}
 use Rattle.std.proofs.Math.Seq.{drop-cons}
 use Rattle.std.proofs.lemmas.List.{get_or-take, length-take}
@@ -24,7 +25,8 @@ pub value_of-large : (ds : List ℕ) → 2 ^ 32 ≤ read_on 0 ds → value_of ds
 value_of-large ds le = cond-false (ltb (read_on 0 ds) (2 ^ 32)) (Some (read_on 0 ds)) None (le-ltb (read_on 0 ds) (2 ^ 32) le)
 
 pub value_of-small : (ds : List ℕ) (n : ℕ) → read_on 0 ds ≡ n → n < 2 ^ 32 → value_of ds ≡ Some n
-value_of-small ds n e lt = cond-true (ltb (read_on 0 ds) (2 ^ 32)) (Some (read_on 0 ds)) None (lt-ltb (read_on 0 ds) (2 ^ 32) (omega (arith, e, lt))) ∙ ap Some e
+value_of-small ds n e lt =
+    cond-true (ltb (read_on 0 ds) (2 ^ 32)) (Some (read_on 0 ds)) None (lt-ltb (read_on 0 ds) (2 ^ 32) (omega (arith, e, lt))) ∙ ap Some e
 
 pub ruleset numbers = (read_on-from)
 

@@ -1,5 +1,6 @@
 -- The texts of journeys and times have no byte that needs to be escaped.
-use Rattle.std.proofs.Common.{ℕ, zero, suc, ◌<◌, ◌≤◌, ◌/◌, ◌%◌, ◌==◌, Bool, true, false, List, [], ◌∷◌, ◌++◌, codes, Option, Some, None, All, if◌then◌else◌, nat_lt, refl, inl, inr, arith}
+use Rattle.std.proofs.Common.{ℕ, zero, suc, ◌<◌, ◌≤◌, ◌/◌, ◌%◌, ◌==◌, Bool, true, false, List, [], ◌∷◌, ◌++◌, codes, Option, Some, None, All}
+use Rattle.std.proofs.Common.{if◌then◌else◌, nat_lt, refl, inl, inr, arith}
 use Rattle.std.specs.Prelude.{decimal}
 use Rattle.std.specs.Fmt.{digit_glyph, digits_onto, digits}
 use Rattle.std.specs.List.{flat_map, slice_index}
@@ -74,7 +75,8 @@ all_walks (f ∷ walks) = and_then (walk_text f) (flat_map walk_text walks) (wal
 ride_is_plain : (r : RideValue) → IsPlain (ride_text r)
 ride_is_plain r =
     let leg = and_then (number_text r.leg.first) (number_text r.leg.last) (number_is_plain r.leg.first) (number_is_plain r.leg.last) in
-    and_then (codes " ride") (leg_text r.leg ++ flat_map walk_text r.walk) ride_word (and_then (leg_text r.leg) (flat_map walk_text r.walk) leg (all_walks r.walk))
+    and_then (codes " ride") (leg_text r.leg ++ flat_map walk_text r.walk) ride_word
+    (and_then (leg_text r.leg) (flat_map walk_text r.walk) leg (all_walks r.walk))
 
 all_rides : (rides : List RideValue) → IsPlain (flat_map ride_text rides)
 all_rides [] = All-nil IsPlainByte
@@ -91,13 +93,16 @@ journey_is_plain j =
 
 -- times
 two_are_plain : (n : ℕ) → IsPlain (two_digits n)
-two_are_plain n = either (nat_lt n 10) (48 ∷ decimal n) (decimal n) (behind 48 (decimal n) (inr (inl (omega arith, omega arith))) (decimal_is_plain n)) (decimal_is_plain n)
+two_are_plain n =
+    either (nat_lt n 10) (48 ∷ decimal n) (decimal n) (behind 48 (decimal n) (inr (inl (omega arith, omega arith))) (decimal_is_plain n)) (decimal_is_plain n)
 
 pub clock_is_plain : (time : ℕ) → All IsPlainByte (clock_bytes time)
 clock_is_plain time =
     let is_colon : IsPlainByte 58 = inr (inl (omega arith, omega arith)) in
-    let first = and_then (two_digits (time / 3600)) (58 ∷ two_digits (time / 60 % 60)) (two_are_plain (time / 3600)) (behind 58 (two_digits (time / 60 % 60)) is_colon (two_are_plain (time / 60 % 60))) in
-    and_then (two_digits (time / 3600) ++ 58 ∷ two_digits (time / 60 % 60)) (58 ∷ two_digits (time % 60)) first (behind 58 (two_digits (time % 60)) is_colon (two_are_plain (time % 60)))
+    let first = and_then (two_digits (time / 3600)) (58 ∷ two_digits (time / 60 % 60)) (two_are_plain (time / 3600))
+    (behind 58 (two_digits (time / 60 % 60)) is_colon (two_are_plain (time / 60 % 60))) in
+    and_then (two_digits (time / 3600) ++ 58 ∷ two_digits (time / 60 % 60)) (58 ∷ two_digits (time % 60)) first
+    (behind 58 (two_digits (time % 60)) is_colon (two_are_plain (time % 60)))
 
 -- plain bytes are characters of one byte
 plain_is_small : (b : ℕ) → IsPlainByte b → b < 128

@@ -10,10 +10,12 @@ use Rattle.journeys.specs.Questions.{IsNamed, Asks, IsRefused}
 use Rattle.journeys.specs.declared.question.Window.{Window}
 
 -- a stop that has a name is one of the timetable's
-named_within : (image : ImageValue) (name : List ℕ) (stop : ℕ) → HasImage image.timetable image.names → IsNamed image.names name stop → stop < image.timetable.stops
+named_within : (image : ImageValue) (name : List ℕ) (stop : ℕ) → HasImage image.timetable image.names → IsNamed image.names name stop
+    → stop < image.timetable.stops
 named_within image name stop has named = subst (λ (n : ℕ). stop < n) has.names.stop_names (slice_get_within image.names.stops stop name named.0)
 
-pub refused_by : (image : ImageValue) (from to : List ℕ) (window : Window) (q : Query) (fault : QueryFault) → HasImage image.timetable image.names → Asks image.names from to window q → IsFirstFault image.timetable.stops q fault → IsRefused image from to window fault
+pub refused_by : (image : ImageValue) (from to : List ℕ) (window : Window) (q : Query) (fault : QueryFault) → HasImage image.timetable image.names
+    → Asks image.names from to window q → IsFirstFault image.timetable.stops q fault → IsRefused image from to window fault
 refused_by image from to window q UnknownStop has asks is =
     let source = named_within image from q.source has asks.source in
     let target = named_within image to q.target has asks.target in

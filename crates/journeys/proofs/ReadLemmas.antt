@@ -1,5 +1,6 @@
 -- Reading walks and rides one after the other, as loops do.
-use Rattle.std.proofs.Common.{◌≡◌, ◌≢◌, ℕ, suc, ◌-◌, ◌+◌, ◌≤◌, ◌<◌, Bool, true, false, eqb, cond, List, [], ◌∷◌, ◌++◌, length, codes, Option, Some, None, refl, sym, ap, ◌∙◌, append_assoc, arith}
+use Rattle.std.proofs.Common.{◌≡◌, ◌≢◌, ℕ, suc, ◌-◌, ◌+◌, ◌≤◌, ◌<◌, Bool, true, false, eqb, cond, List, [], ◌∷◌, ◌++◌, length, codes, Option, Some}
+use Rattle.std.proofs.Common.{None, refl, sym, ap, ◌∙◌, append_assoc, arith}
 use Rattle.std.specs.Prelude.{MatchOption}
 use Rattle.std.specs.Option.{option_map}
 use Rattle.std.proofs.lemmas.List.{append-nil}
@@ -35,7 +36,8 @@ after-none : (word bytes : List ℕ) → ((rest : List ℕ) → bytes ≢ word +
 after-none word bytes never None e = sym e
 after-none word bytes never (Some rest) e = absurd (never rest (after-split word bytes rest e))
 
-pub after_is : (word bytes : List ℕ) (r : Option (Bor (List ℕ))) → MatchOption r ((rest : List ℕ) → bytes ≢ word ++ rest) (λ x. bytes ≡ word ++ x.now) → option_map (λ x. x.now) r ≡ after word bytes
+pub after_is : (word bytes : List ℕ) (r : Option (Bor (List ℕ))) → MatchOption r ((rest : List ℕ) → bytes ≢ word ++ rest) (λ x. bytes ≡ word ++ x.now)
+    → option_map (λ x. x.now) r ≡ after word bytes
 after_is word bytes None never = after-none word bytes never (after word bytes) refl
 after_is word bytes (Some x) is = sym (ap (after word) is ∙ after-again word x.now)
 
@@ -46,20 +48,25 @@ with_walks front read = read >>= λ x. Some (front ++ x.0, x.1)
 abbrev pub with_rides : List RideValue → Option (List RideValue) → Option (List RideValue)
 with_rides front read = read >>= λ rides. Some (front ++ rides)
 
-regroup_walks : (front : List Footpath) (f : Footpath) (read : Option (List Footpath × List ℕ)) → with_walks front (read >>= λ x. Some (f ∷ x.0, x.1)) ≡ with_walks (front ++ f ∷ []) read
+regroup_walks : (front : List Footpath) (f : Footpath) (read : Option (List Footpath × List ℕ))
+    → with_walks front (read >>= λ x. Some (f ∷ x.0, x.1)) ≡ with_walks (front ++ f ∷ []) read
 regroup_walks front f (Some x) = ap (λ (fs : List Footpath). Some (fs, x.1)) (simp append_assoc)
 regroup_walks front f None = refl
 
-regroup_rides : (front : List RideValue) (r : RideValue) (read : Option (List RideValue)) → with_rides front (read >>= λ x. Some (r ∷ x)) ≡ with_rides (front ++ r ∷ []) read
+regroup_rides : (front : List RideValue) (r : RideValue) (read : Option (List RideValue))
+    → with_rides front (read >>= λ x. Some (r ∷ x)) ≡ with_rides (front ++ r ∷ []) read
 regroup_rides front r (Some x) = ap (λ (rs : List RideValue). Some rs) (simp append_assoc)
 regroup_rides front r None = refl
 
-module _ (front : List Footpath) (count i : ℕ) (bytes : List ℕ) (total : Option (List Footpath × List ℕ)) (so_far : with_walks front (walks_at (count - i) bytes) ≡ total) where
-  pub walks_go_on : (rest behind : List ℕ) (f : Footpath) → i < count → after (codes " walk") bytes ≡ Some rest → footpath_at rest ≡ Some (f, behind) → with_walks (front ++ f ∷ []) (walks_at (count - (i + 1)) behind) ≡ total
+module _ (front : List Footpath) (count i : ℕ) (bytes : List ℕ) (total : Option (List Footpath × List ℕ))
+    (so_far : with_walks front (walks_at (count - i) bytes) ≡ total) where
+  pub walks_go_on : (rest behind : List ℕ) (f : Footpath) → i < count → after (codes " walk") bytes ≡ Some rest → footpath_at rest ≡ Some (f, behind)
+      → with_walks (front ++ f ∷ []) (walks_at (count - (i + 1)) behind) ≡ total
   unfolding walks_at
   walks_go_on rest behind f lt word read =
       let k : count - i ≡ suc (count - (i + 1)) = omega arith in
-      let one : with_walks front (walks_at (count - i) bytes) ≡ with_walks (front ++ f ∷ []) (walks_at (count - (i + 1)) behind) = rw (k, word, read) (regroup_walks front f (walks_at (count - (i + 1)) behind)) in
+      let one : with_walks front (walks_at (count - i) bytes) ≡ with_walks (front ++ f ∷ []) (walks_at (count - (i + 1)) behind) = rw (k, word, read)
+      (regroup_walks front f (walks_at (count - (i + 1)) behind)) in
       sym one ∙ so_far
 
   pub walks_fail : (rest : List ℕ) (e : TextFault) → i < count → after (codes " walk") bytes ≡ Some rest → Fails e (footpath_at rest) → Fails e total
@@ -74,7 +81,8 @@ module _ (front : List Footpath) (count i : ℕ) (bytes : List ℕ) (total : Opt
   unfolding walks_at
   walks_stop lt word =
       let k : count - i ≡ suc (count - (i + 1)) = omega arith in
-      let one : with_walks front (walks_at (count - i) bytes) ≡ Some (front, bytes) = rw (k, word) (ap (λ (fs : List Footpath). Some (fs, bytes)) (append-nil front)) in
+      let one : with_walks front (walks_at (count - i) bytes) ≡ Some (front, bytes) = rw (k, word)
+      (ap (λ (fs : List Footpath). Some (fs, bytes)) (append-nil front)) in
       sym so_far ∙ one
 
   pub walks_done : count ≤ i → total ≡ Some (front, bytes)
@@ -84,13 +92,16 @@ module _ (front : List Footpath) (count i : ℕ) (bytes : List ℕ) (total : Opt
       let one : with_walks front (walks_at (count - i) bytes) ≡ Some (front, bytes) = rw k (ap (λ (fs : List Footpath). Some (fs, bytes)) (append-nil front)) in
       sym so_far ∙ one
 
-module _ (front : List RideValue) (count i : ℕ) (bytes : List ℕ) (total : Option (List RideValue)) (so_far : with_rides front (rides_at (count - i) bytes) ≡ total) where
-  pub rides_go_on : (behind rest : List ℕ) (r : RideValue) → i < count → ride_at_front bytes ≡ Some (r, behind) → length behind ≢ 0 → after (codes " ride") behind ≡ Some rest → with_rides (front ++ r ∷ []) (rides_at (count - (i + 1)) rest) ≡ total
+module _ (front : List RideValue) (count i : ℕ) (bytes : List ℕ) (total : Option (List RideValue))
+    (so_far : with_rides front (rides_at (count - i) bytes) ≡ total) where
+  pub rides_go_on : (behind rest : List ℕ) (r : RideValue) → i < count → ride_at_front bytes ≡ Some (r, behind) → length behind ≢ 0
+      → after (codes " ride") behind ≡ Some rest → with_rides (front ++ r ∷ []) (rides_at (count - (i + 1)) rest) ≡ total
   unfolding rides_at
   rides_go_on behind rest r lt read more word =
       let k : count - i ≡ suc (count - (i + 1)) = omega arith in
       let test = ne_eqb _ _ more in
-      let one : with_rides front (rides_at (count - i) bytes) ≡ with_rides (front ++ r ∷ []) (rides_at (count - (i + 1)) rest) = rw (k, read, test, word) (regroup_rides front r (rides_at (count - (i + 1)) rest)) in
+      let one : with_rides front (rides_at (count - i) bytes) ≡ with_rides (front ++ r ∷ []) (rides_at (count - (i + 1)) rest) = rw (k, read, test, word)
+      (regroup_rides front r (rides_at (count - (i + 1)) rest)) in
       sym one ∙ so_far
 
   pub rides_fail : (e : TextFault) → i < count → Fails e (ride_at_front bytes) → Fails e total
@@ -109,7 +120,8 @@ module _ (front : List RideValue) (count i : ℕ) (bytes : List ℕ) (total : Op
       let one : with_rides front (rides_at (count - i) bytes) ≡ Some (front ++ r ∷ []) = rw (k, read, test) refl in
       sym so_far ∙ one
 
-  pub rides_bad : (behind : List ℕ) (r : RideValue) → i < count → ride_at_front bytes ≡ Some (r, behind) → length behind ≢ 0 → after (codes " ride") behind ≡ None → total ≡ None
+  pub rides_bad : (behind : List ℕ) (r : RideValue) → i < count → ride_at_front bytes ≡ Some (r, behind) → length behind ≢ 0
+      → after (codes " ride") behind ≡ None → total ≡ None
   unfolding rides_at
   rides_bad behind r lt read more word =
       let k : count - i ≡ suc (count - (i + 1)) = omega arith in

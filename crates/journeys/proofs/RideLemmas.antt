@@ -38,14 +38,22 @@ IsRide-sooner t r rest i x = record {
   changes = λ lt. let y = x.changes (omega (arith, lt)) in record { some = y.some; joins = y.joins; in_time = y.in_time };
 }
 
-pub Leads-from : (t : TimetableValue) (goal : ℕ) (r : RideValue) (rest : List RideValue) (stop time : ℕ) → AreRides t (r ∷ rest) → (connection_at t r.leg.first).from ≡ stop → time ≤ (connection_at t r.leg.first).dep → EndsAt t goal (r ∷ rest) → Leads t goal stop time (r ∷ rest)
+pub Leads-from : (t : TimetableValue) (goal : ℕ) (r : RideValue) (rest : List RideValue) (stop time : ℕ) → AreRides t (r ∷ rest)
+    → (connection_at t r.leg.first).from ≡ stop → time ≤ (connection_at t r.leg.first).dep → EndsAt t goal (r ∷ rest) → Leads t goal stop time (r ∷ rest)
 Leads-from t goal r [] stop time rides at in_time ends =
     let here = rides 0 (omega arith) in
     (here.leg, at, in_time, here.walk, λ some. absurd (some refl), ends 0 refl)
 Leads-from t goal r (s ∷ rest) stop time rides at in_time ends =
     let here = rides 0 (omega arith) in
-    let change = here.changes (omega arith) in
-    (here.leg, at, in_time, here.walk, λ some. change.some, Leads-from t goal s rest (stop_after t r) (time_after t r) (λ i lt. IsRide-later t r (s ∷ rest) i (rides (suc i) (omega (arith, lt)))) (sym change.joins) change.in_time (λ k e. ends (suc k) (ap suc e)))
+    let change = here.changes (omega arith) in (
+      here.leg,
+      at,
+      in_time,
+      here.walk,
+      λ some. change.some,
+      Leads-from t goal s rest (stop_after t r) (time_after t r)
+          (λ i lt. IsRide-later t r (s ∷ rest) i (rides (suc i) (omega (arith, lt)))) (sym change.joins) change.in_time (λ k e. ends (suc k) (ap suc e)),
+    )
 
 pub AreRides-from : (t : TimetableValue) (goal : ℕ) (rides : List RideValue) (stop time : ℕ) → Leads t goal stop time rides → AreRides t rides
 AreRides-from t goal [] stop time leads i lt = absurd (omega (arith, lt))
@@ -56,7 +64,8 @@ AreRides-from t goal (r ∷ s ∷ rest) stop time leads zero lt = record {
   walk = leads.3;
   changes = λ next. record { some = leads.4 (λ e. absurd cc); joins = sym leads.5.1; in_time = leads.5.2 };
 }
-AreRides-from t goal (r ∷ s ∷ rest) stop time leads (suc i) lt = IsRide-sooner t r (s ∷ rest) i (AreRides-from t goal (s ∷ rest) (stop_after t r) (time_after t r) leads.5 i (omega (arith, lt)))
+AreRides-from t goal (r ∷ s ∷ rest) stop time leads (suc i) lt =
+    IsRide-sooner t r (s ∷ rest) i (AreRides-from t goal (s ∷ rest) (stop_after t r) (time_after t r) leads.5 i (omega (arith, lt)))
 
 pub EndsAt-from : (t : TimetableValue) (goal : ℕ) (rides : List RideValue) (stop time : ℕ) → Leads t goal stop time rides → EndsAt t goal rides
 EndsAt-from t goal [] stop time leads k e = absurd (omega (arith, e))
@@ -66,7 +75,8 @@ EndsAt-from t goal (r ∷ s ∷ rest) stop time leads zero e = absurd (omega (ar
 EndsAt-from t goal (r ∷ s ∷ rest) stop time leads (suc k) e = EndsAt-from t goal (s ∷ rest) (stop_after t r) (time_after t r) leads.5 k (omega (arith, e))
 
 -- the rides are over when the last one is
-pub final_time-last : (t : TimetableValue) (rides : List RideValue) (time k : ℕ) → suc k ≡ length rides → final_time t time rides ≡ time_after t (ride_at rides k)
+pub final_time-last : (t : TimetableValue) (rides : List RideValue) (time k : ℕ) → suc k ≡ length rides
+    → final_time t time rides ≡ time_after t (ride_at rides k)
 final_time-last t [] time k e = absurd (omega (arith, e))
 final_time-last t (r ∷ []) time zero e = refl
 final_time-last t (r ∷ []) time (suc k) e = absurd (omega (arith, e))

@@ -1,12 +1,13 @@
 -- What nodes spell, from one node to the next.
-use Rattle.std.proofs.Common.{◌≡◌, ℕ, suc, ◌+◌, ◌<◌, ◌≤◌, List, [], ◌∷◌, ◌++◌, length, slice_get, Option, Some, None, MatchOption, refl, sym, ◌∙◌, ap, subst, inl, inr, arith, append_assoc}
+use Rattle.std.proofs.Common.{◌≡◌, ℕ, suc, ◌+◌, ◌<◌, ◌≤◌, List, [], ◌∷◌, ◌++◌, length, slice_get, Option, Some, None, MatchOption, refl, sym, ◌∙◌, ap}
+use Rattle.std.proofs.Common.{subst, inl, inr, arith, append_assoc}
 use Rattle.std.proofs.lemmas.Option.{slice_get_cases, same_Some}
+use Rattle.reasoning.proofs.ListLemmas.{contains_at}
 use Rattle.criteria.specs.Laws.{Rules}
 use Rattle.bags.specs.declared.point.Point.{Point}
 use Rattle.timetable.specs.declared.network.Footpath.{Footpath}
 use Rattle.timetable.specs.declared.query.Query.{Query}
 use Rattle.timetable.specs.TimetableValue.{TimetableValue}
-use Rattle.timetable.proofs.LegalFacts.{Contains-At}
 use Rattle.profile_scan.specs.Answered.{IsAnswered}
 use Rattle.profile_scan.specs.Found.{Answers, criterion_of_found, listed, nodes_of, query_of, timetable_of, walk_of_found}
 use Rattle.profile_scan.specs.declared.found.Found.{Found}
@@ -28,7 +29,8 @@ module _ (nodes : List Node) (k : ℕ) where
       none_within xs n none = elim (slice_get_cases xs n).1 [ inl some ↦ (let is = some.2 in absurd cc) | inr past ↦ past.0 ]
 
   -- boarding, by a node before it or by none
-  pub boards_by : (walk : Footpath) (first next : ℕ) → slice_get nodes k ≡ Some (Boards walk first next) → next < k → (spelled nodes k).onward ≡ boarded_after walk first (spelled nodes next).aboard
+  pub boards_by : (walk : Footpath) (first next : ℕ) → slice_get nodes k ≡ Some (Boards walk first next) → next < k
+      → (spelled nodes k).onward ≡ boarded_after walk first (spelled nodes next).aboard
   boards_by walk first next at lt =
       let s = spelled_at nodes k (Boards walk first next) at in
       ap (λ (z : Spelled). z.onward) s.1.is ∙ ap (λ (z : Spelled). boarded_after walk first z.aboard) (s.1.before next lt)
@@ -39,7 +41,8 @@ module _ (nodes : List Node) (k : ℕ) where
       ap (λ (z : Spelled). z.onward) s.1.is ∙ ap (λ (z : Spelled). boarded_after walk first z.aboard) (s.1.none next ge)
 
   -- getting off to change
-  pub changes_by : (last next : ℕ) → slice_get nodes k ≡ Some (Changes last next) → next < k → (spelled nodes k).aboard ≡ changed_at last (spelled nodes next).onward
+  pub changes_by : (last next : ℕ) → slice_get nodes k ≡ Some (Changes last next) → next < k
+      → (spelled nodes k).aboard ≡ changed_at last (spelled nodes next).onward
   changes_by last next at lt =
       let s = spelled_at nodes k (Changes last next) at in
       ap (λ (z : Spelled). z.aboard) s.1.is ∙ ap (λ (z : Spelled). changed_at last z.onward) (s.1.before next lt)
@@ -50,24 +53,28 @@ module _ (nodes : List Node) (k : ℕ) where
       ap (λ (z : Spelled). z.aboard) s.1.is ∙ ap (λ (z : Spelled). changed_at last z.onward) (s.1.none next ge)
 
   -- getting off at the end
-  pub ends_by : (last : ℕ) (walk : Option Footpath) → slice_get nodes k ≡ Some (Ends last walk) → (spelled nodes k).aboard ≡ Some (record { last = last; walk = walk_of walk; rides = [] })
+  pub ends_by : (last : ℕ) (walk : Option Footpath) → slice_get nodes k ≡ Some (Ends last walk)
+      → (spelled nodes k).aboard ≡ Some (record { last = last; walk = walk_of walk; rides = [] })
   ends_by last walk at =
       let s = spelled_at nodes k (Ends last walk) at in
       ap (λ (z : Spelled). z.aboard) s.1.is
 
   -- setting out
-  pub sets_out_by : (start : Option Footpath) (first next : ℕ) → slice_get nodes k ≡ Some (SetsOut start first next) → next < k → (spelled nodes k).journey ≡ set_out_by start first (spelled nodes next).aboard
+  pub sets_out_by : (start : Option Footpath) (first next : ℕ) → slice_get nodes k ≡ Some (SetsOut start first next) → next < k
+      → (spelled nodes k).journey ≡ set_out_by start first (spelled nodes next).aboard
   sets_out_by start first next at lt =
       let s = spelled_at nodes k (SetsOut start first next) at in
       ap (λ (z : Spelled). z.journey) s.1.is ∙ ap (λ (z : Spelled). set_out_by start first z.aboard) (s.1.before next lt)
 
-  pub sets_out_forward : (start : Option Footpath) (first next : ℕ) → slice_get nodes k ≡ Some (SetsOut start first next) → k ≤ next → (spelled nodes k).journey ≡ None
+  pub sets_out_forward : (start : Option Footpath) (first next : ℕ) → slice_get nodes k ≡ Some (SetsOut start first next) → k ≤ next
+      → (spelled nodes k).journey ≡ None
   sets_out_forward start first next at ge =
       let s = spelled_at nodes k (SetsOut start first next) at in
       ap (λ (z : Spelled). z.journey) s.1.is ∙ ap (λ (z : Spelled). set_out_by start first z.aboard) (s.1.none next ge)
 
   -- other nodes
-  pub ends_alone : (last : ℕ) (walk : Option Footpath) → slice_get nodes k ≡ Some (Ends last walk) → ((spelled nodes k).onward ≡ None) × ((spelled nodes k).journey ≡ None)
+  pub ends_alone : (last : ℕ) (walk : Option Footpath) → slice_get nodes k ≡ Some (Ends last walk)
+      → ((spelled nodes k).onward ≡ None) × ((spelled nodes k).journey ≡ None)
   ends_alone last walk at =
       let s = spelled_at nodes k (Ends last walk) at in
       (ap (λ (z : Spelled). z.onward) s.1.is, ap (λ (z : Spelled). z.journey) s.1.is)
@@ -77,21 +84,26 @@ module _ (nodes : List Node) (k : ℕ) where
       let s = spelled_at nodes k (Changes last next) at in
       (ap (λ (z : Spelled). z.onward) s.1.is, ap (λ (z : Spelled). z.journey) s.1.is)
 
-  pub boards_alone : (walk : Footpath) (first next : ℕ) → slice_get nodes k ≡ Some (Boards walk first next) → ((spelled nodes k).aboard ≡ None) × ((spelled nodes k).journey ≡ None)
+  pub boards_alone : (walk : Footpath) (first next : ℕ) → slice_get nodes k ≡ Some (Boards walk first next)
+      → ((spelled nodes k).aboard ≡ None) × ((spelled nodes k).journey ≡ None)
   boards_alone walk first next at =
       let s = spelled_at nodes k (Boards walk first next) at in
       (ap (λ (z : Spelled). z.aboard) s.1.is, ap (λ (z : Spelled). z.journey) s.1.is)
 
-  pub sets_out_alone : (start : Option Footpath) (first next : ℕ) → slice_get nodes k ≡ Some (SetsOut start first next) → ((spelled nodes k).onward ≡ None) × ((spelled nodes k).aboard ≡ None)
+  pub sets_out_alone : (start : Option Footpath) (first next : ℕ) → slice_get nodes k ≡ Some (SetsOut start first next)
+      → ((spelled nodes k).onward ≡ None) × ((spelled nodes k).aboard ≡ None)
   sets_out_alone start first next at =
       let s = spelled_at nodes k (SetsOut start first next) at in
       (ap (λ (z : Spelled). z.onward) s.1.is, ap (λ (z : Spelled). z.aboard) s.1.is)
 
 -- getting off to board again
-pub changes_on : (nodes : List Node) (k last next : ℕ) (walk : Footpath) (first then : ℕ) → slice_get nodes k ≡ Some (Changes last next) → next < k → (spelled nodes next).onward ≡ boarded_after walk first (spelled nodes then).aboard → (spelled nodes k).aboard ≡ changed_at last (boarded_after walk first (spelled nodes then).aboard)
+pub changes_on : (nodes : List Node) (k last next : ℕ) (walk : Footpath) (first then : ℕ) → slice_get nodes k ≡ Some (Changes last next) → next < k
+    → (spelled nodes next).onward ≡ boarded_after walk first (spelled nodes then).aboard
+    → (spelled nodes k).aboard ≡ changed_at last (boarded_after walk first (spelled nodes then).aboard)
 changes_on nodes k last next walk first then at lt on = changes_by nodes k last next at lt ∙ ap (changed_at last) on
 
-pub changes_nowhere : (nodes : List Node) (k last next : ℕ) → slice_get nodes k ≡ Some (Changes last next) → next < k → (spelled nodes next).onward ≡ None → (spelled nodes k).aboard ≡ None
+pub changes_nowhere : (nodes : List Node) (k last next : ℕ) → slice_get nodes k ≡ Some (Changes last next) → next < k → (spelled nodes next).onward ≡ None
+    → (spelled nodes k).aboard ≡ None
 changes_nowhere nodes k last next at lt none = changes_by nodes k last next at lt ∙ ap (changed_at last) none
 
 -- rides before those that follow, if any do
@@ -110,12 +122,15 @@ put_both a b (Some more) = ap Some (sym (append_assoc a b more))
 abbrev pub ride_of : ℕ → ℕ → List Footpath → RideValue
 ride_of first last walk = record { leg = record { first = first; last = last }; walk = walk }
 
-change_rides : (first last board : ℕ) (walk : Footpath) (o : Option Aboard) → rides_on first (changed_at last (boarded_after walk board o)) ≡ put_before (ride_of first last (walk ∷ []) ∷ []) (rides_on board o)
+change_rides : (first last board : ℕ) (walk : Footpath) (o : Option Aboard)
+    → rides_on first (changed_at last (boarded_after walk board o)) ≡ put_before (ride_of first last (walk ∷ []) ∷ []) (rides_on board o)
 change_rides first last board walk None = refl
 change_rides first last board walk (Some x) = refl
 
 -- one ride more, to change
-pub ride_more : (whole : Option (List RideValue)) (rides : List RideValue) (first last board : ℕ) (walk : Footpath) (here next : Option Aboard) → whole ≡ put_before rides (rides_on first here) → here ≡ changed_at last (boarded_after walk board next) → whole ≡ put_before (rides ++ ride_of first last (walk ∷ []) ∷ []) (rides_on board next)
+pub ride_more : (whole : Option (List RideValue)) (rides : List RideValue) (first last board : ℕ) (walk : Footpath) (here next : Option Aboard)
+    → whole ≡ put_before rides (rides_on first here) → here ≡ changed_at last (boarded_after walk board next)
+    → whole ≡ put_before (rides ++ ride_of first last (walk ∷ []) ∷ []) (rides_on board next)
 ride_more whole rides first last board walk here next before is =
     before
     ∙ ap (λ (o : Option Aboard). put_before rides (rides_on first o)) is
@@ -123,30 +138,39 @@ ride_more whole rides first last board walk here next before is =
     ∙ put_both rides (ride_of first last (walk ∷ []) ∷ []) (rides_on board next)
 
 -- the last ride
-pub ride_last : (whole : Option (List RideValue)) (rides : List RideValue) (first last : ℕ) (walk : List Footpath) (here : Option Aboard) → whole ≡ put_before rides (rides_on first here) → here ≡ Some (record { last = last; walk = walk; rides = [] }) → whole ≡ Some (rides ++ ride_of first last walk ∷ [])
+pub ride_last : (whole : Option (List RideValue)) (rides : List RideValue) (first last : ℕ) (walk : List Footpath) (here : Option Aboard)
+    → whole ≡ put_before rides (rides_on first here) → here ≡ Some (record { last = last; walk = walk; rides = [] })
+    → whole ≡ Some (rides ++ ride_of first last walk ∷ [])
 ride_last whole rides first last walk here before is = before ∙ ap (λ (o : Option Aboard). put_before rides (rides_on first o)) is
 
 -- no ride follows
-pub ride_none : (whole : Option (List RideValue)) (rides : List RideValue) (first : ℕ) (here : Option Aboard) → whole ≡ put_before rides (rides_on first here) → here ≡ None → whole ≡ None
+pub ride_none : (whole : Option (List RideValue)) (rides : List RideValue) (first : ℕ) (here : Option Aboard) → whole ≡ put_before rides (rides_on first here)
+    → here ≡ None → whole ≡ None
 ride_none whole rides first here before is = before ∙ ap (λ (o : Option Aboard). put_before rides (rides_on first o)) is
 
 -- a start before rides
-start_rides : (start : Option Footpath) (first : ℕ) (o : Option Aboard) (rides : List RideValue) → rides_on first o ≡ Some rides → set_out_by start first o ≡ Some (record { start = start; rides = rides })
+start_rides : (start : Option Footpath) (first : ℕ) (o : Option Aboard) (rides : List RideValue) → rides_on first o ≡ Some rides
+    → set_out_by start first o ≡ Some (record { start = start; rides = rides })
 start_rides start first None rides e = absurd cc
-start_rides start first (Some x) rides e = ap (λ (rs : List RideValue). Some (let j : JourneyValue = record { start = start; rides = rs } in j)) (same_Some (boarded first x) rides e)
+start_rides start first (Some x) rides e =
+    ap (λ (rs : List RideValue). Some (let j : JourneyValue = record { start = start; rides = rs } in j)) (same_Some (boarded first x) rides e)
 
 no_rides : (start : Option Footpath) (first : ℕ) (o : Option Aboard) → rides_on first o ≡ None → set_out_by start first o ≡ None
 no_rides start first None e = refl
 no_rides start first (Some x) e = absurd cc
 
-pub starts_by : (nodes : List Node) (k : ℕ) (start : Option Footpath) (first next : ℕ) (rides : List RideValue) → slice_get nodes k ≡ Some (SetsOut start first next) → next < k → rides_on first (spelled nodes next).aboard ≡ Some rides → (spelled nodes k).journey ≡ Some (record { start = start; rides = rides })
+pub starts_by : (nodes : List Node) (k : ℕ) (start : Option Footpath) (first next : ℕ) (rides : List RideValue)
+    → slice_get nodes k ≡ Some (SetsOut start first next) → next < k → rides_on first (spelled nodes next).aboard ≡ Some rides
+    → (spelled nodes k).journey ≡ Some (record { start = start; rides = rides })
 starts_by nodes k start first next rides at lt e = sets_out_by nodes k start first next at lt ∙ start_rides start first (spelled nodes next).aboard rides e
 
-pub starts_nowhere : (nodes : List Node) (k : ℕ) (start : Option Footpath) (first next : ℕ) → slice_get nodes k ≡ Some (SetsOut start first next) → next < k → rides_on first (spelled nodes next).aboard ≡ None → (spelled nodes k).journey ≡ None
+pub starts_nowhere : (nodes : List Node) (k : ℕ) (start : Option Footpath) (first next : ℕ) → slice_get nodes k ≡ Some (SetsOut start first next) → next < k
+    → rides_on first (spelled nodes next).aboard ≡ None → (spelled nodes k).journey ≡ None
 starts_nowhere nodes k start first next at lt e = sets_out_by nodes k start first next at lt ∙ no_rides start first (spelled nodes next).aboard e
 
 -- what was handed back is what is spelled
-pub some_is : {A X : Type 0} (view : A → X) (e : Option X) (o : Option A) (a : A) → o ≡ Some a → MatchOption o (e ≡ None) (λ (r : A). e ≡ Some (view r)) → e ≡ Some (view a)
+pub some_is : {A X : Type 0} (view : A → X) (e : Option X) (o : Option A) (a : A) → o ≡ Some a → MatchOption o (e ≡ None) (λ (r : A). e ≡ Some (view r))
+    → e ≡ Some (view a)
 some_is view e None a is h = absurd cc
 some_is view e (Some b) a is h = h ∙ ap (λ (r : _). Some (view r)) (same_Some b a is)
 
@@ -155,24 +179,31 @@ none_is view e None is h = h
 none_is view e (Some b) is h = absurd cc
 
 -- what was found answers the query that it keeps
-pub answers_its_own : {K V : Type 0} {c : _} (rules : Rules V) (found : Found K V c) → IsAnswered rules (timetable_of found) (query_of found) (listed found) (nodes_of found) (walk_of_found found) → Answers (criterion_of_found found) rules (timetable_of found) (query_of found) found
+pub answers_its_own : {K V : Type 0} {c : _} (rules : Rules V) (found : Found K V c)
+    → IsAnswered rules (timetable_of found) (query_of found) (listed found) (nodes_of found) (walk_of_found found)
+    → Answers (criterion_of_found found) rules (timetable_of found) (query_of found) found
 answers_its_own rules found is = record { answer = is.answer; attained = is.attained; direct = is.direct; keeps = (refl, refl, refl) }
 
 -- the journey that the tag of an answer's point spells attains it
-attained : {K V : Type 0} {c : _} (criterion : K) (rules : Rules V) (t : TimetableValue) (q : Query) (found : Found K V c) (i : ℕ) (p : Point V) → Answers criterion rules t q found → slice_get (listed found) i ≡ Some p
+attained : {K V : Type 0} {c : _} (criterion : K) (rules : Rules V) (t : TimetableValue) (q : Query) (found : Found K V c) (i : ℕ) (p : Point V)
+    → Answers criterion rules t q found → slice_get (listed found) i ≡ Some p
     → (j : JourneyValue) × ((spelled (nodes_of found) p.tag).journey ≡ Some j) × Attains rules t q p j
 attained criterion rules t q found i p answers at =
-    let a = answers.attained p (Contains-At (listed found) i p at) in
+    let a = answers.attained p (contains_at (listed found) i p at) in
     (a.way, a.spells, record { counts = a.there; plain = a.plain; worth = a.worth })
 
-pub attains : {K V : Type 0} {c : _} (criterion : K) (rules : Rules V) (t : TimetableValue) (q : Query) (found : Found K V c) (i : ℕ) (p point : Point V) (j : JourneyValue) → slice_get (listed found) i ≡ Some point → (spelled (nodes_of found) point.tag).journey ≡ Some j → Answers criterion rules t q found → slice_get (listed found) i ≡ Some p → Attains rules t q p j
+pub attains : {K V : Type 0} {c : _} (criterion : K) (rules : Rules V) (t : TimetableValue) (q : Query) (found : Found K V c) (i : ℕ) (p point : Point V)
+    (j : JourneyValue) → slice_get (listed found) i ≡ Some point
+    → (spelled (nodes_of found) point.tag).journey ≡ Some j → Answers criterion rules t q found → slice_get (listed found) i ≡ Some p → Attains rules t q p j
 attains criterion rules t q found i p point j here spells answers at =
     let a = attained criterion rules t q found i p answers at in
     let same : point ≡ p = same_Some point p (sym here ∙ at) in
     let spells_p : (spelled (nodes_of found) p.tag).journey ≡ Some j = subst (λ (x : Point _). (spelled (nodes_of found) x.tag).journey ≡ Some j) same spells in
     subst (Attains rules t q p) (same_Some a.0 j (sym a.1 ∙ spells_p)) a.2
 
-pub always_spelled : {K V : Type 0} {c : _} (criterion : K) (rules : Rules V) (t : TimetableValue) (q : Query) (found : Found K V c) (i : ℕ) (p point : Point V) → slice_get (listed found) i ≡ Some point → (spelled (nodes_of found) point.tag).journey ≡ None → Answers criterion rules t q found → slice_get (listed found) i ≡ Some p → ⊥
+pub always_spelled : {K V : Type 0} {c : _} (criterion : K) (rules : Rules V) (t : TimetableValue) (q : Query) (found : Found K V c) (i : ℕ)
+    (p point : Point V) → slice_get (listed found) i ≡ Some point
+    → (spelled (nodes_of found) point.tag).journey ≡ None → Answers criterion rules t q found → slice_get (listed found) i ≡ Some p → ⊥
 always_spelled criterion rules t q found i p point here none answers at =
     let a = attained criterion rules t q found i p answers at in
     let same : point ≡ p = same_Some point p (sym here ∙ at) in
@@ -183,17 +214,25 @@ always_spelled criterion rules t q found i p point here none answers at =
 -- so many rides lie between a node and a later one that it leads to
 pub record AreBetween (nodes : List Node) (from number rides : ℕ) : Type 0 where
   pub room : rides + number ≤ from
-  pub same : (x : Aboard) → (spelled nodes from).aboard ≡ Some x → (y : Aboard) × ((spelled nodes number).aboard ≡ Some y) × (length x.rides ≡ rides + length y.rides)
+  pub same : (x : Aboard) → (spelled nodes from).aboard ≡ Some x
+      → (y : Aboard) × ((spelled nodes number).aboard ≡ Some y) × (length x.rides ≡ rides + length y.rides)
 
 pub none_between : (nodes : List Node) (from : ℕ) → AreBetween nodes from from 0
 none_between nodes from = record { room = omega arith; same = λ x e. (x, e, omega arith) }
 
-one_less : (last first : ℕ) (walk : Footpath) (o : Option Aboard) (y : Aboard) → changed_at last (boarded_after walk first o) ≡ Some y → (z : Aboard) × (o ≡ Some z) × (length y.rides ≡ suc (length z.rides))
+one_less : (last first : ℕ) (walk : Footpath) (o : Option Aboard) (y : Aboard) → changed_at last (boarded_after walk first o) ≡ Some y
+    → (z : Aboard) × (o ≡ Some z) × (length y.rides ≡ suc (length z.rides))
 one_less last first walk None y e = absurd cc
-one_less last first walk (Some z) y e =
-    (z, refl, ap (λ (x : Aboard). length x.rides) (sym (same_Some (let x : Aboard = record { last = last; walk = walk ∷ []; rides = boarded first z } in x) y e)))
+one_less last first walk (Some z) y e = (
+  z,
+  refl,
+  ap (λ (x : Aboard). length x.rides)
+      (sym (same_Some (let x : Aboard = record { last = last; walk = walk ∷ []; rides = boarded first z } in x) y e)),
+)
 
-pub one_between : (nodes : List Node) (from number rides last first next : ℕ) (walk : Footpath) → next < number → (spelled nodes number).aboard ≡ changed_at last (boarded_after walk first (spelled nodes next).aboard) → AreBetween nodes from number rides → AreBetween nodes from next (rides + 1)
+pub one_between : (nodes : List Node) (from number rides last first next : ℕ) (walk : Footpath) → next < number
+    → (spelled nodes number).aboard ≡ changed_at last (boarded_after walk first (spelled nodes next).aboard) → AreBetween nodes from number rides
+    → AreBetween nodes from next (rides + 1)
 one_between nodes from number rides last first next walk lt is between = record {
   room = let room = between.room in omega arith;
   same = λ x e.
@@ -202,14 +241,16 @@ one_between nodes from number rides last first next walk lt is between = record 
       (z.0, z.1, omega (arith, y.2, z.2));
 }
 
-pub last_between : (nodes : List Node) (from number rides : ℕ) (y x : Aboard) → y.rides ≡ [] → (spelled nodes number).aboard ≡ Some y → AreBetween nodes from number rides → (spelled nodes from).aboard ≡ Some x → rides ≡ length x.rides
+pub last_between : (nodes : List Node) (from number rides : ℕ) (y x : Aboard) → y.rides ≡ [] → (spelled nodes number).aboard ≡ Some y
+    → AreBetween nodes from number rides → (spelled nodes from).aboard ≡ Some x → rides ≡ length x.rides
 last_between nodes from number rides y x none is between e =
     let z = between.same x e in
     let same : z.0 ≡ y = same_Some z.0 y (sym z.1 ∙ is) in
     let empty : length z.0.rides ≡ 0 = ap (λ (a : Aboard). length a.rides) same ∙ ap (λ (rs : List RideValue). length rs) none in
     omega (arith, z.2, empty)
 
-pub nothing_between : (nodes : List Node) (from number rides : ℕ) (x : Aboard) → (spelled nodes number).aboard ≡ None → AreBetween nodes from number rides → (spelled nodes from).aboard ≡ Some x → ⊥
+pub nothing_between : (nodes : List Node) (from number rides : ℕ) (x : Aboard) → (spelled nodes number).aboard ≡ None → AreBetween nodes from number rides
+    → (spelled nodes from).aboard ≡ Some x → ⊥
 nothing_between nodes from number rides x none between e =
     let z = between.same x e in
     let some = z.1 in

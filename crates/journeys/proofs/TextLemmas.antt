@@ -1,5 +1,6 @@
 -- What is read is spelled so, and what is spelled so is read.
-use Rattle.std.proofs.Common.{◌≡◌, ◌≢◌, ◌⊎◌, ℕ, zero, suc, ◌^◌, ◌<◌, ◌≤◌, Bool, true, false, not, ◌&&◌, eqb, ltb, cond, List, [], ◌∷◌, ◌++◌, length, get_or, take, drop, codes, Option, Some, None, refl, sym, ap, subst, ◌∙◌, append_assoc, arith, inl, inr, rules}
+use Rattle.std.proofs.Common.{◌≡◌, ◌≢◌, ◌⊎◌, ℕ, zero, suc, ◌^◌, ◌<◌, ◌≤◌, Bool, true, false, not, ◌&&◌, eqb, ltb, cond, List, [], ◌∷◌, ◌++◌, length}
+use Rattle.std.proofs.Common.{get_or, take, drop, codes, Option, Some, None, refl, sym, ap, subst, ◌∙◌, append_assoc, arith, inl, inr, rules}
 use Rattle.std.specs.Prelude.{decimal, IfSome, IfOk, MatchResult, Result, Ok, Err}
 use Rattle.journeys.specs.declared.text_fault.TextFault.{TextFault}
 use Rattle.journeys.specs.declared.text_fault.TextFault.TheVariants as faults
@@ -17,7 +18,8 @@ use Rattle.timetable.specs.declared.network.Footpath.{Footpath}
 use Rattle.timetable.specs.declared.journey.Leg.{Leg}
 use Rattle.timetable.specs.JourneyValue.{RideValue, JourneyValue}
 use Rattle.journeys.specs.Texts.{number_text, footpath_text, walk_text, leg_text, ride_text, start_text, text_of, IsFootpathOfWords, IsRideOfWords, HasText}
-use Rattle.journeys.specs.Reading.{◌>>=◌, Gives, read_on, value_of, number_of_digits, number_at, field_at, footpath_at, leg_at, after, if_after, walks_at, ride_at_front, rides_at, start_at, journey_at}
+use Rattle.journeys.specs.Reading.{◌>>=◌, Gives, read_on, value_of, number_of_digits, number_at, field_at, footpath_at, leg_at, after, if_after}
+use Rattle.journeys.specs.Reading.{walks_at, ride_at_front, rides_at, start_at, journey_at}
 use Rattle.journeys.proofs.NumberLemmas.{value_of-small, front_passes}
 use Rattle.journeys.proofs.ReadLemmas.{after-again, after-split}
 
@@ -94,7 +96,8 @@ number_at-again n rest small none =
     let len = front_len is_ascii_digit ds rest all none in
     let front : take (prefix_len is_ascii_digit (ds ++ rest)) (ds ++ rest) ≡ ds = ap (λ (k : ℕ). take k (ds ++ rest)) len ∙ take-append_seam ds rest in
     let back : drop (prefix_len is_ascii_digit (ds ++ rest)) (ds ++ rest) ≡ rest = ap (λ (k : ℕ). drop k (ds ++ rest)) len ∙ drop-append_seam ds rest in
-    let number : number_of_digits ds ≡ Some n = number_of_digits-is ds n (record { some = decimal_nonempty n wide; alone = alone n wide; is = digits_value-decimal own n wide; small = small }) in
+    let number : number_of_digits ds ≡ Some n = number_of_digits-is ds n
+    (record { some = decimal_nonempty n wide; alone = alone n wide; is = digits_value-decimal own n wide; small = small }) in
     ap (λ (xs : List ℕ). number_of_digits xs >>= λ m. Some (m, drop (prefix_len is_ascii_digit (ds ++ rest)) (ds ++ rest))) front
     ∙ ap (λ (o : Option ℕ). o >>= λ m. Some (m, drop (prefix_len is_ascii_digit (ds ++ rest)) (ds ++ rest))) number
     ∙ ap (λ (xs : List ℕ). Some (n, xs)) back
@@ -119,8 +122,11 @@ number_at-takes bytes n rest e =
     let number = number_of_digits-parts (take k bytes) b.0 b.1 in
     let all = sym (digits_all (take k bytes)) ∙ front_passes is_ascii_digit bytes k refl in
     let value = decimal-digits_value own (take k bytes) all number.some number.alone (omega (arith, number.is, number.small)) in
-    let front : decimal n ≡ take k bytes = ap decimal (sym same ∙ sym number.is) ∙ value in
-    (sym (take-append-drop k bytes) ∙ ap (λ (xs : List ℕ). xs ++ drop k bytes) (sym front) ∙ ap (λ (xs : List ℕ). decimal n ++ xs) back, omega (arith, number.small, same))
+    let front : decimal n ≡ take k bytes = ap decimal (sym same ∙ sym number.is) ∙ value in (
+      sym (take-append-drop k bytes) ∙ ap (λ (xs : List ℕ). xs ++ drop k bytes) (sym front)
+          ∙ ap (λ (xs : List ℕ). decimal n ++ xs) back,
+      omega (arith, number.small, same),
+    )
 
 when_true : {X : Type 0} (b : Bool) (o : Option X) (x : X) → cond b o None ≡ Some x → (b ≡ true) × (o ≡ Some x)
 when_true true o x e = (refl, e)
@@ -145,7 +151,8 @@ regroup a b rest = append_assoc a b rest
 regroup_three : (a b d rest : List ℕ) → (a ++ (b ++ d)) ++ rest ≡ a ++ (b ++ (d ++ rest))
 regroup_three a b d rest = regroup a (b ++ d) rest ∙ ap (λ (xs : List ℕ). a ++ xs) (regroup b d rest)
 
-footpath_at-steps : (bytes b d rest : List ℕ) (x y z : ℕ) → field_at bytes ≡ Some (x, b) → field_at b ≡ Some (y, d) → field_at d ≡ Some (z, rest) → footpath_at bytes ≡ Some (record { from = x; to = y; secs = z }, rest)
+footpath_at-steps : (bytes b d rest : List ℕ) (x y z : ℕ) → field_at bytes ≡ Some (x, b) → field_at b ≡ Some (y, d) → field_at d ≡ Some (z, rest)
+    → footpath_at bytes ≡ Some (record { from = x; to = y; secs = z }, rest)
 unfolding footpath_at
 footpath_at-steps bytes b d rest x y z e f g = rw (e, f, g) refl
 
@@ -154,9 +161,11 @@ footpath_at-again f rest fits none =
     let last = number_text f.secs ++ rest in
     let middle = number_text f.to ++ last in
     ap footpath_at (regroup_three (number_text f.from) (number_text f.to) (number_text f.secs) rest)
-    ∙ footpath_at-steps (number_text f.from ++ middle) middle last rest f.from f.to f.secs (field_at-again f.from middle fits.0 refl) (field_at-again f.to last fits.1 refl) (field_at-again f.secs rest fits.2 none)
+    ∙ footpath_at-steps (number_text f.from ++ middle) middle last rest f.from f.to f.secs (field_at-again f.from middle fits.0 refl)
+    (field_at-again f.to last fits.1 refl) (field_at-again f.secs rest fits.2 none)
 
-footpath_at-takes : (bytes : List ℕ) (f : Footpath) (rest : List ℕ) → footpath_at bytes ≡ Some (f, rest) → (bytes ≡ footpath_text f ++ rest) × IsFootpathOfWords f
+footpath_at-takes : (bytes : List ℕ) (f : Footpath) (rest : List ℕ) → footpath_at bytes ≡ Some (f, rest)
+    → (bytes ≡ footpath_text f ++ rest) × IsFootpathOfWords f
 unfolding footpath_at
 footpath_at-takes bytes f rest e =
     let a = bind_some (field_at bytes) (λ x. field_at x.1 >>= λ y. field_at y.1 >>= λ z. Some (record { from = x.0; to = y.0; secs = z.0 }, z.1)) (f, rest) e in
@@ -166,10 +175,12 @@ footpath_at-takes bytes f rest e =
     let second = field_at-takes a.0.1 b.0.0 b.0.1 b.1 in
     let third = field_at-takes b.0.1 d.0.0 d.0.1 d.1 in
     let P : Footpath × List ℕ → Type 0 = λ x. (bytes ≡ footpath_text x.0 ++ x.1) × IsFootpathOfWords x.0 in
-    let all = first.0 ∙ ap (λ (xs : List ℕ). number_text a.0.0 ++ xs) (second.0 ∙ ap (λ (xs : List ℕ). number_text b.0.0 ++ xs) third.0) ∙ sym (regroup_three (number_text a.0.0) (number_text b.0.0) (number_text d.0.0) d.0.1) in
+    let all = first.0 ∙ ap (λ (xs : List ℕ). number_text a.0.0 ++ xs) (second.0 ∙ ap (λ (xs : List ℕ). number_text b.0.0 ++ xs) third.0)
+    ∙ sym (regroup_three (number_text a.0.0) (number_text b.0.0) (number_text d.0.0) d.0.1) in
     subst P (same_Some _ _ d.2) (all, (first.1, second.1, third.1))
 
-leg_at-steps : (bytes b rest : List ℕ) (x y : ℕ) → field_at bytes ≡ Some (x, b) → field_at b ≡ Some (y, rest) → leg_at bytes ≡ Some (record { first = x; last = y }, rest)
+leg_at-steps : (bytes b rest : List ℕ) (x y : ℕ) → field_at bytes ≡ Some (x, b) → field_at b ≡ Some (y, rest)
+    → leg_at bytes ≡ Some (record { first = x; last = y }, rest)
 unfolding leg_at
 leg_at-steps bytes b rest x y e f = rw (e, f) refl
 
@@ -177,9 +188,11 @@ leg_at-again : (leg : Leg) (rest : List ℕ) → leg.first < 2 ^ 32 → leg.last
 leg_at-again leg rest first last none =
     let second = number_text leg.last ++ rest in
     ap leg_at (regroup (number_text leg.first) (number_text leg.last) rest)
-    ∙ leg_at-steps (number_text leg.first ++ second) second rest leg.first leg.last (field_at-again leg.first second first refl) (field_at-again leg.last rest last none)
+    ∙ leg_at-steps (number_text leg.first ++ second) second rest leg.first leg.last (field_at-again leg.first second first refl)
+    (field_at-again leg.last rest last none)
 
-leg_at-takes : (bytes : List ℕ) (leg : Leg) (rest : List ℕ) → leg_at bytes ≡ Some (leg, rest) → (bytes ≡ leg_text leg ++ rest) × (leg.first < 2 ^ 32) × (leg.last < 2 ^ 32)
+leg_at-takes : (bytes : List ℕ) (leg : Leg) (rest : List ℕ) → leg_at bytes ≡ Some (leg, rest)
+    → (bytes ≡ leg_text leg ++ rest) × (leg.first < 2 ^ 32) × (leg.last < 2 ^ 32)
 unfolding leg_at
 leg_at-takes bytes leg rest e =
     let a = bind_some (field_at bytes) (λ x. field_at x.1 >>= λ y. Some (record { first = x.0; last = y.0 }, y.1)) (leg, rest) e in
@@ -190,7 +203,8 @@ leg_at-takes bytes leg rest e =
     let all = first.0 ∙ ap (λ (xs : List ℕ). number_text a.0.0 ++ xs) second.0 ∙ sym (regroup (number_text a.0.0) (number_text b.0.0) b.0.1) in
     subst P (same_Some _ _ b.2) (all, first.1, second.1)
 
-walks_at-step : (n : ℕ) (bytes numbers behind last : List ℕ) (f : Footpath) (fs : List Footpath) → after (codes " walk") bytes ≡ Some numbers → footpath_at numbers ≡ Some (f, behind) → walks_at n behind ≡ Some (fs, last) → walks_at (suc n) bytes ≡ Some (f ∷ fs, last)
+walks_at-step : (n : ℕ) (bytes numbers behind last : List ℕ) (f : Footpath) (fs : List Footpath) → after (codes " walk") bytes ≡ Some numbers
+    → footpath_at numbers ≡ Some (f, behind) → walks_at n behind ≡ Some (fs, last) → walks_at (suc n) bytes ≡ Some (f ∷ fs, last)
 unfolding walks_at
 walks_at-step n bytes numbers behind last f fs word read others = rw (word, read, others) refl
 
@@ -198,7 +212,8 @@ no_digit_walks : (fs : List Footpath) (rest : List ℕ) → NoDigit rest → NoD
 no_digit_walks [] rest none = none
 no_digit_walks (f ∷ fs) rest none = refl
 
-walks_at-again : (fs : List Footpath) (rest : List ℕ) (n : ℕ) → length fs ≤ n → AllByRecursion IsFootpathOfWords fs → NoDigit rest → after (codes " walk") rest ≡ None → walks_at n (flat_map walk_text fs ++ rest) ≡ Some (fs, rest)
+walks_at-again : (fs : List Footpath) (rest : List ℕ) (n : ℕ) → length fs ≤ n → AllByRecursion IsFootpathOfWords fs → NoDigit rest
+    → after (codes " walk") rest ≡ None → walks_at n (flat_map walk_text fs ++ rest) ≡ Some (fs, rest)
 unfolding walks_at
 walks_at-again [] rest zero le fits none stop = refl
 walks_at-again [] rest (suc n) le fits none stop = rw stop refl
@@ -206,9 +221,11 @@ walks_at-again (f ∷ fs) rest zero le fits none stop = absurd (omega (arith, le
 walks_at-again (f ∷ fs) rest (suc n) le fits none stop =
     let behind = flat_map walk_text fs ++ rest in
     let numbers = footpath_text f ++ behind in
-    let whole : flat_map walk_text (f ∷ fs) ++ rest ≡ codes " walk" ++ numbers = ap (λ (xs : List ℕ). codes " walk" ++ xs) (regroup (footpath_text f) (flat_map walk_text fs) rest) in
+    let whole : flat_map walk_text (f ∷ fs) ++ rest ≡ codes " walk" ++ numbers = ap (λ (xs : List ℕ). codes " walk" ++ xs)
+    (regroup (footpath_text f) (flat_map walk_text fs) rest) in
     ap (walks_at (suc n)) whole
-    ∙ walks_at-step n (codes " walk" ++ numbers) numbers behind rest f fs (after-again (codes " walk") numbers) (footpath_at-again f behind fits.0 (no_digit_walks fs rest none)) (walks_at-again fs rest n (omega (arith, le)) fits.1 none stop)
+    ∙ walks_at-step n (codes " walk" ++ numbers) numbers behind rest f fs (after-again (codes " walk") numbers)
+    (footpath_at-again f behind fits.0 (no_digit_walks fs rest none)) (walks_at-again fs rest n (omega (arith, le)) fits.1 none stop)
 
 abbrev AreWalksOf : List ℕ → List Footpath × List ℕ → Type 0
 AreWalksOf bytes x = (bytes ≡ flat_map walk_text x.0 ++ x.1) × AllByRecursion IsFootpathOfWords x.0
@@ -218,7 +235,8 @@ unfolding walks_at
 walks_at-takes zero bytes x e = subst (AreWalksOf bytes) (same_Some _ _ e) (refl, tt)
 walks_at-takes (suc n) bytes x e = go (λ b y h. walks_at-takes n b y h) (after (codes " walk") bytes) refl e
   where
-    go : ((b : List ℕ) (y : List Footpath × List ℕ) → walks_at n b ≡ Some y → AreWalksOf b y) → (o : Option (List ℕ)) → after (codes " walk") bytes ≡ o → if_after o (λ rest. footpath_at rest >>= λ f. walks_at n f.1 >>= λ fs. Some (f.0 ∷ fs.0, fs.1)) (Some ([], bytes)) ≡ Some x → AreWalksOf bytes x
+    go : ((b : List ℕ) (y : List Footpath × List ℕ) → walks_at n b ≡ Some y → AreWalksOf b y) → (o : Option (List ℕ)) → after (codes " walk") bytes ≡ o
+        → if_after o (λ rest. footpath_at rest >>= λ f. walks_at n f.1 >>= λ fs. Some (f.0 ∷ fs.0, fs.1)) (Some ([], bytes)) ≡ Some x → AreWalksOf bytes x
     go later None word e = subst (AreWalksOf bytes) (same_Some _ _ e) (refl, tt)
     go later (Some rest) word e =
         let a = bind_some (footpath_at rest) (λ f. walks_at n f.1 >>= λ fs. Some (f.0 ∷ fs.0, fs.1)) x e in
@@ -226,7 +244,8 @@ walks_at-takes (suc n) bytes x e = go (λ b y h. walks_at-takes n b y h) (after 
         let front = after-split (codes " walk") bytes rest word in
         let one = footpath_at-takes rest a.0.0 a.0.1 a.1 in
         let others = later a.0.1 b.0 b.1 in
-        let all = front ∙ ap (λ (xs : List ℕ). codes " walk" ++ xs) (one.0 ∙ ap (λ (xs : List ℕ). footpath_text a.0.0 ++ xs) others.0 ∙ sym (regroup (footpath_text a.0.0) (flat_map walk_text b.0.0) b.0.1)) in
+        let all = front ∙ ap (λ (xs : List ℕ). codes " walk" ++ xs)
+        (one.0 ∙ ap (λ (xs : List ℕ). footpath_text a.0.0 ++ xs) others.0 ∙ sym (regroup (footpath_text a.0.0) (flat_map walk_text b.0.0) b.0.1)) in
         subst (AreWalksOf bytes) (same_Some _ _ b.2) (all, (one.1, others.1))
 
 -- a ride behind its word
@@ -241,15 +260,18 @@ length_walks (f ∷ fs) rest =
     let longer = length-append (footpath_text f) (flat_map walk_text fs ++ rest) in
     omega (arith, more, all, longer)
 
-ride_at-steps : (bytes behind rest : List ℕ) (leg : Leg) (walk : List Footpath) → leg_at bytes ≡ Some (leg, behind) → walks_at (length behind) behind ≡ Some (walk, rest) → ride_at_front bytes ≡ Some (record { leg = leg; walk = walk }, rest)
+ride_at-steps : (bytes behind rest : List ℕ) (leg : Leg) (walk : List Footpath) → leg_at bytes ≡ Some (leg, behind)
+    → walks_at (length behind) behind ≡ Some (walk, rest) → ride_at_front bytes ≡ Some (record { leg = leg; walk = walk }, rest)
 unfolding ride_at_front
 ride_at-steps bytes behind rest leg walk e f = rw (e, f) refl
 
-ride_at-again : (r : RideValue) (rest : List ℕ) → IsRideOfWords r → NoDigit rest → after (codes " walk") rest ≡ None → ride_at_front (body_text r ++ rest) ≡ Some (r, rest)
+ride_at-again : (r : RideValue) (rest : List ℕ) → IsRideOfWords r → NoDigit rest → after (codes " walk") rest ≡ None
+    → ride_at_front (body_text r ++ rest) ≡ Some (r, rest)
 ride_at-again r rest fits none stop =
     let behind = flat_map walk_text r.walk ++ rest in
     ap ride_at_front (regroup (leg_text r.leg) (flat_map walk_text r.walk) rest)
-    ∙ ride_at-steps (leg_text r.leg ++ behind) behind rest r.leg r.walk (leg_at-again r.leg behind fits.0 fits.1 (no_digit_walks r.walk rest none)) (walks_at-again r.walk rest (length behind) (length_walks r.walk rest) fits.2 none stop)
+    ∙ ride_at-steps (leg_text r.leg ++ behind) behind rest r.leg r.walk (leg_at-again r.leg behind fits.0 fits.1 (no_digit_walks r.walk rest none))
+    (walks_at-again r.walk rest (length behind) (length_walks r.walk rest) fits.2 none stop)
 
 abbrev IsRideOf : List ℕ → RideValue × List ℕ → Type 0
 IsRideOf bytes x = (bytes ≡ body_text x.0 ++ x.1) × IsRideOfWords x.0
@@ -268,7 +290,8 @@ rides_at-last : (n : ℕ) (bytes : List ℕ) (r : RideValue) → ride_at_front b
 unfolding rides_at
 rides_at-last n bytes r e = rw e refl
 
-rides_at-step : (n : ℕ) (bytes behind rest : List ℕ) (r : RideValue) (rs : List RideValue) → ride_at_front bytes ≡ Some (r, behind) → length behind ≢ 0 → after (codes " ride") behind ≡ Some rest → rides_at n rest ≡ Some rs → rides_at (suc n) bytes ≡ Some (r ∷ rs)
+rides_at-step : (n : ℕ) (bytes behind rest : List ℕ) (r : RideValue) (rs : List RideValue) → ride_at_front bytes ≡ Some (r, behind) → length behind ≢ 0
+    → after (codes " ride") behind ≡ Some rest → rides_at n rest ≡ Some rs → rides_at (suc n) bytes ≡ Some (r ∷ rs)
 unfolding rides_at
 rides_at-step n bytes behind rest r rs read more word others =
     let test = ne_eqb (length behind) 0 more in
@@ -283,21 +306,25 @@ no_walk_end : after (codes " walk") [] ≡ None
 unfolding after
 no_walk_end = refl
 
-rides_at-again : (r : RideValue) (rs : List RideValue) (n : ℕ) → length (r ∷ rs) ≤ n → AllByRecursion IsRideOfWords (r ∷ rs) → rides_at n (body_text r ++ flat_map ride_text rs) ≡ Some (r ∷ rs)
+rides_at-again : (r : RideValue) (rs : List RideValue) (n : ℕ) → length (r ∷ rs) ≤ n → AllByRecursion IsRideOfWords (r ∷ rs)
+    → rides_at n (body_text r ++ flat_map ride_text rs) ≡ Some (r ∷ rs)
 rides_at-again r rs zero le fits = absurd (omega (arith, le))
 rides_at-again r [] (suc n) le fits = rides_at-last n (body_text r ++ []) r (ride_at-again r [] fits.0 refl no_walk_end)
 rides_at-again r (s ∷ rs) (suc n) le fits =
     let rest = body_text s ++ flat_map ride_text rs in
     let behind = codes " ride" ++ rest in
-    let whole : body_text r ++ flat_map ride_text (s ∷ rs) ≡ body_text r ++ behind = ap (λ (xs : List ℕ). body_text r ++ (codes " ride" ++ xs)) (regroup_body s rs) in
+    let whole : body_text r ++ flat_map ride_text (s ∷ rs) ≡ body_text r ++ behind = ap (λ (xs : List ℕ). body_text r ++ (codes " ride" ++ xs))
+    (regroup_body s rs) in
     ap (rides_at (suc n)) whole
-    ∙ rides_at-step n (body_text r ++ behind) behind rest r (s ∷ rs) (ride_at-again r behind fits.0 refl (no_walk rest)) (omega arith) (after-again (codes " ride") rest) (rides_at-again s rs n (omega (arith, le)) fits.1)
+    ∙ rides_at-step n (body_text r ++ behind) behind rest r (s ∷ rs) (ride_at-again r behind fits.0 refl (no_walk rest)) (omega arith)
+    (after-again (codes " ride") rest) (rides_at-again s rs n (omega (arith, le)) fits.1)
   where
     regroup_body : (s : RideValue) (rs : List RideValue) → (body_text s) ++ flat_map ride_text rs ≡ body_text s ++ flat_map ride_text rs
     regroup_body s rs = refl
 
 abbrev AreRidesOf : List ℕ → List RideValue → Type 0
-AreRidesOf bytes rides = (r : RideValue) × (rs : List RideValue) × (rides ≡ r ∷ rs) × (bytes ≡ body_text r ++ flat_map ride_text rs) × AllByRecursion IsRideOfWords (r ∷ rs)
+AreRidesOf bytes rides =
+    (r : RideValue) × (rs : List RideValue) × (rides ≡ r ∷ rs) × (bytes ≡ body_text r ++ flat_map ride_text rs) × AllByRecursion IsRideOfWords (r ∷ rs)
 
 when_not : {X : Type 0} (b : Bool) (x y : Option X) (z : X) → cond b x y ≡ Some z → ((b ≡ true) × (x ≡ Some z)) ⊎ ((b ≡ false) × (y ≡ Some z))
 when_not true x y z e = inl (refl, e)
@@ -311,19 +338,29 @@ rides_at-takes : (n : ℕ) (bytes : List ℕ) (rides : List RideValue) → rides
 unfolding rides_at
 rides_at-takes zero bytes rides e = absurd cc
 rides_at-takes (suc n) bytes rides e =
-    let a = bind_some (ride_at_front bytes) (λ r. cond (eqb (length r.1) 0) (Some (r.0 ∷ [])) (after (codes " ride") r.1 >>= λ rest. rides_at n rest >>= λ rides. Some (r.0 ∷ rides))) rides e in
+    let a = bind_some (ride_at_front bytes) (λ r. cond (eqb (length r.1) 0) (Some (r.0 ∷ []))
+    (after (codes " ride") r.1 >>= λ rest. rides_at n rest >>= λ rides. Some (r.0 ∷ rides))) rides e in
     let one = ride_at-takes bytes a.0 a.1 in
-    elim (when_not (eqb (length a.0.1) 0) (Some (a.0.0 ∷ [])) (after (codes " ride") a.0.1 >>= λ rest. rides_at n rest >>= λ rides. Some (a.0.0 ∷ rides)) rides a.2) [
-      | inl last ↦ (let none = no_length a.0.1 (eqb-true (length a.0.1) 0 last.0) in (a.0.0, [], sym (same_Some _ _ last.1), one.0 ∙ ap (λ (xs : List ℕ). body_text a.0.0 ++ xs) none, (one.1, tt)))
+    elim (when_not (eqb (length a.0.1) 0) (Some (a.0.0 ∷ []))
+    (after (codes " ride") a.0.1 >>= λ rest. rides_at n rest >>= λ rides. Some (a.0.0 ∷ rides)) rides a.2) [
+      | inl last ↦ (let none = no_length a.0.1 (eqb-true (length a.0.1) 0 last.0) in
+          (a.0.0, [], sym (same_Some _ _ last.1), one.0 ∙ ap (λ (xs : List ℕ). body_text a.0.0 ++ xs) none, (one.1, tt)))
       | inr more ↦
           let b = bind_some (after (codes " ride") a.0.1) (λ rest. rides_at n rest >>= λ rides. Some (a.0.0 ∷ rides)) rides more.1 in
           let d = bind_some (rides_at n b.0) (λ rides. Some (a.0.0 ∷ rides)) rides b.2 in
           let word = after-split (codes " ride") a.0.1 b.0 b.1 in
-          let others = rides_at-takes n b.0 d.0 d.1 in
-          (a.0.0, others.0 ∷ others.1, sym (same_Some _ _ d.2) ∙ ap (λ (rs : List RideValue). a.0.0 ∷ rs) others.2, one.0 ∙ ap (λ (xs : List ℕ). body_text a.0.0 ++ xs) (word ∙ ap (λ (xs : List ℕ). codes " ride" ++ xs) others.3), (one.1, others.4))
+          let others = rides_at-takes n b.0 d.0 d.1 in (
+            a.0.0,
+            others.0 ∷ others.1,
+            sym (same_Some _ _ d.2) ∙ ap (λ (rs : List RideValue). a.0.0 ∷ rs) others.2,
+            one.0
+                ∙ ap (λ (xs : List ℕ). body_text a.0.0 ++ xs) (word ∙ ap (λ (xs : List ℕ). codes " ride" ++ xs) others.3),
+            (one.1, others.4),
+          )
     ]
 
-journey_at-steps : (bytes rest : List ℕ) (start : Option Footpath) (rides : List RideValue) → start_at bytes ≡ Some (start, rest) → rides_at (length rest) rest ≡ Some rides → journey_at bytes ≡ Some (record { start = start; rides = rides })
+journey_at-steps : (bytes rest : List ℕ) (start : Option Footpath) (rides : List RideValue) → start_at bytes ≡ Some (start, rest)
+    → rides_at (length rest) rest ≡ Some rides → journey_at bytes ≡ Some (record { start = start; rides = rides })
 unfolding journey_at
 journey_at-steps bytes rest start rides e f = rw (e, f) refl
 
@@ -338,15 +375,18 @@ start_at-none rest =
     let word = after-again (codes "ride") rest in
     rw (no_walk, word) refl
 
-start_at-steps : (bytes numbers behind rest : List ℕ) (f : Footpath) → after (codes "walk") bytes ≡ Some numbers → footpath_at numbers ≡ Some (f, behind) → after (codes " ride") behind ≡ Some rest → start_at bytes ≡ Some (Some f, rest)
+start_at-steps : (bytes numbers behind rest : List ℕ) (f : Footpath) → after (codes "walk") bytes ≡ Some numbers → footpath_at numbers ≡ Some (f, behind)
+    → after (codes " ride") behind ≡ Some rest → start_at bytes ≡ Some (Some f, rest)
 unfolding start_at
 start_at-steps bytes numbers behind rest f word read ride = rw (word, read, ride) refl
 
-start_at-some : (f : Footpath) (rest : List ℕ) → IsFootpathOfWords f → start_at (codes "walk" ++ (footpath_text f ++ (codes " ride" ++ rest))) ≡ Some (Some f, rest)
+start_at-some : (f : Footpath) (rest : List ℕ) → IsFootpathOfWords f
+    → start_at (codes "walk" ++ (footpath_text f ++ (codes " ride" ++ rest))) ≡ Some (Some f, rest)
 start_at-some f rest fits =
     let behind = codes " ride" ++ rest in
     let numbers = footpath_text f ++ behind in
-    start_at-steps (codes "walk" ++ numbers) numbers behind rest f (after-again (codes "walk") numbers) (footpath_at-again f behind fits refl) (after-again (codes " ride") rest)
+    start_at-steps (codes "walk" ++ numbers) numbers behind rest f (after-again (codes "walk") numbers) (footpath_at-again f behind fits refl)
+    (after-again (codes " ride") rest)
 
 -- the text up to the word of the first ride, and the bytes after it
 abbrev IsStartOf : List ℕ → Option Footpath × List ℕ → Type 0
@@ -356,7 +396,9 @@ start_at-takes : (bytes : List ℕ) (x : Option Footpath × List ℕ) → start_
 unfolding start_at
 start_at-takes bytes x e = go (after (codes "walk") bytes) refl e
   where
-    go : (o : Option (List ℕ)) → after (codes "walk") bytes ≡ o → if_after o (λ rest. footpath_at rest >>= λ f. after (codes " ride") f.1 >>= λ rides. Some (Some f.0, rides)) (after (codes "ride") bytes >>= λ rides. Some (None, rides)) ≡ Some x → IsStartOf bytes x
+    go : (o : Option (List ℕ)) → after (codes "walk") bytes ≡ o
+        → if_after o (λ rest. footpath_at rest >>= λ f. after (codes " ride") f.1 >>= λ rides. Some (Some f.0, rides))
+        (after (codes "ride") bytes >>= λ rides. Some (None, rides)) ≡ Some x → IsStartOf bytes x
     go None word e =
         let a = bind_some (after (codes "ride") bytes) (λ rides. Some (None, rides)) x e in
         subst (IsStartOf bytes) (same_Some _ _ a.2) (after-split (codes "ride") bytes a.0 a.1, tt)
@@ -365,7 +407,11 @@ start_at-takes bytes x e = go (after (codes "walk") bytes) refl e
         let b = bind_some (after (codes " ride") a.0.1) (λ rides. Some (Some a.0.0, rides)) x a.2 in
         let walk = footpath_at-takes rest a.0.0 a.0.1 a.1 in
         let ride = after-split (codes " ride") a.0.1 b.0 b.1 in
-        subst (IsStartOf bytes) (same_Some _ _ b.2) (after-split (codes "walk") bytes rest word ∙ ap (λ (xs : List ℕ). codes "walk" ++ xs) (walk.0 ∙ ap (λ (xs : List ℕ). footpath_text a.0.0 ++ xs) ride), walk.1)
+        subst (IsStartOf bytes) (same_Some _ _ b.2) (
+          after-split (codes "walk") bytes rest word
+              ∙ ap (λ (xs : List ℕ). codes "walk" ++ xs) (walk.0 ∙ ap (λ (xs : List ℕ). footpath_text a.0.0 ++ xs) ride),
+          walk.1,
+        )
 
 length_rides : (rs : List RideValue) → length rs ≤ length (flat_map ride_text rs)
 length_rides [] = omega arith
@@ -380,14 +426,16 @@ enough r rs =
     let longer = length-append (body_text r) (flat_map ride_text rs) in
     omega (arith, more, longer)
 
-text_again : (start : Option Footpath) (rides : List RideValue) → HasText (record { start = start; rides = rides }) → journey_at (text_of (record { start = start; rides = rides })) ≡ Some (record { start = start; rides = rides })
+text_again : (start : Option Footpath) (rides : List RideValue) → HasText (record { start = start; rides = rides })
+    → journey_at (text_of (record { start = start; rides = rides })) ≡ Some (record { start = start; rides = rides })
 text_again start [] has = absurd (has.some refl)
 text_again None (r ∷ rs) has =
     let rest = body_text r ++ flat_map ride_text rs in
     journey_at-steps (codes "ride" ++ rest) rest None (r ∷ rs) (start_at-none rest) (rides_at-again r rs (length rest) (enough r rs) has.rides)
 text_again (Some f) (r ∷ rs) has =
     let rest = body_text r ++ flat_map ride_text rs in
-    journey_at-steps (codes "walk" ++ (footpath_text f ++ (codes " ride" ++ rest))) rest (Some f) (r ∷ rs) (start_at-some f rest has.start) (rides_at-again r rs (length rest) (enough r rs) has.rides)
+    journey_at-steps (codes "walk" ++ (footpath_text f ++ (codes " ride" ++ rest))) rest (Some f) (r ∷ rs) (start_at-some f rest has.start)
+    (rides_at-again r rs (length rest) (enough r rs) has.rides)
 
 -- what is spelled so is read
 pub journey_at-again : (j : JourneyValue) → HasText j → journey_at (text_of j) ≡ Some j
@@ -417,7 +465,8 @@ pub is_found : (bytes : List ℕ) (r : Result JourneyValue TextFault) → Gives 
 is_found bytes (Ok j) gives = journey_at-takes bytes j gives
 is_found bytes (Err e) gives = tt
 
-pub is_only : (bytes : List ℕ) (r : Result JourneyValue TextFault) → Gives (λ j. j) r (journey_at bytes) → (j : JourneyValue) → HasText j → bytes ≡ text_of j → MatchResult r (λ k. k ≡ j) (λ e. e ≡ faults.OutOfMemory)
+pub is_only : (bytes : List ℕ) (r : Result JourneyValue TextFault) → Gives (λ j. j) r (journey_at bytes) → (j : JourneyValue) → HasText j → bytes ≡ text_of j
+    → MatchResult r (λ k. k ≡ j) (λ e. e ≡ faults.OutOfMemory)
 is_only bytes (Ok k) gives j has e = same_Some k j (sym gives ∙ ap journey_at e ∙ journey_at-again j has)
 is_only bytes (Err faults.OutOfMemory) gives j has e = refl
 is_only bytes (Err faults.BadText) gives j has e = absurd (no_value (sym gives ∙ ap journey_at e ∙ journey_at-again j has))

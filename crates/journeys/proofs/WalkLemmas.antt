@@ -1,17 +1,20 @@
 -- Walks, a footpath on.
-use Rattle.std.proofs.Common.{◌≡◌, ℕ, ◌+◌, ◌<◌, ◌≤◌, suc, zero, Bool, true, false, cond, eqb, List, [], ◌∷◌, length, get_or, drop, Option, Some, None, refl, ap, arith, add-one}
+use Rattle.std.proofs.Common.{◌≡◌, ℕ, ◌+◌, ◌<◌, ◌≤◌, suc, zero, Bool, true, false, cond, eqb, List, [], ◌∷◌, length, get_or, drop, Option, Some, None}
+use Rattle.std.proofs.Common.{refl, ap, arith, add-one}
 use Rattle.std.specs.List.{list_all}
 use Rattle.std.proofs.lemmas.Bool.{and_parts, eqb-true, eq-eqb}
 use Rattle.std.proofs.lemmas.Option.{same_Some}
 use Rattle.std.proofs.Math.Seq.{drop-cons}
+use Rattle.reasoning.proofs.BoolLemmas.{and-both}
 use Rattle.timetable.specs.declared.network.Footpath.{Footpath}
 use Rattle.timetable.specs.TimetableValue.{TimetableValue}
 use Rattle.timetable.specs.Journeys.{IsWalk, walk_end, walk_secs}
 use Rattle.journeys.specs.Faults.{has_footpath, led_to}
-use Rattle.journeys.proofs.FootpathLemmas.{and-from, Contains-has_footpath, has_footpath-Contains}
+use Rattle.journeys.proofs.FootpathLemmas.{Contains-has_footpath, has_footpath-Contains}
 
 -- the seconds from place i on are those of the footpath there and of the rest
-pub walk_secs_from : (walk : List Footpath) (i : ℕ) (d : Footpath) → i < length walk → walk_secs (drop i walk) ≡ (get_or walk i d).secs + walk_secs (drop (i + 1) walk)
+pub walk_secs_from : (walk : List Footpath) (i : ℕ) (d : Footpath) → i < length walk
+    → walk_secs (drop i walk) ≡ (get_or walk i d).secs + walk_secs (drop (i + 1) walk)
 walk_secs_from walk i d lt = rw (add-one) (ap walk_secs (drop-cons walk i d lt))
 
 -- past the last footpath there are none
@@ -24,7 +27,8 @@ walk_secs_done (f ∷ walk) (suc i) le = walk_secs_done walk i (omega arith)
 pub ruleset sums = (walk_secs_from)
 
 -- footpaths that the timetable has, and that join, are a walk
-pub IsWalk-from : (t : TimetableValue) (walk : List Footpath) (stop end : ℕ) → list_all (has_footpath t) walk ≡ true → led_to stop walk ≡ Some end → IsWalk t stop walk × (walk_end stop walk ≡ end)
+pub IsWalk-from : (t : TimetableValue) (walk : List Footpath) (stop end : ℕ) → list_all (has_footpath t) walk ≡ true → led_to stop walk ≡ Some end
+    → IsWalk t stop walk × (walk_end stop walk ≡ end)
 IsWalk-from t [] stop end known led = (tt, same_Some stop end led)
 IsWalk-from t (f ∷ walk) stop end known led =
     let parts = and_parts _ _ known in
@@ -43,4 +47,4 @@ led_to-IsWalk t (f ∷ walk) stop is = rw (eq-eqb f.from stop is.1) (led_to-IsWa
 
 pub known-IsWalk : (t : TimetableValue) (walk : List Footpath) (stop : ℕ) → IsWalk t stop walk → list_all (has_footpath t) walk ≡ true
 known-IsWalk t [] stop is = refl
-known-IsWalk t (f ∷ walk) stop is = and-from _ _ (has_footpath-Contains t f is.0) (known-IsWalk t walk f.to is.2)
+known-IsWalk t (f ∷ walk) stop is = and-both _ _ (has_footpath-Contains t f is.0) (known-IsWalk t walk f.to is.2)

@@ -18,7 +18,8 @@ points_of answer = map point_of answer.departures.items
 
 -- each point stands with a journey that attains it
 abbrev pub AreAttained : {K V : Type 0} → Rules V → TimetableValue → Query → Answer K V → Type 0
-AreAttained {K} {V} rules t q answer = (departure : Departure V) → Contains answer.departures.items departure → Attains rules t q (point_of departure) departure.journey
+AreAttained {K} {V} rules t q answer =
+    (departure : Departure V) → Contains answer.departures.items departure → Attains rules t q (point_of departure) departure.journey
 
 -- the seconds of the footpath from the source to the target, if there is one
 abbrev pub walk_of_answer : {K V : Type 0} → Answer K V → Option ℕ

@@ -34,7 +34,8 @@ IsBoarding nodes number b = (b.next < number) × ((spelled nodes number).onward 
 -- a node gets off: at the end, or to board again, by an earlier node
 abbrev pub IsAlighting : List Node → ℕ → Alighting → Type 0
 IsAlighting nodes number (Ends last walk) = (spelled nodes number).aboard ≡ Some (record { last = last; walk = walk_of walk; rides = [] })
-IsAlighting nodes number (Changes last b) = (b.next < number) × ((spelled nodes number).aboard ≡ changed_at last (boarded_after b.walk b.first (spelled nodes b.next).aboard))
+IsAlighting nodes number (Changes last b) =
+    (b.next < number) × ((spelled nodes number).aboard ≡ changed_at last (boarded_after b.walk b.first (spelled nodes b.next).aboard))
 
 -- the rides of one who boards at a place and goes on as is spelled
 abbrev pub rides_on : ℕ → Option Aboard → Option (List RideValue)

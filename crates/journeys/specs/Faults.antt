@@ -1,15 +1,18 @@
 -- The first fault of a journey beside a query: leg by leg, then walk by walk, then when legs depart, where the journey begins and ends, and at last when.
-use Rattle.std.specs.Prelude.{ℕ, ◌+◌, ◌-◌, ◌<◌, Bool, true, false, not, ◌||◌, ◌&&◌, ◌==◌, nat_lt, nat_le, List, [], ◌∷◌, length, slice_index_or, Option, Some, None, if◌then◌else◌}
+use Rattle.std.specs.Prelude.{ℕ, ◌+◌, ◌-◌, ◌<◌, Bool, true, false, not, ◌||◌, ◌&&◌, ◌==◌, nat_lt, nat_le, List, [], ◌∷◌, length, slice_index_or}
+use Rattle.std.specs.Prelude.{Option, Some, None, if◌then◌else◌}
 use Rattle.std.specs.List.{list_any, list_all}
+use Rattle.std.specs.Option.{option_or}
+use Rattle.reasoning.specs.First.{first_below, first_between}
 use Rattle.timetable.specs.declared.network.Footpath.{Footpath}
 use Rattle.timetable.specs.declared.journey.Leg.{Leg}
 use Rattle.timetable.specs.declared.query.Query.{Query}
 use Rattle.timetable.specs.TimetableValue.{TimetableValue}
 use Rattle.timetable.specs.JourneyValue.{RideValue, JourneyValue}
-use Rattle.timetable.specs.First.{or_else, first_below, first_between}
 use Rattle.timetable.specs.Journeys.{IsLeg, connection_at, start_secs, stop_after, time_after}
 use Rattle.journeys.specs.declared.fault.JourneyFault.{JourneyFault}
-use Rattle.journeys.specs.declared.fault.JourneyFault.TheVariants.{LegRange, TwoTrips, NoBoarding, NoAlighting, NoFootpath, WalkBroken, TooEarly, WrongEnds, OutsideWindow}
+use Rattle.journeys.specs.declared.fault.JourneyFault.TheVariants.{LegRange, TwoTrips, NoBoarding, NoAlighting, NoFootpath, WalkBroken, TooEarly}
+use Rattle.journeys.specs.declared.fault.JourneyFault.TheVariants.{WrongEnds, OutsideWindow}
 
 -- what stands past the last ride
 abbrev pub no_ride : RideValue
@@ -84,7 +87,8 @@ is_nowhere (Some stop) = false
 -- the walk after leg i is broken: between legs it has a footpath at least and leads to where the next leg departs; the last one may be empty and lead anywhere
 unfoldable pub is_broken : TimetableValue → List RideValue → ℕ → Bool
 is_broken t rides i =
-    if nat_lt (i + 1) (length rides) then length (ride_at rides i).walk == 0 || is_elsewhere (led_to (leg_end t rides i) (ride_at rides i).walk) (leg_stop t rides (i + 1))
+    if nat_lt (i + 1) (length rides) then length (ride_at rides i).walk == 0 || is_elsewhere (led_to (leg_end t rides i) (ride_at rides i).walk)
+    (leg_stop t rides (i + 1))
     else is_nowhere (led_to (leg_end t rides i) (ride_at rides i).walk)
 
 unfoldable pub walk_after_fault : TimetableValue → List RideValue → ℕ → Option JourneyFault
@@ -92,7 +96,7 @@ walk_after_fault t rides i = walk_fault t (i + 1) (ride_at rides i).walk (is_bro
 
 -- the first fault of the walks
 unfoldable pub walks_fault : TimetableValue → Option Footpath → List RideValue → Option JourneyFault
-walks_fault t start rides = or_else (start_fault t start (leg_stop t rides 0)) (first_below (walk_after_fault t rides) (length rides))
+walks_fault t start rides = option_or (start_fault t start (leg_stop t rides 0)) (first_below (walk_after_fault t rides) (length rides))
 
 -- leg i departs before the ride before it is over
 unfoldable pub early_fault : TimetableValue → List RideValue → ℕ → Option JourneyFault
@@ -125,17 +129,18 @@ ends_fault t q start rides =
 -- it departs before the window or after it (sums, since a departure before second 0 is before each window), or is over too late
 unfoldable pub window_fault : TimetableValue → Query → Option Footpath → List RideValue → Option JourneyFault
 window_fault t q start rides =
-    if nat_lt (leg_time t rides 0) (q.from + start_secs start) || nat_lt (q.until + start_secs start) (leg_time t rides 0) || nat_lt q.by (over_at t rides) then Some OutsideWindow
+    if nat_lt (leg_time t rides 0) (q.from + start_secs start) || nat_lt (q.until + start_secs start) (leg_time t rides 0) || nat_lt q.by
+    (over_at t rides) then Some OutsideWindow
     else None
 
 -- the first fault of the journey itself, and of where it leads
 unfoldable pub path_fault : TimetableValue → Query → Option Footpath → List RideValue → Option JourneyFault
 path_fault t q start rides =
-    or_else (legs_fault t rides)
-    (or_else (walks_fault t start rides)
-    (or_else (times_fault t rides)
+    option_or (legs_fault t rides)
+    (option_or (walks_fault t start rides)
+    (option_or (times_fault t rides)
     (ends_fault t q start rides)))
 
 -- the first fault of all
 unfoldable pub first_fault : TimetableValue → Query → JourneyValue → Option JourneyFault
-first_fault t q j = or_else (path_fault t q j.start j.rides) (window_fault t q j.start j.rides)
+first_fault t q j = option_or (path_fault t q j.start j.rides) (window_fault t q j.start j.rides)

@@ -1,7 +1,8 @@
 -- The numbers and names by which faults are told.
 use Rattle.std.specs.Prelude.{ℕ, List, codes, Option, Some, None}
 use Rattle.journeys.specs.declared.fault.JourneyFault.{JourneyFault}
-use Rattle.journeys.specs.declared.fault.JourneyFault.TheVariants.{LegRange, TwoTrips, NoBoarding, NoAlighting, NoFootpath, WalkBroken, TooEarly, WrongEnds, OutsideWindow}
+use Rattle.journeys.specs.declared.fault.JourneyFault.TheVariants.{LegRange, TwoTrips, NoBoarding, NoAlighting, NoFootpath, WalkBroken, TooEarly}
+use Rattle.journeys.specs.declared.fault.JourneyFault.TheVariants.{WrongEnds, OutsideWindow}
 use Rattle.journeys.specs.declared.text_fault.TextFault.{TextFault}
 use Rattle.journeys.specs.declared.text_fault.TextFault.TheVariants.{BadText, OutOfMemory}
 

@@ -1,5 +1,6 @@
 -- Reading a journey's text from left to right.
-use Rattle.std.specs.Prelude.{◌≡◌, ℕ, zero, suc, ◌+◌, ◌-◌, ◌*◌, ◌^◌, not, ◌&&◌, ◌==◌, nat_lt, List, [], ◌∷◌, length, take, drop, codes, Option, Some, None, Result, Ok, Err, if◌then◌else◌}
+use Rattle.std.specs.Prelude.{◌≡◌, ℕ, zero, suc, ◌+◌, ◌-◌, ◌*◌, ◌^◌, not, ◌&&◌, ◌==◌, nat_lt, List, [], ◌∷◌, length, take, drop, codes, Option, Some}
+use Rattle.std.specs.Prelude.{None, Result, Ok, Err, if◌then◌else◌}
 use Rattle.std.specs.Char.{is_ascii_digit}
 use Rattle.std.specs.List.{prefix_len}
 use Rattle.timetable.specs.declared.network.Footpath.{Footpath}
@@ -73,7 +74,8 @@ if_after (Some rest) f x = f rest
 -- the walks that stand here, so many at most
 unfoldable pub walks_at : ℕ → List ℕ → Option (List Footpath × List ℕ)
 walks_at zero bytes = Some ([], bytes)
-walks_at (suc n) bytes = if_after (after (codes " walk") bytes) (λ rest. footpath_at rest >>= λ f. walks_at n f.1 >>= λ fs. Some (f.0 ∷ fs.0, fs.1)) (Some ([], bytes))
+walks_at (suc n) bytes =
+    if_after (after (codes " walk") bytes) (λ rest. footpath_at rest >>= λ f. walks_at n f.1 >>= λ fs. Some (f.0 ∷ fs.0, fs.1)) (Some ([], bytes))
 
 unfoldable pub ride_at_front : List ℕ → Option (RideValue × List ℕ)
 ride_at_front bytes = do

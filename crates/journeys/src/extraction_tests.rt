@@ -1,4 +1,4 @@
-// Worked queries from stop 0 to stop 2: each point's journey was worked out by hand, and each is judged again.
+//! Worked queries from stop 0 to stop 2: each point's journey was worked out by hand, and each is judged again.
 
 use super::*;
 use criteria::{Arrival, ArrivalTrips, Criterion};

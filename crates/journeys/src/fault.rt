@@ -1,3 +1,5 @@
+//! Why a journey doesn't count.
+
 ghost use Rattle.std.specs.Prelude.{◌≡◌};
 ghost use Rattle.journeys.specs.Numbers.{name_of, number_of};
 

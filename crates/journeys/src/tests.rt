@@ -1,3 +1,5 @@
+//! Journeys as texts, judged against the sample image.
+
 use super::JourneyFault::*;
 use super::*;
 use image_layout::sample_words;

@@ -1,3 +1,5 @@
+//! Why a text is no journey.
+
 ghost use Rattle.std.specs.Prelude.{◌≡◌};
 ghost use Rattle.journeys.specs.Numbers.{text_name, text_number};
 ghost use Rattle.journeys.specs.declared.text_fault.TextFault.TheVariants.{OutOfMemory};

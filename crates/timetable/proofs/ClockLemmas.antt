@@ -1,5 +1,6 @@
 -- Numerals of clock texts, and the parts of a clock text.
-use Rattle.std.proofs.Common.{◌≡◌, ◌≢◌, ℕ, ◌+◌, ◌-◌, ◌*◌, ◌/◌, ◌%◌, ◌^◌, ◌<◌, ◌≤◌, List, [], ◌∷◌, ◌++◌, length, take, drop, get_or, false, refl, sym, ap, ◌∙◌, arith, inl, inr, lit<, append_assoc}
+use Rattle.std.proofs.Common.{◌≡◌, ◌≢◌, ℕ, ◌+◌, ◌-◌, ◌*◌, ◌/◌, ◌%◌, ◌^◌, ◌<◌, ◌≤◌, List, [], ◌∷◌, ◌++◌, length, take, drop, get_or, false, refl, sym}
+use Rattle.std.proofs.Common.{ap, ◌∙◌, arith, inl, inr, lit<, append_assoc}
 use mathlib.Core.List.{append-nil}
 use Rattle.std.proofs.Math.Nat.{pow-le-pow_right}
 use Rattle.std.proofs.Math.Seq.{take-append_seam, drop-append_seam, take-length}
@@ -30,7 +31,15 @@ spelled_rest : (text : List ℕ) (time n : ℕ) (s : SpellsClock text time) → 
 spelled_rest text time n s six =
     let rest : List ℕ = colon ∷ s.minutes ++ colon ∷ s.seconds in
     let whole : text ≡ s.hours ++ rest = s.parts ∙ append_assoc s.hours (colon ∷ s.minutes) (colon ∷ s.seconds) in
-    let len : length s.hours ≡ n = omega (arith, ap length whole, length-append s.hours rest, length-append (colon ∷ s.minutes) (colon ∷ s.seconds), s.lengths.1, s.lengths.2) in (
+    let len : length s.hours ≡ n = omega (
+      arith,
+      ap length whole,
+      length-append s.hours rest,
+      length-append (colon ∷ s.minutes)
+          (colon ∷ s.seconds),
+      s.lengths.1,
+      s.lengths.2,
+    ) in (
       ap (take n) whole ∙ ap (λ k. take k (s.hours ++ rest)) (sym len) ∙ take-append_seam s.hours rest,
       ap (drop n) whole ∙ ap (λ k. drop k (s.hours ++ rest)) (sym len) ∙ drop-append_seam s.hours rest,
     )
@@ -120,7 +129,8 @@ pub front_length : (text : List ℕ) (time : ℕ) → SpellsClock text time → 
 front_length text time s =
     let rest : List ℕ = colon ∷ s.minutes ++ colon ∷ s.seconds in
     let whole : text ≡ s.hours ++ rest = s.parts ∙ append_assoc s.hours (colon ∷ s.minutes) (colon ∷ s.seconds) in
-    let len : length text ≡ length s.hours + 6 = omega (arith, ap length whole, length-append s.hours rest, length-append (colon ∷ s.minutes) (colon ∷ s.seconds), s.lengths.1, s.lengths.2) in
+    let len : length text ≡ length s.hours + 6 = omega
+    (arith, ap length whole, length-append s.hours rest, length-append (colon ∷ s.minutes) (colon ∷ s.seconds), s.lengths.1, s.lengths.2) in
     (omega (arith, s.numerals.0.0), omega (arith, s.lengths.0), omega arith)
 
 -- what a text spells, by its places
@@ -183,7 +193,8 @@ written_is_read_lem time below =
 -- digits that don't begin with '0' are what is written of their number
 decimal_again : (ds : List ℕ) → IsNumeral 10 ds → 2 ≤ length ds → get_or ds 0 0 ≢ 48 → digits_value 10 ds < 2 ^ 64 → two_digits (digits_value 10 ds) ≡ ds
 decimal_again ds numeral long first fits =
-    let again : decimal (digits_value 10 ds) ≡ ds = decimal-digits_value (numerals_by_value (AllDigits 10) tells_digits) ds numeral.1 numeral.0 (λ zero. absurd (first zero)) fits in
+    let again : decimal (digits_value 10 ds) ≡ ds = decimal-digits_value (numerals_by_value (AllDigits 10) tells_digits) ds numeral.1 numeral.0
+    (λ zero. absurd (first zero)) fits in
     elim (cases_lt (digits_value 10 ds) 10) [
       | inl small ↦
           let one = decimal_digit (digits_value 10 ds) small in
@@ -216,7 +227,8 @@ hours_again : (text : List ℕ) (time : ℕ) (s : SpellsClock text time) → Has
 hours_again text time s none =
     let rest : List ℕ = colon ∷ s.minutes ++ colon ∷ s.seconds in
     let whole : text ≡ s.hours ++ rest = s.parts ∙ append_assoc s.hours (colon ∷ s.minutes) (colon ∷ s.seconds) in
-    let len : length text ≡ length s.hours + 6 = omega (arith, ap length whole, length-append s.hours rest, length-append (colon ∷ s.minutes) (colon ∷ s.seconds), s.lengths.1, s.lengths.2) in
+    let len : length text ≡ length s.hours + 6 = omega
+    (arith, ap length whole, length-append s.hours rest, length-append (colon ∷ s.minutes) (colon ∷ s.seconds), s.lengths.1, s.lengths.2) in
     let small = hours_small s.hours (digits_value 10 s.hours) s.lengths.0 s.numerals.0 refl in
     elim none [
       | inl two ↦ two_again s.hours s.numerals.0 (omega arith)

@@ -34,17 +34,21 @@ departures_rise t legal (suc j) i le lt =
       | inl same ↦ subst (λ (k : ℕ). (connection_at t i).dep ≤ (connection_at t k).dep) same (omega arith)
       | inr other ↦
           let near : (connection_at t i).dep ≤ (connection_at t j).dep = departures_rise t legal j i (omega arith) (omega arith) in
-          let at_next : At t.connections (j + 1) (connection_at t (suc j)) = subst (λ (k : ℕ). At t.connections k (connection_at t (suc j))) next (connection_at-stands t (suc j) lt) in
-          let step : (connection_at t j).dep ≤ (connection_at t (suc j)).dep = legal.departures_never_fall j (connection_at t j) (connection_at t (suc j)) (connection_at-stands t j (omega arith)) at_next in
+          let at_next : At t.connections (j + 1) (connection_at t (suc j)) = subst (λ (k : ℕ). At t.connections k (connection_at t (suc j))) next
+          (connection_at-stands t (suc j) lt) in
+          let step : (connection_at t j).dep ≤ (connection_at t (suc j)).dep = legal.departures_never_fall j (connection_at t j) (connection_at t (suc j))
+          (connection_at-stands t j (omega arith)) at_next in
           omega (arith, near, step)
     ]
 
 -- two footpaths end to end have one instead that is no longer
-pub closed_footpath : (t : TimetableValue) → IsLegal t → (f g : Footpath) → Contains t.footpaths f → Contains t.footpaths g → f.to ≡ g.from → (h : Footpath) × Contains t.footpaths h × (h.from ≡ f.from) × (h.to ≡ g.to) × (h.secs ≤ f.secs + g.secs)
+pub closed_footpath : (t : TimetableValue) → IsLegal t → (f g : Footpath) → Contains t.footpaths f → Contains t.footpaths g → f.to ≡ g.from
+    → (h : Footpath) × Contains t.footpaths h × (h.from ≡ f.from) × (h.to ≡ g.to) × (h.secs ≤ f.secs + g.secs)
 closed_footpath t legal f g in_f in_g meet =
     let at_f = At-Contains t.footpaths f in_f in
     let at_g = At-Contains t.footpaths g in_g in
-    let second : HasFootpath t.footpaths f.to g.to g.secs = (at_g.0, at_g.1 ∙ ap (λ (s : ℕ). Some (record { from = s; to = g.to; secs = g.secs })) (sym meet)) in
+    let second : HasFootpath t.footpaths f.to g.to g.secs = (at_g.0, at_g.1 ∙ ap (λ (s : ℕ). Some (record { from = s; to = g.to; secs = g.secs })) (sym meet))
+    in
     let direct = legal.closed f.from f.to g.to f.secs g.secs at_f second in
     let h : Footpath = record { from = f.from; to = g.to; secs = direct.0 } in
     (h, Contains-At t.footpaths direct.1.0 h direct.1.1, refl, refl, direct.2)
@@ -54,7 +58,8 @@ pub one_footpath : (t : TimetableValue) → IsLegal t → (f g : Footpath) → C
 one_footpath t legal f g in_f in_g same_from same_to =
     let at_f = At-Contains t.footpaths f in_f in
     let at_g = At-Contains t.footpaths g in_g in
-    let again : Some g ≡ Some (record { from = f.from; to = f.to; secs = g.secs }) = λ i. Some (record { from = sym same_from i; to = sym same_to i; secs = g.secs }) in
+    let again : Some g ≡ Some (record { from = f.from; to = f.to; secs = g.secs }) = λ i. Some
+    (record { from = sym same_from i; to = sym same_to i; secs = g.secs }) in
     let place = same_place t.footpaths legal.in_order f.from f.to f.secs g.secs at_f (at_g.0, at_g.1 ∙ again) in
     same_Some f g (sym at_f.1 ∙ ap (λ (i : ℕ). slice_get t.footpaths i) place ∙ at_g.1)
 

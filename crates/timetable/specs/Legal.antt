@@ -1,4 +1,5 @@
--- What makes a timetable legal. (Dibbelt, Pajor, Strasser, Wagner: Connection Scan Algorithm, ACM JEA 2018. Loops as change times and hops of positive length are our own.)
+-- What makes a timetable legal. (Dibbelt, Pajor, Strasser, Wagner: Connection Scan Algorithm, ACM JEA 2018. Loops as change times and hops of positive length
+-- are our own.)
 use Rattle.std.specs.Prelude.{◌≡◌, ◌≢◌, ℕ, ◌+◌, ◌<◌, ◌≤◌, List, slice_get, Some}
 use Rattle.timetable.specs.declared.network.Connection.{Connection}
 use Rattle.timetable.specs.declared.network.Footpath.{Footpath}

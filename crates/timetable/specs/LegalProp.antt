@@ -49,7 +49,8 @@ module _ (paths : List Footpath) (in_order : AreInOrder paths) where
             in_order_on d e.0 f near (in_order j e.0 f e.1 at_next)
       ]
 
-  never_later : (from to s t i j : ℕ) → i < j → At paths i (record { from = from; to = to; secs = s }) → At paths j (record { from = from; to = to; secs = t }) → ⊥
+  never_later : (from to s t i j : ℕ) → i < j → At paths i (record { from = from; to = to; secs = s })
+      → At paths j (record { from = from; to = to; secs = t }) → ⊥
   never_later from to s t i j below p q =
       let after = in_order_later j i (record { from = from; to = to; secs = s }) (record { from = from; to = to; secs = t }) below p q in
       omega (arith, after.1 refl)

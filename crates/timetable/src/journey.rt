@@ -1,3 +1,5 @@
+//! Journeys: legs, the walks after them, and where they set out.
+
 use crate::Footpath;
 use std::marker::Model;
 

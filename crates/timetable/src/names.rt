@@ -1,3 +1,5 @@
+//! What the stops and trips of a timetable are called.
+
 use std::marker::Model;
 
 /// What a trip on one service day is called. A trip that is repeated on a day is a trip for each time.

@@ -1,3 +1,5 @@
+//! What a timetable is made of: connections and footpaths.
+
 use std::marker::Model;
 
 /// A vehicle's move from one stop to the next without a halt, as in the Connection Scan Algorithm.

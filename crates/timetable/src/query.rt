@@ -1,3 +1,5 @@
+//! What a client asks, and the first thing that is wrong with it.
+
 use crate::limits::TIME_END;
 use thiserror::Error;
 

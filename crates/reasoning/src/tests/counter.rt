@@ -1,4 +1,4 @@
-// A number that is the length of a list that nobody keeps.
+//! A number that is the length of a list that nobody keeps.
 
 ghost use Rattle.std.specs.Prelude.{◌≡◌, ◌+◌, ◌<◌, ◌^◌, ◌++◌, ◌∷◌, [], List, length};
 ghost use Rattle.reasoning.specs.declared.tests.counter.Event.TheVariants.{Look};

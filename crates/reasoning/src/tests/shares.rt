@@ -1,4 +1,4 @@
-// What a worker hands on: a number that stays at its greatest value, and the list that it counts.
+//! What a worker hands on: a number that stays at its greatest value, and the list that it counts.
 
 ghost use Rattle.std.specs.Prelude.{◌≡◌, ◌-◌, ◌^◌, ◌++◌, ◌∷◌, [], List, length, min};
 

@@ -1,4 +1,4 @@
-// Traces and kept values take no bytes.
+//! Traces and kept values take no bytes.
 
 ghost use Rattle.std.specs.Prelude.{◌≡◌, ◌+◌, ◌<◌, ◌^◌};
 

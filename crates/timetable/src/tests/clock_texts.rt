@@ -1,3 +1,5 @@
+//! Clock texts that are read and written, and some that are none.
+
 use crate::{clock_parse, clock_text};
 use std::test::Fail;
 

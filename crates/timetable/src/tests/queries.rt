@@ -1,3 +1,5 @@
+//! What is wrong with a query, first thing first.
+
 use crate::{Query, QueryFault};
 
 #[test]

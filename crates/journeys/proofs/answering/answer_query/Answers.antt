@@ -8,32 +8,38 @@ use Rattle.journeys.proofs.answering.answer_query.Goals as goal
 pub returns-in_err-departures-clause-err : goal.returns-in_err-departures-clause-err
 returns-in_err-departures-clause-err g c =
     let read = reverse (window (g.S.ConnSource.timetable c.args.source.now) c.args.query.now) in
-    on_err c.from_residual-in_err-departures.result _ (length read, taken_all (g.S.ConnSource.log c.args.source.now) read (g.S.ConnSource.log c.profile.new.source) c.in_ok-found.ensures.log)
+    on_err c.from_residual-in_err-departures.result _
+    (length read, taken_all (g.S.ConnSource.log c.args.source.now) read (g.S.ConnSource.log c.profile.new.source) c.in_ok-found.ensures.log)
 
 pub loop-i-init : goal.loop-i-init
 loop-i-init g c =
     let rules = g.C.Criterion.rules c.args.criterion.now in
     let t = g.S.ConnSource.timetable c.args.source.now in
-    subst (AreTold rules t c.args.query.now (listed c.in_ok-found.found) 0) (sym c.in_ok-departures.ensures.items) (none_told rules t c.args.query.now (listed c.in_ok-found.found))
+    subst (AreTold rules t c.args.query.now (listed c.in_ok-found.found) 0) (sym c.in_ok-departures.ensures.items)
+    (none_told rules t c.args.query.now (listed c.in_ok-found.found))
 
 pub returns-in_err-journey-clause-err : goal.returns-in_err-journey-clause-err
 returns-in_err-journey-clause-err g c =
     let read = reverse (window (g.S.ConnSource.timetable c.args.source.now) c.args.query.now) in
-    on_err c.from_residual-in_err-journey.result _ (length read, taken_all (g.S.ConnSource.log c.args.source.now) read (g.S.ConnSource.log c.profile.new.source) c.in_ok-found.ensures.log)
+    on_err c.from_residual-in_err-journey.result _
+    (length read, taken_all (g.S.ConnSource.log c.args.source.now) read (g.S.ConnSource.log c.profile.new.source) c.in_ok-found.ensures.log)
 
 pub returns-in_err-push-clause-err : goal.returns-in_err-push-clause-err
 returns-in_err-push-clause-err g c =
     let read = reverse (window (g.S.ConnSource.timetable c.args.source.now) c.args.query.now) in
-    on_err c.from_residual-in_err-push.result _ (length read, taken_all (g.S.ConnSource.log c.args.source.now) read (g.S.ConnSource.log c.profile.new.source) c.in_ok-found.ensures.log)
+    on_err c.from_residual-in_err-push.result _
+    (length read, taken_all (g.S.ConnSource.log c.args.source.now) read (g.S.ConnSource.log c.profile.new.source) c.in_ok-found.ensures.log)
 
 pub loop-i-preserved : goal.loop-i-preserved
 loop-i-preserved g c =
     let rules = g.C.Criterion.rules c.args.criterion.now in
     let t = g.S.ConnSource.timetable c.args.source.now in
     let points = listed c.in_ok-found.found in
-    let attains = c.in_ok-journey.ensures.attains c.args.criterion.now t c.args.query.now c.point-point.result c.in_ok-found.ensures.answers c.point-point.ensures in
+    let attains = c.in_ok-journey.ensures.attains c.args.criterion.now t c.args.query.now c.point-point.result c.in_ok-found.ensures.answers
+    c.point-point.ensures in
     subst (AreTold rules t c.args.query.now points (c.loop-i.i + 1)) (sym c.in_ok-push.ensures.items)
-    (one_more rules t c.args.query.now points c.loop-i.i c.loop-i.departures.items c.point-point.result c.in_ok-journey.journey c.loop-i.invariant c.point-point.ensures attains)
+    (one_more rules t c.args.query.now points c.loop-i.i c.loop-i.departures.items c.point-point.result c.in_ok-journey.journey c.loop-i.invariant
+    c.point-point.ensures attains)
 
 pub returns-clause-points : goal.returns-clause-points
 returns-clause-points g c =
@@ -51,4 +57,5 @@ returns-clause-journeys g c = c.loop-i.invariant.each
 pub returns-clause-read : goal.returns-clause-read
 returns-clause-read g c =
     c.saturating_sub-read.ensures
-    ∙ window_count (g.S.ConnSource.timetable c.args.source.now) c.args.query.now c.first_at.result c.first_at-end.result (g.met.S.ConnSource.legal c.args.source.now) c.first_at.ensures c.first_at-end.ensures
+    ∙ window_count (g.S.ConnSource.timetable c.args.source.now) c.args.query.now c.first_at.result c.first_at-end.result
+    (g.met.S.ConnSource.legal c.args.source.now) c.first_at.ensures c.first_at-end.ensures

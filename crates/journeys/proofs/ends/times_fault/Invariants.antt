@@ -1,5 +1,5 @@
 use Rattle.std.proofs.Common.{◌≡◌, None}
-use Rattle.timetable.specs.First.{first_between}
+use Rattle.reasoning.specs.First.{first_between}
 use Rattle.journeys.specs.Faults.{early_fault}
 use Rattle.journeys.proofs.ends.times_fault.Given as goal
 

@@ -19,13 +19,17 @@ returns-in-Some g c =
     let b = c.in-Some-Changes in
     let on = c.in-Some.boarding in
     let before = c.if-next-number.false in
-    let earlier = c.in-Some.ensures.0 in
-    (omega (arith, before, earlier), changes_on (nodes_of c.args.found.now) c.args.number b.last b.next on.walk on.first on.next (sym b.ensures ∙ ap Some b.field-0-is) before c.in-Some.ensures.1)
+    let earlier = c.in-Some.ensures.0 in (
+      omega (arith, before, earlier),
+      changes_on (nodes_of c.args.found.now) c.args.number b.last b.next on.walk on.first on.next
+          (sym b.ensures ∙ ap Some b.field-0-is) before c.in-Some.ensures.1,
+    )
 
 pub returns-in-None-boards_at : goal.returns-in-None-boards_at
 returns-in-None-boards_at g c =
     let b = c.in-Some-Changes in
-    changes_nowhere (nodes_of c.args.found.now) c.args.number b.last b.next (sym b.ensures ∙ ap Some b.field-0-is) c.if-next-number.false c.in-None-boards_at.ensures
+    changes_nowhere (nodes_of c.args.found.now) c.args.number b.last b.next
+    (sym b.ensures ∙ ap Some b.field-0-is) c.if-next-number.false c.in-None-boards_at.ensures
 
 pub returns-in-Some-Boards : goal.returns-in-Some-Boards
 returns-in-Some-Boards g c =

@@ -6,7 +6,8 @@ use Rattle.journeys.proofs.SpellLemmas.{put_before}
 use Rattle.journeys.proofs.extraction.rides_from.Given as goal
 
 abbrev pub invariant-loop-alighting : goal.invariant-loop-alighting
-invariant-loop-alighting g l = rides_on l.boards (spelled (nodes_of l.found) l.from).aboard ≡ put_before l.rides.items (rides_on l.first (spelled (nodes_of l.found) l.number).aboard)
+invariant-loop-alighting g l =
+    rides_on l.boards (spelled (nodes_of l.found) l.from).aboard ≡ put_before l.rides.items (rides_on l.first (spelled (nodes_of l.found) l.number).aboard)
 
 abbrev pub decreases-loop-alighting : goal.decreases-loop-alighting
 decreases-loop-alighting g l = l.number

@@ -15,14 +15,16 @@ returns-in-Some g c =
     let b = c.in-Some-SetsOut in
     let nodes = nodes_of c.args.found.now in
     starts_by nodes c.args.number b.start b.first b.next c.in-Some.rides.items (sym b.ensures ∙ ap Some b.field-0-is) c.if-next-number.false
-    (some_is (λ rides. rides.items) (rides_on b.first (spelled nodes b.next).aboard) c.in_ok-rides-in-Some-SetsOut.field-0 c.in-Some.rides c.in-Some.is c.in_ok-rides-in-Some-SetsOut.ensures)
+    (some_is (λ rides. rides.items) (rides_on b.first (spelled nodes b.next).aboard) c.in_ok-rides-in-Some-SetsOut.field-0 c.in-Some.rides c.in-Some.is
+    c.in_ok-rides-in-Some-SetsOut.ensures)
 
 pub returns-in-None-2 : goal.returns-in-None-2
 returns-in-None-2 g c =
     let b = c.in-Some-SetsOut in
     let nodes = nodes_of c.args.found.now in
     starts_nowhere nodes c.args.number b.start b.first b.next (sym b.ensures ∙ ap Some b.field-0-is) c.if-next-number.false
-    (none_is (λ rides. rides.items) (rides_on b.first (spelled nodes b.next).aboard) c.in_ok-rides-in-Some-SetsOut.field-0 c.in-None-2.is c.in_ok-rides-in-Some-SetsOut.ensures)
+    (none_is (λ rides. rides.items) (rides_on b.first (spelled nodes b.next).aboard) c.in_ok-rides-in-Some-SetsOut.field-0 c.in-None-2.is
+    c.in_ok-rides-in-Some-SetsOut.ensures)
 
 pub returns-in-Some-Ends : goal.returns-in-Some-Ends
 returns-in-Some-Ends g c =

@@ -9,7 +9,8 @@ halve-preserved-then-footpath_into-from c =
       start = omega arith;
       order = omega arith;
       end = c.halve.invariant.end;
-      before = before_middle c.args.image.now.timetable.footpaths c.requires.legal.in_order c.args.stop c.args.start c.args.end c.requires.into m c.args.from c.footpath_into.result c.footpath_into.ensures (omega arith) c.if-footpath_into-from.true;
+      before = before_middle c.args.image.now.timetable.footpaths c.requires.legal.in_order c.args.stop c.args.start c.args.end c.requires.into m c.args.from
+          c.footpath_into.result c.footpath_into.ensures (omega arith) c.if-footpath_into-from.true;
       here = c.halve.invariant.here;
     }
 
@@ -21,5 +22,6 @@ halve-preserved c =
       order = omega arith;
       end = omega arith;
       before = c.halve.invariant.before;
-      here = from_middle c.args.image.now.timetable.footpaths c.requires.legal.in_order c.args.stop c.args.start c.args.end c.requires.into m c.args.from c.footpath_into.result c.footpath_into.ensures (omega arith) c.if-footpath_into-from.false;
+      here = from_middle c.args.image.now.timetable.footpaths c.requires.legal.in_order c.args.stop c.args.start c.args.end c.requires.into m c.args.from
+          c.footpath_into.result c.footpath_into.ensures (omega arith) c.if-footpath_into-from.false;
     }

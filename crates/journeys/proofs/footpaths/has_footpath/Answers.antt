@@ -20,4 +20,5 @@ returns c =
     let walks = c.walks_into-start in
     let found = c.first_leaving-place in
     let high : found.result < walks.result.1 = omega arith in
-    c.eq.ensures ∙ same_or_none c.args.image.now.timetable c.stops.ensures.kept.legal c.args.footpath c.footpath_into.result walks.result.0 walks.result.1 found.result walks.ensures.exact found.ensures.low high found.ensures.before found.ensures.here c.footpath_into.ensures
+    c.eq.ensures ∙ same_or_none c.args.image.now.timetable c.stops.ensures.kept.legal c.args.footpath c.footpath_into.result walks.result.0 walks.result.1
+    found.result walks.ensures.exact found.ensures.low high found.ensures.before found.ensures.here c.footpath_into.ensures

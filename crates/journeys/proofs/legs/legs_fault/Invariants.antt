@@ -1,5 +1,5 @@
 use Rattle.std.proofs.Common.{◌≡◌, None, ℕ}
-use Rattle.timetable.specs.First.{first_below}
+use Rattle.reasoning.specs.First.{first_below}
 use Rattle.journeys.specs.Faults.{leg_fault, ride_at}
 use Rattle.journeys.proofs.legs.legs_fault.Given as goal
 

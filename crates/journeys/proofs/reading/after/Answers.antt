@@ -4,4 +4,6 @@ use Rattle.journeys.proofs.ReadLemmas.{after_is}
 use Rattle.journeys.proofs.reading.after.Goals as goal
 
 pub returns : goal.returns
-returns c = after_is c.args.word.now c.args.bytes.now c.strip_prefix.result (strip_prefix_is Decides-eqb c.args.bytes.now c.args.word.now c.strip_prefix.result c.strip_prefix.ensures.cases)
+returns c =
+    after_is c.args.word.now c.args.bytes.now c.strip_prefix.result
+    (strip_prefix_is Decides-eqb c.args.bytes.now c.args.word.now c.strip_prefix.result c.strip_prefix.ensures.cases)

@@ -15,12 +15,16 @@ pub returns-in_err-footpath : goal.returns-in_err-footpath
 returns-in_err-footpath c =
     let bytes = c.args.bytes.now in
     let p = err_from_is_err_and c.from_residual.result c.from_residual.ensures.1 in
-    rw (p.1, p.2) (walks_fail c.loop.walk.items (length bytes) c.loop.counter c.loop.rest.now (walks_at (length bytes) bytes) c.loop.invariant c.in-Some.numbers.now c.in_err-footpath.field-0.0 c.loop-test.true (sym c.in-Some.ensures) c.in_err-footpath.ensures)
+    rw (p.1, p.2) (walks_fail c.loop.walk.items (length bytes) c.loop.counter c.loop.rest.now
+    (walks_at (length bytes) bytes) c.loop.invariant c.in-Some.numbers.now c.in_err-footpath.field-0.0 c.loop-test.true
+    (sym c.in-Some.ensures) c.in_err-footpath.ensures)
 
 pub loop-preserved : goal.loop-preserved
 loop-preserved c =
     let bytes = c.args.bytes.now in
-    rw c.in_ok-push.ensures.items (walks_go_on c.loop.walk.items (length bytes) c.loop.counter c.loop.rest.now (walks_at (length bytes) bytes) c.loop.invariant c.in-Some.numbers.now c.in_ok-footpath.behind.now c.in_ok-footpath.footpath c.loop-test.true (sym c.in-Some.ensures) c.in_ok-footpath.ensures)
+    rw c.in_ok-push.ensures.items (walks_go_on c.loop.walk.items (length bytes) c.loop.counter c.loop.rest.now
+    (walks_at (length bytes) bytes) c.loop.invariant c.in-Some.numbers.now c.in_ok-footpath.behind.now c.in_ok-footpath.footpath c.loop-test.true
+    (sym c.in-Some.ensures) c.in_ok-footpath.ensures)
 
 pub returns : goal.returns
 returns c =

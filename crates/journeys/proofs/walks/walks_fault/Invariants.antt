@@ -1,5 +1,5 @@
 use Rattle.std.proofs.Common.{◌≡◌, None}
-use Rattle.timetable.specs.First.{first_below}
+use Rattle.reasoning.specs.First.{first_below}
 use Rattle.journeys.specs.Faults.{walk_after_fault}
 use Rattle.journeys.proofs.walks.walks_fault.Given as goal
 

@@ -2,7 +2,8 @@ use Rattle.std.proofs.Common.{◌<◌, ℕ, arith}
 use Rattle.timetable.specs.Clocks.{SpellsClock}
 use Rattle.timetable.proofs.ClockLemmas.{spelled_parts, parts_spell, hours_small}
 use Rattle.timetable.proofs.clocks.clock_parse.Goals as goal
-use Rattle.timetable.proofs.clocks.clock_parse.Goals.{else-minutes-lt-MINUTES_END-via-then-minutes-lt-MINUTES_END+else-seconds-lt-SECONDS_END, else-minutes-lt-MINUTES_END-via-else-minutes-lt-MINUTES_END}
+use Rattle.timetable.proofs.clocks.clock_parse.Goals.{else-minutes-lt-MINUTES_END-via-then-minutes-lt-MINUTES_END+else-seconds-lt-SECONDS_END}
+use Rattle.timetable.proofs.clocks.clock_parse.Goals.{else-minutes-lt-MINUTES_END-via-else-minutes-lt-MINUTES_END}
 
 pub overflow_mul-result : goal.overflow_mul-result
 overflow_mul-result c =
@@ -38,10 +39,12 @@ returns-else-minutes-lt-MINUTES_END c = λ time s.
 
 pub returns-in_err-minutes : goal.returns-in_err-minutes
 returns-in_err-minutes c =
-    let none : (time : ℕ) → SpellsClock c.args.text.now time → ⊥ = λ time s. c.in_err-minutes.ensures ((spelled_parts c.args.text.now c.split_at.result.0.now c.split_at.result.1.now time c.split_at.ensures.by_index.0 (omega arith) s).numerals.1) in
+    let none : (time : ℕ) → SpellsClock c.args.text.now time → ⊥ = λ time s. c.in_err-minutes.ensures
+    ((spelled_parts c.args.text.now c.split_at.result.0.now c.split_at.result.1.now time c.split_at.ensures.by_index.0 (omega arith) s).numerals.1) in
     rw c.from_residual-in_err-minutes.ensures none
 
 pub returns-in_err-seconds : goal.returns-in_err-seconds
 returns-in_err-seconds c =
-    let none : (time : ℕ) → SpellsClock c.args.text.now time → ⊥ = λ time s. c.in_err-seconds.ensures ((spelled_parts c.args.text.now c.split_at.result.0.now c.split_at.result.1.now time c.split_at.ensures.by_index.0 (omega arith) s).numerals.2) in
+    let none : (time : ℕ) → SpellsClock c.args.text.now time → ⊥ = λ time s. c.in_err-seconds.ensures
+    ((spelled_parts c.args.text.now c.split_at.result.0.now c.split_at.result.1.now time c.split_at.ensures.by_index.0 (omega arith) s).numerals.2) in
     rw c.from_residual-in_err-seconds.ensures none

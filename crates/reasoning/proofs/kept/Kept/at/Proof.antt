@@ -36,7 +36,8 @@ at_spec 𝓤 𝓛 𝓜 𝓡 wired T A B laws_T laws_A laws_B =
     let stayed : Stays E.signature.params E.kept = (stay_dropped first yes, (stay_dropped second yes, tt)) in
     proved 𝓛 E stayed c 𝓜 𝓡 (Goes-dropped 𝓛 5 first yes (λ κs x f. refl), (Goes-dropped 𝓛 5 second yes (λ κs x f. refl), tt))
     (#self given) function (code.unfolded 𝓤 𝓛.H 𝓜 𝓡 wired (T, (A, (B, tt))))
-    (λ κs. (shr_vals, (shr_vals, tt))) (λ κs. (shr_Tells (named 0) κs.0 (param 1 A), (shr_Tells (named 1) κs.1.0 (param 2 B), tt))) (λ κs qs bounds a chosen are.
+    (λ κs. (shr_vals, (shr_vals, tt))) (λ κs. (shr_Tells (named 0) κs.0 (param 1 A), (shr_Tells (named 1) κs.1.0 (param 2 B), tt)))
+    (λ κs qs bounds a chosen are.
     let R : RattleType = the_row (param 0 T) in
     let made : R.Denot = record { marker = record {}; value = chosen } in
     let v : Val = vstruct (vcons (vstruct vnil) vnil) in let O : Fml = R.own_val made (v ∷ []) in
