@@ -5,7 +5,6 @@ ghost use Rattle.std.specs.Io.KnownBytes.{Consumes, IsAtEnd};
 ghost use Rattle.image_layout.specs.Text.{bytes_of};
 
 use crate::fault::ImageFileFault;
-use image_layout::Words;
 use std::alloc::{AllocError, Global};
 use std::fs::OpenFile;
 use std::io::Read;
@@ -25,14 +24,13 @@ pub fn image_words<H: Files + AllocGlobal, I: Read>(
     ensures odd { result ≡ Err ImageFileFault.OddLength → path.now ≡ codes "-" → IfSome (I.remaining input.old) (λ bytes. length bytes % 4 ≢ 0) }
 {
     let mut piece = new_piece(rt.alloc(), PIECE_WORDS)?;
-    let mut buffer = new_buffer(rt.alloc(), PIECE_WORDS)?;
     if path == "-" {
-        return words_of(rt.alloc(), input, &mut piece, &mut buffer, 0);
+        return words_of(rt.alloc(), input, &mut piece, 0);
     }
     let mut file = fs::File::open(rt, path)?;
     let bytes = file.metadata()?.len();
     let ahead = (bytes / 4) as usize;
-    words_of(rt.alloc(), &mut file, &mut piece, &mut buffer, ahead)
+    words_of(rt.alloc(), &mut file, &mut piece, ahead)
 }
 
 /// Reads once, and again where the read was interrupted; how many bytes came.
@@ -74,16 +72,15 @@ fn fill<R: Read>(reader: &mut R, piece: &mut [u8]) -> io::Result<usize>
     Err(io::Error::from(io::ErrorKind::TimedOut))
 }
 
-/// The words that a reader's bytes spell, least byte first; they come by pieces, are decoded in a buffer of as many words as a
-/// piece has, and `ahead` is how many are expected.
+/// The words that a reader's bytes spell, least byte first; they come by pieces of whole words, and `ahead` is how many words are
+/// expected.
 fn words_of<R: Read>(
     alloc: Global,
     reader: &mut R,
     piece: &mut [u8],
-    buffer: &mut [u32],
     ahead: usize,
 ) -> Result<Vec<u32>, ImageFileFault>
-    requires { length piece.old ≡ 4 * length buffer.old }
+    requires { length piece.old % 4 ≡ 0 }
     ensures spelled { IfOk result (λ words. IfSome (R.remaining reader.old) (λ bytes. bytes_of words.items ≡ bytes)) }
     ensures odd { result ≡ Err ImageFileFault.OddLength → IfSome (R.remaining reader.old) (λ bytes. length bytes % 4 ≢ 0) }
 {
@@ -93,7 +90,7 @@ fn words_of<R: Read>(
         if count % 4 != 0 {
             return Err(ImageFileFault::OddLength);
         }
-        append_words(&mut words, buffer, &piece[..count])?;
+        append_words(&mut words, &piece[..count])?;
         if count < piece.len() {
             return Ok(words);
         }
@@ -109,21 +106,20 @@ fn new_piece(alloc: Global, words: usize) -> Result<Vec<u8>, AllocError>
     Ok(vec![in alloc; 0u8; 4 * words]?)
 }
 
-/// Room for so many words.
-fn new_buffer(alloc: Global, words: usize) -> Result<Vec<u32>, AllocError>
-    ensures { IfOk result (λ buffer. length buffer.items ≡ words) }
+/// Puts the words that the bytes spell at the end. Memory is asked for once, and none where there is room.
+fn append_words(words: &mut Vec<u32>, bytes: &[u8]) -> Result<(), AllocError>
+    requires { length bytes.now % 4 ≡ 0 }
+    ensures { OnOk result (bytes_of words.new.items ≡ bytes_of words.old.items ++ bytes.now) }
 {
-    Ok(vec![in alloc; 0u32; words]?)
-}
-
-/// Puts the words that the bytes spell at the end, by way of a buffer.
-fn append_words(words: &mut Vec<u32>, buffer: &mut [u32], bytes: &[u8]) -> Result<(), AllocError>
-    requires whole { length bytes.now % 4 ≡ 0 }
-    requires room { length bytes.now ≤ 4 * length buffer.old }
-    ensures room { length buffer.new ≡ length buffer.old }
-    ensures appended { OnOk result (bytes_of words.new.items ≡ bytes_of words.old.items ++ bytes.now) }
-{
-    let decoded = &mut buffer[..bytes.len() / 4];
-    Words::decode(bytes, decoded);
-    words.extend_from_slice(decoded)
+    let count = bytes.len() / 4;
+    words.reserve(count)?;
+    for i in 0..count {
+        words.push_reserved(u32::from_le_bytes([
+            bytes[4 * i],
+            bytes[4 * i + 1],
+            bytes[4 * i + 2],
+            bytes[4 * i + 3],
+        ]));
+    }
+    Ok(())
 }

@@ -6,6 +6,5 @@ use Rattle.image_files.proofs.reading.words_of.Given as goal
 abbrev pub invariant-pieces : goal.invariant-pieces
 invariant-pieces g l = record {
   piece : length l.piece ≡ length l.initial.piece;
-  buffer : length l.buffer ≡ length l.initial.buffer;
   spelled : Consumes (g.R.Read.remaining l.initial.reader) (g.R.Read.remaining l.reader) (bytes_of l.words.items);
 }
