@@ -1,5 +1,6 @@
 -- How the closure is collected, and what it is then.
-use Rattle.std.proofs.Common.{◌≡◌, ◌≢◌, ℕ, ◌+◌, ◌<◌, ◌≤◌, ◌⊎◌, inl, inr, List, [], ◌∷◌, ◌++◌, length, Option, Some, None, All, Contains, get_or, set, take, drop, refl, sym, ap, subst, ◌∙◌, arith, length-append}
+use Rattle.std.proofs.Common.{◌≡◌, ◌≢◌, ℕ, ◌+◌, ◌<◌, ◌≤◌, ◌⊎◌, inl, inr, List, [], ◌∷◌, ◌++◌, length, Option, Some, None, All, Contains, get_or, set, take}
+use Rattle.std.proofs.Common.{drop, refl, sym, ap, subst, ◌∙◌, arith, length-append}
 use Rattle.std.specs.List.Sorted.{IsNonDecreasing}
 use Rattle.std.proofs.Math.ListN.{length-set}
 use Rattle.std.proofs.lemmas.Bool.{cases_eq}
@@ -29,7 +30,8 @@ abbrev pub IsAmongFirst : List ℕ → ℕ → ℕ → Type 0
 IsAmongFirst reached i stop = (k : ℕ) × (k < i) × (get_or reached k 0 ≡ stop)
 
 -- the footpaths of the closure into stops below the target, and those into the target from the first stops reached
-pub record IsClosing (listed : List Footpath) (cap target : ℕ) (start : List (Option ℕ)) (reached : List ℕ) (i : ℕ) (times : List (Option ℕ)) (closed : List Footpath) : Type 0 where
+pub record IsClosing (listed : List Footpath) (cap target : ℕ) (start : List (Option ℕ)) (reached : List ℕ) (i : ℕ) (times : List (Option ℕ))
+    (closed : List Footpath) : Type 0 where
   pub in_order : AreInOrder closed
   pub below : (f : Footpath) → Contains closed f → (f.to < target) ⊎ ((f.to ≡ target) × IsAmongFirst reached i f.from)
   pub least : (f : Footpath) → Contains closed f → IsToldLeast listed cap f.from f.to (Some f.secs)
@@ -82,7 +84,8 @@ taken_more start reached i stop times inside is old = record {
 }
 
 module _ (listed : List Footpath) (cap target : ℕ) (start : List (Option ℕ)) (reached : List ℕ) (i stop : ℕ) (times : List (Option ℕ)) (closed : List Footpath)
-    (inside : stop < length times) (is : stop ≡ get_or reached i 0) (in_reached : i < length reached) (sorted : IsNonDecreasing reached) (out : AreTaken start reached i times) (old : IsClosing listed cap target start reached i times closed) where
+    (inside : stop < length times) (is : stop ≡ get_or reached i 0) (in_reached : i < length reached) (sorted : IsNonDecreasing reached)
+    (out : AreTaken start reached i times) (old : IsClosing listed cap target start reached i times closed) where
   one_more_first : (s : ℕ) → IsAmongFirst reached i s → IsAmongFirst reached (i + 1) s
   one_more_first s (k, below, at) = (k, omega (arith, below), at)
 
@@ -106,7 +109,8 @@ module _ (listed : List Footpath) (cap target : ℕ) (start : List (Option ℕ))
   }
 
   -- the footpath of its time stands behind all that are collected
-  behind : (secs : ℕ) → time_at times stop ≡ Some secs → (e : Footpath) → Contains closed e → IsOrderedBefore e (record { from = stop; to = target; secs = secs })
+  behind : (secs : ℕ) → time_at times stop ≡ Some secs → (e : Footpath) → Contains closed e
+      → IsOrderedBefore e (record { from = stop; to = target; secs = secs })
   behind secs at e in_it = elim (old.below e in_it) [
     | inl lower ↦ (omega (arith, lower), λ same. absurd (omega (arith, lower, same)))
     | inr (to, first) ↦ (omega (arith, to), λ same. earlier first)
@@ -123,7 +127,8 @@ module _ (listed : List Footpath) (cap target : ℕ) (start : List (Option ℕ))
           ]
 
   -- the stop has a time
-  closing_some : AreToldLeast listed cap target start → (secs : ℕ) → time_at times stop ≡ Some secs → IsClosing listed cap target start reached (i + 1) (set times stop None) (closed ++ record { from = stop; to = target; secs = secs } ∷ [])
+  closing_some : AreToldLeast listed cap target start → (secs : ℕ) → time_at times stop ≡ Some secs
+      → IsClosing listed cap target start reached (i + 1) (set times stop None) (closed ++ record { from = stop; to = target; secs = secs } ∷ [])
   closing_some least secs at = record {
     in_order = in_order_push closed (record { from = stop; to = target; secs = secs }) old.in_order (behind secs at);
     below = λ f in_it. elim (Contains-push_cases closed (record { from = stop; to = target; secs = secs }) f in_it) [
@@ -132,35 +137,43 @@ module _ (listed : List Footpath) (cap target : ℕ) (start : List (Option ℕ))
     ];
     least = λ f in_it. elim (Contains-push_cases closed (record { from = stop; to = target; secs = secs }) f in_it) [
       | inl before ↦ old.least f before
-      | inr same ↦ subst (λ (g : Footpath). IsToldLeast listed cap g.from g.to (Some g.secs)) same (subst (λ (o : Option ℕ). IsToldLeast listed cap stop target o) (out.left stop secs at) (least stop))
+      | inr same ↦ subst (λ (g : Footpath). IsToldLeast listed cap g.from g.to (Some g.secs)) same
+          (subst (λ (o : Option ℕ). IsToldLeast listed cap stop target o) (out.left stop secs at) (least stop))
     ];
-    whole = λ from to below joined. let (d, has) = old.whole from to below joined in (d, HasFootpath-append closed (record { from = stop; to = target; secs = secs } ∷ []) from to d has);
+    whole = λ from to below joined. let (d, has) = old.whole from to below joined in
+        (d, HasFootpath-append closed (record { from = stop; to = target; secs = secs } ∷ []) from to d has);
     moved = λ s d known. elim (old.moved s d known) [
       | inr has ↦ inr (HasFootpath-append closed (record { from = stop; to = target; secs = secs } ∷ []) s target d has)
       | inl there ↦ elim (cases_eq s stop) [
         | inl same ↦
             let equal : secs ≡ d = same_Some secs d (sym at ∙ subst (λ (n : ℕ). time_at times n ≡ Some d) same there) in
             inr (subst (λ (n : ℕ). HasFootpath (closed ++ record { from = stop; to = target; secs = secs } ∷ []) n target d) (sym same)
-            (subst (λ (n : ℕ). HasFootpath (closed ++ record { from = stop; to = target; secs = secs } ∷ []) stop target n) equal (HasFootpath-push closed stop target secs)))
+            (subst (λ (n : ℕ). HasFootpath (closed ++ record { from = stop; to = target; secs = secs } ∷ []) stop target n) equal
+            (HasFootpath-push closed stop target secs)))
         | inr differ ↦ inl (time_stays times stop inside s differ ∙ there)
       ]
     ];
   }
 
-  pub closing_more : AreToldLeast listed cap target start → IsClosing listed cap target start reached (i + 1) (set times stop None) (closed ++ taken (time_at times stop) stop target)
+  pub closing_more : AreToldLeast listed cap target start → IsClosing listed cap target start reached (i + 1) (set times stop None)
+      (closed ++ taken (time_at times stop) stop target)
   closing_more least = elim (option_cases (time_at times stop)) [
     | inl none ↦
         subst (λ (o : Option ℕ). IsClosing listed cap target start reached (i + 1) (set times stop None) (closed ++ taken o stop target)) (sym none)
-        (subst (λ (xs : List Footpath). IsClosing listed cap target start reached (i + 1) (set times stop None) xs) (sym (append-nil closed)) (closing_none none))
+        (subst (λ (xs : List Footpath). IsClosing listed cap target start reached (i + 1) (set times stop None) xs) (sym (append-nil closed))
+        (closing_none none))
     | inr (secs, at) ↦
-        subst (λ (o : Option ℕ). IsClosing listed cap target start reached (i + 1) (set times stop None) (closed ++ taken o stop target)) (sym at) (closing_some least secs at)
+        subst (λ (o : Option ℕ). IsClosing listed cap target start reached (i + 1) (set times stop None) (closed ++ taken o stop target)) (sym at)
+        (closing_some least secs at)
   ]
 
   -- why it isn't taken
-  pub take_fault : AreToldLeast listed cap target start → (most : ℕ) (fault : FootFault) → IsTakeFault (time_at times stop) (length closed) most fault → IsCountFault listed most fault
+  pub take_fault : AreToldLeast listed cap target start → (most : ℕ) (fault : FootFault) → IsTakeFault (time_at times stop) (length closed) most fault
+      → IsCountFault listed most fault
   take_fault least most TooManyFootpaths (secs, at, full) =
       let more = closing_some least secs at in
-      let longer : length (closed ++ record { from = stop; to = target; secs = secs } ∷ []) ≡ length closed + 1 = length-append closed (record { from = stop; to = target; secs = secs } ∷ []) in (
+      let longer : length (closed ++ record { from = stop; to = target; secs = secs } ∷ []) ≡ length closed + 1 =
+      length-append closed (record { from = stop; to = target; secs = secs } ∷ []) in (
         closed ++ record { from = stop; to = target; secs = secs } ∷ [],
         record {
           in_order = more.in_order;
@@ -172,7 +185,8 @@ module _ (listed : List Footpath) (cap target : ℕ) (start : List (Option ℕ))
   take_fault least most OutOfMemory there = tt
 
 -- before any stop is taken
-pub closing_start : (listed : List Footpath) (cap target : ℕ) (times : List (Option ℕ)) (reached : List ℕ) (closed : List Footpath) → IsClosedInto listed cap target closed → IsClosing listed cap target times reached 0 times closed
+pub closing_start : (listed : List Footpath) (cap target : ℕ) (times : List (Option ℕ)) (reached : List ℕ) (closed : List Footpath)
+    → IsClosedInto listed cap target closed → IsClosing listed cap target times reached 0 times closed
 closing_start listed cap target times reached closed old = record {
   in_order = old.in_order;
   below = λ f in_it. inl (old.below f in_it);
@@ -185,7 +199,8 @@ pub taken_start : (times : List (Option ℕ)) (reached : List ℕ) → AreTaken 
 taken_start times reached = record { same_length = refl; left = λ s secs at. at; gone = λ k below. absurd (omega (arith, below)) }
 
 -- once all stops reached are taken, the table is empty
-pub all_taken : (start : List (Option ℕ)) (reached : List ℕ) (i : ℕ) (times : List (Option ℕ)) → length reached ≤ i → AreReached start reached → AreTaken start reached i times → (stop : ℕ) → time_at times stop ≡ None
+pub all_taken : (start : List (Option ℕ)) (reached : List ℕ) (i : ℕ) (times : List (Option ℕ)) → length reached ≤ i → AreReached start reached
+    → AreTaken start reached i times → (stop : ℕ) → time_at times stop ≡ None
 all_taken start reached i times all ones out stop = elim (option_cases (time_at times stop)) [
   | inl none ↦ none
   | inr (secs, at) ↦
@@ -195,15 +210,18 @@ all_taken start reached i times all ones out stop = elim (option_cases (time_at 
       absurd (none-some secs (sym none ∙ at))
 ]
 
-pub closed_more : (listed : List Footpath) (cap target : ℕ) (start : List (Option ℕ)) (reached : List ℕ) (i : ℕ) (times : List (Option ℕ)) (closed : List Footpath)
-    → ((stop : ℕ) → time_at times stop ≡ None) → AreToldLeast listed cap target start → IsClosing listed cap target start reached i times closed → IsClosedInto listed cap (target + 1) closed
+pub closed_more : (listed : List Footpath) (cap target : ℕ) (start : List (Option ℕ)) (reached : List ℕ) (i : ℕ) (times : List (Option ℕ))
+    (closed : List Footpath)
+    → ((stop : ℕ) → time_at times stop ≡ None) → AreToldLeast listed cap target start → IsClosing listed cap target start reached i times closed
+    → IsClosedInto listed cap (target + 1) closed
 closed_more listed cap target start reached i times closed empty least closing = record {
   in_order = closing.in_order;
   below = λ f in_it. elim (closing.below f in_it) [ inl lower ↦ omega (arith, lower) | inr (to, first) ↦ omega (arith, to) ];
   least = closing.least;
   whole = λ from to below joined. elim (cases_eq to target) [
     | inr differ ↦ closing.whole from to (omega (arith, below, differ)) joined
-    | inl same ↦ subst (λ (n : ℕ). (secs : ℕ) × HasFootpath closed from n secs) (sym same) (into_target from (subst (λ (n : ℕ). AreJoined listed from n) same joined))
+    | inl same ↦ subst (λ (n : ℕ). (secs : ℕ) × HasFootpath closed from n secs) (sym same)
+        (into_target from (subst (λ (n : ℕ). AreJoined listed from n) same joined))
   ];
 }
   where
@@ -219,13 +237,16 @@ closed_more listed cap target start reached i times closed empty least closing =
     ]
 
 -- a walk ends at one of the stops
-ends_in_range : (listed : List Footpath) (stops : ℕ) → AreInRange listed stops → (walk : List Footpath) (from : ℕ) → IsWalk (on_foot listed) from walk → walk ≢ [] → walk_end from walk < stops
+ends_in_range : (listed : List Footpath) (stops : ℕ) → AreInRange listed stops → (walk : List Footpath) (from : ℕ) → IsWalk (on_foot listed) from walk
+    → walk ≢ [] → walk_end from walk < stops
 ends_in_range listed stops in_range [] from leads some = absurd (some refl)
-ends_in_range listed stops in_range (f ∷ []) from (in_list, start, more) some = (All-contains (λ (g : Footpath). (g.from < stops) × (g.to < stops)) listed f in_range in_list).1
+ends_in_range listed stops in_range (f ∷ []) from (in_list, start, more) some =
+    (All-contains (λ (g : Footpath). (g.from < stops) × (g.to < stops)) listed f in_range in_list).1
 ends_in_range listed stops in_range (f ∷ g ∷ rest) from (in_list, start, more) some = ends_in_range listed stops in_range (g ∷ rest) f.to more (λ e. cc)
 
 pub joined_in_range : (listed : List Footpath) (stops from to : ℕ) → AreInRange listed stops → AreJoined listed from to → to < stops
-joined_in_range listed stops from to in_range (walk, walks) = subst (λ (n : ℕ). n < stops) walks.ends (ends_in_range listed stops in_range walk from walks.leads walks.some)
+joined_in_range listed stops from to in_range (walk, walks) =
+    subst (λ (n : ℕ). n < stops) walks.ends (ends_in_range listed stops in_range walk from walks.leads walks.some)
 
 module _ (listed closed : List Footpath) (stops longest : ℕ) (in_range : AreInRange listed stops) (all : IsClosedInto listed (longest + 1) stops closed) where
   -- where no time is told as the cap, the closure is there

@@ -35,7 +35,8 @@ abbrev HasWay : Footpath → List Footpath → ℕ → ℕ → ℕ → Type 0
 HasWay f fs a b secs = (front : List Footpath) × (back : List Footpath) × IsWay f fs a b front back × (walk_secs front + f.secs + walk_secs back ≤ secs)
 
 -- a walk goes over the rest alone, or there is a way that goes over the footpath once
-cut_walk : (f : Footpath) (fs walk : List Footpath) (a b : ℕ) → IsWalk (on_foot (f ∷ fs)) a walk → walk_end a walk ≡ b → IsWalk (on_foot fs) a walk ⊎ HasWay f fs a b (walk_secs walk)
+cut_walk : (f : Footpath) (fs walk : List Footpath) (a b : ℕ) → IsWalk (on_foot (f ∷ fs)) a walk → walk_end a walk ≡ b → IsWalk (on_foot fs) a walk
+    ⊎ HasWay f fs a b (walk_secs walk)
 cut_walk f fs [] a b leads ends = inl tt
 cut_walk f fs (g ∷ rest) a b (in_list, start, more) ends = elim (first_or_rest f fs g in_list) [
   | inl same ↦
@@ -50,7 +51,8 @@ cut_walk f fs (g ∷ rest) a b (in_list, start, more) ends = elim (first_or_rest
       ]
   | inr old ↦ elim (cut_walk f fs rest g.to b more ends) [
     | inl over ↦ inl (old, start, over)
-    | inr (front, back, way, short) ↦ inr (g ∷ front, back, record { leads = (old, start, way.leads); arrives = way.arrives; leaves = way.leaves; ends = way.ends }, omega (arith, short))
+    | inr (front, back, way, short) ↦
+        inr (g ∷ front, back, record { leads = (old, start, way.leads); arrives = way.arrives; leaves = way.leaves; ends = way.ends }, omega (arith, short))
   ]
 ]
 
@@ -69,7 +71,8 @@ record IsLeastReach (fs : List Footpath) (a b secs : ℕ) : Type 0 where
 moves : (fs walk : List Footpath) (a b : ℕ) → a ≢ b → IsWalk (on_foot fs) a walk → walk_end a walk ≡ b → IsWalkBetween fs a b walk
 moves fs walk a b differ leads ends = record { leads = leads; some = λ none. differ (subst (λ (w : List Footpath). walk_end a w ≡ b) none ends); ends = ends }
 
-reach : (fs : List Footpath) → AreTold fs → (a b : ℕ) → ((walk : List Footpath) → IsWalk (on_foot fs) a walk → walk_end a walk ≡ b → ⊥) ⊎ ((secs : ℕ) × IsLeastReach fs a b secs)
+reach : (fs : List Footpath) → AreTold fs → (a b : ℕ) → ((walk : List Footpath) → IsWalk (on_foot fs) a walk → walk_end a walk ≡ b → ⊥)
+    ⊎ ((secs : ℕ) × IsLeastReach fs a b secs)
 reach fs told a b = elim (cases_eq a b) [
   | inl same ↦ inr (0, record { walked = ([], tt, same, refl); least = λ walk leads ends. omega arith })
   | inr differ ↦ elim (told a b) [
@@ -92,7 +95,8 @@ module _ (f : Footpath) (fs : List Footpath) (told : AreTold fs) (a b : ℕ) whe
 
   way_walk : (front back : List Footpath) → IsWay f fs a b front back → IsWalkBetween (f ∷ fs) a b (front ++ f ∷ back)
   way_walk front back way = record {
-    leads = joined_leads (f ∷ fs) front (f ∷ back) a (walk_of_more f fs front a way.leads) ((0, omega arith, refl), sym way.arrives, walk_of_more f fs back f.to way.leaves);
+    leads = joined_leads (f ∷ fs) front (f ∷ back) a (walk_of_more f fs front a way.leads)
+        ((0, omega arith, refl), sym way.arrives, walk_of_more f fs back f.to way.leaves);
     some = some front;
     ends = joined_end front (f ∷ back) a ∙ way.ends;
   }
@@ -113,7 +117,11 @@ module _ (f : Footpath) (fs : List Footpath) (told : AreTold fs) (a b : ℕ) whe
           inr (
             s + f.secs + t,
             record {
-              walked = (front ++ f ∷ back, way_walk front back (record { leads = leads; arrives = arrives; leaves = leaves; ends = ends }), omega (arith, time, front_time, back_time));
+              walked = (
+                front ++ f ∷ back,
+                way_walk front back (record { leads = leads; arrives = arrives; leaves = leaves; ends = ends }),
+                omega (arith, time, front_time, back_time),
+              );
               least = λ xs ys way.
                   let first_least = first.least xs way.leads way.arrives in
                   let second_least = second.least ys way.leaves way.ends in
@@ -135,24 +143,40 @@ module _ (f : Footpath) (fs : List Footpath) (told : AreTold fs) (a b : ℕ) whe
     | inr (front, back, way, short) ↦ let bound = below_ways front back way in omega (arith, bound, short)
   ]
 
-  rest_is_least : (d : ℕ) → IsLeastTime fs a b d → ((front back : List Footpath) → IsWay f fs a b front back → d ≤ walk_secs front + f.secs + walk_secs back) → IsLeastTime (f ∷ fs) a b d
+  rest_is_least : (d : ℕ) → IsLeastTime fs a b d → ((front back : List Footpath) → IsWay f fs a b front back → d ≤ walk_secs front + f.secs + walk_secs back)
+      → IsLeastTime (f ∷ fs) a b d
   rest_is_least d is ways =
       let (walk, walks, time) = is.walked in
-      record { walked = (walk, record { leads = walk_of_more f fs walk a walks.leads; some = walks.some; ends = walks.ends }, time); least = no_less d is.least ways }
+      record {
+        walked = (walk, record { leads = walk_of_more f fs walk a walks.leads; some = walks.some; ends = walks.ends }, time);
+        least =
+            no_less d is.least ways;
+      }
 
   one_more : IsTold (f ∷ fs) a b
   one_more = elim (told a b) [
     | inl apart ↦ elim by_it [
       | inl never ↦ inl (λ joined.
           let (walk, is) = joined in
-          elim (cut_walk f fs walk a b is.leads is.ends) [ inl leads ↦ apart (walk, over walk is leads) | inr (front, back, way, short) ↦ never front back way ])
+          elim (cut_walk f fs walk a b is.leads is.ends) [
+            | inl leads ↦ apart (walk, over walk is leads)
+            | inr (front, back, way, short) ↦
+                never front back way
+          ])
       | inr (s, way) ↦ inr (s, record { walked = way.walked; least = no_less s (λ walk walks. absurd (apart (walk, walks))) way.least })
     ]
     | inr (d, is) ↦ elim by_it [
       | inl never ↦ inr (d, rest_is_least d is (λ front back way. absurd (never front back way)))
       | inr (s, way) ↦ elim (cases_lt d s) [
         | inl less ↦ inr (d, rest_is_least d is (λ front back w. let bound = way.least front back w in omega (arith, bound, less)))
-        | inr more ↦ inr (s, record { walked = way.walked; least = no_less s (λ walk walks. let bound = is.least walk walks in omega (arith, bound, more)) way.least })
+        | inr more ↦ inr (
+          s,
+          record {
+            walked = way.walked;
+            least =
+                no_less s (λ walk walks. let bound = is.least walk walks in omega (arith, bound, more)) way.least;
+          },
+        )
       ]
     ]
   ]
@@ -216,7 +240,8 @@ module _ (listed : List Footpath) (to from : ℕ) (closed : List Footpath) (old 
       | inr (here, same) ↦ (
         secs,
         subst (λ (n : ℕ). HasFootpath (closed ++ record { from = from; to = to; secs = secs } ∷ []) n b secs) (sym here)
-            (subst (λ (n : ℕ). HasFootpath (closed ++ record { from = from; to = to; secs = secs } ∷ []) from n secs) (sym same) (HasFootpath-push closed from to secs)),
+            (subst (λ (n : ℕ). HasFootpath (closed ++ record { from = from; to = to; secs = secs } ∷ []) from n secs) (sym same)
+            (HasFootpath-push closed from to secs)),
       )
     ];
   }

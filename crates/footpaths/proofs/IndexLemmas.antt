@@ -1,10 +1,12 @@
 -- How footpaths are brought into the order of the stops that they lead into.
-use Rattle.std.proofs.Common.{◌≡◌, ◌≢◌, ℕ, ◌+◌, ◌-◌, ◌<◌, ◌≤◌, inl, inr, List, [], ◌∷◌, ◌++◌, length, take, drop, Some, Contains, get_or, set, sym, ap, subst, ◌∙◌, arith, length-append}
+use Rattle.std.proofs.Common.{◌≡◌, ◌≢◌, ℕ, ◌+◌, ◌-◌, ◌<◌, ◌≤◌, inl, inr, List, [], ◌∷◌, ◌++◌, length, take, drop, Some, Contains, get_or, set, sym, ap, subst}
+use Rattle.std.proofs.Common.{◌∙◌, arith, length-append}
 use Rattle.std.specs.List.{slice_range}
 use Rattle.std.proofs.Math.ListN.{length-set}
 use Rattle.std.proofs.lemmas.Bool.{cases_eq, cases_lt}
 use Rattle.std.proofs.lemmas.Option.{same_Some, slice_get-get_or, slice_get_within, get_or_from_slice_get}
-use Rattle.std.proofs.lemmas.List.{get_or-set_same, get_or-set_other, get_or_append_left, get_or-append_right, take-append-le, drop-append-le, take_all, drop_at, length-drop, append-nil, append_assoc}
+use Rattle.std.proofs.lemmas.List.{get_or-set_same, get_or-set_other, get_or_append_left, get_or-append_right, take-append-le, drop-append-le, take_all}
+use Rattle.std.proofs.lemmas.List.{drop_at, length-drop, append-nil, append_assoc}
 use Rattle.std.proofs.lemmas.List.Elements.{All-append, All-push, All-nil, All-weaker, Contains-push, Contains-append_left}
 use Rattle.timetable.specs.declared.network.Footpath.{Footpath}
 use Rattle.timetable.specs.Legal.{At}
@@ -50,7 +52,8 @@ module _ (listed : List Footpath) (i : ℕ) (path : Footpath) (at_path : At list
         let in_last : s < length last = omega (arith, below, length-set last path.to (i + 1)) in
         elim (cases_eq s path.to) [
           | inl same ↦
-              let now : get_or (set last path.to (i + 1)) s 0 ≡ i + 1 = ap (λ (n : ℕ). get_or (set last path.to (i + 1)) n 0) same ∙ get_or-set_same last path.to (i + 1) 0 inside in
+              let now : get_or (set last path.to (i + 1)) s 0 ≡ i + 1 = ap (λ (n : ℕ). get_or (set last path.to (i + 1)) n 0) same
+              ∙ get_or-set_same last path.to (i + 1) 0 inside in
               subst (λ (k : ℕ). IsLastInto listed s (i + 1) k) (sym now) (subst (λ (n : ℕ). IsLastInto listed n (i + 1) (i + 1)) (sym same) last_here)
           | inr differ ↦
               let now : get_or (set last path.to (i + 1)) s 0 ≡ get_or last s 0 = get_or-set_other last path.to s (i + 1) 0 differ in
@@ -59,13 +62,18 @@ module _ (listed : List Footpath) (i : ℕ) (path : Footpath) (at_path : At list
     befores = λ j f below at. elim (cases_eq j i) [
       | inl same ↦
           let same_path : path ≡ f = same_at listed i path f at_path (subst (λ (n : ℕ). At listed n f) same at) in
-          let now : get_or (before ++ get_or last path.to 0 ∷ []) j 0 ≡ get_or last path.to 0 = get_or-append_right before (get_or last path.to 0 ∷ []) i j 0 count (omega (arith, same)) ∙ ap (λ (n : ℕ). get_or (get_or last path.to 0 ∷ []) n 0) (let e : j - i ≡ 0 = omega (arith, same) in e) in
+          let now : get_or (before ++ get_or last path.to 0 ∷ []) j 0 ≡ get_or last path.to 0 =
+          get_or-append_right before (get_or last path.to 0 ∷ []) i j 0 count (omega (arith, same))
+          ∙ ap (λ (n : ℕ). get_or (get_or last path.to 0 ∷ []) n 0) (let e : j - i ≡ 0 = omega (arith, same) in e) in
           let into_path : IsLastInto listed path.to i (get_or last path.to 0) = old.lasts path.to inside in
-          let here : IsLastInto listed f.to i (get_or last path.to 0) = subst (λ (g : Footpath). IsLastInto listed g.to i (get_or last path.to 0)) same_path into_path in
-          subst (λ (n : ℕ). IsLastInto listed f.to n (get_or (before ++ get_or last path.to 0 ∷ []) j 0)) (sym same) (subst (λ (k : ℕ). IsLastInto listed f.to i k) (sym now) here)
+          let here : IsLastInto listed f.to i (get_or last path.to 0) =
+          subst (λ (g : Footpath). IsLastInto listed g.to i (get_or last path.to 0)) same_path into_path in
+          subst (λ (n : ℕ). IsLastInto listed f.to n (get_or (before ++ get_or last path.to 0 ∷ []) j 0)) (sym same)
+          (subst (λ (k : ℕ). IsLastInto listed f.to i k) (sym now) here)
       | inr differ ↦
           let earlier : j < i = omega (arith, below, differ) in
-          let now : get_or (before ++ get_or last path.to 0 ∷ []) j 0 ≡ get_or before j 0 = get_or_append_left before (get_or last path.to 0 ∷ []) 0 j (omega (arith, earlier, count)) in
+          let now : get_or (before ++ get_or last path.to 0 ∷ []) j 0 ≡ get_or before j 0 =
+          get_or_append_left before (get_or last path.to 0 ∷ []) 0 j (omega (arith, earlier, count)) in
           subst (λ (k : ℕ). IsLastInto listed f.to j k) (sym now) (old.befores j f earlier at)
     ];
   }
@@ -122,7 +130,8 @@ pub index_more : (listed : List Footpath) (stop : ℕ) (first : List ℕ) (paths
 index_more listed stop first paths new adds old = subst (λ (xs : List Footpath). IsIndexUpTo listed (stop + 1) (first ++ length xs ∷ []) xs) (sym adds.is) more
   where
     at_end : get_or (first ++ length (paths ++ adds.added) ∷ []) (stop + 1) 0 ≡ length (paths ++ adds.added)
-    at_end = get_or-append_right first (length (paths ++ adds.added) ∷ []) (stop + 1) (stop + 1) 0 old.count (omega arith) ∙ ap (λ (n : ℕ). get_or (length (paths ++ adds.added) ∷ []) n 0) (let e : (stop + 1) - (stop + 1) ≡ 0 = omega arith in e)
+    at_end = get_or-append_right first (length (paths ++ adds.added) ∷ []) (stop + 1) (stop + 1) 0 old.count (omega arith)
+        ∙ ap (λ (n : ℕ). get_or (length (paths ++ adds.added) ∷ []) n 0) (let e : (stop + 1) - (stop + 1) ≡ 0 = omega arith in e)
 
     at_first : (s : ℕ) → s < stop + 1 → get_or (first ++ length (paths ++ adds.added) ∷ []) s 0 ≡ get_or first s 0
     at_first s below = get_or_append_left first (length (paths ++ adds.added) ∷ []) 0 s (omega (arith, below, old.count))
@@ -136,8 +145,10 @@ index_more listed stop first paths new adds old = subst (λ (xs : List Footpath)
       end = at_end;
       ranges = λ s below. elim (cases_eq s stop) [
         | inl same ↦
-            let low : get_or (first ++ length (paths ++ adds.added) ∷ []) s 0 ≡ length paths = at_first s (omega (arith, same)) ∙ ap (λ (n : ℕ). get_or first n 0) same ∙ old.end in
-            let high : get_or (first ++ length (paths ++ adds.added) ∷ []) (s + 1) 0 ≡ length (paths ++ adds.added) = ap (λ (n : ℕ). get_or (first ++ length (paths ++ adds.added) ∷ []) (n + 1) 0) same ∙ at_end in
+            let low : get_or (first ++ length (paths ++ adds.added) ∷ []) s 0 ≡ length paths = at_first s (omega (arith, same))
+            ∙ ap (λ (n : ℕ). get_or first n 0) same ∙ old.end in
+            let high : get_or (first ++ length (paths ++ adds.added) ∷ []) (s + 1) 0 ≡ length (paths ++ adds.added) =
+            ap (λ (n : ℕ). get_or (first ++ length (paths ++ adds.added) ∷ []) (n + 1) 0) same ∙ at_end in
             (omega (arith, low, high, length-append paths adds.added), omega (arith, high))
         | inr differ ↦
             let inside : s + 1 < stop + 1 = omega (arith, below, longer, differ) in
@@ -148,29 +159,42 @@ index_more listed stop first paths new adds old = subst (λ (xs : List Footpath)
       ];
       index = λ s below. elim (cases_eq s stop) [
         | inl same ↦
-            let low : get_or (first ++ length (paths ++ adds.added) ∷ []) s 0 ≡ length paths = at_first s (omega (arith, same)) ∙ ap (λ (n : ℕ). get_or first n 0) same ∙ old.end in
-            let high : get_or (first ++ length (paths ++ adds.added) ∷ []) (s + 1) 0 ≡ length (paths ++ adds.added) = ap (λ (n : ℕ). get_or (first ++ length (paths ++ adds.added) ∷ []) (n + 1) 0) same ∙ at_end in
-            let is : slice_range (paths ++ adds.added) (get_or (first ++ length (paths ++ adds.added) ∷ []) s 0) (get_or (first ++ length (paths ++ adds.added) ∷ []) (s + 1) 0) ≡ adds.added = range_added paths adds.added (get_or (first ++ length (paths ++ adds.added) ∷ []) s 0) (get_or (first ++ length (paths ++ adds.added) ∷ []) (s + 1) 0) low high in
-            subst (λ (xs : List Footpath). AreThoseInto listed s xs) (sym is) (subst (λ (n : ℕ). AreThoseInto listed n adds.added) (sym same) (those_added listed paths new stop adds))
+            let low : get_or (first ++ length (paths ++ adds.added) ∷ []) s 0 ≡ length paths = at_first s (omega (arith, same))
+            ∙ ap (λ (n : ℕ). get_or first n 0) same ∙ old.end in
+            let high : get_or (first ++ length (paths ++ adds.added) ∷ []) (s + 1) 0 ≡ length (paths ++ adds.added) =
+            ap (λ (n : ℕ). get_or (first ++ length (paths ++ adds.added) ∷ []) (n + 1) 0) same ∙ at_end in
+            let is : slice_range (paths ++ adds.added) (get_or (first ++ length (paths ++ adds.added) ∷ []) s 0)
+            (get_or (first ++ length (paths ++ adds.added) ∷ []) (s + 1) 0) ≡ adds.added =
+            range_added paths adds.added (get_or (first ++ length (paths ++ adds.added) ∷ []) s 0)
+            (get_or (first ++ length (paths ++ adds.added) ∷ []) (s + 1) 0) low high in
+            subst (λ (xs : List Footpath). AreThoseInto listed s xs) (sym is)
+            (subst (λ (n : ℕ). AreThoseInto listed n adds.added) (sym same) (those_added listed paths new stop adds))
         | inr differ ↦
             let inside : s + 1 < stop + 1 = omega (arith, below, longer, differ) in
             let low = at_first s (omega (arith, inside)) in
             let high = at_first (s + 1) inside in
             let before : s + 1 < length first = omega (arith, inside, old.count) in
             let was = old.ranges s before in
-            let same_range : slice_range (paths ++ adds.added) (get_or (first ++ length (paths ++ adds.added) ∷ []) s 0) (get_or (first ++ length (paths ++ adds.added) ∷ []) (s + 1) 0) ≡ slice_range (paths ++ adds.added) (get_or first s 0) (get_or first (s + 1) 0) =
-            ap (λ (n : ℕ). slice_range (paths ++ adds.added) n (get_or (first ++ length (paths ++ adds.added) ∷ []) (s + 1) 0)) low ∙ ap (λ (n : ℕ). slice_range (paths ++ adds.added) (get_or first s 0) n) high in
-            let is : slice_range (paths ++ adds.added) (get_or (first ++ length (paths ++ adds.added) ∷ []) s 0) (get_or (first ++ length (paths ++ adds.added) ∷ []) (s + 1) 0) ≡ slice_range paths (get_or first s 0) (get_or first (s + 1) 0) =
+            let same_range : slice_range (paths ++ adds.added) (get_or (first ++ length (paths ++ adds.added) ∷ []) s 0)
+            (get_or (first ++ length (paths ++ adds.added) ∷ []) (s + 1) 0) ≡ slice_range (paths ++ adds.added) (get_or first s 0)
+            (get_or first (s + 1) 0) =
+            ap (λ (n : ℕ). slice_range (paths ++ adds.added) n (get_or (first ++ length (paths ++ adds.added) ∷ []) (s + 1) 0)) low
+            ∙ ap (λ (n : ℕ). slice_range (paths ++ adds.added) (get_or first s 0) n) high in
+            let is : slice_range (paths ++ adds.added) (get_or (first ++ length (paths ++ adds.added) ∷ []) s 0)
+            (get_or (first ++ length (paths ++ adds.added) ∷ []) (s + 1) 0) ≡ slice_range paths (get_or first s 0) (get_or first (s + 1) 0) =
             same_range ∙ range_stays paths adds.added (get_or first s 0) (get_or first (s + 1) 0) was.0 was.1 in
             subst (λ (xs : List Footpath). AreThoseInto listed s xs) (sym is) (old.index s before)
       ];
-      listed_ones = All-append (Contains listed) paths adds.added old.listed_ones (All-weaker (λ (f : Footpath). Contains listed f × (f.to ≡ stop)) (Contains listed) (λ f both. both.0) adds.added adds.into);
+      listed_ones = All-append (Contains listed) paths adds.added old.listed_ones
+          (All-weaker (λ (f : Footpath). Contains listed f × (f.to ≡ stop)) (Contains listed) (λ f both. both.0) adds.added adds.into);
     }
 
 -- a range by other names of its ends and its list
-pub those_range : (listed paths ps : List Footpath) (stop a b a' b' : ℕ) → a ≡ a' → b ≡ b' → ps ≡ paths → AreThoseInto listed stop (slice_range paths a' b') → AreThoseInto listed stop (take (b - a) (drop a ps))
+pub those_range : (listed paths ps : List Footpath) (stop a b a' b' : ℕ) → a ≡ a' → b ≡ b' → ps ≡ paths → AreThoseInto listed stop (slice_range paths a' b')
+    → AreThoseInto listed stop (take (b - a) (drop a ps))
 those_range listed paths ps stop a b a' b' low high same those =
-    let by_list : AreThoseInto listed stop (slice_range ps a' b') = subst (λ (xs : List Footpath). AreThoseInto listed stop (slice_range xs a' b')) (sym same) those in
+    let by_list : AreThoseInto listed stop (slice_range ps a' b') =
+    subst (λ (xs : List Footpath). AreThoseInto listed stop (slice_range xs a' b')) (sym same) those in
     let by_low : AreThoseInto listed stop (slice_range ps a b') = subst (λ (n : ℕ). AreThoseInto listed stop (slice_range ps n b')) (sym low) by_list in
     subst (λ (n : ℕ). AreThoseInto listed stop (slice_range ps a n)) (sym high) by_low
 

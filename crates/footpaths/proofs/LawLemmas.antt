@@ -20,7 +20,8 @@ Contains-has : (paths : List Footpath) (a b secs : ℕ) → HasFootpath paths a 
 Contains-has paths a b secs (i, at) = Contains-at paths i (record { from = a; to = b; secs = secs }) at
 
 -- a walk and a walk from where it ends are one walk
-pub joined_leads : (listed first second : List Footpath) (a : ℕ) → IsWalk (on_foot listed) a first → IsWalk (on_foot listed) (walk_end a first) second → IsWalk (on_foot listed) a (first ++ second)
+pub joined_leads : (listed first second : List Footpath) (a : ℕ) → IsWalk (on_foot listed) a first → IsWalk (on_foot listed) (walk_end a first) second
+    → IsWalk (on_foot listed) a (first ++ second)
 joined_leads listed [] second a leads more = more
 joined_leads listed (f ∷ first) second a (in_list, start, rest) more = (in_list, start, joined_leads listed first second f.to rest more)
 
@@ -36,7 +37,8 @@ joined_some : (first second : List Footpath) → first ≢ [] → first ++ secon
 joined_some [] second some = absurd (some refl)
 joined_some (f ∷ first) second some = λ e. cc
 
-joined_walk : (listed first second : List Footpath) (a b c : ℕ) → IsWalkBetween listed a b first → IsWalkBetween listed b c second → IsWalkBetween listed a c (first ++ second)
+joined_walk : (listed first second : List Footpath) (a b c : ℕ) → IsWalkBetween listed a b first → IsWalkBetween listed b c second
+    → IsWalkBetween listed a c (first ++ second)
 joined_walk listed first second a b c one two = record {
   leads = joined_leads listed first second a one.leads (subst (λ (s : ℕ). IsWalk (on_foot listed) s second) (sym one.ends) two.leads);
   some = joined_some first second one.some;
@@ -44,12 +46,14 @@ joined_walk listed first second a b c one two = record {
 }
 
 -- the stop that a walk leaves is one of the stops
-pub leaves_in_range : (listed : List Footpath) (stops : ℕ) → AreInRange listed stops → (walk : List Footpath) (from : ℕ) → IsWalk (on_foot listed) from walk → walk ≢ [] → from < stops
+pub leaves_in_range : (listed : List Footpath) (stops : ℕ) → AreInRange listed stops → (walk : List Footpath) (from : ℕ) → IsWalk (on_foot listed) from walk
+    → walk ≢ [] → from < stops
 leaves_in_range listed stops in_range [] from leads some = absurd (some refl)
 leaves_in_range listed stops in_range (f ∷ rest) from (in_list, start, more) some =
     subst (λ (n : ℕ). n < stops) start (All-contains (λ (g : Footpath). (g.from < stops) × (g.to < stops)) listed f in_range in_list).0
 
-pub legal_closure : (stops : ℕ) (listed closure : List Footpath) → AreInRange listed stops → HasLoops listed stops → IsClosure listed closure → HasLegalFootpaths stops closure
+pub legal_closure : (stops : ℕ) (listed closure : List Footpath) → AreInRange listed stops → HasLoops listed stops → IsClosure listed closure
+    → HasLegalFootpaths stops closure
 legal_closure stops listed closure in_range loops is = record {
   ends_in_range = λ i f at.
       let (walk, walks, time) = (is.least f (Contains-at closure i f at)).walked in
@@ -63,7 +67,8 @@ legal_closure stops listed closure in_range loops is = record {
       let two = (is.least (record { from = b; to = c; secs = d2 }) (Contains-has closure b c d2 second)).walked in
       let walk : IsWalkBetween listed a c (one.0 ++ two.0) = joined_walk listed one.0 two.0 a b c one.1 two.1 in
       let (d, has) = is.whole a c (one.0 ++ two.0, walk) in
-      let least : d ≤ walk_secs (one.0 ++ two.0) = (is.least (record { from = a; to = c; secs = d }) (Contains-has closure a c d has)).least (one.0 ++ two.0) walk in
+      let least : d ≤ walk_secs (one.0 ++ two.0) = (is.least (record { from = a; to = c; secs = d }) (Contains-has closure a c d has)).least (one.0 ++ two.0)
+      walk in
       (d, has, omega (arith, least, joined_secs one.0 two.0, one.2, two.2));
 }
 
@@ -89,10 +94,14 @@ pub one_closure : (listed c d : List Footpath) → IsClosure listed c → IsClos
 one_closure listed c d is_c is_d = same_list c d is_c.in_order is_d.in_order (also_in listed c d is_c is_d) (also_in listed d c is_d is_c)
 
 -- in closed footpaths a direct one is no longer than a walk
-direct : (stops : ℕ) (paths : List Footpath) → HasLegalFootpaths stops paths → (walk : List Footpath) (a b : ℕ) → IsWalk (on_foot paths) a walk → walk ≢ [] → walk_end a walk ≡ b → (d : ℕ) × HasFootpath paths a b d × (d ≤ walk_secs walk)
+direct : (stops : ℕ) (paths : List Footpath) → HasLegalFootpaths stops paths → (walk : List Footpath) (a b : ℕ) → IsWalk (on_foot paths) a walk → walk ≢ []
+    → walk_end a walk ≡ b → (d : ℕ) × HasFootpath paths a b d × (d ≤ walk_secs walk)
 direct stops paths legal [] a b leads some ends = absurd (some refl)
-direct stops paths legal (f ∷ []) a b (in_list, start, more) some ends =
-    (f.secs, subst (λ (n : ℕ). HasFootpath paths n b f.secs) start (subst (λ (n : ℕ). HasFootpath paths f.from n f.secs) ends (has_Contains paths f in_list)), omega arith)
+direct stops paths legal (f ∷ []) a b (in_list, start, more) some ends = (
+  f.secs,
+  subst (λ (n : ℕ). HasFootpath paths n b f.secs) start (subst (λ (n : ℕ). HasFootpath paths f.from n f.secs) ends (has_Contains paths f in_list)),
+  omega arith,
+)
 direct stops paths legal (f ∷ g ∷ rest) a b (in_list, start, more) some ends =
     let (d, has, le) = direct stops paths legal (g ∷ rest) f.to b more (λ e. cc) ends in
     let first : HasFootpath paths a f.to f.secs = subst (λ (n : ℕ). HasFootpath paths n f.to f.secs) start (has_Contains paths f in_list) in
@@ -129,7 +138,8 @@ pairs_of_closure listed closure most is more = (
 )
 
 -- and has the pairs that only longer walks join
-pub longer_in : (listed closure : List Footpath) (longest : ℕ) → IsClosure listed closure → HasLongerWalk listed longest → (f : Footpath) × Contains closure f × (longest < f.secs)
+pub longer_in : (listed closure : List Footpath) (longest : ℕ) → IsClosure listed closure → HasLongerWalk listed longest → (f : Footpath) × Contains closure f
+    × (longest < f.secs)
 longer_in listed closure longest is (a, b, long) =
     let (secs, has) = is.whole a b long.joined in
     let there = Contains-has closure a b secs has in
@@ -137,7 +147,8 @@ longer_in listed closure longest is (a, b, long) =
     let more = long.longer walk walks in
     (record { from = a; to = b; secs = secs }, there, omega (arith, more, time))
 
-pub longer_of : (listed closure : List Footpath) (longest : ℕ) → IsClosure listed closure → (f : Footpath) × Contains closure f × (longest < f.secs) → HasLongerWalk listed longest
+pub longer_of : (listed closure : List Footpath) (longest : ℕ) → IsClosure listed closure → (f : Footpath) × Contains closure f × (longest < f.secs)
+    → HasLongerWalk listed longest
 longer_of listed closure longest is (f, in_it, more) =
     let least = is.least f in_it in
     let (walk, walks, time) = least.walked in

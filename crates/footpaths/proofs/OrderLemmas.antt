@@ -1,5 +1,6 @@
 -- Lists of footpaths by the stop led into, then by the stop left.
-use Rattle.std.proofs.Common.{◌≡◌, ℕ, zero, suc, ◌+◌, ◌<◌, ◌≤◌, ◌⊎◌, inl, inr, List, [], ◌∷◌, ◌++◌, length, Some, Contains, refl, sym, ap, subst, ◌∙◌, arith, length-append}
+use Rattle.std.proofs.Common.{◌≡◌, ℕ, zero, suc, ◌+◌, ◌<◌, ◌≤◌, ◌⊎◌, inl, inr, List, [], ◌∷◌, ◌++◌, length, Some, Contains, refl, sym, ap, subst, ◌∙◌, arith}
+use Rattle.std.proofs.Common.{length-append}
 use Rattle.std.specs.List.{slice_get}
 use Rattle.std.proofs.lemmas.Bool.{cases_order}
 use Rattle.std.proofs.lemmas.Option.{same_Some, none-some, slice_get_within}
@@ -22,7 +23,8 @@ pub at_nothing : (i : ℕ) (f : Footpath) → At [] i f → ⊥
 at_nothing i f at = none-some f at
 
 -- a footpath behind all others
-pub in_order_push : (paths : List Footpath) (f : Footpath) → AreInOrder paths → ((e : Footpath) → Contains paths e → IsOrderedBefore e f) → AreInOrder (paths ++ f ∷ [])
+pub in_order_push : (paths : List Footpath) (f : Footpath) → AreInOrder paths → ((e : Footpath) → Contains paths e → IsOrderedBefore e f)
+    → AreInOrder (paths ++ f ∷ [])
 in_order_push paths f in_order after i d e at_d at_e =
     let size : length (paths ++ f ∷ []) ≡ length paths + 1 = length-append paths (f ∷ []) in
     let inside : i + 1 < length paths + 1 = omega (arith, size, slice_get_within (paths ++ f ∷ []) (i + 1) e at_e) in
@@ -78,19 +80,23 @@ pair_cases y w f (secs, (zero, at)) = inl (ends_of y f secs at)
 pair_cases y w f (secs, (suc i, at)) = inr (secs, (i, at))
 
 -- where the first of one list is in the tail of the other, no pair of the one is that of the other's first
-first_differs : (x : Footpath) (p : List Footpath) (y : Footpath) (w : List Footpath) → AreInOrder (x ∷ p) → AreInOrder (y ∷ w) → HasPair w x → (j : ℕ) (f : Footpath) → At (x ∷ p) j f → y.from ≡ f.from → y.to ≡ f.to → ⊥
+first_differs : (x : Footpath) (p : List Footpath) (y : Footpath) (w : List Footpath) → AreInOrder (x ∷ p) → AreInOrder (y ∷ w) → HasPair w x
+    → (j : ℕ) (f : Footpath) → At (x ∷ p) j f → y.from ≡ f.from → y.to ≡ f.to → ⊥
 first_differs x p y w in_part in_whole (secs, (i, at)) zero f at_f from to =
-    let before : IsOrderedBefore y (record { from = x.from; to = x.to; secs = secs }) = first_before y w in_whole i (record { from = x.from; to = x.to; secs = secs }) at in
+    let before : IsOrderedBefore y (record { from = x.from; to = x.to; secs = secs }) =
+    first_before y w in_whole i (record { from = x.from; to = x.to; secs = secs }) at in
     let same : x ≡ f = same_Some x f at_f in
     let x_from : x.from ≡ f.from = ap (λ (g : Footpath). g.from) same in
     let x_to : x.to ≡ f.to = ap (λ (g : Footpath). g.to) same in
     let less : y.from < x.from = before.1 (to ∙ sym x_to) in
     omega (arith, less, from, x_from)
 first_differs x p y w in_part in_whole (secs, (i, at)) (suc j) f at_f from to =
-    not_round y (record { from = x.from; to = x.to; secs = secs }) f (first_before y w in_whole i (record { from = x.from; to = x.to; secs = secs }) at) (first_before x p in_part j f at_f) from to
+    not_round y (record { from = x.from; to = x.to; secs = secs }) f (first_before y w in_whole i (record { from = x.from; to = x.to; secs = secs }) at)
+    (first_before x p in_part j f at_f) from to
 
 -- footpaths in order are no more than those of a list that has one between the same stops for each
-pub no_longer : (part whole : List Footpath) → AreInOrder part → AreInOrder whole → ((j : ℕ) (f : Footpath) → At part j f → HasPair whole f) → length part ≤ length whole
+pub no_longer : (part whole : List Footpath) → AreInOrder part → AreInOrder whole → ((j : ℕ) (f : Footpath) → At part j f → HasPair whole f)
+    → length part ≤ length whole
 no_longer [] whole in_part in_whole all = omega arith
 no_longer (x ∷ p) [] in_part in_whole all = let (secs, (i, at)) = all 0 x refl in absurd (at_nothing i (record { from = x.from; to = x.to; secs = secs }) at)
 no_longer (x ∷ p) (y ∷ w) in_part in_whole all = elim (pair_cases y w x (all 0 x refl)) [
@@ -105,15 +111,21 @@ no_longer (x ∷ p) (y ∷ w) in_part in_whole all = elim (pair_cases y w x (all
 ]
 
 -- lists in order with the same footpaths are one list
-pub same_list : (c d : List Footpath) → AreInOrder c → AreInOrder d → ((f : Footpath) → Contains c f → Contains d f) → ((f : Footpath) → Contains d f → Contains c f) → c ≡ d
+pub same_list : (c d : List Footpath) → AreInOrder c → AreInOrder d → ((f : Footpath) → Contains c f → Contains d f)
+    → ((f : Footpath) → Contains d f → Contains c f) → c ≡ d
 same_list [] [] in_c in_d there back = refl
 same_list [] (y ∷ d) in_c in_d there back = let (i, at) = at_Contains [] y (back y (Contains-at (y ∷ d) 0 y refl)) in absurd (at_nothing i y at)
 same_list (x ∷ c) [] in_c in_d there back = let (i, at) = at_Contains [] x (there x (Contains-at (x ∷ c) 0 x refl)) in absurd (at_nothing i x at)
 same_list (x ∷ c) (y ∷ d) in_c in_d there back =
-    let same : x ≡ y = first_same (at_Contains (y ∷ d) x (there x (Contains-at (x ∷ c) 0 x refl))) (at_Contains (x ∷ c) y (back y (Contains-at (y ∷ d) 0 y refl))) in
+    let same : x ≡ y = first_same (at_Contains (y ∷ d) x (there x (Contains-at (x ∷ c) 0 x refl)))
+    (at_Contains (x ∷ c) y (back y (Contains-at (y ∷ d) 0 y refl))) in
     let rest : c ≡ d = same_list c d (in_order_tail x c in_c) (in_order_tail y d in_d)
-    (λ f in_c_rest. let (i, at) = at_Contains c f in_c_rest in into_tail y d f (λ (e : y ≡ f). never_same x f (first_before x c in_c i f at) (ap (λ (g : Footpath). g.from) (same ∙ e)) (ap (λ (g : Footpath). g.to) (same ∙ e))) (at_Contains (y ∷ d) f (there f (Contains-at (x ∷ c) (suc i) f at))))
-    (λ f in_d_rest. let (i, at) = at_Contains d f in_d_rest in into_tail x c f (λ (e : x ≡ f). never_same y f (first_before y d in_d i f at) (ap (λ (g : Footpath). g.from) (sym same ∙ e)) (ap (λ (g : Footpath). g.to) (sym same ∙ e))) (at_Contains (x ∷ c) f (back f (Contains-at (y ∷ d) (suc i) f at)))) in
+    (λ f in_c_rest. let (i, at) = at_Contains c f in_c_rest in
+    into_tail y d f (λ (e : y ≡ f). never_same x f (first_before x c in_c i f at) (ap (λ (g : Footpath). g.from) (same ∙ e))
+    (ap (λ (g : Footpath). g.to) (same ∙ e))) (at_Contains (y ∷ d) f (there f (Contains-at (x ∷ c) (suc i) f at))))
+    (λ f in_d_rest. let (i, at) = at_Contains d f in_d_rest in
+    into_tail x c f (λ (e : x ≡ f). never_same y f (first_before y d in_d i f at) (ap (λ (g : Footpath). g.from) (sym same ∙ e))
+    (ap (λ (g : Footpath). g.to) (sym same ∙ e))) (at_Contains (x ∷ c) f (back f (Contains-at (y ∷ d) (suc i) f at)))) in
     ap (λ (g : Footpath). g ∷ c) same ∙ ap (λ (xs : List Footpath). y ∷ xs) rest
   where
     into_tail : (z : Footpath) (zs : List Footpath) (f : Footpath) → (z ≡ f → ⊥) → (i : ℕ) × At (z ∷ zs) i f → Contains zs f

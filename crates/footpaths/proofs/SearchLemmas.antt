@@ -1,5 +1,6 @@
 -- How what is known of the walks into a stop changes.
-use Rattle.std.proofs.Common.{◌≡◌, ◌≢◌, ℕ, suc, ◌+◌, ◌<◌, ◌≤◌, inl, inr, false, List, [], ◌∷◌, ◌++◌, length, Option, Some, None, All, Contains, get_or, set, sum_by, is_none, true≢false, refl, sym, subst, ◌∙◌, arith}
+use Rattle.std.proofs.Common.{◌≡◌, ◌≢◌, ℕ, suc, ◌+◌, ◌<◌, ◌≤◌, inl, inr, false, List, [], ◌∷◌, ◌++◌, length, Option, Some, None, All, Contains, get_or, set}
+use Rattle.std.proofs.Common.{sum_by, is_none, true≢false, refl, sym, subst, ◌∙◌, arith}
 use Rattle.std.specs.List.Sorted.{IsPermutation}
 use Rattle.std.proofs.Math.ListN.{length-set}
 use Rattle.std.proofs.lemmas.Bool.{cases_eq}
@@ -34,7 +35,8 @@ Contains-head x xs = (0, omega arith, refl)
 Contains-tail : (x y : Found) (xs : List Found) → Contains xs y → Contains (x ∷ xs) y
 Contains-tail x y xs (k, below, is) = (suc k, omega (arith, below), is)
 
-module _ (times : List (Option ℕ)) (pending pending' : List Found) (stop secs : ℕ) (inside : stop < length times) (joined : IsJoinedBy pending (found_at secs stop) pending') where
+module _ (times : List (Option ℕ)) (pending pending' : List Found) (stop secs : ℕ) (inside : stop < length times)
+    (joined : IsJoinedBy pending (found_at secs stop) pending') where
   time_now : time_at (set times stop (Some secs)) stop ≡ Some secs
   time_now = get_or-set_same times stop (Some secs) None inside
 
@@ -46,8 +48,10 @@ module _ (times : List (Option ℕ)) (pending pending' : List Found) (stop secs 
     same_length = length-set times stop (Some secs);
     inside = λ old.
         let same : length (set times stop (Some secs)) ≡ length times = length-set times stop (Some secs) in
-        let all : All (λ x. x.stop < length times) (found_at secs stop ∷ pending) = All-cons (λ x. x.stop < length times) (found_at secs stop) pending inside old in
-        subst (λ (n : ℕ). All (λ x. x.stop < n) pending') (sym same) (All-permutation (λ x. x.stop < length times) (found_at secs stop ∷ pending) pending' joined all);
+        let all : All (λ x. x.stop < length times) (found_at secs stop ∷ pending) =
+        All-cons (λ x. x.stop < length times) (found_at secs stop) pending inside old in
+        subst (λ (n : ℕ). All (λ x. x.stop < n) pending') (sym same)
+        (All-permutation (λ x. x.stop < length times) (found_at secs stop ∷ pending) pending' joined all);
     lower = λ other d within. elim (cases_eq other stop) [
       | inl same ↦
           let less : secs < within.0 = undercut within.0 (subst (λ (s : ℕ). time_at times s ≡ Some within.0) same within.1) in
@@ -59,14 +63,16 @@ module _ (times : List (Option ℕ)) (pending pending' : List Found) (stop secs 
       | inl same ↦
           let now : Some secs ≡ Some d = sym time_now ∙ subst (λ (s : ℕ). time_at (set times stop (Some secs)) s ≡ Some d) same at in
           let equal : secs ≡ d = same_Some secs d now in
-          let here : Contains pending' (found_at secs stop) = Contains-permutation (found_at secs stop ∷ pending) pending' (found_at secs stop) joined (Contains-head (found_at secs stop) pending) in
+          let here : Contains pending' (found_at secs stop) =
+          Contains-permutation (found_at secs stop ∷ pending) pending' (found_at secs stop) joined (Contains-head (found_at secs stop) pending) in
           let moved : Contains pending' (found_at d stop) = subst (λ (s : ℕ). Contains pending' (found_at s stop)) equal here in
           inr (subst (λ (s : ℕ). Contains pending' (found_at d s)) (sym same) moved)
       | inr differ ↦ inl (sym (time_other other differ) ∙ at)
     ];
   }
 
-  pub AreWalked-set : (listed : List Footpath) (cap target : ℕ) → IsToldTime listed cap stop target secs → AreWalked listed cap target times → AreWalked listed cap target (set times stop (Some secs))
+  pub AreWalked-set : (listed : List Footpath) (cap target : ℕ) → IsToldTime listed cap stop target secs → AreWalked listed cap target times
+      → AreWalked listed cap target (set times stop (Some secs))
   AreWalked-set listed cap target told walked = λ other d at. elim (cases_eq other stop) [
     | inl same ↦
         let equal : secs ≡ d = same_Some secs d (sym time_now ∙ subst (λ (s : ℕ). time_at (set times stop (Some secs)) s ≡ Some d) same at) in
@@ -91,15 +97,18 @@ module _ (times : List (Option ℕ)) (pending pending' : List Found) (stop secs 
       | inl same ↦ subst (λ (s : ℕ). Contains (reached ++ stop ∷ []) s) (sym same) (Contains-push reached stop)
       | inr differ ↦ Contains-append_left reached (stop ∷ []) other (old.has other d (sym (time_other other differ) ∙ at))
     ];
-    inside = subst (λ (n : ℕ). All (λ s. s < n) (reached ++ stop ∷ [])) (sym (length-set times stop (Some secs))) (All-push (λ s. s < length times) reached stop old.inside inside);
+    inside = subst (λ (n : ℕ). All (λ s. s < n) (reached ++ stop ∷ [])) (sym (length-set times stop (Some secs)))
+        (All-push (λ s. s < length times) reached stop old.inside inside);
   }
 
   pub weight-set : (cap : ℕ) → secs ≤ cap → IsUndercut times stop secs → weight cap (set times stop (Some secs)) + 1 ≤ weight cap times
   weight-set cap small undercut =
-      let e : sum_by (weight_of cap) (set times stop (Some secs)) + weight_of cap (time_at times stop) ≡ sum_by (weight_of cap) times + secs = sum_by-set (weight_of cap) times stop (Some secs) None inside in
+      let e : sum_by (weight_of cap) (set times stop (Some secs)) + weight_of cap (time_at times stop) ≡ sum_by (weight_of cap) times + secs =
+      sum_by-set (weight_of cap) times stop (Some secs) None inside in
       lighter (time_at times stop) refl e
     where
-      lighter : (o : Option ℕ) → time_at times stop ≡ o → sum_by (weight_of cap) (set times stop (Some secs)) + weight_of cap o ≡ sum_by (weight_of cap) times + secs → weight cap (set times stop (Some secs)) + 1 ≤ weight cap times
+      lighter : (o : Option ℕ) → time_at times stop ≡ o → sum_by (weight_of cap) (set times stop (Some secs)) + weight_of cap o ≡ sum_by (weight_of cap)
+          times + secs → weight cap (set times stop (Some secs)) + 1 ≤ weight cap times
       lighter None is e = omega (arith, e, small)
       lighter (Some d) is e = let less : secs < d = undercut d is in omega (arith, e, less)
 
@@ -115,12 +124,14 @@ pub all_within_more : (times times' : List (Option ℕ)) (paths : List Footpath)
     → (e : Footpath) → IsWithin times' (get_or paths i e).from ((get_or paths i e).secs + secs)
     → (k : ℕ) (d : Footpath) → k < i + 1 → IsWithin times' (get_or paths k d).from ((get_or paths k d).secs + secs)
 all_within_more times times' paths secs i inside lower before e here k d below = elim (cases_eq k i) [
-  | inl same ↦ subst (λ (n : ℕ). IsWithin times' (get_or paths n d).from ((get_or paths n d).secs + secs)) (sym same) (subst (λ (f : Footpath). IsWithin times' f.from (f.secs + secs)) (get_or_default paths i e d inside) here)
+  | inl same ↦ subst (λ (n : ℕ). IsWithin times' (get_or paths n d).from ((get_or paths n d).secs + secs)) (sym same)
+      (subst (λ (f : Footpath). IsWithin times' f.from (f.secs + secs)) (get_or_default paths i e d inside) here)
   | inr differ ↦ lower (get_or paths k d).from ((get_or paths k d).secs + secs) (before k d (omega (arith, below, differ)))
 ]
 
 -- those reached in another order
-pub AreReached-sorted : (times : List (Option ℕ)) (reached reached' : List ℕ) → IsPermutation reached reached' → AreReached times reached → AreReached times reached'
+pub AreReached-sorted : (times : List (Option ℕ)) (reached reached' : List ℕ) → IsPermutation reached reached' → AreReached times reached
+    → AreReached times reached'
 AreReached-sorted times reached reached' moved old = record {
   has = λ stop secs at. Contains-permutation reached reached' stop moved (old.has stop secs at);
   inside = All-permutation (λ s. s < length times) reached reached' moved old.inside;

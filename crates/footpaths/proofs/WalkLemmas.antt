@@ -1,5 +1,6 @@
 -- A table of times of walks into a stop, in which no footpath makes a time less, has the least times.
-use Rattle.std.proofs.Common.{◌≡◌, ◌≢◌, ℕ, zero, suc, ◌+◌, ◌⊎◌, inl, inr, List, [], ◌∷◌, length, Option, Some, None, All, Contains, refl, sym, ap, subst, ◌∙◌, arith}
+use Rattle.std.proofs.Common.{◌≡◌, ◌≢◌, ℕ, zero, suc, ◌+◌, ◌⊎◌, inl, inr, List, [], ◌∷◌, length, Option, Some, None, All, Contains, refl, sym, ap, subst, ◌∙◌}
+use Rattle.std.proofs.Common.{arith}
 use Rattle.std.specs.List.Sorted.{IsPermutation}
 use Rattle.std.proofs.lemmas.Option.{same_Some, none-some}
 use Rattle.std.proofs.lemmas.List.Elements.{All-contains}
@@ -9,20 +10,23 @@ use Rattle.timetable.specs.Journeys.{IsWalk, walk_end, walk_secs}
 use Rattle.footpaths.specs.Walks.{on_foot, IsWalkBetween}
 use Rattle.footpaths.specs.Index.{AreThoseInto}
 use Rattle.footpaths.specs.declared.search.Found.{Found}
-use Rattle.footpaths.specs.Search.{time_at, found_at, IsWithin, IsToldTime, IsBackFrom, AreWalked, Grows, IsFollowed, AreFollowed, ArePendingOrFollowed, IsToldLeast, AreToldLeast}
+use Rattle.footpaths.specs.Search.{time_at, found_at, IsWithin, IsToldTime, IsBackFrom, AreWalked, Grows, IsFollowed, AreFollowed, ArePendingOrFollowed}
+use Rattle.footpaths.specs.Search.{IsToldLeast, AreToldLeast}
 
 -- a listed footpath is a walk
 pub alone : (listed : List Footpath) (f : Footpath) → Contains listed f → IsWalkBetween listed f.from f.to (f ∷ [])
 alone listed f in_list = record { leads = (in_list, refl, tt); some = λ e. cc; ends = refl }
 
 -- and a longer one in front of a walk
-pub in_front : (listed : List Footpath) (f : Footpath) (to : ℕ) (walk : List Footpath) → Contains listed f → IsWalkBetween listed f.to to walk → IsWalkBetween listed f.from to (f ∷ walk)
+pub in_front : (listed : List Footpath) (f : Footpath) (to : ℕ) (walk : List Footpath) → Contains listed f → IsWalkBetween listed f.to to walk
+    → IsWalkBetween listed f.from to (f ∷ walk)
 in_front listed f to walk in_list is = record { leads = (in_list, refl, is.leads); some = λ e. cc; ends = is.ends }
 
 pub told_alone : (listed : List Footpath) (cap target : ℕ) (f : Footpath) → Contains listed f → f.to ≡ target → IsBackFrom listed cap target f 0
 told_alone listed cap target f in_list to = (f ∷ [], subst (λ (s : ℕ). IsWalkBetween listed f.from s (f ∷ [])) to (alone listed f in_list), refl)
 
-pub told_in_front : (listed : List Footpath) (cap target stop secs : ℕ) (f : Footpath) → Contains listed f → f.to ≡ stop → IsToldTime listed cap stop target secs → IsBackFrom listed cap target f secs
+pub told_in_front : (listed : List Footpath) (cap target stop secs : ℕ) (f : Footpath) → Contains listed f → f.to ≡ stop
+    → IsToldTime listed cap stop target secs → IsBackFrom listed cap target f secs
 told_in_front listed cap target stop secs f in_list to (walk, is, time) =
     let from_there : IsWalkBetween listed f.to target walk = subst (λ (s : ℕ). IsWalkBetween listed s target walk) (sym to) is in
     (f ∷ walk, in_front listed f target walk in_list from_there, omega (arith, time))
@@ -52,7 +56,8 @@ still_pending_or_followed listed times times' all pending pending' next moved gr
           | inl same ↦
               let its_stop : next.stop ≡ stop = ap (λ (x : Found). x.stop) same in
               let its_secs : next.secs.0 ≡ secs = ap (λ (x : Found). x.secs.0) same in
-              let now : time_at times' next.stop ≡ Some next.secs.0 = subst (λ (s : ℕ). time_at times' s ≡ Some next.secs.0) (sym its_stop) (at ∙ ap (λ (n : ℕ). Some n) (sym its_secs)) in
+              let now : time_at times' next.stop ≡ Some next.secs.0 =
+              subst (λ (s : ℕ). time_at times' s ≡ Some next.secs.0) (sym its_stop) (at ∙ ap (λ (n : ℕ). Some n) (sym its_secs)) in
               let done : IsFollowed listed times' next.stop next.secs.0 = followed now in
               inr (λ f in_list to. subst (λ (n : ℕ). IsWithin times' f.from (f.secs + n)) its_secs (done f in_list (to ∙ sym its_stop)))
         ]
@@ -60,7 +65,8 @@ still_pending_or_followed listed times times' all pending pending' next moved gr
     ]
 
 -- where none is pending, each was followed
-pub all_followed : (listed : List Footpath) (times : List (Option ℕ)) (pending : List Found) → length pending ≡ 0 → ArePendingOrFollowed listed times pending → AreFollowed listed times
+pub all_followed : (listed : List Footpath) (times : List (Option ℕ)) (pending : List Found) → length pending ≡ 0 → ArePendingOrFollowed listed times pending
+    → AreFollowed listed times
 all_followed listed times pending none old stop secs at = elim (old stop secs at) [
   | inr followed ↦ followed
   | inl in_it ↦ absurd (omega (arith, none, in_it.1))
@@ -78,7 +84,8 @@ arrives listed times target started followed (f ∷ g ∷ rest) stop (in_list, s
     (e, subst (λ (s : ℕ). time_at times s ≡ Some e) start is, omega (arith, le, less))
 
 -- so the table has the least times
-pub least : (listed : List Footpath) (cap target : ℕ) (times : List (Option ℕ)) → AreWalked listed cap target times → IsFollowed listed times target 0 → AreFollowed listed times → AreToldLeast listed cap target times
+pub least : (listed : List Footpath) (cap target : ℕ) (times : List (Option ℕ)) → AreWalked listed cap target times → IsFollowed listed times target 0
+    → AreFollowed listed times → AreToldLeast listed cap target times
 least listed cap target times walked started followed stop = by (time_at times stop) refl
   where
     by : (o : Option ℕ) → time_at times stop ≡ o → IsToldLeast listed cap stop target o

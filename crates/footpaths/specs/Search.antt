@@ -48,7 +48,8 @@ AreFollowed listed times = (stop secs : ℕ) → time_at times stop ≡ Some sec
 
 -- each time of the table is pending, or was followed
 abbrev pub ArePendingOrFollowed : List Footpath → List (Option ℕ) → List Found → Type 0
-ArePendingOrFollowed listed times pending = (stop secs : ℕ) → time_at times stop ≡ Some secs → Contains pending (found_at secs stop) ⊎ IsFollowed listed times stop secs
+ArePendingOrFollowed listed times pending = (stop secs : ℕ) → time_at times stop ≡ Some secs → Contains pending (found_at secs stop)
+    ⊎ IsFollowed listed times stop secs
 
 -- what is pending is at stops of the table
 abbrev pub ArePendingInside : List (Option ℕ) → List Found → Type 0

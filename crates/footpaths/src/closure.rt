@@ -67,9 +67,11 @@ fn collect(
     requires reached { AreReached times.old reached.now }
     requires sorted { IsNonDecreasing reached.now }
     ensures cleared { OnOk result ((stop : ℕ) → time_at times.new stop ≡ None) }
-    ensures closed { (listed : _) (cap : ℕ) → IsClosedInto listed cap target closed.old.items → AreToldLeast listed cap target times.old → OnOk result (IsClosedInto listed cap (target + 1) closed.new.items) }
+    ensures closed { (listed : _) (cap : ℕ) → IsClosedInto listed cap target closed.old.items → AreToldLeast listed cap target times.old
+        → OnOk result (IsClosedInto listed cap (target + 1) closed.new.items) }
     ensures few { length closed.old.items ≤ most → OnOk result (length closed.new.items ≤ most) }
-    ensures fault { (listed : _) (cap : ℕ) → IsClosedInto listed cap target closed.old.items → AreToldLeast listed cap target times.old → IfErr result (IsCountFault listed most) }
+    ensures fault { (listed : _) (cap : ℕ) → IsClosedInto listed cap target closed.old.items → AreToldLeast listed cap target times.old
+        → IfErr result (IsCountFault listed most) }
 {
     for stop in reached {
         take_time(times, *stop, target, closed, most)?;

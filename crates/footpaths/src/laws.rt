@@ -8,7 +8,8 @@ ghost use Rattle.footpaths.specs.Closure.{IsClosure, HasMorePairs, HasLongerWalk
 
 /// The closure of footpaths among which each stop has a loop meets what a legal timetable asks of its footpaths.
 pub fn closure_is_legal()
-    ensures { (stops : ℕ) (listed closure : List Footpath) → AreInRange listed stops → HasLoops listed stops → IsClosure listed closure → HasLegalFootpaths stops closure }
+    ensures { (stops : ℕ) (listed closure : List Footpath) → AreInRange listed stops → HasLoops listed stops → IsClosure listed closure
+        → HasLegalFootpaths stops closure }
 {}
 
 /// Listed footpaths between so many stops have a closure, however many footpaths it has and however long they take: also where
@@ -31,7 +32,8 @@ pub fn closed_stays()
 /// takes longer exactly where some pair is joined by such walks alone.
 pub fn faults_of_closure()
     ensures many { (listed closure : List Footpath) (most : ℕ) → IsClosure listed closure → HasMorePairs listed most ↔ (most < length closure) }
-    ensures long { (listed closure : List Footpath) (longest : ℕ) → IsClosure listed closure → HasLongerWalk listed longest ↔ ((f : Footpath) × Contains closure f × (longest < f.secs)) }
+    ensures long { (listed closure : List Footpath) (longest : ℕ) → IsClosure listed closure
+        → HasLongerWalk listed longest ↔ ((f : Footpath) × Contains closure f × (longest < f.secs)) }
 {}
 
 /// What is asked of the closure is what a legal timetable asks of its footpaths: a legal timetable has such footpaths, and with

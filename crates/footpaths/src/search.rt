@@ -5,7 +5,8 @@ ghost use Rattle.std.specs.BinaryHeap.{heap_items, heap_len};
 ghost use Rattle.std.specs.List.Sorted.{IsNonDecreasing};
 ghost use Rattle.timetable.specs.declared.network.Footpath.{Footpath};
 ghost use Rattle.footpaths.specs.Index.{IsIndex, IsOver};
-ghost use Rattle.footpaths.specs.Search.{time_at, IsWithin, IsUndercut, IsToldTime, IsBackFrom, AreWalked, AreReached, ArePendingInside, Grows, IsFollowed, AreFollowed, ArePendingOrFollowed, weight, AreToldLeast};
+ghost use Rattle.footpaths.specs.Search.{time_at, IsWithin, IsUndercut, IsToldTime, IsBackFrom, AreWalked, AreReached, ArePendingInside, Grows, IsFollowed};
+ghost use Rattle.footpaths.specs.Search.{AreFollowed, ArePendingOrFollowed, weight, AreToldLeast};
 
 use crate::index::Index;
 use std::alloc::{AllocError, Global};
@@ -64,9 +65,11 @@ impl Search {
         requires in_table { stop < length self.old.times.items }
         ensures grows { OnOk result (Grows self.old.times.items (heap_items self.old.pending) self.new.times.items (heap_items self.new.pending)) }
         ensures within { OnOk result (IsWithin self.new.times.items stop secs) }
-        ensures walked { (listed : _) (cap target : ℕ) → IsToldTime listed cap stop target secs → AreWalked listed cap target self.old.times.items → OnOk result (AreWalked listed cap target self.new.times.items) }
+        ensures walked { (listed : _) (cap target : ℕ) → IsToldTime listed cap stop target secs → AreWalked listed cap target self.old.times.items
+            → OnOk result (AreWalked listed cap target self.new.times.items) }
         ensures reached { AreReached self.old.times.items self.old.reached.items → OnOk result (AreReached self.new.times.items self.new.reached.items) }
-        ensures falls { (cap : ℕ) → secs ≤ cap → OnOk result (2 * weight cap self.new.times.items + heap_len self.new.pending ≤ 2 * weight cap self.old.times.items + heap_len self.old.pending) }
+        ensures falls { (cap : ℕ) → secs ≤ cap → OnOk result
+            (2 * weight cap self.new.times.items + heap_len self.new.pending ≤ 2 * weight cap self.old.times.items + heap_len self.old.pending) }
     {
         let known = self.times[stop as usize];
         if is_lower(known, secs) {
@@ -83,9 +86,11 @@ impl Search {
         requires new { is_new ≡ is_none (time_at self.old.times.items stop) }
         ensures grows { OnOk result (Grows self.old.times.items (heap_items self.old.pending) self.new.times.items (heap_items self.new.pending)) }
         ensures within { OnOk result (IsWithin self.new.times.items stop secs) }
-        ensures walked { (listed : _) (cap target : ℕ) → IsToldTime listed cap stop target secs → AreWalked listed cap target self.old.times.items → OnOk result (AreWalked listed cap target self.new.times.items) }
+        ensures walked { (listed : _) (cap target : ℕ) → IsToldTime listed cap stop target secs → AreWalked listed cap target self.old.times.items
+            → OnOk result (AreWalked listed cap target self.new.times.items) }
         ensures reached { AreReached self.old.times.items self.old.reached.items → OnOk result (AreReached self.new.times.items self.new.reached.items) }
-        ensures falls { (cap : ℕ) → secs ≤ cap → OnOk result (2 * weight cap self.new.times.items + heap_len self.new.pending ≤ 2 * weight cap self.old.times.items + heap_len self.old.pending) }
+        ensures falls { (cap : ℕ) → secs ≤ cap → OnOk result
+            (2 * weight cap self.new.times.items + heap_len self.new.pending ≤ 2 * weight cap self.old.times.items + heap_len self.old.pending) }
     {
         self.times[stop as usize] = Some(secs);
         self.pending.push(Found {
@@ -104,9 +109,11 @@ impl Search {
         requires in_table { path.from < length self.old.times.items }
         ensures grows { OnOk result (Grows self.old.times.items (heap_items self.old.pending) self.new.times.items (heap_items self.new.pending)) }
         ensures within { OnOk result (IsWithin self.new.times.items path.from (path.secs + secs)) }
-        ensures walked { (listed : _) (target : ℕ) → IsBackFrom listed cap target path secs → AreWalked listed cap target self.old.times.items → OnOk result (AreWalked listed cap target self.new.times.items) }
+        ensures walked { (listed : _) (target : ℕ) → IsBackFrom listed cap target path secs → AreWalked listed cap target self.old.times.items
+            → OnOk result (AreWalked listed cap target self.new.times.items) }
         ensures reached { AreReached self.old.times.items self.old.reached.items → OnOk result (AreReached self.new.times.items self.new.reached.items) }
-        ensures falls { OnOk result (2 * weight cap self.new.times.items + heap_len self.new.pending ≤ 2 * weight cap self.old.times.items + heap_len self.old.pending) }
+        ensures falls { OnOk result (2 * weight cap self.new.times.items + heap_len self.new.pending ≤ 2 * weight cap self.old.times.items + heap_len
+            self.old.pending) }
     {
         self.offer(path.from, path.secs.saturating_add(secs).min(cap))
     }
@@ -116,9 +123,11 @@ impl Search {
         requires in_table { All (λ f. f.from < length self.old.times.items) paths.now }
         ensures grows { OnOk result (Grows self.old.times.items (heap_items self.old.pending) self.new.times.items (heap_items self.new.pending)) }
         ensures within { OnOk result (All (λ f. IsWithin self.new.times.items f.from (f.secs + secs)) paths.now) }
-        ensures walked { (listed : _) (target : ℕ) → All (λ f. IsBackFrom listed cap target f secs) paths.now → AreWalked listed cap target self.old.times.items → OnOk result (AreWalked listed cap target self.new.times.items) }
+        ensures walked { (listed : _) (target : ℕ) → All (λ f. IsBackFrom listed cap target f secs) paths.now
+            → AreWalked listed cap target self.old.times.items → OnOk result (AreWalked listed cap target self.new.times.items) }
         ensures reached { AreReached self.old.times.items self.old.reached.items → OnOk result (AreReached self.new.times.items self.new.reached.items) }
-        ensures falls { OnOk result (2 * weight cap self.new.times.items + heap_len self.new.pending ≤ 2 * weight cap self.old.times.items + heap_len self.old.pending) }
+        ensures falls { OnOk result (2 * weight cap self.new.times.items + heap_len self.new.pending ≤ 2 * weight cap self.old.times.items + heap_len
+            self.old.pending) }
     {
         for path in paths {
             self.step(*path, secs, cap)?;
@@ -131,10 +140,13 @@ impl Search {
         requires over { IsOver (length self.old.times.items) index.now.first.items index.now.paths.items }
         requires in_table { next.stop < length self.old.times.items }
         ensures grows { OnOk result (Grows self.old.times.items (heap_items self.old.pending) self.new.times.items (heap_items self.new.pending)) }
-        ensures followed { (listed : _) → IsIndex listed index.now.first.items index.now.paths.items → time_at self.new.times.items next.stop ≡ Some next.secs.0 → OnOk result (IsFollowed listed self.new.times.items next.stop next.secs.0) }
-        ensures walked { (listed : _) (target : ℕ) → IsIndex listed index.now.first.items index.now.paths.items → AreWalked listed cap target self.old.times.items → OnOk result (AreWalked listed cap target self.new.times.items) }
+        ensures followed { (listed : _) → IsIndex listed index.now.first.items index.now.paths.items
+            → time_at self.new.times.items next.stop ≡ Some next.secs.0 → OnOk result (IsFollowed listed self.new.times.items next.stop next.secs.0) }
+        ensures walked { (listed : _) (target : ℕ) → IsIndex listed index.now.first.items index.now.paths.items
+            → AreWalked listed cap target self.old.times.items → OnOk result (AreWalked listed cap target self.new.times.items) }
         ensures reached { AreReached self.old.times.items self.old.reached.items → OnOk result (AreReached self.new.times.items self.new.reached.items) }
-        ensures falls { OnOk result (2 * weight cap self.new.times.items + heap_len self.new.pending ≤ 2 * weight cap self.old.times.items + heap_len self.old.pending) }
+        ensures falls { OnOk result (2 * weight cap self.new.times.items + heap_len self.new.pending ≤ 2 * weight cap self.old.times.items + heap_len
+            self.old.pending) }
     {
         if self.times[next.stop as usize] == Some(next.secs.0) {
             self.spread(index.into(next.stop), next.secs.0, cap)?;
@@ -148,8 +160,10 @@ impl Search {
         requires inside { ArePendingInside self.old.times.items (heap_items self.old.pending) }
         ensures count { OnOk result (length self.new.times.items ≡ length self.old.times.items) }
         ensures lower { (stop secs : ℕ) → IsWithin self.old.times.items stop secs → OnOk result (IsWithin self.new.times.items stop secs) }
-        ensures followed { (listed : _) → IsIndex listed index.now.first.items index.now.paths.items → ArePendingOrFollowed listed self.old.times.items (heap_items self.old.pending) → OnOk result (AreFollowed listed self.new.times.items) }
-        ensures walked { (listed : _) (target : ℕ) → IsIndex listed index.now.first.items index.now.paths.items → AreWalked listed cap target self.old.times.items → OnOk result (AreWalked listed cap target self.new.times.items) }
+        ensures followed { (listed : _) → IsIndex listed index.now.first.items index.now.paths.items
+            → ArePendingOrFollowed listed self.old.times.items (heap_items self.old.pending) → OnOk result (AreFollowed listed self.new.times.items) }
+        ensures walked { (listed : _) (target : ℕ) → IsIndex listed index.now.first.items index.now.paths.items
+            → AreWalked listed cap target self.old.times.items → OnOk result (AreWalked listed cap target self.new.times.items) }
         ensures reached { AreReached self.old.times.items self.old.reached.items → OnOk result (AreReached self.new.times.items self.new.reached.items) }
         ensures pending { OnOk result (heap_items self.new.pending ≡ []) }
     {
@@ -167,7 +181,8 @@ impl Search {
         requires nothing { self.old.reached.items ≡ [] }
         requires idle { heap_items self.old.pending ≡ [] }
         ensures count { OnOk result (length self.new.times.items ≡ length self.old.times.items) }
-        ensures least { (listed : _) → IsIndex listed index.now.first.items index.now.paths.items → OnOk result (AreToldLeast listed cap target self.new.times.items) }
+        ensures least { (listed : _) → IsIndex listed index.now.first.items index.now.paths.items
+            → OnOk result (AreToldLeast listed cap target self.new.times.items) }
         ensures reached { OnOk result (AreReached self.new.times.items self.new.reached.items) }
         ensures sorted { OnOk result (IsNonDecreasing self.new.reached.items) }
         ensures idle { OnOk result (heap_items self.new.pending ≡ []) }

@@ -1,5 +1,6 @@
 -- The places with a key, found among those that have one.
-use Rattle.std.proofs.Common.{◌≡◌, ℕ, ◌+◌, ◌-◌, ◌<◌, ◌≤◌, inl, inr, List, length, take, drop, ltb, leb, ltb-true, ltb-false, leb-true, leb-false, true, false, Option, Contains, get_or, sym, ap, subst, ◌∙◌, arith}
+use Rattle.std.proofs.Common.{◌≡◌, ℕ, ◌+◌, ◌-◌, ◌<◌, ◌≤◌, inl, inr, List, length, take, drop, ltb, leb, ltb-true, ltb-false, leb-true, leb-false, true, false}
+use Rattle.std.proofs.Common.{Option, Contains, get_or, sym, ap, subst, ◌∙◌, arith}
 use Rattle.std.specs.List.{slice_index, AllWithin}
 use Rattle.std.proofs.lemmas.Bool.{cases_lt}
 use Rattle.std.proofs.lemmas.List.{get_or-take, get_or-drop, length-take, length-drop}

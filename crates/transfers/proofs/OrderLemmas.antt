@@ -102,19 +102,23 @@ before_of : (c d : Claim) → is_lt (cmp-value.it d c) ≡ false → ComesBefore
 before_of c d h0 =
     let rest2 : Ordering = ordering_then (nat_cmp (source_number d.source) (source_number c.source)) (word_cmp d.word c.word) in
     let rest : Ordering = ordering_then (nat_cmp d.from c.from) rest2 in
-    let h : is_lt (ordering_then (nat_cmp d.to c.to) rest) ≡ false = sym (ap (λ (x : Ordering). is_lt x) (cmp_is d.to d.from c.to c.from d.source c.source d.word c.word)) ∙ h0 in
+    let h : is_lt (ordering_then (nat_cmp d.to c.to) rest) ≡ false =
+    sym (ap (λ (x : Ordering). is_lt x) (cmp_is d.to d.from c.to c.from d.source c.source d.word c.word)) ∙ h0 in
     record {
       by_to = first_part d.to c.to rest h;
       by_from = λ to. first_part d.from c.from rest2 (next_part d.to c.to rest (sym to) h);
-      by_source = λ to from. first_part (source_number d.source) (source_number c.source) (word_cmp d.word c.word) (next_part d.from c.from rest2 (sym from) (next_part d.to c.to rest (sym to) h));
-      by_word = λ to from source. word_part c.word d.word (next_part (source_number d.source) (source_number c.source) (word_cmp d.word c.word) (ap (λ (s : Source). source_number s) (sym source))
+      by_source = λ to from. first_part (source_number d.source) (source_number c.source) (word_cmp d.word c.word)
+          (next_part d.from c.from rest2 (sym from) (next_part d.to c.to rest (sym to) h));
+      by_word = λ to from source. word_part c.word d.word (next_part (source_number d.source) (source_number c.source) (word_cmp d.word c.word)
+          (ap (λ (s : Source). source_number s) (sym source))
           (next_part d.from c.from rest2 (sym from) (next_part d.to c.to rest (sym to) h)));
     }
 
 -- claims that were sorted are in order
 pub sorted_claims : (claims : List Claim) → IsSorted cmp-value.it claims → AreSorted claims
 sorted_claims claims up i j c d below at_c at_d =
-    let far = sorted_far (λ (x : Claim) (y : Claim). is_lt (cmp-value.it x y)) (ranks_by total-law (λ (x : Claim). x)) claims up i j c (omega (arith, below)) (slice_get_within claims j d at_d) in
+    let far = sorted_far (λ (x : Claim) (y : Claim). is_lt (cmp-value.it x y)) (ranks_by total-law (λ (x : Claim). x)) claims up i j c (omega (arith, below))
+    (slice_get_within claims j d at_d) in
     let c_is : get_or claims i c ≡ c = get_or_from_slice_get claims i c c at_c in
     let d_is : get_or claims j c ≡ d = get_or_from_slice_get claims j d c at_d in
     before_of c d (ap (λ (x : Claim). is_lt (cmp-value.it d x)) (sym c_is) ∙ ap (λ (x : Claim). is_lt (cmp-value.it x (get_or claims i c))) (sym d_is) ∙ far)

@@ -1,5 +1,6 @@
 -- The footpaths of the first claims on their pairs.
-use Rattle.std.proofs.Common.{◌≡◌, ℕ, zero, suc, ◌+◌, ◌-◌, ◌<◌, ◌≤◌, inl, inr, List, [], ◌∷◌, ◌++◌, length, Some, Contains, get_or, refl, sym, ap, subst, ◌∙◌, arith, append-nil, length-append}
+use Rattle.std.proofs.Common.{◌≡◌, ℕ, zero, suc, ◌+◌, ◌-◌, ◌<◌, ◌≤◌, inl, inr, List, [], ◌∷◌, ◌++◌, length, Some, Contains, get_or, refl, sym, ap, subst, ◌∙◌}
+use Rattle.std.proofs.Common.{arith, append-nil, length-append}
 use Rattle.std.specs.List.{slice_get}
 use Rattle.std.proofs.lemmas.Option.{same_Some, slice_get-get_or, slice_get_within}
 use Rattle.std.proofs.lemmas.Bool.{cases_eq, cases_lt, cases_order}
@@ -39,7 +40,8 @@ get_end [] f = refl
 get_end (x ∷ xs) f = get_end xs f
 
 -- a footpath behind all others
-in_order_push : (paths : List Footpath) (f : Footpath) → AreInOrder paths → ((e : Footpath) → Contains paths e → IsOrderedBefore e f) → AreInOrder (paths ++ f ∷ [])
+in_order_push : (paths : List Footpath) (f : Footpath) → AreInOrder paths → ((e : Footpath) → Contains paths e → IsOrderedBefore e f)
+    → AreInOrder (paths ++ f ∷ [])
 in_order_push paths f in_order after i d e at_d at_e =
     let size : length (paths ++ f ∷ []) ≡ length paths + 1 = length-append paths (f ∷ []) in
     let inside : i + 1 < length paths + 1 = omega (arith, size, slice_get_within (paths ++ f ∷ []) (i + 1) e at_e) in
@@ -55,7 +57,8 @@ in_order_push paths f in_order after i d e at_d at_e =
     ]
 
 -- before the first claim on a pair none stands on it
-pub first_strict : (claims : List Claim) → AreSorted claims → (k place : ℕ) (e c : Claim) → k < place → At claims k e → At claims place c → IsFirstAt claims place → e.to ≡ c.to → e.from ≡ c.from → ⊥
+pub first_strict : (claims : List Claim) → AreSorted claims → (k place : ℕ) (e c : Claim) → k < place → At claims k e → At claims place c
+    → IsFirstAt claims place → e.to ≡ c.to → e.from ≡ c.from → ⊥
 first_strict claims sorted k place e c below at_e at_c first to from =
     let b : Claim = get_or claims (place - 1) c in
     let at_b : At claims (place - 1) b = slice_get-get_or claims (place - 1) c (omega (arith, below, slice_get_within claims place c at_c)) in
@@ -102,7 +105,12 @@ module _ (claims : List Claim) (place : ℕ) (c : Claim) (at : At claims place c
         record {
           has = λ f is_in. elim (Contains-push_cases paths x f is_in) [
             | inl was ↦ weaker f was
-            | inr same ↦ (place, omega arith, subst (λ (f : Footpath). IsPathAt claims place f) same (record { claim = c; at = at; first = first; from_is = refl; to_is = refl; word_is = is }))
+            | inr same ↦ (
+              place,
+              omega arith,
+              subst (λ (f : Footpath). IsPathAt claims place f) same
+                  (record { claim = c; at = at; first = first; from_is = refl; to_is = refl; word_is = is }),
+            )
           ];
           each = λ k f below path. elim (cases_eq k place) [
             | inl same ↦
@@ -110,7 +118,8 @@ module _ (claims : List Claim) (place : ℕ) (c : Claim) (at : At claims place c
                 let from : c.from ≡ f.from = sym (ap (λ (x : Claim). x.from) is_c) ∙ path.from_is in
                 let to : c.to ≡ f.to = sym (ap (λ (x : Claim). x.to) is_c) ∙ path.to_is in
                 let words : Takes secs ≡ Takes f.secs = sym is ∙ sym (ap (λ (x : Claim). x.word) is_c) ∙ path.word_is in
-                subst (λ (g : Footpath). Contains (paths ++ x ∷ []) g) (same_path c.from c.to secs f from to (same_takes secs f.secs words)) (Contains-push paths x)
+                subst (λ (g : Footpath). Contains (paths ++ x ∷ []) g) (same_path c.from c.to secs f from to (same_takes secs f.secs words))
+                (Contains-push paths x)
             | inr differ ↦ Contains-append_left paths (x ∷ []) f (h.each k f (omega (arith, below, differ)) path)
           ];
         }

@@ -1,5 +1,6 @@
 -- What is claimed is of stops that the feed has or its transfers name, and each stop has a loop.
-use Rattle.std.proofs.Common.{◌≡◌, ◌==◌, ℕ, ◌+◌, ◌<◌, ◌≤◌, inl, inr, List, length, take, get_or, All, Bool, true, Option, Some, None, Contains, refl, sym, ap, subst, ◌∙◌, arith}
+use Rattle.std.proofs.Common.{◌≡◌, ◌==◌, ℕ, ◌+◌, ◌<◌, ◌≤◌, inl, inr, List, length, take, get_or, All, Bool, true, Option, Some, None, Contains, refl, sym, ap}
+use Rattle.std.proofs.Common.{subst, ◌∙◌, arith}
 use Rattle.std.specs.List.{slice_get}
 use Rattle.std.proofs.lemmas.Option.{none-some, same_Some, slice_get_within}
 use Rattle.std.proofs.lemmas.Bool.{eqb-true, eq-eqb, lt-ltb, false≢true}
@@ -17,7 +18,8 @@ use Rattle.transfers.specs.declared.claims.Source.TheVariants.{Stops, Station}
 use Rattle.transfers.specs.declared.claims.Word.{Word}
 use Rattle.transfers.specs.declared.claims.Word.TheVariants.{Never, Takes}
 use Rattle.transfers.specs.declared.claims.Claim.{Claim}
-use Rattle.transfers.specs.Listed.{NamesBelow, stands_for, station_of, station_in, is_child, is_of, word_by, word_of, given_or, said_by, default_word, word_between, secs_of, listed_secs}
+use Rattle.transfers.specs.Listed.{NamesBelow, stands_for, station_of, station_in, is_child, is_of, word_by, word_of, given_or, said_by, default_word}
+use Rattle.transfers.specs.Listed.{word_between, secs_of, listed_secs}
 use Rattle.transfers.specs.Claims.{IsClaim}
 use Rattle.transfers.specs.Lookup.{EndsBelow}
 use Rattle.transfers.proofs.ClaimLemmas.{station_is, claim_of}

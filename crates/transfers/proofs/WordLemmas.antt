@@ -1,5 +1,6 @@
 -- What is said of a pair of stops, and the first claim on it.
-use Rattle.std.proofs.Common.{◌≡◌, ◌==◌, ◌&&◌, ℕ, zero, suc, ◌≤◌, ◌⊎◌, inl, inr, nat_lt, List, [], ◌∷◌, length, if◌then◌else◌, Bool, true, false, Option, Some, None, Contains, refl, sym, ap, subst, ◌∙◌, arith}
+use Rattle.std.proofs.Common.{◌≡◌, ◌==◌, ◌&&◌, ℕ, zero, suc, ◌≤◌, ◌⊎◌, inl, inr, nat_lt, List, [], ◌∷◌, length, if◌then◌else◌, Bool, true, false, Option, Some}
+use Rattle.std.proofs.Common.{None, Contains, refl, sym, ap, subst, ◌∙◌, arith}
 use Rattle.std.proofs.lemmas.Option.{same_Some, none-some}
 use Rattle.std.proofs.lemmas.Bool.{false≢true, cases_lt, and_parts, ne_eqb, eq-eqb, lt-ltb, ltb-true, eqb-true, eqb-false}
 use Rattle.timetable.specs.First.{or_else}
@@ -13,7 +14,8 @@ use Rattle.gtfs_tables.specs.declared.tables.Transfer.{Transfer}
 use Rattle.gtfs_tables.specs.declared.tables.Feed.{Feed}
 use Rattle.gtfs_tables.specs.declared.tables.Place.{Place}
 use Rattle.gtfs_tables.specs.declared.tables.Place.TheVariants.{Stop as TheStop, Station as TheStation}
-use Rattle.transfers.specs.Listed.{word_for, least_word, heard, said_by, is_source, source_of, source_by, stands_for, word_of, default_word, is_of, station_of, word_between}
+use Rattle.transfers.specs.Listed.{word_for, least_word, heard, said_by, is_source, source_of, source_by, stands_for, word_of, default_word, is_of, station_of}
+use Rattle.transfers.specs.Listed.{word_between}
 use Rattle.transfers.specs.Claims.{IsHeardBefore, IsRowClaim, IsClaim, source_number}
 use Rattle.transfers.proofs.AddLemmas.{contains_nothing}
 use Rattle.transfers.proofs.ClaimLemmas.{claim_of}
@@ -75,13 +77,15 @@ pub record IsFirstSaid (stops : List Stop) (source : Source) (from to : ℕ) (ro
   pub first : (w v : Word) → result ≡ Some w → IsSaid stops source from to rows v → IsHeardBefore w v
 
 module _ (stops : List Stop) (source : Source) (from to : ℕ) where
-  rest_or_first : (row : Transfer) (rows : List Transfer) (w : Word) → IsSaid stops source from to (row ∷ rows) w → (word_for stops source from to row ≡ Some w) ⊎ IsSaid stops source from to rows w
+  rest_or_first : (row : Transfer) (rows : List Transfer) (w : Word) → IsSaid stops source from to (row ∷ rows) w
+      → (word_for stops source from to row ≡ Some w) ⊎ IsSaid stops source from to rows w
   rest_or_first row rows w (x, is_in, is) = elim (contains_cases x row rows is_in) [
     | inl same ↦ inl (ap (λ (y : Transfer). word_for stops source from to y) same ∙ is)
     | inr rest ↦ inr (x, rest, is)
   ]
 
-  step : (row : Transfer) (rows : List Transfer) (o : Option Word) → word_for stops source from to row ≡ o → (r : Option Word) → IsFirstSaid stops source from to rows r
+  step : (row : Transfer) (rows : List Transfer) (o : Option Word) → word_for stops source from to row ≡ o → (r : Option Word)
+      → IsFirstSaid stops source from to rows r
       → IsFirstSaid stops source from to (row ∷ rows) (heard o r)
   step row rows None e r h = record {
     nothing = λ none w said. elim (rest_or_first row rows w said) [ inl here ↦ none-some w (sym e ∙ here) | inr rest ↦ h.nothing none w rest ];
@@ -146,7 +150,8 @@ is_source_true Default Station e = absurd (false≢true e)
 is_source_true Default Default e = refl
 
 -- a row's claim, from what it says
-pub claim_of_word : (stops : List Stop) (source : Source) (from to : ℕ) (row : Transfer) (w : Word) → word_for stops source from to row ≡ Some w → IsRowClaim stops row (claim_of to from source w)
+pub claim_of_word : (stops : List Stop) (source : Source) (from to : ℕ) (row : Transfer) (w : Word) → word_for stops source from to row ≡ Some w
+    → IsRowClaim stops row (claim_of to from source w)
 claim_of_word stops source from to row w e =
     let p = if_some (is_source (source_of row) source && stands_for stops row.from from && stands_for stops row.to to) (word_of row (from == to)) w e in
     let q = and_parts (is_source (source_of row) source && stands_for stops row.from from) (stands_for stops row.to to) p.0 in
@@ -158,7 +163,8 @@ pub word_of_claim : (stops : List Stop) (row : Transfer) (c : Claim) → IsRowCl
 word_of_claim stops row c h =
     let same : is_source (source_of row) c.source ≡ true = subst (λ (s : Source). is_source s c.source ≡ true) h.source_is (is_source_same c.source) in
     let all : (is_source (source_of row) c.source && stands_for stops row.from c.from && stands_for stops row.to c.to) ≡ true =
-    and_both (is_source (source_of row) c.source && stands_for stops row.from c.from) (stands_for stops row.to c.to) (and_both (is_source (source_of row) c.source) (stands_for stops row.from c.from) same h.from_stands) h.to_stands in
+    and_both (is_source (source_of row) c.source && stands_for stops row.from c.from) (stands_for stops row.to c.to)
+    (and_both (is_source (source_of row) c.source) (stands_for stops row.from c.from) same h.from_stands) h.to_stands in
     ap (λ (b : Bool). if b then word_of row (c.from == c.to) else None) all ∙ h.word_is
 
 -- no row speaks by default
@@ -203,22 +209,32 @@ module _ (feed : Feed) where
   claim_default c (inl (row, is_in, h)) e = absurd (row_source row.from row.to (sym h.source_is ∙ e))
   claim_default c (inr (inl h)) e =
       let differ : (c.from == c.to) ≡ false = ne_eqb c.from c.to h.differ in
-      if_false (c.from == c.to) (if nat_lt c.to (length stops) then Some (Takes 0) else None) (if is_of stops (station_of stops c.to) c.from then Some (Takes 120) else None) differ
+      if_false (c.from == c.to) (if nat_lt c.to (length stops) then Some (Takes 0) else None)
+      (if is_of stops (station_of stops c.to) c.from then Some (Takes 120) else None) differ
       ∙ if_true (is_of stops (station_of stops c.to) c.from) (Some (Takes 120)) None h.siblings ∙ ap (λ (x : Word). Some x) (sym h.word_is)
   claim_default c (inr (inr h)) e =
       let same : (c.from == c.to) ≡ true = eq-eqb c.from c.to h.loop in
-      if_true (c.from == c.to) (if nat_lt c.to (length stops) then Some (Takes 0) else None) (if is_of stops (station_of stops c.to) c.from then Some (Takes 120) else None) same
+      if_true (c.from == c.to) (if nat_lt c.to (length stops) then Some (Takes 0) else None)
+      (if is_of stops (station_of stops c.to) c.from then Some (Takes 120) else None) same
       ∙ if_true (nat_lt c.to (length stops)) (Some (Takes 0)) None (lt-ltb c.to (length stops) h.below) ∙ ap (λ (x : Word). Some x) (sym h.word_is)
 
   -- what holds by default is claimed
   default_claim : (from to : ℕ) (w : Word) → default_word stops from to ≡ Some w → IsClaim stops rows (claim_of to from Default w)
   default_claim from to w e = by (from == to) refl e
     where
-      by : (b : Bool) → (from == to) ≡ b → (if b then (if nat_lt to (length stops) then Some (Takes 0) else None) else (if is_of stops (station_of stops to) from then Some (Takes 120) else None)) ≡ Some w
+      by : (b : Bool) → (from == to) ≡ b
+          → (if b then (if nat_lt to (length stops) then Some (Takes 0) else None) else
+          (if is_of stops (station_of stops to) from then Some (Takes 120) else None)) ≡ Some w
           → IsClaim stops rows (claim_of to from Default w)
       by true same is =
           let p = if_some (nat_lt to (length stops)) (Some (Takes 0)) w is in
-          inr (inr (record { below = ltb-true to (length stops) p.0; loop = eqb-true from to same; source_is = refl; word_is = sym (same_Some (Takes 0) w p.1) }))
+          inr (inr (record {
+            below = ltb-true to (length stops) p.0;
+            loop = eqb-true from to same;
+            source_is = refl;
+            word_is =
+                sym (same_Some (Takes 0) w p.1);
+          }))
       by false differ is =
           let p = if_some (is_of stops (station_of stops to) from) (Some (Takes 120)) w is in
           inr (inl (record { siblings = p.0; differ = eqb-false from to differ; source_is = refl; word_is = sym (same_Some (Takes 120) w p.1) }))
@@ -233,35 +249,51 @@ module _ (feed : Feed) where
   later s t e n is below = let h : source_number s ≡ source_number t = ap (λ (x : Source). source_number x) e in omega (arith, h, is, below)
 
   -- what is said from the source of the claim that is heard first is its word
-  heard_word : (c : Claim) (w : Word) → IsClaim stops rows c → IsHeardFirst feed c → (c.source ≡ Default → ⊥) → said_by stops c.source c.from c.to rows ≡ Some w → w ≡ c.word
+  heard_word : (c : Claim) (w : Word) → IsClaim stops rows c → IsHeardFirst feed c → (c.source ≡ Default → ⊥)
+      → said_by stops c.source c.from c.to rows ≡ Some w → w ≡ c.word
   heard_word c w claim heard_first not_default is =
       let all : IsFirstSaid stops c.source c.from c.to rows (said_by stops c.source c.from c.to rows) = first_said stops c.source c.from c.to rows in
       let there : IsHeardBefore w c.word = all.first w c.word is (claim_said c claim not_default) in
-      let back : IsHeardBefore c.word w = (heard_first (claim_of c.to c.from c.source w) (said_claim c.source c.from c.to w (all.something w is)) refl refl).1 refl in
+      let back : IsHeardBefore c.word w = (heard_first (claim_of c.to c.from c.source w) (said_claim c.source c.from c.to w (all.something w is)) refl refl).1
+      refl in
       heard_both w c.word there back
 
   -- the word of the claim that is heard first is what is said of the pair
   pub word_of_first : (c : Claim) → IsClaim stops rows c → IsHeardFirst feed c → word_between feed c.from c.to ≡ Some c.word
   word_of_first c claim heard_first = by_stops (said_by stops Stops c.from c.to rows) refl
     where
-      by_station : said_by stops Stops c.from c.to rows ≡ None → (t : Option Word) → said_by stops Station c.from c.to rows ≡ t → or_else t (default_word stops c.from c.to) ≡ Some c.word
+      by_station : said_by stops Stops c.from c.to rows ≡ None → (t : Option Word) → said_by stops Station c.from c.to rows ≡ t
+          → or_else t (default_word stops c.from c.to) ≡ Some c.word
       by_station none (Some w) is = elim (source_cases c.source) [
-        | inl e ↦ absurd ((first_said stops Stops c.from c.to rows).nothing none c.word (subst (λ (s : Source). IsSaid stops s c.from c.to rows c.word) e (claim_said c claim (λ d. later c.source Default d 1 refl (subst (λ (s : Source). source_number s ≤ 1) (sym e) (omega arith))))))
-        | inr (inl e) ↦ ap (λ (x : Word). Some x) (heard_word c w claim heard_first (λ d. later c.source Default d 1 refl (subst (λ (s : Source). source_number s ≤ 1) (sym e) (omega arith)))
+        | inl e ↦ absurd ((first_said stops Stops c.from c.to rows).nothing none c.word
+            (subst (λ (s : Source). IsSaid stops s c.from c.to rows c.word) e
+            (claim_said c claim (λ d. later c.source Default d 1 refl (subst (λ (s : Source). source_number s ≤ 1) (sym e) (omega arith))))))
+        | inr (inl e) ↦ ap (λ (x : Word). Some x)
+            (heard_word c w claim heard_first (λ d. later c.source Default d 1 refl (subst (λ (s : Source). source_number s ≤ 1) (sym e) (omega arith)))
             (subst (λ (s : Source). said_by stops s c.from c.to rows ≡ Some w) (sym e) is))
-        | inr (inr e) ↦ absurd (later c.source Default e 1 refl (heard_first (claim_of c.to c.from Station w) (said_claim Station c.from c.to w ((first_said stops Station c.from c.to rows).something w is)) refl refl).0)
+        | inr (inr e) ↦ absurd (later c.source Default e 1 refl
+            (heard_first (claim_of c.to c.from Station w) (said_claim Station c.from c.to w ((first_said stops Station c.from c.to rows).something w is)) refl
+            refl).0)
       ]
       by_station none None is = elim (source_cases c.source) [
-        | inl e ↦ absurd ((first_said stops Stops c.from c.to rows).nothing none c.word (subst (λ (s : Source). IsSaid stops s c.from c.to rows c.word) e (claim_said c claim (λ d. later c.source Default d 1 refl (subst (λ (s : Source). source_number s ≤ 1) (sym e) (omega arith))))))
-        | inr (inl e) ↦ absurd ((first_said stops Station c.from c.to rows).nothing is c.word (subst (λ (s : Source). IsSaid stops s c.from c.to rows c.word) e (claim_said c claim (λ d. later c.source Default d 1 refl (subst (λ (s : Source). source_number s ≤ 1) (sym e) (omega arith))))))
+        | inl e ↦ absurd ((first_said stops Stops c.from c.to rows).nothing none c.word
+            (subst (λ (s : Source). IsSaid stops s c.from c.to rows c.word) e
+            (claim_said c claim (λ d. later c.source Default d 1 refl (subst (λ (s : Source). source_number s ≤ 1) (sym e) (omega arith))))))
+        | inr (inl e) ↦ absurd ((first_said stops Station c.from c.to rows).nothing is c.word
+            (subst (λ (s : Source). IsSaid stops s c.from c.to rows c.word) e
+            (claim_said c claim (λ d. later c.source Default d 1 refl (subst (λ (s : Source). source_number s ≤ 1) (sym e) (omega arith))))))
         | inr (inr e) ↦ claim_default c claim e
       ]
 
-      by_stops : (s : Option Word) → said_by stops Stops c.from c.to rows ≡ s → or_else s (or_else (said_by stops Station c.from c.to rows) (default_word stops c.from c.to)) ≡ Some c.word
+      by_stops : (s : Option Word) → said_by stops Stops c.from c.to rows ≡ s
+          → or_else s (or_else (said_by stops Station c.from c.to rows) (default_word stops c.from c.to)) ≡ Some c.word
       by_stops (Some w) is =
-          let low : source_number c.source ≤ 0 = (heard_first (claim_of c.to c.from Stops w) (said_claim Stops c.from c.to w ((first_said stops Stops c.from c.to rows).something w is)) refl refl).0 in
+          let low : source_number c.source ≤ 0 =
+          (heard_first (claim_of c.to c.from Stops w) (said_claim Stops c.from c.to w ((first_said stops Stops c.from c.to rows).something w is)) refl
+          refl).0 in
           elim (source_cases c.source) [
-            | inl e ↦ ap (λ (x : Word). Some x) (heard_word c w claim heard_first (λ d. later c.source Default d 1 refl (omega (arith, low))) (subst (λ (s : Source). said_by stops s c.from c.to rows ≡ Some w) (sym e) is))
+            | inl e ↦ ap (λ (x : Word). Some x) (heard_word c w claim heard_first (λ d. later c.source Default d 1 refl (omega (arith, low)))
+                (subst (λ (s : Source). said_by stops s c.from c.to rows ≡ Some w) (sym e) is))
             | inr (inl e) ↦ absurd (later c.source Station e 0 refl low)
             | inr (inr e) ↦ absurd (later c.source Default e 1 refl (omega (arith, low)))
           ]
@@ -271,11 +303,13 @@ module _ (feed : Feed) where
   pub claim_between : (from to : ℕ) (w : Word) → word_between feed from to ≡ Some w → (d : Claim) × IsClaim stops rows d × (d.to ≡ to) × (d.from ≡ from)
   claim_between from to w e = by_stops (said_by stops Stops from to rows) refl e
     where
-      by_station : (t : Option Word) → said_by stops Station from to rows ≡ t → or_else t (default_word stops from to) ≡ Some w → (d : Claim) × IsClaim stops rows d × (d.to ≡ to) × (d.from ≡ from)
+      by_station : (t : Option Word) → said_by stops Station from to rows ≡ t → or_else t (default_word stops from to) ≡ Some w → (d : Claim)
+          × IsClaim stops rows d × (d.to ≡ to) × (d.from ≡ from)
       by_station (Some v) is e = (claim_of to from Station v, said_claim Station from to v ((first_said stops Station from to rows).something v is), refl, refl)
       by_station None is e = (claim_of to from Default w, default_claim from to w e, refl, refl)
 
-      by_stops : (s : Option Word) → said_by stops Stops from to rows ≡ s → or_else s (or_else (said_by stops Station from to rows) (default_word stops from to)) ≡ Some w
+      by_stops : (s : Option Word) → said_by stops Stops from to rows ≡ s
+          → or_else s (or_else (said_by stops Station from to rows) (default_word stops from to)) ≡ Some w
           → (d : Claim) × IsClaim stops rows d × (d.to ≡ to) × (d.from ≡ from)
       by_stops (Some v) is e = (claim_of to from Stops v, said_claim Stops from to v ((first_said stops Stops from to rows).something v is), refl, refl)
       by_stops None is e = by_station (said_by stops Station from to rows) refl e

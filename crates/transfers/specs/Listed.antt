@@ -1,5 +1,6 @@
 -- The footpaths that a feed lists. (GTFS Schedule Reference, stops.txt and transfers.txt; the times where none is given are our own.)
-use Rattle.std.specs.Prelude.{◌≡◌, ◌==◌, ◌&&◌, ◌<◌, ◌≤◌, ◌↔◌, ℕ, min, nat_lt, Bool, true, false, if◌then◌else◌, List, [], ◌∷◌, All, length, slice_get, Option, Some, None}
+use Rattle.std.specs.Prelude.{◌≡◌, ◌==◌, ◌&&◌, ◌<◌, ◌≤◌, ◌↔◌, ℕ, min, nat_lt, Bool, true, false, if◌then◌else◌, List, [], ◌∷◌, All, length, slice_get, Option}
+use Rattle.std.specs.Prelude.{Some, None}
 use Rattle.timetable.specs.First.{or_else}
 use Rattle.timetable.specs.Legal.{HasFootpath, AreInOrder}
 use Rattle.timetable.specs.declared.network.Footpath.{Footpath}

@@ -46,7 +46,8 @@ fn add_path(paths: &mut Vec<Footpath>, claim: &Claim) -> Result<(), AllocError>
 fn add_first(paths: &mut Vec<Footpath>, claims: &[Claim], place: usize) -> Result<(), AllocError>
     requires { place < length claims.now }
     ensures paths { ArePathsBelow claims.now place paths.old.items → OnOk result (ArePathsBelow claims.now (place + 1) paths.new.items) }
-    ensures order { AreSorted claims.now → ArePathsBelow claims.now place paths.old.items → AreInOrder paths.old.items → OnOk result (AreInOrder paths.new.items) }
+    ensures order { AreSorted claims.now → ArePathsBelow claims.now place paths.old.items → AreInOrder paths.old.items
+        → OnOk result (AreInOrder paths.new.items) }
 {
     if is_first(claims, place) {
         add_path(paths, &claims[place])?;
@@ -152,7 +153,8 @@ fn paths_below(
 pub fn listed_within(alloc: Global, feed: &Feed, most: usize) -> Result<Vec<Footpath>, ListingFault>
     ensures times { IfOk result (λ v. (from to secs : ℕ) → HasFootpath v.items from to secs ↔ (listed_secs feed.now from to ≡ Some secs)) }
     ensures order { IfOk result (λ v. AreInOrder v.items) }
-    ensures in_range { NamesStops feed.now → IfOk result (λ v. All (λ f. (f.from < length feed.now.stops.items) × (f.to < length feed.now.stops.items)) v.items) }
+    ensures in_range { NamesStops feed.now
+        → IfOk result (λ v. All (λ f. (f.from < length feed.now.stops.items) × (f.to < length feed.now.stops.items)) v.items) }
     ensures loops { IfOk result (λ v. (stop : ℕ) → stop < length feed.now.stops.items → (secs : ℕ) × HasFootpath v.items stop stop secs) }
     ensures few { IfOk result (λ v. length v.items ≤ most) }
     ensures many { IfErr result (λ fault. fault ≡ TooMany → ListsMore feed.now most) }
@@ -169,7 +171,8 @@ pub fn listed_within(alloc: Global, feed: &Feed, most: usize) -> Result<Vec<Foot
 pub fn listed(alloc: Global, feed: &Feed) -> Result<Vec<Footpath>, AllocError>
     ensures times { IfOk result (λ v. (from to secs : ℕ) → HasFootpath v.items from to secs ↔ (listed_secs feed.now from to ≡ Some secs)) }
     ensures order { IfOk result (λ v. AreInOrder v.items) }
-    ensures in_range { NamesStops feed.now → IfOk result (λ v. All (λ f. (f.from < length feed.now.stops.items) × (f.to < length feed.now.stops.items)) v.items) }
+    ensures in_range { NamesStops feed.now
+        → IfOk result (λ v. All (λ f. (f.from < length feed.now.stops.items) × (f.to < length feed.now.stops.items)) v.items) }
     ensures loops { IfOk result (λ v. (stop : ℕ) → stop < length feed.now.stops.items → (secs : ℕ) × HasFootpath v.items stop stop secs) }
 {
     match listed_within(alloc, feed, usize::MAX) {

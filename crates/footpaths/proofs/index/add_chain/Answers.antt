@@ -16,7 +16,8 @@ loop-place-init c = record {
 pub loop-place-smaller : goal.loop-place-smaller
 loop-place-smaller c =
     let below : c.loop-place.place - 1 < length c.args.listed.now = omega (arith, c.loop-place-test.true, c.loop-place.invariant.in_range) in
-    let before = c.requires.before (c.loop-place.place - 1) (get_or c.args.listed.now (c.loop-place.place - 1) no_path) below (slice_get-get_or c.args.listed.now (c.loop-place.place - 1) no_path below) in
+    let before = c.requires.before (c.loop-place.place - 1) (get_or c.args.listed.now (c.loop-place.place - 1) no_path) below
+    (slice_get-get_or c.args.listed.now (c.loop-place.place - 1) no_path below) in
     omega (arith, before.within, c.loop-place-test.true)
 
 pub loop-place-preserved : goal.loop-place-preserved
@@ -25,12 +26,15 @@ loop-place-preserved c =
     let below : c.loop-place.place - 1 < length c.args.listed.now = omega (arith, c.loop-place-test.true, c.loop-place.invariant.in_range) in
     let number : c.loop-place.place ≡ (c.loop-place.place - 1) + 1 = omega (arith, c.loop-place-test.true) in
     let at_path : At c.args.listed.now (c.loop-place.place - 1) path = slice_get-get_or c.args.listed.now (c.loop-place.place - 1) no_path below in
-    let before : IsLastInto c.args.listed.now path.to (c.loop-place.place - 1) (get_or c.args.before.now (c.loop-place.place - 1) 0) = c.requires.before (c.loop-place.place - 1) path below at_path in
+    let before : IsLastInto c.args.listed.now path.to (c.loop-place.place - 1) (get_or c.args.before.now (c.loop-place.place - 1) 0) =
+    c.requires.before (c.loop-place.place - 1) path below at_path in
     record {
       in_range = omega (arith, before.within, below);
       into = λ stop into_stop i f e at. before.into i f e at ∙ c.loop-place.invariant.into stop into_stop (c.loop-place.place - 1) path number at_path;
       adds = λ stop into_stop.
-          subst (λ (xs : List Footpath). AddsThoseFrom c.args.listed.now stop (get_or c.args.before.now (c.loop-place.place - 1) 0) c.args.paths.now.items xs) (sym c.in_ok-push.ensures.items)
-          (adds_more c.args.listed.now c.args.paths.now.items c.loop-place.paths.items stop c.loop-place.place (c.loop-place.place - 1) path at_path number (c.loop-place.invariant.into stop into_stop (c.loop-place.place - 1) path number at_path)
+          subst (λ (xs : List Footpath). AddsThoseFrom c.args.listed.now stop (get_or c.args.before.now (c.loop-place.place - 1) 0) c.args.paths.now.items xs)
+          (sym c.in_ok-push.ensures.items)
+          (adds_more c.args.listed.now c.args.paths.now.items c.loop-place.paths.items stop c.loop-place.place (c.loop-place.place - 1) path at_path number
+          (c.loop-place.invariant.into stop into_stop (c.loop-place.place - 1) path number at_path)
           (get_or c.args.before.now (c.loop-place.place - 1) 0) before (c.loop-place.invariant.adds stop into_stop));
     }

@@ -3,4 +3,5 @@ use Rattle.transfers.specs.Claims.{Adds, ForOneOf, IsNumberedClaim}
 use Rattle.transfers.proofs.claims.claim_rows.Given as goal
 
 abbrev pub invariant-loop-number : goal.invariant-loop-number
-invariant-loop-number l = Adds l.initial.claims.items l.claims.items (ForOneOf (take l.number-index l.numbers) (IsNumberedClaim l.feed.stops.items l.feed.transfers.items l.to))
+invariant-loop-number l = Adds l.initial.claims.items l.claims.items
+    (ForOneOf (take l.number-index l.numbers) (IsNumberedClaim l.feed.stops.items l.feed.transfers.items l.to))

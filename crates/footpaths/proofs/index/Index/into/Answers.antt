@@ -6,7 +6,10 @@ use Rattle.footpaths.proofs.index.Index.into.Goals as goal
 pub returns-clause-those : goal.returns-clause-those
 returns-clause-those c = λ listed index.
     let below : c.args.stop < length c.args.self.now.first.items = omega (arith, c.requires) in
-    let low : c.index.result.now ≡ get_or c.args.self.now.first.items c.args.stop 0 = c.index.ensures ∙ get_or_default c.args.self.now.first.items c.args.stop c.index.result.now 0 below in
-    let high : c.index-2.result.now ≡ get_or c.args.self.now.first.items (c.args.stop + 1) 0 = c.index-2.ensures ∙ get_or_default c.args.self.now.first.items (c.args.stop + 1) c.index-2.result.now 0 c.requires in
-    those_range listed c.args.self.now.paths.items c.deref.result.now c.args.stop c.index.result.now c.index-2.result.now (get_or c.args.self.now.first.items c.args.stop 0) (get_or c.args.self.now.first.items (c.args.stop + 1) 0)
+    let low : c.index.result.now ≡ get_or c.args.self.now.first.items c.args.stop 0 = c.index.ensures
+    ∙ get_or_default c.args.self.now.first.items c.args.stop c.index.result.now 0 below in
+    let high : c.index-2.result.now ≡ get_or c.args.self.now.first.items (c.args.stop + 1) 0 = c.index-2.ensures
+    ∙ get_or_default c.args.self.now.first.items (c.args.stop + 1) c.index-2.result.now 0 c.requires in
+    those_range listed c.args.self.now.paths.items c.deref.result.now c.args.stop c.index.result.now c.index-2.result.now
+    (get_or c.args.self.now.first.items c.args.stop 0) (get_or c.args.self.now.first.items (c.args.stop + 1) 0)
     low high c.deref.ensures.value (index c.args.stop c.requires)

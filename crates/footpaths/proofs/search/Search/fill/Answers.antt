@@ -28,8 +28,10 @@ returns-clause-least c = λ listed index.
 
 pub returns-clause-reached : goal.returns-clause-reached
 returns-clause-reached c =
-    let start : AreReached c.args.self.now.times.items c.args.self.now.reached.items = AreReached-none c.args.self.now.times.items c.args.self.now.reached.items c.requires.nothing c.requires.empty in
-    AreReached-sorted c.settle.new.self.times.items c.settle.new.self.reached.items c.sort_unstable.new.self.items c.sort_unstable.ensures.permutation (c.in_ok-settle.ensures.reached (c.in_ok-spread.ensures.reached start))
+    let start : AreReached c.args.self.now.times.items c.args.self.now.reached.items =
+    AreReached-none c.args.self.now.times.items c.args.self.now.reached.items c.requires.nothing c.requires.empty in
+    AreReached-sorted c.settle.new.self.times.items c.settle.new.self.reached.items c.sort_unstable.new.self.items c.sort_unstable.ensures.permutation
+    (c.in_ok-settle.ensures.reached (c.in_ok-spread.ensures.reached start))
 
 pub returns-clause-sorted : goal.returns-clause-sorted
 returns-clause-sorted c = IsNonDecreasingBy-from_sort (λ (x : ℕ). x) c.sort_unstable.new.self.items c.sort_unstable.ensures.sorted

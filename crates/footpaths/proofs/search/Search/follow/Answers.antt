@@ -6,7 +6,8 @@ use Rattle.footpaths.proofs.search.Search.follow.Goals as goal
 
 pub returns-in_ok-spread-clause-followed : goal.returns-in_ok-spread-clause-followed
 returns-in_ok-spread-clause-followed c = λ listed index now.
-    followed_those listed c.spread.new.self.times.items c.args.next.stop c.args.next.secs.0 c.into.result.now (c.into.ensures.those listed index) c.in_ok-spread.ensures.within
+    followed_those listed c.spread.new.self.times.items c.args.next.stop c.args.next.secs.0 c.into.result.now (c.into.ensures.those listed index)
+    c.in_ok-spread.ensures.within
 
 pub returns-in_ok-spread-clause-walked : goal.returns-in_ok-spread-clause-walked
 returns-in_ok-spread-clause-walked c = λ listed target index old.

@@ -14,9 +14,12 @@ loop-next-preserved c =
     let inside = λ (x : Found). x.stop < length c.loop-next.self.times.items in
     record {
       count = grows.same_length ∙ c.loop-next.invariant.count;
-      inside = grows.inside (All-tail inside c.in-Some.next (heap_items c.pop.new.self) (All-permutation inside (heap_items c.loop-next.self.pending) (c.in-Some.next ∷ heap_items c.pop.new.self) moved c.loop-next.invariant.inside));
+      inside = grows.inside (All-tail inside c.in-Some.next (heap_items c.pop.new.self)
+          (All-permutation inside (heap_items c.loop-next.self.pending) (c.in-Some.next ∷ heap_items c.pop.new.self) moved c.loop-next.invariant.inside));
       lower = λ stop secs within. grows.lower stop secs (c.loop-next.invariant.lower stop secs within);
-      followed = λ listed index old. still_pending_or_followed listed c.loop-next.self.times.items c.follow.new.self.times.items (heap_items c.loop-next.self.pending) (heap_items c.pop.new.self) (heap_items c.follow.new.self.pending) c.in-Some.next moved grows (c.in_ok-follow.ensures.followed listed index) (c.loop-next.invariant.followed listed index old);
+      followed = λ listed index old. still_pending_or_followed listed c.loop-next.self.times.items c.follow.new.self.times.items
+          (heap_items c.loop-next.self.pending) (heap_items c.pop.new.self) (heap_items c.follow.new.self.pending) c.in-Some.next moved grows
+          (c.in_ok-follow.ensures.followed listed index) (c.loop-next.invariant.followed listed index old);
       walked = λ listed target index old. c.in_ok-follow.ensures.walked listed target index (c.loop-next.invariant.walked listed target index old);
       reached = λ old. c.in_ok-follow.ensures.reached (c.loop-next.invariant.reached old);
     }

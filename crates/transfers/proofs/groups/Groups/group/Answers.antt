@@ -10,7 +10,8 @@ low : (c : goal.After-deref-3) → IsBorder c.args.self.now.keys.items c.args.ke
 low c =
     let rising : IsNonDecreasing c.deref.result.now = subst (λ (xs : List ℕ). IsNonDecreasing xs) (sym c.deref.ensures.value) c.args.self.now.rising in
     let parted = IsPartitionedBy-ltb (λ (x : ℕ). x) c.deref.result.now c.args.key rising in
-    let point = IsPartitionPoint-from_clause (λ (x : ℕ). ltb x c.args.key) c.deref.result.now _ c.partition_point-first.ensures.partitioned parted (λ a r q k. search rules) in
+    let point = IsPartitionPoint-from_clause (λ (x : ℕ). ltb x c.args.key) c.deref.result.now _ c.partition_point-first.ensures.partitioned parted
+    (λ a r q k. search rules) in
     subst (λ (xs : List ℕ). IsBorder xs c.args.key c.partition_point-first.result) c.deref.ensures.value
     (border_lt c.deref.result.now c.args.key c.partition_point-first.result c.partition_point-first.ensures.bound point.0 point.1)
 
@@ -18,7 +19,8 @@ high : (c : goal.After-deref-3) → IsBorder c.args.self.now.keys.items (c.args.
 high c =
     let rising : IsNonDecreasing c.deref-2.result.now = subst (λ (xs : List ℕ). IsNonDecreasing xs) (sym c.deref-2.ensures.value) c.args.self.now.rising in
     let parted = IsPartitionedBy-leb (λ (x : ℕ). x) c.deref-2.result.now c.args.key rising in
-    let point = IsPartitionPoint-from_clause (λ (x : ℕ). leb x c.args.key) c.deref-2.result.now _ c.partition_point-end.ensures.partitioned parted (λ a r q k. search rules) in
+    let point = IsPartitionPoint-from_clause (λ (x : ℕ). leb x c.args.key) c.deref-2.result.now _ c.partition_point-end.ensures.partitioned parted
+    (λ a r q k. search rules) in
     subst (λ (xs : List ℕ). IsBorder xs (c.args.key + 1) c.partition_point-end.result) c.deref-2.ensures.value
     (border_le c.deref-2.result.now c.args.key c.partition_point-end.result c.partition_point-end.ensures.bound point.0 point.1)
 
@@ -33,5 +35,7 @@ part-requires c =
 
 pub returns : goal.returns
 returns c = λ all they_are.
-    subst (λ (xs : List ℕ). IsGroup all c.args.key xs) (sym (c.part.ensures ∙ ap (λ (xs : List ℕ). slice_range xs c.partition_point-first.result c.partition_point-end.result) c.deref-3.ensures.value))
-    (between_borders all c.args.self.now.keys.items c.args.self.now.numbers.items c.args.key c.partition_point-first.result c.partition_point-end.result (low c.before) (high c.before) c.args.self.now.same_length they_are)
+    subst (λ (xs : List ℕ). IsGroup all c.args.key xs)
+    (sym (c.part.ensures ∙ ap (λ (xs : List ℕ). slice_range xs c.partition_point-first.result c.partition_point-end.result) c.deref-3.ensures.value))
+    (between_borders all c.args.self.now.keys.items c.args.self.now.numbers.items c.args.key c.partition_point-first.result c.partition_point-end.result
+    (low c.before) (high c.before) c.args.self.now.same_length they_are)

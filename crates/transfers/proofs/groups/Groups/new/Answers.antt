@@ -18,7 +18,8 @@ invariant_of-result c =
     let members : List Member = c.sort_by_key.new.self.items in
     let rises = IsNonDecreasingBy-from_sort_by_key (λ (m : Member). m.key) members c.in_ok-sort_by_key.ensures.sorted (λ a r q k. search rules) in
     record {
-      same_length = ap (λ (xs : List ℕ). length xs) (keys_is c) ∙ length-map members (λ (m : Member). m.key) ∙ sym (length-map members (λ (m : Member). m.number)) ∙ sym (ap (λ (xs : List ℕ). length xs) (numbers_is c));
+      same_length = ap (λ (xs : List ℕ). length xs) (keys_is c) ∙ length-map members (λ (m : Member). m.key)
+          ∙ sym (length-map members (λ (m : Member). m.number)) ∙ sym (ap (λ (xs : List ℕ). length xs) (numbers_is c));
       rising = subst (λ (xs : List ℕ). IsNonDecreasing xs) (sym (keys_is c)) (rising_keys members rises);
     }
 
@@ -27,6 +28,9 @@ returns c =
     let members : List Member = c.sort_by_key.new.self.items in
     let are : AreGroups c.args.keys.now (map (λ (m : Member). m.key) members) (map (λ (m : Member). m.number) members) =
     groups_are c.args.keys.now c.in_ok-members.members.items members c.in_ok-members.ensures c.in_ok-sort_by_key.ensures.permutation in
-    let first : c.in_ok-keys.keys.items ≡ map (λ (m : Member). m.key) members = c.in_ok-keys.ensures ∙ ap (λ (ms : List Member). map (λ (m : Member). m.key) ms) c.deref.ensures.value in
-    let second : c.in_ok-numbers.numbers.items ≡ map (λ (m : Member). m.number) members = c.in_ok-numbers.ensures ∙ ap (λ (ms : List Member). map (λ (m : Member). m.number) ms) c.deref-2.ensures.value in
-    subst (λ (xs : List ℕ). AreGroups c.args.keys.now xs c.in_ok-numbers.numbers.items) (sym first) (subst (λ (xs : List ℕ). AreGroups c.args.keys.now (map (λ (m : Member). m.key) members) xs) (sym second) are)
+    let first : c.in_ok-keys.keys.items ≡ map (λ (m : Member). m.key) members = c.in_ok-keys.ensures
+    ∙ ap (λ (ms : List Member). map (λ (m : Member). m.key) ms) c.deref.ensures.value in
+    let second : c.in_ok-numbers.numbers.items ≡ map (λ (m : Member). m.number) members = c.in_ok-numbers.ensures
+    ∙ ap (λ (ms : List Member). map (λ (m : Member). m.number) ms) c.deref-2.ensures.value in
+    subst (λ (xs : List ℕ). AreGroups c.args.keys.now xs c.in_ok-numbers.numbers.items) (sym first)
+    (subst (λ (xs : List ℕ). AreGroups c.args.keys.now (map (λ (m : Member). m.key) members) xs) (sym second) are)

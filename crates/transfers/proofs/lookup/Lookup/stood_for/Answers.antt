@@ -5,4 +5,5 @@ use Rattle.transfers.proofs.ClaimLemmas.{station_stands}
 use Rattle.transfers.proofs.lookup.Lookup.stood_for.Goals as goal
 
 pub returns-in-Station : goal.returns-in-Station
-returns-in-Station c = λ all rows l. subst (λ (place : Place). AreStoodFor all place c.children_of.result.now) (sym c.in-Station.is) (station_stands all _ c.children_of.result.now (c.children_of.ensures all rows l))
+returns-in-Station c = λ all rows l. subst (λ (place : Place). AreStoodFor all place c.children_of.result.now) (sym c.in-Station.is)
+    (station_stands all _ c.children_of.result.now (c.children_of.ensures all rows l))
