@@ -54,12 +54,25 @@ pub times_told : (named : List ℕ → Option Named) (placed : List ℕ → Opti
     → first_fault_of kinds.StopTimes (stop_time_fault named placed t) t.stop_times.rows.items ≡ r
 times_told named placed t ts r e h = subst (λ (x : List (Option ℕ)). first_fault_of kinds.StopTimes (λ row. linked_fault x (stops_by named t) (is_flex_id t.stop_times.rows.items row.trip) row) t.stop_times.rows.items ≡ r) e h
 
-pub rows_told : (named : List ℕ → Option Named) (placed : List ℕ → Option ℕ) (t : Tables) (ts : List (Option ℕ)) (given turns : List Turn) (rows : List StopTimeRow) → ts ≡ trips_by placed t → given ≡ turns
-    → rows ≡ map (λ turn. linked_row ts (stops_by named t) (is_flex_id t.stop_times.rows.items (row_of t.stop_times.rows.items turn.number).trip) (row_of t.stop_times.rows.items turn.number)) given
+pub rows_told : (named : List ℕ → Option Named) (placed : List ℕ → Option ℕ) (t : Tables) (ts : List (Option ℕ)) (ss : List (Option Named)) (given turns : List Turn)
+    (rows : List StopTimeRow) → ts ≡ trips_by placed t → ss ≡ stops_by named t → given ≡ turns
+    → rows ≡ map (λ turn. linked_row ts ss (is_flex_id t.stop_times.rows.items (row_of t.stop_times.rows.items turn.number).trip)
+        (row_of t.stop_times.rows.items turn.number)) given
     → rows ≡ rows_by named placed t turns
-rows_told named placed t ts given turns rows e f h =
+rows_told named placed t ts ss given turns rows e s f h =
     subst (λ (x : List Turn). rows ≡ rows_by named placed t x) f
-    (subst (λ (x : List (Option ℕ)). rows ≡ map (λ turn. linked_row x (stops_by named t) (is_flex_id t.stop_times.rows.items (row_of t.stop_times.rows.items turn.number).trip) (row_of t.stop_times.rows.items turn.number)) given) e h)
+    (subst (λ (x : List (Option Named)). rows ≡ map (λ turn. linked_row (trips_by placed t) x
+        (is_flex_id t.stop_times.rows.items (row_of t.stop_times.rows.items turn.number).trip) (row_of t.stop_times.rows.items turn.number)) given) s
+    (subst (λ (x : List (Option ℕ)). rows ≡ map (λ turn. linked_row x ss
+        (is_flex_id t.stop_times.rows.items (row_of t.stop_times.rows.items turn.number).trip) (row_of t.stop_times.rows.items turn.number)) given) e h))
+
+-- the marks of flex trips, told of lists that are those of the tables
+pub flex_told : (rows : List StopTimeRow) (ts trips : List (Option ℕ)) (given flex : List Bool) → ts ≡ trips → given ≡ flex
+    → ((id : ℕ) → id < length trips → slice_index_or flex id false ≡ is_flex_id rows id)
+    → (id : ℕ) → id < length ts → slice_index_or given id false ≡ is_flex_id rows id
+flex_told rows ts trips given flex e f marked id lt =
+    let within : id < length trips = subst (λ (x : List (Option ℕ)). id < length x) e lt in
+    ap (λ (x : List Bool). slice_index_or x id false) f ∙ marked id within
 
 pub frequencies_told : (placed : List ℕ → Option ℕ) (given rows : List FrequencyRow) (r : Option TableFault) → given ≡ rows → first_fault_of kinds.Frequencies (frequency_fault placed) given ≡ r → first_fault_of kinds.Frequencies (frequency_fault placed) rows ≡ r
 frequencies_told placed given rows r e h = subst (λ (x : List FrequencyRow). first_fault_of kinds.Frequencies (frequency_fault placed) x ≡ r) e h

@@ -1,6 +1,6 @@
 -- Turns have one order.
-use Rattle.std.proofs.Common.{◌≡◌, ◌∙◌, ℕ, suc, ◌+◌, ◌<◌, ◌≤◌, ◌⊎◌, inl, inr, List, [], ◌∷◌, length, get_or, Bool, true, false, eqb, ltb, if◌then◌else◌, Option, refl, sym, ap, subst, arith}
-use Rattle.std.specs.Prelude.{IsPermutation, IsSortedBy}
+use Rattle.std.proofs.Common.{◌≡◌, ◌∙◌, ℕ, suc, ◌+◌, ◌<◌, ◌≤◌, ◌⊎◌, inl, inr, List, [], ◌∷◌, get_or, true, false, eqb, ltb, if◌then◌else◌, Option, refl, sym, ap, subst, arith}
+use Rattle.std.specs.Prelude.{IsSortedBy}
 use Rattle.std.specs.List.{sum_by}
 use Rattle.std.proofs.lemmas.Bool.{cases_Bool, cases_order, eq-eqb, le-ltb, lt-ltb, ltb-false, ne_eqb, false≢true}
 use Rattle.std.proofs.lemmas.List.Sums.{sum_by-cons}

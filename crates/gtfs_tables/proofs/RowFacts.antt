@@ -1,16 +1,17 @@
 -- The rows of the tables, a row on.
-use Rattle.std.proofs.Common.{◌≡◌, ℕ, ◌+◌, ◌<◌, ◌≤◌, List, [], ◌∷◌, ◌++◌, length, get_or, get_or-set_other, map, set, take, Bool, true, false, eqb, ◌||◌, Option, Some, None, refl, ◌∙◌, sym, arith, inl, inr, ◌⊎◌}
+use Rattle.std.proofs.Common.{◌≡◌, ℕ, zero, suc, ap, subst, ◌+◌, ◌-◌, ◌<◌, ◌≤◌, List, [], ◌∷◌, ◌++◌, length, get_or, get_or-set_other, map, set, take, Bool, true, false, eqb, ◌||◌, Option, Some, None, refl, ◌∙◌, sym, arith, inl, inr, ◌⊎◌}
 use Rattle.std.specs.Prelude.{filter, is_some, option_to_list, IfSome}
 use Rattle.std.specs.List.{AllZip}
 use Rattle.std.specs.String.{string_bytes}
 use Rattle.std.proofs.lemmas.Bool.{cases_eq, cases_lt, eq-eqb, ne_eqb, or_right}
 use Rattle.std.proofs.lemmas.Grind.{get_or-set_at}
 use Rattle.std.proofs.lemmas.List.Folds.{list_any_more}
-use Rattle.std.proofs.lemmas.List.{append-nil, get_or_past, map_more}
+use Rattle.std.proofs.lemmas.List.{append-nil, append_assoc, get_or_at, get_or_past, length-append, map_more}
 use Rattle.std.proofs.lemmas.List.Elements.{filter_more}
 use Rattle.gtfs_rows.specs.declared.rows.FrequencyRow.{FrequencyRow}
 use Rattle.gtfs_rows.specs.declared.rows.StopTimeRow.{StopTimeRow}
 use Rattle.gtfs_rows.specs.declared.rows.TransferRow.{TransferRow}
+use Rattle.gtfs_tables.specs.Order.{no_row, numbers_from, row_of}
 use Rattle.gtfs_tables.specs.Rows.{IsTransferOf, ends_fault, is_flex_id, is_kept, is_place, is_repeated, linked_fault, linked_row, transfer_fault}
 use Rattle.gtfs_tables.specs.declared.names.Named.{Named}
 use Rattle.gtfs_tables.specs.declared.order.Turn.{Turn}
@@ -93,6 +94,48 @@ mapped_more f xs i d ys y lt e here = rw (e, here) (sym (map_more f xs i d lt))
 
 abbrev pub no_turn : Turn
 no_turn = record { trip = 0; sequence = 0; number = 0 }
+
+-- where the turns are those of the records as they are filed, what is made of each turn's row is what is made of each row
+read_behind : (before rows : List StopTimeRow) (row : StopTimeRow) → row_of (before ++ row ∷ rows) (length before + 1) ≡ row
+read_behind before rows row =
+    let behind : length before + 1 - 1 ≡ length before = omega arith in
+    ap (λ (k : ℕ). get_or (before ++ row ∷ rows) k no_row) behind ∙ get_or_at before row rows no_row (length before) refl
+
+filed : {A : Type 0} (f : StopTimeRow → A) (before rows : List StopTimeRow) (turns : List Turn)
+    → map (λ turn. turn.number) turns ≡ numbers_from (length before + 1) (length rows) → map (λ turn. f (row_of (before ++ rows) turn.number)) turns ≡ map f rows
+filed f before [] [] e = refl
+filed f before [] (turn ∷ turns) e = cc
+filed f before (row ∷ rows) [] e = cc
+filed f before (row ∷ rows) (turn ∷ turns) e =
+    let number : turn.number ≡ length before + 1 = cc in
+    let rest : map (λ turn. turn.number) turns ≡ numbers_from (length before + 1 + 1) (length rows) = cc in
+    let longer : length (before ++ row ∷ []) ≡ length before + 1 = length-append before (row ∷ []) in
+    let again : before ++ row ∷ [] ++ rows ≡ before ++ row ∷ rows = append_assoc before (row ∷ []) rows in
+    let here : f (row_of (before ++ row ∷ rows) turn.number) ≡ f row = ap f (ap (row_of (before ++ row ∷ rows)) number ∙ read_behind before rows row) in
+    let others : map (λ turn. f (row_of (before ++ row ∷ [] ++ rows) turn.number)) turns ≡ map f rows =
+        filed f (before ++ row ∷ []) rows turns (rest ∙ ap (λ n. numbers_from (n + 1) (length rows)) (sym longer)) in
+    let same : map (λ turn. f (row_of (before ++ row ∷ rows) turn.number)) turns ≡ map f rows =
+        subst (λ (all : List StopTimeRow). map (λ turn. f (row_of all turn.number)) turns ≡ map f rows) again others in
+    ap (λ x. x ∷ map (λ turn. f (row_of (before ++ row ∷ rows) turn.number)) turns) here ∙ ap (λ xs. f row ∷ xs) same
+
+pub filed_rows : {A : Type 0} (f : StopTimeRow → A) (rows : List StopTimeRow) (turns : List Turn) → length turns ≡ length rows
+    → map (λ turn. turn.number) turns ≡ numbers_from 1 (length turns) → map (λ turn. f (row_of rows turn.number)) turns ≡ map f rows
+filed_rows f rows turns len e = filed f [] rows turns (e ∙ ap (numbers_from 1) len)
+
+-- the numbers from a number on, one more
+numbers-next : (first n : ℕ) → numbers_from first (suc n) ≡ numbers_from first n ++ (first + n) ∷ []
+numbers-next first zero = ap (λ (n : ℕ). n ∷ []) (omega arith)
+numbers-next first (suc n) =
+    let last : first + 1 + n ≡ first + suc n = omega arith in
+    ap (λ ns. first ∷ ns) (numbers-next (first + 1) n ∙ ap (λ (n' : ℕ). numbers_from (first + 1) n ++ n' ∷ []) last)
+
+pub filed_more : (turns : List Turn) (i : ℕ) → i < length turns → (get_or turns i no_turn).number ≡ i + 1 → map (λ turn. turn.number) (take i turns) ≡ numbers_from 1 i
+    → map (λ turn. turn.number) (take (i + 1) turns) ≡ numbers_from 1 (i + 1)
+filed_more turns i lt number before =
+    let next : suc i ≡ i + 1 = omega arith in
+    let last : i + 1 ≡ 1 + i = omega arith in
+    map_more (λ (turn : Turn). turn.number) turns i no_turn lt ∙ ap (λ ns. ns ++ (get_or turns i no_turn).number ∷ []) before
+    ∙ ap (λ (n : ℕ). numbers_from 1 i ++ n ∷ []) (number ∙ last) ∙ sym (numbers-next 1 i) ∙ ap (numbers_from 1) next
 
 pub kept_next : (named : List ℕ → Option Named) (rows : List TransferRow) (i : ℕ) (row : TransferRow) (kept new : List Transfer) (found : Option Transfer) → i < length rows → row ≡ get_or rows i row
     → is_some found ≡ is_kept row → IfSome found (IsTransferOf named row) → new ≡ kept ++ option_to_list found → AllZip (IsTransferOf named) (filter is_kept (take i rows)) kept

@@ -116,7 +116,9 @@ pub record IsLinked (named : List ℕ → Option Named) (placed : List ℕ → O
   pub in_order : IsInOrder (trips_by placed t) t.stop_times.rows.items links.turns.items
   pub fine : naming_fault named placed t ≡ None
   pub stations : links.stations.items ≡ map (station_of named) t.stops.items
-  pub stop_times : links.stop_times.items ≡ rows_by named placed t links.turns.items
+  pub trips : links.names.trips.items ≡ trips_by placed t
+  pub stops : links.names.stops.items ≡ stops_by named t
+  pub flex : (id : ℕ) → id < length (trips_by placed t) → slice_index_or links.names.flex.items id false ≡ is_flex_id t.stop_times.rows.items id
   pub repeats : (i : ℕ) → i < length t.trips.items → slice_index_or links.repeats.items i false ≡ is_repeated placed t.frequencies.items i
   pub frequencies : links.frequencies.items ≡ map (frequency_of placed) t.frequencies.items
   pub transfers_fine : IfOk links.transfers (λ kept. first_fault_of tables.Transfers (transfer_fault named) t.transfers.items ≡ None)

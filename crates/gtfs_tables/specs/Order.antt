@@ -1,5 +1,5 @@
 -- The order of the rows of stop_times.txt.
-use Rattle.std.specs.Prelude.{◌==◌, ◌+◌, ◌-◌, ℕ, List, [], ◌∷◌, count_by, nat_lt, Option, None, Bool, false, if◌then◌else◌, unwrap_or, IsPermutation, IsSortedBy}
+use Rattle.std.specs.Prelude.{◌==◌, ◌+◌, ◌-◌, ℕ, zero, suc, List, [], ◌∷◌, count_by, nat_lt, Option, None, Bool, false, if◌then◌else◌, unwrap_or, IsPermutation, IsSortedBy}
 use Rattle.std.specs.List.{slice_index_or, slice_range}
 use Rattle.gtfs_rows.specs.declared.rows.StopTimeRow.{StopTimeRow}
 use Rattle.gtfs_tables.specs.Names.{named_at}
@@ -39,3 +39,8 @@ no_row = record { trip = 0; arrival = None; departure = None; stop = None; seque
 -- the row of a record's number
 abbrev pub row_of : List StopTimeRow → ℕ → StopTimeRow
 row_of rows number = slice_index_or rows (number - 1) no_row
+
+-- so many numbers, one after the other
+abbrev pub numbers_from : ℕ → ℕ → List ℕ
+numbers_from first zero = []
+numbers_from first (suc n) = first ∷ numbers_from (first + 1) n

@@ -29,7 +29,7 @@ use std::alloc::{AllocError, Global};
 struct Links {
     turns: Vec<Turn>,
     stations: Vec<Option<u32>>,
-    stop_times: Vec<StopTimeRow>,
+    names: RowNames,
     repeats: Vec<bool>,
     frequencies: Vec<Frequency>,
     transfers: Result<Vec<Transfer>, TableFault>,
@@ -52,6 +52,14 @@ pub fn join(alloc: Global, tables: Tables, strict: bool) -> Result<Feed, TableFa
         Ok(links) => feed_of(alloc, tables, links, strict),
         Err(fault) => Err(fault),
     }
+}
+
+// What the ids of stop_times.txt name: its trip_ids and its stop_ids, and which of the trip_ids have a row without a stop.
+#[derive(Drop)]
+struct RowNames {
+    trips: Vec<Option<u32>>,
+    stops: Vec<Option<Named>>,
+    flex: Vec<bool>,
 }
 
 // The links of the tables, or the first of their ids that names nothing.
@@ -92,8 +100,8 @@ fn link_by(
         Ok(stations) => stations,
         Err(fault) => return Err(fault),
     };
-    let stop_times = match linked_times(alloc, &tables.stop_times, names, &turns, &trips) {
-        Ok(stop_times) => stop_times,
+    let (stops, flex) = match judged_times(alloc, &tables.stop_times, names, &trips) {
+        Ok(judged) => judged,
         Err(fault) => return Err(fault),
     };
     let repeats = match repeating(alloc, &tables.frequencies, places, tables.trips.len()) {
@@ -107,24 +115,31 @@ fn link_by(
     Ok(Links {
         turns,
         stations,
-        stop_times,
+        names: RowNames { trips, stops, flex },
         repeats,
         frequencies,
         transfers,
     })
 }
 
-// The rows of stop_times.txt by their turns, or the first whose trip or stop is wrong.
-fn linked_times(
+// What the stop_ids of stop_times.txt name, and which of its trip_ids have a row without a stop, or the first row whose
+// trip or stop is wrong.
+fn judged_times(
     alloc: Global,
     stop_times: &StopTimes,
     names: &IndexMap<&str, Named>,
-    turns: &[Turn],
     trips: &[Option<u32>],
-) -> Result<Vec<StopTimeRow>, TableFault>
-    ensures fine { IfOk result (λ ordered. first_fault_of Table.StopTimes (λ row. linked_fault trips.now (map (λ id. held_at names.now (string_bytes id)) stop_times.now.stops.keys) (is_flex_id stop_times.now.rows.items row.trip) row) stop_times.now.rows.items ≡ None) }
-    ensures ok { IfOk result (λ ordered. ordered.items ≡ map (λ turn. let row = row_of stop_times.now.rows.items turn.number in linked_row trips.now (map (λ id. held_at names.now (string_bytes id)) stop_times.now.stops.keys) (is_flex_id stop_times.now.rows.items row.trip) row) turns.now) }
-    ensures err { IfErr result (λ fault. fault.kind ≢ FaultKind.OutOfMemory → first_fault_of Table.StopTimes (λ row. linked_fault trips.now (map (λ id. held_at names.now (string_bytes id)) stop_times.now.stops.keys) (is_flex_id stop_times.now.rows.items row.trip) row) stop_times.now.rows.items ≡ Some fault) }
+) -> Result<(Vec<Option<Named>>, Vec<bool>), TableFault>
+    ensures fine { IfOk result (λ judged. first_fault_of Table.StopTimes (λ row. linked_fault trips.now
+        (map (λ id. held_at names.now (string_bytes id)) stop_times.now.stops.keys)
+        (is_flex_id stop_times.now.rows.items row.trip) row) stop_times.now.rows.items ≡ None) }
+    ensures stops { IfOk result (λ judged. judged.0.items ≡ map (λ id. held_at names.now (string_bytes id)) stop_times.now.stops.keys) }
+    ensures flex { IfOk result (λ judged. (id : ℕ) → id < length trips.now
+        → slice_index_or judged.1.items id false ≡ is_flex_id stop_times.now.rows.items id) }
+    ensures err { IfErr result (λ fault. fault.kind ≢ FaultKind.OutOfMemory
+        → first_fault_of Table.StopTimes (λ row. linked_fault trips.now
+        (map (λ id. held_at names.now (string_bytes id)) stop_times.now.stops.keys)
+        (is_flex_id stop_times.now.rows.items row.trip) row) stop_times.now.rows.items ≡ Some fault) }
 {
     let Ok(stops) = named_each(alloc, &stop_times.stops, names) else {
         return Err(out_of_memory());
@@ -133,12 +148,8 @@ fn linked_times(
         return Err(out_of_memory());
     };
     match judge_rows(&stop_times.rows, trips, &stops, &flex) {
-        Ok(()) => {}
-        Err(fault) => return Err(fault),
-    }
-    match linked_rows(alloc, &stop_times.rows, turns, trips, &stops, &flex) {
-        Ok(ordered) => Ok(ordered),
-        Err(_) => Err(out_of_memory()),
+        Ok(()) => Ok((stops, flex)),
+        Err(fault) => Err(fault),
     }
 }
 
@@ -152,20 +163,26 @@ fn feed_of(alloc: Global, tables: Tables, links: Links, strict: bool) -> Result<
     let Tables {
         stops,
         trips,
+        stop_times,
         transfers,
         calendar,
         calendar_dates,
         ..
     } = tables;
+    let StopTimes { rows, .. } = stop_times;
     let Links {
         turns,
         stations,
-        stop_times,
+        names,
         repeats,
         frequencies,
         transfers: kept,
     } = links;
     let skipped = skipped_in(&transfers);
+    let Ok(stop_times) = linked_rows(alloc, rows, &turns, &names.trips, &names.stops, &names.flex)
+    else {
+        return Err(out_of_memory());
+    };
     let trips = match timed_trips(alloc, trips, &stop_times, &turns, &repeats, strict) {
         Ok(trips) => trips,
         Err(fault) => return Err(fault),

@@ -4,7 +4,7 @@ ghost use Rattle.std.specs.Prelude.{◌≡◌, ◌≢◌, ◌<◌, ℕ, length, 
 ghost use Rattle.std.specs.List.{AllZip};
 ghost use Rattle.gtfs_tables.specs.First.{fault_at as fault_of, first_fault_of};
 ghost use Rattle.gtfs_tables.specs.Names.{held_at, named_at};
-ghost use Rattle.gtfs_tables.specs.Order.{row_of};
+ghost use Rattle.gtfs_tables.specs.Order.{numbers_from, row_of};
 ghost use Rattle.gtfs_tables.specs.Rows.{IsTransferOf, ends_fault, end_fault, frequency_fault, frequency_of, is_flex_id, is_kept, is_repeated, linked_fault, linked_row, named_by, parent_fault, station_of, stop_fault, stop_number, stop_of, transfer_fault};
 
 use crate::names::Named;
@@ -196,8 +196,69 @@ fn linked(
     }
 }
 
-// The rows by their turns, each with its trip's place and its stop's number.
+// The rows by their turns, each with its trip's place and its stop's number. Rows that are in order already stay where
+// they are.
 pub(crate) fn linked_rows(
+    alloc: Global,
+    rows: Vec<StopTimeRow>,
+    turns: &[Turn],
+    trips: &[Option<u32>],
+    stops: &[Option<Named>],
+    flex: &[bool],
+) -> Result<Vec<StopTimeRow>, AllocError>
+    requires { (id : ℕ) → id < length trips.now → slice_index_or flex.now id false ≡ is_flex_id rows.items id }
+    ensures { IfOk result (λ ordered. ordered.items ≡ map (λ turn. let row = row_of rows.items turn.number in
+        linked_row trips.now stops.now (is_flex_id rows.items row.trip) row) turns.now) }
+{
+    if turns.len() == rows.len() && are_as_filed(turns) {
+        return Ok(linked_in_place(rows, trips, stops, flex));
+    }
+    linked_by_turns(alloc, &rows, turns, trips, stops, flex)
+}
+
+// Whether the turns are those of the records in the order of the file.
+fn are_as_filed(turns: &[Turn]) -> bool
+    ensures { result ≡ true → map (λ turn. turn.number) turns.now ≡ numbers_from 1 (length turns.now) }
+{
+    for at in 0..turns.len() {
+        if turns[at].number != at as u64 + 1 {
+            return false;
+        }
+    }
+    true
+}
+
+// The rows, each with its trip's place and its stop's number.
+fn linked_in_place(
+    mut rows: Vec<StopTimeRow>,
+    trips: &[Option<u32>],
+    stops: &[Option<Named>],
+    flex: &[bool],
+) -> Vec<StopTimeRow>
+    requires { (id : ℕ) → id < length trips.now → slice_index_or flex.now id false ≡ is_flex_id rows.items id }
+    ensures { result.items ≡ map (λ row. linked_row trips.now stops.now (is_flex_id rows.items row.trip) row) rows.items }
+{
+    for at in 0..rows.len() {
+        let row = rows[at];
+        rows[at] = linked_marked(&row, trips, stops, flex);
+    }
+    rows
+}
+
+// A row with its trip's place and its stop's number, where flex trips are marked.
+fn linked_marked(
+    row: &StopTimeRow,
+    trips: &[Option<u32>],
+    stops: &[Option<Named>],
+    flex: &[bool],
+) -> StopTimeRow
+    ensures { result ≡ linked_row trips.now stops.now (slice_index_or flex.now row.now.trip false) row.now }
+{
+    linked(row, trips, stops, flex_at(flex, row.trip as usize))
+}
+
+// The rows by their turns in a list of their own.
+fn linked_by_turns(
     alloc: Global,
     rows: &[StopTimeRow],
     turns: &[Turn],
@@ -206,7 +267,8 @@ pub(crate) fn linked_rows(
     flex: &[bool],
 ) -> Result<Vec<StopTimeRow>, AllocError>
     requires { (id : ℕ) → id < length trips.now → slice_index_or flex.now id false ≡ is_flex_id rows.now id }
-    ensures { IfOk result (λ ordered. ordered.items ≡ map (λ turn. let row = row_of rows.now turn.number in linked_row trips.now stops.now (is_flex_id rows.now row.trip) row) turns.now) }
+    ensures { IfOk result (λ ordered. ordered.items ≡ map (λ turn. let row = row_of rows.now turn.number in
+        linked_row trips.now stops.now (is_flex_id rows.now row.trip) row) turns.now) }
 {
     let mut ordered = Vec::with_capacity(alloc, turns.len())?;
     for turn in turns {

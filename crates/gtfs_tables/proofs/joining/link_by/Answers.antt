@@ -1,15 +1,15 @@
-use Rattle.std.proofs.Common.{◌≡◌, ◌∙◌, List, None, Some, ap, arith, map, subst}
+use Rattle.std.proofs.Common.{◌≡◌, ◌∙◌, List, None, Some, ap, arith, map, refl, subst, sym}
 use Rattle.std.specs.Prelude.{IfErr, IfOk, ◌≢◌, filter}
 use Rattle.std.specs.List.{AllZip}
 use Rattle.std.specs.Option.{option_or}
 use Rattle.gtfs_rows.specs.declared.fault.FaultKind.TheVariants.{OutOfMemory}
 use Rattle.gtfs_rows.specs.declared.fault.Table.TheVariants as kinds
 use Rattle.gtfs_rows.specs.declared.rows.TransferRow.{TransferRow}
-use Rattle.gtfs_tables.specs.Feeds.{stop_time_fault}
+use Rattle.gtfs_tables.specs.Feeds.{stop_time_fault, trips_by}
 use Rattle.gtfs_tables.specs.First.{first_fault_of}
 use Rattle.gtfs_tables.specs.Names.{held_at}
 use Rattle.gtfs_tables.specs.Rows.{IsTransferOf, frequency_fault, frequency_of, is_kept, is_repeated, parent_fault, station_of, transfer_fault}
-use Rattle.gtfs_tables.proofs.JoinFacts.{frequencies_told, of_none, of_one, of_three, of_two, order_told, rows_told, stops_told, times_told}
+use Rattle.gtfs_tables.proofs.JoinFacts.{frequencies_told, of_none, of_one, of_three, of_two, flex_told, order_told, stops_told, times_told}
 use Rattle.gtfs_tables.proofs.joining.link_by.Goals as goal
 
 pub returns-in_default-clause-err : goal.returns-in_default-clause-err
@@ -25,18 +25,18 @@ returns-in-Err-clause-err c = λ other. record {
   first = of_one (first_fault_of kinds.Stops (parent_fault (held_at c.args.names.now)) c.args.tables.now.stops.items) (option_or (first_fault_of kinds.StopTimes (stop_time_fault (held_at c.args.names.now) (held_at c.args.places.now) c.args.tables.now) c.args.tables.now.stop_times.rows.items) (first_fault_of kinds.Frequencies (frequency_fault (held_at c.args.places.now)) c.args.tables.now.frequencies.items)) c.in-Err.fault (stops_told (held_at c.args.names.now) c.deref-3.result.now c.args.tables.now.stops.items (Some c.in-Err.fault) c.deref-3.ensures.value (c.in-Err.ensures.err other));
 }
 
-pub returns-in-Err-linked_times-clause-err : goal.returns-in-Err-linked_times-clause-err
-returns-in-Err-linked_times-clause-err c = λ other. record {
+pub returns-in-Err-judged_times-clause-err : goal.returns-in-Err-judged_times-clause-err
+returns-in-Err-judged_times-clause-err c = λ other. record {
   turns = c.in-Ok-turns_in_order.turns.items;
   in_order = order_told (held_at c.args.places.now) c.args.tables.now c.deref.result.now c.deref-2.result.now c.in-Ok-turns_in_order.turns.items c.deref.ensures.value (c.deref-2.ensures.value ∙ c.in-Ok.ensures) c.in-Ok-turns_in_order.ensures;
-  first = of_two (first_fault_of kinds.Stops (parent_fault (held_at c.args.names.now)) c.args.tables.now.stops.items) (first_fault_of kinds.StopTimes (stop_time_fault (held_at c.args.names.now) (held_at c.args.places.now) c.args.tables.now) c.args.tables.now.stop_times.rows.items) (first_fault_of kinds.Frequencies (frequency_fault (held_at c.args.places.now)) c.args.tables.now.frequencies.items) c.in-Err-linked_times.fault (stops_told (held_at c.args.names.now) c.deref-3.result.now c.args.tables.now.stops.items None c.deref-3.ensures.value c.in-Ok-stations.ensures.fine) (times_told (held_at c.args.names.now) (held_at c.args.places.now) c.args.tables.now c.deref-5.result.now (Some c.in-Err-linked_times.fault) (c.deref-5.ensures.value ∙ c.in-Ok.ensures) (c.in-Err-linked_times.ensures.err other));
+  first = of_two (first_fault_of kinds.Stops (parent_fault (held_at c.args.names.now)) c.args.tables.now.stops.items) (first_fault_of kinds.StopTimes (stop_time_fault (held_at c.args.names.now) (held_at c.args.places.now) c.args.tables.now) c.args.tables.now.stop_times.rows.items) (first_fault_of kinds.Frequencies (frequency_fault (held_at c.args.places.now)) c.args.tables.now.frequencies.items) c.in-Err-judged_times.fault (stops_told (held_at c.args.names.now) c.deref-3.result.now c.args.tables.now.stops.items None c.deref-3.ensures.value c.in-Ok-stations.ensures.fine) (times_told (held_at c.args.names.now) (held_at c.args.places.now) c.args.tables.now c.deref-4.result.now (Some c.in-Err-judged_times.fault) (c.deref-4.ensures.value ∙ c.in-Ok.ensures) (c.in-Err-judged_times.ensures.err other));
 }
 
 pub returns-in-Err-repeating-clause-err : goal.returns-in-Err-repeating-clause-err
 returns-in-Err-repeating-clause-err c = λ other. record {
   turns = c.in-Ok-turns_in_order.turns.items;
   in_order = order_told (held_at c.args.places.now) c.args.tables.now c.deref.result.now c.deref-2.result.now c.in-Ok-turns_in_order.turns.items c.deref.ensures.value (c.deref-2.ensures.value ∙ c.in-Ok.ensures) c.in-Ok-turns_in_order.ensures;
-  first = of_three (first_fault_of kinds.Stops (parent_fault (held_at c.args.names.now)) c.args.tables.now.stops.items) (first_fault_of kinds.StopTimes (stop_time_fault (held_at c.args.names.now) (held_at c.args.places.now) c.args.tables.now) c.args.tables.now.stop_times.rows.items) (first_fault_of kinds.Frequencies (frequency_fault (held_at c.args.places.now)) c.args.tables.now.frequencies.items) c.in-Err-repeating.fault (stops_told (held_at c.args.names.now) c.deref-3.result.now c.args.tables.now.stops.items None c.deref-3.ensures.value c.in-Ok-stations.ensures.fine) (times_told (held_at c.args.names.now) (held_at c.args.places.now) c.args.tables.now c.deref-5.result.now None (c.deref-5.ensures.value ∙ c.in-Ok.ensures) c.in-Ok-linked_times.ensures.fine) (frequencies_told (held_at c.args.places.now) c.deref-6.result.now c.args.tables.now.frequencies.items (Some c.in-Err-repeating.fault) c.deref-6.ensures.value (c.in-Err-repeating.ensures.err other));
+  first = of_three (first_fault_of kinds.Stops (parent_fault (held_at c.args.names.now)) c.args.tables.now.stops.items) (first_fault_of kinds.StopTimes (stop_time_fault (held_at c.args.names.now) (held_at c.args.places.now) c.args.tables.now) c.args.tables.now.stop_times.rows.items) (first_fault_of kinds.Frequencies (frequency_fault (held_at c.args.places.now)) c.args.tables.now.frequencies.items) c.in-Err-repeating.fault (stops_told (held_at c.args.names.now) c.deref-3.result.now c.args.tables.now.stops.items None c.deref-3.ensures.value c.in-Ok-stations.ensures.fine) (times_told (held_at c.args.names.now) (held_at c.args.places.now) c.args.tables.now c.deref-4.result.now None (c.deref-4.ensures.value ∙ c.in-Ok.ensures) c.in-Ok-judged_times.ensures.fine) (frequencies_told (held_at c.args.places.now) c.deref-5.result.now c.args.tables.now.frequencies.items (Some c.in-Err-repeating.fault) c.deref-5.ensures.value (c.in-Err-repeating.ensures.err other));
 }
 
 pub returns-in_default-linked_frequencies-clause-err : goal.returns-in_default-linked_frequencies-clause-err
@@ -45,12 +45,16 @@ returns-in_default-linked_frequencies-clause-err c = λ other. absurd (other c.o
 pub returns-clause-ok : goal.returns-clause-ok
 returns-clause-ok c = record {
   in_order = order_told (held_at c.args.places.now) c.args.tables.now c.deref.result.now c.deref-2.result.now c.in-Ok-turns_in_order.turns.items c.deref.ensures.value (c.deref-2.ensures.value ∙ c.in-Ok.ensures) c.in-Ok-turns_in_order.ensures;
-  fine = of_none (first_fault_of kinds.Stops (parent_fault (held_at c.args.names.now)) c.args.tables.now.stops.items) (first_fault_of kinds.StopTimes (stop_time_fault (held_at c.args.names.now) (held_at c.args.places.now) c.args.tables.now) c.args.tables.now.stop_times.rows.items) (first_fault_of kinds.Frequencies (frequency_fault (held_at c.args.places.now)) c.args.tables.now.frequencies.items) (stops_told (held_at c.args.names.now) c.deref-3.result.now c.args.tables.now.stops.items None c.deref-3.ensures.value c.in-Ok-stations.ensures.fine) (times_told (held_at c.args.names.now) (held_at c.args.places.now) c.args.tables.now c.deref-5.result.now None (c.deref-5.ensures.value ∙ c.in-Ok.ensures) c.in-Ok-linked_times.ensures.fine) (frequencies_told (held_at c.args.places.now) c.deref-6.result.now c.args.tables.now.frequencies.items None c.deref-6.ensures.value c.in-Ok-repeating.ensures.fine);
+  fine = of_none (first_fault_of kinds.Stops (parent_fault (held_at c.args.names.now)) c.args.tables.now.stops.items) (first_fault_of kinds.StopTimes (stop_time_fault (held_at c.args.names.now) (held_at c.args.places.now) c.args.tables.now) c.args.tables.now.stop_times.rows.items) (first_fault_of kinds.Frequencies (frequency_fault (held_at c.args.places.now)) c.args.tables.now.frequencies.items) (stops_told (held_at c.args.names.now) c.deref-3.result.now c.args.tables.now.stops.items None c.deref-3.ensures.value c.in-Ok-stations.ensures.fine) (times_told (held_at c.args.names.now) (held_at c.args.places.now) c.args.tables.now c.deref-4.result.now None (c.deref-4.ensures.value ∙ c.in-Ok.ensures) c.in-Ok-judged_times.ensures.fine) (frequencies_told (held_at c.args.places.now) c.deref-5.result.now c.args.tables.now.frequencies.items None c.deref-5.ensures.value c.in-Ok-repeating.ensures.fine);
   stations = c.in-Ok-stations.ensures.ok ∙ ap (map (station_of (held_at c.args.names.now))) c.deref-3.ensures.value;
-  stop_times = rows_told (held_at c.args.names.now) (held_at c.args.places.now) c.args.tables.now c.deref-5.result.now c.deref-4.result.now c.in-Ok-turns_in_order.turns.items c.in-Ok-linked_times.stop_times.items (c.deref-5.ensures.value ∙ c.in-Ok.ensures) c.deref-4.ensures.value c.in-Ok-linked_times.ensures.ok;
-  repeats = λ i lt. c.in-Ok-repeating.ensures.ok i (omega arith) ∙ ap (λ rows. is_repeated (held_at c.args.places.now) rows i) c.deref-6.ensures.value;
-  frequencies = c.in-Ok-linked_frequencies.ensures ∙ ap (λ rows. map (frequency_of (held_at c.args.places.now)) rows) c.deref-7.ensures.value;
-  transfers_fine = subst (λ (rows : List TransferRow). IfOk c.transfers-transfers.result (λ kept. first_fault_of kinds.Transfers (transfer_fault (held_at c.args.names.now)) rows ≡ None)) c.deref-8.ensures.value c.transfers-transfers.ensures.fine;
-  transfers = subst (λ (rows : List TransferRow). IfOk c.transfers-transfers.result (λ kept. AllZip (IsTransferOf (held_at c.args.names.now)) (filter is_kept rows) kept.items)) c.deref-8.ensures.value c.transfers-transfers.ensures.ok;
-  transfers_wrong = subst (λ (rows : List TransferRow). IfErr c.transfers-transfers.result (λ fault. fault.kind ≢ OutOfMemory → first_fault_of kinds.Transfers (transfer_fault (held_at c.args.names.now)) rows ≡ Some fault)) c.deref-8.ensures.value c.transfers-transfers.ensures.err;
+  trips = c.in-Ok.ensures;
+  stops = c.in-Ok-judged_times.ensures.stops;
+  flex = flex_told c.args.tables.now.stop_times.rows.items (trips_by (held_at c.args.places.now) c.args.tables.now) c.deref-4.result.now
+      c.in-Ok-judged_times.judged.1.items c.in-Ok-judged_times.judged.1.items (sym (c.deref-4.ensures.value ∙ c.in-Ok.ensures)) refl
+      c.in-Ok-judged_times.ensures.flex;
+  repeats = λ i lt. c.in-Ok-repeating.ensures.ok i (omega arith) ∙ ap (λ rows. is_repeated (held_at c.args.places.now) rows i) c.deref-5.ensures.value;
+  frequencies = c.in-Ok-linked_frequencies.ensures ∙ ap (λ rows. map (frequency_of (held_at c.args.places.now)) rows) c.deref-6.ensures.value;
+  transfers_fine = subst (λ (rows : List TransferRow). IfOk c.transfers-transfers.result (λ kept. first_fault_of kinds.Transfers (transfer_fault (held_at c.args.names.now)) rows ≡ None)) c.deref-7.ensures.value c.transfers-transfers.ensures.fine;
+  transfers = subst (λ (rows : List TransferRow). IfOk c.transfers-transfers.result (λ kept. AllZip (IsTransferOf (held_at c.args.names.now)) (filter is_kept rows) kept.items)) c.deref-7.ensures.value c.transfers-transfers.ensures.ok;
+  transfers_wrong = subst (λ (rows : List TransferRow). IfErr c.transfers-transfers.result (λ fault. fault.kind ≢ OutOfMemory → first_fault_of kinds.Transfers (transfer_fault (held_at c.args.names.now)) rows ≡ Some fault)) c.deref-7.ensures.value c.transfers-transfers.ensures.err;
 }

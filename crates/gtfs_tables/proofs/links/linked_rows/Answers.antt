@@ -1,14 +1,10 @@
-use Rattle.std.proofs.Common.{◌∙◌, ap, arith}
+use Rattle.std.proofs.Common.{◌∙◌, sym, rules}
 use Rattle.gtfs_rows.specs.declared.rows.StopTimeRow.{StopTimeRow}
-use Rattle.gtfs_tables.specs.Order.{row_of}
 use Rattle.gtfs_tables.specs.Rows.{is_flex_id, linked_row}
-use Rattle.gtfs_tables.proofs.RowFacts.{mapped_more, no_turn, row_same}
+use Rattle.gtfs_tables.proofs.RowFacts.{filed_rows}
 use Rattle.gtfs_tables.proofs.links.linked_rows.Goals as goal
 
-pub loop-turn-preserved : goal.loop-turn-preserved
-loop-turn-preserved c =
-    let row = c.row_numbered-row.result in
-    let link = λ (row : StopTimeRow). linked_row c.args.trips.now c.args.stops.now (is_flex_id c.args.rows.now row.trip) row in
-    c.in_ok-push.ensures.items ∙ mapped_more (λ turn. link (row_of c.args.rows.now turn.number)) c.args.turns.now c.loop-turn.turn-index no_turn c.loop-turn.ordered.items c.linked.result (omega arith) c.loop-turn.invariant
-    (c.linked.ensures ∙ ap (λ flex. linked_row c.args.trips.now c.args.stops.now flex row) c.flex_at.ensures
-    ∙ row_same c.args.trips.now c.args.stops.now c.args.rows.now c.args.flex.now row c.requires ∙ ap link c.row_numbered-row.ensures)
+pub returns-then-are_as_filed : goal.returns-then-are_as_filed
+returns-then-are_as_filed c =
+    let link = λ (row : StopTimeRow). linked_row c.args.trips.now c.args.stops.now (is_flex_id c.args.rows.items row.trip) row in
+    c.linked_in_place.ensures ∙ sym (filed_rows link c.args.rows.items c.args.turns.now (search rules) (c.are_as_filed.ensures c.if-are_as_filed.true))

@@ -1,0 +1,14 @@
+use Rattle.std.proofs.Common.{◌∙◌, ap, arith, slice_set}
+use Rattle.std.proofs.lemmas.List.Edits.{map_over_more}
+use Rattle.gtfs_rows.specs.declared.rows.StopTimeRow.{StopTimeRow}
+use Rattle.gtfs_tables.specs.Rows.{is_flex_id, linked_row}
+use Rattle.gtfs_tables.proofs.RowFacts.{row_same}
+use Rattle.gtfs_tables.proofs.links.linked_in_place.Goals as goal
+
+pub loop-at-preserved : goal.loop-at-preserved
+loop-at-preserved c =
+    let row = c.index.result.now in
+    let link = λ (row : StopTimeRow). linked_row c.args.trips.now c.args.stops.now (is_flex_id c.args.rows.items row.trip) row in
+    ap (λ made. slice_set c.loop-at.rows.items c.loop-at.at made)
+        (c.linked_marked.ensures ∙ row_same c.args.trips.now c.args.stops.now c.args.rows.items c.args.flex.now row c.requires)
+    ∙ map_over_more link c.args.rows.items c.loop-at.rows.items c.loop-at.at row (omega (arith, c.loop-at-test.true, c.len-at-end.ensures)) c.loop-at.invariant c.index.ensures
