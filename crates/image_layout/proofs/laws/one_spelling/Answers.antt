@@ -16,9 +16,13 @@ shown w = record { layout = layout_of w; timetable = timetable_of w; names = nam
 
 shows : (w : List ℕ) (image : ImageValue) → Spells w image → shown w ≡ image
 shows w image is =
+    let t = image.timetable in
+    let n = image.names in
     let layout : layout_of w ≡ image.layout = is.1 in
-    let timetable : timetable_of w ≡ image.timetable = ap (λ (v : List ℕ). timetable_of v) is.0.spelled ∙ timetable_back (layout_of w) image.timetable image.names is.0.can_be in
-    let names : names_of w ≡ image.names = ap (λ (v : List ℕ). names_of v) is.0.spelled ∙ names_back (layout_of w) image.timetable image.names is.0.layout is.0.first is.0.can_be in
+    let timetable : timetable_of w ≡ t =
+    ap (λ (v : List ℕ). timetable_of v) is.0.spelled ∙ timetable_back (layout_of w) t n is.0.can_be in
+    let names : names_of w ≡ n =
+    ap (λ (v : List ℕ). names_of v) is.0.spelled ∙ names_back (layout_of w) t n is.0.layout is.0.first is.0.can_be in
     λ i. record { layout = layout i; timetable = timetable i; names = names i }
 
 pub returns-clause-words : goal.returns-clause-words
