@@ -1,5 +1,6 @@
 -- Days in a row, one on.
-use Rattle.std.proofs.Common.{◌≡◌, ℕ, zero, suc, ℤ, ◌+◌, ◌-◌, ◌<◌, ◌≤◌, List, [], ◌∷◌, ◌++◌, length, map, get_or, All, Contains, true, false, ◌==◌, ◌&&◌, refl, sym, ap, ◌∙◌, subst, arith, append_assoc, length-append}
+use Rattle.std.proofs.Common.{◌≡◌, ℕ, zero, suc, ℤ, ◌+◌, ◌-◌, ◌<◌, ◌≤◌, List, [], ◌∷◌, ◌++◌, length, map, get_or, All, Contains, true, false, ◌==◌, ◌&&◌, refl}
+use Rattle.std.proofs.Common.{sym, ap, ◌∙◌, subst, arith, append_assoc, length-append}
 use Rattle.std.proofs.lemmas.Bool.{and_parts, eqb-true, eq-eqb, false≢true}
 use Rattle.std.proofs.lemmas.List.{append-nil, get_or_at, length-map, map-append}
 use Rattle.std.proofs.lemmas.List.Elements.{All-nil, All-push}
@@ -22,7 +23,8 @@ pub days_next : (day : Day) (n m : ℕ) → n ≡ m + 1 → days_from day n ≡ 
 unfolding days_from
 days_next day n m e = let s : n ≡ suc m = omega (arith, e) in rw s refl
 
-pub started_more : (zone : Zone) (first : Day) (days : ℕ) (started : List ServiceDay) (day : Day) (start : ℤ) (left less : ℕ) → IsStartedTo zone first days started day left → IsDayStart zone day start → left ≡ less + 1
+pub started_more : (zone : Zone) (first : Day) (days : ℕ) (started : List ServiceDay) (day : Day) (start : ℤ) (left less : ℕ)
+    → IsStartedTo zone first days started day left → IsDayStart zone day start → left ≡ less + 1
     → IsStartedTo zone first days (started ++ record { day = day; start = start } ∷ []) (day_after day) less
 started_more zone first days started day start left less was starts e = record {
   days_are =
@@ -32,20 +34,24 @@ started_more zone first days started day start left less was starts e = record {
   starts = All-push (λ (d : ServiceDay). IsDayStart zone d.day d.start) started (record { day = day; start = start }) was.starts starts;
 }
 
-pub started_all : (zone : Zone) (first : Day) (days : ℕ) (started : List ServiceDay) (day : Day) (left : ℕ) → IsStartedTo zone first days started day left → left ≡ 0 → AreStarted zone (days_from first days) started
+pub started_all : (zone : Zone) (first : Day) (days : ℕ) (started : List ServiceDay) (day : Day) (left : ℕ) → IsStartedTo zone first days started day left
+    → left ≡ 0 → AreStarted zone (days_from first days) started
 unfolding days_from
 started_all zone first days started day left was none = record {
-  days_are = sym (append-nil (map (λ (d : ServiceDay). d.day) started)) ∙ ap (λ n. map (λ (d : ServiceDay). d.day) started ++ days_from day n) (sym none) ∙ was.days_are;
+  days_are = sym (append-nil (map (λ (d : ServiceDay). d.day) started)) ∙ ap (λ n. map (λ (d : ServiceDay). d.day) started ++ days_from day n) (sym none)
+      ∙ was.days_are;
   starts = was.starts;
 }
 
-pub one_missing : (zone : Zone) (first : Day) (days : ℕ) (started : List ServiceDay) (day : Day) (left less : ℕ) → IsStartedTo zone first days started day left → left ≡ less + 1 → HasNoStart zone day
+pub one_missing : (zone : Zone) (first : Day) (days : ℕ) (started : List ServiceDay) (day : Day) (left less : ℕ) → IsStartedTo zone first days started day left
+    → left ≡ less + 1 → HasNoStart zone day
     → HasNoStartAmong zone (days_from first days)
 one_missing zone first days started day left less was e missing =
     let next = days_next day left less e in
     let front = map (λ (d : ServiceDay). d.day) started in
     let all : front ++ (day ∷ days_from (day_after day) less) ≡ days_from first days = ap (λ ds. front ++ ds) (sym next) ∙ was.days_are in
-    let within : length front < length (front ++ (day ∷ days_from (day_after day) less)) = omega (arith, length-append front (day ∷ days_from (day_after day) less)) in
+    let within : length front < length (front ++ (day ∷ days_from (day_after day) less)) =
+    omega (arith, length-append front (day ∷ days_from (day_after day) less)) in
     subst (λ (ds : List Day). HasNoStartAmong zone ds) all
     (length front, day, within, get_or_at front day (days_from (day_after day) less) day (length front) refl, missing)
 
@@ -66,16 +72,20 @@ pub other_day : (a b : Day) → false ≡ ((a.year == b.year) && ((a.month == b.
 other_day a b e same = false≢true (e ∙ ap (λ (x : Day). (a.year == x.year) && ((a.month == x.month) && (a.day == x.day))) (sym same) ∙ tested_itself a)
 
 pub found_start : (zone : Zone) (days : List ServiceDay) (i : ℕ) (d : ServiceDay) (day : Day) → i < length days → All (λ d. IsDayStart zone d.day d.start) days
-    → true ≡ (((get_or days i d).day.year == day.year) && (((get_or days i d).day.month == day.month) && ((get_or days i d).day.day == day.day))) → IsDayStart zone day (get_or days i d).start
-found_start zone days i d day lt starts e = subst (λ (x : Day). IsDayStart zone x (get_or days i d).start) (same_day (get_or days i d).day day e) (starts i d lt)
+    → true ≡ (((get_or days i d).day.year == day.year) && (((get_or days i d).day.month == day.month) && ((get_or days i d).day.day == day.day)))
+    → IsDayStart zone day (get_or days i d).start
+found_start zone days i d day lt starts e = subst (λ (x : Day). IsDayStart zone x (get_or days i d).start) (same_day (get_or days i d).day day e)
+    (starts i d lt)
 
 -- a day that is among them is at a place
-place_of : (days : List ServiceDay) (day : Day) (k : ℕ) (d : ServiceDay) → k < length days → get_or (map (λ (d : ServiceDay). d.day) days) k day ≡ (get_or days k d).day
+place_of : (days : List ServiceDay) (day : Day) (k : ℕ) (d : ServiceDay) → k < length days
+    → get_or (map (λ (d : ServiceDay). d.day) days) k day ≡ (get_or days k d).day
 place_of [] day k d lt = absurd (omega (arith, lt))
 place_of (x ∷ days) day zero d lt = refl
 place_of (x ∷ days) day (suc k) d lt = place_of days day k d (omega (arith, lt))
 
-pub never_missing : (days : List ServiceDay) (day : Day) (d : ServiceDay) → Contains (map (λ d. d.day) days) day → ((k : ℕ) (d : ServiceDay) → k < length days → (get_or days k d).day ≡ day → ⊥) → ⊥
+pub never_missing : (days : List ServiceDay) (day : Day) (d : ServiceDay) → Contains (map (λ d. d.day) days) day
+    → ((k : ℕ) (d : ServiceDay) → k < length days → (get_or days k d).day ≡ day → ⊥) → ⊥
 never_missing days day d (k, lt, is) none =
     let within : k < length days = omega (arith, lt, length-map days (λ (d : ServiceDay). d.day)) in
     none k d within (sym (place_of days day k d within) ∙ is)
@@ -90,12 +100,14 @@ place_at (x ∷ started) (suc k) day lt =
     (rest.0, (let less = rest.1 in omega (arith, less)), rest.2, rest.3)
 
 -- the first of the days is the first
-pub first_day : (zone : Zone) (first : Day) (days : ℕ) (started : List ServiceDay) (d : ServiceDay) → AreStarted zone (days_from first days) started → 1 ≤ days → (0 < length started) × IsDayStart zone first (get_or started 0 d).start
+pub first_day : (zone : Zone) (first : Day) (days : ℕ) (started : List ServiceDay) (d : ServiceDay) → AreStarted zone (days_from first days) started → 1 ≤ days
+    → (0 < length started) × IsDayStart zone first (get_or started 0 d).start
 first_day zone first days started d s some =
     let next : days_from first days ≡ first ∷ days_from (day_after first) (days - 1) = days_next first days (days - 1) (omega (arith, some)) in
     by started (s.days_are ∙ next) s.starts
   where
-    by : (started : List ServiceDay) → map (λ (d : ServiceDay). d.day) started ≡ first ∷ days_from (day_after first) (days - 1) → All (λ (d : ServiceDay). IsDayStart zone d.day d.start) started
+    by : (started : List ServiceDay) → map (λ (d : ServiceDay). d.day) started ≡ first ∷ days_from (day_after first) (days - 1)
+        → All (λ (d : ServiceDay). IsDayStart zone d.day d.start) started
         → (0 < length started) × IsDayStart zone first (get_or started 0 d).start
     by [] e starts = absurd cc
     by (x ∷ rest) e starts =

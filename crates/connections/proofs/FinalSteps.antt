@@ -1,5 +1,6 @@
 -- The outcome, put together.
-use Rattle.std.proofs.Common.{◌≡◌, ℕ, suc, ℤ, ◌+◌, ◌<◌, ◌≤◌, ◌⊎◌, inl, inr, min, List, [], ◌∷◌, ◌++◌, length, map, get_or, set, Some, Bool, true, false, All, Contains, refl, sym, ap, ◌∙◌, subst, arith}
+use Rattle.std.proofs.Common.{◌≡◌, ℕ, suc, ℤ, ◌+◌, ◌<◌, ◌≤◌, ◌⊎◌, inl, inr, min, List, [], ◌∷◌, ◌++◌, length, map, get_or, set, Some, Bool, true, false, All}
+use Rattle.std.proofs.Common.{Contains, refl, sym, ap, ◌∙◌, subst, arith}
 use Rattle.std.specs.Prelude.{count_by, filter, IsPermutation}
 use Rattle.std.specs.List.{slice_get, swap}
 use Rattle.std.specs.String.{string_bytes}
@@ -44,14 +45,27 @@ use Rattle.connections.proofs.ListSteps.{run_rows_at}
 
 -- ---- refusals
 
-pub fault_told : (feed : Feed) (zone : Zone) (base other : ℤ) (runs : List Run) (n : ℕ) (run : Run) (fault : RunsFault) → other ≡ base → slice_get runs n ≡ Some run
-    → IsWantOfMemory fault ⊎ ((fault ≡ range_fault) × LeavesRange feed zone other run) → IsWantOfMemory fault ⊎ ((fault ≡ range_fault) × HasRunOutside feed zone base runs)
+pub fault_told : (feed : Feed) (zone : Zone) (base other : ℤ) (runs : List Run) (n : ℕ) (run : Run) (fault : RunsFault) → other ≡ base
+    → slice_get runs n ≡ Some run
+    → IsWantOfMemory fault ⊎ ((fault ≡ range_fault) × LeavesRange feed zone other run) → IsWantOfMemory fault
+    ⊎ ((fault ≡ range_fault) × HasRunOutside feed zone base runs)
 fault_told feed zone base other runs n run fault e at (inl memory) = inl memory
 fault_told feed zone base other runs n run fault e at (inr told) =
     let leaves : LeavesRange feed zone base run = subst (λ (z : ℤ). LeavesRange feed zone z run) e told.1 in
-    inr (told.0, record { number = n; start = leaves.start; rows = leaves.rows; run_at = run_rows_at feed zone runs n run leaves.start leaves.rows at leaves.rows_are; outside = leaves.outside })
+    inr (
+      told.0,
+      record {
+        number = n;
+        start = leaves.start;
+        rows = leaves.rows;
+        run_at =
+            run_rows_at feed zone runs n run leaves.start leaves.rows at leaves.rows_are;
+        outside = leaves.outside;
+      },
+    )
 
-pub day_refused : (feed : Feed) (zone : Zone) (first : Day) (days : ℕ) (fault : DayFault) → (fault ≡ DayMemory) ⊎ ((fault ≡ DayOutOfRange) × HasNoStartAmong zone (days_from first days))
+pub day_refused : (feed : Feed) (zone : Zone) (first : Day) (days : ℕ) (fault : DayFault) → (fault ≡ DayMemory)
+    ⊎ ((fault ≡ DayOutOfRange) × HasNoStartAmong zone (days_from first days))
     → IsWantOfMemory (faults.Day fault) ⊎ IsFirstRefusal feed zone first days (faults.Day fault)
 day_refused feed zone first days fault (inl memory) = inl memory
 day_refused feed zone first days fault (inr told) = inr (inl (record { is = ap (λ (f : DayFault). faults.Day f) told.0; among = told.1 }))
@@ -59,17 +73,29 @@ day_refused feed zone first days fault (inr told) = inr (inl (record { is = ap (
 pub have_starts : (zone : Zone) (days : List Day) (started : List ServiceDay) → AreStarted zone days started → HaveStarts zone days
 have_starts zone days started s =
     subst (λ (ds : List Day). HaveStarts zone ds) s.days_are
-    (λ k day lt. let at = place_at started k day lt in
-    (at.0.start, subst (λ (x : Day). IsDayStart zone x at.0.start) at.2 (subst (λ (x : ServiceDay). IsDayStart zone x.day x.start) at.3 (s.starts k at.0 at.1))))
+    (λ k day lt. let at = place_at started k day lt in (
+      at.0.start,
+      subst (λ (x : Day). IsDayStart zone x at.0.start) at.2
+          (subst (λ (x : ServiceDay). IsDayStart zone x.day x.start) at.3 (s.starts k at.0 at.1)),
+    ))
 
-pub runs_refused : (feed : Feed) (zone : Zone) (first : Day) (days : ℕ) (started : List ServiceDay) (fault : RunsFault) → AreStarted zone (days_from first days) started
-    → IsWantOfMemory fault ⊎ ((fault ≡ too_many_of tables.Trips) × (MAX_TRIPS < length (runs_of_days feed (map (λ d. d.day) started)))) → IsWantOfMemory fault ⊎ IsFirstRefusal feed zone first days fault
+pub runs_refused : (feed : Feed) (zone : Zone) (first : Day) (days : ℕ) (started : List ServiceDay) (fault : RunsFault)
+    → AreStarted zone (days_from first days) started
+    → IsWantOfMemory fault ⊎ ((fault ≡ too_many_of tables.Trips) × (MAX_TRIPS < length (runs_of_days feed (map (λ d. d.day) started)))) → IsWantOfMemory fault
+    ⊎ IsFirstRefusal feed zone first days fault
 runs_refused feed zone first days started fault s (inl memory) = inl memory
 runs_refused feed zone first days started fault s (inr told) =
-    inr (inr (inl (record { is = told.0; started = have_starts zone (days_from first days) started s; many = subst (λ (ds : List Day). MAX_TRIPS < length (runs_of_days feed ds)) s.days_are told.1 })))
+    inr (inr (inl (record {
+      is = told.0;
+      started = have_starts zone (days_from first days) started s;
+      many =
+          subst (λ (ds : List Day). MAX_TRIPS < length (runs_of_days feed ds)) s.days_are told.1;
+    })))
 
-pub connections_refused : (feed : Feed) (zone : Zone) (first : Day) (days : ℕ) (started : List ServiceDay) (runs : List Run) (count most : ℕ) (fault : RunsFault) → AreStarted zone (days_from first days) started
-    → runs ≡ runs_of_days feed (map (λ d. d.day) started) → length runs ≤ MAX_TRIPS → count ≡ min (count_hops feed.trips.items runs) most → MAX_CONNECTIONS < count → fault ≡ too_many_of tables.StopTimes
+pub connections_refused : (feed : Feed) (zone : Zone) (first : Day) (days : ℕ) (started : List ServiceDay) (runs : List Run) (count most : ℕ)
+    (fault : RunsFault) → AreStarted zone (days_from first days) started
+    → runs ≡ runs_of_days feed (map (λ d. d.day) started) → length runs ≤ MAX_TRIPS → count ≡ min (count_hops feed.trips.items runs) most
+    → MAX_CONNECTIONS < count → fault ≡ too_many_of tables.StopTimes
     → IsFirstRefusal feed zone first days fault
 connections_refused feed zone first days started runs count most fault s runs_are few counted many is =
     let all : runs ≡ runs_of_days feed (days_from first days) = runs_are ∙ ap (runs_of_days feed) s.days_are in
@@ -81,8 +107,10 @@ connections_refused feed zone first days started runs count most fault s runs_ar
       many = subst (λ (rs : List Run). MAX_CONNECTIONS < count_hops feed.trips.items rs) all over;
     })))
 
-pub times_refused : (feed : Feed) (zone : Zone) (first : Day) (days : ℕ) (started : List ServiceDay) (runs : List Run) (count most : ℕ) (base : ℤ) (fault : RunsFault) → AreStarted zone (days_from first days) started
-    → runs ≡ runs_of_days feed (map (λ d. d.day) started) → length runs ≤ MAX_TRIPS → count ≡ min (count_hops feed.trips.items runs) most → count ≤ MAX_CONNECTIONS → MAX_CONNECTIONS < most → IsDayStart zone first base
+pub times_refused : (feed : Feed) (zone : Zone) (first : Day) (days : ℕ) (started : List ServiceDay) (runs : List Run) (count most : ℕ) (base : ℤ)
+    (fault : RunsFault) → AreStarted zone (days_from first days) started
+    → runs ≡ runs_of_days feed (map (λ d. d.day) started) → length runs ≤ MAX_TRIPS → count ≡ min (count_hops feed.trips.items runs) most
+    → count ≤ MAX_CONNECTIONS → MAX_CONNECTIONS < most → IsDayStart zone first base
     → IsWantOfMemory fault ⊎ ((fault ≡ range_fault) × HasRunOutside feed zone base runs) → IsWantOfMemory fault ⊎ IsFirstRefusal feed zone first days fault
 times_refused feed zone first days started runs count most base fault s runs_are few counted under room is_base (inl memory) = inl memory
 times_refused feed zone first days started runs count most base fault s runs_are few counted under room is_base (inr told) =
@@ -101,37 +129,50 @@ times_refused feed zone first days started runs count most base fault s runs_are
 abbrev IsOf : Feed → List Day → Run → Type 0
 IsOf feed days run = IsTripRun feed.trips.items run × Contains days run.day
 
-repeats_of : (feed : Feed) (days : List Day) (day : Day) (t r : ℕ) (trip : Trip) (starts : List ℕ) → makes_connections trip ≡ true → slice_get feed.trips.items t ≡ Some trip → Contains days day → All (IsOf feed days) (repeats_from day t r starts)
+repeats_of : (feed : Feed) (days : List Day) (day : Day) (t r : ℕ) (trip : Trip) (starts : List ℕ) → makes_connections trip ≡ true
+    → slice_get feed.trips.items t ≡ Some trip → Contains days day → All (IsOf feed days) (repeats_from day t r starts)
 unfolding repeats_from
 repeats_of feed days day t r trip [] makes at inside = All-nil (IsOf feed days)
 repeats_of feed days day t r trip (s ∷ starts) makes at inside =
-    All-cons (IsOf feed days) (record { day = day; trip = t; repeat = r; start = Some s }) (repeats_from day t (r + 1) starts) (record { trip = trip; is_trip = at; makes = makes }, inside) (repeats_of feed days day t (r + 1) trip starts makes at inside)
+    All-cons (IsOf feed days) (record { day = day; trip = t; repeat = r; start = Some s }) (repeats_from day t (r + 1) starts)
+    (record { trip = trip; is_trip = at; makes = makes }, inside) (repeats_of feed days day t (r + 1) trip starts makes at inside)
 
-one_trip : (feed : Feed) (days : List Day) (day : Day) (t : ℕ) (trip : Trip) (rows : List Frequency) (b : Bool) → b ≡ trip.repeats → makes_connections trip ≡ true → slice_get feed.trips.items t ≡ Some trip → Contains days day → All (IsOf feed days) (runs_of_trip rows day t trip)
-one_trip feed days day t trip rows false b makes at inside = rw (sym b) (All-cons (IsOf feed days) (run_as_it_stands day t) [] (record { trip = trip; is_trip = at; makes = makes }, inside) (All-nil (IsOf feed days)))
+one_trip : (feed : Feed) (days : List Day) (day : Day) (t : ℕ) (trip : Trip) (rows : List Frequency) (b : Bool) → b ≡ trip.repeats
+    → makes_connections trip ≡ true → slice_get feed.trips.items t ≡ Some trip → Contains days day → All (IsOf feed days) (runs_of_trip rows day t trip)
+one_trip feed days day t trip rows false b makes at inside =
+    rw (sym b) (All-cons (IsOf feed days) (run_as_it_stands day t) [] (record { trip = trip; is_trip = at; makes = makes }, inside) (All-nil (IsOf feed days)))
 one_trip feed days day t trip rows true b makes at inside = rw (sym b) (repeats_of feed days day t 0 trip (starts_of rows) makes at inside)
 
-one_run : (feed : Feed) (days : List Day) (day : Day) (t : ℕ) (trip : Trip) (b : Bool) → b ≡ runs_on feed day trip → (b ≡ true → makes_connections trip ≡ true) → slice_get feed.trips.items t ≡ Some trip → Contains days day → All (IsOf feed days) (runs_at feed day t trip)
+one_run : (feed : Feed) (days : List Day) (day : Day) (t : ℕ) (trip : Trip) (b : Bool) → b ≡ runs_on feed day trip → (b ≡ true → makes_connections trip ≡ true)
+    → slice_get feed.trips.items t ≡ Some trip → Contains days day → All (IsOf feed days) (runs_at feed day t trip)
 one_run feed days day t trip false b makes at inside = rw (sym b) (All-nil (IsOf feed days))
-one_run feed days day t trip true b makes at inside = rw (sym b) (one_trip feed days day t trip (rows_for feed.frequencies.items t) trip.repeats refl (makes refl) at inside)
+one_run feed days day t trip true b makes at inside = rw (sym b)
+    (one_trip feed days day t trip (rows_for feed.frequencies.items t) trip.repeats refl (makes refl) at inside)
 
-runs_of_day : (feed : Feed) (days : List Day) (day : Day) (t : ℕ) (trips : List Trip) → ((k : ℕ) (trip : Trip) → slice_get trips k ≡ Some trip → slice_get feed.trips.items (t + k) ≡ Some trip) → Contains days day
+runs_of_day : (feed : Feed) (days : List Day) (day : Day) (t : ℕ) (trips : List Trip)
+    → ((k : ℕ) (trip : Trip) → slice_get trips k ≡ Some trip → slice_get feed.trips.items (t + k) ≡ Some trip) → Contains days day
     → All (IsOf feed days) (runs_from feed day t trips)
 runs_of_day feed days day t [] at inside = All-nil (IsOf feed days)
 runs_of_day feed days day t (trip ∷ trips) at inside =
     let here : t + 0 ≡ t = omega arith in
     All-append (IsOf feed days) (runs_at feed day t trip) (runs_from feed day (t + 1) trips)
-    (one_run feed days day t trip (runs_on feed day trip) refl (λ e. (and_parts (makes_connections trip) (is_active feed.calendar.items feed.calendar_dates.items (string_bytes trip.service) day) e).0) (subst (λ (n : ℕ). slice_get feed.trips.items n ≡ Some trip) here (at 0 trip refl)) inside)
-    (runs_of_day feed days day (t + 1) trips (λ k x e. let next : t + suc k ≡ t + 1 + k = omega arith in subst (λ (n : ℕ). slice_get feed.trips.items n ≡ Some x) next (at (suc k) x e)) inside)
+    (one_run feed days day t trip (runs_on feed day trip) refl
+    (λ e. (and_parts (makes_connections trip) (is_active feed.calendar.items feed.calendar_dates.items (string_bytes trip.service) day) e).0)
+    (subst (λ (n : ℕ). slice_get feed.trips.items n ≡ Some trip) here (at 0 trip refl)) inside)
+    (runs_of_day feed days day (t + 1) trips (λ k x e. let next : t + suc k ≡ t + 1 + k = omega arith in
+    subst (λ (n : ℕ). slice_get feed.trips.items n ≡ Some x) next (at (suc k) x e)) inside)
 
-runs_of_some : (feed : Feed) (all : List Day) (days : List Day) → ((day : Day) → Contains days day → Contains all day) → All (IsOf feed all) (runs_of_days feed days)
+runs_of_some : (feed : Feed) (all : List Day) (days : List Day) → ((day : Day) → Contains days day → Contains all day)
+    → All (IsOf feed all) (runs_of_days feed days)
 runs_of_some feed all [] within = All-nil (IsOf feed all)
 runs_of_some feed all (day ∷ days) within =
     All-append (IsOf feed all) (runs_from feed day 0 feed.trips.items) (runs_of_days feed days)
-    (runs_of_day feed all day 0 feed.trips.items (λ k trip e. let place : 0 + k ≡ k = omega arith in rw place e) (within day (Contains-append_left (day ∷ []) days day (0, omega arith, refl))))
+    (runs_of_day feed all day 0 feed.trips.items (λ k trip e. let place : 0 + k ≡ k = omega arith in rw place e)
+    (within day (Contains-append_left (day ∷ []) days day (0, omega arith, refl))))
     (runs_of_some feed all days (λ x inside. within x (Contains-append_right (day ∷ []) days x inside)))
 
-pub runs_are_of : (feed : Feed) (days : List Day) (runs : List Run) → runs ≡ runs_of_days feed days → All (IsTripRun feed.trips.items) runs × All (λ (run : Run). Contains days run.day) runs
+pub runs_are_of : (feed : Feed) (days : List Day) (runs : List Run) → runs ≡ runs_of_days feed days → All (IsTripRun feed.trips.items) runs
+    × All (λ (run : Run). Contains days run.day) runs
 runs_are_of feed days runs e =
     let each : All (IsOf feed days) runs = subst (λ (rs : List Run). All (IsOf feed days) rs) (sym e) (runs_of_some feed days days (λ day inside. inside)) in
     (λ k d lt. (each k d lt).0, λ k d lt. (each k d lt).1)
@@ -151,7 +192,8 @@ apart_by feed zone base runs n cs b i j d lt within trip dep = apart_of (get_or 
 
 -- the same of any two places
 abbrev AreDistinct : List Connection → Type 0
-AreDistinct cs = (i j : ℕ) (d : Connection) → (i ≡ j → ⊥) → i < length cs → j < length cs → (get_or cs i d).trip ≡ (get_or cs j d).trip → (get_or cs i d).dep ≡ (get_or cs j d).dep → ⊥
+AreDistinct cs = (i j : ℕ) (d : Connection) → (i ≡ j → ⊥) → i < length cs → j < length cs → (get_or cs i d).trip ≡ (get_or cs j d).trip
+    → (get_or cs i d).dep ≡ (get_or cs j d).dep → ⊥
 
 distinct_from : (cs : List Connection) → AreApart cs → AreDistinct cs
 distinct_from cs apart i j d ne here there trip dep = elim (cases_order i j) [
@@ -175,15 +217,23 @@ sources_differ i j k m x y (inr (inr p)) (inl q) ne e = p.1 (omega (arith, p.0, 
 sources_differ i j k m x y (inr (inr p)) (inr (inl q)) ne e = p.2 (omega (arith, p.0, q.1, e))
 sources_differ i j k m x y (inr (inr p)) (inr (inr q)) ne e = ne (omega (arith, p.0, q.0, e))
 
-source_of : (cs : List Connection) (i j k : ℕ) (d : Connection) → i < length cs → j < length cs → k < length cs → (x : ℕ) × IsSource i j k x × (x < length cs) × (get_or (swap cs i j) k d ≡ get_or cs x d)
+source_of : (cs : List Connection) (i j k : ℕ) (d : Connection) → i < length cs → j < length cs → k < length cs → (x : ℕ) × IsSource i j k x × (x < length cs)
+    × (get_or (swap cs i j) k d ≡ get_or cs x d)
 source_of cs i j k d low high lt =
     let front : List Connection = set cs i (get_or cs j d) in
     let is : set front j (get_or cs i d) ≡ swap cs i j = swap_is cs i j d low high in
     let size : length front ≡ length cs = length-set cs i (get_or cs j d) in
     elim (cases_eq k j) [
-      | inl same ↦ (i, inl (same, refl), low, ap (λ (xs : List Connection). get_or xs k d) (sym is) ∙ ap (λ (n : ℕ). get_or (set front j (get_or cs i d)) n d) same ∙ get_or-set_same front j (get_or cs i d) d (omega (arith, high, size)))
+      | inl same ↦ (
+        i,
+        inl (same, refl),
+        low,
+        ap (λ (xs : List Connection). get_or xs k d) (sym is)
+            ∙ ap (λ (n : ℕ). get_or (set front j (get_or cs i d)) n d) same ∙ get_or-set_same front j (get_or cs i d) d (omega (arith, high, size)),
+      )
       | inr other ↦
-          let past : get_or (swap cs i j) k d ≡ get_or front k d = ap (λ (xs : List Connection). get_or xs k d) (sym is) ∙ get_or-set_other front j k (get_or cs i d) d other in
+          let past : get_or (swap cs i j) k d ≡ get_or front k d = ap (λ (xs : List Connection). get_or xs k d) (sym is)
+          ∙ get_or-set_other front j k (get_or cs i d) d other in
           elim (cases_eq k i) [
             | inl same ↦ (j, inr (inl (same, refl)), high, past ∙ ap (λ (n : ℕ). get_or front n d) same ∙ get_or-set_same cs i (get_or cs j d) d low)
             | inr differs ↦ (k, inr (inr (refl, differs, other)), lt, past ∙ get_or-set_other cs i k (get_or cs j d) d differs)
@@ -196,12 +246,15 @@ distinct_swapped cs i j low high distinct k m d ne here there trip dep =
     let x = source_of cs i j k d low high (omega (arith, here, size)) in
     let y = source_of cs i j m d low high (omega (arith, there, size)) in
     distinct x.0 y.0 d (sources_differ i j k m x.0 y.0 x.1 y.1 ne) x.2 y.2
-    (ap (λ (c : Connection). c.trip) (sym x.3) ∙ trip ∙ ap (λ (c : Connection). c.trip) y.3) (ap (λ (c : Connection). c.dep) (sym x.3) ∙ dep ∙ ap (λ (c : Connection). c.dep) y.3)
+    (ap (λ (c : Connection). c.trip) (sym x.3) ∙ trip ∙ ap (λ (c : Connection). c.trip) y.3)
+    (ap (λ (c : Connection). c.dep) (sym x.3) ∙ dep ∙ ap (λ (c : Connection). c.dep) y.3)
 
 distinct_moved : (cs sorted : List Connection) → AreDistinct cs → IsPermutation cs sorted → AreDistinct sorted
-distinct_moved cs sorted distinct moved = IsPermutation-keeps cs (λ (xs : List Connection). AreDistinct xs) distinct (λ xs i j low high was. distinct_swapped xs i j low high was) sorted moved
+distinct_moved cs sorted distinct moved = IsPermutation-keeps cs (λ (xs : List Connection). AreDistinct xs) distinct
+    (λ xs i j low high was. distinct_swapped xs i j low high was) sorted moved
 
-pub listed_of : (feed : Feed) (zone : Zone) (base : ℤ) (runs : List Run) (cs sorted : List Connection) → AreByRun feed zone base runs (length runs) cs → IsPermutation cs sorted → AreSorted sorted → AreListed feed zone base runs sorted
+pub listed_of : (feed : Feed) (zone : Zone) (base : ℤ) (runs : List Run) (cs sorted : List Connection) → AreByRun feed zone base runs (length runs) cs
+    → IsPermutation cs sorted → AreSorted sorted → AreListed feed zone base runs sorted
 listed_of feed zone base runs cs sorted b moved up = record {
   each = λ r p c x. Contains-permutation cs sorted c moved (b.each r p c (slice_get_within runs r x.run_at.run x.run_at.is_run) x);
   only = λ c inside. (let w = b.only c (Contains-permutation sorted cs c (IsPermutation-sym cs sorted moved) inside) in (w.0, w.1, w.3));
@@ -209,7 +262,8 @@ listed_of feed zone base runs cs sorted b moved up = record {
       let within : j < length sorted = slice_get_within sorted j d at_d in
       let c_is : get_or sorted i c ≡ c = get_or_from_slice_get sorted i c c at_c in
       let d_is : get_or sorted j c ≡ d = get_or_from_slice_get sorted j d c at_d in
-      let known : IsNotAfter c d = subst (λ (e : Connection). IsNotAfter e d) c_is (subst (λ (e : Connection). IsNotAfter (get_or sorted i c) e) d_is (up i j c lt within)) in
+      let known : IsNotAfter c d = subst (λ (e : Connection). IsNotAfter e d) c_is
+      (subst (λ (e : Connection). IsNotAfter (get_or sorted i c) e) d_is (up i j c lt within)) in
       let apart = distinct_moved cs sorted (distinct_from cs (apart_by feed zone base runs (length runs) cs b)) moved in
       let ne : i ≡ j → ⊥ = λ (e : i ≡ j). absurd (omega (arith, lt, e)) in
       record {
@@ -217,12 +271,16 @@ listed_of feed zone base runs cs sorted b moved up = record {
         by_arrival = known.by_arrival;
         by_run = known.by_run;
         by_position = λ (dep : c.dep ≡ d.dep) (arr : c.arr ≡ d.arr) (trip : c.trip ≡ d.trip).
-            absurd (apart i j c ne (omega (arith, lt, within)) within (ap (λ (e : Connection). e.trip) c_is ∙ trip ∙ ap (λ (e : Connection). e.trip) (sym d_is)) (ap (λ (e : Connection). e.dep) c_is ∙ dep ∙ ap (λ (e : Connection). e.dep) (sym d_is)));
+            absurd (apart i j c ne (omega (arith, lt, within)) within
+            (ap (λ (e : Connection). e.trip) c_is ∙ trip ∙ ap (λ (e : Connection). e.trip) (sym d_is))
+            (ap (λ (e : Connection). e.dep) c_is ∙ dep ∙ ap (λ (e : Connection). e.dep) (sym d_is)));
       };
 }
 
-pub listing_made : (feed : Feed) (zone : Zone) (first : Day) (days : ℕ) (started : List ServiceDay) (runs : List Run) (count most : ℕ) (cs sorted : List Connection) (base : ℤ) → AreStarted zone (days_from first days) started
-    → runs ≡ runs_of_days feed (map (λ d. d.day) started) → length runs ≤ MAX_TRIPS → count ≡ min (count_hops feed.trips.items runs) most → count ≤ MAX_CONNECTIONS → MAX_CONNECTIONS < most → IsDayStart zone first base
+pub listing_made : (feed : Feed) (zone : Zone) (first : Day) (days : ℕ) (started : List ServiceDay) (runs : List Run) (count most : ℕ)
+    (cs sorted : List Connection) (base : ℤ) → AreStarted zone (days_from first days) started
+    → runs ≡ runs_of_days feed (map (λ d. d.day) started) → length runs ≤ MAX_TRIPS → count ≡ min (count_hops feed.trips.items runs) most
+    → count ≤ MAX_CONNECTIONS → MAX_CONNECTIONS < most → IsDayStart zone first base
     → AreByRun feed zone base runs (length runs) cs → IsPermutation cs sorted → AreSorted sorted → IsListing feed zone first days sorted runs
 listing_made feed zone first days started runs count most cs sorted base s runs_are few counted under room is_base b moved up =
     let size : length sorted ≡ length cs = length_permutation cs sorted moved in
@@ -234,8 +292,10 @@ listing_made feed zone first days started runs count most cs sorted base s runs_
       counted = size ∙ whole;
       few = omega (arith, size, whole, counted, under, room);
       inside = λ other is_other r start rows at.
-          subst (λ (z : ℤ). AreInside z start at.run.start rows) (same_start zone first base other is_base is_other) (b.inside r start rows (slice_get_within runs r at.run at.is_run) at);
-      listed = λ other is_other. subst (λ (z : ℤ). AreListed feed zone z runs sorted) (same_start zone first base other is_base is_other) (listed_of feed zone base runs cs sorted b moved up);
+          subst (λ (z : ℤ). AreInside z start at.run.start rows) (same_start zone first base other is_base is_other)
+          (b.inside r start rows (slice_get_within runs r at.run at.is_run) at);
+      listed = λ other is_other. subst (λ (z : ℤ). AreListed feed zone z runs sorted) (same_start zone first base other is_base is_other)
+          (listed_of feed zone base runs cs sorted b moved up);
     }
 
 -- ---- the times of the trips, and how many were lifted
@@ -247,7 +307,8 @@ pub record AreTimesTo (stop_times : List StopTimeRow) (trips : List Trip) (times
 pub times_none : (stop_times : List StopTimeRow) (trips : List Trip) → AreTimesTo stop_times trips [] 0
 times_none stop_times trips = record { same_length = refl; each = λ k trip d lt at. absurd (omega (arith, lt)) }
 
-pub times_more : (stop_times : List StopTimeRow) (trips : List Trip) (times new : List TripTimes) (n : ℕ) (trip : Trip) (made : TripTimes) → AreTimesTo stop_times trips times n → n < length trips → trip ≡ get_or trips n trip
+pub times_more : (stop_times : List StopTimeRow) (trips : List Trip) (times new : List TripTimes) (n : ℕ) (trip : Trip) (made : TripTimes)
+    → AreTimesTo stop_times trips times n → n < length trips → trip ≡ get_or trips n trip
     → AreTripTimes stop_times trip made → new ≡ times ++ made ∷ [] → AreTimesTo stop_times trips new (n + 1)
 times_more stop_times trips times new n trip made was lt is fits now =
     let len : length times ≡ n = was.same_length in
@@ -257,21 +318,25 @@ times_more stop_times trips times new n trip made was lt is fits now =
         | inl same ↦
             let place : length times ≡ k = omega (arith, len, same) in
             let which : trip ≡ x = is ∙ ap (λ (m : ℕ). get_or trips m trip) (sym same) ∙ get_or_from_slice_get trips k x trip at in
-            subst (λ (t : TripTimes). AreTripTimes stop_times x t) (sym (get_or_push times made d k place)) (subst (λ (t : Trip). AreTripTimes stop_times t made) which fits)
+            subst (λ (t : TripTimes). AreTripTimes stop_times x t) (sym (get_or_push times made d k place))
+            (subst (λ (t : Trip). AreTripTimes stop_times t made) which fits)
         | inr other ↦
             let below : k < n = omega (arith, less, other) in
-            subst (λ (t : TripTimes). AreTripTimes stop_times x t) (sym (get_or_append_left times (made ∷ []) d k (omega (arith, below, len)))) (was.each k x d below at)
+            subst (λ (t : TripTimes). AreTripTimes stop_times x t) (sym (get_or_append_left times (made ∷ []) d k (omega (arith, below, len))))
+            (was.each k x d below at)
       ]);
     }
 
-pub times_all : (stop_times : List StopTimeRow) (trips : List Trip) (times : List TripTimes) (n : ℕ) → AreTimesTo stop_times trips times n → n ≡ length trips → AreTimesOf stop_times trips times
+pub times_all : (stop_times : List StopTimeRow) (trips : List Trip) (times : List TripTimes) (n : ℕ) → AreTimesTo stop_times trips times n → n ≡ length trips
+    → AreTimesOf stop_times trips times
 times_all stop_times trips times n was end = record {
   same_length = was.same_length ∙ end;
   each = λ k trip d at. was.each k trip d (let lt = slice_get_within trips k trip at in omega (arith, lt, end)) at;
 }
 
 -- tests that agree at each place
-kept_alike : {X Y : Type 0} (p : X → Bool) (q : Y → Bool) (xs : List X) (ys : List Y) → length xs ≡ length ys → ((k : ℕ) (d : X) (e : Y) → k < length xs → p (get_or xs k d) ≡ q (get_or ys k e)) → length (filter p xs) ≡ length (filter q ys)
+kept_alike : {X Y : Type 0} (p : X → Bool) (q : Y → Bool) (xs : List X) (ys : List Y) → length xs ≡ length ys
+    → ((k : ℕ) (d : X) (e : Y) → k < length xs → p (get_or xs k d) ≡ q (get_or ys k e)) → length (filter p xs) ≡ length (filter q ys)
 kept_alike p q [] [] same alike = refl
 kept_alike p q [] (y ∷ ys) same alike = absurd (omega (arith, same))
 kept_alike p q (x ∷ xs) [] same alike = absurd (omega (arith, same))
@@ -283,7 +348,8 @@ kept_alike p q (x ∷ xs) (y ∷ ys) same alike =
       | inr t ↦ let f : p x ≡ false = here ∙ t in rw (t, f) rest
     ]
 
-pub lifted_counted : (feed : Feed) (times : List TripTimes) → AreTimesOf feed.stop_times.items feed.trips.items times → count_by (λ trip. trip.lifted) times ≡ count_by (is_lifted_trip feed) feed.trips.items
+pub lifted_counted : (feed : Feed) (times : List TripTimes) → AreTimesOf feed.stop_times.items feed.trips.items times
+    → count_by (λ trip. trip.lifted) times ≡ count_by (is_lifted_trip feed) feed.trips.items
 lifted_counted feed times t =
     sym (length-filter (λ (trip : TripTimes). trip.lifted) times)
     ∙ kept_alike (λ (trip : TripTimes). trip.lifted) (is_lifted_trip feed) times feed.trips.items t.same_length

@@ -1,5 +1,6 @@
 -- The connections of a run, a row on.
-use Rattle.std.proofs.Common.{◌≡◌, ℕ, ℤ, ◌+◌, ◌<◌, inl, inr, List, [], ◌∷◌, ◌++◌, length, get_or, Option, Some, None, IsSome, All, refl, sym, ap, ◌∙◌, subst, arith, append_assoc}
+use Rattle.std.proofs.Common.{◌≡◌, ℕ, ℤ, ◌+◌, ◌<◌, inl, inr, List, [], ◌∷◌, ◌++◌, length, get_or, Option, Some, None, IsSome, All, refl, sym, ap, ◌∙◌, subst}
+use Rattle.std.proofs.Common.{arith, append_assoc}
 use Rattle.std.proofs.lemmas.Bool.{cases_eq, false≢true}
 use Rattle.std.proofs.lemmas.Int.{ints}
 use Rattle.std.proofs.lemmas.List.{append-nil, get_or_append_left, get_or_push, length_push}
@@ -22,8 +23,18 @@ used_later (Some s) k = omega arith
 
 pub hop_made : (base start : ℤ) (rows : List StopTimeRow) (times : List RowTimes) (run p from to dep arr : ℕ) (d : StopTimeRow) (e : RowTimes)
     → p + 1 < length rows → AreTimesBefore rows times (length rows)
-    → (get_or rows p d).stop ≡ Some from → (get_or rows (p + 1) d).stop ≡ Some to → IsClock base start (get_or times p e).departure dep → IsClock base start (get_or times (p + 1) e).arrival arr
-    → IsHop base start rows run p (record { from = from; to = to; dep = dep; arr = arr; trip = run; board = (get_or rows p d).board; alight = (get_or rows (p + 1) d).alight })
+    → (get_or rows p d).stop ≡ Some from → (get_or rows (p + 1) d).stop ≡ Some to → IsClock base start (get_or times p e).departure dep
+    → IsClock base start (get_or times (p + 1) e).arrival arr
+    → IsHop base start rows run p (record {
+      from = from;
+      to = to;
+      dep = dep;
+      arr = arr;
+      trip = run;
+      board = (get_or rows p d).board;
+      alight =
+          (get_or rows (p + 1) d).alight;
+    })
 hop_made base start rows times run p from to dep arr d e lt times_are leaves reaches departs arrives = record {
   row = get_or rows p d;
   next = get_or rows (p + 1) d;
@@ -41,7 +52,8 @@ hop_made base start rows times run p from to dep arr d e lt times_are leaves rea
 pub hops_none : (base start : ℤ) (rows : List StopTimeRow) (run : ℕ) (old : List Connection) → AddsHops base start rows run 0 old old
 hops_none base start rows run old = ([], sym (append-nil old), record { same_length = refl; hops = λ p d lt. absurd (omega (arith, lt)) })
 
-pub hops_more : (base start : ℤ) (rows : List StopTimeRow) (run n : ℕ) (old mid new : List Connection) (hop : Connection) → AddsHops base start rows run n old mid → IsHop base start rows run n hop
+pub hops_more : (base start : ℤ) (rows : List StopTimeRow) (run n : ℕ) (old mid new : List Connection) (hop : Connection)
+    → AddsHops base start rows run n old mid → IsHop base start rows run n hop
     → new ≡ mid ++ hop ∷ [] → AddsHops base start rows run (n + 1) old new
 hops_more base start rows run n old mid new hop was is now = (
   was.0 ++ hop ∷ [],
@@ -52,12 +64,14 @@ hops_more base start rows run n old mid new hop was is now = (
         hops = λ p d lt. elim (cases_eq p n) [
           | inl same ↦ let place : length was.0 ≡ p = omega arith in
               subst (λ (c : Connection). IsHop base start rows run p c) (sym (get_or_push was.0 hop d p place)) (rw same is)
-          | inr other ↦ subst (λ (c : Connection). IsHop base start rows run p c) (sym (get_or_append_left was.0 (hop ∷ []) d p (omega arith))) (was.2.hops p d (omega arith))
+          | inr other ↦ subst (λ (c : Connection). IsHop base start rows run p c) (sym (get_or_append_left was.0 (hop ∷ []) d p (omega arith)))
+              (was.2.hops p d (omega arith))
         ];
       }),
 )
 
-pub has_stop : (rows : List StopTimeRow) (p : ℕ) (d : StopTimeRow) → All (λ (row : StopTimeRow). IsSome row.stop) rows → p < length rows → (get_or rows p d).stop ≡ None → ⊥
+pub has_stop : (rows : List StopTimeRow) (p : ℕ) (d : StopTimeRow) → All (λ (row : StopTimeRow). IsSome row.stop) rows → p < length rows
+    → (get_or rows p d).stop ≡ None → ⊥
 has_stop rows p d stops lt none = by (get_or rows p d).stop (stops p d lt) none
   where
     by : (o : Option ℕ) → IsSome o → o ≡ None → ⊥

@@ -1,5 +1,6 @@
 -- Listed connections are legal.
-use Rattle.std.proofs.Common.{◌≡◌, ℕ, suc, ℤ, ◌+◌, ◌-◌, ◌<◌, ◌≤◌, inl, inr, List, ◌∷◌, length, get_or, Option, Some, None, IsSomeAnd, All, Contains, true, false, refl, sym, ap, ◌∙◌, subst, arith}
+use Rattle.std.proofs.Common.{◌≡◌, ℕ, suc, ℤ, ◌+◌, ◌-◌, ◌<◌, ◌≤◌, inl, inr, List, ◌∷◌, length, get_or, Option, Some, None, IsSomeAnd, All, Contains, true}
+use Rattle.std.proofs.Common.{false, refl, sym, ap, ◌∙◌, subst, arith}
 use Rattle.std.specs.List.{slice_get}
 use Rattle.std.proofs.lemmas.Bool.{cases_order}
 use Rattle.std.proofs.lemmas.Int.{ints}
@@ -54,29 +55,37 @@ known_below : (o : Option ℕ) (s n : ℕ) → o ≡ Some s → IsSomeAnd o (λ 
 known_below None s n e h = absurd h
 known_below (Some x) s n e h = let same : x ≡ s = cc in omega (arith, h, same)
 
-module _ (feed : Feed) (zone : Zone) (base : ℤ) (runs : List Run) (cs : List Connection) (runnable : IsRunnable feed) (trips : All (IsTripRun feed.trips.items) runs)
+module _ (feed : Feed) (zone : Zone) (base : ℤ) (runs : List Run) (cs : List Connection) (runnable : IsRunnable feed)
+    (trips : All (IsTripRun feed.trips.items) runs)
     (inside : AreRunsInside feed zone base runs) (listed : AreListed feed zone base runs cs) where
   -- the stops of a run's rows
-  stops_at : (r : ℕ) (start : ℤ) (rows : List StopTimeRow) → IsRunAt feed zone runs r start rows → (k : ℕ) (d : StopTimeRow) → k < length rows → IsSomeAnd (get_or rows k d).stop (λ s. s < length feed.stops.items)
+  stops_at : (r : ℕ) (start : ℤ) (rows : List StopTimeRow) → IsRunAt feed zone runs r start rows → (k : ℕ) (d : StopTimeRow) → k < length rows
+      → IsSomeAnd (get_or rows k d).stop (λ s. s < length feed.stops.items)
   stops_at r start rows at k d lt =
-      let of : IsTripRun feed.trips.items at.run = subst (λ (x : Run). IsTripRun feed.trips.items x) (get_or_from_slice_get runs r at.run at.run at.is_run) (trips r at.run (slice_get_within runs r at.run at.is_run)) in
+      let of : IsTripRun feed.trips.items at.run = subst (λ (x : Run). IsTripRun feed.trips.items x) (get_or_from_slice_get runs r at.run at.run at.is_run)
+      (trips r at.run (slice_get_within runs r at.run at.is_run)) in
       let same : of.trip ≡ at.trip = same_Some of.trip at.trip (sym of.is_trip ∙ at.is_trip) in
       let makes : makes_connections at.trip ≡ true = ap (λ (t : Trip). makes_connections t) (sym same) ∙ of.makes in
       let good = (runnable_at feed at.run.trip at.trip runnable at.is_trip).stops_below makes in
-      (subst (λ (rs : List StopTimeRow). (k : ℕ) (d : StopTimeRow) → k < length rs → IsSomeAnd (get_or rs k d).stop (λ s. s < length feed.stops.items)) (sym at.rows_are) good) k d lt
+      (subst (λ (rs : List StopTimeRow). (k : ℕ) (d : StopTimeRow) → k < length rs → IsSomeAnd (get_or rs k d).stop (λ s. s < length feed.stops.items))
+      (sym at.rows_are) good) k d lt
 
-  stop_below : (r : ℕ) (start : ℤ) (rows : List StopTimeRow) (k s : ℕ) (row : StopTimeRow) → IsRunAt feed zone runs r start rows → slice_get rows k ≡ Some row → row.stop ≡ Some s → s < length feed.stops.items
+  stop_below : (r : ℕ) (start : ℤ) (rows : List StopTimeRow) (k s : ℕ) (row : StopTimeRow) → IsRunAt feed zone runs r start rows → slice_get rows k ≡ Some row
+      → row.stop ≡ Some s → s < length feed.stops.items
   stop_below r start rows k s row at read stop =
       let known = stops_at r start rows at k row (slice_get_within rows k row read) in
-      known_below (get_or rows k row).stop s (length feed.stops.items) (ap (λ (x : StopTimeRow). x.stop) (get_or_from_slice_get rows k row row read) ∙ stop) known
+      known_below (get_or rows k row).stop s (length feed.stops.items) (ap (λ (x : StopTimeRow). x.stop) (get_or_from_slice_get rows k row row read) ∙ stop)
+      known
 
   hop_of : (i : ℕ) (c : Connection) → At cs i c → (r : ℕ) × (p : ℕ) × IsRunHop feed zone base runs r p c
   hop_of i c at = listed.only c (at_inside cs i c at)
 
   stops_in_range : (i : ℕ) (c : Connection) → At cs i c → (c.from < length feed.stops.items) × (c.to < length feed.stops.items)
   stops_in_range i c at =
-      let w = hop_of i c at in
-      (stop_below w.0 w.2.start w.2.rows w.1 c.from w.2.hop.row w.2.run_at w.2.hop.is_row w.2.hop.from, stop_below w.0 w.2.start w.2.rows (w.1 + 1) c.to w.2.hop.next w.2.run_at w.2.hop.is_next w.2.hop.to)
+      let w = hop_of i c at in (
+        stop_below w.0 w.2.start w.2.rows w.1 c.from w.2.hop.row w.2.run_at w.2.hop.is_row w.2.hop.from,
+        stop_below w.0 w.2.start w.2.rows (w.1 + 1) c.to w.2.hop.next w.2.run_at w.2.hop.is_next w.2.hop.to,
+      )
 
   trips_in_range : (i : ℕ) (c : Connection) → At cs i c → c.trip < length runs
   trips_in_range i c at =
@@ -100,7 +109,8 @@ module _ (feed : Feed) (zone : Zone) (base : ℤ) (runs : List Run) (cs : List C
       (listed.in_order i (i + 1) x.0 x.1 y.0 y.1 c d (omega arith) at then x.2 y.2).by_departure
 
   -- a run has a connection at each position but its last row's
-  hop_at : (r : ℕ) (start : ℤ) (rows : List StopTimeRow) (p : ℕ) → IsRunAt feed zone runs r start rows → p + 1 < length rows → (c : Connection) × IsHop base start rows r p c
+  hop_at : (r : ℕ) (start : ℤ) (rows : List StopTimeRow) (p : ℕ) → IsRunAt feed zone runs r start rows → p + 1 < length rows → (c : Connection)
+      × IsHop base start rows r p c
   hop_at r start rows p at lt =
       let none : StopTimeRow = record { trip = 0; arrival = None; departure = None; stop = None; sequence = 0; board = false; alight = false } in
       let from = some_value (get_or rows p none).stop (length feed.stops.items) (stops_at r start rows at p none (omega (arith, lt))) in
@@ -129,7 +139,8 @@ module _ (feed : Feed) (zone : Zone) (base : ℤ) (runs : List Run) (cs : List C
       some_value (Some s) n h = (s, refl)
 
   -- an earlier connection of a run stands before a later one
-  stands_before : (i j r p q : ℕ) (start : ℤ) (rows : List StopTimeRow) (c d : Connection) → At cs i c → At cs j d → IsRunAt feed zone runs r start rows → IsHop base start rows r p c → IsHop base start rows r q d → p < q → i < j
+  stands_before : (i j r p q : ℕ) (start : ℤ) (rows : List StopTimeRow) (c d : Connection) → At cs i c → At cs j d → IsRunAt feed zone runs r start rows
+      → IsHop base start rows r p c → IsHop base start rows r q d → p < q → i < j
   stands_before i j r p q start rows c d at_c at_d at x y lt =
       let rise = hops_rise base start rows r r p q c d x y lt in
       elim (cases_order i j) [
@@ -139,11 +150,13 @@ module _ (feed : Feed) (zone : Zone) (base : ℤ) (runs : List Run) (cs : List C
             absurd (omega (arith, rise, dep))
         | inr (inl below) ↦ below
         | inr (inr above) ↦
-            let back = (listed.in_order j i r q r p d c above at_d at_c (record { start = start; rows = rows; run_at = at; hop = y }) (record { start = start; rows = rows; run_at = at; hop = x })).by_departure in
+            let back = (listed.in_order j i r q r p d c above at_d at_c (record { start = start; rows = rows; run_at = at; hop = y })
+            (record { start = start; rows = rows; run_at = at; hop = x })).by_departure in
             absurd (omega (arith, rise, back))
       ]
 
-  joined : (start : ℤ) (rows : List StopTimeRow) (r p q : ℕ) (c d : Connection) → IsHop base start rows r p c → IsHop base start rows r q d → q ≡ p + 1 → (c.to ≡ d.from) × (c.arr ≤ d.dep)
+  joined : (start : ℤ) (rows : List StopTimeRow) (r p q : ℕ) (c d : Connection) → IsHop base start rows r p c → IsHop base start rows r q d → q ≡ p + 1
+      → (c.to ≡ d.from) × (c.arr ≤ d.dep)
   joined start rows r p q c d x y e =
       let row : x.next ≡ y.row = same_Some x.next y.row (sym x.is_next ∙ ap (λ (n : ℕ). slice_get rows n) (sym e) ∙ y.is_row) in
       let stop : c.to ≡ d.from = same_Some c.to d.from (sym x.to ∙ ap (λ (z : StopTimeRow). z.stop) row ∙ y.from) in
@@ -154,7 +167,8 @@ module _ (feed : Feed) (zone : Zone) (base : ℤ) (runs : List Run) (cs : List C
       (stop, omega (arith, ints, waits, reaches, told))
 
   -- of the connection at i, in the run's rows, and that at j, later in them, with none of the run between
-  next_one : (i j r p q : ℕ) (start : ℤ) (rows : List StopTimeRow) (c d : Connection) → IsJustBefore cs i j c d → IsRunAt feed zone runs r start rows → IsHop base start rows r p c → IsHop base start rows r q d → p < q → q ≡ p + 1
+  next_one : (i j r p q : ℕ) (start : ℤ) (rows : List StopTimeRow) (c d : Connection) → IsJustBefore cs i j c d → IsRunAt feed zone runs r start rows
+      → IsHop base start rows r p c → IsHop base start rows r q d → p < q → q ≡ p + 1
   next_one i j r p q start rows c d before at x y lt =
       elim (cases_order q (p + 1)) [
         | inl same ↦ same
@@ -183,7 +197,8 @@ module _ (feed : Feed) (zone : Zone) (base : ℤ) (runs : List Run) (cs : List C
             let order = listed.in_order i j x.0 x.1 x.0 y.1 c d before.before before.first before.second x.2 other in
             let rises = order.by_position (ap (λ (z : Connection). z.dep) e) (ap (λ (z : Connection). z.arr) e) (ap (λ (z : Connection). z.trip) e) in
             absurd (omega (arith, rises, equal))
-        | inr (inl below) ↦ joined x.2.start x.2.rows x.0 x.1 y.1 c d x.2.hop hop (next_one i j x.0 x.1 y.1 x.2.start x.2.rows c d before x.2.run_at x.2.hop hop below)
+        | inr (inl below) ↦ joined x.2.start x.2.rows x.0 x.1 y.1 c d x.2.hop hop
+            (next_one i j x.0 x.1 y.1 x.2.start x.2.rows c d before x.2.run_at x.2.hop hop below)
         | inr (inr above) ↦
             let back = stands_before j i x.0 y.1 x.1 x.2.start x.2.rows d c before.second before.first x.2.run_at hop x.2.hop above in
             let forth = before.before in
@@ -191,14 +206,23 @@ module _ (feed : Feed) (zone : Zone) (base : ℤ) (runs : List Run) (cs : List C
       ]
 
   pub legal_listed : HasLegalConnections (length feed.stops.items) (length runs) cs
-  legal_listed = record { stops_in_range = stops_in_range; trips_in_range = trips_in_range; takes_time = takes_time; departures_never_fall = never_fall; unbroken = unbroken }
+  legal_listed = record {
+    stops_in_range = stops_in_range;
+    trips_in_range = trips_in_range;
+    takes_time = takes_time;
+    departures_never_fall =
+        never_fall;
+    unbroken = unbroken;
+  }
 
-pub legal_listing : (feed : Feed) (zone : Zone) (first : Day) (days : ℕ) (cs : List Connection) (runs : List Run) → IsRunnable feed → 1 ≤ days → IsListing feed zone first days cs runs → HasLegalConnections (length feed.stops.items) (length runs) cs
+pub legal_listing : (feed : Feed) (zone : Zone) (first : Day) (days : ℕ) (cs : List Connection) (runs : List Run) → IsRunnable feed → 1 ≤ days
+    → IsListing feed zone first days cs runs → HasLegalConnections (length feed.stops.items) (length runs) cs
 legal_listing feed zone first days cs runs runnable some l =
     let base = base_of zone first days some l.started in
     legal_listed feed zone base.0 runs cs runnable (runs_are_of feed (days_from first days) runs l.runs_are).0 (l.inside base.0 base.1) (l.listed base.0 base.1)
 
-pub limits_listing : (feed : Feed) (zone : Zone) (first : Day) (days : ℕ) (cs : List Connection) (runs : List Run) → 1 ≤ days → IsListing feed zone first days cs runs → AreWithinLimits (length runs) cs
+pub limits_listing : (feed : Feed) (zone : Zone) (first : Day) (days : ℕ) (cs : List Connection) (runs : List Run) → 1 ≤ days
+    → IsListing feed zone first days cs runs → AreWithinLimits (length runs) cs
 limits_listing feed zone first days cs runs some l =
     let base = base_of zone first days some l.started in
     record {

@@ -4,6 +4,7 @@ pub mod GroupSteps
 pub mod HopSteps
 pub mod LegalSteps
 pub mod ListSteps
+pub mod MarkSteps
 pub mod OneSteps
 pub mod OrderSteps
 pub mod ReadySteps

@@ -1,5 +1,6 @@
 -- The connections of the runs, a run on.
-use Rattle.std.proofs.Common.{◌≡◌, ℕ, zero, suc, ℤ, ◌+◌, ◌-◌, ◌<◌, inl, inr, List, [], ◌++◌, length, get_or, take, Option, Some, Contains, refl, sym, ap, ◌∙◌, subst, arith, length-append}
+use Rattle.std.proofs.Common.{◌≡◌, ℕ, zero, suc, ℤ, ◌+◌, ◌-◌, ◌<◌, inl, inr, List, [], ◌++◌, length, get_or, take, Option, Some, Contains, refl, sym, ap, ◌∙◌}
+use Rattle.std.proofs.Common.{subst, arith, length-append}
 use Rattle.std.specs.Prelude.{◌+ℤ◌}
 use Rattle.std.specs.List.{slice_get}
 use Rattle.std.specs.Option.{option_map_or}
@@ -57,7 +58,8 @@ departs_rise rows p (suc q) lt =
       | inr other ↦ let below : departs rows p < departs rows q = departs_rise rows p q (omega (arith, lt, other)) in omega (arith, below, next)
     ]
 
-pub hops_rise : (base start : ℤ) (rows : List StopTimeRow) (r s p q : ℕ) (c d : Connection) → IsHop base start rows r p c → IsHop base start rows s q d → p < q → c.dep < d.dep
+pub hops_rise : (base start : ℤ) (rows : List StopTimeRow) (r s p q : ℕ) (c d : Connection) → IsHop base start rows r p c → IsHop base start rows s q d → p < q
+    → c.dep < d.dep
 hops_rise base start rows r s p q c d x y lt =
     let rise = departs_rise rows p q lt in
     let first = x.dep.told in
@@ -66,15 +68,19 @@ hops_rise base start rows r s p q c d x y lt =
 
 -- ---- one run of a number
 
-same_run : (feed : Feed) (zone : Zone) (runs : List Run) (r : ℕ) (start other : ℤ) (rows rest : List StopTimeRow) (x : IsRunAt feed zone runs r start rows) (y : IsRunAt feed zone runs r other rest) → x.run ≡ y.run
+same_run : (feed : Feed) (zone : Zone) (runs : List Run) (r : ℕ) (start other : ℤ) (rows rest : List StopTimeRow) (x : IsRunAt feed zone runs r start rows)
+    (y : IsRunAt feed zone runs r other rest) → x.run ≡ y.run
 same_run feed zone runs r start other rows rest x y = same_Some x.run y.run (sym x.is_run ∙ y.is_run)
 
-same_run_start : (zone : Zone) (x y : Run) (rows rest : List StopTimeRow) (start other : ℤ) → x ≡ y → rows ≡ rest → IsRunStart zone x rows start → IsRunStart zone y rest other → start ≡ other
+same_run_start : (zone : Zone) (x y : Run) (rows rest : List StopTimeRow) (start other : ℤ) → x ≡ y → rows ≡ rest → IsRunStart zone x rows start
+    → IsRunStart zone y rest other → start ≡ other
 same_run_start zone x y rows rest start other run same a b =
-    let moved : IsRunStart zone y rest start = subst (λ (t : Run). IsRunStart zone t rest start) run (subst (λ (rs : List StopTimeRow). IsRunStart zone x rs start) same a) in
+    let moved : IsRunStart zone y rest start = subst (λ (t : Run). IsRunStart zone t rest start) run
+    (subst (λ (rs : List StopTimeRow). IsRunStart zone x rs start) same a) in
     moved.is ∙ ap (λ day. day +ℤ shift_of y.start rest) (same_start zone y.day moved.day b.day moved.is_day b.is_day) ∙ sym b.is
 
-pub same_run_at : (feed : Feed) (zone : Zone) (runs : List Run) (r : ℕ) (start other : ℤ) (rows rest : List StopTimeRow) → IsRunAt feed zone runs r start rows → IsRunAt feed zone runs r other rest
+pub same_run_at : (feed : Feed) (zone : Zone) (runs : List Run) (r : ℕ) (start other : ℤ) (rows rest : List StopTimeRow) → IsRunAt feed zone runs r start rows
+    → IsRunAt feed zone runs r other rest
     → (start ≡ other) × (rows ≡ rest)
 same_run_at feed zone runs r start other rows rest x y =
     let run : x.run ≡ y.run = same_run feed zone runs r start other rows rest x y in
@@ -87,10 +93,20 @@ hop_along base s t xs ys r p c e f x = subst (λ (z : ℤ). IsHop base z ys r p 
 
 inside_along : (base s t : ℤ) (o p : Option ℕ) (xs ys : List StopTimeRow) → s ≡ t → o ≡ p → xs ≡ ys → AreInside base s o xs → AreInside base t p ys
 inside_along base s t o p xs ys e d f x =
-    subst (λ (z : ℤ). AreInside base z p ys) e (subst (λ (q : Option ℕ). AreInside base s q ys) d (subst (λ (zs : List StopTimeRow). AreInside base s o zs) f x))
+    subst (λ (z : ℤ). AreInside base z p ys) e
+    (subst (λ (q : Option ℕ). AreInside base s q ys) d (subst (λ (zs : List StopTimeRow). AreInside base s o zs) f x))
 
-abbrev pub run_rows_at : (feed : Feed) (zone : Zone) (runs : List Run) (n : ℕ) (run : Run) (start : ℤ) (rows : List StopTimeRow) → slice_get runs n ≡ Some run → AreRunRows feed zone run start rows → IsRunAt feed zone runs n start rows
-run_rows_at feed zone runs n run start rows at x = record { run = run; trip = x.trip; is_run = at; is_trip = x.is_trip; starts = x.starts; rows_are = x.rows_are }
+abbrev pub run_rows_at : (feed : Feed) (zone : Zone) (runs : List Run) (n : ℕ) (run : Run) (start : ℤ) (rows : List StopTimeRow) → slice_get runs n ≡ Some run
+    → AreRunRows feed zone run start rows → IsRunAt feed zone runs n start rows
+run_rows_at feed zone runs n run start rows at x = record {
+  run = run;
+  trip = x.trip;
+  is_run = at;
+  is_trip = x.is_trip;
+  starts = x.starts;
+  rows_are =
+      x.rows_are;
+}
 
 -- ---- a run more
 
@@ -155,24 +171,34 @@ module _ (feed : Feed) (zone : Zone) (base : ℤ) (runs : List Run) (n : ℕ) (r
         | inl low ↦ rw (get_or_append_left mid a.adds.0 d i (omega (arith, lt, low)), get_or_append_left mid a.adds.0 d j low) (was.rising i j d lt low)
         | inr high ↦
             let second : get_or (mid ++ a.adds.0) j d ≡ get_or a.adds.0 (j - length mid) d = get_or-append_right mid a.adds.0 (length mid) j d refl high in
-            let hop : IsHop base a.start a.rows n (j - length mid) (get_or a.adds.0 (j - length mid) d) = hop_at (j - length mid) d (omega (arith, within, size, high)) in
+            let hop : IsHop base a.start a.rows n (j - length mid) (get_or a.adds.0 (j - length mid) d) =
+            hop_at (j - length mid) d (omega (arith, within, size, high)) in
             elim (cases_lt i (length mid)) [
-              | inl low ↦ rw (get_or_append_left mid a.adds.0 d i low, second) (inl (let old = old_trip i d low in let trip = hop.trip in omega (arith, old, trip)))
+              | inl low ↦ rw (get_or_append_left mid a.adds.0 d i low, second)
+                  (inl (let old = old_trip i d low in let trip = hop.trip in omega (arith, old, trip)))
               | inr above ↦
-                  let first : get_or (mid ++ a.adds.0) i d ≡ get_or a.adds.0 (i - length mid) d = get_or-append_right mid a.adds.0 (length mid) i d refl above in
-                  let before : IsHop base a.start a.rows n (i - length mid) (get_or a.adds.0 (i - length mid) d) = hop_at (i - length mid) d (omega (arith, within, size, high, lt)) in
-                  rw (first, second) (inr (before.trip ∙ sym hop.trip, hops_rise base a.start a.rows n n (i - length mid) (j - length mid) (get_or a.adds.0 (i - length mid) d) (get_or a.adds.0 (j - length mid) d) before hop (omega (arith, lt, high, above))))
+                  let first : get_or (mid ++ a.adds.0) i d ≡ get_or a.adds.0 (i - length mid) d =
+                  get_or-append_right mid a.adds.0 (length mid) i d refl above in
+                  let before : IsHop base a.start a.rows n (i - length mid) (get_or a.adds.0 (i - length mid) d) =
+                  hop_at (i - length mid) d (omega (arith, within, size, high, lt)) in
+                  rw (first, second) (inr (
+                    before.trip ∙ sym hop.trip,
+                    hops_rise base a.start a.rows n n (i - length mid) (j - length mid) (get_or a.adds.0 (i - length mid) d)
+                        (get_or a.adds.0 (j - length mid) d) before hop (omega (arith, lt, high, above)),
+                  ))
             ]
       ]
 
   rising_more : (i j : ℕ) (d : Connection) → i < j → j < length new → IsEarlier (get_or new i d) (get_or new j d)
-  rising_more = subst (λ (cs : List Connection). (i j : ℕ) (d : Connection) → i < j → j < length cs → IsEarlier (get_or cs i d) (get_or cs j d)) (sym a.adds.1) rising_parts
+  rising_more = subst (λ (cs : List Connection). (i j : ℕ) (d : Connection) → i < j → j < length cs → IsEarlier (get_or cs i d) (get_or cs j d)) (sym a.adds.1)
+      rising_parts
 
   counted_more : length new ≡ count_hops feed.trips.items (take (n + 1) runs)
   counted_more =
       let size : length new ≡ length mid + length a.adds.0 = ap length a.adds.1 ∙ length-append mid a.adds.0 in
       let more : count_hops feed.trips.items (take (n + 1) runs) ≡ count_hops feed.trips.items (take n runs) + run_hops feed.trips.items run =
-      sum_by_more (run_hops feed.trips.items) runs n run (slice_get_within runs n run at) ∙ ap (λ (x : Run). count_hops feed.trips.items (take n runs) + run_hops feed.trips.items x) (get_or_from_slice_get runs n run run at) in
+      sum_by_more (run_hops feed.trips.items) runs n run (slice_get_within runs n run at)
+      ∙ ap (λ (x : Run). count_hops feed.trips.items (take n runs) + run_hops feed.trips.items x) (get_or_from_slice_get runs n run run at) in
       let mine : run_hops feed.trips.items run ≡ hops_of a.rows_are.trip = ap (λ (o : Option Trip). option_map_or hops_of o 0) a.rows_are.is_trip in
       let hops = a.rows_are.hops_are in
       let len = a.adds.2.same_length in

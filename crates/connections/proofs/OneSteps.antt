@@ -30,7 +30,8 @@ head_or_tail x y xs (suc m) at = inr (m, refl, at)
 abbrev Among : List Connection → List Connection → Type 0
 Among xs ys = (i : ℕ) (x : Connection) → At xs i x → (j : ℕ) × At ys j x
 
-same_heads : (R : Connection → Connection → Type 0) (never : (x y : Connection) → R x y → R y x → ⊥) (x y : Connection) (xs ys : List Connection) → Rises R (x ∷ xs) → Rises R (y ∷ ys) → Among (x ∷ xs) (y ∷ ys) → Among (y ∷ ys) (x ∷ xs) → x ≡ y
+same_heads : (R : Connection → Connection → Type 0) (never : (x y : Connection) → R x y → R y x → ⊥) (x y : Connection) (xs ys : List Connection)
+    → Rises R (x ∷ xs) → Rises R (y ∷ ys) → Among (x ∷ xs) (y ∷ ys) → Among (y ∷ ys) (x ∷ xs) → x ≡ y
 same_heads R never x y xs ys up rise there back =
     let a = there 0 x refl in
     let b = back 0 y refl in
@@ -42,7 +43,8 @@ same_heads R never x y xs ys up rise there back =
       ]
     ]
 
-tails_among : (R : Connection → Connection → Type 0) (never : (x y : Connection) → R x y → R y x → ⊥) (x y : Connection) (xs ys : List Connection) → x ≡ y → Rises R (x ∷ xs) → Among (x ∷ xs) (y ∷ ys) → Among xs ys
+tails_among : (R : Connection → Connection → Type 0) (never : (x y : Connection) → R x y → R y x → ⊥) (x y : Connection) (xs ys : List Connection) → x ≡ y
+    → Rises R (x ∷ xs) → Among (x ∷ xs) (y ∷ ys) → Among xs ys
 tails_among R never x y xs ys same up there i z at =
     let a = there (suc i) z at in
     elim (head_or_tail y z ys a.0 a.1) [
@@ -53,13 +55,15 @@ tails_among R never x y xs ys same up there i z at =
       | inr later ↦ (later.0, later.2)
     ]
 
-one_list : (R : Connection → Connection → Type 0) (never : (x y : Connection) → R x y → R y x → ⊥) (xs ys : List Connection) → Rises R xs → Rises R ys → Among xs ys → Among ys xs → xs ≡ ys
+one_list : (R : Connection → Connection → Type 0) (never : (x y : Connection) → R x y → R y x → ⊥) (xs ys : List Connection) → Rises R xs → Rises R ys
+    → Among xs ys → Among ys xs → xs ≡ ys
 one_list R never [] [] up rise there back = refl
 one_list R never [] (y ∷ ys) up rise there back = absurd (let a = back 0 y refl in (let lt = slice_get_within [] a.0 y a.1 in omega (arith, lt)))
 one_list R never (x ∷ xs) [] up rise there back = absurd (let a = there 0 x refl in (let lt = slice_get_within [] a.0 x a.1 in omega (arith, lt)))
 one_list R never (x ∷ xs) (y ∷ ys) up rise there back =
     let same : x ≡ y = same_heads R never x y xs ys up rise there back in
-    let rest : xs ≡ ys = one_list R never xs ys (tail_rises R x xs up) (tail_rises R y ys rise) (tails_among R never x y xs ys same up there) (tails_among R never y x ys xs (sym same) rise back) in
+    let rest : xs ≡ ys = one_list R never xs ys (tail_rises R x xs up) (tail_rises R y ys rise) (tails_among R never x y xs ys same up there)
+    (tails_among R never y x ys xs (sym same) rise back) in
     ap (λ (z : Connection). z ∷ xs) same ∙ ap (λ (zs : List Connection). y ∷ zs) rest
 
 -- ---- listed connections rise so
@@ -107,7 +111,8 @@ module _ (feed : Feed) (zone : Zone) (base : ℤ) (runs : List Run) where
   pub one_listed : (cs ds : List Connection) → AreListed feed zone base runs cs → AreListed feed zone base runs ds → cs ≡ ds
   one_listed cs ds l m = one_list ComesFirst never_round cs ds (listed_rises cs l) (listed_rises ds m) (among cs ds l m) (among ds cs m l)
 
-pub one_listing : (feed : Feed) (zone : Zone) (first : Day) (days : ℕ) (cs ds : List Connection) (runs others : List Run) → 1 ≤ days → IsListing feed zone first days cs runs → IsListing feed zone first days ds others
+pub one_listing : (feed : Feed) (zone : Zone) (first : Day) (days : ℕ) (cs ds : List Connection) (runs others : List Run) → 1 ≤ days
+    → IsListing feed zone first days cs runs → IsListing feed zone first days ds others
     → (cs ≡ ds) × (runs ≡ others)
 one_listing feed zone first days cs ds runs others some l m =
     let same : runs ≡ others = l.runs_are ∙ sym m.runs_are in

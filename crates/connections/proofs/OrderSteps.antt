@@ -25,7 +25,8 @@ abbrev key_cmp : ℕ × ℕ × ℕ → ℕ × ℕ × ℕ → Ordering
 key_cmp x y = ordering_then (ordering_then (nat_cmp x.0 y.0) (nat_cmp x.1 y.1)) (nat_cmp x.2 y.2)
 
 -- what isn't less stands behind
-not_less : (a b p x y q : ℕ) → is_lt (ordering_then (ordering_then (nat_cmp a x) (nat_cmp b y)) (nat_cmp p q)) ≡ false → (x ≤ a) × (x ≡ a → y ≤ b) × (x ≡ a → y ≡ b → q ≤ p)
+not_less : (a b p x y q : ℕ) → is_lt (ordering_then (ordering_then (nat_cmp a x) (nat_cmp b y)) (nat_cmp p q)) ≡ false → (x ≤ a) × (x ≡ a → y ≤ b)
+    × (x ≡ a → y ≡ b → q ≤ p)
 not_less a b p x y q h = (
   elim (cases_lt a x) [
     | inl less ↦ absurd (false≢true (sym h ∙ ap (λ (o : Ordering). is_lt (ordering_then (ordering_then o (nat_cmp b y)) (nat_cmp p q))) (nat_less a x less)))
@@ -73,17 +74,21 @@ not_after_on c d e x y =
           (let r = x.by_run near close in let s = y.by_run far distant in omega (arith, r, s));
     }
 
-far_on : (xs : List Connection) → ((k : ℕ) (d : Connection) → k + 1 < length xs → IsNotAfter (get_or xs k d) (get_or xs (k + 1) d)) → (i j : ℕ) (d : Connection) → i < j → j < length xs → IsNotAfter (get_or xs i d) (get_or xs j d)
+far_on : (xs : List Connection) → ((k : ℕ) (d : Connection) → k + 1 < length xs → IsNotAfter (get_or xs k d) (get_or xs (k + 1) d))
+    → (i j : ℕ) (d : Connection) → i < j → j < length xs → IsNotAfter (get_or xs i d) (get_or xs j d)
 far_on xs up i zero d lt within = absurd (omega (arith, lt))
 far_on xs up i (suc j) d lt within =
     let next : j + 1 ≡ suc j = omega arith in
-    let last : IsNotAfter (get_or xs j d) (get_or xs (suc j) d) = subst (λ (n : ℕ). IsNotAfter (get_or xs j d) (get_or xs n d)) next (up j d (omega (arith, within))) in
+    let last : IsNotAfter (get_or xs j d) (get_or xs (suc j) d) =
+    subst (λ (n : ℕ). IsNotAfter (get_or xs j d) (get_or xs n d)) next (up j d (omega (arith, within))) in
     elim (cases_eq i j) [
       | inl same ↦ subst (λ (n : ℕ). IsNotAfter (get_or xs n d) (get_or xs (suc j) d)) (sym same) last
-      | inr other ↦ not_after_on (get_or xs i d) (get_or xs j d) (get_or xs (suc j) d) (far_on xs up i j d (omega (arith, lt, other)) (omega (arith, within))) last
+      | inr other ↦ not_after_on (get_or xs i d) (get_or xs j d) (get_or xs (suc j) d) (far_on xs up i j d (omega (arith, lt, other)) (omega (arith, within)))
+          last
     ]
 
-pub sorted_by : {F : Type 0} {g : Mut F (Bor Connection × Unit {0}) (ℕ × ℕ × ℕ)} {f : F} (xs : List Connection) → ((key : Connection → ℕ × ℕ × ℕ) → ComputesKey g key f → IsSortedByKey key key_cmp xs)
+pub sorted_by : {F : Type 0} {g : Mut F (Bor Connection × Unit {0}) (ℕ × ℕ × ℕ)} {f : F} (xs : List Connection)
+    → ((key : Connection → ℕ × ℕ × ℕ) → ComputesKey g key f → IsSortedByKey key key_cmp xs)
     → ((f : F) (a : Bor Connection × Unit {0}) (r : ℕ × ℕ × ℕ) (f' : F) → Called g f a r f' → r ≡ key_of a.0.now) → AreSorted xs
 sorted_by {g = g} {f = f} xs up calls =
     let sorted = up key_of (answers_always g (λ a r. r ≡ key_of a.0.now) f calls) in

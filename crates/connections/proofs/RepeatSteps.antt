@@ -1,8 +1,10 @@
 -- The starts of a trip that repeats, one on.
-use Rattle.std.proofs.Common.{◌≡◌, ℕ, zero, suc, ◌+◌, ◌-◌, ◌*◌, ◌/◌, ◌%◌, ◌<◌, ◌≤◌, inl, inr, min, max, List, [], ◌∷◌, ◌++◌, length, get_or, take, Option, Some, None, Bool, true, false, ◌||◌, ◌&&◌, ◌==◌, refl, sym, ap, ◌∙◌, arith, append_assoc, suc-mul}
+use Rattle.std.proofs.Common.{◌≡◌, ℕ, zero, suc, ◌+◌, ◌-◌, ◌*◌, ◌/◌, ◌%◌, ◌<◌, ◌≤◌, inl, inr, min, max, List, [], ◌∷◌, ◌++◌, length, get_or, take, Option, Some}
+use Rattle.std.proofs.Common.{None, Bool, true, false, ◌||◌, ◌&&◌, ◌==◌, refl, sym, ap, ◌∙◌, arith, append_assoc, suc-mul}
 use Rattle.std.specs.Prelude.{MatchOption, IfSome, nat_le, nat_lt, if◌then◌else◌}
-use Rattle.std.proofs.lemmas.Bool.{and_left, and_parts, and_right, cases_eq, cases_lt, false≢true, le-ltb, lt-leb, lt-ltb, le-leb, eq-eqb, and_from, ltb-true, ne_eqb, or_cases, or_from, or_left, or_right}
-use Rattle.std.proofs.lemmas.List.{append-nil}
+use Rattle.std.proofs.lemmas.Bool.{and_left, and_parts, and_right, cases_eq, cases_lt, false≢true, le-ltb, lt-leb, lt-ltb, le-leb, eq-eqb, and_from, ltb-true}
+use Rattle.std.proofs.lemmas.Bool.{ne_eqb, or_cases, or_from, or_left, or_right}
+use Rattle.std.proofs.lemmas.List.{append-nil, length-take-le, take_more}
 use Rattle.std.proofs.lemmas.List.Folds.{list_any_more}
 use Rattle.std.proofs.lemmas.Nat.{div-add-mod', mod-mul-add, mod_below}
 use Rattle.gtfs_rows.specs.declared.values.Day.{Day}
@@ -50,7 +52,8 @@ whole gone q h past wait is below waits =
           ap (λ n. n % h) place ∙ mod-mul-add (suc q) h 0 (omega (arith, below))
     ]
 
-module _ (row : Frequency) (from past wait start : ℕ) (some : 0 < row.headway) (passed : past ≡ (from - row.start) % row.headway) (waits : wait ≡ wait_of past row.headway)
+module _ (row : Frequency) (from past wait start : ℕ) (some : 0 < row.headway) (passed : past ≡ (from - row.start) % row.headway)
+    (waits : wait ≡ wait_of past row.headway)
     (starts : start ≡ max from row.start + wait) where
   gone : from - row.start ≡ (from - row.start) / row.headway * row.headway + past
   gone = sym (div-add-mod' (from - row.start) row.headway) ∙ ap (λ n. (from - row.start) / row.headway * row.headway + n) (sym passed)
@@ -62,22 +65,26 @@ module _ (row : Frequency) (from past wait start : ℕ) (some : 0 < row.headway)
   row_before s low high = elim (cases_lt s row.start) [
     | inl early ↦
         and_left (nat_lt 0 row.headway && nat_le row.start s && nat_lt s row.end) ((s - row.start) % row.headway == 0)
-        (and_left (nat_lt 0 row.headway && nat_le row.start s) (nat_lt s row.end) (and_right (nat_lt 0 row.headway) (nat_le row.start s) (lt-leb row.start s early)))
+        (and_left (nat_lt 0 row.headway && nat_le row.start s) (nat_lt s row.end)
+        (and_right (nat_lt 0 row.headway) (nat_le row.start s) (lt-leb row.start s early)))
     | inr late ↦
         and_right (nat_lt 0 row.headway && nat_le row.start s && nat_lt s row.end) ((s - row.start) % row.headway == 0)
         (ne_eqb ((s - row.start) % row.headway) 0
-        (between (from - row.start) ((from - row.start) / row.headway) row.headway past wait (s - row.start) gone below waits (omega (arith, low, late)) (omega (arith, starts, high, late))))
+        (between (from - row.start) ((from - row.start) / row.headway) row.headway past wait (s - row.start) gone below waits (omega (arith, low, late))
+        (omega (arith, starts, high, late))))
   ]
 
   pub row_next : start < row.end → IsNext (λ s. leaves_at s row) from start
   row_next lt =
       let far : start - row.start ≡ from - row.start + wait = omega (arith, starts) in
-      let at : (start - row.start) % row.headway ≡ 0 = ap (λ n. n % row.headway) far ∙ whole (from - row.start) ((from - row.start) / row.headway) row.headway past wait gone below waits in
+      let at : (start - row.start) % row.headway ≡ 0 = ap (λ n. n % row.headway) far
+      ∙ whole (from - row.start) ((from - row.start) / row.headway) row.headway past wait gone below waits in
       record {
         after = omega (arith, starts);
         is = and_from (nat_lt 0 row.headway && nat_le row.start start && nat_lt start row.end) ((start - row.start) % row.headway == 0)
             (and_from (nat_lt 0 row.headway && nat_le row.start start) (nat_lt start row.end)
-            (and_from (nat_lt 0 row.headway) (nat_le row.start start) (lt-ltb 0 row.headway some) (le-leb row.start start (omega (arith, starts)))) (lt-ltb start row.end lt))
+            (and_from (nat_lt 0 row.headway) (nat_le row.start start) (lt-ltb 0 row.headway some) (le-leb row.start start (omega (arith, starts))))
+            (lt-ltb start row.end lt))
             (eq-eqb ((start - row.start) % row.headway) 0 at);
         first = row_before;
       }
@@ -94,12 +101,14 @@ module _ (row : Frequency) (from past wait start : ℕ) (some : 0 < row.headway)
 pub row_without : (row : Frequency) (from : ℕ) → row.headway ≡ 0 → IsNever (λ s. leaves_at s row) from
 row_without row from none s low =
     and_left (nat_lt 0 row.headway && nat_le row.start s && nat_lt s row.end) ((s - row.start) % row.headway == 0)
-    (and_left (nat_lt 0 row.headway && nat_le row.start s) (nat_lt s row.end) (and_left (nat_lt 0 row.headway) (nat_le row.start s) (le-ltb 0 row.headway (omega (arith, none)))))
+    (and_left (nat_lt 0 row.headway && nat_le row.start s) (nat_lt s row.end)
+    (and_left (nat_lt 0 row.headway) (nat_le row.start s) (le-ltb 0 row.headway (omega (arith, none)))))
 
 -- ---- rows
 
 -- of two tests, the one or the other
-pub next_of_both : (p q r : ℕ → Bool) (from : ℕ) (a b : Option ℕ) → ((s : ℕ) → r s ≡ (p s || q s)) → MatchOption a (IsNever p from) (IsNext p from) → MatchOption b (IsNever q from) (IsNext q from)
+pub next_of_both : (p q r : ℕ → Bool) (from : ℕ) (a b : Option ℕ) → ((s : ℕ) → r s ≡ (p s || q s)) → MatchOption a (IsNever p from) (IsNext p from)
+    → MatchOption b (IsNever q from) (IsNext q from)
     → MatchOption (earlier_of a b) (IsNever r from) (IsNext r from)
 next_of_both p q r from None None e x y = λ s low. e s ∙ or_from (p s) (q s) (x s low) (y s low)
 next_of_both p q r from None (Some b) e x y = record {
@@ -115,10 +124,20 @@ next_of_both p q r from (Some a) None e x y = record {
 next_of_both p q r from (Some a) (Some b) e x y = elim (cases_lt a b) [
   | inl less ↦
       let is : min a b ≡ a = omega (arith, less) in
-      rw is (record { after = x.after; is = e a ∙ or_left (p a) (q a) x.is; first = λ s low high. e s ∙ or_from (p s) (q s) (x.first s low high) (y.first s low (omega (arith, high, less))) })
+      rw is (record {
+        after = x.after;
+        is = e a ∙ or_left (p a) (q a) x.is;
+        first = λ s low high. e s
+            ∙ or_from (p s) (q s) (x.first s low high) (y.first s low (omega (arith, high, less)));
+      })
   | inr more ↦
       let is : min a b ≡ b = omega (arith, more) in
-      rw is (record { after = y.after; is = e b ∙ or_right (p b) (q b) y.is; first = λ s low high. e s ∙ or_from (p s) (q s) (x.first s low (omega (arith, high, more))) (y.first s low high) })
+      rw is (record {
+        after = y.after;
+        is = e b ∙ or_right (p b) (q b) y.is;
+        first = λ s low high. e s
+            ∙ or_from (p s) (q s) (x.first s low (omega (arith, high, more))) (y.first s low high);
+      })
 ]
 
 pub room_of_both : (a b : Option ℕ) (most : ℕ) → IfSome a (λ n. n < most) → IfSome b (λ n. n < most) → IfSome (earlier_of a b) (λ n. n < most)
@@ -127,24 +146,28 @@ room_of_both (Some a) None most x y = x
 room_of_both (Some a) (Some b) most x y = omega (arith, x, y)
 
 -- a row more
-pub start_more : (rows : List Frequency) (i : ℕ) (d : Frequency) → i < length rows → (s : ℕ) → is_start (take (i + 1) rows) s ≡ (is_start (take i rows) s || leaves_at s (get_or rows i d))
+pub start_more : (rows : List Frequency) (i : ℕ) (d : Frequency) → i < length rows → (s : ℕ)
+    → is_start (take (i + 1) rows) s ≡ (is_start (take i rows) s || leaves_at s (get_or rows i d))
 start_more rows i d lt s = list_any_more (leaves_at s) rows i d lt
 
 -- ---- the starts before a time
 
-pub starts_skip : (rows : List Frequency) (from n : ℕ) → from ≤ n → ((s : ℕ) → from ≤ s → s < n → is_start rows s ≡ false) → starts_before rows n ≡ starts_before rows from
+pub starts_skip : (rows : List Frequency) (from n : ℕ) → from ≤ n → ((s : ℕ) → from ≤ s → s < n → is_start rows s ≡ false)
+    → starts_before rows n ≡ starts_before rows from
 unfolding starts_before
 starts_skip rows from zero le none = let e : from ≡ zero = omega (arith, le) in rw e refl
 starts_skip rows from (suc n) le none = elim (cases_eq from (suc n)) [
   | inl same ↦ rw same refl
-  | inr other ↦ rw (none n (omega (arith, le, other)) (omega arith)) (starts_skip rows from n (omega (arith, le, other)) (λ s low high. none s low (omega (arith, high))))
+  | inr other ↦ rw (none n (omega (arith, le, other)) (omega arith))
+      (starts_skip rows from n (omega (arith, le, other)) (λ s low high. none s low (omega (arith, high))))
 ]
 
 pub start_here : (rows : List Frequency) (s : ℕ) → is_start rows s ≡ true → starts_before rows (suc s) ≡ starts_before rows s ++ s ∷ []
 unfolding starts_before
 start_here rows s is = rw is refl
 
-pub starts_next : (rows : List Frequency) (from start : ℕ) → IsNext (is_start rows) from start → starts_before rows (start + 1) ≡ starts_before rows from ++ start ∷ []
+pub starts_next : (rows : List Frequency) (from start : ℕ) → IsNext (is_start rows) from start
+    → starts_before rows (start + 1) ≡ starts_before rows from ++ start ∷ []
 starts_next rows from start x =
     let e : start + 1 ≡ suc start = omega arith in
     ap (starts_before rows) e ∙ start_here rows start x.is ∙ ap (λ xs. xs ++ start ∷ []) (starts_skip rows from start x.after x.first)
@@ -170,10 +193,12 @@ start_below (row ∷ rows) s is = elim (or_cases (leaves_at s row) (is_start row
 
 -- ---- the runs of those starts
 
-pub repeats_push : (day : Day) (t r k s : ℕ) (starts : List ℕ) → k ≡ r + length starts → repeats_from day t r (starts ++ s ∷ []) ≡ repeats_from day t r starts ++ record { day = day; trip = t; repeat = k; start = Some s } ∷ []
+pub repeats_push : (day : Day) (t r k s : ℕ) (starts : List ℕ) → k ≡ r + length starts
+    → repeats_from day t r (starts ++ s ∷ []) ≡ repeats_from day t r starts ++ record { day = day; trip = t; repeat = k; start = Some s } ∷ []
 unfolding repeats_from
 repeats_push day t r k s [] e = let same : k ≡ r = omega (arith, e) in rw same refl
-repeats_push day t r k s (first ∷ starts) e = ap (λ rest. record { day = day; trip = t; repeat = r; start = Some first } ∷ rest) (repeats_push day t (r + 1) k s starts (omega (arith, e)))
+repeats_push day t r k s (first ∷ starts) e = ap (λ rest. record { day = day; trip = t; repeat = r; start = Some first } ∷ rest)
+    (repeats_push day t (r + 1) k s starts (omega (arith, e)))
 
 pub repeats_none : (day : Day) (t r : ℕ) → repeats_from day t r [] ≡ []
 unfolding repeats_from
@@ -185,12 +210,31 @@ repeats_count day t r [] = refl
 repeats_count day t r (s ∷ starts) = ap (λ n. suc n) (repeats_count day t (r + 1) starts)
 
 -- a repeat more
-pub repeats_more : (day : Day) (t k from start : ℕ) (rows : List Frequency) (old mid new : List Run) → IsNext (is_start rows) from start → k ≡ length (starts_before rows from)
-    → mid ≡ old ++ repeats_from day t 0 (starts_before rows from) → new ≡ mid ++ record { day = day; trip = t; repeat = k; start = Some start } ∷ [] → new ≡ old ++ repeats_from day t 0 (starts_before rows (start + 1))
+pub repeats_more : (day : Day) (t k from start : ℕ) (rows : List Frequency) (old mid new : List Run) → IsNext (is_start rows) from start
+    → k ≡ length (starts_before rows from)
+    → mid ≡ old ++ repeats_from day t 0 (starts_before rows from) → new ≡ mid ++ record { day = day; trip = t; repeat = k; start = Some start } ∷ []
+    → new ≡ old ++ repeats_from day t 0 (starts_before rows (start + 1))
 repeats_more day t k from start rows old mid new next count was now =
     let run : Run = record { day = day; trip = t; repeat = k; start = Some start } in
     now ∙ ap (λ (rs : List Run). rs ++ run ∷ []) was ∙ append_assoc old (repeats_from day t 0 (starts_before rows from)) (run ∷ [])
-    ∙ ap (λ (rs : List Run). old ++ rs) (sym (ap (repeats_from day t 0) (starts_next rows from start next) ∙ repeats_push day t 0 k start (starts_before rows from) (omega (arith, count))))
+    ∙ ap (λ (rs : List Run). old ++ rs)
+    (sym (ap (repeats_from day t 0) (starts_next rows from start next) ∙ repeats_push day t 0 k start (starts_before rows from) (omega (arith, count))))
 
 pub repeats_start : (day : Day) (t : ℕ) (rows : List Frequency) (old : List Run) → old ≡ old ++ repeats_from day t 0 (starts_before rows 0)
-repeats_start day t rows old = sym (ap (λ xs. old ++ repeats_from day t 0 xs) (starts_none rows) ∙ ap (λ (rs : List Run). old ++ rs) (repeats_none day t 0) ∙ append-nil old)
+repeats_start day t rows old = sym (ap (λ xs. old ++ repeats_from day t 0 xs) (starts_none rows) ∙ ap (λ (rs : List Run). old ++ rs) (repeats_none day t 0)
+    ∙ append-nil old)
+
+-- the runs of listed starts, one more
+pub pushed_none : (day : Day) (t : ℕ) (old : List Run) → old ≡ old ++ repeats_from day t 0 []
+pushed_none day t old = sym (ap (λ (rs : List Run). old ++ rs) (repeats_none day t 0) ∙ append-nil old)
+
+pub pushed_more : (day : Day) (t k : ℕ) (starts : List ℕ) (i d : ℕ) (old mid new : List Run) → i < length starts → k ≡ i
+    → mid ≡ old ++ repeats_from day t 0 (take i starts)
+    → new ≡ mid ++ record { day = day; trip = t; repeat = k; start = Some (get_or starts i d) } ∷ []
+    → new ≡ old ++ repeats_from day t 0 (take (i + 1) starts)
+pushed_more day t k starts i d old mid new lt number was now =
+    let run : Run = record { day = day; trip = t; repeat = k; start = Some (get_or starts i d) } in
+    let len : length (take i starts) ≡ i = length-take-le i starts (omega (arith, lt)) in
+    now ∙ ap (λ (rs : List Run). rs ++ run ∷ []) was ∙ append_assoc old (repeats_from day t 0 (take i starts)) (run ∷ [])
+    ∙ ap (λ (rs : List Run). old ++ rs) (sym (ap (repeats_from day t 0) (take_more starts i d lt)
+    ∙ repeats_push day t 0 k (get_or starts i d) (take i starts) (omega (arith, len, number))))

@@ -1,10 +1,13 @@
 -- The runs of days, a trip and a day on.
-use Rattle.std.proofs.Common.{◌≡◌, ℕ, ◌+◌, ◌<◌, List, [], ◌∷◌, ◌++◌, length, get_or, map, min, take, Bool, true, false, refl, sym, ap, ◌∙◌, arith, length-append, append_assoc}
-use Rattle.std.proofs.lemmas.List.{append-nil, flat_map_more, length-take-le, map-append, take_more}
+use Rattle.std.proofs.Common.{◌≡◌, ℕ, ◌+◌, ◌<◌, ◌≤◌, inl, inr, List, [], ◌∷◌, ◌++◌, length, get_or, map, min, take, Bool, true, false, refl, sym, ap, ◌∙◌}
+use Rattle.std.proofs.Common.{arith, length-append, append_assoc}
+use Rattle.std.proofs.lemmas.Bool.{cases_lt}
+use Rattle.std.proofs.lemmas.List.{append-nil, flat_map_more, get_or-map, length-take-le, map-append, take_more}
 use Rattle.gtfs_rows.specs.declared.values.Day.{Day}
 use Rattle.gtfs_tables.specs.declared.tables.Feed.{Feed}
 use Rattle.gtfs_tables.specs.declared.tables.Frequency.{Frequency}
 use Rattle.gtfs_tables.specs.declared.tables.Trip.{Trip}
+use Rattle.connections.specs.Counting.{IsCount}
 use Rattle.connections.specs.Repeats.{rows_for}
 use Rattle.connections.specs.Runs.{runs_at, runs_from, runs_of_days, runs_of_trip, runs_on}
 use Rattle.connections.specs.declared.days.ServiceDay.{ServiceDay}
@@ -27,10 +30,12 @@ runs_more feed day trips i d lt =
 -- their number
 pub runs_count : (feed : Feed) (day : Day) (trips : List Trip) (i : ℕ) (d : Trip) → i < length trips
     → length (runs_from feed day 0 (take (i + 1) trips)) ≡ length (runs_from feed day 0 (take i trips)) + length (runs_at feed day i (get_or trips i d))
-runs_count feed day trips i d lt = ap length (runs_more feed day trips i d lt) ∙ length-append (runs_from feed day 0 (take i trips)) (runs_at feed day i (get_or trips i d))
+runs_count feed day trips i d lt = ap length (runs_more feed day trips i d lt)
+    ∙ length-append (runs_from feed day 0 (take i trips)) (runs_at feed day i (get_or trips i d))
 
 -- the runs of a trip that runs that day, and of one that doesn't
-pub runs_here : (feed : Feed) (day : Day) (t : ℕ) (trip : Trip) (rows : List Frequency) (b : Bool) → b ≡ true → b ≡ runs_on feed day trip → rows ≡ rows_for feed.frequencies.items t → runs_of_trip rows day t trip ≡ runs_at feed day t trip
+pub runs_here : (feed : Feed) (day : Day) (t : ℕ) (trip : Trip) (rows : List Frequency) (b : Bool) → b ≡ true → b ≡ runs_on feed day trip
+    → rows ≡ rows_for feed.frequencies.items t → runs_of_trip rows day t trip ≡ runs_at feed day t trip
 runs_here feed day t trip rows b ran is same = let on : runs_on feed day trip ≡ true = sym is ∙ ran in rw (on, same) refl
 
 pub runs_nowhere : (feed : Feed) (day : Day) (t : ℕ) (trip : Trip) (b : Bool) → b ≡ false → b ≡ runs_on feed day trip → runs_at feed day t trip ≡ []
@@ -38,15 +43,18 @@ runs_nowhere feed day t trip b idle is = let off : runs_on feed day trip ≡ fal
 
 -- the runs of one day more
 pub days_more : (feed : Feed) (days : List ServiceDay) (i : ℕ) (d : ServiceDay) → i < length days
-    → runs_of_days feed (map (λ day. day.day) (take (i + 1) days)) ≡ runs_of_days feed (map (λ day. day.day) (take i days)) ++ runs_from feed (get_or days i d).day 0 feed.trips.items
+    → runs_of_days feed (map (λ day. day.day) (take (i + 1) days)) ≡ runs_of_days feed (map (λ day. day.day) (take i days)) ++ runs_from feed
+    (get_or days i d).day 0 feed.trips.items
 days_more feed days i d lt =
     ap (λ ds. runs_of_days feed (map (λ (day : ServiceDay). day.day) ds)) (take_more days i d lt)
     ∙ ap (runs_of_days feed) (map-append (λ (day : ServiceDay). day.day) (take i days) (get_or days i d ∷ []))
     ∙ sym (flat_map_more (λ day. runs_from feed day 0 feed.trips.items) [] (map (λ day. day.day) (take i days)) (get_or days i d).day)
 
 pub days_count : (feed : Feed) (days : List ServiceDay) (i : ℕ) (d : ServiceDay) → i < length days
-    → length (runs_of_days feed (map (λ day. day.day) (take (i + 1) days))) ≡ length (runs_of_days feed (map (λ day. day.day) (take i days))) + length (runs_from feed (get_or days i d).day 0 feed.trips.items)
-days_count feed days i d lt = ap length (days_more feed days i d lt) ∙ length-append (runs_of_days feed (map (λ day. day.day) (take i days))) (runs_from feed (get_or days i d).day 0 feed.trips.items)
+    → length (runs_of_days feed (map (λ day. day.day) (take (i + 1) days))) ≡ length (runs_of_days feed (map (λ day. day.day) (take i days))) + length
+    (runs_from feed (get_or days i d).day 0 feed.trips.items)
+days_count feed days i d lt = ap length (days_more feed days i d lt)
+    ∙ length-append (runs_of_days feed (map (λ day. day.day) (take i days))) (runs_from feed (get_or days i d).day 0 feed.trips.items)
 
 -- the steps of the loops
 pub runs_step : (feed : Feed) (day : Day) (trips : List Trip) (i : ℕ) (trip : Trip) (old before new : List Run) → i < length trips → trip ≡ get_or trips i trip
@@ -57,23 +65,83 @@ runs_step feed day trips i trip old before new lt is was now =
     now ∙ ap (λ rs. rs ++ runs_at feed day i trip) was ∙ append_assoc old (runs_from feed day 0 (take i trips)) (runs_at feed day i trip)
     ∙ ap (λ rs. old ++ rs) (sym more)
 
-pub count_step : (feed : Feed) (day : Day) (trips : List Trip) (i : ℕ) (trip : Trip) (count new n most : ℕ) → i < length trips → trip ≡ get_or trips i trip
-    → n ≡ length (runs_at feed day i trip) → count ≡ min (length (runs_from feed day 0 (take i trips))) most → new ≡ min (count + n) most → new ≡ min (length (runs_from feed day 0 (take (i + 1) trips))) most
-count_step feed day trips i trip count new n most lt is few was now =
+-- a count more
+pub count_more : (most count n more m new all room : ℕ) → IsCount most count n → IsCount most more m → count ≤ most → most < room
+    → new ≡ min (count + more) room → all ≡ n + m → IsCount most new all
+count_more most count n more m new all room was adds low high now total = record {
+  exact = λ (le : new ≤ most).
+      let before : count ≡ n = was.exact low in
+      let added : more ≡ m = adds.exact (omega (arith, le, now, high)) in
+      omega (arith, le, now, high, total, before, added);
+  many = λ (lt : most < new).
+      let before : count ≡ n = was.exact low in
+      elim (cases_lt most more) [
+        | inl over ↦ (let beyond : most < m = adds.many over in omega (arith, beyond, total))
+        | inr under ↦ (let added : more ≡ m = adds.exact under in omega (arith, lt, now, before, added, total))
+      ];
+}
+
+-- nothing is counted any more
+pub count_over : (most count n all : ℕ) → IsCount most count n → most < count → n ≤ all → IsCount most count all
+count_over most count n all was over le = record {
+  exact = λ (under : count ≤ most). absurd (omega (arith, under, over));
+  many = λ (lt : most < count). let beyond : most < n = was.many lt in omega (arith, beyond, le);
+}
+
+pub count_all : (most count n : ℕ) → count ≡ n → IsCount most count n
+count_all most count n is = record { exact = λ _. is; many = λ (lt : most < count). omega (arith, lt, is) }
+
+-- whether the trip at a place runs
+pub running_at : (feed : Feed) (day : Day) (trips : List Trip) (running : List Bool) (i : ℕ) (trip : Trip) (d : Bool)
+    → running ≡ map (runs_on feed day) trips → i < length trips → trip ≡ get_or trips i trip → get_or running i d ≡ runs_on feed day trip
+running_at feed day trips running i trip d are lt is =
+    ap (λ bs. get_or bs i d) are ∙ get_or-map (runs_on feed day) trips i trip d lt ∙ ap (runs_on feed day) (sym is)
+
+pub running_more : (feed : Feed) (day : Day) (trips : List Trip) (running new : List Bool) (i : ℕ) (trip : Trip) (b : Bool)
+    → running ≡ map (runs_on feed day) (take i trips) → i < length trips → trip ≡ get_or trips i trip → b ≡ runs_on feed day trip
+    → new ≡ running ++ b ∷ [] → new ≡ map (runs_on feed day) (take (i + 1) trips)
+running_more feed day trips running new i trip b was lt is told now =
+    now ∙ ap (λ bs. bs ++ b ∷ []) was ∙ ap (λ x. map (runs_on feed day) (take i trips) ++ x ∷ []) (told ∙ ap (runs_on feed day) is)
+    ∙ sym (ap (map (runs_on feed day)) (take_more trips i trip lt) ∙ map-append (runs_on feed day) (take i trips) (get_or trips i trip ∷ []))
+
+pub count_step : (feed : Feed) (day : Day) (trips : List Trip) (i : ℕ) (trip : Trip) (most count new n room : ℕ) → i < length trips
+    → trip ≡ get_or trips i trip → n ≡ length (runs_at feed day i trip) → IsCount most count (length (runs_from feed day 0 (take i trips)))
+    → count ≤ most → most < room → new ≡ min (count + n) room → IsCount most new (length (runs_from feed day 0 (take (i + 1) trips)))
+count_step feed day trips i trip most count new n room lt is few was low high now =
     let more = runs_count feed day trips i trip lt in
     let here : length (runs_at feed day i (get_or trips i trip)) ≡ n = sym (few ∙ ap (λ (t : Trip). length (runs_at feed day i t)) is) in
-    omega (arith, was, now, more, here)
+    count_more most count (length (runs_from feed day 0 (take i trips))) n n new (length (runs_from feed day 0 (take (i + 1) trips))) room
+    was (count_all most n n refl) low high now (more ∙ ap (λ k. length (runs_from feed day 0 (take i trips)) + k) here)
+
+pub count_skip : (feed : Feed) (day : Day) (trips : List Trip) (i : ℕ) (trip : Trip) (most count : ℕ) → i < length trips
+    → IsCount most count (length (runs_from feed day 0 (take i trips))) → most < count
+    → IsCount most count (length (runs_from feed day 0 (take (i + 1) trips)))
+count_skip feed day trips i trip most count lt was over =
+    let more = runs_count feed day trips i trip lt in
+    count_over most count (length (runs_from feed day 0 (take i trips))) (length (runs_from feed day 0 (take (i + 1) trips))) was over
+    (omega (arith, more))
 
 pub days_step : (feed : Feed) (days : List ServiceDay) (i : ℕ) (day : ServiceDay) (before new : List Run) → i < length days → day ≡ get_or days i day
-    → before ≡ runs_of_days feed (map (λ d. d.day) (take i days)) → new ≡ before ++ runs_from feed day.day 0 feed.trips.items → new ≡ runs_of_days feed (map (λ d. d.day) (take (i + 1) days))
+    → before ≡ runs_of_days feed (map (λ d. d.day) (take i days)) → new ≡ before ++ runs_from feed day.day 0 feed.trips.items
+    → new ≡ runs_of_days feed (map (λ d. d.day) (take (i + 1) days))
 days_step feed days i day before new lt is was now =
     now ∙ ap (λ rs. rs ++ runs_from feed day.day 0 feed.trips.items) was
-    ∙ ap (λ (d : ServiceDay). runs_of_days feed (map (λ d. d.day) (take i days)) ++ runs_from feed d.day 0 feed.trips.items) is ∙ sym (days_more feed days i day lt)
+    ∙ ap (λ (d : ServiceDay). runs_of_days feed (map (λ d. d.day) (take i days)) ++ runs_from feed d.day 0 feed.trips.items) is
+    ∙ sym (days_more feed days i day lt)
 
-pub days_count_step : (feed : Feed) (days : List ServiceDay) (i : ℕ) (day : ServiceDay) (count new n most : ℕ) → i < length days → day ≡ get_or days i day
-    → count ≡ min (length (runs_of_days feed (map (λ d. d.day) (take i days)))) most → n ≡ min (length (runs_from feed day.day 0 feed.trips.items)) most → new ≡ min (count + n) most
-    → new ≡ min (length (runs_of_days feed (map (λ d. d.day) (take (i + 1) days)))) most
-days_count_step feed days i day count new n most lt is was few now =
-    let more = days_count feed days i day lt in
-    let here : n ≡ min (length (runs_from feed (get_or days i day).day 0 feed.trips.items)) most = few ∙ ap (λ (d : ServiceDay). min (length (runs_from feed d.day 0 feed.trips.items)) most) is in
-    omega (arith, was, now, more, here)
+pub days_count_step : (feed : Feed) (days : List ServiceDay) (i : ℕ) (d : ServiceDay) (most count new n room : ℕ) → i < length days
+    → IsCount most count (length (runs_of_days feed (map (λ d. d.day) (take i days))))
+    → IsCount most n (length (runs_from feed (get_or days i d).day 0 feed.trips.items)) → count ≤ most → most < room
+    → new ≡ min (count + n) room → IsCount most new (length (runs_of_days feed (map (λ d. d.day) (take (i + 1) days))))
+days_count_step feed days i d most count new n room lt was few low high now =
+    count_more most count (length (runs_of_days feed (map (λ d. d.day) (take i days)))) n
+    (length (runs_from feed (get_or days i d).day 0 feed.trips.items)) new
+    (length (runs_of_days feed (map (λ d. d.day) (take (i + 1) days)))) room was few low high now (days_count feed days i d lt)
+
+pub days_count_skip : (feed : Feed) (days : List ServiceDay) (i : ℕ) (d : ServiceDay) (most count : ℕ) → i < length days
+    → IsCount most count (length (runs_of_days feed (map (λ d. d.day) (take i days)))) → most < count
+    → IsCount most count (length (runs_of_days feed (map (λ d. d.day) (take (i + 1) days))))
+days_count_skip feed days i d most count lt was over =
+    let more = days_count feed days i d lt in
+    count_over most count (length (runs_of_days feed (map (λ d. d.day) (take i days))))
+    (length (runs_of_days feed (map (λ d. d.day) (take (i + 1) days)))) was over (omega (arith, more))

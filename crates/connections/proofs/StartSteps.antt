@@ -1,5 +1,6 @@
 -- What the starts of a trip are.
-use Rattle.std.proofs.Common.{◌≡◌, ℕ, zero, suc, ℤ, ◌+◌, ◌-◌, ◌*◌, ◌/◌, ◌%◌, ◌<◌, ◌↔◌, inl, inr, List, [], ◌∷◌, length, get_or, Option, None, true, Contains, ◌&&◌, ◌==◌, refl, sym, ap, ◌∙◌, subst, arith}
+use Rattle.std.proofs.Common.{◌≡◌, ℕ, zero, suc, ℤ, ◌+◌, ◌-◌, ◌*◌, ◌/◌, ◌%◌, ◌<◌, ◌↔◌, inl, inr, List, [], ◌∷◌, length, get_or, Option, None, true, Contains}
+use Rattle.std.proofs.Common.{◌&&◌, ◌==◌, refl, sym, ap, ◌∙◌, subst, arith}
 use Rattle.std.specs.Prelude.{nat_le, nat_lt, ◌+ℤ◌, pos}
 use Rattle.std.proofs.lemmas.Bool.{and_from, and_parts, cases_Bool, cases_eq, eq-eqb, eqb-true, le-leb, leb-true, lt-ltb, ltb-true}
 use Rattle.std.proofs.lemmas.Int.{ints}
@@ -64,38 +65,45 @@ starts_only rows s inside =
     let is : s ≡ row.start + n * row.headway = omega (arith, late, none, split) in
     (row, (found.0, found.2, found.3), ltb-true 0 row.headway begun.0, n, is, ltb-true s row.end more.1)
 
-pub starts_each : (rows : List Frequency) (row : Frequency) (n : ℕ) → Contains rows row → 0 < row.headway → row.start + n * row.headway < row.end → Contains (starts_of rows) (row.start + n * row.headway)
+pub starts_each : (rows : List Frequency) (row : Frequency) (n : ℕ) → Contains rows row → 0 < row.headway → row.start + n * row.headway < row.end
+    → Contains (starts_of rows) (row.start + n * row.headway)
 starts_each rows row n inside some lt =
     let s : ℕ = row.start + n * row.headway in
     let far : s - row.start ≡ n * row.headway + 0 = omega arith in
     let at : (s - row.start) % row.headway ≡ 0 = ap (λ k. k % row.headway) far ∙ mod-mul-add n row.headway 0 some in
     let leaves : leaves_at s row ≡ true = and_from (nat_lt 0 row.headway && nat_le row.start s && nat_lt s row.end) ((s - row.start) % row.headway == 0)
-    (and_from (nat_lt 0 row.headway && nat_le row.start s) (nat_lt s row.end) (and_from (nat_lt 0 row.headway) (nat_le row.start s) (lt-ltb 0 row.headway some) (le-leb row.start s (omega arith))) (lt-ltb s row.end lt))
+    (and_from (nat_lt 0 row.headway && nat_le row.start s) (nat_lt s row.end)
+    (and_from (nat_lt 0 row.headway) (nat_le row.start s) (lt-ltb 0 row.headway some) (le-leb row.start s (omega arith))) (lt-ltb s row.end lt))
     (eq-eqb ((s - row.start) % row.headway) 0 at) in
     let is : is_start rows s ≡ true = list_any_at (leaves_at s) rows inside.0 row inside.1 (ap (leaves_at s) inside.2 ∙ leaves) in
     each_before rows (last_end rows) s (start_below rows s is) is
 
 -- ---- they rise
 
-rise_before : (rows : List Frequency) (n i j d : ℕ) → i < j → j < length (starts_before rows n) → get_or (starts_before rows n) i d < get_or (starts_before rows n) j d
+rise_before : (rows : List Frequency) (n i j d : ℕ) → i < j → j < length (starts_before rows n)
+    → get_or (starts_before rows n) i d < get_or (starts_before rows n) j d
 unfolding starts_before
 rise_before rows zero i j d lt within = absurd (omega (arith, within))
 rise_before rows (suc n) i j d lt within = elim (cases_Bool (is_start rows n)) [
   | inl yes_start ↦
       let size = length_push (starts_before rows n) n in
       let all : length (starts_before rows (suc n)) ≡ length (starts_before rows n) + 1 = ap length (start_here rows n yes_start) ∙ size in
-      let low : get_or (starts_before rows (suc n)) i d ≡ get_or (starts_before rows n) i d = ap (λ xs. get_or xs i d) (start_here rows n yes_start) ∙ get_or_append_left (starts_before rows n) (n ∷ []) d i (omega (arith, lt, within, all)) in
+      let low : get_or (starts_before rows (suc n)) i d ≡ get_or (starts_before rows n) i d = ap (λ xs. get_or xs i d) (start_here rows n yes_start)
+      ∙ get_or_append_left (starts_before rows n) (n ∷ []) d i (omega (arith, lt, within, all)) in
       elim (cases_eq j (length (starts_before rows n))) [
         | inl same ↦
-            let high : get_or (starts_before rows (suc n)) j d ≡ n = ap (λ xs. get_or xs j d) (start_here rows n yes_start) ∙ get_or_push (starts_before rows n) n d j (sym same) in
+            let high : get_or (starts_before rows (suc n)) j d ≡ n = ap (λ xs. get_or xs j d) (start_here rows n yes_start)
+            ∙ get_or_push (starts_before rows n) n d j (sym same) in
             let below = (only_before rows n (get_or (starts_before rows n) i d) (Contains-get_or (starts_before rows n) i d (omega (arith, lt, same)))).0 in
             omega (arith, low, high, below)
         | inr other ↦
-            let high : get_or (starts_before rows (suc n)) j d ≡ get_or (starts_before rows n) j d = ap (λ xs. get_or xs j d) (start_here rows n yes_start) ∙ get_or_append_left (starts_before rows n) (n ∷ []) d j (omega (arith, within, all, other)) in
+            let high : get_or (starts_before rows (suc n)) j d ≡ get_or (starts_before rows n) j d = ap (λ xs. get_or xs j d) (start_here rows n yes_start)
+            ∙ get_or_append_left (starts_before rows n) (n ∷ []) d j (omega (arith, within, all, other)) in
             let old = rise_before rows n i j d lt (omega (arith, within, all, other)) in
             omega (arith, low, high, old)
       ]
-  | inr no_start ↦ rw no_start (rise_before rows n i j d lt (let same : length (starts_before rows (suc n)) ≡ length (starts_before rows n) = rw no_start refl in omega (arith, within, same)))
+  | inr no_start ↦ rw no_start (rise_before rows n i j d lt (let same : length (starts_before rows (suc n)) ≡ length (starts_before rows n) =
+      rw no_start refl in omega (arith, within, same)))
 ]
 
 pub starts_rise : (rows : List Frequency) (i j d : ℕ) → i < j → j < length (starts_of rows) → get_or (starts_of rows) i d < get_or (starts_of rows) j d
@@ -103,9 +111,11 @@ starts_rise rows i j d lt within = rise_before rows (last_end rows) i j d lt wit
 
 -- ---- a run as its stop times stand
 
-pub stands_from : (zone : Zone) (run : Run) (rows : List StopTimeRow) (start : ℤ) → run.start ≡ None → IsDayStart zone run.day start ↔ IsRunStart zone run rows start
+pub stands_from : (zone : Zone) (run : Run) (rows : List StopTimeRow) (start : ℤ) → run.start ≡ None
+    → IsDayStart zone run.day start ↔ IsRunStart zone run rows start
 stands_from zone run rows start none =
     let still : shift_of run.start rows ≡ pos 0 = ap (λ (o : Option ℕ). shift_of o rows) none in (
       λ day. record { day = start; is_day = day; is = (let e : start ≡ (start +ℤ pos 0) = omega (arith, ints) in e ∙ ap (λ z. start +ℤ z) (sym still)) },
-      λ from. subst (λ (z : ℤ). IsDayStart zone run.day z) (let e : from.day ≡ (from.day +ℤ pos 0) = omega (arith, ints) in e ∙ ap (λ z. from.day +ℤ z) (sym still) ∙ sym from.is) from.is_day,
+      λ from. subst (λ (z : ℤ). IsDayStart zone run.day z) (let e : from.day ≡ (from.day +ℤ pos 0) = omega (arith, ints) in e
+          ∙ ap (λ z. from.day +ℤ z) (sym still) ∙ sym from.is) from.is_day,
     )

@@ -1,5 +1,6 @@
 -- The times of a trip, a row on.
-use Rattle.std.proofs.Common.{◌≡◌, ℕ, suc, ◌+◌, ◌<◌, ◌^◌, ◌==◌, ◌&&◌, ◌||◌, ◌++◌, ◌∷◌, [], inl, inr, not, List, length, Bool, false, Option, Some, None, IfSome, refl, sym, ap, ◌∙◌, arith}
+use Rattle.std.proofs.Common.{◌≡◌, ℕ, suc, ◌+◌, ◌<◌, ◌^◌, ◌==◌, ◌&&◌, ◌||◌, ◌++◌, ◌∷◌, [], inl, inr, not, List, length, Bool, false, Option, Some, None, IfSome}
+use Rattle.std.proofs.Common.{refl, sym, ap, ◌∙◌, arith}
 use Rattle.std.proofs.lemmas.Bool.{cases_eq}
 use Rattle.std.proofs.lemmas.List.{get_or_append_left, get_or_push, length_push}
 use Rattle.gtfs_rows.specs.declared.rows.StopTimeRow.{StopTimeRow}
@@ -27,12 +28,14 @@ left_fits rows None n h few = tt
 left_fits rows (Some time) n h few = let late : time < 2 ^ 32 + n = h.3 in omega arith
 
 -- the row's times are those that the departure before it gives
-lifted_at : (rows : List StopTimeRow) (left : Option ℕ) (n : ℕ) → IsLeft rows left n → lifted_by left (arrives_spread rows n) (departs_spread rows n) ≡ row_times rows n
+lifted_at : (rows : List StopTimeRow) (left : Option ℕ) (n : ℕ) → IsLeft rows left n
+    → lifted_by left (arrives_spread rows n) (departs_spread rows n) ≡ row_times rows n
 unfolding arrives departs
 lifted_at rows None n h = rw h refl
 lifted_at rows (Some time) n h = rw (h.1, h.2) refl
 
-later : (rows : List StopTimeRow) (left : Option ℕ) (n a d : ℕ) → IsLeft rows left n → a < 2 ^ 32 → d < 2 ^ 32 → (lifted_by left a d).departure < 2 ^ 32 + (n + 1)
+later : (rows : List StopTimeRow) (left : Option ℕ) (n a d : ℕ) → IsLeft rows left n → a < 2 ^ 32 → d < 2 ^ 32
+    → (lifted_by left a d).departure < 2 ^ 32 + (n + 1)
 later rows None n a d h small short = omega arith
 later rows (Some time) n a d h small short = let late : time < 2 ^ 32 + n = h.3 in omega arith
 
@@ -42,7 +45,8 @@ moved_next rows n = let e : n + 1 ≡ suc n = omega arith in rw e refl
 
 pub lifted_more : (rows : List StopTimeRow) (times : List RowTimes) (moved : Bool) (left : Option ℕ) (n a d : ℕ) → IsLiftedTo rows times moved left n
     → a ≡ arrives_spread rows n → d ≡ departs_spread rows n → a < 2 ^ 32 → d < 2 ^ 32
-    → IsLiftedTo rows (times ++ lifted_by left a d ∷ []) (moved || not (((lifted_by left a d).arrival == a) && ((lifted_by left a d).departure == d))) (Some (lifted_by left a d).departure) (n + 1)
+    → IsLiftedTo rows (times ++ lifted_by left a d ∷ []) (moved || not (((lifted_by left a d).arrival == a) && ((lifted_by left a d).departure == d)))
+    (Some (lifted_by left a d).departure) (n + 1)
 lifted_more rows times moved left n a d was from to small short =
     let is : lifted_by left a d ≡ row_times rows n = rw (from, to) (lifted_at rows left n was.left_is) in
     let len : length times ≡ n = was.same_length in

@@ -54,4 +54,5 @@ pub record IsNotAfter (c d : Connection) : Type 0 where
   pub by_run : c.dep ≡ d.dep → c.arr ≡ d.arr → c.trip ≤ d.trip
 
 abbrev pub AreSorted : List Connection → Type 0
-AreSorted connections = (i j : ℕ) (d : Connection) → i < j → j < length connections → IsNotAfter (slice_index_or connections i d) (slice_index_or connections j d)
+AreSorted connections = (i j : ℕ) (d : Connection) → i < j → j < length connections
+    → IsNotAfter (slice_index_or connections i d) (slice_index_or connections j d)

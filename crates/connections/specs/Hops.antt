@@ -29,7 +29,8 @@ pub record AreInside (base start : ℤ) (repeat : Option ℕ) (rows : List StopT
 
 -- a time of a row that counts lies outside
 abbrev pub HasOutside : ℤ → ℤ → Option ℕ → List StopTimeRow → Type 0
-HasOutside base start repeat rows = (k : ℕ) × (k < length rows) × ((IsUsed repeat k × IsOutside base start (arrives rows k)) ⊎ IsOutside base start (departs rows k))
+HasOutside base start repeat rows = (k : ℕ) × (k < length rows)
+    × ((IsUsed repeat k × IsOutside base start (arrives rows k)) ⊎ IsOutside base start (departs rows k))
 
 -- a clock for the times of the row at a position, as far as they count
 pub record IsInside (base start : ℤ) (repeat : Option ℕ) (k : ℕ) (times : RowTimes) : Type 0 where

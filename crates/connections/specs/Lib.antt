@@ -1,10 +1,12 @@
 pub mod Building
+pub mod Counting
 pub mod Days
 pub mod Faults
 pub mod Grouping
 pub mod Hops
 pub mod Legal
 pub mod Listed
+pub mod Marks
 pub mod Outcome
 pub mod Repeats
 pub mod Runs

@@ -35,7 +35,8 @@ pub record IsRunHop (feed : Feed) (zone : Zone) (base : ℤ) (runs : List Run) (
 
 -- all times of all runs that count have their clocks
 abbrev pub AreRunsInside : Feed → Zone → ℤ → List Run → Type 0
-AreRunsInside feed zone base runs = (number : ℕ) (start : ℤ) (rows : List StopTimeRow) → (at : IsRunAt feed zone runs number start rows) → AreInside base start at.run.start rows
+AreRunsInside feed zone base runs = (number : ℕ) (start : ℤ) (rows : List StopTimeRow) → (at : IsRunAt feed zone runs number start rows)
+    → AreInside base start at.run.start rows
 
 -- a time of a run that counts lies outside
 pub record HasRunOutside (feed : Feed) (zone : Zone) (base : ℤ) (runs : List Run) : Type 0 where

@@ -1,6 +1,7 @@
 -- When the rows of a trip arrive and depart: their times are spread over the blank rows, and then lifted, so that no vehicle
 -- arrives before a second has passed. (Lifting is our own.)
-use Rattle.std.specs.Prelude.{◌≡◌, ◌==◌, ◌&&◌, ◌||◌, ◌+◌, ◌<◌, not, max, ℕ, zero, suc, List, length, Bool, true, false, Option, Some, None, slice_get, slice_index_or}
+use Rattle.std.specs.Prelude.{◌≡◌, ◌==◌, ◌&&◌, ◌||◌, ◌+◌, ◌<◌, not, max, ℕ, zero, suc, List, length, Bool, true, false, Option, Some, None, slice_get}
+use Rattle.std.specs.Prelude.{slice_index_or}
 use Rattle.gtfs_rows.specs.declared.rows.StopTimeRow.{StopTimeRow}
 use Rattle.gtfs_tables.specs.Joined.{makes_connections, rows_of}
 use Rattle.gtfs_tables.specs.declared.tables.Trip.{Trip}

@@ -25,7 +25,8 @@ pub(crate) fn service_days(
     zone: &Zone,
 ) -> Result<Vec<ServiceDay>, DayFault>
     ensures ok { IfOk result (λ started. AreStarted zone.now (days_from first days) started.items) }
-    ensures err { IfErr result (λ fault. (fault ≡ DayFault.OutOfMemory) ⊎ ((fault ≡ DayFault.DayOutOfRange) × HasNoStartAmong zone.now (days_from first days))) }
+    ensures err { IfErr result (λ fault. (fault ≡ DayFault.OutOfMemory)
+        ⊎ ((fault ≡ DayFault.DayOutOfRange) × HasNoStartAmong zone.now (days_from first days))) }
 {
     let Ok(mut service_days) = Vec::with_capacity(alloc, days as usize) else {
         return Err(DayFault::OutOfMemory);

@@ -56,7 +56,8 @@ impl RunClock {
     // Whether the times of the row at a position lie from the base to before the end of time. The arrival at a repeat's first
     // row doesn't count.
     fn is_inside(&self, position: usize, times: RowTimes) -> bool
-        ensures { MatchBool result (IsInside self.now.day.base (zero_of self.now) self.now.start position times) (LiesOutside self.now.day.base (zero_of self.now) self.now.start position times) }
+        ensures { MatchBool result (IsInside self.now.day.base (zero_of self.now) self.now.start position times)
+            (LiesOutside self.now.day.base (zero_of self.now) self.now.start position times) }
     {
         let counts = position > 0 || self.start.is_none();
         if counts && self.at(times.arrival).is_none() {
@@ -68,7 +69,8 @@ impl RunClock {
 
 // Whether all times lie from the base to before the end of time.
 pub(crate) fn are_inside(clock: RunClock, times: &[RowTimes]) -> bool
-    ensures { MatchBool result (HaveClocks clock.day.base (zero_of clock) clock.start times.now) (LackClocks clock.day.base (zero_of clock) clock.start times.now) }
+    ensures { MatchBool result (HaveClocks clock.day.base (zero_of clock) clock.start times.now)
+        (LackClocks clock.day.base (zero_of clock) clock.start times.now) }
 {
     for (position, row) in times.iter().enumerate() {
         if !clock.is_inside(position, *row) {

@@ -39,25 +39,30 @@ pub fn starts_are_theirs()
 
 /// Where no trip repeats, each trip that runs on a day runs once, as its stop times stand: its times count from the day's start.
 pub fn without_frequencies()
-    ensures once { (feed : Feed) (day : Day) (t : ℕ) (trip : Trip) → trip.repeats ≡ false → runs_at feed day t trip ≡ (if runs_on feed day trip then run_as_it_stands day t ∷ [] else []) }
-    ensures stands { (zone : Zone) (run : Run) (rows : List StopTimeRow) (start : ℤ) → run.start ≡ None → IsDayStart zone run.day start ↔ IsRunStart zone run rows start }
+    ensures once { (feed : Feed) (day : Day) (t : ℕ) (trip : Trip) → trip.repeats ≡ false
+        → runs_at feed day t trip ≡ (if runs_on feed day trip then run_as_it_stands day t ∷ [] else []) }
+    ensures stands { (zone : Zone) (run : Run) (rows : List StopTimeRow) (start : ℤ) → run.start ≡ None
+        → IsDayStart zone run.day start ↔ IsRunStart zone run rows start }
 {}
 
 /// A feed makes one list of runs and one list of connections on some days.
 pub fn one_listing()
-    ensures { (feed : Feed) (zone : Zone) (first : Day) (days : ℕ) (connections others : List Connection) (runs rest : List Run) → 1 ≤ days → IsListing feed zone first days connections runs
+    ensures { (feed : Feed) (zone : Zone) (first : Day) (days : ℕ) (connections others : List Connection) (runs rest : List Run) → 1 ≤ days
+        → IsListing feed zone first days connections runs
         → IsListing feed zone first days others rest → (connections ≡ others) × (runs ≡ rest) }
 {}
 
 /// The connections of a feed are those that a legal timetable may have, over the feed's stops and the runs as its trips.
 pub fn listing_is_legal()
-    ensures { (feed : Feed) (zone : Zone) (first : Day) (days : ℕ) (connections : List Connection) (runs : List Run) → IsRunnable feed → 1 ≤ days → IsListing feed zone first days connections runs
+    ensures { (feed : Feed) (zone : Zone) (first : Day) (days : ℕ) (connections : List Connection) (runs : List Run) → IsRunnable feed → 1 ≤ days
+        → IsListing feed zone first days connections runs
         → HasLegalConnections (length feed.stops.items) (length runs) connections }
 {}
 
 /// They are within the limits of an image.
 pub fn listing_is_within_limits()
-    ensures { (feed : Feed) (zone : Zone) (first : Day) (days : ℕ) (connections : List Connection) (runs : List Run) → 1 ≤ days → IsListing feed zone first days connections runs
+    ensures { (feed : Feed) (zone : Zone) (first : Day) (days : ℕ) (connections : List Connection) (runs : List Run) → 1 ≤ days
+        → IsListing feed zone first days connections runs
         → AreWithinLimits (length runs) connections }
 {}
 

@@ -9,6 +9,7 @@ mod fault;
 mod hops;
 pub mod laws;
 mod listing;
+mod marks;
 mod repeats;
 mod report;
 mod runs;

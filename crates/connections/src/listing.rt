@@ -1,6 +1,7 @@
 // The connections of runs, in order.
 
-ghost use Rattle.std.specs.Prelude.{◌≡◌, ◌≤◌, ◌<◌, ◌-◌, ◌^◌, ◌⊎◌, ℤ, min, length, map, IfOk, IfErr, OnOk, OnErr, All, Contains, IsPermutation, true, slice_index_or};
+ghost use Rattle.std.specs.Prelude.{◌≡◌, ◌≤◌, ◌<◌, ◌-◌, ◌^◌, ◌⊎◌, ℤ, min, length, map, IfOk, IfErr, OnOk, OnErr, All, Contains, IsPermutation, true};
+ghost use Rattle.std.specs.Prelude.{slice_index_or};
 ghost use Rattle.gtfs_tables.specs.Joined.{HasTimedEnds, IsRunnable, makes_connections as makes, rows_of as rows_between};
 ghost use Rattle.service_days.specs.Zones.{IsDayStart};
 ghost use Rattle.service_days.specs.declared.zone.Zone.{Zone as DayZone};
@@ -101,8 +102,10 @@ fn list_run(
     requires runnable { IsRunnable feed.now }
     requires times { AreTimesOf feed.now.stop_times.items feed.now.trips.items times.now }
     requires trip { IsTripRun feed.now.trips.items run.now }
-    ensures ok { (zone : DayZone) → IsDayStart zone run.now.day day.start → OnOk result (AddsRun feed.now zone day.base run.now number connections.old.items connections.new.items) }
-    ensures err { (zone : DayZone) → IsDayStart zone run.now.day day.start → IfErr result (λ fault. IsWantOfMemory fault ⊎ ((fault ≡ range_fault) × LeavesRange feed.now zone day.base run.now)) }
+    ensures ok { (zone : DayZone) → IsDayStart zone run.now.day day.start
+        → OnOk result (AddsRun feed.now zone day.base run.now number connections.old.items connections.new.items) }
+    ensures err { (zone : DayZone) → IsDayStart zone run.now.day day.start
+        → IfErr result (λ fault. IsWantOfMemory fault ⊎ ((fault ≡ range_fault) × LeavesRange feed.now zone day.base run.now)) }
 {
     let place = run.trip as usize;
     let trip = &feed.trips[place];
@@ -172,15 +175,17 @@ fn put_in_order(connections: &mut Vec<Connection>)
 
 /// The connections and the runs of a feed on so many days, 1 to [`MAX_DAYS`], from the first one on, and what was counted.
 ///
-/// A run is a day and a trip whose service is active then; a flex trip, and one with fewer than two rows, never runs. Runs
-/// are numbered by day, then by the order of the trips. Each two neighbouring rows of a run give a connection, whose times
-/// are those of [`trip_times`] after the day's start, told in seconds after the base, the start of the first day. Connections
-/// stand by departure, arrival, run and position in the trip. Passengers may board where they may at the row that the
-/// connection leaves, and alight where they may at the row that it reaches.
+/// A run is a day and a trip whose service is active then; a trip that `frequencies.txt` names has one for each of its starts,
+/// its repeats ([`starts_are_theirs`](crate::laws::starts_are_theirs)), and none as it stands. A flex trip, and one with fewer
+/// than two rows, never runs. Runs are numbered by day, then by the order of the trips, then by repeat, from the earliest start
+/// on. Each two neighbouring rows of a run give a connection. Its times are those of [`trip_times`] after the day's start, in a
+/// repeat moved so that it departs from its first row at its start, and are told in seconds after the base, the start of the
+/// first day. Connections stand by departure, arrival, run and position in the trip. Passengers may board where they may at the
+/// row that the connection leaves, and alight where they may at the row that it reaches.
 ///
 /// Refusals are told in this order: a day without a start (`DayOutOfRange`), too many runs (`TooMany`, `trips.txt`), too many
 /// connections (`TooMany`, `stop_times.txt`), a run of which a time lies before the base, or at `TIME_END` or later
-/// (`DayOutOfRange`). Want of memory may be told before any of them.
+/// (`DayOutOfRange`); a repeat's arrival at its first row isn't judged. Want of memory may be told before any of them.
 pub fn runs_of(
     alloc: Global,
     feed: &Feed,

@@ -5,6 +5,7 @@ ghost use Rattle.connections.specs.Grouping.{AddsRow, AreGrouped};
 ghost use Rattle.connections.specs.Repeats.{is_start, leaves_at, starts_of};
 ghost use Rattle.connections.specs.Starts.{IsNever, IsNext, earlier_of};
 
+use crate::marks::{are_many, marked_starts};
 use gtfs_tables::Frequency;
 use std::alloc::{AllocError, Global};
 
@@ -46,7 +47,7 @@ pub(crate) fn rows_by_trip(
 }
 
 // The first start, from a time on, that a row gives.
-fn next_of_row(row: Frequency, from: u32) -> Option<u32>
+pub(crate) fn next_of_row(row: Frequency, from: u32) -> Option<u32>
     ensures next { MatchOption result (IsNever (λ s. leaves_at s row) from) (IsNext (λ s. leaves_at s row) from) }
     ensures room { IfSome result (λ start. start < u32.MAX) }
 {
@@ -82,8 +83,8 @@ fn earlier(one: Option<u32>, other: Option<u32>) -> Option<u32>
     }
 }
 
-// How many starts the rows give.
-pub(crate) fn count_starts(rows: &[Frequency]) -> usize
+// How many starts the rows give, found one after the other.
+fn count_in_turn(rows: &[Frequency]) -> usize
     ensures { result ≡ length (starts_of rows.now) }
 {
     let mut count = 0;
@@ -93,4 +94,15 @@ pub(crate) fn count_starts(rows: &[Frequency]) -> usize
         from = start + 1;
     }
     count
+}
+
+// How many starts the rows give.
+pub(crate) fn count_starts(alloc: Global, rows: &[Frequency]) -> Result<usize, AllocError>
+    ensures { IfOk result (λ count. count ≡ length (starts_of rows.now)) }
+{
+    if are_many(rows) {
+        let starts = marked_starts(alloc, rows)?;
+        return Ok(starts.len());
+    }
+    Ok(count_in_turn(rows))
 }

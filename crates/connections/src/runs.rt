@@ -4,7 +4,9 @@ ghost use Rattle.std.specs.Prelude.{◌≡◌, ◌≤◌, ◌<◌, ◌^◌, ◌-
 ghost use Rattle.gtfs_tables.specs.Joined.{makes_connections as makes};
 ghost use Rattle.gtfs_rows.specs.declared.values.Day.{Day as RunDay};
 ghost use Rattle.gtfs_tables.specs.declared.tables.Feed.{Feed as JoinedFeed};
+ghost use Rattle.service_days.specs.Asked.{AreOfDay};
 ghost use Rattle.service_days.specs.Services.{HoldsServices};
+ghost use Rattle.connections.specs.Counting.{IsCount};
 ghost use Rattle.connections.specs.Faults.{IsWantOfMemory, too_many_of};
 ghost use Rattle.connections.specs.Grouping.{AreGrouped};
 ghost use Rattle.connections.specs.Repeats.{rows_for, starts_of};
@@ -12,9 +14,10 @@ ghost use Rattle.connections.specs.Runs.{repeats_from, runs_at, runs_from, runs_
 
 use crate::days::ServiceDay;
 use crate::fault::{RunsFault, out_of_memory, too_many};
+use crate::marks::{are_many, marked_starts};
 use crate::repeats::{count_starts, next_start, rows_by_trip};
 use gtfs_tables::{Day, Feed, Frequency, Table, Trip};
-use service_days::{Services, active};
+use service_days::{DayServices, Services};
 use std::alloc::{AllocError, Global};
 use timetable::limits::MAX_TRIPS;
 
@@ -40,57 +43,150 @@ pub(crate) fn makes_connections(trip: &Trip) -> bool
 }
 
 // Whether a trip gives connections on a day.
-fn is_running(services: &Services, day: Day, trip: &Trip) -> bool
+fn is_running(
+    asked: &mut DayServices,
+    services: &Services,
+    day: Day,
+    trip: &Trip,
+) -> Result<bool, AllocError>
     requires { trip.now.first ≤ trip.now.end }
-    ensures { (feed : JoinedFeed) → HoldsServices feed.calendar.items feed.calendar_dates.items services.now → result ≡ runs_then feed day trip.now }
+    ensures asked { (feed : JoinedFeed) → HoldsServices feed.calendar.items feed.calendar_dates.items services.now
+        → AreOfDay feed.calendar.items feed.calendar_dates.items day asked.old
+        → OnOk result (AreOfDay feed.calendar.items feed.calendar_dates.items day asked.new) }
+    ensures told { (feed : JoinedFeed) → HoldsServices feed.calendar.items feed.calendar_dates.items services.now
+        → AreOfDay feed.calendar.items feed.calendar_dates.items day asked.old → IfOk result (λ runs. runs ≡ runs_then feed day trip.now) }
 {
-    makes_connections(trip) && active(services, &trip.service, day)
+    if makes_connections(trip) {
+        return asked.runs(services, &trip.service, day);
+    }
+    Ok(false)
 }
 
-// How many runs a trip has on a day on which it runs.
-fn count_repeats(trip: &Trip, rows: &[Frequency]) -> usize
-    ensures { (day : RunDay) (t : ℕ) → result ≡ length (runs_of_trip rows.now day t trip.now) }
+// Whether each of the trips gives connections on a day; each service is asked for once.
+fn running_on(
+    alloc: Global,
+    services: &Services,
+    day: Day,
+    trips: &[Trip],
+) -> Result<Vec<bool>, AllocError>
+    requires { All (λ trip. trip.first ≤ trip.end) trips.now }
+    ensures len { IfOk result (λ running. length running.items ≡ length trips.now) }
+    ensures told { (feed : JoinedFeed) → HoldsServices feed.calendar.items feed.calendar_dates.items services.now
+        → IfOk result (λ running. running.items ≡ map (runs_then feed day) trips.now) }
 {
-    if trip.repeats { count_starts(rows) } else { 1 }
+    let mut asked = DayServices::new(alloc);
+    let mut running = Vec::with_capacity(alloc, trips.len())?;
+    for trip in trips {
+        let runs = is_running(&mut asked, services, day, trip)?;
+        running.push(runs)?;
+    }
+    Ok(running)
 }
 
-// How many runs a day has, the greatest number where they are more.
-fn count_on(services: &Services, day: Day, trips: &[Trip], groups: &[Vec<Frequency>]) -> usize
-    requires rising { All (λ trip. trip.first ≤ trip.end) trips.now }
+// How many runs a trip has on a day, on which it runs or doesn't.
+fn count_trip(
+    alloc: Global,
+    running: bool,
+    trip: &Trip,
+    rows: &[Frequency],
+) -> Result<usize, AllocError>
+    ensures { (feed : JoinedFeed) (day : RunDay) (t : ℕ) → running ≡ runs_then feed day trip.now → rows.now ≡ rows_for feed.frequencies.items t
+        → IfOk result (λ count. count ≡ length (runs_at feed day t trip.now)) }
+{
+    if !running {
+        return Ok(0);
+    }
+    if trip.repeats {
+        return count_starts(alloc, rows);
+    }
+    Ok(1)
+}
+
+// How many runs a day has, counted no further than to more than there may be.
+fn count_on(
+    alloc: Global,
+    running: &[bool],
+    trips: &[Trip],
+    groups: &[Vec<Frequency>],
+) -> Result<usize, AllocError>
+    requires told { length running.now ≡ length trips.now }
     requires same { length groups.now ≡ length trips.now }
-    ensures { (feed : JoinedFeed) → AreGrouped feed.frequencies.items (length trips.now) groups.now → HoldsServices feed.calendar.items feed.calendar_dates.items services.now
-        → result ≡ min (length (runs_from feed day 0 trips.now)) usize.MAX }
+    ensures { (feed : JoinedFeed) (day : RunDay) → running.now ≡ map (runs_then feed day) trips.now
+        → AreGrouped feed.frequencies.items (length trips.now) groups.now
+        → IfOk result (λ count. IsCount MAX_TRIPS count (length (runs_from feed day 0 trips.now))) }
 {
     let mut count = 0usize;
     for (place, trip) in trips.iter().enumerate() {
-        if is_running(services, day, trip) {
-            count = count.saturating_add(count_repeats(trip, &groups[place]));
+        if count <= MAX_TRIPS as usize {
+            let more = count_trip(alloc, running[place], trip, &groups[place])?;
+            count = count.saturating_add(more);
         }
     }
-    count
+    Ok(count)
 }
 
-// How many runs the days have, the greatest number where they are more.
+// How many runs the days have, counted no further than to more than there may be.
 fn count_runs(
+    alloc: Global,
     services: &Services,
     days: &[ServiceDay],
     trips: &[Trip],
     groups: &[Vec<Frequency>],
-) -> usize
+) -> Result<usize, AllocError>
     requires rising { All (λ trip. trip.first ≤ trip.end) trips.now }
     requires same { length groups.now ≡ length trips.now }
-    ensures { (feed : JoinedFeed) → feed.trips.items ≡ trips.now → AreGrouped feed.frequencies.items (length trips.now) groups.now → HoldsServices feed.calendar.items feed.calendar_dates.items services.now
-        → result ≡ min (length (runs_of_days feed (map (λ d. d.day) days.now))) usize.MAX }
+    ensures { (feed : JoinedFeed) → feed.trips.items ≡ trips.now → AreGrouped feed.frequencies.items (length trips.now) groups.now
+        → HoldsServices feed.calendar.items feed.calendar_dates.items services.now
+        → IfOk result (λ count. IsCount MAX_TRIPS count (length (runs_of_days feed (map (λ d. d.day) days.now)))) }
 {
     let mut count = 0usize;
     for day in days {
-        count = count.saturating_add(count_on(services, day.day, trips, groups));
+        if count <= MAX_TRIPS as usize {
+            let running = running_on(alloc, services, day.day, trips)?;
+            let more = count_on(alloc, &running, trips, groups)?;
+            count = count.saturating_add(more);
+        }
     }
-    count
+    Ok(count)
 }
 
 // Adds the repeats of a trip on a day: one for each start that its rows give.
 fn add_repeats(
+    alloc: Global,
+    runs: &mut Vec<Run>,
+    day: Day,
+    trip: u32,
+    rows: &[Frequency],
+) -> Result<(), AllocError>
+    ensures { OnOk result (runs.new.items ≡ runs.old.items ++ repeats_from day trip 0 (starts_of rows.now)) }
+{
+    if are_many(rows) {
+        let starts = marked_starts(alloc, rows)?;
+        return add_starts(runs, day, trip, &starts);
+    }
+    add_in_turn(runs, day, trip, rows)
+}
+
+// Adds the repeats of a trip on a day: one for each of the starts.
+fn add_starts(runs: &mut Vec<Run>, day: Day, trip: u32, starts: &[u32]) -> Result<(), AllocError>
+    ensures { OnOk result (runs.new.items ≡ runs.old.items ++ repeats_from day trip 0 starts.now) }
+{
+    for (place, start) in starts.iter().enumerate() {
+        let Ok(repeat) = u32::try_from(place) else {
+            return Err(AllocError);
+        };
+        runs.push(Run {
+            day,
+            trip,
+            repeat,
+            start: Some(*start),
+        })?;
+    }
+    Ok(())
+}
+
+// Adds the repeats of a trip on a day, whose starts are found one after the other.
+fn add_in_turn(
     runs: &mut Vec<Run>,
     day: Day,
     trip: u32,
@@ -115,23 +211,23 @@ fn add_repeats(
 
 // Adds the runs of a trip on a day, if it runs.
 fn add_run(
+    alloc: Global,
     runs: &mut Vec<Run>,
-    services: &Services,
     day: Day,
+    running: bool,
     trip: &Trip,
     place: usize,
     rows: &[Frequency],
 ) -> Result<(), AllocError>
-    requires { trip.now.first ≤ trip.now.end }
-    ensures { (feed : JoinedFeed) → rows.now ≡ rows_for feed.frequencies.items place → HoldsServices feed.calendar.items feed.calendar_dates.items services.now
+    ensures { (feed : JoinedFeed) → running ≡ runs_then feed day trip.now → rows.now ≡ rows_for feed.frequencies.items place
         → OnOk result (runs.new.items ≡ runs.old.items ++ runs_at feed day place trip.now) }
 {
-    if is_running(services, day, trip) {
+    if running {
         let Ok(number) = u32::try_from(place) else {
             return Err(AllocError);
         };
         if trip.repeats {
-            return add_repeats(runs, day, number, rows);
+            return add_repeats(alloc, runs, day, number, rows);
         }
         runs.push(Run {
             day,
@@ -143,21 +239,31 @@ fn add_run(
     Ok(())
 }
 
-// Adds the runs of a day.
+// Adds the runs of a day, of the trips that run on it.
 fn add_runs_on(
+    alloc: Global,
     runs: &mut Vec<Run>,
-    services: &Services,
     day: Day,
+    running: &[bool],
     trips: &[Trip],
     groups: &[Vec<Frequency>],
 ) -> Result<(), AllocError>
-    requires rising { All (λ trip. trip.first ≤ trip.end) trips.now }
+    requires told { length running.now ≡ length trips.now }
     requires same { length groups.now ≡ length trips.now }
-    ensures { (feed : JoinedFeed) → AreGrouped feed.frequencies.items (length trips.now) groups.now → HoldsServices feed.calendar.items feed.calendar_dates.items services.now
+    ensures { (feed : JoinedFeed) → running.now ≡ map (runs_then feed day) trips.now
+        → AreGrouped feed.frequencies.items (length trips.now) groups.now
         → OnOk result (runs.new.items ≡ runs.old.items ++ runs_from feed day 0 trips.now) }
 {
     for (place, trip) in trips.iter().enumerate() {
-        add_run(runs, services, day, trip, place, &groups[place])?;
+        add_run(
+            alloc,
+            runs,
+            day,
+            running[place],
+            trip,
+            place,
+            &groups[place],
+        )?;
     }
     Ok(())
 }
@@ -173,12 +279,14 @@ fn list_runs(
 ) -> Result<Vec<Run>, AllocError>
     requires rising { All (λ trip. trip.first ≤ trip.end) trips.now }
     requires same { length groups.now ≡ length trips.now }
-    ensures { (feed : JoinedFeed) → feed.trips.items ≡ trips.now → AreGrouped feed.frequencies.items (length trips.now) groups.now → HoldsServices feed.calendar.items feed.calendar_dates.items services.now
+    ensures { (feed : JoinedFeed) → feed.trips.items ≡ trips.now → AreGrouped feed.frequencies.items (length trips.now) groups.now
+        → HoldsServices feed.calendar.items feed.calendar_dates.items services.now
         → IfOk result (λ runs. runs.items ≡ runs_of_days feed (map (λ d. d.day) days.now)) }
 {
     let mut runs = Vec::with_capacity(alloc, count)?;
     for day in days {
-        add_runs_on(&mut runs, services, day.day, trips, groups)?;
+        let running = running_on(alloc, services, day.day, trips)?;
+        add_runs_on(alloc, &mut runs, day.day, &running, trips, groups)?;
     }
     Ok(runs)
 }
@@ -192,7 +300,8 @@ pub(crate) fn runs_on(
     requires { All (λ trip. trip.first ≤ trip.end) feed.now.trips.items }
     ensures ok { IfOk result (λ runs. runs.items ≡ runs_of_days feed.now (map (λ d. d.day) days.now)) }
     ensures few { IfOk result (λ runs. length runs.items ≤ MAX_TRIPS) }
-    ensures err { IfErr result (λ fault. IsWantOfMemory fault ⊎ ((fault ≡ too_many_of Table.Trips) × (MAX_TRIPS < length (runs_of_days feed.now (map (λ d. d.day) days.now))))) }
+    ensures err { IfErr result (λ fault. IsWantOfMemory fault
+        ⊎ ((fault ≡ too_many_of Table.Trips) × (MAX_TRIPS < length (runs_of_days feed.now (map (λ d. d.day) days.now))))) }
 {
     let Ok(services) = Services::new(alloc, &feed.calendar, &feed.calendar_dates) else {
         return Err(out_of_memory());
@@ -200,7 +309,9 @@ pub(crate) fn runs_on(
     let Ok(groups) = rows_by_trip(alloc, &feed.frequencies, feed.trips.len()) else {
         return Err(out_of_memory());
     };
-    let count = count_runs(&services, days, &feed.trips, &groups);
+    let Ok(count) = count_runs(alloc, &services, days, &feed.trips, &groups) else {
+        return Err(out_of_memory());
+    };
     if count > MAX_TRIPS as usize {
         return Err(too_many(Table::Trips));
     }

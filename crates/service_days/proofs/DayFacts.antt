@@ -1,5 +1,5 @@
 -- The day after a day has the next day number.
-use Rattle.std.proofs.Common.{◌≡◌, ◌≤◌, ◌<◌, ◌+◌, if◌then◌else◌, ℕ, ℤ, pos, neg_ℤ, ◌+ℤ◌, ◌≤ℤ◌, Bool, true, false, refl, arith}
+use Rattle.std.proofs.Common.{◌≡◌, ◌≤◌, ◌<◌, ◌+◌, if◌then◌else◌, ℤ, pos, ◌+ℤ◌, Bool, true, false, refl, arith}
 use Rattle.std.proofs.lemmas.Bool.Decides.{nat_tests}
 use Rattle.jiff_core.specs.Calendar.{days_from_civil, days_in_month}
 use Rattle.jiff_core.proofs.CalendarLemmas.{days_in_month_bounds}
@@ -40,7 +40,8 @@ behind_year : (d : Day) → is_civil d ≡ false → 1 ≤ d.year → d.year ≤
 behind_year d none a b e f g = grind (arith, nat_tests)
 
 -- the first of three days
-first_of_three : (is_next is_first : Bool) (next first new : Day) (n : ℤ) → (is_next ≡ true → number next ≡ n) → (is_next ≡ false → is_first ≡ true → number first ≡ n)
+first_of_three : (is_next is_first : Bool) (next first new : Day) (n : ℤ) → (is_next ≡ true → number next ≡ n)
+    → (is_next ≡ false → is_first ≡ true → number first ≡ n)
     → (is_next ≡ false → is_first ≡ false → number new ≡ n) → number (if is_next then next else (if is_first then first else new)) ≡ n
 first_of_three true is_first next first new n a b e = a refl
 first_of_three false true next first new n a b e = b refl refl
@@ -61,6 +62,7 @@ counted_on d civil =
     let behind = behind_month next none is.year_from is.year_to is.month_from is.month_to (omega arith) in
     let last : d.day ≡ days_in_month (pos d.year) d.month = omega (arith, behind, is.day_to) in
     let long = days_in_month_bounds (pos d.year) (d.month + 1) in
-    let month : d.month ≡ 12 = omega (arith, is.month_to, behind_year first missing is.year_from is.year_to (omega arith) (omega arith) (omega (arith, long))) in
+    let month : d.month ≡ 12 = omega (arith, is.month_to, behind_year first missing is.year_from is.year_to (omega arith) (omega arith) (omega (arith, long)))
+    in
     let day : d.day ≡ 31 = rw month at last in
     rw (month, day) (days_from_civil-next_year (pos d.year) (pos (d.year + 1)) (omega (arith, signed_arith)) (omega (arith, signed_arith))))

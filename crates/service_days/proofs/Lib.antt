@@ -1,2 +1,3 @@
+pub mod AskedFacts
 pub mod DayFacts
 pub mod StartFacts

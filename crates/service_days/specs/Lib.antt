@@ -1,3 +1,4 @@
+pub mod Asked
 pub mod Days
 pub mod Faults
 pub mod Services

@@ -49,7 +49,8 @@ IsNoon day noon = IsDate day noon.date × IsHms (pos 12) (pos 0) (pos 0) (pos 0)
 -- the second at which a day starts: 43,200 seconds before its noon, which has an instant
 abbrev pub IsDayStart : Zone → Day → ℤ → Type 0
 IsDayStart zone day start =
-    (is_civil day ≡ true) × (noon : DateTime) × IsNoon day noon × IsTimestampNanos (instant_in zone noon) × (nanos_of_seconds (start +ℤ pos 43_200) ≡ instant_in zone noon)
+    (is_civil day ≡ true) × (noon : DateTime) × IsNoon day noon × IsTimestampNanos (instant_in zone noon)
+    × (nanos_of_seconds (start +ℤ pos 43_200) ≡ instant_in zone noon)
 
 -- there is no such day, or its noon has no instant
 abbrev pub HasNoStart : Zone → Day → Type 0

@@ -20,5 +20,7 @@ pub fn started_or_not()
 
 /// The day after a civil day has the next day number, by which its weekday is told too.
 pub fn days_are_counted_on()
-    ensures { (day : Day) → is_civil day ≡ true → days_from_civil (pos (following day).year) (following day).month (following day).day ≡ days_from_civil (pos day.year) day.month day.day +ℤ pos 1 }
+    ensures { (day : Day) → is_civil day ≡ true
+        → days_from_civil (pos (following day).year) (following day).month (following day).day
+        ≡ days_from_civil (pos day.year) day.month day.day +ℤ pos 1 }
 {}

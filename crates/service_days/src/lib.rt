@@ -4,12 +4,14 @@
 //! 25 hours on which the clocks are changed (GTFS Schedule Reference, field type Time).
 #![tactic(auto)]
 
+mod asked;
 mod day;
 mod fault;
 pub mod laws;
 mod services;
 mod zone;
 
+pub use asked::DayServices;
 pub use day::{day_after, day_start};
 pub use fault::DayFault;
 pub use services::{Services, active};

@@ -73,7 +73,8 @@ fn exceptions_of(
     alloc: Global,
     rows: &[CalendarDateRow],
 ) -> Result<IndexMap<String, Vec<DayException>>, AllocError>
-    ensures { IfOk result (λ exceptions. (service : List ℕ) → option_map_or (λ held. held.items) (get_by_text exceptions service) [] ≡ exceptions_in rows.now service) }
+    ensures { IfOk result (λ exceptions. (service : List ℕ)
+        → option_map_or (λ held. held.items) (get_by_text exceptions service) [] ≡ exceptions_in rows.now service) }
 {
     let mut exceptions = IndexMap::new(alloc);
     for row in rows {

@@ -2,6 +2,7 @@
 
 ghost use Rattle.std.specs.Prelude.{◌≡◌};
 
+use crate::asked::DayServices;
 use crate::day::{day_after, day_start};
 use crate::fault::DayFault;
 use crate::services::{Services, active};
@@ -194,6 +195,31 @@ fn services_of_dates_alone(rt: HostRuntime) -> Result<(), Fail> {
     assert!(rt; !active(&services, "X", day("20240116")?));
     assert!(rt; !active(&services, "Y", day("20240115")?));
     assert!(rt; !active(&services, "Y", day("20240116")?));
+    Ok(())
+}
+
+// A service that is asked for again is told as before.
+#[test]
+fn services_asked_for_twice(rt: HostRuntime) -> Result<(), Fail> {
+    let alloc = rt.alloc();
+    let dates = [
+        date("X", "20240115", Exception::Added, alloc)?,
+        date("Z", "20240115", Exception::Removed, alloc)?,
+    ];
+    let services = Services::new(alloc, &[], &dates)?;
+    let monday = day("20240115")?;
+    let mut asked = DayServices::new(alloc);
+    for (service, runs) in [
+        ("X", true),
+        ("Y", false),
+        ("Z", false),
+        ("X", true),
+        ("Y", false),
+        ("Z", false),
+    ] {
+        let id = String::from_str(alloc, service)?;
+        assert!(rt; asked.runs(&services, &id, monday)? == runs);
+    }
     Ok(())
 }
 

@@ -12,8 +12,10 @@ loop-position-preserved c k d lt =
     elim (cases_eq k c.loop-position.position) [
       | inl same ↦
           let place : k < length c.args.times.now = omega (arith, same, below) in
-          subst (λ (t : RowTimes). IsInside c.args.clock.day.base (zero_of c.args.clock) c.args.clock.start k t) (get_or_default c.args.times.now k none d place)
-          (subst (λ (n : ℕ). IsInside c.args.clock.day.base (zero_of c.args.clock) c.args.clock.start n (get_or c.args.times.now n none)) (sym same) c.if-not-is_inside.ensures)
+          subst (λ (t : RowTimes). IsInside c.args.clock.day.base (zero_of c.args.clock) c.args.clock.start k t)
+          (get_or_default c.args.times.now k none d place)
+          (subst (λ (n : ℕ). IsInside c.args.clock.day.base (zero_of c.args.clock) c.args.clock.start n (get_or c.args.times.now n none)) (sym same)
+          c.if-not-is_inside.ensures)
       | inr other ↦ c.loop-position.invariant k d (omega (arith, lt, other))
     ]
 

@@ -21,10 +21,12 @@ pub loop-number-init : goal.loop-number-init
 loop-number-init c zone base d e starts = rw c.in-Ok.ensures.items (by_run_none c.args.feed.now zone base c.args.runs.now)
 
 pub start_of-start-requires : goal.start_of-start-requires
-start_of-start-requires c = c.requires.days c.loop-number.number (record { day = record { year = 0; month = 0; day = 0 }; trip = 0; repeat = 0; start = None }) c.loop-number-test.true
+start_of-start-requires c = c.requires.days c.loop-number.number (record { day = record { year = 0; month = 0; day = 0 }; trip = 0; repeat = 0; start = None })
+    c.loop-number-test.true
 
 pub list_run-requires-clause-trip : goal.list_run-requires-clause-trip
-list_run-requires-clause-trip c = c.requires.trips c.loop-number.number (record { day = record { year = 0; month = 0; day = 0 }; trip = 0; repeat = 0; start = None }) c.loop-number-test.true
+list_run-requires-clause-trip c = c.requires.trips c.loop-number.number
+    (record { day = record { year = 0; month = 0; day = 0 }; trip = 0; repeat = 0; start = None }) c.loop-number-test.true
 
 pub returns-in-Err-clause-err : goal.returns-in-Err-clause-err
 returns-in-Err-clause-err c zone base d e starts =
@@ -34,10 +36,12 @@ returns-in-Err-clause-err c zone base d e starts =
     let fits : FitsSigned w64 first = search rules in
     let also : FitsSigned w64 c.start_of-start.result = search rules in
     let run : Run = get_or c.args.runs.now c.loop-number.number absent in
-    let base_is : to_z w64 (of_z w64 first) ≡ base = to_z-of_z w64 first fits ∙ ap (λ (x : ServiceDay). x.start) (get_or_default c.args.days.now 0 none d c.requires.some) ∙ sym e in
+    let base_is : to_z w64 (of_z w64 first) ≡ base = to_z-of_z w64 first fits
+    ∙ ap (λ (x : ServiceDay). x.start) (get_or_default c.args.days.now 0 none d c.requires.some) ∙ sym e in
     let at : slice_get c.args.runs.now c.loop-number.number ≡ Some run = slice_get-get_or c.args.runs.now c.loop-number.number absent c.loop-number-test.true in
     fault_told c.args.feed.now zone base (to_z w64 (of_z w64 first)) c.args.runs.now c.loop-number.number run c.in-Err.fault base_is at
-    (c.in-Err.ensures.err zone (subst (λ (z : ℤ). IsDayStart zone run.day z) (sym (to_z-of_z w64 c.start_of-start.result also)) (c.start_of-start.ensures zone starts)))
+    (c.in-Err.ensures.err zone (subst (λ (z : ℤ). IsDayStart zone run.day z) (sym (to_z-of_z w64 c.start_of-start.result also))
+    (c.start_of-start.ensures zone starts)))
 
 pub loop-number-preserved : goal.loop-number-preserved
 loop-number-preserved c zone base d e starts =
@@ -47,13 +51,17 @@ loop-number-preserved c zone base d e starts =
     let fits : FitsSigned w64 first = search rules in
     let also : FitsSigned w64 c.start_of-start.result = search rules in
     let run : Run = get_or c.args.runs.now c.loop-number.number absent in
-    let base_is : to_z w64 (of_z w64 first) ≡ base = to_z-of_z w64 first fits ∙ ap (λ (x : ServiceDay). x.start) (get_or_default c.args.days.now 0 none d c.requires.some) ∙ sym e in
+    let base_is : to_z w64 (of_z w64 first) ≡ base = to_z-of_z w64 first fits
+    ∙ ap (λ (x : ServiceDay). x.start) (get_or_default c.args.days.now 0 none d c.requires.some) ∙ sym e in
     let at : slice_get c.args.runs.now c.loop-number.number ≡ Some run = slice_get-get_or c.args.runs.now c.loop-number.number absent c.loop-number-test.true in
-    let adds = c.in-Ok-list_run.ensures.ok zone (subst (λ (z : ℤ). IsDayStart zone run.day z) (sym (to_z-of_z w64 c.start_of-start.result also)) (c.start_of-start.ensures zone starts)) in
-    by_run_more c.args.feed.now zone base c.args.runs.now c.loop-number.number run c.loop-number.connections.items c.list_run.new.connections.items at (c.loop-number.invariant zone base d e starts)
+    let adds = c.in-Ok-list_run.ensures.ok zone (subst (λ (z : ℤ). IsDayStart zone run.day z) (sym (to_z-of_z w64 c.start_of-start.result also))
+    (c.start_of-start.ensures zone starts)) in
+    by_run_more c.args.feed.now zone base c.args.runs.now c.loop-number.number run c.loop-number.connections.items c.list_run.new.connections.items at
+    (c.loop-number.invariant zone base d e starts)
     (subst (λ (z : ℤ). AddsRun c.args.feed.now zone z run c.loop-number.number c.loop-number.connections.items c.list_run.new.connections.items) base_is adds)
 
 pub returns-clause-ok : goal.returns-clause-ok
 returns-clause-ok c zone base d e starts =
-    let end : c.loop-number.number ≡ length c.args.runs.now = (let over = c.loop-number-test.false in let under = c.loop-number.auto.number-end in omega (arith, over, under)) in
+    let end : c.loop-number.number ≡ length c.args.runs.now =
+    (let over = c.loop-number-test.false in let under = c.loop-number.auto.number-end in omega (arith, over, under)) in
     subst (λ (n : ℕ). AreByRun c.args.feed.now zone base c.args.runs.now n c.loop-number.connections.items) end (c.loop-number.invariant zone base d e starts)

@@ -10,15 +10,21 @@ use Rattle.connections.proofs.ReadySteps.{IsReady, all_inside, first_departs, re
 use Rattle.connections.proofs.listing.list_run.Goals as goal
 
 is_ready : (c : goal.After-deref-3) → IsReady c.args.feed.now c.args.run.now c.rows_of-rows.result.now c.deref-2.result.now
-is_ready c = ready c.args.feed.now c.args.run.now c.args.times.now c.index-trip.result.now c.rows_of-rows.result.now c.index-times-place.result c.deref-2.result.now c.requires.runnable c.requires.times c.requires.trip
-    c.index-trip.ensures (c.rows_of-rows.ensures.rows ∙ ap (λ (st : List StopTimeRow). rows_of st c.index-trip.result.now) c.deref.ensures.value) c.rows_of-rows.ensures.len c.index-times-place.is (c.deref-2.ensures.value ∙ ap (λ (t : TripTimes). t.rows.items) (sym c.index-times-place.is))
+is_ready c = ready c.args.feed.now c.args.run.now c.args.times.now c.index-trip.result.now c.rows_of-rows.result.now c.index-times-place.result
+    c.deref-2.result.now c.requires.runnable c.requires.times c.requires.trip
+    c.index-trip.ensures (c.rows_of-rows.ensures.rows ∙ ap (λ (st : List StopTimeRow). rows_of st c.index-trip.result.now) c.deref.ensures.value)
+    c.rows_of-rows.ensures.len c.index-times-place.is (c.deref-2.ensures.value ∙ ap (λ (t : TripTimes). t.rows.items) (sym c.index-times-place.is))
 
 pub returns-then-not-are_inside-clause-err : goal.returns-then-not-are_inside-clause-err
 returns-then-not-are_inside-clause-err c zone starts =
-    let known : IsReady c.args.feed.now c.args.run.now c.rows_of-rows.result.now c.deref-2.result.now = ready c.args.feed.now c.args.run.now c.args.times.now c.index-trip.result.now c.rows_of-rows.result.now c.index-times-place.result c.deref-2.result.now c.requires.runnable c.requires.times c.requires.trip
-    c.index-trip.ensures (c.rows_of-rows.ensures.rows ∙ ap (λ (st : List StopTimeRow). rows_of st c.index-trip.result.now) c.deref.ensures.value) c.rows_of-rows.ensures.len c.index-times-place.is (c.deref-2.ensures.value ∙ ap (λ (t : TripTimes). t.rows.items) (sym c.index-times-place.is)) in
+    let known : IsReady c.args.feed.now c.args.run.now c.rows_of-rows.result.now c.deref-2.result.now =
+    ready c.args.feed.now c.args.run.now c.args.times.now c.index-trip.result.now c.rows_of-rows.result.now c.index-times-place.result c.deref-2.result.now
+    c.requires.runnable c.requires.times c.requires.trip
+    c.index-trip.ensures (c.rows_of-rows.ensures.rows ∙ ap (λ (st : List StopTimeRow). rows_of st c.index-trip.result.now) c.deref.ensures.value)
+    c.rows_of-rows.ensures.len c.index-times-place.is (c.deref-2.ensures.value ∙ ap (λ (t : TripTimes). t.rows.items) (sym c.index-times-place.is)) in
     let clock : RunClock = record { day = c.args.day; start = c.args.run.now.start; own = c.index.result.now.departure } in
-    let own : clock.own ≡ departs c.rows_of-rows.result.now 0 = ap (λ (t : RowTimes). t.departure) c.index.ensures ∙ ap (λ (ts : List RowTimes). (get_or ts 0 c.index.result.now).departure) (sym c.deref-2.ensures.value)
+    let own : clock.own ≡ departs c.rows_of-rows.result.now 0 = ap (λ (t : RowTimes). t.departure) c.index.ensures
+    ∙ ap (λ (ts : List RowTimes). (get_or ts 0 c.index.result.now).departure) (sym c.deref-2.ensures.value)
     ∙ first_departs c.args.feed.now c.args.run.now c.rows_of-rows.result.now c.deref-2.result.now c.index.result.now known in
     inr (
       c.out_of_range.ensures,
@@ -26,7 +32,8 @@ returns-then-not-are_inside-clause-err c zone starts =
         start = zero_of clock;
         rows = c.rows_of-rows.result.now;
         rows_are = run_rows c.args.feed.now zone c.args.run.now clock c.rows_of-rows.result.now c.deref-2.result.now known starts refl own;
-        outside = some_outside c.args.feed.now c.args.run.now c.args.day.base (zero_of clock) c.args.run.now.start c.rows_of-rows.result.now c.deref-2.result.now known c.if-not-are_inside.ensures;
+        outside = some_outside c.args.feed.now c.args.run.now c.args.day.base (zero_of clock) c.args.run.now.start c.rows_of-rows.result.now
+            c.deref-2.result.now known c.if-not-are_inside.ensures;
       },
     )
 
@@ -52,15 +59,20 @@ add_hops-requires-clause-stops c = (is_ready c).stops
 
 pub returns-in-Ok-clause-ok : goal.returns-in-Ok-clause-ok
 returns-in-Ok-clause-ok c zone starts =
-    let known : IsReady c.args.feed.now c.args.run.now c.rows_of-rows.result.now c.deref-2.result.now = ready c.args.feed.now c.args.run.now c.args.times.now c.index-trip.result.now c.rows_of-rows.result.now c.index-times-place.result c.deref-2.result.now c.requires.runnable c.requires.times c.requires.trip
-    c.index-trip.ensures (c.rows_of-rows.ensures.rows ∙ ap (λ (st : List StopTimeRow). rows_of st c.index-trip.result.now) c.deref.ensures.value) c.rows_of-rows.ensures.len c.index-times-place.is (c.deref-2.ensures.value ∙ ap (λ (t : TripTimes). t.rows.items) (sym c.index-times-place.is)) in
+    let known : IsReady c.args.feed.now c.args.run.now c.rows_of-rows.result.now c.deref-2.result.now =
+    ready c.args.feed.now c.args.run.now c.args.times.now c.index-trip.result.now c.rows_of-rows.result.now c.index-times-place.result c.deref-2.result.now
+    c.requires.runnable c.requires.times c.requires.trip
+    c.index-trip.ensures (c.rows_of-rows.ensures.rows ∙ ap (λ (st : List StopTimeRow). rows_of st c.index-trip.result.now) c.deref.ensures.value)
+    c.rows_of-rows.ensures.len c.index-times-place.is (c.deref-2.ensures.value ∙ ap (λ (t : TripTimes). t.rows.items) (sym c.index-times-place.is)) in
     let clock : RunClock = record { day = c.args.day; start = c.args.run.now.start; own = c.index.result.now.departure } in
-    let own : clock.own ≡ departs c.rows_of-rows.result.now 0 = ap (λ (t : RowTimes). t.departure) c.index.ensures ∙ ap (λ (ts : List RowTimes). (get_or ts 0 c.index.result.now).departure) (sym c.deref-2.ensures.value)
+    let own : clock.own ≡ departs c.rows_of-rows.result.now 0 = ap (λ (t : RowTimes). t.departure) c.index.ensures
+    ∙ ap (λ (ts : List RowTimes). (get_or ts 0 c.index.result.now).departure) (sym c.deref-2.ensures.value)
     ∙ first_departs c.args.feed.now c.args.run.now c.rows_of-rows.result.now c.deref-2.result.now c.index.result.now known in
     record {
       start = zero_of clock;
       rows = c.rows_of-rows.result.now;
       rows_are = run_rows c.args.feed.now zone c.args.run.now clock c.rows_of-rows.result.now c.deref-2.result.now known starts refl own;
-      inside = all_inside c.args.feed.now c.args.run.now c.args.day.base (zero_of clock) c.args.run.now.start c.rows_of-rows.result.now c.deref-2.result.now known c.if-not-are_inside.ensures;
+      inside = all_inside c.args.feed.now c.args.run.now c.args.day.base (zero_of clock) c.args.run.now.start c.rows_of-rows.result.now c.deref-2.result.now
+          known c.if-not-are_inside.ensures;
       adds = c.in-Ok.ensures;
     }

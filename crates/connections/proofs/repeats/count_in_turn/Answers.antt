@@ -2,7 +2,7 @@ use Rattle.std.proofs.Common.{◌+◌, ◌-◌, ◌<◌, length, arith, ap, sym,
 use Rattle.std.proofs.lemmas.List.{length_push}
 use Rattle.connections.specs.Repeats.{last_end, starts_before}
 use Rattle.connections.proofs.RepeatSteps.{start_below, starts_end, starts_next, starts_none}
-use Rattle.connections.proofs.repeats.count_starts.Goals as goal
+use Rattle.connections.proofs.repeats.count_in_turn.Goals as goal
 
 pub loop-start-init : goal.loop-start-init
 loop-start-init c = record { few = omega arith; within = omega arith; counted = ap length (sym (starts_none c.args.rows.now)) }
@@ -29,8 +29,11 @@ loop-start-preserved c =
     record {
       few = omega (arith, few, after);
       within = omega (arith, below);
-      counted = ap (λ n. n + 1) c.loop-start.invariant.counted ∙ sym (ap length (starts_next c.args.rows.now c.loop-start.from c.in-Some.start c.in-Some.ensures.next) ∙ length_push (starts_before c.args.rows.now c.loop-start.from) c.in-Some.start);
+      counted = ap (λ n. n + 1) c.loop-start.invariant.counted
+          ∙ sym (ap length (starts_next c.args.rows.now c.loop-start.from c.in-Some.start c.in-Some.ensures.next)
+          ∙ length_push (starts_before c.args.rows.now c.loop-start.from) c.in-Some.start);
     }
 
 pub returns : goal.returns
-returns c = c.loop-start.invariant.counted ∙ ap length (sym (starts_end c.args.rows.now c.loop-start.from c.loop-start.invariant.within c.in_default.ensures.next))
+returns c = c.loop-start.invariant.counted
+    ∙ ap length (sym (starts_end c.args.rows.now c.loop-start.from c.loop-start.invariant.within c.in_default.ensures.next))

@@ -1,6 +1,6 @@
 use Rattle.std.proofs.Common.{◌≡◌, ◌≤◌, ◌-◌, length}
 use Rattle.connections.specs.Repeats.{last_end, starts_before}
-use Rattle.connections.proofs.repeats.count_starts.Given as goal
+use Rattle.connections.proofs.repeats.count_in_turn.Given as goal
 
 abbrev pub invariant-loop-start : goal.invariant-loop-start
 invariant-loop-start l = record { few : l.count ≤ l.from; within : l.from ≤ last_end l.rows; counted : l.count ≡ length (starts_before l.rows l.from) }

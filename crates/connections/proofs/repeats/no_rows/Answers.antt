@@ -7,7 +7,8 @@ pub loop-init : goal.loop-init
 loop-init c = rw c.in_ok-groups.ensures.items no_groups
 
 pub loop-preserved : goal.loop-preserved
-loop-preserved c = groups_more c.loop.counter c.loop.groups.items c.push.new.self.items c.new.result c.loop.invariant c.new.ensures.items c.in_ok-push.ensures.items
+loop-preserved c = groups_more c.loop.counter c.loop.groups.items c.push.new.self.items c.new.result c.loop.invariant c.new.ensures.items
+    c.in_ok-push.ensures.items
 
 pub returns : goal.returns
 returns c =

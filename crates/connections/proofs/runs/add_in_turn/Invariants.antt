@@ -1,7 +1,7 @@
 use Rattle.std.proofs.Common.{◌≡◌, ◌≤◌, ◌-◌, ◌++◌, length}
 use Rattle.connections.specs.Repeats.{last_end, starts_before}
 use Rattle.connections.specs.Runs.{repeats_from}
-use Rattle.connections.proofs.runs.add_repeats.Given as goal
+use Rattle.connections.proofs.runs.add_in_turn.Given as goal
 
 abbrev pub invariant-loop-start : goal.invariant-loop-start
 invariant-loop-start l = record {

@@ -6,5 +6,6 @@ use Rattle.connections.specs.Runs.{runs_of_days}
 use Rattle.connections.proofs.runs.list_runs.Given as goal
 
 abbrev pub invariant-loop-day : goal.invariant-loop-day
-invariant-loop-day l = (feed : Feed) → feed.trips.items ≡ l.trips → AreGrouped feed.frequencies.items (length l.trips) l.groups → HoldsServices feed.calendar.items feed.calendar_dates.items l.services
+invariant-loop-day l = (feed : Feed) → feed.trips.items ≡ l.trips → AreGrouped feed.frequencies.items (length l.trips) l.groups
+    → HoldsServices feed.calendar.items feed.calendar_dates.items l.services
     → l.runs.items ≡ runs_of_days feed (map (λ d. d.day) (take l.day-index l.days))

@@ -26,7 +26,8 @@ loop-arrival-preserved c =
     let lengths = ap (λ (ts : List (ℕ × ℕ)). length ts) given in
     let lt : index < length c.args.rows.now = omega (arith, lengths, c.loop-arrival-test.true) in
     let here : get_or c.deref-arrival-items.result.now index (0, 0) ≡ (arrives_spread c.args.rows.now index, departs_spread c.args.rows.now index) =
-    ap (λ (ts : List (ℕ × ℕ)). get_or ts index (0, 0)) given ∙ c.spread_times.ensures c.args.rows.now c.in_ok-given.given.items index spread c.requires.first c.requires.last lt in
+    ap (λ (ts : List (ℕ × ℕ)). get_or ts index (0, 0)) given
+    ∙ c.spread_times.ensures c.args.rows.now c.in_ok-given.given.items index spread c.requires.first c.requires.last lt in
     let a : ℕ = (get_or c.deref-arrival-items.result.now index (0, 0)).0 in
     let d : ℕ = (get_or c.deref-arrival-items.result.now index (0, 0)).1 in
     let more = lifted_more c.args.rows.now c.loop-arrival.times.items c.loop-arrival.lifted c.loop-arrival.left index a d c.loop-arrival.invariant
@@ -43,7 +44,8 @@ returns c =
     let given : c.deref-arrival-items.result.now ≡ c.in_ok-given.given.items = c.deref-arrival-items.ensures.value in
     let len : length c.in_ok-given.given.items ≡ length c.args.rows.now = c.in_ok-given.ensures.same_length in
     let lengths = ap (λ (ts : List (ℕ × ℕ)). length ts) given in
-    let end : c.loop-arrival.arrival-index ≡ length c.args.rows.now = omega (arith, lengths, c.loop-arrival-test.false, c.loop-arrival.auto.arrival-index-end) in
+    let end : c.loop-arrival.arrival-index ≡ length c.args.rows.now =
+    omega (arith, lengths, c.loop-arrival-test.false, c.loop-arrival.auto.arrival-index-end) in
     record {
       same_length = done.same_length ∙ end;
       times_are = subst (λ (n : ℕ). AreTimesBefore c.args.rows.now c.loop-arrival.times.items n) end done.times_are;

@@ -24,15 +24,28 @@ whole noon off n q hms at e =
 pub returns-in-Ok-clause-ok : goal.returns-in-Ok-clause-ok
 returns-in-Ok-clause-ok c =
     let at = c.in-Ok.ensures.value in
-    let second = whole c.at.result (compatible_offset (ambiguous_at (plain_zone c.time_zone.result) c.at.result)).seconds c.in-Ok.noon.nanosecond c.as_second.result c.at.ensures.time at c.as_second.ensures in
+    let second = whole c.at.result (compatible_offset (ambiguous_at (plain_zone c.time_zone.result) c.at.result)).seconds c.in-Ok.noon.nanosecond
+    c.as_second.result c.at.ensures.time at c.as_second.ensures in
     let offsets = c.time_zone.ensures c.at.result in
     let range : IsTimestampNanos c.in-Ok.noon.nanosecond = c.in-Ok.noon.in_range in
     let fits : FitsSigned w64 c.as_second.result = omega (arith, signed_arith, second) in
     let less : FitsSigned w64 (c.as_second.result -ℤ pos 43200) = omega (arith, signed_arith, second) in
-    let known = c.in-Some.ensures.some in
-    (known.0, c.at.result, (rw c.at.ensures.date known.1, c.at.ensures.time), rw (← offsets) (subst (λ (n : ℤ). IsTimestampNanos n) at range), rw (to_z-of_z w64 c.as_second.result fits, to_z-of_z w64 (c.as_second.result -ℤ pos 43200) less) (rw (← offsets) (omega (arith, signed_arith, second, at))))
+    let known = c.in-Some.ensures.some in (
+      known.0,
+      c.at.result,
+      (rw c.at.ensures.date known.1, c.at.ensures.time),
+      rw (← offsets) (subst (λ (n : ℤ). IsTimestampNanos n) at range),
+      rw (to_z-of_z w64 c.as_second.result fits, to_z-of_z w64 (c.as_second.result -ℤ pos 43200) less)
+          (rw (← offsets) (omega (arith, signed_arith, second, at))),
+    )
 
 pub returns-in-Err-clause-err : goal.returns-in-Err-clause-err
 returns-in-Err-clause-err c =
-    let known = c.in-Some.ensures.some in
-    (refl, inr (c.at.result, (rw c.at.ensures.date known.1, c.at.ensures.time), λ h. absurd (false≢true (c.in-Err.ensures.succeeds.1 (rw (c.time_zone.ensures c.at.result) h)))))
+    let known = c.in-Some.ensures.some in (
+      refl,
+      inr (
+        c.at.result,
+        (rw c.at.ensures.date known.1, c.at.ensures.time),
+        λ h. absurd (false≢true (c.in-Err.ensures.succeeds.1 (rw (c.time_zone.ensures c.at.result) h))),
+      ),
+    )

@@ -8,4 +8,5 @@ use Rattle.service_days.specs.Services.{exception_of}
 use Rattle.service_days.proofs.services.exceptions_of.Given as goal
 
 abbrev pub invariant-loop-row : goal.invariant-loop-row
-invariant-loop-row l = (q : List ℕ) → option_map_or (λ g. g.items) (get_by_text l.exceptions q) [] ≡ map exception_of (filter (λ r. bytes_eq q (string_bytes r.service)) (take l.row-index l.rows))
+invariant-loop-row l = (q : List ℕ) → option_map_or (λ g. g.items) (get_by_text l.exceptions q) [] ≡ map exception_of
+    (filter (λ r. bytes_eq q (string_bytes r.service)) (take l.row-index l.rows))

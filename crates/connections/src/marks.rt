@@ -1,0 +1,133 @@
+// The starts of a trip with many rows, marked second by second: rows that overlap cost no more than the starts that they give.
+
+ghost use Rattle.std.specs.Prelude.{◌≡◌, ◌≤◌, ◌<◌, ◌||◌, ◌⊎◌, ℕ, Bool, true, length, All, IfOk, IsPermutation};
+ghost use Rattle.connections.specs.Marks.{AreMarks, Covers};
+ghost use Rattle.connections.specs.Repeats.{is_start, last_end, leaves_at, starts_of};
+
+use crate::repeats::next_of_row;
+use gtfs_tables::Frequency;
+use std::alloc::{AllocError, Global};
+
+// Seconds that are marked, at most: a feed's times are below 360,000.
+const MOST_SECONDS: u32 = 400_000;
+
+// The greatest end time of the rows.
+fn end_of(rows: &[Frequency]) -> u32
+    ensures { result ≡ last_end rows.now }
+{
+    let mut end = 0;
+    for row in rows {
+        end = row.end.max(end);
+    }
+    end
+}
+
+// How many starts a row gives, or one more.
+fn starts_at_most(row: Frequency) -> u64 {
+    let seconds = row.end.saturating_sub(row.start);
+    let headway = row.headway.max(1);
+    (seconds / headway) as u64 + 1
+}
+
+// Whether it takes longer to look at each of the rows for each start than to mark the starts among all seconds.
+pub(crate) fn are_many(rows: &[Frequency]) -> bool {
+    if rows.len() < 5 {
+        return false;
+    }
+    let mut starts = 0u64;
+    for row in rows {
+        starts = starts.saturating_add(starts_at_most(*row));
+    }
+    let seconds = end_of(rows);
+    seconds <= MOST_SECONDS && starts.saturating_mul(rows.len() as u64) > seconds as u64
+}
+
+// What rows with the same starts have in common, and then their start times.
+fn class_of(row: &Frequency) -> (u32, u32, u32) {
+    let headway = row.headway.max(1);
+    (row.headway, row.start % headway, row.start)
+}
+
+// The rows, those of the same headway and the same remainder one after the other.
+fn by_class(alloc: Global, rows: &[Frequency]) -> Result<Vec<Frequency>, AllocError>
+    ensures { IfOk result (λ sorted. IsPermutation rows.now sorted.items) }
+{
+    let mut sorted = rows.to_vec(alloc)?;
+    sorted.sort_unstable_by_key(|row| class_of(row));
+    Ok(sorted)
+}
+
+// Whether a row gives no start, before another's end time, but those that the other gives.
+fn covers(other: Frequency, row: Frequency) -> bool
+    ensures { result ≡ true → Covers other row }
+{
+    if other.headway == 0 || other.start > row.start {
+        return false;
+    }
+    if other.headway != row.headway {
+        return false;
+    }
+    (row.start - other.start) % row.headway == 0
+}
+
+// Marks the starts of a row from a time on.
+fn mark_row(marks: &mut Vec<bool>, row: Frequency, from: u32)
+    requires { row.end ≤ length marks.old.items }
+    ensures len { length marks.new.items ≡ length marks.old.items }
+    ensures marks { (test : ℕ → Bool) → AreMarks test marks.old.items → ((s : ℕ) → s < from → leaves_at s row ≡ true → test s ≡ true)
+        → AreMarks (λ s. test s || leaves_at s row) marks.new.items }
+{
+    let mut next = from;
+    while let Some(start) = next_of_row(row, next) {
+        marks[start as usize] = true;
+        next = start + 1;
+    }
+}
+
+// Whether one of the rows lets a trip start, at each second before the end time.
+fn marks_of(alloc: Global, rows: &[Frequency], end: u32) -> Result<Vec<bool>, AllocError>
+    requires { All (λ row. row.end ≤ end) rows.now }
+    ensures len { IfOk result (λ marks. length marks.items ≡ end) }
+    ensures marks { IfOk result (λ marks. AreMarks (is_start rows.now) marks.items) }
+{
+    let mut marks = vec![in alloc; false; end as usize]?;
+    let mut last = Frequency {
+        trip: 0,
+        start: 0,
+        end: 0,
+        headway: 0,
+    };
+    for row in rows {
+        if covers(last, *row) {
+            mark_row(&mut marks, *row, last.end);
+            last = later(last, *row);
+        } else {
+            mark_row(&mut marks, *row, 0);
+            last = *row;
+        }
+    }
+    Ok(marks)
+}
+
+// That of two rows which ends later.
+fn later(one: Frequency, other: Frequency) -> Frequency
+    ensures { (result ≡ one) ⊎ (result ≡ other) }
+{
+    if other.end > one.end { other } else { one }
+}
+
+// The starts that the rows give, rising, each once.
+pub(crate) fn marked_starts(alloc: Global, rows: &[Frequency]) -> Result<Vec<u32>, AllocError>
+    ensures { IfOk result (λ starts. starts.items ≡ starts_of rows.now) }
+{
+    let end = end_of(rows);
+    let sorted = by_class(alloc, rows)?;
+    let marks = marks_of(alloc, &sorted, end)?;
+    let mut starts = Vec::new(alloc);
+    for second in 0..end {
+        if marks[second as usize] {
+            starts.push(second)?;
+        }
+    }
+    Ok(starts)
+}

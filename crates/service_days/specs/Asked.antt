@@ -1,0 +1,13 @@
+-- What is known of the services of a day.
+use Rattle.std.specs.Prelude.{◌≡◌, ℕ, List, IfSome}
+use Rattle.std.specs.HashMap.{get_by_text}
+use Rattle.gtfs_rows.specs.declared.values.Day.{Day}
+use Rattle.gtfs_rows.specs.declared.rows.CalendarRow.{CalendarRow}
+use Rattle.gtfs_rows.specs.declared.rows.CalendarDateRow.{CalendarDateRow}
+use Rattle.service_days.specs.Services.{is_active}
+use Rattle.service_days.specs.declared.asked.DayServices.{DayServices}
+
+-- each service of which something is known is known to run on the day, or not to run, as the tables say
+abbrev pub AreOfDay : List CalendarRow → List CalendarDateRow → Day → DayServices → Type 0
+AreOfDay calendar dates day known =
+    (service : List ℕ) → IfSome (get_by_text known.running service) (λ running. running ≡ is_active calendar dates service day)
