@@ -57,14 +57,14 @@ times_told named placed t ts r e h = subst (λ (x : List (Option ℕ)). first_fa
 pub rows_told : (named : List ℕ → Option Named) (placed : List ℕ → Option ℕ) (t : Tables) (ts : List (Option ℕ)) (ss : List (Option Named)) (given turns : List Turn)
     (rows : List StopTimeRow) → ts ≡ trips_by placed t → ss ≡ stops_by named t → given ≡ turns
     → rows ≡ map (λ turn. linked_row ts ss (is_flex_id t.stop_times.rows.items (row_of t.stop_times.rows.items turn.number).trip)
-        (row_of t.stop_times.rows.items turn.number)) given
+    (row_of t.stop_times.rows.items turn.number)) given
     → rows ≡ rows_by named placed t turns
 rows_told named placed t ts ss given turns rows e s f h =
     subst (λ (x : List Turn). rows ≡ rows_by named placed t x) f
     (subst (λ (x : List (Option Named)). rows ≡ map (λ turn. linked_row (trips_by placed t) x
-        (is_flex_id t.stop_times.rows.items (row_of t.stop_times.rows.items turn.number).trip) (row_of t.stop_times.rows.items turn.number)) given) s
+    (is_flex_id t.stop_times.rows.items (row_of t.stop_times.rows.items turn.number).trip) (row_of t.stop_times.rows.items turn.number)) given) s
     (subst (λ (x : List (Option ℕ)). rows ≡ map (λ turn. linked_row x ss
-        (is_flex_id t.stop_times.rows.items (row_of t.stop_times.rows.items turn.number).trip) (row_of t.stop_times.rows.items turn.number)) given) e h))
+    (is_flex_id t.stop_times.rows.items (row_of t.stop_times.rows.items turn.number).trip) (row_of t.stop_times.rows.items turn.number)) given) e h))
 
 -- the marks of flex trips, told of lists that are those of the tables
 pub flex_told : (rows : List StopTimeRow) (ts trips : List (Option ℕ)) (given flex : List Bool) → ts ≡ trips → given ≡ flex

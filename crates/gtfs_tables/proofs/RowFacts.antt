@@ -113,9 +113,9 @@ filed f before (row ∷ rows) (turn ∷ turns) e =
     let again : before ++ row ∷ [] ++ rows ≡ before ++ row ∷ rows = append_assoc before (row ∷ []) rows in
     let here : f (row_of (before ++ row ∷ rows) turn.number) ≡ f row = ap f (ap (row_of (before ++ row ∷ rows)) number ∙ read_behind before rows row) in
     let others : map (λ turn. f (row_of (before ++ row ∷ [] ++ rows) turn.number)) turns ≡ map f rows =
-        filed f (before ++ row ∷ []) rows turns (rest ∙ ap (λ n. numbers_from (n + 1) (length rows)) (sym longer)) in
+    filed f (before ++ row ∷ []) rows turns (rest ∙ ap (λ n. numbers_from (n + 1) (length rows)) (sym longer)) in
     let same : map (λ turn. f (row_of (before ++ row ∷ rows) turn.number)) turns ≡ map f rows =
-        subst (λ (all : List StopTimeRow). map (λ turn. f (row_of all turn.number)) turns ≡ map f rows) again others in
+    subst (λ (all : List StopTimeRow). map (λ turn. f (row_of all turn.number)) turns ≡ map f rows) again others in
     ap (λ x. x ∷ map (λ turn. f (row_of (before ++ row ∷ rows) turn.number)) turns) here ∙ ap (λ xs. f row ∷ xs) same
 
 pub filed_rows : {A : Type 0} (f : StopTimeRow → A) (rows : List StopTimeRow) (turns : List Turn) → length turns ≡ length rows
