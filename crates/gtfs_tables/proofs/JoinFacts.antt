@@ -32,39 +32,56 @@ pub of_none : {X : Type 0} (a b c : Option X) → a ≡ None → b ≡ None → 
 of_none a b c e f g = rw (e, f, g) refl
 
 -- the trips with what is the same of each
-pub same_trips : (turns : List Turn) (rows : List StopTimeRow) (f g : ℕ → Bool) (from : ℕ) (trips : List TripRow) → ((t : ℕ) → t < from + length trips → f t ≡ g t)
+pub same_trips : (turns : List Turn) (rows : List StopTimeRow) (f g : ℕ → Bool) (from : ℕ) (trips : List TripRow)
+    → ((t : ℕ) → t < from + length trips → f t ≡ g t)
     → feed_trips turns rows f from trips ≡ feed_trips turns rows g from trips
 same_trips turns rows f g from [] same = refl
 same_trips turns rows f g from (trip ∷ trips) same =
     let here : f from ≡ g from = same from (omega arith) in
-    let rest : feed_trips turns rows f (from + 1) trips ≡ feed_trips turns rows g (from + 1) trips = same_trips turns rows f g (from + 1) trips (λ t lt. same t (omega arith)) in
-    ap (λ again. record { id = trip.id; service = trip.service; first = (feed_trip turns rows f from trip).first; end = (feed_trip turns rows f from trip).end; repeats = again; flex = (feed_trip turns rows f from trip).flex } ∷ feed_trips turns rows f (from + 1) trips) here
+    let rest : feed_trips turns rows f (from + 1) trips ≡ feed_trips turns rows g (from + 1) trips = same_trips turns rows f g (from + 1) trips
+    (λ t lt. same t (omega arith)) in
+    ap (λ again. record {
+      id = trip.id;
+      service = trip.service;
+      first = (feed_trip turns rows f from trip).first;
+      end =
+          (feed_trip turns rows f from trip).end;
+      repeats = again;
+      flex = (feed_trip turns rows f from trip).flex;
+    } ∷ feed_trips turns rows f (from + 1) trips)
+    here
     ∙ ap (λ rest. feed_trip turns rows g from trip ∷ rest) rest
 
 -- what was judged or made of lists that are those of the tables
-pub order_told : (placed : List ℕ → Option ℕ) (t : Tables) (rows : List StopTimeRow) (ts : List (Option ℕ)) (turns : List Turn) → rows ≡ t.stop_times.rows.items → ts ≡ trips_by placed t
+pub order_told : (placed : List ℕ → Option ℕ) (t : Tables) (rows : List StopTimeRow) (ts : List (Option ℕ)) (turns : List Turn) → rows
+    ≡ t.stop_times.rows.items → ts ≡ trips_by placed t
     → IsInOrder ts rows turns → IsInOrder (trips_by placed t) t.stop_times.rows.items turns
-order_told placed t rows ts turns e f order = subst (λ (x : List StopTimeRow). IsInOrder (trips_by placed t) x turns) e (subst (λ (x : List (Option ℕ)). IsInOrder x rows turns) f order)
+order_told placed t rows ts turns e f order = subst (λ (x : List StopTimeRow). IsInOrder (trips_by placed t) x turns) e
+    (subst (λ (x : List (Option ℕ)). IsInOrder x rows turns) f order)
 
-pub stops_told : (named : List ℕ → Option Named) (given stops : List StopRow) (r : Option TableFault) → given ≡ stops → first_fault_of kinds.Stops (parent_fault named) given ≡ r → first_fault_of kinds.Stops (parent_fault named) stops ≡ r
+pub stops_told : (named : List ℕ → Option Named) (given stops : List StopRow) (r : Option TableFault) → given ≡ stops
+    → first_fault_of kinds.Stops (parent_fault named) given ≡ r → first_fault_of kinds.Stops (parent_fault named) stops ≡ r
 stops_told named given stops r e h = subst (λ (x : List StopRow). first_fault_of kinds.Stops (parent_fault named) x ≡ r) e h
 
-pub times_told : (named : List ℕ → Option Named) (placed : List ℕ → Option ℕ) (t : Tables) (ts : List (Option ℕ)) (r : Option TableFault) → ts ≡ trips_by placed t
+pub times_told : (named : List ℕ → Option Named) (placed : List ℕ → Option ℕ) (t : Tables) (ts : List (Option ℕ)) (r : Option TableFault) → ts
+    ≡ trips_by placed t
     → first_fault_of kinds.StopTimes (λ row. linked_fault ts (stops_by named t) (is_flex_id t.stop_times.rows.items row.trip) row) t.stop_times.rows.items ≡ r
     → first_fault_of kinds.StopTimes (stop_time_fault named placed t) t.stop_times.rows.items ≡ r
-times_told named placed t ts r e h = subst (λ (x : List (Option ℕ)). first_fault_of kinds.StopTimes (λ row. linked_fault x (stops_by named t) (is_flex_id t.stop_times.rows.items row.trip) row) t.stop_times.rows.items ≡ r) e h
+times_told named placed t ts r e h = subst (λ (x : List (Option ℕ)). first_fault_of kinds.StopTimes
+    (λ row. linked_fault x (stops_by named t) (is_flex_id t.stop_times.rows.items row.trip) row) t.stop_times.rows.items ≡ r) e h
 
-pub rows_told : (named : List ℕ → Option Named) (placed : List ℕ → Option ℕ) (t : Tables) (ts : List (Option ℕ)) (ss : List (Option Named)) (given turns : List Turn)
+pub rows_told : (named : List ℕ → Option Named) (placed : List ℕ → Option ℕ) (t : Tables) (ts : List (Option ℕ)) (ss : List (Option Named))
+    (given turns : List Turn)
     (rows : List StopTimeRow) → ts ≡ trips_by placed t → ss ≡ stops_by named t → given ≡ turns
     → rows ≡ map (λ turn. linked_row ts ss (is_flex_id t.stop_times.rows.items (row_of t.stop_times.rows.items turn.number).trip)
-        (row_of t.stop_times.rows.items turn.number)) given
+    (row_of t.stop_times.rows.items turn.number)) given
     → rows ≡ rows_by named placed t turns
 rows_told named placed t ts ss given turns rows e s f h =
     subst (λ (x : List Turn). rows ≡ rows_by named placed t x) f
     (subst (λ (x : List (Option Named)). rows ≡ map (λ turn. linked_row (trips_by placed t) x
-        (is_flex_id t.stop_times.rows.items (row_of t.stop_times.rows.items turn.number).trip) (row_of t.stop_times.rows.items turn.number)) given) s
+    (is_flex_id t.stop_times.rows.items (row_of t.stop_times.rows.items turn.number).trip) (row_of t.stop_times.rows.items turn.number)) given) s
     (subst (λ (x : List (Option ℕ)). rows ≡ map (λ turn. linked_row x ss
-        (is_flex_id t.stop_times.rows.items (row_of t.stop_times.rows.items turn.number).trip) (row_of t.stop_times.rows.items turn.number)) given) e h))
+    (is_flex_id t.stop_times.rows.items (row_of t.stop_times.rows.items turn.number).trip) (row_of t.stop_times.rows.items turn.number)) given) e h))
 
 -- the marks of flex trips, told of lists that are those of the tables
 pub flex_told : (rows : List StopTimeRow) (ts trips : List (Option ℕ)) (given flex : List Bool) → ts ≡ trips → given ≡ flex
@@ -74,11 +91,13 @@ flex_told rows ts trips given flex e f marked id lt =
     let within : id < length trips = subst (λ (x : List (Option ℕ)). id < length x) e lt in
     ap (λ (x : List Bool). slice_index_or x id false) f ∙ marked id within
 
-pub frequencies_told : (placed : List ℕ → Option ℕ) (given rows : List FrequencyRow) (r : Option TableFault) → given ≡ rows → first_fault_of kinds.Frequencies (frequency_fault placed) given ≡ r → first_fault_of kinds.Frequencies (frequency_fault placed) rows ≡ r
+pub frequencies_told : (placed : List ℕ → Option ℕ) (given rows : List FrequencyRow) (r : Option TableFault) → given ≡ rows
+    → first_fault_of kinds.Frequencies (frequency_fault placed) given ≡ r → first_fault_of kinds.Frequencies (frequency_fault placed) rows ≡ r
 frequencies_told placed given rows r e h = subst (λ (x : List FrequencyRow). first_fault_of kinds.Frequencies (frequency_fault placed) x ≡ r) e h
 
 -- two functions that agree are one: what a call gives of the one is given of the other
-pub links_told : (f g : List ℕ → Option Named) (h k : List ℕ → Option ℕ) (t : Tables) (r : Result Links TableFault) → ((id : List ℕ) → f id ≡ g id) → ((id : List ℕ) → h id ≡ k id) → IfOk r (IsLinked f h t) → IfOk r (IsLinked g k t)
+pub links_told : (f g : List ℕ → Option Named) (h k : List ℕ → Option ℕ) (t : Tables) (r : Result Links TableFault) → ((id : List ℕ) → f id ≡ g id)
+    → ((id : List ℕ) → h id ≡ k id) → IfOk r (IsLinked f h t) → IfOk r (IsLinked g k t)
 links_told f g h k t r e d linked = swapped
   where
     e_path : f ≡ g
@@ -90,7 +109,8 @@ links_told f g h k t r e d linked = swapped
     swapped : IfOk r (IsLinked g k t)
     swapped = subst (λ (x : List ℕ → Option ℕ). IfOk r (IsLinked g x t)) d_path (subst (λ (x : List ℕ → Option Named). IfOk r (IsLinked x h t)) e_path linked)
 
-pub fault_told : (f g : List ℕ → Option Named) (h k : List ℕ → Option ℕ) (t : Tables) (r : Result Links TableFault) → ((id : List ℕ) → f id ≡ g id) → ((id : List ℕ) → h id ≡ k id)
+pub fault_told : (f g : List ℕ → Option Named) (h k : List ℕ → Option ℕ) (t : Tables) (r : Result Links TableFault) → ((id : List ℕ) → f id ≡ g id)
+    → ((id : List ℕ) → h id ≡ k id)
     → IfErr r (λ fault. fault.kind ≢ OutOfMemory → IsNamingFault f h t fault) → IfErr r (λ fault. fault.kind ≢ OutOfMemory → IsNamingFault g k t fault)
 fault_told f g h k t r e d wrong = swapped
   where
@@ -113,10 +133,13 @@ of_ok {X = X} {E = E} r kept Q e h = subst (λ (x : Result X E). IfOk x Q) e h
 pub trips_told : (strict : Bool) (given turns : List Turn) (listed rows : List StopTimeRow) (n : ℕ) (r : Option TableFault) → given ≡ turns → listed ≡ rows
     → first_below (trip_fault strict given listed) n ≡ r → first_below (trip_fault strict turns rows) n ≡ r
 trips_told strict given turns listed rows n r e f h =
-    subst (λ (x : List Turn). first_below (trip_fault strict x rows) n ≡ r) e (subst (λ (x : List StopTimeRow). first_below (trip_fault strict given x) n ≡ r) f h)
+    subst (λ (x : List Turn). first_below (trip_fault strict x rows) n ≡ r) e
+    (subst (λ (x : List StopTimeRow). first_below (trip_fault strict given x) n ≡ r) f h)
 
-pub trips_made : (given turns : List Turn) (listed rows : List StopTimeRow) (marked repeats : List Bool) (f : ℕ → Bool) (trips : List TripRow) (made : List Trip) → given ≡ turns → listed ≡ rows → marked ≡ repeats
-    → ((i : ℕ) → i < length trips → slice_index_or repeats i false ≡ f i) → made ≡ feed_trips given listed (λ t. slice_index_or marked t false) 0 trips → made ≡ feed_trips turns rows f 0 trips
+pub trips_made : (given turns : List Turn) (listed rows : List StopTimeRow) (marked repeats : List Bool) (f : ℕ → Bool) (trips : List TripRow)
+    (made : List Trip) → given ≡ turns → listed ≡ rows → marked ≡ repeats
+    → ((i : ℕ) → i < length trips → slice_index_or repeats i false ≡ f i) → made ≡ feed_trips given listed (λ t. slice_index_or marked t false) 0 trips → made
+    ≡ feed_trips turns rows f 0 trips
 trips_made given turns listed rows marked repeats f trips made e d m same h =
     subst (λ (x : List Turn). made ≡ feed_trips x rows (λ t. slice_index_or repeats t false) 0 trips) e
     (subst (λ (x : List StopTimeRow). made ≡ feed_trips given x (λ t. slice_index_or repeats t false) 0 trips) d

@@ -1,5 +1,6 @@
 -- The rows of the tables, a row on.
-use Rattle.std.proofs.Common.{◌≡◌, ℕ, zero, suc, ap, subst, ◌+◌, ◌-◌, ◌<◌, ◌≤◌, List, [], ◌∷◌, ◌++◌, length, get_or, get_or-set_other, map, set, take, Bool, true, false, eqb, ◌||◌, Option, Some, None, refl, ◌∙◌, sym, arith, inl, inr, ◌⊎◌}
+use Rattle.std.proofs.Common.{◌≡◌, ℕ, zero, suc, ap, subst, ◌+◌, ◌-◌, ◌<◌, ◌≤◌, List, [], ◌∷◌, ◌++◌, length, get_or, get_or-set_other}
+use Rattle.std.proofs.Common.{map, set, take, Bool, true, false, eqb, ◌||◌, Option, Some, None, refl, ◌∙◌, sym, arith, inl, inr, ◌⊎◌}
 use Rattle.std.specs.Prelude.{filter, is_some, option_to_list, IfSome}
 use Rattle.std.specs.List.{AllZip}
 use Rattle.std.specs.String.{string_bytes}
@@ -27,7 +28,8 @@ or_false true = refl
 or_false false = refl
 
 -- the marks of the trips that rows of frequencies.txt name, a row on
-pub marked_more : (named : List ℕ → Option ℕ) (rows : List FrequencyRow) (i u n : ℕ) (row : FrequencyRow) (old : List Bool) → i < length rows → row ≡ get_or rows i row
+pub marked_more : (named : List ℕ → Option ℕ) (rows : List FrequencyRow) (i u n : ℕ) (row : FrequencyRow) (old : List Bool) → i < length rows → row
+    ≡ get_or rows i row
     → named (string_bytes row.trip) ≡ Some u → length old ≡ n
     → ((t : ℕ) → t < n → get_or old t false ≡ is_repeated named (take i rows) t)
     → (t : ℕ) → t < n → get_or (set old u true) t false ≡ is_repeated named (take (i + 1) rows) t
@@ -54,7 +56,8 @@ pub fault_same : (trips : List (Option ℕ)) (stops : List (Option Named)) (rows
     → linked_fault trips stops (get_or flex row.trip false) row ≡ linked_fault trips stops (is_flex_id rows row.trip) row
 fault_same trips stops rows flex row same = by (cases_lt row.trip (length trips))
   where
-    by : (row.trip < length trips) ⊎ (length trips ≤ row.trip) → linked_fault trips stops (get_or flex row.trip false) row ≡ linked_fault trips stops (is_flex_id rows row.trip) row
+    by : (row.trip < length trips) ⊎ (length trips ≤ row.trip) → linked_fault trips stops (get_or flex row.trip false) row
+        ≡ linked_fault trips stops (is_flex_id rows row.trip) row
     by (inl lt) = rw (same row.trip lt) refl
     by (inr le) = let none : get_or trips row.trip None ≡ None = get_or_past trips row.trip None le in rw none refl
 
@@ -63,7 +66,8 @@ pub row_same : (trips : List (Option ℕ)) (stops : List (Option Named)) (rows :
     → linked_row trips stops (get_or flex row.trip false) row ≡ linked_row trips stops (is_flex_id rows row.trip) row
 row_same trips stops rows flex row same = by (cases_lt row.trip (length trips))
   where
-    by : (row.trip < length trips) ⊎ (length trips ≤ row.trip) → linked_row trips stops (get_or flex row.trip false) row ≡ linked_row trips stops (is_flex_id rows row.trip) row
+    by : (row.trip < length trips) ⊎ (length trips ≤ row.trip) → linked_row trips stops (get_or flex row.trip false) row
+        ≡ linked_row trips stops (is_flex_id rows row.trip) row
     by (inl lt) = rw (same row.trip lt) refl
     by (inr le) = let none : get_or trips row.trip None ≡ None = get_or_past trips row.trip None le in rw none refl
 
@@ -74,21 +78,27 @@ zip_push R [] (b ∷ ys) x y z r = absurd z
 zip_push R (a ∷ xs) [] x y z r = absurd z
 zip_push R (a ∷ xs) (b ∷ ys) x y z r = (z.0, zip_push R xs ys x y z.1 r)
 
-pub kept_more : (named : List ℕ → Option Named) (rows : List TransferRow) (i : ℕ) (row : TransferRow) (kept : List Transfer) (found : Transfer) → i < length rows → row ≡ get_or rows i row
+pub kept_more : (named : List ℕ → Option Named) (rows : List TransferRow) (i : ℕ) (row : TransferRow) (kept : List Transfer) (found : Transfer)
+    → i < length rows → row ≡ get_or rows i row
     → true ≡ is_kept row → IsTransferOf named row found → AllZip (IsTransferOf named) (filter is_kept (take i rows)) kept
     → AllZip (IsTransferOf named) (filter is_kept (take (i + 1) rows)) (kept ++ found ∷ [])
 kept_more named rows i row kept found lt e counted is before =
-    let more : filter is_kept (take (i + 1) rows) ≡ filter is_kept (take i rows) ++ row ∷ [] = filter_more is_kept rows i row lt ∙ rw (sym e, sym counted) refl in
+    let more : filter is_kept (take (i + 1) rows) ≡ filter is_kept (take i rows) ++ row ∷ [] = filter_more is_kept rows i row lt
+    ∙ rw (sym e, sym counted) refl in
     rw more (zip_push (IsTransferOf named) (filter is_kept (take i rows)) kept row found before is)
 
-pub kept_same : (named : List ℕ → Option Named) (rows : List TransferRow) (i : ℕ) (row : TransferRow) (kept : List Transfer) → i < length rows → row ≡ get_or rows i row
-    → false ≡ is_kept row → AllZip (IsTransferOf named) (filter is_kept (take i rows)) kept → AllZip (IsTransferOf named) (filter is_kept (take (i + 1) rows)) kept
+pub kept_same : (named : List ℕ → Option Named) (rows : List TransferRow) (i : ℕ) (row : TransferRow) (kept : List Transfer) → i < length rows → row
+    ≡ get_or rows i row
+    → false ≡ is_kept row → AllZip (IsTransferOf named) (filter is_kept (take i rows)) kept
+    → AllZip (IsTransferOf named) (filter is_kept (take (i + 1) rows)) kept
 kept_same named rows i row kept lt e skipped before =
-    let same : filter is_kept (take (i + 1) rows) ≡ filter is_kept (take i rows) = filter_more is_kept rows i row lt ∙ rw (sym e, sym skipped) (append-nil (filter is_kept (take i rows))) in
+    let same : filter is_kept (take (i + 1) rows) ≡ filter is_kept (take i rows) = filter_more is_kept rows i row lt
+    ∙ rw (sym e, sym skipped) (append-nil (filter is_kept (take i rows))) in
     rw same before
 
 -- what a function gives of a list, an element on
-pub mapped_more : {A B : Type 0} (f : A → B) (xs : List A) (i : ℕ) (d : A) (ys : List B) (y : B) → i < length xs → ys ≡ map f (take i xs) → y ≡ f (get_or xs i d)
+pub mapped_more : {A B : Type 0} (f : A → B) (xs : List A) (i : ℕ) (d : A) (ys : List B) (y : B) → i < length xs → ys ≡ map f (take i xs) → y
+    ≡ f (get_or xs i d)
     → ys ++ y ∷ [] ≡ map f (take (i + 1) xs)
 mapped_more f xs i d ys y lt e here = rw (e, here) (sym (map_more f xs i d lt))
 
@@ -102,7 +112,8 @@ read_behind before rows row =
     ap (λ (k : ℕ). get_or (before ++ row ∷ rows) k no_row) behind ∙ get_or_at before row rows no_row (length before) refl
 
 filed : {A : Type 0} (f : StopTimeRow → A) (before rows : List StopTimeRow) (turns : List Turn)
-    → map (λ turn. turn.number) turns ≡ numbers_from (length before + 1) (length rows) → map (λ turn. f (row_of (before ++ rows) turn.number)) turns ≡ map f rows
+    → map (λ turn. turn.number) turns ≡ numbers_from (length before + 1) (length rows) → map (λ turn. f (row_of (before ++ rows) turn.number)) turns
+    ≡ map f rows
 filed f before [] [] e = refl
 filed f before [] (turn ∷ turns) e = cc
 filed f before (row ∷ rows) [] e = cc
@@ -113,9 +124,9 @@ filed f before (row ∷ rows) (turn ∷ turns) e =
     let again : before ++ row ∷ [] ++ rows ≡ before ++ row ∷ rows = append_assoc before (row ∷ []) rows in
     let here : f (row_of (before ++ row ∷ rows) turn.number) ≡ f row = ap f (ap (row_of (before ++ row ∷ rows)) number ∙ read_behind before rows row) in
     let others : map (λ turn. f (row_of (before ++ row ∷ [] ++ rows) turn.number)) turns ≡ map f rows =
-        filed f (before ++ row ∷ []) rows turns (rest ∙ ap (λ n. numbers_from (n + 1) (length rows)) (sym longer)) in
+    filed f (before ++ row ∷ []) rows turns (rest ∙ ap (λ n. numbers_from (n + 1) (length rows)) (sym longer)) in
     let same : map (λ turn. f (row_of (before ++ row ∷ rows) turn.number)) turns ≡ map f rows =
-        subst (λ (all : List StopTimeRow). map (λ turn. f (row_of all turn.number)) turns ≡ map f rows) again others in
+    subst (λ (all : List StopTimeRow). map (λ turn. f (row_of all turn.number)) turns ≡ map f rows) again others in
     ap (λ x. x ∷ map (λ turn. f (row_of (before ++ row ∷ rows) turn.number)) turns) here ∙ ap (λ xs. f row ∷ xs) same
 
 pub filed_rows : {A : Type 0} (f : StopTimeRow → A) (rows : List StopTimeRow) (turns : List Turn) → length turns ≡ length rows
@@ -129,7 +140,8 @@ numbers-next first (suc n) =
     let last : first + 1 + n ≡ first + suc n = omega arith in
     ap (λ ns. first ∷ ns) (numbers-next (first + 1) n ∙ ap (λ (n' : ℕ). numbers_from (first + 1) n ++ n' ∷ []) last)
 
-pub filed_more : (turns : List Turn) (i : ℕ) → i < length turns → (get_or turns i no_turn).number ≡ i + 1 → map (λ turn. turn.number) (take i turns) ≡ numbers_from 1 i
+pub filed_more : (turns : List Turn) (i : ℕ) → i < length turns → (get_or turns i no_turn).number ≡ i + 1 → map (λ turn. turn.number) (take i turns)
+    ≡ numbers_from 1 i
     → map (λ turn. turn.number) (take (i + 1) turns) ≡ numbers_from 1 (i + 1)
 filed_more turns i lt number before =
     let next : suc i ≡ i + 1 = omega arith in
@@ -137,8 +149,10 @@ filed_more turns i lt number before =
     map_more (λ (turn : Turn). turn.number) turns i no_turn lt ∙ ap (λ ns. ns ++ (get_or turns i no_turn).number ∷ []) before
     ∙ ap (λ (n : ℕ). numbers_from 1 i ++ n ∷ []) (number ∙ last) ∙ sym (numbers-next 1 i) ∙ ap (numbers_from 1) next
 
-pub kept_next : (named : List ℕ → Option Named) (rows : List TransferRow) (i : ℕ) (row : TransferRow) (kept new : List Transfer) (found : Option Transfer) → i < length rows → row ≡ get_or rows i row
-    → is_some found ≡ is_kept row → IfSome found (IsTransferOf named row) → new ≡ kept ++ option_to_list found → AllZip (IsTransferOf named) (filter is_kept (take i rows)) kept
+pub kept_next : (named : List ℕ → Option Named) (rows : List TransferRow) (i : ℕ) (row : TransferRow) (kept new : List Transfer) (found : Option Transfer)
+    → i < length rows → row ≡ get_or rows i row
+    → is_some found ≡ is_kept row → IfSome found (IsTransferOf named row) → new ≡ kept ++ option_to_list found
+    → AllZip (IsTransferOf named) (filter is_kept (take i rows)) kept
     → AllZip (IsTransferOf named) (filter is_kept (take (i + 1) rows)) new
 kept_next named rows i row kept new None lt e counted is made before = rw (made, append-nil kept) (kept_same named rows i row kept lt e counted before)
 kept_next named rows i row kept new (Some found) lt e counted is made before = rw made (kept_more named rows i row kept found lt e counted is before)

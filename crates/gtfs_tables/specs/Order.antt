@@ -1,5 +1,6 @@
 -- The order of the rows of stop_times.txt.
-use Rattle.std.specs.Prelude.{◌==◌, ◌+◌, ◌-◌, ℕ, zero, suc, List, [], ◌∷◌, count_by, nat_lt, Option, None, Bool, false, if◌then◌else◌, unwrap_or, IsPermutation, IsSortedBy}
+use Rattle.std.specs.Prelude.{ℕ, zero, suc}
+use Rattle.std.specs.Prelude.{◌==◌, ◌+◌, ◌-◌, List, [], ◌∷◌, count_by, nat_lt, Option, None, Bool, false, if◌then◌else◌, unwrap_or, IsPermutation, IsSortedBy}
 use Rattle.std.specs.List.{slice_index_or, slice_range}
 use Rattle.gtfs_rows.specs.declared.rows.StopTimeRow.{StopTimeRow}
 use Rattle.gtfs_tables.specs.Names.{named_at}

@@ -125,6 +125,34 @@ T2,08:20:00,,C,2\nT1,08:10:00,,Z,2\nT2,08:12:00,,B,1\nT1,08:00:00,,,1\n";
     Ok(())
 }
 
+// A repeat of the first trip is its own, and no other's.
+#[test]
+fn the_first_trip_repeats(rt: HostRuntime) -> Result<(), Fail> {
+    let found = joined_with(
+        rt.alloc(),
+        STOPS,
+        TIMES,
+        NO_TRANSFERS,
+        b"trip_id,start_time,end_time,headway_secs\nT1,9:00:00,10:00:00,1200\n",
+        false,
+    );
+    let Ok(feed) = found else {
+        assert!(rt; false);
+        return Ok(());
+    };
+    let repeats = Frequency {
+        trip: 0,
+        start: 32_400,
+        end: 36_000,
+        headway: 1200,
+    };
+    assert!(rt; feed.frequencies.as_slice() == [repeats].as_slice());
+    for (trip, again) in feed.trips.iter().zip([true, false]) {
+        assert!(rt; trip.repeats == again);
+    }
+    Ok(())
+}
+
 // A station is an end of a transfer and a parent; numbers go by stops alone.
 #[test]
 fn stations(rt: HostRuntime) -> Result<(), Fail> {

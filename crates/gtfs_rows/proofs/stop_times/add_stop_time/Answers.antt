@@ -10,7 +10,8 @@ use Rattle.gtfs_rows.proofs.CellFacts.{cell_text}
 use Rattle.gtfs_rows.proofs.SeenFacts.{rows_more, stops_more, trips_more}
 use Rattle.gtfs_rows.proofs.stop_times.add_stop_time.Goals as goal
 
-no_stop_time_fault : (places : Places) (r : Record) (n : ℕ) → time_fault (value places 1 r) ≡ None → time_fault (value places 2 r) ≡ None → number_of (value places 4 r) ≡ Some n → stop_time_fault places r ≡ None
+no_stop_time_fault : (places : Places) (r : Record) (n : ℕ) → time_fault (value places 1 r) ≡ None → time_fault (value places 2 r) ≡ None
+    → number_of (value places 4 r) ≡ Some n → stop_time_fault places r ≡ None
 no_stop_time_fault places r n a d s = rw (a, d, s) refl
 
 pub place_of-requires : goal.place_of-requires
@@ -32,7 +33,8 @@ returns-clause-ok c = λ before held.
       board = c.available.result;
       alight = c.available-2.result;
     } in
-    let spelled : SpellsStopTime (map string_bytes c.place_of.new.ids.keys) (map string_bytes c.stop_place.new.stops.keys) c.args.places.now (fields_of c.args.fields.now) row = record {
+    let spelled : SpellsStopTime (map string_bytes c.place_of.new.ids.keys) (map string_bytes c.stop_place.new.stops.keys) c.args.places.now
+    (fields_of c.args.fields.now) row = record {
       trip = rw c.cell.ensures at c.in_ok-trip.ensures.ok;
       arrival = c.in_ok-arrival.ensures.ok;
       departure = c.in_ok-departure.ensures.ok;
@@ -41,12 +43,18 @@ returns-clause-ok c = λ before held.
       board = rw c.cell-3.ensures at c.available.ensures;
       alight = rw c.cell-4.ensures at c.available-2.ensures;
     } in (
-      no_stop_time_fault c.args.places.now (fields_of c.args.fields.now) c.in_ok-sequence.sequence c.in_ok-arrival.ensures.fine c.in_ok-departure.ensures.fine c.in_ok-sequence.ensures.ok,
+      no_stop_time_fault c.args.places.now (fields_of c.args.fields.now) c.in_ok-sequence.sequence c.in_ok-arrival.ensures.fine c.in_ok-departure.ensures.fine
+          c.in_ok-sequence.ensures.ok,
       record {
-        trips = trips_more c.args.places.now before (fields_of c.args.fields.now) (map string_bytes c.args.times.now.trips.keys) (map string_bytes c.place_of.new.ids.keys) held.trips (rw c.cell.ensures at c.in_ok-trip.ensures.more);
-        stops = stops_more c.args.places.now before (fields_of c.args.fields.now) (map string_bytes c.args.times.now.stops.keys) (map string_bytes c.stop_place.new.stops.keys) held.stops (rw c.cell-2.ensures at c.in_ok-stop.ensures.more);
-        rows = rows_more (map string_bytes c.args.times.now.trips.keys) (map string_bytes c.args.times.now.stops.keys) (map string_bytes c.place_of.new.ids.keys) (map string_bytes c.stop_place.new.stops.keys)
-            (value c.args.places.now 0 (fields_of c.args.fields.now)) (value c.args.places.now 3 (fields_of c.args.fields.now)) c.args.places.now before (fields_of c.args.fields.now)
-            c.args.times.now.rows.items c.push.new.self.items row (rw c.cell.ensures at c.in_ok-trip.ensures.more) (rw c.cell-2.ensures at c.in_ok-stop.ensures.more) items held.rows spelled;
+        trips = trips_more c.args.places.now before (fields_of c.args.fields.now) (map string_bytes c.args.times.now.trips.keys)
+            (map string_bytes c.place_of.new.ids.keys) held.trips (rw c.cell.ensures at c.in_ok-trip.ensures.more);
+        stops = stops_more c.args.places.now before (fields_of c.args.fields.now) (map string_bytes c.args.times.now.stops.keys)
+            (map string_bytes c.stop_place.new.stops.keys) held.stops (rw c.cell-2.ensures at c.in_ok-stop.ensures.more);
+        rows = rows_more (map string_bytes c.args.times.now.trips.keys) (map string_bytes c.args.times.now.stops.keys)
+            (map string_bytes c.place_of.new.ids.keys) (map string_bytes c.stop_place.new.stops.keys)
+            (value c.args.places.now 0 (fields_of c.args.fields.now)) (value c.args.places.now 3 (fields_of c.args.fields.now)) c.args.places.now before
+            (fields_of c.args.fields.now)
+            c.args.times.now.rows.items c.push.new.self.items row (rw c.cell.ensures at c.in_ok-trip.ensures.more)
+            (rw c.cell-2.ensures at c.in_ok-stop.ensures.more) items held.rows spelled;
       },
     )

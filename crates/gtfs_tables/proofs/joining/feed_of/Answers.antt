@@ -23,9 +23,11 @@ returns-in_default-clause-err c = λ other. absurd (other c.out_of_memory.ensure
 pub timed_trips-requires-clause-len : goal.timed_trips-requires-clause-len
 timed_trips-requires-clause-len c =
     let made = rows_told (stop_named c.args.tables.stops.items) (trip_named c.args.tables.trips.items) c.args.tables c.deref-3.result.now
-        c.deref-4.result.now c.deref-2.result.now c.args.links.turns.items c.in-Ok.stop_times.items (c.deref-3.ensures.value ∙ c.requires.trips)
-        (c.deref-4.ensures.value ∙ c.requires.stops) c.deref-2.ensures.value c.in-Ok.ensures in
-    ap length (c.deref-6.ensures.value ∙ made) ∙ length-map c.args.links.turns.items (λ turn. link_by (stop_named c.args.tables.stops.items) (trip_named c.args.tables.trips.items) c.args.tables (row_of c.args.tables.stop_times.rows.items turn.number)) ∙ sym (ap length c.deref-7.ensures.value)
+    c.deref-4.result.now c.deref-2.result.now c.args.links.turns.items c.in-Ok.stop_times.items (c.deref-3.ensures.value ∙ c.requires.trips)
+    (c.deref-4.ensures.value ∙ c.requires.stops) c.deref-2.ensures.value c.in-Ok.ensures in
+    ap length (c.deref-6.ensures.value ∙ made) ∙ length-map c.args.links.turns.items
+    (λ turn. link_by (stop_named c.args.tables.stops.items) (trip_named c.args.tables.trips.items) c.args.tables
+    (row_of c.args.tables.stop_times.rows.items turn.number)) ∙ sym (ap length c.deref-7.ensures.value)
 
 pub timed_trips-requires-clause-rising : goal.timed_trips-requires-clause-rising
 timed_trips-requires-clause-rising c = subst (λ (turns : List Turn). IsSortedBy comes_before turns) (sym c.deref-7.ensures.value) c.requires.in_order.rising
@@ -33,25 +35,41 @@ timed_trips-requires-clause-rising c = subst (λ (turns : List Turn). IsSortedBy
 pub returns-in-Err-clause-err : goal.returns-in-Err-clause-err
 returns-in-Err-clause-err c =
     let made = rows_told (stop_named c.args.tables.stops.items) (trip_named c.args.tables.trips.items) c.args.tables c.deref-3.result.now
-        c.deref-4.result.now c.deref-2.result.now c.args.links.turns.items c.in-Ok.stop_times.items (c.deref-3.ensures.value ∙ c.requires.trips)
-        (c.deref-4.ensures.value ∙ c.requires.stops) c.deref-2.ensures.value c.in-Ok.ensures in
+    c.deref-4.result.now c.deref-2.result.now c.args.links.turns.items c.in-Ok.stop_times.items (c.deref-3.ensures.value ∙ c.requires.trips)
+    (c.deref-4.ensures.value ∙ c.requires.stops) c.deref-2.ensures.value c.in-Ok.ensures in
     λ other. record {
-  turns = c.args.links.turns.items;
-  in_order = c.requires.in_order;
-  first = of_two (naming_fault (stop_named c.args.tables.stops.items) (trip_named c.args.tables.trips.items) c.args.tables) (first_below (trip_fault c.args.strict c.args.links.turns.items (rows_by (stop_named c.args.tables.stops.items) (trip_named c.args.tables.trips.items) c.args.tables c.args.links.turns.items)) (length c.args.tables.trips.items)) (first_fault_of kinds.Transfers (transfer_fault (stop_named c.args.tables.stops.items)) c.args.tables.transfers.items) c.in-Err.fault c.requires.fine (trips_told c.args.strict c.deref-7.result.now c.args.links.turns.items c.deref-6.result.now (rows_by (stop_named c.args.tables.stops.items) (trip_named c.args.tables.trips.items) c.args.tables c.args.links.turns.items) (length c.args.tables.trips.items) (Some c.in-Err.fault) c.deref-7.ensures.value (c.deref-6.ensures.value ∙ made) (c.in-Err.ensures.err other));
-}
+      turns = c.args.links.turns.items;
+      in_order = c.requires.in_order;
+      first = of_two (naming_fault (stop_named c.args.tables.stops.items) (trip_named c.args.tables.trips.items) c.args.tables)
+          (first_below (trip_fault c.args.strict c.args.links.turns.items
+          (rows_by (stop_named c.args.tables.stops.items) (trip_named c.args.tables.trips.items) c.args.tables c.args.links.turns.items))
+          (length c.args.tables.trips.items)) (first_fault_of kinds.Transfers (transfer_fault (stop_named c.args.tables.stops.items))
+          c.args.tables.transfers.items) c.in-Err.fault c.requires.fine
+          (trips_told c.args.strict c.deref-7.result.now c.args.links.turns.items c.deref-6.result.now
+          (rows_by (stop_named c.args.tables.stops.items) (trip_named c.args.tables.trips.items) c.args.tables c.args.links.turns.items)
+          (length c.args.tables.trips.items) (Some c.in-Err.fault) c.deref-7.ensures.value (c.deref-6.ensures.value ∙ made) (c.in-Err.ensures.err other));
+    }
 
 pub returns-in-Err-kept-clause-err : goal.returns-in-Err-kept-clause-err
 returns-in-Err-kept-clause-err c =
     let made = rows_told (stop_named c.args.tables.stops.items) (trip_named c.args.tables.trips.items) c.args.tables c.deref-3.result.now
-        c.deref-4.result.now c.deref-2.result.now c.args.links.turns.items c.in-Ok.stop_times.items (c.deref-3.ensures.value ∙ c.requires.trips)
-        (c.deref-4.ensures.value ∙ c.requires.stops) c.deref-2.ensures.value c.in-Ok.ensures in
+    c.deref-4.result.now c.deref-2.result.now c.args.links.turns.items c.in-Ok.stop_times.items (c.deref-3.ensures.value ∙ c.requires.trips)
+    (c.deref-4.ensures.value ∙ c.requires.stops) c.deref-2.ensures.value c.in-Ok.ensures in
     λ other. record {
-  turns = c.args.links.turns.items;
-  in_order = c.requires.in_order;
-  first = of_three (naming_fault (stop_named c.args.tables.stops.items) (trip_named c.args.tables.trips.items) c.args.tables) (first_below (trip_fault c.args.strict c.args.links.turns.items (rows_by (stop_named c.args.tables.stops.items) (trip_named c.args.tables.trips.items) c.args.tables c.args.links.turns.items)) (length c.args.tables.trips.items)) (first_fault_of kinds.Transfers (transfer_fault (stop_named c.args.tables.stops.items)) c.args.tables.transfers.items) c.in-Err-kept.fault c.requires.fine (trips_told c.args.strict c.deref-7.result.now c.args.links.turns.items c.deref-6.result.now (rows_by (stop_named c.args.tables.stops.items) (trip_named c.args.tables.trips.items) c.args.tables c.args.links.turns.items) (length c.args.tables.trips.items) None c.deref-7.ensures.value (c.deref-6.ensures.value ∙ made) c.in-Ok-timed_trips.ensures.fine)
-      (of_err c.args.links.transfers c.in-Err-kept.fault (λ fault. fault.kind ≢ OutOfMemory → (first_fault_of kinds.Transfers (transfer_fault (stop_named c.args.tables.stops.items)) c.args.tables.transfers.items) ≡ Some fault) c.in-Err-kept.is c.requires.transfers_wrong other);
-}
+      turns = c.args.links.turns.items;
+      in_order = c.requires.in_order;
+      first = of_three (naming_fault (stop_named c.args.tables.stops.items) (trip_named c.args.tables.trips.items) c.args.tables)
+          (first_below (trip_fault c.args.strict c.args.links.turns.items
+          (rows_by (stop_named c.args.tables.stops.items) (trip_named c.args.tables.trips.items) c.args.tables c.args.links.turns.items))
+          (length c.args.tables.trips.items)) (first_fault_of kinds.Transfers (transfer_fault (stop_named c.args.tables.stops.items))
+          c.args.tables.transfers.items) c.in-Err-kept.fault c.requires.fine
+          (trips_told c.args.strict c.deref-7.result.now c.args.links.turns.items c.deref-6.result.now
+          (rows_by (stop_named c.args.tables.stops.items) (trip_named c.args.tables.trips.items) c.args.tables c.args.links.turns.items)
+          (length c.args.tables.trips.items) None c.deref-7.ensures.value (c.deref-6.ensures.value ∙ made) c.in-Ok-timed_trips.ensures.fine)
+          (of_err c.args.links.transfers c.in-Err-kept.fault (λ fault. fault.kind ≢ OutOfMemory
+          → (first_fault_of kinds.Transfers (transfer_fault (stop_named c.args.tables.stops.items)) c.args.tables.transfers.items) ≡ Some fault)
+          c.in-Err-kept.is c.requires.transfers_wrong other);
+    }
 
 pub returns-in_default-feed_stops-clause-err : goal.returns-in_default-feed_stops-clause-err
 returns-in_default-feed_stops-clause-err c = λ other. absurd (other c.out_of_memory-in_default-feed_stops.ensures)
@@ -59,21 +77,33 @@ returns-in_default-feed_stops-clause-err c = λ other. absurd (other c.out_of_me
 pub returns-clause-ok : goal.returns-clause-ok
 returns-clause-ok c =
     let made = rows_told (stop_named c.args.tables.stops.items) (trip_named c.args.tables.trips.items) c.args.tables c.deref-3.result.now
-        c.deref-4.result.now c.deref-2.result.now c.args.links.turns.items c.in-Ok.stop_times.items (c.deref-3.ensures.value ∙ c.requires.trips)
-        (c.deref-4.ensures.value ∙ c.requires.stops) c.deref-2.ensures.value c.in-Ok.ensures in
+    c.deref-4.result.now c.deref-2.result.now c.args.links.turns.items c.in-Ok.stop_times.items (c.deref-3.ensures.value ∙ c.requires.trips)
+    (c.deref-4.ensures.value ∙ c.requires.stops) c.deref-2.ensures.value c.in-Ok.ensures in
     record {
-  turns = c.args.links.turns.items;
-  in_order = c.requires.in_order;
-  faultless = of_none (naming_fault (stop_named c.args.tables.stops.items) (trip_named c.args.tables.trips.items) c.args.tables) (first_below (trip_fault c.args.strict c.args.links.turns.items (rows_by (stop_named c.args.tables.stops.items) (trip_named c.args.tables.trips.items) c.args.tables c.args.links.turns.items)) (length c.args.tables.trips.items)) (first_fault_of kinds.Transfers (transfer_fault (stop_named c.args.tables.stops.items)) c.args.tables.transfers.items) c.requires.fine (trips_told c.args.strict c.deref-7.result.now c.args.links.turns.items c.deref-6.result.now (rows_by (stop_named c.args.tables.stops.items) (trip_named c.args.tables.trips.items) c.args.tables c.args.links.turns.items) (length c.args.tables.trips.items) None c.deref-7.ensures.value (c.deref-6.ensures.value ∙ made) c.in-Ok-timed_trips.ensures.fine) (of_ok c.args.links.transfers c.in-Ok-kept.kept (λ kept. (first_fault_of kinds.Transfers (transfer_fault (stop_named c.args.tables.stops.items)) c.args.tables.transfers.items) ≡ None) c.in-Ok-kept.is c.requires.transfers_fine);
-  feed_is = record {
-    stops = c.in-Ok-feed_stops.ensures (stop_named c.args.tables.stops.items) (c.deref-9.ensures.value ∙ c.requires.stations);
-    trips = trips_made c.deref-7.result.now c.args.links.turns.items c.deref-6.result.now (rows_by (stop_named c.args.tables.stops.items) (trip_named c.args.tables.trips.items) c.args.tables c.args.links.turns.items) c.deref-8.result.now c.args.links.repeats.items (is_repeated (trip_named c.args.tables.trips.items) c.args.tables.frequencies.items) c.args.tables.trips.items c.in-Ok-timed_trips.trips.items
-        c.deref-7.ensures.value (c.deref-6.ensures.value ∙ made) c.deref-8.ensures.value c.requires.repeats c.in-Ok-timed_trips.ensures.ok;
-    stop_times = made;
-    frequencies = c.requires.frequencies;
-    transfers = of_ok c.args.links.transfers c.in-Ok-kept.kept (λ kept. AllZip (IsTransferOf (stop_named c.args.tables.stops.items)) (filter is_kept c.args.tables.transfers.items) kept.items) c.in-Ok-kept.is c.requires.transfers;
-    skipped = c.skipped_in-skipped.ensures ∙ ap (count_by (λ row. not (is_kept row))) c.deref.ensures.value;
-    calendar = refl;
-    calendar_dates = refl;
-  };
-}
+      turns = c.args.links.turns.items;
+      in_order = c.requires.in_order;
+      faultless = of_none (naming_fault (stop_named c.args.tables.stops.items) (trip_named c.args.tables.trips.items) c.args.tables)
+          (first_below (trip_fault c.args.strict c.args.links.turns.items
+          (rows_by (stop_named c.args.tables.stops.items) (trip_named c.args.tables.trips.items) c.args.tables c.args.links.turns.items))
+          (length c.args.tables.trips.items)) (first_fault_of kinds.Transfers (transfer_fault (stop_named c.args.tables.stops.items))
+          c.args.tables.transfers.items) c.requires.fine (trips_told c.args.strict c.deref-7.result.now c.args.links.turns.items c.deref-6.result.now
+          (rows_by (stop_named c.args.tables.stops.items) (trip_named c.args.tables.trips.items) c.args.tables c.args.links.turns.items)
+          (length c.args.tables.trips.items) None c.deref-7.ensures.value (c.deref-6.ensures.value ∙ made) c.in-Ok-timed_trips.ensures.fine)
+          (of_ok c.args.links.transfers c.in-Ok-kept.kept (λ kept. (first_fault_of kinds.Transfers (transfer_fault (stop_named c.args.tables.stops.items))
+          c.args.tables.transfers.items) ≡ None) c.in-Ok-kept.is c.requires.transfers_fine);
+      feed_is = record {
+        stops = c.in-Ok-feed_stops.ensures (stop_named c.args.tables.stops.items) (c.deref-9.ensures.value ∙ c.requires.stations);
+        trips = trips_made c.deref-7.result.now c.args.links.turns.items c.deref-6.result.now
+            (rows_by (stop_named c.args.tables.stops.items) (trip_named c.args.tables.trips.items) c.args.tables c.args.links.turns.items)
+            c.deref-8.result.now c.args.links.repeats.items (is_repeated (trip_named c.args.tables.trips.items) c.args.tables.frequencies.items)
+            c.args.tables.trips.items c.in-Ok-timed_trips.trips.items
+            c.deref-7.ensures.value (c.deref-6.ensures.value ∙ made) c.deref-8.ensures.value c.requires.repeats c.in-Ok-timed_trips.ensures.ok;
+        stop_times = made;
+        frequencies = c.requires.frequencies;
+        transfers = of_ok c.args.links.transfers c.in-Ok-kept.kept (λ kept. AllZip (IsTransferOf (stop_named c.args.tables.stops.items))
+            (filter is_kept c.args.tables.transfers.items) kept.items) c.in-Ok-kept.is c.requires.transfers;
+        skipped = c.skipped_in-skipped.ensures ∙ ap (count_by (λ row. not (is_kept row))) c.deref.ensures.value;
+        calendar = refl;
+        calendar_dates = refl;
+      };
+    }

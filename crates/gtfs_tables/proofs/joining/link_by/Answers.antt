@@ -21,22 +21,42 @@ returns-in_default-turns_in_order-clause-err c = λ other. absurd (other c.out_o
 pub returns-in-Err-clause-err : goal.returns-in-Err-clause-err
 returns-in-Err-clause-err c = λ other. record {
   turns = c.in-Ok-turns_in_order.turns.items;
-  in_order = order_told (held_at c.args.places.now) c.args.tables.now c.deref.result.now c.deref-2.result.now c.in-Ok-turns_in_order.turns.items c.deref.ensures.value (c.deref-2.ensures.value ∙ c.in-Ok.ensures) c.in-Ok-turns_in_order.ensures;
-  first = of_one (first_fault_of kinds.Stops (parent_fault (held_at c.args.names.now)) c.args.tables.now.stops.items) (option_or (first_fault_of kinds.StopTimes (stop_time_fault (held_at c.args.names.now) (held_at c.args.places.now) c.args.tables.now) c.args.tables.now.stop_times.rows.items) (first_fault_of kinds.Frequencies (frequency_fault (held_at c.args.places.now)) c.args.tables.now.frequencies.items)) c.in-Err.fault (stops_told (held_at c.args.names.now) c.deref-3.result.now c.args.tables.now.stops.items (Some c.in-Err.fault) c.deref-3.ensures.value (c.in-Err.ensures.err other));
+  in_order = order_told (held_at c.args.places.now) c.args.tables.now c.deref.result.now c.deref-2.result.now c.in-Ok-turns_in_order.turns.items
+      c.deref.ensures.value (c.deref-2.ensures.value ∙ c.in-Ok.ensures) c.in-Ok-turns_in_order.ensures;
+  first = of_one (first_fault_of kinds.Stops (parent_fault (held_at c.args.names.now)) c.args.tables.now.stops.items)
+      (option_or (first_fault_of kinds.StopTimes (stop_time_fault (held_at c.args.names.now) (held_at c.args.places.now) c.args.tables.now)
+      c.args.tables.now.stop_times.rows.items) (first_fault_of kinds.Frequencies (frequency_fault (held_at c.args.places.now))
+      c.args.tables.now.frequencies.items)) c.in-Err.fault (stops_told (held_at c.args.names.now) c.deref-3.result.now c.args.tables.now.stops.items
+      (Some c.in-Err.fault) c.deref-3.ensures.value (c.in-Err.ensures.err other));
 }
 
 pub returns-in-Err-judged_times-clause-err : goal.returns-in-Err-judged_times-clause-err
 returns-in-Err-judged_times-clause-err c = λ other. record {
   turns = c.in-Ok-turns_in_order.turns.items;
-  in_order = order_told (held_at c.args.places.now) c.args.tables.now c.deref.result.now c.deref-2.result.now c.in-Ok-turns_in_order.turns.items c.deref.ensures.value (c.deref-2.ensures.value ∙ c.in-Ok.ensures) c.in-Ok-turns_in_order.ensures;
-  first = of_two (first_fault_of kinds.Stops (parent_fault (held_at c.args.names.now)) c.args.tables.now.stops.items) (first_fault_of kinds.StopTimes (stop_time_fault (held_at c.args.names.now) (held_at c.args.places.now) c.args.tables.now) c.args.tables.now.stop_times.rows.items) (first_fault_of kinds.Frequencies (frequency_fault (held_at c.args.places.now)) c.args.tables.now.frequencies.items) c.in-Err-judged_times.fault (stops_told (held_at c.args.names.now) c.deref-3.result.now c.args.tables.now.stops.items None c.deref-3.ensures.value c.in-Ok-stations.ensures.fine) (times_told (held_at c.args.names.now) (held_at c.args.places.now) c.args.tables.now c.deref-4.result.now (Some c.in-Err-judged_times.fault) (c.deref-4.ensures.value ∙ c.in-Ok.ensures) (c.in-Err-judged_times.ensures.err other));
+  in_order = order_told (held_at c.args.places.now) c.args.tables.now c.deref.result.now c.deref-2.result.now c.in-Ok-turns_in_order.turns.items
+      c.deref.ensures.value (c.deref-2.ensures.value ∙ c.in-Ok.ensures) c.in-Ok-turns_in_order.ensures;
+  first = of_two (first_fault_of kinds.Stops (parent_fault (held_at c.args.names.now)) c.args.tables.now.stops.items)
+      (first_fault_of kinds.StopTimes (stop_time_fault (held_at c.args.names.now) (held_at c.args.places.now) c.args.tables.now)
+      c.args.tables.now.stop_times.rows.items) (first_fault_of kinds.Frequencies (frequency_fault (held_at c.args.places.now))
+      c.args.tables.now.frequencies.items) c.in-Err-judged_times.fault
+      (stops_told (held_at c.args.names.now) c.deref-3.result.now c.args.tables.now.stops.items None c.deref-3.ensures.value c.in-Ok-stations.ensures.fine)
+      (times_told (held_at c.args.names.now) (held_at c.args.places.now) c.args.tables.now c.deref-4.result.now (Some c.in-Err-judged_times.fault)
+      (c.deref-4.ensures.value ∙ c.in-Ok.ensures) (c.in-Err-judged_times.ensures.err other));
 }
 
 pub returns-in-Err-repeating-clause-err : goal.returns-in-Err-repeating-clause-err
 returns-in-Err-repeating-clause-err c = λ other. record {
   turns = c.in-Ok-turns_in_order.turns.items;
-  in_order = order_told (held_at c.args.places.now) c.args.tables.now c.deref.result.now c.deref-2.result.now c.in-Ok-turns_in_order.turns.items c.deref.ensures.value (c.deref-2.ensures.value ∙ c.in-Ok.ensures) c.in-Ok-turns_in_order.ensures;
-  first = of_three (first_fault_of kinds.Stops (parent_fault (held_at c.args.names.now)) c.args.tables.now.stops.items) (first_fault_of kinds.StopTimes (stop_time_fault (held_at c.args.names.now) (held_at c.args.places.now) c.args.tables.now) c.args.tables.now.stop_times.rows.items) (first_fault_of kinds.Frequencies (frequency_fault (held_at c.args.places.now)) c.args.tables.now.frequencies.items) c.in-Err-repeating.fault (stops_told (held_at c.args.names.now) c.deref-3.result.now c.args.tables.now.stops.items None c.deref-3.ensures.value c.in-Ok-stations.ensures.fine) (times_told (held_at c.args.names.now) (held_at c.args.places.now) c.args.tables.now c.deref-4.result.now None (c.deref-4.ensures.value ∙ c.in-Ok.ensures) c.in-Ok-judged_times.ensures.fine) (frequencies_told (held_at c.args.places.now) c.deref-5.result.now c.args.tables.now.frequencies.items (Some c.in-Err-repeating.fault) c.deref-5.ensures.value (c.in-Err-repeating.ensures.err other));
+  in_order = order_told (held_at c.args.places.now) c.args.tables.now c.deref.result.now c.deref-2.result.now c.in-Ok-turns_in_order.turns.items
+      c.deref.ensures.value (c.deref-2.ensures.value ∙ c.in-Ok.ensures) c.in-Ok-turns_in_order.ensures;
+  first = of_three (first_fault_of kinds.Stops (parent_fault (held_at c.args.names.now)) c.args.tables.now.stops.items)
+      (first_fault_of kinds.StopTimes (stop_time_fault (held_at c.args.names.now) (held_at c.args.places.now) c.args.tables.now)
+      c.args.tables.now.stop_times.rows.items) (first_fault_of kinds.Frequencies (frequency_fault (held_at c.args.places.now))
+      c.args.tables.now.frequencies.items) c.in-Err-repeating.fault (stops_told (held_at c.args.names.now) c.deref-3.result.now c.args.tables.now.stops.items
+      None c.deref-3.ensures.value c.in-Ok-stations.ensures.fine) (times_told (held_at c.args.names.now) (held_at c.args.places.now) c.args.tables.now
+      c.deref-4.result.now None (c.deref-4.ensures.value ∙ c.in-Ok.ensures) c.in-Ok-judged_times.ensures.fine)
+      (frequencies_told (held_at c.args.places.now) c.deref-5.result.now c.args.tables.now.frequencies.items (Some c.in-Err-repeating.fault)
+      c.deref-5.ensures.value (c.in-Err-repeating.ensures.err other));
 }
 
 pub returns-in_default-linked_frequencies-clause-err : goal.returns-in_default-linked_frequencies-clause-err
@@ -44,8 +64,16 @@ returns-in_default-linked_frequencies-clause-err c = λ other. absurd (other c.o
 
 pub returns-clause-ok : goal.returns-clause-ok
 returns-clause-ok c = record {
-  in_order = order_told (held_at c.args.places.now) c.args.tables.now c.deref.result.now c.deref-2.result.now c.in-Ok-turns_in_order.turns.items c.deref.ensures.value (c.deref-2.ensures.value ∙ c.in-Ok.ensures) c.in-Ok-turns_in_order.ensures;
-  fine = of_none (first_fault_of kinds.Stops (parent_fault (held_at c.args.names.now)) c.args.tables.now.stops.items) (first_fault_of kinds.StopTimes (stop_time_fault (held_at c.args.names.now) (held_at c.args.places.now) c.args.tables.now) c.args.tables.now.stop_times.rows.items) (first_fault_of kinds.Frequencies (frequency_fault (held_at c.args.places.now)) c.args.tables.now.frequencies.items) (stops_told (held_at c.args.names.now) c.deref-3.result.now c.args.tables.now.stops.items None c.deref-3.ensures.value c.in-Ok-stations.ensures.fine) (times_told (held_at c.args.names.now) (held_at c.args.places.now) c.args.tables.now c.deref-4.result.now None (c.deref-4.ensures.value ∙ c.in-Ok.ensures) c.in-Ok-judged_times.ensures.fine) (frequencies_told (held_at c.args.places.now) c.deref-5.result.now c.args.tables.now.frequencies.items None c.deref-5.ensures.value c.in-Ok-repeating.ensures.fine);
+  in_order = order_told (held_at c.args.places.now) c.args.tables.now c.deref.result.now c.deref-2.result.now c.in-Ok-turns_in_order.turns.items
+      c.deref.ensures.value (c.deref-2.ensures.value ∙ c.in-Ok.ensures) c.in-Ok-turns_in_order.ensures;
+  fine = of_none (first_fault_of kinds.Stops (parent_fault (held_at c.args.names.now)) c.args.tables.now.stops.items)
+      (first_fault_of kinds.StopTimes (stop_time_fault (held_at c.args.names.now) (held_at c.args.places.now) c.args.tables.now)
+      c.args.tables.now.stop_times.rows.items) (first_fault_of kinds.Frequencies (frequency_fault (held_at c.args.places.now))
+      c.args.tables.now.frequencies.items) (stops_told (held_at c.args.names.now) c.deref-3.result.now c.args.tables.now.stops.items None
+      c.deref-3.ensures.value c.in-Ok-stations.ensures.fine) (times_told (held_at c.args.names.now) (held_at c.args.places.now) c.args.tables.now
+      c.deref-4.result.now None (c.deref-4.ensures.value ∙ c.in-Ok.ensures) c.in-Ok-judged_times.ensures.fine)
+      (frequencies_told (held_at c.args.places.now) c.deref-5.result.now c.args.tables.now.frequencies.items None c.deref-5.ensures.value
+      c.in-Ok-repeating.ensures.fine);
   stations = c.in-Ok-stations.ensures.ok ∙ ap (map (station_of (held_at c.args.names.now))) c.deref-3.ensures.value;
   trips = c.in-Ok.ensures;
   stops = c.in-Ok-judged_times.ensures.stops;
@@ -54,7 +82,12 @@ returns-clause-ok c = record {
       c.in-Ok-judged_times.ensures.flex;
   repeats = λ i lt. c.in-Ok-repeating.ensures.ok i (omega arith) ∙ ap (λ rows. is_repeated (held_at c.args.places.now) rows i) c.deref-5.ensures.value;
   frequencies = c.in-Ok-linked_frequencies.ensures ∙ ap (λ rows. map (frequency_of (held_at c.args.places.now)) rows) c.deref-6.ensures.value;
-  transfers_fine = subst (λ (rows : List TransferRow). IfOk c.transfers-transfers.result (λ kept. first_fault_of kinds.Transfers (transfer_fault (held_at c.args.names.now)) rows ≡ None)) c.deref-7.ensures.value c.transfers-transfers.ensures.fine;
-  transfers = subst (λ (rows : List TransferRow). IfOk c.transfers-transfers.result (λ kept. AllZip (IsTransferOf (held_at c.args.names.now)) (filter is_kept rows) kept.items)) c.deref-7.ensures.value c.transfers-transfers.ensures.ok;
-  transfers_wrong = subst (λ (rows : List TransferRow). IfErr c.transfers-transfers.result (λ fault. fault.kind ≢ OutOfMemory → first_fault_of kinds.Transfers (transfer_fault (held_at c.args.names.now)) rows ≡ Some fault)) c.deref-7.ensures.value c.transfers-transfers.ensures.err;
+  transfers_fine = subst (λ (rows : List TransferRow). IfOk c.transfers-transfers.result
+      (λ kept. first_fault_of kinds.Transfers (transfer_fault (held_at c.args.names.now)) rows ≡ None)) c.deref-7.ensures.value
+      c.transfers-transfers.ensures.fine;
+  transfers = subst (λ (rows : List TransferRow). IfOk c.transfers-transfers.result
+      (λ kept. AllZip (IsTransferOf (held_at c.args.names.now)) (filter is_kept rows) kept.items)) c.deref-7.ensures.value c.transfers-transfers.ensures.ok;
+  transfers_wrong = subst (λ (rows : List TransferRow). IfErr c.transfers-transfers.result
+      (λ fault. fault.kind ≢ OutOfMemory → first_fault_of kinds.Transfers (transfer_fault (held_at c.args.names.now)) rows ≡ Some fault))
+      c.deref-7.ensures.value c.transfers-transfers.ensures.err;
 }

@@ -10,5 +10,6 @@ loop-at-preserved c =
     let row = c.index.result.now in
     let link = λ (row : StopTimeRow). linked_row c.args.trips.now c.args.stops.now (is_flex_id c.args.rows.items row.trip) row in
     ap (λ made. slice_set c.loop-at.rows.items c.loop-at.at made)
-        (c.linked_marked.ensures ∙ row_same c.args.trips.now c.args.stops.now c.args.rows.items c.args.flex.now row c.requires)
-    ∙ map_over_more link c.args.rows.items c.loop-at.rows.items c.loop-at.at row (omega (arith, c.loop-at-test.true, c.len-at-end.ensures)) c.loop-at.invariant c.index.ensures
+    (c.linked_marked.ensures ∙ row_same c.args.trips.now c.args.stops.now c.args.rows.items c.args.flex.now row c.requires)
+    ∙ map_over_more link c.args.rows.items c.loop-at.rows.items c.loop-at.at row (omega (arith, c.loop-at-test.true, c.len-at-end.ensures))
+    c.loop-at.invariant c.index.ensures
