@@ -146,8 +146,8 @@ fn departure_by(query: &Query, connection: &Connection, start: Option<Footpath>)
     Some(departure)
 }
 
-/// Offers the points found each label of a trip that is boarded after a start, where that is one from the source in the window.
-pub fn set_out<C: Criterion>(
+// Offers the points found each label of a trip that is boarded after a start, where that is one from the source in the window.
+fn set_out_in_window<C: Criterion>(
     criterion: &C,
     query: &Query,
     connection: &Connection,
@@ -169,6 +169,45 @@ pub fn set_out<C: Criterion>(
         Some(departure) => set_out_after(
             criterion, found, set_outs, labels, start, first, departure,
         ),
+    }
+}
+
+/// The same. Hardly a start is from the source, so that is asked first, where one goes over the footpaths.
+pub fn set_out<C: Criterion>(
+    criterion: &C,
+    query: &Query,
+    connection: &Connection,
+    first: u32,
+    start: Option<Footpath>,
+    found: &mut Bag<C>,
+    set_outs: &mut Vec<SetOut>,
+    labels: &Bag<C>,
+) -> Result<(), AllocError>
+    requires secs { IfSome start (λ walk. IsSecs walk.secs) }
+    requires found { criterion_of found.old ≡ criterion.now }
+    requires labels { criterion_of labels.now ≡ criterion.now }
+    ensures same { criterion_of found.new ≡ criterion.now }
+    ensures set_outs { Extends set_outs.old.items set_outs.new.items }
+    ensures takes { OnOk result ((walks : List Footpath) (exits : List Exit) (steps : List Step) → Takes (C.rules criterion.now) walks (story exits steps set_outs.old.items) (story exits steps set_outs.new.items) (λ tags. only_if (MayStart query.now connection.now start) (settings_out_after (C.rules criterion.now) tags first (connection.now.dep - start_secs start) start (points_of labels.now))) (points_of found.old) (points_of found.new)) }
+{
+    let boarded = *connection;
+    match start {
+        None => {
+            if boarded.from != query.source {
+                return Ok(());
+            }
+            set_out_in_window(
+                criterion, query, &boarded, first, start, found, set_outs, labels,
+            )
+        },
+        Some(walk) => {
+            if walk.from != query.source {
+                return Ok(());
+            }
+            set_out_in_window(
+                criterion, query, &boarded, first, start, found, set_outs, labels,
+            )
+        },
     }
 }
 
