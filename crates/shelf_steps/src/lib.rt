@@ -15,6 +15,8 @@ mod loading;
 mod opening;
 mod pinning;
 mod places;
+#[cfg(test)]
+mod plain_store;
 mod rule;
 mod views;
 mod worker_steps;
