@@ -10,6 +10,7 @@ use image_verifier::{Verified, verify};
 use image_writer::write;
 use service_days::{DayFault, Zone};
 use std::alloc::{AllocError, Global};
+use std::process::Abort;
 use std::test::*;
 
 /// The files of a small feed: three stops, a trip over all of them, and one from the second to the third.
@@ -278,6 +279,16 @@ fn a_read_that_fails_is_told(rt: HostRuntime) -> Result<(), Fail> {
     Ok(())
 }
 
+/// Memory was wanting, and that is told.
+fn wants_memory(rt: &impl Abort, fault: LoadFault) -> Result<(), Fail> {
+    if let LoadFault::Table(fault) = fault {
+        assert_eq!(rt; fault.kind, FaultKind::OutOfMemory);
+    } else {
+        assert!(rt; fault.is_want_of_memory());
+    }
+    Err(Fail::from(AllocError))
+}
+
 /// Whichever growth is refused, want of memory is told.
 #[test]
 fn refused_growth_is_told(rt: HostRuntime) -> Result<(), Fail> {
@@ -287,13 +298,63 @@ fn refused_growth_is_told(rt: HostRuntime) -> Result<(), Fail> {
             assert!(rt; image.words() == second_sample_words().as_slice());
             Ok(())
         }
-        Err(LoadFault::Table(fault)) => {
-            assert_eq!(rt; fault.kind, FaultKind::OutOfMemory);
-            Err(Fail::from(AllocError))
+        Err(fault) => wants_memory(&rt, fault),
+    }
+}
+
+/// All files: a station with two stops, a quoted id, a blank row, a day that is taken out, a trip that repeats, and ways between a station's stops.
+const ALL_FILES: [(&str, &[u8]); 8] = [
+    ("agency.txt", b"agency_timezone\nEtc/UTC\n"),
+    (
+        "stops.txt",
+        b"stop_id,location_type,parent_station\nS,1,\n\"A\",0,S\nB,0,S\nC,0,\n",
+    ),
+    ("trips.txt", b"service_id,trip_id\nS,T1\nS,T2\n"),
+    (
+        "stop_times.txt",
+        b"trip_id,arrival_time,departure_time,stop_id,stop_sequence\nT1,08:00:00,08:00:00,A,1\nT1,,,B,2\nT1,08:30:00,08:30:00,C,3\nT2,08:12:00,08:12:00,B,1\nT2,08:20:00,08:20:00,C,2\n",
+    ),
+    (
+        "calendar.txt",
+        b"service_id,monday,tuesday,wednesday,thursday,friday,saturday,sunday,start_date,end_date\nS,1,1,1,1,1,1,1,20240115,20240116\n",
+    ),
+    (
+        "calendar_dates.txt",
+        b"service_id,date,exception_type\nS,20240116,2\n",
+    ),
+    (
+        "frequencies.txt",
+        b"trip_id,start_time,end_time,headway_secs\nT1,09:00:00,09:40:00,1200\n",
+    ),
+    (
+        "transfers.txt",
+        b"from_stop_id,to_stop_id,transfer_type,min_transfer_time\nS,S,2,180\n",
+    ),
+];
+
+/// So too over a feed with all files.
+#[test]
+fn refused_growth_over_all_files_is_told(rt: HostRuntime) -> Result<(), Fail> {
+    let mut files = MemoryFiles { files: &ALL_FILES };
+    let plan = Plan {
+        days: 2,
+        ..one_day()
+    };
+    match load(rt.alloc(), &mut files, &plan) {
+        Ok((_image, report)) => {
+            let counted = Report {
+                stops: 3,
+                runs: 3,
+                connections: 5,
+                footpaths: 5,
+                lifted: 0,
+                flex: 0,
+                frequencies: 1,
+                skipped: 0,
+            };
+            assert_eq!(rt; report, counted);
+            Ok(())
         }
-        Err(fault) => {
-            assert!(rt; fault.is_want_of_memory());
-            Err(Fail::from(AllocError))
-        }
+        Err(fault) => wants_memory(&rt, fault),
     }
 }

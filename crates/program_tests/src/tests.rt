@@ -359,3 +359,52 @@ fn a_line_that_cannot_be_written_is_told(rt: HostRuntime) -> Result<(), Fail> {
     assert_eq!(rt; status, 3);
     Ok(())
 }
+
+/// Asks the program over an input, with room for what it writes. Where a growth is refused, the status says that alone.
+fn ends_well_or_with_4<R: Machine + Net<Listener = TcpListener, Stream = TcpStream> + Abort>(
+    rt: &R,
+    words: &[&str],
+    bytes: &[u8],
+) -> Result<(), Fail> {
+    let mut input: &[u8] = bytes;
+    let mut room = [0u8; 256];
+    let mut more_room = [0u8; 256];
+    let mut output: &mut [u8] = &mut room;
+    let mut errors: &mut [u8] = &mut more_room;
+    match run(rt, words, &mut input, &mut output, &mut errors, false) {
+        0 => Ok(()),
+        status => {
+            assert_eq!(rt; status, 4);
+            assert_eq!(rt; errors.len(), 256);
+            Err(Fail::from(AllocError))
+        }
+    }
+}
+
+const PROFILE: [&str; 15] = [
+    "csa",
+    "profile",
+    "-",
+    "--from",
+    "A",
+    "--to",
+    "C",
+    "--after",
+    "07:00:00",
+    "--until",
+    "09:00:00",
+    "--by",
+    "10:00:00",
+    "--criterion",
+    "arrival+trips",
+];
+
+/// Whichever growth is refused, the status is 4 and nothing is said of it.
+#[test]
+fn refused_growth_ends_with_4(rt: HostRuntime) -> Result<(), Fail> {
+    let bytes = Words::to_bytes(rt.alloc(), &sample_words())?;
+    ends_well_or_with_4(&rt, &VERIFY, &bytes)?;
+    ends_well_or_with_4(&rt, &journey_words(BY_CHANGE, "09:00:00"), &bytes)?;
+    ends_well_or_with_4(&rt, &["csa", "stops", "-", "A"], &bytes)?;
+    ends_well_or_with_4(&rt, &PROFILE, &bytes)
+}

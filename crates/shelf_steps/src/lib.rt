@@ -16,6 +16,8 @@ mod noting;
 mod opening;
 mod pinning;
 mod places;
+#[cfg(test)]
+mod plain_store;
 mod rule;
 mod views;
 mod worker_steps;
