@@ -19,8 +19,8 @@ pub record ShelfSeatValue : Type 0 where
 
 -- the greatest version that a worker has seen
 abbrev pub seen_of : View → ℕ
-seen_of (View.Loading l) = 0
 seen_of (View.Working v) = v.seen
+seen_of _ = 0
 
 abbrev pub held_at : Option (ℕ × Edition) → Option (ℕ × ImageValue)
 held_at None = None
