@@ -197,7 +197,7 @@ fn repeated(frequencies: &'static [u8]) -> Texts {
 // How many runs and connections two days have, whichever the starts are, exact or not, in whichever order of the rows.
 #[test]
 fn starts_are_counted_once(rt: HostRuntime) -> Result<(), Fail> {
-    let tables: [(&'static [u8], usize, usize, usize); 7] = [
+    let tables: [(&'static [u8], usize, usize, usize); 6] = [
         (
             b"trip_id,start_time,end_time,headway_secs\nT,09:00:00,10:00:00,1200\n",
             8,
@@ -227,12 +227,6 @@ fn starts_are_counted_once(rt: HostRuntime) -> Result<(), Fail> {
             6,
             10,
             2,
-        ),
-        (
-            b"trip_id,start_time,end_time,headway_secs\nT,00:00:00,00:01:00,2\nT,00:00:00,00:01:00,3\nT,00:00:30,00:01:00,2\nT,00:00:06,00:01:00,3\nT,00:00:00,00:00:30,2\nT,00:00:01,00:00:01,5\n",
-            82,
-            162,
-            1,
         ),
         (NO_FREQUENCIES, 4, 6, 0),
     ];
