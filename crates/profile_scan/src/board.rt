@@ -190,12 +190,12 @@ pub fn set_out<C: Criterion>(
     ensures set_outs { Extends set_outs.old.items set_outs.new.items }
     ensures takes { OnOk result ((walks : List Footpath) (exits : List Exit) (steps : List Step) → Takes (C.rules criterion.now) walks (story exits steps set_outs.old.items) (story exits steps set_outs.new.items) (λ tags. only_if (MayStart query.now connection.now start) (settings_out_after (C.rules criterion.now) tags first (connection.now.dep - start_secs start) start (points_of labels.now))) (points_of found.old) (points_of found.new)) }
 {
-    let boarded = *connection;
     match start {
         None => {
-            if boarded.from != query.source {
+            if connection.from != query.source {
                 return Ok(());
             }
+            let boarded = *connection;
             set_out_in_window(
                 criterion, query, &boarded, first, start, found, set_outs, labels,
             )
@@ -204,6 +204,7 @@ pub fn set_out<C: Criterion>(
             if walk.from != query.source {
                 return Ok(());
             }
+            let boarded = *connection;
             set_out_in_window(
                 criterion, query, &boarded, first, start, found, set_outs, labels,
             )
