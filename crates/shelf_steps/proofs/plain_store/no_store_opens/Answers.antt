@@ -12,7 +12,7 @@ stores_nothing : NoStoreOpens
 stores_nothing table l i k version v loads opened here at word r =
     let c = counts_are table l r loads in
     let one : 1 ≤ count_by (is_at k) c.0 =
-        subst (λ (b : Bool). cond b 1 0 ≤ count_by (is_at k) c.0) at (is_counted (is_at k) c.0 v.number v.now (c.2 i v here)) in
+    subst (λ (b : Bool). cond b 1 0 ≤ count_by (is_at k) c.0) at (is_counted (is_at k) c.0 v.number v.now (c.2 i v here)) in
     let counted : slice_index table.words (k + 1) ≡ shelf_word (Shelf.Open version) (count_by (is_at k) c.0) = c.5 k (Shelf.Open version) opened in
     omega arith
 
