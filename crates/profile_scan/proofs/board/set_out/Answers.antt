@@ -13,7 +13,9 @@ returns-else-walk-query-clause-takes g c =
     let rules = g.C.Criterion.rules c.args.criterion.now in
     let old_outs = c.args.set_outs.now.items in
     let new_outs = c.set_out_in_window-in-Some.new.set_outs.items in
-    subst (λ (start : Option Footpath). OnOk c.set_out_in_window-in-Some.result ((walks : List Footpath) (exits : List Exit) (steps : List Step) → Takes rules walks (story exits steps old_outs) (story exits steps new_outs)
-    (λ tags. only_if (MayStart c.args.query.now c.args.connection.now start) (settings_out_after rules tags c.args.first (c.args.connection.now.dep - start_secs start) start (points_of c.args.labels.now)))
+    subst (λ (start : Option Footpath). OnOk c.set_out_in_window-in-Some.result
+    ((walks : List Footpath) (exits : List Exit) (steps : List Step) → Takes rules walks (story exits steps old_outs) (story exits steps new_outs)
+    (λ tags. only_if (MayStart c.args.query.now c.args.connection.now start)
+    (settings_out_after rules tags c.args.first (c.args.connection.now.dep - start_secs start) start (points_of c.args.labels.now)))
     (points_of c.args.found.now) (points_of c.set_out_in_window-in-Some.new.found)))
     (sym c.in-Some.is) c.set_out_in_window-in-Some.ensures.takes
