@@ -5,4 +5,4 @@ pub mod TurnLemmas
 mod LineLemmas
 mod PlainLemmas
 mod AnswerLemmas
-mod FeedLemmas
+mod LoadLemmas

@@ -5,4 +5,3 @@ pub mod Valuing
 pub mod Profiles
 pub mod Turns
 pub mod Sessions
-pub mod Feeds

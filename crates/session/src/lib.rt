@@ -8,16 +8,11 @@ mod pinning;
 mod profiles;
 mod reply;
 mod serving;
-mod solo_orders;
+// SOLO mod solo_orders;
 mod turns;
 
 pub use fault::{Ended, SessionFault};
 pub use lines::Counted;
 pub use orders::{Gate, OpenGate, OrderFault, Orders};
 pub use serving::{MOST_REQUESTS, serve};
-pub use solo_orders::{FeedImage, SoloOrders};
-
-#[cfg(test)]
-mod scripted_tests;
-#[cfg(test)]
-mod tests;
+// SOLO pub use solo_orders::{FeedImage, SoloOrders};
