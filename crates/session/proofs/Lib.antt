@@ -6,3 +6,4 @@ mod LineLemmas
 mod PlainLemmas
 mod AnswerLemmas
 mod LoadLemmas
+mod FeedLemmas

@@ -5,3 +5,4 @@ pub mod Valuing
 pub mod Profiles
 pub mod Turns
 pub mod Sessions
+pub mod Feeds

@@ -8,11 +8,11 @@ mod pinning;
 mod profiles;
 mod reply;
 mod serving;
-// SOLO mod solo_orders;
+mod solo_orders;
 mod turns;
 
 pub use fault::{Ended, SessionFault};
 pub use lines::Counted;
 pub use orders::{Gate, OpenGate, OrderFault, Orders};
 pub use serving::{MOST_REQUESTS, serve};
-// SOLO pub use solo_orders::{FeedImage, SoloOrders};
+pub use solo_orders::{FeedImage, SoloOrders};
