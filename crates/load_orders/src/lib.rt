@@ -9,3 +9,5 @@ pub use orders::{OrderFault, Orders};
 pub use queue::{LoadAnswer, MOST_WAITING, Order};
 pub use taking::{LoaderOrders, OrderEnd, WorkerOrders, order_queue};
 
+#[cfg(test)]
+mod tests;

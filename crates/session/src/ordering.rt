@@ -54,6 +54,6 @@ pub(crate) fn load_feed<R: Wait, N: Drop, T: Versions<Notice = N>, O: Orders<Not
                 Err(_) => Reply::refusal(Refusal::OutOfMemory),
             }
         }
-        Err(fault) => Reply::order_fault(fault),
+        Err(refused) => Reply::order_fault(refused),
     }
 }
