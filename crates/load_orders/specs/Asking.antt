@@ -47,6 +47,7 @@ MayBePut before place after = (after ≡ before) ⊎ (after.feeds ≡ before.fee
 -- why no version came of an order that was waited for
 abbrev pub RefusesVersion : Type 0 → List (List ℕ) → List ℕ → OrderFault → EndValue → EndValue → Type 0
 RefusesVersion N names name OrderFault.UnknownFeed before after = IsNoName names name × (after ≡ before)
-RefusesVersion N names name OrderFault.OrdersFull before after = ((place : ℕ) × IsFirst names name place) × IsTurnedAway N OrderFault.OrdersFull × (after ≡ before)
+RefusesVersion N names name OrderFault.OrdersFull before after =
+    ((place : ℕ) × IsFirst names name place) × IsTurnedAway N OrderFault.OrdersFull × (after ≡ before)
 RefusesVersion N names name (OrderFault.LoadRefused refusal) before after = (place : ℕ) × IsFirst names name place × (after.feeds ≡ before.feeds ++ place ∷ [])
 RefusesVersion N names name _ before after = (place : ℕ) × IsFirst names name place × MayBePut before place after

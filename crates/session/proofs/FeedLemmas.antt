@@ -1,5 +1,6 @@
 -- The first feed of a name, and what is told of its load.
-use Rattle.std.proofs.Common.{◌≡◌, ◌<◌, ℕ, List, [], ◌∷◌, Option, Some, None, Result, Ok, Err, IfErr, IfOk, IfSome, length, refl, sym, bytes_eq, get_or, string_bytes}
+use Rattle.std.proofs.Common.{◌≡◌, ◌<◌, ℕ, List, [], ◌∷◌, Option, Some, None, Result}
+use Rattle.std.proofs.Common.{Ok, Err, IfErr, IfOk, IfSome, length, refl, sym, bytes_eq, get_or, string_bytes}
 use Rattle.std.specs.List.{remove}
 use Rattle.std.proofs.lemmas.List.Quantifiers.{position-Some}
 use Rattle.std.proofs.lemmas.Option.{slice_get_read}
@@ -46,17 +47,20 @@ wait_agrees name feeds others answers answers_then (Ok loaded) step = notice_agr
 wait_agrees name feeds others answers answers_then (Err NotLoaded.UnknownFeed) step = step
 wait_agrees name feeds others answers answers_then (Err (NotLoaded.Refused fault)) step = (fault, refl, step)
 
-notice_is_of : {N : Type 0} (noted : N → ℕ) (version : ℕ) (notice : Option N) → IfSome notice (λ n. noted n ≡ version) → IfOk (notice_told version notice) (λ told. noted told.1 ≡ told.0)
+notice_is_of : {N : Type 0} (noted : N → ℕ) (version : ℕ) (notice : Option N) → IfSome notice (λ n. noted n ≡ version)
+    → IfOk (notice_told version notice) (λ told. noted told.1 ≡ told.0)
 notice_is_of noted version (Some notice) same = same
 notice_is_of noted version None same = tt
 
 -- and a notice is of the version that is told
-pub wait_is_of : {N : Type 0} (noted : N → ℕ) (r : Result (ℕ × Option N) NotLoaded) → IfOk r (λ loaded. IfSome loaded.1 (λ n. noted n ≡ loaded.0)) → IfOk (wait_told r) (λ told. noted told.1 ≡ told.0)
+pub wait_is_of : {N : Type 0} (noted : N → ℕ) (r : Result (ℕ × Option N) NotLoaded) → IfOk r (λ loaded. IfSome loaded.1 (λ n. noted n ≡ loaded.0))
+    → IfOk (wait_told r) (λ told. noted told.1 ≡ told.0)
 wait_is_of noted (Ok loaded) same = notice_is_of noted loaded.0 loaded.1 same
 wait_is_of noted (Err NotLoaded.UnknownFeed) same = tt
 wait_is_of noted (Err (NotLoaded.Refused fault)) same = tt
 
-pub loaded_as : (name : List ℕ) (feeds others : List FeedImage) (answers between answers_then : List LoaderAnswer) (version : ℕ) (found : FeedImage) (collected : Collected)
+pub loaded_as : (name : List ℕ) (feeds others : List FeedImage) (answers between answers_then : List LoaderAnswer)
+    (version : ℕ) (found : FeedImage) (collected : Collected)
     → Leaves name feeds found others → PublishStep answers (arc_value found.image) version between → CollectStep between collected answers_then
     → IsLoadedAs name feeds answers version others answers_then
 loaded_as name feeds others answers between answers_then version found collected gone publish collect =

@@ -19,5 +19,6 @@ version_met number a b feed version noted reply same step told =
 pub no_version_met : (number : ℕ) (a : SeatValue) (feed : List ℕ) (fault : OrderFault) (reply : List ℕ) → reply ≡ order_fault_line fault
     → IsLoaded number a feed (waited_value feed (Err fault) ∷ []) reply a
 no_version_met number a feed fault reply told =
-    let met : NoVersionIsMet feed [] (waited_value feed (Err fault) ∷ []) reply = record { fault = fault; moves_are = refl; orders_are = refl; reply_is = told } in
+    let met : NoVersionIsMet feed [] (waited_value feed (Err fault) ∷ []) reply =
+    record { fault = fault; moves_are = refl; orders_are = refl; reply_is = told } in
     record { moves = []; meets = inr met; seat = refl }

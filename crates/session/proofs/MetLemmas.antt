@@ -38,7 +38,11 @@ pin_given_back number a m b v image r reply step known held back told =
     let pinned = is_pinned number a m v image step known held in
     let released = is_released number m b r (some_is_held v image m.held held) back in
     let both = pins_once number a m b v image pinned released in
-    record { moves = answered (Answer.Pinned v pinned.shown) ∷ answered released.last ∷ []; meets = inl (told, refl, inr (inr (v, image, both.0))); seat = both.1 }
+    record {
+      moves = answered (Answer.Pinned v pinned.shown) ∷ answered released.last ∷ [];
+      meets = inl (told, refl, inr (inr (v, image, both.0)));
+      seat = both.1;
+    }
 
 pub release_met : (number : ℕ) (a b : SeatValue) (reply : List ℕ) → ReleaseStep a (Ok tt) b → reply ≡ release_text → IsMet number a (asks release) reply b
 release_met number a b reply step told = record { moves = answered Answer.Released ∷ []; meets = inr (refl, inl (refl, told)); seat = (b, step, refl) }
@@ -52,7 +56,8 @@ release_refused number a b fault reply step told =
 pub profile_refused : (number : ℕ) (a b : SeatValue) (fault : PinFault) (ask : AskValue) (reply : List ℕ) → a.held ≡ None → PinStep a (Err fault) b → reply ≡ pin_fault_line fault → IsMet number a (asks (profile ask)) reply b
 profile_refused number a b fault ask reply empty step told =
     let refused : PinIsRefused (answered (Answer.PinRefused fault) ∷ []) reply = record { fault = fault; moves_are = refl; reply_is = told } in
-    let met : ProfileIsMet a.held ask (answered (Answer.PinRefused fault) ∷ []) reply = subst (λ (h : Option (ℕ × ImageValue)). ProfileIsMet h ask (answered (Answer.PinRefused fault) ∷ []) reply) (sym empty) (inr refused) in
+    let met : ProfileIsMet a.held ask (answered (Answer.PinRefused fault) ∷ []) reply =
+    subst (λ (h : Option (ℕ × ImageValue)). ProfileIsMet h ask (answered (Answer.PinRefused fault) ∷ []) reply) (sym empty) (inr refused) in
     record { moves = answered (Answer.PinRefused fault) ∷ []; meets = inr (refl, met); seat = (b, step, refl) }
 
 -- a profile from what is held
@@ -70,12 +75,22 @@ profile_met_once number a m b v image r ask reply step known held back (inl told
     let pinned = is_pinned number a m v image step known held in
     let released = is_released number m b r (some_is_held v image m.held held) back in
     let both = pins_once number a m b v image pinned released in
-    let once : ProfileIsMetOnce ask (answered (Answer.Pinned v pinned.shown) ∷ answered released.last ∷ []) reply = record { version = v; image = image; once = both.0; told = told } in
+    let once : ProfileIsMetOnce ask (answered (Answer.Pinned v pinned.shown) ∷ answered released.last ∷ []) reply =
+    record { version = v; image = image; once = both.0; told = told } in
     let met : ProfileIsMet a.held ask (answered (Answer.Pinned v pinned.shown) ∷ answered released.last ∷ []) reply =
-    subst (λ (h : Option (ℕ × ImageValue)). ProfileIsMet h ask (answered (Answer.Pinned v pinned.shown) ∷ answered released.last ∷ []) reply) (sym pinned.empty) (inl once) in
-    record { moves = answered (Answer.Pinned v pinned.shown) ∷ answered released.last ∷ []; meets = inr (refl, met); seat = both.1 }
+    subst (λ (h : Option (ℕ × ImageValue)). ProfileIsMet h ask (answered (Answer.Pinned v pinned.shown) ∷ answered released.last ∷ []) reply)
+    (sym pinned.empty) (inl once) in
+    record {
+      moves = answered (Answer.Pinned v pinned.shown) ∷ answered released.last ∷ [];
+      meets = inr (refl, met);
+      seat = both.1;
+    }
 profile_met_once number a m b v image r ask reply step known held back (inr memory) =
     let pinned = is_pinned number a m v image step known held in
     let released = is_released number m b r (some_is_held v image m.held held) back in
     let both = pins_once number a m b v image pinned released in
-    record { moves = answered (Answer.Pinned v pinned.shown) ∷ answered released.last ∷ []; meets = inl (memory, refl, inr (inr (v, image, both.0))); seat = both.1 }
+    record {
+      moves = answered (Answer.Pinned v pinned.shown) ∷ answered released.last ∷ [];
+      meets = inl (memory, refl, inr (inr (v, image, both.0)));
+      seat = both.1;
+    }

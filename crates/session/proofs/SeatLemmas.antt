@@ -1,5 +1,6 @@
 -- What is done at a seat.
-use Rattle.std.proofs.Common.{◌≡◌, ◌≢◌, ◌≤◌, ℕ, max, List, [], ◌∷◌, ◌++◌, Option, Some, None, Result, Ok, Err, refl, sym, ap, ◌∙◌, subst, append_assoc, append-nil, arith}
+use Rattle.std.proofs.Common.{◌≡◌, ◌≢◌, ◌≤◌, ℕ, max, List, [], ◌∷◌, ◌++◌, Option, Some}
+use Rattle.std.proofs.Common.{None, Result, Ok, Err, refl, sym, ap, ◌∙◌, subst, append_assoc, append-nil, arith}
 use Rattle.std.specs.declared.snapshot.Snapshot.{Snapshot}
 use Rattle.image_layout.specs.Image.{ImageValue}
 use Rattle.epochs.specs.declared.seats.Answer.{Answer}
@@ -66,7 +67,8 @@ pub pins_once : (number : ℕ) (a m b : SeatValue) (v : ℕ) (image : ImageValue
     × Follows number a (answered (Answer.Pinned v pin.shown) ∷ answered release.last ∷ []) b
 pins_once number a m b v image pin release =
     let moves : List SeatMove = answered (Answer.Pinned v pin.shown) ∷ answered release.last ∷ [] in
-    let once : PinsOnce moves v image = record { shown = pin.shown; last = release.last; image_is = pin.image_is; given_back = release.given_back; moves_are = refl } in
+    let once : PinsOnce moves v image =
+    record { shown = pin.shown; last = release.last; image_is = pin.image_is; given_back = release.given_back; moves_are = refl } in
     (once, (m, pin.step, (b, release.step, refl)))
 
 -- each answer is the last of the list after its step, and what was seen never falls
@@ -84,7 +86,8 @@ step_grows number a b (Answer.ReleaseRefused PinFault.AlreadyPinned) step = absu
 step_grows number a b (Answer.ReleaseRefused PinFault.OutOfMemory) step = absurd step
 step_grows number a b (Answer.ReleaseRefused (PinFault.Moved n)) step = absurd step
 
-joined_grows : (a m b : SeatValue) (version : ℕ) (answers : List Answer) → JoinStep a version m → b.answers ≡ m.answers ++ answers → b.answers ≡ a.answers ++ answers
+joined_grows : (a m b : SeatValue) (version : ℕ) (answers : List Answer) → JoinStep a version m → b.answers ≡ m.answers ++ answers
+    → b.answers ≡ a.answers ++ answers
 joined_grows a m b version answers step grown = grown ∙ ap (λ (s : SeatValue). s.answers ++ answers) step
 
 pub answers_grow : (number : ℕ) (a b : SeatValue) (moves : List SeatMove) → Follows number a moves b → b.answers ≡ a.answers ++ answers_in moves
@@ -111,13 +114,19 @@ never_falls number least a b (answered (Answer.Pinned version image) ∷ moves) 
     (omega (arith, low, step.1), never_falls number version m b moves (omega (arith, seen)) rest)
 never_falls number least a b (answered (Answer.PinRefused (PinFault.Moved newest)) ∷ moves) low (m, step, rest) =
     never_falls number least m b moves (rises least a m newest low (omega (arith, step.1)) (ap seen_in step.2)) rest
-never_falls number least a b (answered (Answer.PinRefused PinFault.AlreadyPinned) ∷ moves) low (m, step, rest) = never_falls number least m b moves (stays least a m low (ap seen_in step.1)) rest
-never_falls number least a b (answered (Answer.PinRefused PinFault.SeatLost) ∷ moves) low (m, step, rest) = never_falls number least m b moves (stays least a m low (ap seen_in step.1)) rest
-never_falls number least a b (answered (Answer.PinRefused PinFault.OutOfMemory) ∷ moves) low (m, step, rest) = never_falls number least m b moves (stays least a m low (ap seen_in step.1)) rest
+never_falls number least a b (answered (Answer.PinRefused PinFault.AlreadyPinned) ∷ moves) low (m, step, rest) =
+    never_falls number least m b moves (stays least a m low (ap seen_in step.1)) rest
+never_falls number least a b (answered (Answer.PinRefused PinFault.SeatLost) ∷ moves) low (m, step, rest) =
+    never_falls number least m b moves (stays least a m low (ap seen_in step.1)) rest
+never_falls number least a b (answered (Answer.PinRefused PinFault.OutOfMemory) ∷ moves) low (m, step, rest) =
+    never_falls number least m b moves (stays least a m low (ap seen_in step.1)) rest
 never_falls number least a b (answered (Answer.PinRefused PinFault.NotPinned) ∷ moves) low (m, step, rest) = absurd step
-never_falls number least a b (answered Answer.Released ∷ moves) low (m, step, rest) = never_falls number least m b moves (stays least a m low (ap seen_in step.1)) rest
-never_falls number least a b (answered (Answer.ReleaseRefused PinFault.NotPinned) ∷ moves) low (m, step, rest) = never_falls number least m b moves (stays least a m low (ap seen_in step.1)) rest
-never_falls number least a b (answered (Answer.ReleaseRefused PinFault.SeatLost) ∷ moves) low (m, step, rest) = never_falls number least m b moves (stays least a m low (ap seen_in step.1)) rest
+never_falls number least a b (answered Answer.Released ∷ moves) low (m, step, rest) =
+    never_falls number least m b moves (stays least a m low (ap seen_in step.1)) rest
+never_falls number least a b (answered (Answer.ReleaseRefused PinFault.NotPinned) ∷ moves) low (m, step, rest) =
+    never_falls number least m b moves (stays least a m low (ap seen_in step.1)) rest
+never_falls number least a b (answered (Answer.ReleaseRefused PinFault.SeatLost) ∷ moves) low (m, step, rest) =
+    never_falls number least m b moves (stays least a m low (ap seen_in step.1)) rest
 never_falls number least a b (answered (Answer.ReleaseRefused PinFault.AlreadyPinned) ∷ moves) low (m, step, rest) = absurd step
 never_falls number least a b (answered (Answer.ReleaseRefused PinFault.OutOfMemory) ∷ moves) low (m, step, rest) = absurd step
 never_falls number least a b (answered (Answer.ReleaseRefused (PinFault.Moved n)) ∷ moves) low (m, step, rest) = absurd step

@@ -19,7 +19,8 @@ use Rattle.session.proofs.SeatLemmas.{Follows-append}
 abbrev turn_of : List ℕ → List SeatMove → List OrderValue → List ℕ → Turn
 turn_of line moves orders reply = record { line = line; moves = moves; orders = orders; reply = reply }
 
-has_turn : (number : ℕ) (a b : SeatValue) (asked asked_then : List OrderValue) (t : Turn) → IsTurn a.held t → Follows number a t.moves b → asked_then ≡ asked ++ t.orders → HasTurn number t.line t.reply a asked b asked_then
+has_turn : (number : ℕ) (a b : SeatValue) (asked asked_then : List OrderValue) (t : Turn) → IsTurn a.held t → Follows number a t.moves b
+    → asked_then ≡ asked ++ t.orders → HasTurn number t.line t.reply a asked b asked_then
 has_turn number a b asked asked_then t is seat orders =
     let turns : TurnsTo number a asked t b asked_then = record { is = is; seat = seat; orders = orders } in
     (t, refl, refl, turns)
@@ -60,7 +61,8 @@ pub waits_not : (d : Data) (feed : List ℕ) (waits : Bool) → waits ≡ false 
 waits_not d feed waits is asks_it = subst (λ (b : Bool). Asks d (load feed b)) is asks_it
 
 -- a request of the seat is met
-meets_turn : (number : ℕ) (a b : SeatValue) (what : Asked) (line reply : List ℕ) → IsAsked line what → (met : IsMet number a what reply b) → IsTurn a.held (turn_of line met.moves [] reply)
+meets_turn : (number : ℕ) (a b : SeatValue) (what : Asked) (line reply : List ℕ) → IsAsked line what → (met : IsMet number a what reply b)
+    → IsTurn a.held (turn_of line met.moves [] reply)
 meets_turn number a b what line reply is met =
     elim met.meets [
       | inl memory ↦ inl memory
@@ -74,7 +76,8 @@ seat_turn number a b asked bytes line reply d request here json asks_it met =
     has_turn number a b asked asked (turn_of line met.moves [] reply) (meets_turn number a b (asks request) line reply is met) met.seat (sym (append-nil asked))
 
 -- a feed is ordered
-pub order_turn : (number : ℕ) (a : SeatValue) (asked asked_then put : List OrderValue) (bytes line reply feed : List ℕ) (d : Data) → (bytes ≡ line) × (length line ≤ 65_536) → IsJson bytes d → Asks d (load feed false)
+pub order_turn : (number : ℕ) (a : SeatValue) (asked asked_then put : List OrderValue) (bytes line reply feed : List ℕ) (d : Data) → (bytes ≡ line)
+    × (length line ≤ 65_536) → IsJson bytes d → Asks d (load feed false)
     → asked_then ≡ asked ++ put → OrderIsMet feed put reply ⊎ ((put ≡ []) × (reply ≡ memory_line)) → HasTurn number line reply a asked a asked_then
 order_turn number a asked asked_then put bytes line reply feed d here json asks_it grown (inl met) =
     let is : IsAsked line (asks (load feed false)) = (here.1, (d, subst (λ (xs : List ℕ). IsJson xs d) here.0 json, asks_it)) in
@@ -83,7 +86,8 @@ order_turn number a asked asked_then put bytes line reply feed d here json asks_
     has_turn number a a asked asked_then (turn_of line [] put reply) (inl (memory.1, memory.0, inl refl)) refl grown
 
 -- and is waited for
-pub load_turn : (number : ℕ) (a b : SeatValue) (asked asked_then put : List OrderValue) (bytes line reply feed : List ℕ) (d : Data) → (bytes ≡ line) × (length line ≤ 65_536) → IsJson bytes d → Asks d (load feed true)
+pub load_turn : (number : ℕ) (a b : SeatValue) (asked asked_then put : List OrderValue) (bytes line reply feed : List ℕ) (d : Data) → (bytes ≡ line)
+    × (length line ≤ 65_536) → IsJson bytes d → Asks d (load feed true)
     → asked_then ≡ asked ++ put → IsLoaded number a feed put reply b → HasTurn number line reply a asked b asked_then
 load_turn number a b asked asked_then put bytes line reply feed d here json asks_it grown loaded =
     let is : IsAsked line (asks (load feed true)) = (here.1, (d, subst (λ (xs : List ℕ). IsJson xs d) here.0 json, asks_it)) in
@@ -105,9 +109,11 @@ AreTurns-more number a m b asked between asked_then [] t same turn =
 AreTurns-more number a m b asked between asked_then (u ∷ turns) t (n, middle, first, rest) turn = (n, middle, first, AreTurns-more number n m b middle between asked_then turns t rest turn)
 
 -- the lists grow by the turns' own
-pub moves_follow : (number : ℕ) (a b : SeatValue) (asked asked_then : List OrderValue) (turns : List Turn) → AreTurns number a asked turns b asked_then → Follows number a (moves_of turns) b
+pub moves_follow : (number : ℕ) (a b : SeatValue) (asked asked_then : List OrderValue) (turns : List Turn) → AreTurns number a asked turns b asked_then
+    → Follows number a (moves_of turns) b
 moves_follow number a b asked asked_then [] same = same.0
-moves_follow number a b asked asked_then (t ∷ turns) (m, between, turn, rest) = Follows-append number a m b t.moves (moves_of turns) turn.seat (moves_follow number m b between asked_then turns rest)
+moves_follow number a b asked asked_then (t ∷ turns) (m, between, turn, rest) =
+    Follows-append number a m b t.moves (moves_of turns) turn.seat (moves_follow number m b between asked_then turns rest)
 
 pub orders_grow : (number : ℕ) (a b : SeatValue) (asked asked_then : List OrderValue) (turns : List Turn) → AreTurns number a asked turns b asked_then → asked_then ≡ asked ++ orders_of turns
 orders_grow number a b asked asked_then [] same = same.1 ∙ sym (append-nil asked)

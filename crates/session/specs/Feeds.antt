@@ -29,7 +29,8 @@ pub record Leaves (name : List ℕ) (feeds : List FeedImage) (found : FeedImage)
   pub others_are : others ≡ remove feeds place
 
 -- its image is published as this version, and then the shelves are collected
-pub record IsLoadedAs (name : List ℕ) (feeds : List FeedImage) (answers : List LoaderAnswer) (version : ℕ) (others : List FeedImage) (answers_then : List LoaderAnswer) : Type 0 where
+pub record IsLoadedAs (name : List ℕ) (feeds : List FeedImage) (answers : List LoaderAnswer) (version : ℕ) (others : List FeedImage)
+    (answers_then : List LoaderAnswer) : Type 0 where
   pub found : FeedImage
   pub between : List LoaderAnswer
   pub collected : Collected
@@ -38,13 +39,15 @@ pub record IsLoadedAs (name : List ℕ) (feeds : List FeedImage) (answers : List
   pub collect : CollectStep between collected answers_then
 
 -- or the publish is refused
-pub record IsRefusedSo (name : List ℕ) (feeds : List FeedImage) (answers : List LoaderAnswer) (fault : PublishFault) (others : List FeedImage) (answers_then : List LoaderAnswer) : Type 0 where
+pub record IsRefusedSo (name : List ℕ) (feeds : List FeedImage) (answers : List LoaderAnswer) (fault : PublishFault) (others : List FeedImage)
+    (answers_then : List LoaderAnswer) : Type 0 where
   pub found : FeedImage
   pub leaves : Leaves name feeds found others
   pub refused : RefuseStep answers fault answers_then
 
 -- or no feed has the name, and nothing changes
-pub record IsUnknown (name : List ℕ) (feeds : List FeedImage) (answers : List LoaderAnswer) (others : List FeedImage) (answers_then : List LoaderAnswer) : Type 0 where
+pub record IsUnknown (name : List ℕ) (feeds : List FeedImage) (answers : List LoaderAnswer) (others : List FeedImage)
+    (answers_then : List LoaderAnswer) : Type 0 where
   pub none : place_of name feeds ≡ None
   pub feeds_are : others ≡ feeds
   pub answers_are : answers_then ≡ answers

@@ -85,7 +85,8 @@ Meets held too_long moves orders reply = IsRefused Refusal.LineTooLong moves ord
 Meets held no_json moves orders reply = IsRefused Refusal.BadJson moves orders reply
 Meets held no_request moves orders reply = IsRefused Refusal.BadRequest moves orders reply
 Meets held (asks pin) moves orders reply = (orders ≡ []) × (PinIsMet moves reply ⊎ PinIsRefused moves reply)
-Meets held (asks release) moves orders reply = (orders ≡ []) × (((moves ≡ answered Answer.Released ∷ []) × (reply ≡ release_text)) ⊎ ReleaseIsRefused moves reply)
+Meets held (asks release) moves orders reply =
+    (orders ≡ []) × (((moves ≡ answered Answer.Released ∷ []) × (reply ≡ release_text)) ⊎ ReleaseIsRefused moves reply)
 Meets held (asks (load feed waits)) moves orders reply = LoadIsMet waits feed moves orders reply
 Meets held (asks (profile ask)) moves orders reply = (orders ≡ []) × ProfileIsMet held ask moves reply
 

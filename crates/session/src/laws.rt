@@ -26,7 +26,8 @@ pub fn versions_never_fall()
 /// What all turns did at the seat led it to what it is, and the answers among that are those by which the seat's list grew; the orders
 /// of all turns are those by which the list of orders grew.
 pub fn lists_grow_by_the_turns()
-    ensures seat { (number : ℕ) (a b : SeatValue) (asked asked_then : List OrderValue) (turns : List Turn) → AreTurns number a asked turns b asked_then → Follows number a (moves_of turns) b }
+    ensures seat { (number : ℕ) (a b : SeatValue) (asked asked_then : List OrderValue) (turns : List Turn)
+        → AreTurns number a asked turns b asked_then → Follows number a (moves_of turns) b }
     ensures answers { (number : ℕ) (a b : SeatValue) (moves : List SeatMove) → Follows number a moves b → b.answers ≡ a.answers ++ answers_in moves }
     ensures orders { (number : ℕ) (a b : SeatValue) (asked asked_then : List OrderValue) (turns : List Turn) → AreTurns number a asked turns b asked_then → asked_then ≡ asked ++ orders_of turns }
 {}

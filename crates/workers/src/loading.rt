@@ -38,7 +38,8 @@ pub fn load_one<R: Wait, F: FeedFiles, N, T: Versions<Notice = N> + Loads>(
     ensures same { F.holds files.new ≡ F.holds files.old }
     ensures failures { F.failures files.new ≡ F.failures files.old + failed_in (reading result) }
     ensures failed { F.failed files.new ≡ failed_by (F.failed files.old) (reading result) }
-    ensures ok { (content : Content) → Tells (F.holds files.old) content → IfOk result (λ loaded. (image : ImageValue) × IsImageOf content plan.now image × IsPublished (T.Loads.answers loader.old) image loaded.0 (T.Loads.answers loader.new)) }
+    ensures ok { (content : Content) → Tells (F.holds files.old) content → IfOk result (λ loaded. (image : ImageValue)
+        × IsImageOf content plan.now image × IsPublished (T.Loads.answers loader.old) image loaded.0 (T.Loads.answers loader.new)) }
     ensures notice { IfOk result (λ loaded. IfSome loaded.1 (λ notice. T.Versions.noted notice ≡ loaded.0)) }
     ensures err { (content : Content) → Tells (F.holds files.old) content → IfErr result (MayRefuse content plan.now) }
     ensures refused { IfErr result (λ refusal. IsNotPublished (T.Loads.answers loader.old) refusal (T.Loads.answers loader.new)) }
