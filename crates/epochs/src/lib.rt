@@ -1,13 +1,31 @@
-//! Who pins versions of an image and who publishes them.
+//! Who pins versions of an image and who publishes them: shelves under one lock, and shelves without a lock.
 #![tactic(auto)]
 
 mod collected;
 mod faults;
+pub mod laws;
+mod locked;
 mod seats;
+mod shelf_loader;
+mod shelf_seats;
+mod shelves;
+mod solo;
+mod table;
 mod versions;
 
 pub use collected::Collected;
 pub use faults::{PinFault, PublishFault};
+pub use locked::LockedShelves;
 pub use seats::{Answer, LoaderAnswer, LoaderSeat, WorkerSeat};
+pub use shelf_loader::ShelfLoader;
+pub use shelf_seats::ShelfSeat;
 pub use shelf_steps::Edition;
+pub use shelves::Shelves;
+pub use solo::SoloShelves;
+pub use table::VersionTable;
 pub use versions::{Loads, Versions};
+
+#[cfg(test)]
+mod shelf_tests;
+#[cfg(test)]
+mod tests;

@@ -1,0 +1,24 @@
+use Rattle.std.proofs.Common.{rules, ◌≡◌, ◌≤◌, [], ◌∷◌, ◌++◌, None, subst}
+use Rattle.std.specs.Arc.{arc_value}
+use Rattle.shelf_steps.specs.Pinning.{Moves}
+use Rattle.epochs.specs.declared.seats.Answer.{Answer}
+use Rattle.epochs.specs.ShelfSeats.{ShelfSeatValue}
+use Rattle.epochs.proofs.ShelfPins.{pins_seen, pins_hold, pinned_is}
+use Rattle.epochs.proofs.shelf_seats.ShelfSeat.pin_at.Goals as goal
+
+pub returns-in-Ok-clause-pin : goal.returns-in-Ok-clause-pin
+returns-in-Ok-clause-pin c =
+    let a = c.args.self.now.shown in let e = c.in-Ok.edition in
+    let none : a.held ≡ None = search rules in
+    let noted : c.note-in-Ok.new.self ≡ a.answers ++ Answer.Pinned e.version c.of-image.result ∷ [] = search rules in
+    let shows : c.of-image.result.value ≡ arc_value e.image = search rules in
+    let seen = pins_seen c.self.inside.place.me.0 c.pin.new.worker.me.0 e.version c.in-Ok.shelf e c.in-Ok.ensures.pins.1 in
+    let older : a.seen ≤ e.version = subst (λ (s : ShelfSeatValue). s.shown.seen ≤ e.version) c.self.view_is seen.0 in
+    (none, (e.version, c.of-image.result, older, pinned_is a c.note-in-Ok.new.self c.of-image.result (arc_value e.image) e.version _ noted shows seen.1))
+
+pub returns-in-Ok-clause-known : goal.returns-in-Ok-clause-known
+returns-in-Ok-clause-known c = pins_hold c.self.inside.place.me.0 c.pin.new.worker.me c.self.inside.number c.in-Ok.shelf c.in-Ok.edition c.in-Ok.ensures.pins.1 c.in-Ok.ensures.pins.2
+
+pub returns-in-Err-clause-steps : goal.returns-in-Err-clause-steps
+returns-in-Err-clause-steps c =
+    (search rules, subst (λ (s : ShelfSeatValue). Moves s.view c.in-Err.newest c.pin.new.worker.me.0) c.self.view_is c.in-Err.ensures.moves.0, search rules)

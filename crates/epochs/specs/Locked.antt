@@ -1,0 +1,37 @@
+-- What a call under a lock does. A lock can't be asked what it holds: so a call says that some table was there, and what it made of it.
+use Rattle.std.specs.Prelude.{◌≡◌, ℕ, Result, Ok, Err, [], ◌∷◌}
+use Rattle.version_core.specs.State.{start}
+use Rattle.image_layout.specs.Image.{ImageValue}
+use Rattle.epochs.specs.declared.faults.PinFault.{PinFault}
+use Rattle.epochs.specs.declared.faults.PublishFault.{PublishFault}
+use Rattle.epochs.specs.Seats.{WorkerSeatValue}
+use Rattle.epochs.specs.History.{TableValue, IsHistory}
+use Rattle.epochs.specs.Pins.{Pins, RefusesPin, Releases, RefusesRelease}
+use Rattle.epochs.specs.Publishing.{MakesRoom, Publishes, RefusesPublish}
+
+-- two tables, each where its history leads, with the step between them
+pub record UnderLock (step : TableValue → TableValue → Type 0) : Type 0 where
+  pub before : TableValue
+  pub after : TableValue
+  pub history_before : IsHistory before.state before.events before.images
+  pub history_after : IsHistory after.state after.events after.images
+  pub is_step : step before after
+
+-- a pin with this result makes of the table and the seat another table and seat
+abbrev pub PinsAt : TableValue → WorkerSeatValue → Result (Unit {0}) PinFault → TableValue → WorkerSeatValue → Type 0
+PinsAt a seat (Ok u) b after = Pins a seat b after
+PinsAt a seat (Err fault) b after = RefusesPin a.state seat fault × (b ≡ a) × (after.worker ≡ seat.worker)
+
+-- and so a release
+abbrev pub ReleasesAt : TableValue → WorkerSeatValue → Result (Unit {0}) PinFault → TableValue → WorkerSeatValue → Type 0
+ReleasesAt a seat (Ok u) b after = Releases a seat b after
+ReleasesAt a seat (Err fault) b after = RefusesRelease a.state seat fault × (b ≡ a)
+
+-- the image becomes this version, once there is room; or the publish is refused
+abbrev pub PublishesAt : TableValue → ImageValue → Result ℕ PublishFault → TableValue → Type 0
+PublishesAt a image (Ok version) b = (room : TableValue) × MakesRoom a room × Publishes room image version b
+PublishesAt a image (Err fault) b = RefusesPublish a fault b
+
+-- nothing has happened at the table, and it has one image
+abbrev pub IsNew : TableValue → Type 0
+IsNew table = (image : ImageValue) × (table ≡ record { state = start; events = []; images = image ∷ [] })

@@ -1,0 +1,84 @@
+-- What the calls of the loader's seat tell at shelves without a lock.
+use Rattle.std.specs.Prelude.{◌≡◌, ◌≢◌, ℕ, zero, suc, ◌<◌, ◌≤◌, ◌⊎◌, Bool, true, false, List, [], length, slice_get, slice_index_or, Option, Some, None}
+use Rattle.atomic_table.specs.Seated.{TableId}
+use Rattle.version_core.specs.declared.state.Shelf.{Shelf}
+use Rattle.shelf_steps.specs.declared.views.LoaderView.{LoaderView}
+use Rattle.shelf_steps.specs.declared.views.View.{View}
+use Rattle.epochs.specs.declared.faults.PublishFault.{PublishFault}
+use Rattle.epochs.specs.declared.collected.Collected.{Collected}
+use Rattle.image_layout.specs.Image.{ImageValue}
+use Rattle.epochs.specs.declared.seats.LoaderAnswer.{LoaderAnswer}
+use Rattle.shelf_steps.specs.Plays.{OfLoader, Mine, newest_of}
+use Rattle.shelf_steps.specs.Loading.{Loads, Frees, FindsBusy}
+
+-- the shelves that the seat is at, what it knows, the current version, and what it was answered
+pub record ShelfLoaderValue : Type 0 where
+  pub table : TableId
+  pub view : View
+  pub current : ℕ
+  pub answers : List LoaderAnswer
+
+-- between two loads: no slot is out, nothing is unpublished, and what the seat remembers is so
+pub record Rests (current current_shelf : ℕ) (shelves : List Shelf) (l : LoaderView) : Type 0 where
+  pub empty : l.hand ≡ None
+  pub newest : l.current ≡ newest_of l
+  pub current_is : l.current ≡ current
+  pub current_shelf_is : l.current_shelf ≡ current_shelf
+  pub shelves_are : l.shelves ≡ shelves
+  pub few : (0 < current) × (current ≤ 1000000000)
+  pub small : (current_shelf < 8) × (length shelves ≡ 8)
+  pub stands : slice_get shelves current_shelf ≡ Some (Shelf.Open current)
+  pub one_open : (k v : ℕ) → slice_get shelves k ≡ Some (Shelf.Open v) → k ≡ current_shelf
+  pub closing : (k v : ℕ) → slice_get shelves k ≡ Some (Shelf.Closing v) → v ≤ 1000000000
+
+abbrev pub RestsHere : ℕ → ℕ → List Shelf → Mine → Type 0
+RestsHere current current_shelf shelves m = OfLoader m.0 (λ l. Rests current current_shelf shelves l) × (m.1 ≡ [])
+
+-- a try at the shelf, where it is closing, and what it found
+abbrev pub TriedShelf : ℕ → Option Shelf → View → Bool → ℕ → View → Type 0
+TriedShelf k (Some (Shelf.Closing v)) u true busy u' = (busy ≡ 0) × Frees k u u'
+TriedShelf k (Some (Shelf.Closing v)) u false busy u' = FindsBusy k busy u u'
+TriedShelf k _ u freed busy u' = (freed ≡ false) × (busy ≡ 0) × (u' ≡ u)
+
+abbrev pub shelf_of : View → ℕ → Option Shelf
+shelf_of (View.Loading l) k = slice_get l.shelves k
+shelf_of (View.Working v) k = None
+
+-- a try at each closing shelf below n, one after another
+abbrev pub TriesBelow : ℕ → View → List Bool → List ℕ → View → Type 0
+TriesBelow zero u freed busy u' = u' ≡ u
+TriesBelow (suc k) u freed busy u' = (mid : View) × TriesBelow k u freed busy mid × TriedShelf k (shelf_of mid k) mid (slice_index_or freed k false) (slice_index_or busy k 0) u'
+
+abbrev pub CollectsBySteps : View → Collected → View → Type 0
+CollectsBySteps u found u' = TriesBelow 8 u found.freed found.busy u'
+
+abbrev pub IsFreeIn : View → ℕ → Type 0
+IsFreeIn u k = shelf_of u k ≡ Some Shelf.Free
+
+abbrev pub HasFree : View → Type 0
+HasFree u = (k : ℕ) × IsFreeIn u k
+
+abbrev pub IsLeastFree : View → ℕ → Type 0
+IsLeastFree u k = IsFreeIn u k × ((j : ℕ) → j < k → ¬ (IsFreeIn u j))
+
+-- where no shelf is free, each closing one was tried
+abbrev pub MakesRoomBySteps : View → View → Type 0
+MakesRoomBySteps u u' = (HasFree u × (u' ≡ u)) ⊎ ((¬ (HasFree u)) × ((found : Collected) × CollectsBySteps u found u'))
+
+-- the image is the next version, on the least free shelf
+abbrev pub PublishesBySteps : View → ImageValue → ℕ → View → Type 0
+PublishesBySteps u image version u' = (shelf before : ℕ) × IsLeastFree u shelf × Loads shelf version before image u u'
+
+-- so many workers at each shelf but the current one
+abbrev pub AreFull : View → List ℕ → Type 0
+AreFull u counts = OfLoader u (λ l. (l.current_shelf < 8) × (slice_index_or counts l.current_shelf 0 ≡ 0) × ((k : ℕ) → k < 8 → k ≢ l.current_shelf → 0 < slice_index_or counts k 0))
+
+-- there is a number left
+abbrev pub IsUnspent : View → Type 0
+IsUnspent u = OfLoader u (λ l. l.current < 1000000000)
+
+-- spent; or so many workers at each shelf but the current one, as the tries of this call found them; or no memory, before a shelf was opened
+abbrev pub RefusesBySteps : View → PublishFault → View → Type 0
+RefusesBySteps u PublishFault.VersionsSpent u' = OfLoader u (λ l. l.current ≡ 1000000000) × (u' ≡ u)
+RefusesBySteps u PublishFault.OutOfMemory u' = IsUnspent u × MakesRoomBySteps u u' × HasFree u'
+RefusesBySteps u (PublishFault.ShelvesFull counts) u' = IsUnspent u × (¬ (HasFree u)) × ((found : Collected) × CollectsBySteps u found u' × (counts ≡ found.busy)) × (¬ (HasFree u')) × AreFull u counts

@@ -1,0 +1,23 @@
+//! Laws over what seats do to a table. The functions do nothing: their contracts are the laws.
+
+ghost use Rattle.epochs.specs.SeatLaws.{NewSeatsFit, PinsLeaveOthers, ReleasesLeaveOthers, PublishesLeaveSeats, CollectsLeaveSeats};
+ghost use Rattle.epochs.specs.SeatLaws.{PinsHoldPublished, PinsKeepPublished, ReleasesKeepPublished, PublishesKeepPublished, CollectsKeepPublished};
+
+/// A new seat fits a new table, and what others do leaves it so. After its own pins and releases it fits by their contracts.
+/// So a seat that is used at the table that it was handed out with, and nowhere else, is never lost.
+pub fn seats_keep_fitting()
+    ensures new { NewSeatsFit }
+    ensures pins { PinsLeaveOthers }
+    ensures releases { ReleasesLeaveOthers }
+    ensures publishes { PublishesLeaveSeats }
+    ensures collects { CollectsLeaveSeats }
+{}
+
+/// The image that a pin gave a seat is the one published as that version, and stays so whatever is done at the table.
+pub fn held_images_stay_published()
+    ensures held { PinsHoldPublished }
+    ensures pins { PinsKeepPublished }
+    ensures releases { ReleasesKeepPublished }
+    ensures publishes { PublishesKeepPublished }
+    ensures collects { CollectsKeepPublished }
+{}

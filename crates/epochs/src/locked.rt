@@ -1,0 +1,166 @@
+//! Shelves under one lock.
+
+ghost use Rattle.std.specs.Prelude.{◌≡◌, [], Ok, Err, IfOk, IfErr, OnOk, MatchResult};
+ghost use Rattle.std.specs.Arc.{arc_value};
+ghost use Rattle.epochs.specs.Seats.{PinStep, ReleaseStep, PublishStep, RefuseStep, CollectStep, idle_seats};
+ghost use Rattle.epochs.specs.Pins.{HoldsInHistory};
+ghost use Rattle.epochs.specs.Publishing.{Collects};
+ghost use Rattle.epochs.specs.Locked.{UnderLock, PinsAt, ReleasesAt, PublishesAt, IsNew};
+ghost use Rattle.epochs.specs.declared.faults.PublishFault.{PublishFault};
+
+use crate::collected::Collected;
+use crate::faults::{PinFault, PublishFault};
+use crate::seats::{LoaderSeat, WorkerSeat};
+use crate::table::VersionTable;
+use crate::versions::{Loads, Versions};
+use image_verifier::Verified;
+use shelf_steps::Edition;
+use std::alloc::{AllocError, Global};
+use std::sync::{Arc, Mutex, Wait};
+
+/// A table of versions under one lock.
+///
+/// Each call says what it does to the seat, and that a table with its history was there, of which it made another one as the
+/// same call of `VersionTable` does. No clause says that two calls meet one table: a lock can't be asked what it holds.
+///
+/// A lock can't know its seats either. A seat of another table may be used too, and is answered `SeatLost` where its worker
+/// isn't what the seat says.
+#[derive(Drop)]
+pub struct LockedShelves {
+    table: Mutex<VersionTable>,
+}
+
+impl LockedShelves {
+    /// The image is version 1. A refusal gives it back.
+    pub fn new(
+        alloc: Global,
+        first: Arc<Verified, Global>,
+    ) -> Result<(LockedShelves, LoaderSeat, Vec<WorkerSeat>), (Arc<Verified, Global>, PublishFault)>
+        ensures loader { IfOk result (λ made. made.1 ≡ []) }
+        ensures seats { IfOk result (λ made. made.2.items ≡ idle_seats 16) }
+        ensures refused { IfErr result (λ e. (e.0 ≡ first) × (e.1 ≡ PublishFault.OutOfMemory)) }
+    {
+        let seats = match sixteen_seats(alloc) {
+            Ok(seats) => seats,
+            Err(_) => return Err((first, PublishFault::OutOfMemory)),
+        };
+        match VersionTable::new(alloc, first) {
+            Ok(table) => {
+                let shelves = LockedShelves::of(table);
+                Ok((shelves, LoaderSeat::new(), seats))
+            }
+            Err((first, _)) => Err((first, PublishFault::OutOfMemory)),
+        }
+    }
+
+    // What a lock begins with can't be asked afterwards, so it is asked for here.
+    pub(crate) fn of(table: VersionTable) -> LockedShelves
+        requires { IsNew table }
+    {
+        LockedShelves {
+            table: Mutex::new(table),
+        }
+    }
+}
+
+// A publish at a table, whose history is told before and after.
+fn publish_at(
+    table: &mut VersionTable,
+    loader: &mut LoaderSeat,
+    image: Arc<Verified, Global>,
+) -> Result<u64, (Arc<Verified, Global>, PublishFault)>
+    ensures back { IfErr result (λ e. e.0 ≡ image) }
+    ensures loader { MatchResult result (λ v. PublishStep loader.old (arc_value image) v loader.new) (λ e. RefuseStep loader.old e.1 loader.new) }
+    ensures table { MatchResult result (λ v. UnderLock (λ a b. PublishesAt a (arc_value image) (Ok v) b)) (λ e. UnderLock (λ a b. PublishesAt a (arc_value image) (Err e.1) b)) }
+{
+    table.history();
+    let answer = table.publish(loader, image);
+    table.history();
+    answer
+}
+
+fn sixteen_seats(alloc: Global) -> Result<Vec<WorkerSeat>, AllocError>
+    ensures { IfOk result (λ seats. seats.items ≡ idle_seats 16) }
+{
+    let mut seats = Vec::with_capacity(alloc, 16)?;
+    for number in 0..16 {
+        seats.push(WorkerSeat::idle(number))?;
+    }
+    Ok(seats)
+}
+
+impl Versions for LockedShelves {
+    type Seat = WorkerSeat;
+
+    ghost fits = { λ shelves seat. Unit {0} };
+
+    ghost value = { λ seat. seat.shown };
+
+    ghost number = { λ seat. seat.number };
+
+    /// Pins the current version: 92 exactly where the seat holds one, 97 exactly where the table knows its worker otherwise,
+    /// 98 where the image couldn't be shared. Never 91.
+    fn pin<R: Wait>(&self, rt: &R, seat: &mut WorkerSeat) -> Result<(), PinFault>
+        ensures number { seat.new.number ≡ seat.old.number }
+        ensures pin { PinStep seat.old.shown result seat.new.shown }
+        ensures known { OnOk result (HoldsInHistory seat.new.number seat.new.shown.held) }
+        ensures table { UnderLock (λ a b. PinsAt a seat.old result b seat.new) }
+    {
+        let mut table = self.table.lock(rt);
+        table.history();
+        let answer = table.pin(seat);
+        table.history();
+        answer
+    }
+
+    fn edition(seat: &WorkerSeat) -> Option<&Edition> {
+        seat.edition()
+    }
+
+    /// Gives back what the seat holds: 93 exactly where it holds nothing, 97 exactly where the table knows its worker
+    /// otherwise. Then the seat alone is emptied.
+    fn release<R: Wait>(&self, rt: &R, seat: &mut WorkerSeat) -> Result<(), PinFault>
+        ensures number { seat.new.number ≡ seat.old.number }
+        ensures release { ReleaseStep seat.old.shown result seat.new.shown }
+        ensures table { UnderLock (λ a b. ReleasesAt a seat.old result b seat.new) }
+    {
+        let mut table = self.table.lock(rt);
+        table.history();
+        let answer = table.release(seat);
+        table.history();
+        answer
+    }
+}
+
+impl Loads for LockedShelves {
+    type Loader = LoaderSeat;
+
+    ghost loads = { λ shelves loader. Unit {0} };
+
+    ghost answers = { λ loader. loader };
+
+    fn publish<R: Wait>(
+        &self,
+        rt: &R,
+        loader: &mut LoaderSeat,
+        image: Arc<Verified, Global>,
+    ) -> Result<u64, (Arc<Verified, Global>, PublishFault)>
+        ensures back { IfErr result (λ e. e.0 ≡ image) }
+        ensures loader { MatchResult result (λ v. PublishStep loader.old (arc_value image) v loader.new) (λ e. RefuseStep loader.old e.1 loader.new) }
+        ensures table { MatchResult result (λ v. UnderLock (λ a b. PublishesAt a (arc_value image) (Ok v) b)) (λ e. UnderLock (λ a b. PublishesAt a (arc_value image) (Err e.1) b)) }
+    {
+        let mut table = self.table.lock(rt);
+        publish_at(&mut table, loader, image)
+    }
+
+    fn collect<R: Wait>(&self, rt: &R, loader: &mut LoaderSeat) -> Collected
+        ensures loader { CollectStep loader.old result loader.new }
+        ensures table { UnderLock (λ a b. Collects a result b) }
+    {
+        let mut table = self.table.lock(rt);
+        table.history();
+        let found = table.collect(loader);
+        table.history();
+        found
+    }
+}

@@ -1,0 +1,118 @@
+//! The seats from which workers pin versions without a lock.
+
+ghost use Rattle.std.specs.Prelude.{◌≡◌, ◌<◌, [], None, Some, OnOk, MatchOption};
+ghost use Rattle.std.specs.Arc.{arc_value};
+ghost use Rattle.shelf_steps.specs.Plays.{newcomer};
+ghost use Rattle.shelf_steps.specs.declared.views.View.{View};
+ghost use Rattle.epochs.specs.Pins.{HoldsInHistory};
+ghost use Rattle.epochs.specs.Seats.{PinStep, ReleaseStep};
+ghost use Rattle.epochs.specs.ShelfSeats.{PinsBySteps, ReleasesBySteps, new_seat};
+
+use crate::faults::PinFault;
+use crate::seats::Answer;
+use shelf_steps::{Edition, Place, ShelfTable, pin, release};
+use std::marker::Model;
+use std::snapshot::Snapshot;
+use timetable::Trace;
+
+/// A worker's seat at shelves without a lock. While it holds a version, its edition lies here and not in a slot.
+#[derive(Drop)]
+pub struct ShelfSeat {
+    place: Place,
+    number: usize,
+    held: Option<(usize, Edition)>,
+    answers: Trace<Answer>,
+}
+
+impl Model for ShelfSeat {
+    ghost use Rattle.std.specs.Prelude.{◌<◌};
+    ghost use Rattle.epochs.specs.ShelfSeats.{ShelfSeatValue, FitsSeat, held_at, seen_of};
+
+    ghost Value = { ShelfSeatValue };
+
+    ghost view = { λ s. record { table = s.place.table; number = s.number; view = s.place.me.0; shown = record { answers = s.answers; held = held_at s.held; seen = seen_of s.place.me.0 } } };
+
+    ghost invariant = { λ s. (s.number < 16) × FitsSeat s.number s.held s.place.me };
+}
+
+impl ShelfSeat {
+    /// The seat of a worker that has done nothing.
+    pub(crate) fn idle(place: Place, number: usize) -> ShelfSeat
+        requires { (number < 16) × (place.me ≡ (View.Working (newcomer number), [])) }
+        ensures { result ≡ new_seat place.table number }
+    {
+        ShelfSeat {
+            place,
+            number,
+            held: None,
+            answers: Trace::new(),
+        }
+    }
+
+    /// The number of the seat's worker, from 0 to 15.
+    pub fn number(&self) -> usize
+        ensures { result ≡ self.now.number }
+    {
+        self.number
+    }
+
+    /// The version that the seat holds, with its image.
+    pub fn edition(&self) -> Option<&Edition>
+        ensures { MatchOption result (self.now.shown.held ≡ None) (λ e. self.now.shown.held ≡ Some (e.now.version, arc_value e.now.image)) }
+    {
+        match &self.held {
+            Some(held) => Some(&held.1),
+            None => None,
+        }
+    }
+
+    // Looks and takes, at most four times.
+    pub(crate) fn pin_at(&mut self, shelves: &ShelfTable) -> Result<(), PinFault>
+        requires { self.old.table ≡ shelves.now }
+        ensures table { (self.new.table ≡ self.old.table) × (self.new.number ≡ self.old.number) }
+        ensures pin { PinStep self.old.shown result self.new.shown }
+        ensures steps { PinsBySteps self.old result self.new }
+        ensures known { OnOk result (HoldsInHistory self.new.number self.new.shown.held) }
+    {
+        if self.held.is_some() {
+            let fault = PinFault::AlreadyPinned;
+            self.answers.note(&Answer::PinRefused { fault });
+            return Err(PinFault::AlreadyPinned);
+        }
+        match pin(shelves, &mut self.place, self.number) {
+            Ok((shelf, edition)) => {
+                let image = Snapshot::of(&*edition.image);
+                let version = edition.version;
+                self.answers.note(&Answer::Pinned { version, image });
+                self.held = Some((shelf, edition));
+                Ok(())
+            }
+            Err(newest) => {
+                let fault = PinFault::Moved { newest };
+                self.answers.note(&Answer::PinRefused { fault });
+                Err(PinFault::Moved { newest })
+            }
+        }
+    }
+
+    // Drops what is held.
+    pub(crate) fn release_at(&mut self, shelves: &ShelfTable) -> Result<(), PinFault>
+        requires { self.old.table ≡ shelves.now }
+        ensures table { (self.new.table ≡ self.old.table) × (self.new.number ≡ self.old.number) }
+        ensures release { ReleaseStep self.old.shown result self.new.shown }
+        ensures steps { ReleasesBySteps self.old result self.new }
+    {
+        match self.held.take() {
+            Some((shelf, edition)) => {
+                release(shelves, &mut self.place, self.number, shelf, edition);
+                self.answers.note(&Answer::Released);
+                Ok(())
+            }
+            None => {
+                let fault = PinFault::NotPinned;
+                self.answers.note(&Answer::ReleaseRefused { fault });
+                Err(PinFault::NotPinned)
+            }
+        }
+    }
+}

@@ -1,0 +1,205 @@
+//! Shelves without a lock.
+
+ghost use Rattle.std.specs.Prelude.{◌≡◌, ◌<◌, [], OnOk, IfOk, IfErr, MatchResult};
+ghost use Rattle.std.specs.List.{All};
+ghost use Rattle.std.specs.Arc.{arc_value};
+ghost use Rattle.shelf_steps.specs.Handed.{handed};
+ghost use Rattle.shelf_steps.specs.declared.views.View.{View};
+ghost use Rattle.epochs.specs.Pins.{HoldsInHistory};
+ghost use Rattle.epochs.specs.Seats.{PinStep, ReleaseStep, PublishStep, RefuseStep, CollectStep};
+ghost use Rattle.epochs.specs.ShelfSeats.{PinsBySteps, ReleasesBySteps, SeatsHanded};
+ghost use Rattle.epochs.specs.ShelfLoads.{CollectsBySteps, MakesRoomBySteps, PublishesBySteps, RefusesBySteps};
+ghost use Rattle.epochs.specs.declared.faults.PublishFault.{PublishFault};
+
+use crate::collected::Collected;
+use crate::faults::{PinFault, PublishFault};
+use crate::shelf_loader::ShelfLoader;
+use crate::shelf_seats::ShelfSeat;
+use crate::versions::{Loads, Versions};
+use image_verifier::Verified;
+use shelf_steps::laws::{new_shelves, new_worker};
+use shelf_steps::{Edition, ShelfTable};
+use std::alloc::{AllocError, Global};
+use std::marker::Model;
+use std::sync::{Arc, Wait};
+
+/// Shelves without a lock: pins, releases and collections of any number of threads go through a `&`, wait for nobody and take
+/// no memory. Contracts see which table they are, so that a seat of other shelves can't be used here.
+#[derive(Drop)]
+pub struct Shelves {
+    table: ShelfTable,
+    alloc: Global,
+}
+
+impl Model for Shelves {
+    ghost use Rattle.atomic_table.specs.Seated.{TableId};
+
+    ghost Value = { TableId };
+
+    ghost view = { λ s. s.table };
+}
+
+impl Shelves {
+    /// The image is version 1, current on shelf 0, and nothing has happened yet. A refusal gives the image back.
+    pub fn new(
+        alloc: Global,
+        first: Arc<Verified, Global>,
+    ) -> Result<(Shelves, ShelfLoader, Vec<ShelfSeat>), (Arc<Verified, Global>, PublishFault)>
+        ensures loader { IfOk result (λ made. made.1 ≡ record { table = made.0; view = View.Loading (handed 16 (arc_value first)); current = 1; answers = [] }) }
+        ensures seats { IfOk result (λ made. SeatsHanded made.0 16 made.2.items) }
+        ensures fits { IfOk result (λ made. All (λ seat. seat.table ≡ made.0) made.2.items) }
+        ensures refused { IfErr result (λ e. (e.0 ≡ first) × (e.1 ≡ PublishFault.OutOfMemory)) }
+    {
+        match open(alloc, &first) {
+            Ok((table, loader, seats)) => Ok((Shelves { table, alloc }, loader, seats)),
+            Err(_) => Err((first, PublishFault::OutOfMemory)),
+        }
+    }
+
+    /// A word as it is found: word 0 has eight times the current version, and its shelf; the words from 1 on have the shelves,
+    /// each with its count in bits 0 to 7, its state in bits 8 and 9 (0 free, 1 open, 2 closing) and its version from bit 16 on.
+    pub fn word(&self, word: usize) -> u64
+        requires { word < 9 }
+    {
+        self.table.word(word)
+    }
+
+    /// Pins the current version: looks one to four times. 92 exactly where the seat holds a version already; 91 where four looks
+    /// gave four versions, each greater than the one before, and each was gone before it could be held.
+    pub fn pin(&self, seat: &mut ShelfSeat) -> Result<(), PinFault>
+        requires { seat.old.table ≡ self.now }
+        ensures table { (seat.new.table ≡ seat.old.table) × (seat.new.number ≡ seat.old.number) }
+        ensures pin { PinStep seat.old.shown result seat.new.shown }
+        ensures steps { PinsBySteps seat.old result seat.new }
+        ensures known { OnOk result (HoldsInHistory seat.new.number seat.new.shown.held) }
+    {
+        seat.pin_at(&self.table)
+    }
+
+    /// Gives back what the seat holds: 93 exactly where it holds nothing.
+    pub fn release(&self, seat: &mut ShelfSeat) -> Result<(), PinFault>
+        requires { seat.old.table ≡ self.now }
+        ensures table { (seat.new.table ≡ seat.old.table) × (seat.new.number ≡ seat.old.number) }
+        ensures release { ReleaseStep seat.old.shown result seat.new.shown }
+        ensures steps { ReleasesBySteps seat.old result seat.new }
+    {
+        seat.release_at(&self.table)
+    }
+
+    /// The image becomes the next version, which is current, on the least free shelf; the shelf that was current is closing.
+    /// Where no shelf is free, each closing one is tried first. A refusal gives the image back and leaves the current version:
+    /// 95 at the last version; else 94 where each closing shelf was found in use; else 96 before a shelf was opened.
+    pub fn publish(
+        &self,
+        loader: &mut ShelfLoader,
+        image: Arc<Verified, Global>,
+    ) -> Result<u64, (Arc<Verified, Global>, PublishFault)>
+        requires { loader.old.table ≡ self.now }
+        ensures table { loader.new.table ≡ loader.old.table }
+        ensures back { IfErr result (λ e. e.0 ≡ image) }
+        ensures current { MatchResult result (λ v. loader.new.current ≡ v) (λ _. loader.new.current ≡ loader.old.current) }
+        ensures loader { MatchResult result (λ v. PublishStep loader.old.answers (arc_value image) v loader.new.answers) (λ e. RefuseStep loader.old.answers e.1 loader.new.answers) }
+        ensures steps { MatchResult result (λ v. (room : View) × MakesRoomBySteps loader.old.view room × PublishesBySteps room (arc_value image) v loader.new.view) (λ e. RefusesBySteps loader.old.view e.1 loader.new.view) }
+    {
+        loader.publish_at(&self.table, self.alloc, image)
+    }
+
+    /// Tries each closing shelf: it is free where its count was found to be 0, and else `busy` has the count that was found.
+    pub fn collect(&self, loader: &mut ShelfLoader) -> Collected
+        requires { loader.old.table ≡ self.now }
+        ensures table { (loader.new.table ≡ loader.old.table) × (loader.new.current ≡ loader.old.current) }
+        ensures loader { CollectStep loader.old.answers result loader.new.answers }
+        ensures steps { CollectsBySteps loader.old.view result loader.new.view }
+    {
+        loader.collect_at(&self.table)
+    }
+}
+
+// The table, the loader's seat, and sixteen workers' seats.
+fn open(
+    alloc: Global,
+    first: &Arc<Verified, Global>,
+) -> Result<(ShelfTable, ShelfLoader, Vec<ShelfSeat>), AllocError>
+    ensures loader { IfOk result (λ made. made.1 ≡ record { table = made.0; view = View.Loading (handed 16 (arc_value first.now)); current = 1; answers = [] }) }
+    ensures seats { IfOk result (λ made. SeatsHanded made.0 16 made.2.items) }
+{
+    let mut seats = Vec::with_capacity(alloc, 16)?;
+    let (table, mut place) = new_shelves(alloc, first)?;
+    for number in 0..16usize {
+        let worker = new_worker(&table, &mut place);
+        seats.push(ShelfSeat::idle(worker, number))?;
+    }
+    Ok((table, ShelfLoader::first(place), seats))
+}
+
+impl Versions for Shelves {
+    type Seat = ShelfSeat;
+
+    ghost use Rattle.std.specs.Prelude.{◌≡◌};
+
+    ghost fits = { λ shelves seat. seat.table ≡ shelves };
+
+    ghost value = { λ seat. seat.shown };
+
+    ghost number = { λ seat. seat.number };
+
+    fn pin<R: Wait>(&self, _rt: &R, seat: &mut ShelfSeat) -> Result<(), PinFault>
+        requires { seat.old.table ≡ self.now }
+        ensures fits { seat.new.table ≡ self.now }
+        ensures number { seat.new.number ≡ seat.old.number }
+        ensures pin { PinStep seat.old.shown result seat.new.shown }
+        ensures known { OnOk result (HoldsInHistory seat.new.number seat.new.shown.held) }
+        ensures steps { PinsBySteps seat.old result seat.new }
+    {
+        Shelves::pin(self, seat)
+    }
+
+    fn edition(seat: &ShelfSeat) -> Option<&Edition> {
+        seat.edition()
+    }
+
+    fn release<R: Wait>(&self, _rt: &R, seat: &mut ShelfSeat) -> Result<(), PinFault>
+        requires { seat.old.table ≡ self.now }
+        ensures fits { seat.new.table ≡ self.now }
+        ensures number { seat.new.number ≡ seat.old.number }
+        ensures release { ReleaseStep seat.old.shown result seat.new.shown }
+        ensures steps { ReleasesBySteps seat.old result seat.new }
+    {
+        Shelves::release(self, seat)
+    }
+}
+
+impl Loads for Shelves {
+    type Loader = ShelfLoader;
+
+    ghost use Rattle.std.specs.Prelude.{◌≡◌};
+
+    ghost loads = { λ shelves loader. loader.table ≡ shelves };
+
+    ghost answers = { λ loader. loader.answers };
+
+    fn publish<R: Wait>(
+        &self,
+        _rt: &R,
+        loader: &mut ShelfLoader,
+        image: Arc<Verified, Global>,
+    ) -> Result<u64, (Arc<Verified, Global>, PublishFault)>
+        requires { loader.old.table ≡ self.now }
+        ensures loads { loader.new.table ≡ self.now }
+        ensures back { IfErr result (λ e. e.0 ≡ image) }
+        ensures current { MatchResult result (λ v. loader.new.current ≡ v) (λ _. loader.new.current ≡ loader.old.current) }
+        ensures loader { MatchResult result (λ v. PublishStep loader.old.answers (arc_value image) v loader.new.answers) (λ e. RefuseStep loader.old.answers e.1 loader.new.answers) }
+        ensures steps { MatchResult result (λ v. (room : View) × MakesRoomBySteps loader.old.view room × PublishesBySteps room (arc_value image) v loader.new.view) (λ e. RefusesBySteps loader.old.view e.1 loader.new.view) }
+    {
+        Shelves::publish(self, loader, image)
+    }
+
+    fn collect<R: Wait>(&self, _rt: &R, loader: &mut ShelfLoader) -> Collected
+        requires { loader.old.table ≡ self.now }
+        ensures loads { (loader.new.table ≡ self.now) × (loader.new.current ≡ loader.old.current) }
+        ensures loader { CollectStep loader.old.answers result loader.new.answers }
+        ensures steps { CollectsBySteps loader.old.view result loader.new.view }
+    {
+        Shelves::collect(self, loader)
+    }
+}

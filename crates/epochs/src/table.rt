@@ -1,0 +1,380 @@
+//! The table of versions beside the editions on its shelves.
+
+ghost use Rattle.std.specs.Prelude.{◌≡◌, ◌≢◌, ℕ, ◌+◌, ◌<◌, ◌≤◌, Ok, Err, ◌++◌, ◌∷◌, [], IfOk, IfErr, OnOk, OnErr, MatchBool, MatchResult};
+ghost use Rattle.std.specs.Arc.{arc_value};
+ghost use Rattle.version_core.specs.State.{start, newest};
+ghost use Rattle.version_core.specs.Steps.{IsIdle, Holds, IsClosing};
+ghost use Rattle.version_core.specs.Kept.{Kept};
+ghost use Rattle.version_core.specs.declared.state.Worker.{Worker};
+ghost use Rattle.epochs.specs.Seats.{PinStep, ReleaseStep, PublishStep, RefuseStep, CollectStep};
+ghost use Rattle.epochs.specs.History.{IsHistory, LeadsTo, HeldHaveImages, TableValue};
+ghost use Rattle.epochs.specs.Pins.{HoldsInHistory, SeatFits, Pins, RefusesPin, Releases, RefusesRelease, IsOffer, IsCurrent, IsLookAndTake, IsDrop};
+ghost use Rattle.epochs.specs.Publishing.{TriesShelf, Collects, HasFree, MakesRoom, Publishes, RefusesPublish, StaysCurrent};
+ghost use Rattle.epochs.specs.declared.faults.PublishFault.{PublishFault};
+
+use crate::collected::Collected;
+use crate::faults::{PinFault, PublishFault};
+use crate::seats::{Answer, LoaderAnswer, LoaderSeat, WorkerSeat};
+use image_verifier::Verified;
+use shelf_steps::Edition;
+use std::alloc::{AllocError, Global};
+use std::marker::Model;
+use std::snapshot::Snapshot;
+use std::sync::Arc;
+use timetable::Trace;
+use version_core::{Core, Event, Reply, Shelf, at_rest, every_run, holding, runs_in_parts};
+
+/// Eight shelves with the editions on them, and the table that says which version is current and who is where.
+#[derive(Drop)]
+pub struct VersionTable {
+    core: Core,
+    editions: [Option<Edition>; 8],
+    events: Trace<Event>,
+    images: Trace<Verified>,
+}
+
+impl Model for VersionTable {
+    ghost use Rattle.epochs.specs.History.{TableValue, IsHistory, AreShelved};
+
+    ghost Value = { TableValue };
+
+    ghost view = { λ t. record { state = t.core; events = t.events; images = t.images } };
+
+    ghost invariant = { λ t. IsHistory t.core t.events t.images × AreShelved t.core.shelves t.editions t.images };
+}
+
+impl VersionTable {
+    /// The image is version 1 on shelf 0. All workers are idle.
+    pub fn new(
+        alloc: Global,
+        first: Arc<Verified, Global>,
+    ) -> Result<VersionTable, (Arc<Verified, Global>, AllocError)>
+        ensures start { IfOk result (λ t. t ≡ record { state = start; events = []; images = arc_value first ∷ [] }) }
+        ensures same { IfErr result (λ e. e.0 ≡ first) }
+    {
+        let core = match Core::new(alloc) {
+            Ok(core) => core,
+            Err(refused) => return Err((first, refused)),
+        };
+        let mut images = Trace::new();
+        images.note(&*first);
+        let first = Edition {
+            version: 1,
+            image: first,
+        };
+        Ok(VersionTable {
+            core,
+            editions: [Some(first), None, None, None, None, None, None, None],
+            events: Trace::new(),
+            images,
+        })
+    }
+
+    /// What holds of every table, and so under every lock, whatever was done before: the state is where the events lead from
+    /// the start. It does nothing: its contract is the promise.
+    pub fn history(&self)
+        ensures history { IsHistory self.now.state self.now.events self.now.images }
+        ensures leads { LeadsTo self.now.state self.now.events self.now.images }
+        ensures kept { Kept self.now.state }
+        ensures held { HeldHaveImages self.now.state self.now.images }
+    {
+        every_run();
+        let _ = self.core.current();
+    }
+
+    /// The seat's worker looks and takes, and the seat holds the current version.
+    pub fn pin(&mut self, seat: &mut WorkerSeat) -> Result<(), PinFault>
+        ensures seat { PinStep seat.old.shown result seat.new.shown }
+        ensures number { seat.new.number ≡ seat.old.number }
+        ensures pinned { OnOk result (Pins self.old seat.old self.new seat.new) }
+        ensures known { OnOk result (HoldsInHistory seat.new.number seat.new.shown.held) }
+        ensures refused { IfErr result (RefusesPin self.old.state seat.old) }
+        ensures same { OnErr result ((self.new ≡ self.old) × (seat.new.worker ≡ seat.old.worker)) }
+    {
+        match self.offer(seat) {
+            Ok((shelf, edition)) => {
+                self.look_and_take(seat.number());
+                self.history();
+                seat.hold(shelf, edition);
+                Ok(())
+            }
+            Err(fault) => {
+                seat.tell(Answer::PinRefused { fault });
+                Err(fault)
+            }
+        }
+    }
+
+    // The current shelf and its edition, where the seat may hold it.
+    fn offer(&self, seat: &WorkerSeat) -> Result<(usize, Edition), PinFault>
+        ensures offered { IfOk result (λ p. IsOffer self.now seat.now p.0 p.1.version (arc_value p.1.image)) }
+        ensures refused { IfErr result (RefusesPin self.now.state seat.now) }
+    {
+        if seat.is_holding() {
+            return Err(PinFault::AlreadyPinned);
+        }
+        if !self.fits(seat) {
+            return Err(PinFault::SeatLost);
+        }
+        match self.current_edition() {
+            Ok(offer) => Ok(offer),
+            Err(_) => Err(PinFault::OutOfMemory),
+        }
+    }
+
+    // Whether the seat says of its worker what the core does.
+    fn fits(&self, seat: &WorkerSeat) -> bool
+        ensures { MatchBool result (SeatFits self.now.state seat.now) (¬ (SeatFits self.now.state seat.now)) }
+    {
+        let number = seat.number();
+        self.core.worker(number) == Some(seat.worker())
+            && self.core.seen(number) == Some(seat.seen())
+    }
+
+    // The current shelf and its edition.
+    fn current_edition(&self) -> Result<(usize, Edition), AllocError>
+        ensures current { IfOk result (λ p. IsCurrent self.now p.0 p.1.version (arc_value p.1.image)) }
+        ensures kept { Kept self.now.state }
+    {
+        let (version, shelf) = self.core.current();
+        let Some(edition) = &self.editions[shelf] else {
+            unreachable!()
+        };
+        let image = Arc::try_clone(&edition.image)?;
+        Ok((shelf, Edition { version, image }))
+    }
+
+    // The idle worker looks at the current version and takes it.
+    fn look_and_take(&mut self, worker: usize)
+        requires { IsIdle self.old.state worker }
+        ensures { IsLookAndTake self.old worker self.new }
+    {
+        holding();
+        runs_in_parts();
+        at_rest();
+        let _ = self.core.current();
+        let _looked = self.core.look(worker);
+        self.events.note(&Event::Look { worker });
+        let _held = self.core.take(worker);
+        self.events.note(&Event::Take { worker });
+    }
+
+    /// The seat's worker drops what the seat holds. A seat that the core knows otherwise is emptied, and nothing else
+    /// changes.
+    pub fn release(&mut self, seat: &mut WorkerSeat) -> Result<(), PinFault>
+        ensures seat { ReleaseStep seat.old.shown result seat.new.shown }
+        ensures number { seat.new.number ≡ seat.old.number }
+        ensures released { OnOk result (Releases self.old seat.old self.new seat.new) }
+        ensures refused { IfErr result (RefusesRelease self.old.state seat.old) }
+        ensures same { OnErr result (self.new ≡ self.old) }
+        ensures idle { seat.new.worker ≡ Worker.Idle }
+    {
+        if !seat.is_holding() {
+            let fault = PinFault::NotPinned;
+            seat.tell(Answer::ReleaseRefused { fault });
+            return Err(fault);
+        }
+        if !self.fits(seat) {
+            let fault = PinFault::SeatLost;
+            seat.empty(Answer::ReleaseRefused { fault });
+            return Err(fault);
+        }
+        self.leave(seat.number());
+        seat.empty(Answer::Released);
+        Ok(())
+    }
+
+    // The worker drops what it holds.
+    fn leave(&mut self, worker: usize)
+        requires { (k v : ℕ) × Holds self.old.state worker k v }
+        ensures { IsDrop self.old worker self.new }
+    {
+        holding();
+        runs_in_parts();
+        at_rest();
+        let _ = self.core.current();
+        let _dropped = self.core.leave(worker);
+        self.events.note(&Event::Drop { worker });
+    }
+
+    /// Tries each closing shelf: it is freed, if no worker is there.
+    pub fn collect(&mut self, loader: &mut LoaderSeat) -> Collected
+        ensures collected { Collects self.old result self.new }
+        ensures loader { CollectStep loader.old result loader.new }
+    {
+        self.history();
+        let found = self.try_shelves();
+        loader.tell(LoaderAnswer::Collected { found });
+        found
+    }
+
+    fn try_shelves(&mut self) -> Collected
+        ensures { Collects self.old result self.new }
+    {
+        runs_in_parts();
+        self.history();
+        let mut found = Collected {
+            freed: [false; 8],
+            busy: [0; 8],
+        };
+        for shelf in 0..8 {
+            let (freed, busy) = self.try_shelf(shelf);
+            found.freed[shelf] = freed;
+            found.busy[shelf] = busy;
+        }
+        found
+    }
+
+    // Frees the shelf, if it is closing and no worker is there. Tells whether it did, and how many workers kept it from that.
+    fn try_shelf(&mut self, shelf: usize) -> (bool, u8)
+        requires { shelf < 8 }
+        ensures { TriesShelf self.old shelf result.0 result.1 self.new }
+    {
+        if self.is_closing(shelf) {
+            self.try_closing(shelf)
+        } else {
+            (false, 0)
+        }
+    }
+
+    fn is_closing(&self, shelf: usize) -> bool
+        ensures { MatchBool result ((v : ℕ) × IsClosing self.now.state shelf v) ((v : ℕ) → ¬ (IsClosing self.now.state shelf v)) }
+    {
+        match self.core.shelf(shelf) {
+            Some(Shelf::Closing { version: _ }) => true,
+            Some(Shelf::Free | Shelf::Open { .. }) | None => false,
+        }
+    }
+
+    fn try_closing(&mut self, shelf: usize) -> (bool, u8)
+        requires small { shelf < 8 }
+        requires closing { (v : ℕ) × IsClosing self.old.state shelf v }
+        ensures { TriesShelf self.old shelf result.0 result.1 self.new }
+    {
+        runs_in_parts();
+        at_rest();
+        let reply = self.core.collect(shelf);
+        self.events.note(&Event::Collect { shelf });
+        match reply {
+            Reply::Freed => {
+                self.editions[shelf] = None;
+                (true, 0)
+            }
+            Reply::Busy { count } => (false, count),
+            _ => unreachable!(),
+        }
+    }
+
+    /// The image becomes the next version, which is current, on the least free shelf. Where no shelf is free, each closing
+    /// one is tried first. A refusal gives the image back, and the current version stays.
+    pub fn publish(
+        &mut self,
+        loader: &mut LoaderSeat,
+        image: Arc<Verified, Global>,
+    ) -> Result<u64, (Arc<Verified, Global>, PublishFault)>
+        ensures published { IfOk result (λ v. (room : TableValue) × MakesRoom self.old room × Publishes room (arc_value image) v self.new) }
+        ensures refused { IfErr result (λ e. RefusesPublish self.old e.1 self.new) }
+        ensures back { IfErr result (λ e. e.0 ≡ image) }
+        ensures same { OnErr result (StaysCurrent self.old self.new) }
+        ensures loader { MatchResult result (λ v. PublishStep loader.old (arc_value image) v loader.new) (λ e. RefuseStep loader.old e.1 loader.new) }
+    {
+        self.history();
+        let shown = Snapshot::of(&*image);
+        match self.publish_next(image) {
+            Ok(version) => {
+                self.history();
+                loader.tell(LoaderAnswer::Published {
+                    version,
+                    image: shown,
+                });
+                Ok(version)
+            }
+            Err((image, fault)) => {
+                loader.tell(LoaderAnswer::PublishRefused { fault });
+                Err((image, fault))
+            }
+        }
+    }
+
+    fn publish_next(
+        &mut self,
+        image: Arc<Verified, Global>,
+    ) -> Result<u64, (Arc<Verified, Global>, PublishFault)>
+        ensures published { IfOk result (λ v. (room : TableValue) × MakesRoom self.old room × Publishes room (arc_value image) v self.new) }
+        ensures refused { IfErr result (λ e. RefusesPublish self.old e.1 self.new) }
+        ensures back { IfErr result (λ e. e.0 ≡ image) }
+    {
+        if !self.may_open() {
+            return Err((image, PublishFault::VersionsSpent));
+        }
+        if let Err(counts) = self.make_room() {
+            return Err((image, PublishFault::ShelvesFull { counts }));
+        }
+        self.load(image)
+    }
+
+    // Whether a version is left.
+    fn may_open(&self) -> bool
+        ensures { MatchBool result (newest self.now.state < 1000000000) (newest self.now.state ≡ 1000000000) }
+    {
+        at_rest();
+        let _ = self.core.current();
+        self.core.may_open()
+    }
+
+    // A shelf is free, or is after a try at each closing one. Else so many workers are at each.
+    fn make_room(&mut self) -> Result<(), [u8; 8]>
+        requires { newest self.old.state < 1000000000 }
+        ensures room { OnOk result (MakesRoom self.old self.new × HasFree self.new.state) }
+        ensures full { IfErr result (λ counts. RefusesPublish self.old (PublishFault.ShelvesFull counts) self.new) }
+    {
+        at_rest();
+        self.history();
+        if self.has_free() {
+            return Ok(());
+        }
+        let found = self.try_shelves();
+        if self.has_free() {
+            Ok(())
+        } else {
+            Err(found.busy)
+        }
+    }
+
+    fn has_free(&self) -> bool
+        ensures { MatchBool result (HasFree self.now.state) (¬ (HasFree self.now.state)) }
+    {
+        match self.core.free_shelf() {
+            Some(_) => true,
+            None => false,
+        }
+    }
+
+    fn load(
+        &mut self,
+        image: Arc<Verified, Global>,
+    ) -> Result<u64, (Arc<Verified, Global>, PublishFault)>
+        requires room { HasFree self.old.state }
+        requires left { newest self.old.state < 1000000000 }
+        ensures published { IfOk result (λ v. Publishes self.old (arc_value image) v self.new) }
+        ensures refused { IfErr result (λ e. (e.0 ≡ image) × (e.1 ≡ PublishFault.OutOfMemory) × (self.new ≡ self.old)) }
+    {
+        runs_in_parts();
+        at_rest();
+        // Nothing waits to be published, so the current version is the newest, and its number the next place.
+        let (number, before) = self.core.current();
+        let (version, shelf) = match self.core.open(number) {
+            Ok(Reply::Opened { version, shelf }) => (version, shelf),
+            Ok(_) => unreachable!(),
+            Err(_) => return Err((image, PublishFault::OutOfMemory)),
+        };
+        let _published = self.core.publish();
+        let _closing = self.core.close(before);
+        self.events.note(&Event::Open { edition: number });
+        self.events.note(&Event::Publish);
+        self.events.note(&Event::Close { shelf: before });
+        self.images.note(&*image);
+        self.editions[shelf] = Some(Edition { version, image });
+        Ok(version)
+    }
+}
