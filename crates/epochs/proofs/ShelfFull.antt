@@ -17,17 +17,29 @@ use Rattle.epochs.specs.ShelfLoads.{RefusesBySteps, IsUnspent, Rests, TriedShelf
 
 free_other : (k j : ℕ) (u u' : View) → Frees k u u' → j ≢ k → shelf_of u' j ≡ shelf_of u j
 free_other k j (View.Working v) u' f ne = absurd f
+free_other k j (View.Noting x') u' f ne = absurd f
+free_other k j View.Spent u' f ne = absurd f
 free_other k j (View.Loading a) (View.Working v) f ne = absurd f
+free_other k j (View.Loading a) (View.Noting x') f ne = absurd f
+free_other k j (View.Loading a) View.Spent f ne = absurd f
 free_other k j (View.Loading a) (View.Loading b) f ne = ap (λ (xs : List Shelf). slice_get xs j) f.shelves ∙ slice_get-set_other a.shelves k j Shelf.Free ne
 
 free_here : (k : ℕ) (x : Shelf) (u u' : View) → Frees k u u' → shelf_of u k ≡ Some x → shelf_of u' k ≡ Some Shelf.Free
 free_here k x (View.Working v) u' f is = absurd f
+free_here k x (View.Noting x') u' f is = absurd f
+free_here k x View.Spent u' f is = absurd f
 free_here k x (View.Loading a) (View.Working v) f is = absurd f
+free_here k x (View.Loading a) (View.Noting x') f is = absurd f
+free_here k x (View.Loading a) View.Spent f is = absurd f
 free_here k x (View.Loading a) (View.Loading b) f is = ap (λ (xs : List Shelf). slice_get xs k) f.shelves ∙ slice_get-set_same a.shelves k Shelf.Free (slice_get_within a.shelves k x is)
 
 busy_same : (k count j : ℕ) (u u' : View) → FindsBusy k count u u' → (0 < count) × (shelf_of u' j ≡ shelf_of u j)
 busy_same k count j (View.Working v) u' f = absurd f
+busy_same k count j (View.Noting x') u' f = absurd f
+busy_same k count j View.Spent u' f = absurd f
 busy_same k count j (View.Loading a) (View.Working v) f = absurd f
+busy_same k count j (View.Loading a) (View.Noting x') f = absurd f
+busy_same k count j (View.Loading a) View.Spent f = absurd f
 busy_same k count j (View.Loading a) (View.Loading b) f = (f.some_one, ap (λ (xs : List Shelf). slice_get xs j) f.shelves)
 
 tried_other : (k j : ℕ) (s : Option Shelf) (u : View) (f : Bool) (b : ℕ) (u' : View) → TriedShelf k s u f b u' → j ≢ k → shelf_of u' j ≡ shelf_of u j
@@ -73,6 +85,8 @@ busy_at l k count (Shelf.Closing v) is a b f = f v is
 
 pub full_so : (current current_shelf : ℕ) (shelves : List Shelf) (u u' : View) (found : Collected) → OfLoader u (λ l. Rests current current_shelf shelves l) → ¬ (HasFree u) → TriesBelow 8 u found.freed found.busy u' → ¬ (HasFree u') → AreFull u found.busy
 full_so current current_shelf shelves (View.Working v) u' found rest none t none' = absurd rest
+full_so current current_shelf shelves (View.Noting x') u' found rest none t none' = absurd rest
+full_so current current_shelf shelves View.Spent u' found rest none t none' = absurd rest
 full_so current current_shelf shelves (View.Loading l) u' found rest none t none' =
     let told : (j : ℕ) → j < 8 → (shelf_of u' j ≡ shelf_of (View.Loading l) j) × ((v : ℕ) → shelf_of (View.Loading l) j ≡ Some (Shelf.Closing v) → 0 < get_or found.busy j 0) × ((v : ℕ) → shelf_of (View.Loading l) j ≡ Some (Shelf.Open v) → get_or found.busy j 0 ≡ 0) =
     λ j less. elim (tried_all 8 (View.Loading l) found.freed found.busy u' t j less) [ inl a ↦ absurd (none' (j, a)) | inr b ↦ b ] in
@@ -89,10 +103,14 @@ full_so current current_shelf shelves (View.Loading l) u' found rest none t none
 
 pub unspent : (current current_shelf : ℕ) (shelves : List Shelf) (u : View) → OfLoader u (λ l. Rests current current_shelf shelves l) → current < 1000000000 → IsUnspent u
 unspent current current_shelf shelves (View.Working v) rest less = absurd rest
+unspent current current_shelf shelves (View.Noting x') rest less = absurd rest
+unspent current current_shelf shelves View.Spent rest less = absurd rest
 unspent current current_shelf shelves (View.Loading l) rest less = let e = rest.current_is in omega arith
 
 busy_but_one : (u : View) (counts : List ℕ) → AreFull u counts → AreBusyButOne counts
 busy_but_one (View.Working v) counts full = absurd full
+busy_but_one (View.Noting x') counts full = absurd full
+busy_but_one View.Spent counts full = absurd full
 busy_but_one (View.Loading l) counts full = (l.current_shelf, full.0, full.1, full.2)
 
 -- what is noted of a refusal

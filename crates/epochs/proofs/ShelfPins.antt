@@ -21,12 +21,20 @@ use Rattle.epochs.specs.ShelfSeats.{ShelfSeatValue, SeatsHanded, new_seat, seen_
 
 late_seen : (u u' : View) (n : ℕ) → Late u n u' → (seen_of u ≤ n) × (seen_of u' ≡ n)
 late_seen (View.Loading l) u' n h = absurd h
+late_seen (View.Noting x') u' n h = absurd h
+late_seen View.Spent u' n h = absurd h
 late_seen (View.Working a) (View.Loading l) n h = absurd h
+late_seen (View.Working a) (View.Noting x') n h = absurd h
+late_seen (View.Working a) View.Spent n h = absurd h
 late_seen (View.Working a) (View.Working b) n h = (h.look.from, h.seen)
 
 well_seen : (u u' : View) (n shelf : ℕ) (e : Edition) → Well u n shelf e u' → (seen_of u ≤ n) × (seen_of u' ≡ n)
 well_seen (View.Loading l) u' n shelf e h = absurd h
+well_seen (View.Noting x') u' n shelf e h = absurd h
+well_seen View.Spent u' n shelf e h = absurd h
 well_seen (View.Working a) (View.Loading l) n shelf e h = absurd h
+well_seen (View.Working a) (View.Noting x') n shelf e h = absurd h
+well_seen (View.Working a) View.Spent n shelf e h = absurd h
 well_seen (View.Working a) (View.Working b) n shelf e h = (h.look.from, h.seen)
 
 lates_seen : (ns : List ℕ) (u u' : View) → Lates u ns u' → seen_of u ≤ seen_of u'
@@ -49,7 +57,11 @@ moves_seen u u' n h =
 
 pub releases_seen : (u u' : View) → Releases u u' → seen_of u' ≡ seen_of u
 releases_seen (View.Loading l) u' h = absurd h
+releases_seen (View.Noting x') u' h = absurd h
+releases_seen View.Spent u' h = absurd h
 releases_seen (View.Working a) (View.Loading l) h = absurd h
+releases_seen (View.Working a) (View.Noting x') h = absurd h
+releases_seen (View.Working a) View.Spent h = absurd h
 releases_seen (View.Working a) (View.Working b) h = h.seen
 
 well_holds : (u : View) (m : Mine) (number n shelf : ℕ) (e : Edition) → Well u n shelf e m.0 → IsHoldingAs number shelf e m → e.version ≡ n → HoldsInHistory number (Some (e.version, arc_value e.image))
@@ -57,7 +69,11 @@ well_holds u m number n shelf e h is same = of_view u m.0 h is.0
   where
     of_view : (u u' : View) → Well u n shelf e u' → OfWorker u' (λ a. (a.now ≡ Worker.Holding shelf e.version) × (a.number ≡ number) × (a.edition ≡ Some e)) → HoldsInHistory number (Some (e.version, arc_value e.image))
     of_view (View.Loading l) u' h is = absurd h
+    of_view (View.Noting x') u' h is = absurd h
+    of_view View.Spent u' h is = absurd h
     of_view (View.Working a) (View.Loading l) h is = absurd h
+    of_view (View.Working a) (View.Noting x') h is = absurd h
+    of_view (View.Working a) View.Spent h is = absurd h
     of_view (View.Working a) (View.Working b) h is =
         let s = h.shows.0 in let goes = h.shows.1 in let shows = h.shows.2 in
         let its = h.its in

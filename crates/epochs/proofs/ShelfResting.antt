@@ -49,7 +49,11 @@ rests_loaded a b current current_shelf shelves image shelf version rest free nex
 pub rests_after : (current current_shelf : ℕ) (shelves : List Shelf) (image : ImageValue) (shelf version : ℕ) (u u' : View) → OfLoader u (λ l. Rests current current_shelf shelves l) → shelf_of u shelf ≡ Some Shelf.Free
     → version ≡ current + 1 → version ≤ 1000000000 → Loads shelf version current_shelf image u u' → OfLoader u' (λ l. Rests version shelf (set (set shelves shelf (Shelf.Open version)) current_shelf (Shelf.Closing current)) l)
 rests_after current current_shelf shelves image shelf version (View.Working v) u' rest free next few loaded = absurd rest
+rests_after current current_shelf shelves image shelf version (View.Noting x') u' rest free next few loaded = absurd rest
+rests_after current current_shelf shelves image shelf version View.Spent u' rest free next few loaded = absurd rest
 rests_after current current_shelf shelves image shelf version (View.Loading a) (View.Working v) rest free next few loaded = absurd loaded
+rests_after current current_shelf shelves image shelf version (View.Loading a) (View.Noting x') rest free next few loaded = absurd loaded
+rests_after current current_shelf shelves image shelf version (View.Loading a) View.Spent rest free next few loaded = absurd loaded
 rests_after current current_shelf shelves image shelf version (View.Loading a) (View.Loading b) rest free next few loaded = rests_loaded a b current current_shelf shelves image shelf version rest free next few loaded
 
 -- what was found below k stays found

@@ -1,9 +1,10 @@
 -- Seats at one table. A seat that was handed out with the table, and is used there alone, fits for good, and holds what was published.
-use Rattle.std.specs.Prelude.{◌≡◌, ◌≢◌, ℕ, ◌<◌, List, Some}
+use Rattle.std.specs.Prelude.{◌≡◌, ◌≢◌, ℕ, zero, suc, ◌<◌, ◌≤◌, ◌⊎◌, List, Some, Result, Ok, Err}
 use Rattle.image_layout.specs.Image.{ImageValue}
 use Rattle.version_core.specs.State.{start}
 use Rattle.epochs.specs.declared.collected.Collected.{Collected}
-use Rattle.epochs.specs.Seats.{WorkerSeatValue, idle_seat}
+use Rattle.epochs.specs.declared.faults.PinFault.{PinFault}
+use Rattle.epochs.specs.Seats.{SeatValue, WorkerSeatValue, PinStep, ReleaseStep, JoinStep, idle_seat}
 use Rattle.epochs.specs.History.{TableValue, image_of}
 use Rattle.epochs.specs.Pins.{SeatFits, Pins, Releases}
 use Rattle.epochs.specs.Publishing.{Publishes, Collects}
@@ -45,3 +46,23 @@ PublishesKeepPublished = (a b : TableValue) (seat : WorkerSeatValue) (image : Im
 
 abbrev pub CollectsKeepPublished : Type 0
 CollectsKeepPublished = (a b : TableValue) (seat : WorkerSeatValue) (found : Collected) → Collects a found b → HoldsPublished a.images seat → HoldsPublished b.images seat
+
+-- what a seat may do: a pin, a release, and to take in a notice
+abbrev pub SeatStep : SeatValue → SeatValue → Type 0
+SeatStep a b = ((r : Result (Unit {0}) PinFault) × PinStep a r b) ⊎ (((r : Result (Unit {0}) PinFault) × ReleaseStep a r b) ⊎ ((version : ℕ) × JoinStep a version b))
+
+-- so many of these, one after another
+abbrev pub SeatSteps : ℕ → SeatValue → SeatValue → Type 0
+SeatSteps zero a b = b ≡ a
+SeatSteps (suc n) a b = (mid : SeatValue) × SeatStep a mid × SeatSteps n mid b
+
+-- a pin gave the version or a newer one; or it moved, with a newer one
+abbrev pub GivesFrom : ℕ → Result (Unit {0}) PinFault → SeatValue → Type 0
+GivesFrom v (Ok u) b = (version : ℕ) × (image : ImageValue) × (b.held ≡ Some (version, image)) × (v ≤ version)
+GivesFrom v (Err (PinFault.Moved newest)) b = v < newest
+GivesFrom v (Err _) b = Unit {0}
+
+-- once a notice of a version was taken in, so does each pin of the seat, whatever it did between
+abbrev pub JoinedVersionsStay : Type 0
+JoinedVersionsStay =
+    (a b c d : SeatValue) (v n : ℕ) (r : Result (Unit {0}) PinFault) → JoinStep a v b → SeatSteps n b c → PinStep c r d → GivesFrom v r d

@@ -1,5 +1,5 @@
 -- What a seat shows, and what it may be answered.
-use Rattle.std.specs.Prelude.{◌≡◌, ◌≢◌, ℕ, zero, suc, ◌+◌, ◌<◌, ◌≤◌, true, slice_get, slice_index, List, [], ◌∷◌, ◌++◌, Option, Some, None, Result, Ok, Err}
+use Rattle.std.specs.Prelude.{◌≡◌, ◌≢◌, ℕ, zero, suc, ◌+◌, ◌<◌, ◌≤◌, max, true, slice_get, slice_index, List, [], ◌∷◌, ◌++◌, Option, Some, None, Result, Ok, Err}
 use Rattle.std.specs.declared.snapshot.Snapshot.{Snapshot}
 use Rattle.std.specs.Arc.{arc_value}
 use Rattle.image_layout.specs.Image.{ImageValue}
@@ -42,6 +42,10 @@ ReleaseStep a (Ok u) b = (a.held ≢ None) × (b ≡ emptied a Answer.Released)
 ReleaseStep a (Err PinFault.NotPinned) b = (a.held ≡ None) × (b ≡ told a (Answer.ReleaseRefused PinFault.NotPinned))
 ReleaseStep a (Err PinFault.SeatLost) b = (a.held ≢ None) × (b ≡ emptied a (Answer.ReleaseRefused PinFault.SeatLost))
 ReleaseStep a (Err _) b = ⊥
+
+-- and by a notice of this version that is taken in: the seat has seen the greater of the two versions, and nothing else changes
+abbrev pub JoinStep : SeatValue → ℕ → SeatValue → Type 0
+JoinStep a version b = b ≡ record a { seen = max a.seen version }
 
 -- a loader's seat shows its answers so far. From one list to the next, by a publish of this image as this version
 abbrev pub PublishStep : List LoaderAnswer → ImageValue → ℕ → List LoaderAnswer → Type 0

@@ -42,7 +42,7 @@ TriedShelf k _ u freed busy u' = (freed ≡ false) × (busy ≡ 0) × (u' ≡ u)
 
 abbrev pub shelf_of : View → ℕ → Option Shelf
 shelf_of (View.Loading l) k = slice_get l.shelves k
-shelf_of (View.Working v) k = None
+shelf_of _ k = None
 
 -- a try at each closing shelf below n, one after another
 abbrev pub TriesBelow : ℕ → View → List Bool → List ℕ → View → Type 0

@@ -5,7 +5,7 @@ use Rattle.atomic_table.specs.Seated.{TableId}
 use Rattle.image_layout.specs.Image.{ImageValue}
 use Rattle.shelf_steps.specs.declared.edition.Edition.{Edition}
 use Rattle.shelf_steps.specs.declared.views.View.{View}
-use Rattle.shelf_steps.specs.Plays.{Mine, newcomer}
+use Rattle.shelf_steps.specs.Plays.{Mine, newcomer, joins_notice}
 use Rattle.shelf_steps.specs.Pinning.{Pins, Moves, Releases, IsIdleAs, IsHoldingAs}
 use Rattle.epochs.specs.declared.faults.PinFault.{PinFault}
 use Rattle.epochs.specs.Seats.{SeatValue}
@@ -19,8 +19,8 @@ pub record ShelfSeatValue : Type 0 where
 
 -- the greatest version that a worker has seen
 abbrev pub seen_of : View → ℕ
-seen_of (View.Loading l) = 0
 seen_of (View.Working v) = v.seen
+seen_of _ = 0
 
 abbrev pub held_at : Option (ℕ × Edition) → Option (ℕ × ImageValue)
 held_at None = None
@@ -43,6 +43,15 @@ abbrev pub ReleasesBySteps : ShelfSeatValue → Result (Unit {0}) PinFault → S
 ReleasesBySteps a (Ok u) b = (a.shown.held ≢ None) × Releases a.view b.view × (b.shown.held ≡ None)
 ReleasesBySteps a (Err PinFault.NotPinned) b = (a.shown.held ≡ None) × (b.view ≡ a.view) × (b.shown.held ≡ None)
 ReleasesBySteps a (Err _) b = ⊥
+
+-- the shelves that a notice is of, and its version
+pub record NoticeValue : Type 0 where
+  pub table : TableId
+  pub version : ℕ
+
+-- one join, by which what is held stays
+abbrev pub JoinsByStep : ShelfSeatValue → ℕ → ShelfSeatValue → Type 0
+JoinsByStep a version b = (b.view ≡ joins_notice a.view (View.Noting version)) × (b.shown.held ≡ a.shown.held)
 
 -- the seat of a worker that has done nothing
 abbrev pub new_seat : TableId → ℕ → ShelfSeatValue

@@ -2,6 +2,7 @@
 
 ghost use Rattle.epochs.specs.SeatLaws.{NewSeatsFit, PinsLeaveOthers, ReleasesLeaveOthers, PublishesLeaveSeats, CollectsLeaveSeats};
 ghost use Rattle.epochs.specs.SeatLaws.{PinsHoldPublished, PinsKeepPublished, ReleasesKeepPublished, PublishesKeepPublished, CollectsKeepPublished};
+ghost use Rattle.epochs.specs.SeatLaws.{JoinedVersionsStay};
 
 /// A new seat fits a new table, and what others do leaves it so. After its own pins and releases it fits by their contracts.
 /// So a seat that is used at the table that it was handed out with, and nowhere else, is never lost.
@@ -20,4 +21,10 @@ pub fn held_images_stay_published()
     ensures releases { ReleasesKeepPublished }
     ensures publishes { PublishesKeepPublished }
     ensures collects { CollectsKeepPublished }
+{}
+
+/// Once a seat has taken in a notice of a version, each of its pins that isn't refused since it holds one already gives that
+/// version or a newer one, or tells that it moved, with a newer one.
+pub fn joined_versions_stay()
+    ensures { JoinedVersionsStay }
 {}

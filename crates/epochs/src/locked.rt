@@ -1,6 +1,6 @@
 //! Shelves under one lock.
 
-ghost use Rattle.std.specs.Prelude.{◌≡◌, [], Ok, Err, IfOk, IfErr, OnOk, MatchResult};
+ghost use Rattle.std.specs.Prelude.{◌≡◌, [], Ok, Err, None, Some, IfOk, IfErr, OnOk, MatchOption, MatchResult};
 ghost use Rattle.std.specs.Arc.{arc_value};
 ghost use Rattle.epochs.specs.Seats.{PinStep, ReleaseStep, PublishStep, RefuseStep, CollectStep, idle_seats};
 ghost use Rattle.epochs.specs.Pins.{HoldsInHistory};
@@ -12,7 +12,6 @@ use crate::collected::Collected;
 use crate::faults::{PinFault, PublishFault};
 use crate::seats::{LoaderSeat, WorkerSeat};
 use crate::table::VersionTable;
-use crate::versions::{Loads, Versions};
 use image_verifier::Verified;
 use shelf_steps::Edition;
 use std::alloc::{AllocError, Global};
@@ -89,18 +88,10 @@ fn sixteen_seats(alloc: Global) -> Result<Vec<WorkerSeat>, AllocError>
     Ok(seats)
 }
 
-impl Versions for LockedShelves {
-    type Seat = WorkerSeat;
-
-    ghost fits = { λ shelves seat. Unit {0} };
-
-    ghost value = { λ seat. seat.shown };
-
-    ghost number = { λ seat. seat.number };
-
+impl LockedShelves {
     /// Pins the current version: 92 exactly where the seat holds one, 97 exactly where the table knows its worker otherwise,
     /// 98 where the image couldn't be shared. Never 91.
-    fn pin<R: Wait>(&self, rt: &R, seat: &mut WorkerSeat) -> Result<(), PinFault>
+    pub fn pin<R: Wait>(&self, rt: &R, seat: &mut WorkerSeat) -> Result<(), PinFault>
         ensures number { seat.new.number ≡ seat.old.number }
         ensures pin { PinStep seat.old.shown result seat.new.shown }
         ensures known { OnOk result (HoldsInHistory seat.new.number seat.new.shown.held) }
@@ -113,13 +104,16 @@ impl Versions for LockedShelves {
         answer
     }
 
-    fn edition(seat: &WorkerSeat) -> Option<&Edition> {
+    /// The version that the seat holds, with its image.
+    pub fn edition(seat: &WorkerSeat) -> Option<&Edition>
+        ensures { MatchOption result (seat.now.shown.held ≡ None) (λ e. seat.now.shown.held ≡ Some (e.now.version, arc_value e.now.image)) }
+    {
         seat.edition()
     }
 
     /// Gives back what the seat holds: 93 exactly where it holds nothing, 97 exactly where the table knows its worker
     /// otherwise. Then the seat alone is emptied.
-    fn release<R: Wait>(&self, rt: &R, seat: &mut WorkerSeat) -> Result<(), PinFault>
+    pub fn release<R: Wait>(&self, rt: &R, seat: &mut WorkerSeat) -> Result<(), PinFault>
         ensures number { seat.new.number ≡ seat.old.number }
         ensures release { ReleaseStep seat.old.shown result seat.new.shown }
         ensures table { UnderLock (λ a b. ReleasesAt a seat.old result b seat.new) }
@@ -130,16 +124,9 @@ impl Versions for LockedShelves {
         table.history();
         answer
     }
-}
 
-impl Loads for LockedShelves {
-    type Loader = LoaderSeat;
-
-    ghost loads = { λ shelves loader. Unit {0} };
-
-    ghost answers = { λ loader. loader };
-
-    fn publish<R: Wait>(
+    /// Publishes the image as the next version. A refusal gives it back.
+    pub fn publish<R: Wait>(
         &self,
         rt: &R,
         loader: &mut LoaderSeat,
@@ -153,7 +140,8 @@ impl Loads for LockedShelves {
         publish_at(&mut table, loader, image)
     }
 
-    fn collect<R: Wait>(&self, rt: &R, loader: &mut LoaderSeat) -> Collected
+    /// Tries each closing shelf: it is freed, if no worker is there.
+    pub fn collect<R: Wait>(&self, rt: &R, loader: &mut LoaderSeat) -> Collected
         ensures loader { CollectStep loader.old result loader.new }
         ensures table { UnderLock (λ a b. Collects a result b) }
     {

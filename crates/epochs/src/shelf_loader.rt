@@ -13,9 +13,10 @@ ghost use Rattle.epochs.specs.declared.faults.PublishFault.{PublishFault};
 
 use crate::collected::Collected;
 use crate::faults::PublishFault;
+use crate::notice::Notice;
 use crate::seats::LoaderAnswer;
 use image_verifier::Verified;
-use shelf_steps::{Place, ShelfTable, load, try_shelf};
+use shelf_steps::{Place, ShelfTable, load, note, try_shelf};
 use std::alloc::{AllocError, Global};
 use std::marker::Model;
 use std::snapshot::Snapshot;
@@ -78,6 +79,17 @@ impl ShelfLoader {
         ensures { self.new ≡ record self.old { answers = self.old.answers ++ answer ∷ [] } }
     {
         self.answers.note(&answer);
+    }
+
+    // A notice of the current version.
+    pub(crate) fn note_at(&mut self, table: &ShelfTable) -> Notice
+        requires { self.old.table ≡ table.now }
+        ensures same { self.new ≡ self.old }
+        ensures notice { (result.table ≡ self.old.table) × (result.version ≡ self.old.current) }
+    {
+        let _ = &self.current;
+        let place = note(table, &mut self.place);
+        Notice::of(place, self.current)
     }
 
     // Publishes, or says why not; and notes it.

@@ -5,12 +5,13 @@ ghost use Rattle.std.specs.Arc.{arc_value};
 ghost use Rattle.shelf_steps.specs.Plays.{newcomer};
 ghost use Rattle.shelf_steps.specs.declared.views.View.{View};
 ghost use Rattle.epochs.specs.Pins.{HoldsInHistory};
-ghost use Rattle.epochs.specs.Seats.{PinStep, ReleaseStep};
-ghost use Rattle.epochs.specs.ShelfSeats.{PinsBySteps, ReleasesBySteps, new_seat};
+ghost use Rattle.epochs.specs.Seats.{PinStep, ReleaseStep, JoinStep};
+ghost use Rattle.epochs.specs.ShelfSeats.{PinsBySteps, ReleasesBySteps, JoinsByStep, new_seat};
 
 use crate::faults::PinFault;
+use crate::notice::Notice;
 use crate::seats::Answer;
-use shelf_steps::{Edition, Place, ShelfTable, pin, release};
+use shelf_steps::{Edition, Place, ShelfTable, join, pin, release};
 use std::marker::Model;
 use std::snapshot::Snapshot;
 use timetable::Trace;
@@ -114,5 +115,16 @@ impl ShelfSeat {
                 Err(PinFault::NotPinned)
             }
         }
+    }
+
+    // Takes in a notice: the seat has seen its version.
+    pub(crate) fn join_at(&mut self, shelves: &ShelfTable, notice: Notice)
+        requires { (self.old.table ≡ shelves.now) × (notice.table ≡ shelves.now) }
+        ensures table { (self.new.table ≡ self.old.table) × (self.new.number ≡ self.old.number) }
+        ensures join { JoinStep self.old.shown notice.version self.new.shown }
+        ensures step { JoinsByStep self.old notice.version self.new }
+    {
+        let _ = &self.number;
+        join(shelves, &mut self.place, notice.into_place());
     }
 }

@@ -57,7 +57,7 @@ fn publish(
     ensures { loader.new.table ≡ loader.old.table }
 {
     match shelves.publish(loader, image(alloc, base)?) {
-        Ok(version) => Ok(Ok(version)),
+        Ok((version, _)) => Ok(Ok(version)),
         Err((image, fault)) => Ok(Err((image.base(), fault))),
     }
 }
@@ -345,5 +345,45 @@ fn two_workers_beside_a_loader(rt: HostRuntime) -> Result<(), Fail> {
     let found = collect(&shelves, &mut loader);
     assert_eq!(&rt; found.busy, [0; 8]);
     assert_eq!(&rt; shelves.word(0) / 8, 51);
+    Ok(())
+}
+
+/// Publishes the image of a second, and gives the notice of its version.
+fn publish_noted(
+    shelves: &Shelves,
+    loader: &mut ShelfLoader,
+    alloc: Global,
+    base: u32,
+) -> Result<Notice, Fail>
+    requires { loader.old.table ≡ shelves.now }
+    ensures loader { loader.new.table ≡ loader.old.table }
+    ensures notice { IfOk result (λ notice. notice.table ≡ shelves.now) }
+{
+    match shelves.publish(loader, image(alloc, base)?) {
+        Ok((_, Some(notice))) => Ok(notice),
+        Ok((_, None)) => Err("no notice".into()),
+        Err(_) => Err("refused".into()),
+    }
+}
+
+/// Two seats take in a notice each, one while it holds an older version, and a third notice is dropped. Each notice is overtaken
+/// by later publishes.
+#[test]
+fn notices_that_are_overtaken(rt: HostRuntime) -> Result<(), Fail> {
+    let alloc: Global = rt.alloc();
+    let (shelves, mut loader, mut seats) = new_shelves(alloc)?;
+    let mut first = next_seat(&shelves, &mut seats)?;
+    let mut second = next_seat(&shelves, &mut seats)?;
+    assert_eq!(&rt; pin(&shelves, &mut second), Ok(Some((1, 1))));
+    let noted = publish_noted(&shelves, &mut loader, alloc, 2)?;
+    let later = publish_noted(&shelves, &mut loader, alloc, 3)?;
+    drop(publish_noted(&shelves, &mut loader, alloc, 4)?);
+    assert_eq!(&rt; (noted.version(), later.version()), (2, 3));
+    shelves.join(&mut first, noted);
+    shelves.join(&mut second, later);
+    assert_eq!(&rt; held(&second), Some((1, 1)));
+    assert_eq!(&rt; pin(&shelves, &mut first), Ok(Some((4, 4))));
+    assert_eq!(&rt; release(&shelves, &mut second), Ok(()));
+    assert_eq!(&rt; pin(&shelves, &mut second), Ok(Some((4, 4))));
     Ok(())
 }

@@ -1,27 +1,27 @@
 //! Shelves without a lock.
 
-ghost use Rattle.std.specs.Prelude.{◌≡◌, ◌<◌, [], OnOk, IfOk, IfErr, MatchResult};
+ghost use Rattle.std.specs.Prelude.{◌≡◌, ◌<◌, [], Some, OnOk, IfOk, IfErr, MatchResult};
 ghost use Rattle.std.specs.List.{All};
 ghost use Rattle.std.specs.Arc.{arc_value};
 ghost use Rattle.shelf_steps.specs.Handed.{handed};
 ghost use Rattle.shelf_steps.specs.declared.views.View.{View};
 ghost use Rattle.epochs.specs.Pins.{HoldsInHistory};
-ghost use Rattle.epochs.specs.Seats.{PinStep, ReleaseStep, PublishStep, RefuseStep, CollectStep};
-ghost use Rattle.epochs.specs.ShelfSeats.{PinsBySteps, ReleasesBySteps, SeatsHanded};
+ghost use Rattle.epochs.specs.Seats.{PinStep, ReleaseStep, JoinStep, PublishStep, RefuseStep, CollectStep};
+ghost use Rattle.epochs.specs.ShelfSeats.{PinsBySteps, ReleasesBySteps, JoinsByStep, SeatsHanded};
 ghost use Rattle.epochs.specs.ShelfLoads.{CollectsBySteps, MakesRoomBySteps, PublishesBySteps, RefusesBySteps};
 ghost use Rattle.epochs.specs.declared.faults.PublishFault.{PublishFault};
 
 use crate::collected::Collected;
 use crate::faults::{PinFault, PublishFault};
+use crate::notice::Notice;
 use crate::shelf_loader::ShelfLoader;
 use crate::shelf_seats::ShelfSeat;
-use crate::versions::{Loads, Versions};
 use image_verifier::Verified;
+use shelf_steps::ShelfTable;
 use shelf_steps::laws::{new_shelves, new_worker};
-use shelf_steps::{Edition, ShelfTable};
 use std::alloc::{AllocError, Global};
 use std::marker::Model;
-use std::sync::{Arc, Wait};
+use std::sync::Arc;
 
 /// Shelves without a lock: pins, releases and collections of any number of threads go through a `&`, wait for nobody and take
 /// no memory. Contracts see which table they are, so that a seat of other shelves can't be used here.
@@ -86,22 +86,40 @@ impl Shelves {
         seat.release_at(&self.table)
     }
 
-    /// The image becomes the next version, which is current, on the least free shelf; the shelf that was current is closing.
+    /// The image becomes the next version, which is current, on the least free shelf; the shelf that was current is closing. A
+    /// notice of the version always comes with it.
     /// Where no shelf is free, each closing one is tried first. A refusal gives the image back and leaves the current version:
     /// 95 at the last version; else 94 where each closing shelf was found in use; else 96 before a shelf was opened.
     pub fn publish(
         &self,
         loader: &mut ShelfLoader,
         image: Arc<Verified, Global>,
-    ) -> Result<u64, (Arc<Verified, Global>, PublishFault)>
+    ) -> Result<(u64, Option<Notice>), (Arc<Verified, Global>, PublishFault)>
         requires { loader.old.table ≡ self.now }
         ensures table { loader.new.table ≡ loader.old.table }
         ensures back { IfErr result (λ e. e.0 ≡ image) }
-        ensures current { MatchResult result (λ v. loader.new.current ≡ v) (λ _. loader.new.current ≡ loader.old.current) }
-        ensures loader { MatchResult result (λ v. PublishStep loader.old.answers (arc_value image) v loader.new.answers) (λ e. RefuseStep loader.old.answers e.1 loader.new.answers) }
-        ensures steps { MatchResult result (λ v. (room : View) × MakesRoomBySteps loader.old.view room × PublishesBySteps room (arc_value image) v loader.new.view) (λ e. RefusesBySteps loader.old.view e.1 loader.new.view) }
+        ensures current { MatchResult result (λ r. loader.new.current ≡ r.0) (λ _. loader.new.current ≡ loader.old.current) }
+        ensures loader { MatchResult result (λ r. PublishStep loader.old.answers (arc_value image) r.0 loader.new.answers) (λ e. RefuseStep loader.old.answers e.1 loader.new.answers) }
+        ensures steps { MatchResult result (λ r. (room : View) × MakesRoomBySteps loader.old.view room × PublishesBySteps room (arc_value image) r.0 loader.new.view) (λ e. RefusesBySteps loader.old.view e.1 loader.new.view) }
+        ensures notice { IfOk result (λ r. r.1 ≡ Some (record { table = self.now; version = r.0 })) }
     {
-        loader.publish_at(&self.table, self.alloc, image)
+        match loader.publish_at(&self.table, self.alloc, image) {
+            Ok(version) => {
+                let notice = loader.note_at(&self.table);
+                Ok((version, Some(notice)))
+            }
+            Err(refused) => Err(refused),
+        }
+    }
+
+    /// The seat has seen the notice's version from now on. It takes no memory and waits for nobody.
+    pub fn join(&self, seat: &mut ShelfSeat, notice: Notice)
+        requires { (seat.old.table ≡ self.now) × (notice.table ≡ self.now) }
+        ensures table { (seat.new.table ≡ seat.old.table) × (seat.new.number ≡ seat.old.number) }
+        ensures join { JoinStep seat.old.shown notice.version seat.new.shown }
+        ensures step { JoinsByStep seat.old notice.version seat.new }
+    {
+        seat.join_at(&self.table, notice);
     }
 
     /// Tries each closing shelf: it is free where its count was found to be 0, and else `busy` has the count that was found.
@@ -130,76 +148,4 @@ fn open(
         seats.push(ShelfSeat::idle(worker, number))?;
     }
     Ok((table, ShelfLoader::first(place), seats))
-}
-
-impl Versions for Shelves {
-    type Seat = ShelfSeat;
-
-    ghost use Rattle.std.specs.Prelude.{◌≡◌};
-
-    ghost fits = { λ shelves seat. seat.table ≡ shelves };
-
-    ghost value = { λ seat. seat.shown };
-
-    ghost number = { λ seat. seat.number };
-
-    fn pin<R: Wait>(&self, _rt: &R, seat: &mut ShelfSeat) -> Result<(), PinFault>
-        requires { seat.old.table ≡ self.now }
-        ensures fits { seat.new.table ≡ self.now }
-        ensures number { seat.new.number ≡ seat.old.number }
-        ensures pin { PinStep seat.old.shown result seat.new.shown }
-        ensures known { OnOk result (HoldsInHistory seat.new.number seat.new.shown.held) }
-        ensures steps { PinsBySteps seat.old result seat.new }
-    {
-        Shelves::pin(self, seat)
-    }
-
-    fn edition(seat: &ShelfSeat) -> Option<&Edition> {
-        seat.edition()
-    }
-
-    fn release<R: Wait>(&self, _rt: &R, seat: &mut ShelfSeat) -> Result<(), PinFault>
-        requires { seat.old.table ≡ self.now }
-        ensures fits { seat.new.table ≡ self.now }
-        ensures number { seat.new.number ≡ seat.old.number }
-        ensures release { ReleaseStep seat.old.shown result seat.new.shown }
-        ensures steps { ReleasesBySteps seat.old result seat.new }
-    {
-        Shelves::release(self, seat)
-    }
-}
-
-impl Loads for Shelves {
-    type Loader = ShelfLoader;
-
-    ghost use Rattle.std.specs.Prelude.{◌≡◌};
-
-    ghost loads = { λ shelves loader. loader.table ≡ shelves };
-
-    ghost answers = { λ loader. loader.answers };
-
-    fn publish<R: Wait>(
-        &self,
-        _rt: &R,
-        loader: &mut ShelfLoader,
-        image: Arc<Verified, Global>,
-    ) -> Result<u64, (Arc<Verified, Global>, PublishFault)>
-        requires { loader.old.table ≡ self.now }
-        ensures loads { loader.new.table ≡ self.now }
-        ensures back { IfErr result (λ e. e.0 ≡ image) }
-        ensures current { MatchResult result (λ v. loader.new.current ≡ v) (λ _. loader.new.current ≡ loader.old.current) }
-        ensures loader { MatchResult result (λ v. PublishStep loader.old.answers (arc_value image) v loader.new.answers) (λ e. RefuseStep loader.old.answers e.1 loader.new.answers) }
-        ensures steps { MatchResult result (λ v. (room : View) × MakesRoomBySteps loader.old.view room × PublishesBySteps room (arc_value image) v loader.new.view) (λ e. RefusesBySteps loader.old.view e.1 loader.new.view) }
-    {
-        Shelves::publish(self, loader, image)
-    }
-
-    fn collect<R: Wait>(&self, _rt: &R, loader: &mut ShelfLoader) -> Collected
-        requires { loader.old.table ≡ self.now }
-        ensures loads { (loader.new.table ≡ self.now) × (loader.new.current ≡ loader.old.current) }
-        ensures loader { CollectStep loader.old.answers result loader.new.answers }
-        ensures steps { CollectsBySteps loader.old.view result loader.new.view }
-    {
-        Shelves::collect(self, loader)
-    }
 }

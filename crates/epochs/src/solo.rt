@@ -1,54 +1,58 @@
 //! Shelves for one worker and one loader, as tests and single sessions use them.
 
-ghost use Rattle.std.specs.Prelude.{◌≡◌, [], Ok, Err, IfOk, IfErr, OnOk, MatchResult};
+ghost use Rattle.std.specs.Prelude.{◌≡◌, Some, IfOk, IfErr, OnOk, MatchResult};
 ghost use Rattle.std.specs.Arc.{arc_value};
-ghost use Rattle.epochs.specs.Seats.{PinStep, ReleaseStep, PublishStep, RefuseStep, CollectStep, idle_seat};
 ghost use Rattle.epochs.specs.Pins.{HoldsInHistory};
-ghost use Rattle.epochs.specs.Publishing.{Collects};
-ghost use Rattle.epochs.specs.Locked.{UnderLock, PinsAt, ReleasesAt, PublishesAt};
-ghost use Rattle.epochs.specs.declared.faults.PublishFault.{PublishFault};
+ghost use Rattle.epochs.specs.Seats.{PinStep, ReleaseStep, JoinStep, PublishStep, RefuseStep, CollectStep};
 
 use crate::collected::Collected;
 use crate::faults::{PinFault, PublishFault};
-use crate::locked::LockedShelves;
-use crate::seats::{LoaderSeat, WorkerSeat};
-use crate::table::VersionTable;
+use crate::named::{Named, NamedLoader, NamedNotice, NamedSeat, NamedShelves};
+use crate::shelf_loader::ShelfLoader;
+use crate::shelf_seats::ShelfSeat;
+use crate::shelves::Shelves;
 use crate::versions::{Loads, Versions};
 use image_verifier::Verified;
 use shelf_steps::Edition;
 use std::alloc::Global;
+use std::marker::Model;
 use std::sync::{Arc, Wait};
 
-/// `LockedShelves` with one worker's seat. Its calls are those of `LockedShelves`.
+/// `Shelves` with the loader's seat and one worker's. Its calls are those of `Shelves`.
 #[derive(Drop)]
-pub struct SoloShelves {
-    shelves: LockedShelves,
+pub struct SoloShelves<B: Named> {
+    shelves: NamedShelves<B>,
 }
 
-impl SoloShelves {
-    /// The image is version 1. A refusal gives it back.
-    pub fn new(
-        alloc: Global,
-        first: Arc<Verified, Global>,
-    ) -> Result<(SoloShelves, LoaderSeat, WorkerSeat), (Arc<Verified, Global>, PublishFault)>
-        ensures loader { IfOk result (λ made. made.1 ≡ []) }
-        ensures seat { IfOk result (λ made. made.2 ≡ idle_seat 0) }
-        ensures refused { IfErr result (λ e. (e.0 ≡ first) × (e.1 ≡ PublishFault.OutOfMemory)) }
+impl<B: Named> Model for SoloShelves<B> {
+    ghost use Rattle.atomic_table.specs.Seated.{TableId};
+
+    ghost Value = { TableId };
+
+    ghost view = { λ s. s.shelves };
+}
+
+impl<B: Named> SoloShelves<B> {
+    /// The shelves under their name, with the loader's seat and one worker's.
+    pub fn of(
+        shelves: Shelves,
+        loader: ShelfLoader,
+        seat: ShelfSeat,
+    ) -> (SoloShelves<B>, NamedLoader<B>, NamedSeat<B>)
+        requires { (shelves ≡ B.table) × (loader.table ≡ B.table) × (seat.table ≡ B.table) }
+        ensures { (result.0 ≡ shelves) × (result.1 ≡ loader) × (result.2 ≡ seat) }
     {
-        match VersionTable::new(alloc, first) {
-            Ok(table) => {
-                let shelves = SoloShelves {
-                    shelves: LockedShelves::of(table),
-                };
-                Ok((shelves, LoaderSeat::new(), WorkerSeat::idle(0)))
-            }
-            Err((first, _)) => Err((first, PublishFault::OutOfMemory)),
-        }
+        let solo = SoloShelves {
+            shelves: NamedShelves::of(shelves),
+        };
+        (solo, NamedLoader::of(loader), NamedSeat::of(seat))
     }
 }
 
-impl Versions for SoloShelves {
-    type Seat = WorkerSeat;
+impl<B: Named> Versions for SoloShelves<B> {
+    type Seat = NamedSeat<B>;
+
+    type Notice = NamedNotice<B>;
 
     ghost fits = { λ shelves seat. Unit {0} };
 
@@ -56,51 +60,61 @@ impl Versions for SoloShelves {
 
     ghost number = { λ seat. seat.number };
 
-    fn pin<R: Wait>(&self, rt: &R, seat: &mut WorkerSeat) -> Result<(), PinFault>
+    ghost noted = { λ notice. notice.version };
+
+    fn pin<R: Wait>(&self, rt: &R, seat: &mut NamedSeat<B>) -> Result<(), PinFault>
         ensures number { seat.new.number ≡ seat.old.number }
         ensures pin { PinStep seat.old.shown result seat.new.shown }
         ensures known { OnOk result (HoldsInHistory seat.new.number seat.new.shown.held) }
-        ensures table { UnderLock (λ a b. PinsAt a seat.old result b seat.new) }
     {
         self.shelves.pin(rt, seat)
     }
 
-    fn edition(seat: &WorkerSeat) -> Option<&Edition> {
-        seat.edition()
+    fn edition(seat: &NamedSeat<B>) -> Option<&Edition> {
+        <NamedShelves<B> as Versions>::edition(seat)
     }
 
-    fn release<R: Wait>(&self, rt: &R, seat: &mut WorkerSeat) -> Result<(), PinFault>
+    fn release<R: Wait>(&self, rt: &R, seat: &mut NamedSeat<B>) -> Result<(), PinFault>
         ensures number { seat.new.number ≡ seat.old.number }
         ensures release { ReleaseStep seat.old.shown result seat.new.shown }
-        ensures table { UnderLock (λ a b. ReleasesAt a seat.old result b seat.new) }
     {
         self.shelves.release(rt, seat)
     }
+
+    fn join<R: Wait>(&self, rt: &R, seat: &mut NamedSeat<B>, notice: NamedNotice<B>)
+        ensures number { seat.new.number ≡ seat.old.number }
+        ensures join { JoinStep seat.old.shown notice.version seat.new.shown }
+    {
+        self.shelves.join(rt, seat, notice);
+    }
+
+    fn version_of(notice: &NamedNotice<B>) -> u64 {
+        notice.version()
+    }
 }
 
-impl Loads for SoloShelves {
-    type Loader = LoaderSeat;
+impl<B: Named> Loads for SoloShelves<B> {
+    type Loader = NamedLoader<B>;
 
     ghost loads = { λ shelves loader. Unit {0} };
 
-    ghost answers = { λ loader. loader };
+    ghost answers = { λ loader. loader.answers };
 
     fn publish<R: Wait>(
         &self,
         rt: &R,
-        loader: &mut LoaderSeat,
+        loader: &mut NamedLoader<B>,
         image: Arc<Verified, Global>,
-    ) -> Result<u64, (Arc<Verified, Global>, PublishFault)>
+    ) -> Result<(u64, Option<NamedNotice<B>>), (Arc<Verified, Global>, PublishFault)>
         ensures back { IfErr result (λ e. e.0 ≡ image) }
-        ensures loader { MatchResult result (λ v. PublishStep loader.old (arc_value image) v loader.new) (λ e. RefuseStep loader.old e.1 loader.new) }
-        ensures table { MatchResult result (λ v. UnderLock (λ a b. PublishesAt a (arc_value image) (Ok v) b)) (λ e. UnderLock (λ a b. PublishesAt a (arc_value image) (Err e.1) b)) }
+        ensures loader { MatchResult result (λ r. PublishStep loader.old.answers (arc_value image) r.0 loader.new.answers) (λ e. RefuseStep loader.old.answers e.1 loader.new.answers) }
+        ensures notice { IfOk result (λ r. r.1 ≡ Some (record { table = self.now; version = r.0 })) }
     {
         self.shelves.publish(rt, loader, image)
     }
 
-    fn collect<R: Wait>(&self, rt: &R, loader: &mut LoaderSeat) -> Collected
-        ensures loader { CollectStep loader.old result loader.new }
-        ensures table { UnderLock (λ a b. Collects a result b) }
+    fn collect<R: Wait>(&self, rt: &R, loader: &mut NamedLoader<B>) -> Collected
+        ensures loader { CollectStep loader.old.answers result loader.new.answers }
     {
         self.shelves.collect(rt, loader)
     }

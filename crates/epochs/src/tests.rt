@@ -1,7 +1,10 @@
+ghost use Rattle.std.specs.Prelude.{◌≡◌};
+
 use super::*;
 use image_layout::sample_words;
 use image_verifier::{Verified, verify};
 use std::alloc::{AllocError, Global};
+use std::marker::Brand;
 use std::process::Abort;
 use std::sync::{Arc, Wait};
 use std::test::*;
@@ -56,7 +59,22 @@ fn publish<R: Wait>(
 }
 
 /// Pins, reads the version, and releases.
-fn current_version<T: Versions, R: Wait>(
+fn current_version<R: Wait>(
+    rt: &R,
+    shelves: &LockedShelves,
+    seat: &mut WorkerSeat,
+) -> Result<u64, PinFault> {
+    shelves.pin(rt, seat)?;
+    let version = match seat.edition() {
+        Some(edition) => edition.version,
+        None => return Err(PinFault::NotPinned),
+    };
+    shelves.release(rt, seat)?;
+    Ok(version)
+}
+
+/// The same of any shelves.
+fn version_at<T: Versions, R: Wait>(
     rt: &R,
     shelves: &T,
     seat: &mut T::Seat,
@@ -73,21 +91,20 @@ fn current_version<T: Versions, R: Wait>(
     Ok(version)
 }
 
-/// Publishes, collects, and tells the version and which shelves were freed.
+/// Publishes, collects, and tells the version, the notice and which shelves were freed.
 fn load<T: Loads, R: Wait>(
     rt: &R,
     shelves: &T,
     loader: &mut T::Loader,
     image: Arc<Verified, Global>,
-) -> Option<(u64, [bool; 8])>
+) -> Option<(u64, Option<T::Notice>, [bool; 8])>
     requires { T.loads shelves.now loader.old }
     ensures { T.loads shelves.now loader.new }
 {
     match shelves.publish(rt, loader, image) {
-        Ok(version) => {
+        Ok((version, notice)) => {
             let found = shelves.collect(rt, loader);
-            let freed = found.freed;
-            Some((version, freed))
+            Some((version, notice, found.freed))
         }
         Err(_) => None,
     }
@@ -175,23 +192,56 @@ fn a_held_version_stays(rt: HostRuntime) -> Result<(), Fail> {
     Ok(())
 }
 
+/// A seat at shelves of any kind: a notice of its version is taken in, and the next pin holds that.
+fn loads_and_joins<T: Loads, R: Wait>(
+    rt: &R,
+    shelves: &T,
+    seat: &mut T::Seat,
+    loader: &mut T::Loader,
+    image: Arc<Verified, Global>,
+) -> Option<(u64, u64, [bool; 8])>
+    requires { T.Versions.fits shelves.now seat.old × T.Loads.loads shelves.now loader.old }
+    ensures seat { T.Versions.fits shelves.now seat.new }
+    ensures loader { T.Loads.loads shelves.now loader.new }
+{
+    let (_, notice, freed) = load(rt, shelves, loader, image)?;
+    let notice = notice?;
+    let noted = T::version_of(&notice);
+    shelves.join(rt, seat, notice);
+    let version = version_at(rt, shelves, seat).ok()?;
+    Some((noted, version, freed))
+}
+
+fn one_worker<B: Named, R: Wait + Abort>(
+    rt: &R,
+    alloc: Global,
+    shelves: Shelves,
+    loader: ShelfLoader,
+    seat: ShelfSeat,
+) -> Result<(), Fail>
+    requires { (shelves ≡ B.table) × (loader.table ≡ B.table) × (seat.table ≡ B.table) }
+{
+    let (shelves, mut loader, mut seat) = SoloShelves::<B>::of(shelves, loader, seat);
+    assert_eq!(rt; version_at(rt, &shelves, &mut seat), Ok(1));
+    let freed = [true, false, false, false, false, false, false, false];
+    let loaded = loads_and_joins(rt, &shelves, &mut seat, &mut loader, image(alloc, 2)?);
+    assert_eq!(rt; loaded, Some((2, 2, freed)));
+    let freed = [false, true, false, false, false, false, false, false];
+    let loaded = loads_and_joins(rt, &shelves, &mut seat, &mut loader, image(alloc, 3)?);
+    assert_eq!(rt; loaded, Some((3, 3, freed)));
+    Ok(())
+}
+
 #[test]
 fn shelves_for_one_worker(rt: HostRuntime) -> Result<(), Fail> {
     let alloc: Global = rt.alloc();
-    let Ok((shelves, mut loader, mut seat)) = SoloShelves::new(alloc, image(alloc, 1)?) else {
+    let Ok((shelves, loader, mut seats)) = Shelves::new(alloc, image(alloc, 1)?) else {
         return Err(AllocError.into());
     };
-    assert_eq!(&rt; current_version(&rt, &shelves, &mut seat), Ok(1));
-    let freed = [true, false, false, false, false, false, false, false];
-    let loaded = load(&rt, &shelves, &mut loader, image(alloc, 2)?);
-    assert_eq!(&rt; loaded, Some((2, freed)));
-    assert_eq!(&rt; current_version(&rt, &shelves, &mut seat), Ok(2));
-    let freed = [false, true, false, false, false, false, false, false];
-    let loaded = load(&rt, &shelves, &mut loader, image(alloc, 3)?);
-    assert_eq!(&rt; loaded, Some((3, freed)));
-    assert_eq!(&rt; shelves.pin(&rt, &mut seat), Ok(()));
-    assert_eq!(&rt; held(&seat), Some((3, 3)));
-    Ok(())
+    match seats.pop() {
+        Some(seat) => one_worker::<Brand, _>(&rt, alloc, shelves, loader, seat),
+        None => Err("seats".into()),
+    }
 }
 
 /// The table itself, whose calls the lock hands on.

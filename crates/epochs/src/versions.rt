@@ -1,8 +1,8 @@
 //! What a session needs of shelves, and what a loader does.
 
-ghost use Rattle.std.specs.Prelude.{◌≡◌, ℕ, List, None, Some, MatchOption, MatchResult, IfErr, OnOk};
+ghost use Rattle.std.specs.Prelude.{◌≡◌, ℕ, List, None, Some, MatchOption, MatchResult, IfErr, IfOk, IfSome, OnOk};
 ghost use Rattle.std.specs.Arc.{arc_value};
-ghost use Rattle.epochs.specs.Seats.{SeatValue, PinStep, ReleaseStep, PublishStep, RefuseStep, CollectStep};
+ghost use Rattle.epochs.specs.Seats.{SeatValue, PinStep, ReleaseStep, JoinStep, PublishStep, RefuseStep, CollectStep};
 ghost use Rattle.epochs.specs.Pins.{HoldsInHistory};
 ghost use Rattle.epochs.specs.declared.seats.LoaderAnswer.{LoaderAnswer};
 
@@ -17,6 +17,9 @@ use std::sync::{Arc, Wait};
 pub trait Versions {
     type Seat;
 
+    /// Says that a version was published at these shelves.
+    type Notice;
+
     // The seat may be used at these shelves.
     ghost fits: { Self → Self.Seat → Type 0 };
 
@@ -25,6 +28,9 @@ pub trait Versions {
 
     // The number of the seat's worker.
     ghost number: { Self.Seat → ℕ };
+
+    // The version that the notice is of.
+    ghost noted: { Self.Notice → ℕ };
 
     /// Pins the current version.
     fn pin<R: Wait>(&self, rt: &R, seat: &mut Self::Seat) -> Result<(), PinFault>
@@ -44,6 +50,17 @@ pub trait Versions {
         ensures fits { fits self.now seat.new }
         ensures number { number seat.new ≡ number seat.old }
         ensures release { ReleaseStep (value seat.old) result (value seat.new) };
+
+    /// The seat has seen the notice's version from now on.
+    fn join<R: Wait>(&self, rt: &R, seat: &mut Self::Seat, notice: Self::Notice)
+        requires { fits self.now seat.old }
+        ensures fits { fits self.now seat.new }
+        ensures number { number seat.new ≡ number seat.old }
+        ensures join { JoinStep (value seat.old) (noted notice) (value seat.new) };
+
+    /// The version that the notice is of.
+    fn version_of(notice: &Self::Notice) -> u64
+        ensures { result ≡ noted notice.now };
 }
 
 /// Shelves on which one loader publishes versions.
@@ -56,17 +73,19 @@ pub trait Loads: Versions {
     // What the loader's seat was answered so far.
     ghost answers: { Self.Loader → List LoaderAnswer };
 
-    /// Publishes the image as the next version. A refusal gives it back.
+    /// Publishes the image as the next version, and gives a notice of it. A refusal gives the image back. No notice comes only
+    /// where there was no memory for one.
     fn publish<R: Wait>(
         &self,
         rt: &R,
         loader: &mut Self::Loader,
         image: Arc<Verified, Global>,
-    ) -> Result<u64, (Arc<Verified, Global>, PublishFault)>
+    ) -> Result<(u64, Option<Self::Notice>), (Arc<Verified, Global>, PublishFault)>
         requires { loads self.now loader.old }
         ensures loads { loads self.now loader.new }
         ensures back { IfErr result (λ e. e.0 ≡ image) }
-        ensures loader { MatchResult result (λ v. PublishStep (answers loader.old) (arc_value image) v (answers loader.new)) (λ e. RefuseStep (answers loader.old) e.1 (answers loader.new)) };
+        ensures loader { MatchResult result (λ r. PublishStep (answers loader.old) (arc_value image) r.0 (answers loader.new)) (λ e. RefuseStep (answers loader.old) e.1 (answers loader.new)) }
+        ensures notice { IfOk result (λ r. IfSome r.1 (λ n. Self.Versions.noted n ≡ r.0)) };
 
     /// Tries each closing shelf: it is freed, if no worker is there.
     fn collect<R: Wait>(&self, rt: &R, loader: &mut Self::Loader) -> Collected

@@ -2,10 +2,12 @@ pub mod Courses
 pub mod Frames
 pub mod WordsAfter
 pub mod SlotsAfter
+pub mod NoteLists
 pub mod Works
 pub mod Chains
 pub mod Loads
 pub mod Opens
+pub mod NoteSteps
 pub mod Pinned
 pub mod Editions
 pub mod Loadings

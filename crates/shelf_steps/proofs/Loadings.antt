@@ -21,10 +21,14 @@ IsReady shelf version before u = OfLoader u (λ l. MayLoad shelf version before 
 
 pub may_gather : (shelf version before : ℕ) (u : View) (c : List (ℕ × Option Edition)) → IsReady shelf version before u → c ≡ [] → MayGather shelf u c
 may_gather shelf version before (View.Working v) c may none = absurd may
+may_gather shelf version before (View.Noting x') c may none = absurd may
+may_gather shelf version before View.Spent c may none = absurd may
 may_gather shelf version before (View.Loading l) c may none = (may.free, may.empty, none)
 
 pub gathered_block : (shelf : ℕ) (u : View) (c : List (ℕ × Option Edition)) (m1 : Mine) → GathersOn shelf (u, c) m1 → IsBlock nothings shelf m1.1
 gathered_block shelf (View.Working v) c m1 g = absurd g
+gathered_block shelf (View.Noting x') c m1 g = absurd g
+gathered_block shelf View.Spent c m1 g = absurd g
 gathered_block shelf (View.Loading l) c m1 g = ap (λ (m : Mine). m.1) g.1
 
 abbrev front_of : List (ℕ × Option Edition) → Option Edition
@@ -107,32 +111,44 @@ module _ (shelf version before : ℕ) (l : LoaderView) (image : ImageValue) (f :
 pub may_open_then : (shelf version before : ℕ) (u : View) (image : ImageValue) (f : ℕ → Option Edition) (c : List (ℕ × Option Edition)) (m1 m2 : Mine) → IsReady shelf version before u → version ≤ 1000000000 → AllHave version image shelf f
     → GathersOn shelf (u, c) m1 → m2 ≡ (m1.0, down_from f (16 * shelf) 16 []) → MayOpenOn shelf version m2.0 m2.1
 may_open_then shelf version before (View.Working v) image f c m1 m2 may few all g filled = absurd may
+may_open_then shelf version before (View.Noting x') image f c m1 m2 may few all g filled = absurd may
+may_open_then shelf version before View.Spent image f c m1 m2 may few all g filled = absurd may
 may_open_then shelf version before (View.Loading l) image f c m1 m2 may few all g filled = may_open_now shelf version before l image f may all c m1 m2 g filled few
 
 pub may_publish_then : (shelf version before : ℕ) (u : View) (image : ImageValue) (f : ℕ → Option Edition) (c : List (ℕ × Option Edition)) (m1 m2 m3 : Mine) → IsReady shelf version before u → AllHave version image shelf f
     → GathersOn shelf (u, c) m1 → m2 ≡ (m1.0, down_from f (16 * shelf) 16 []) → OpensOn shelf m2 m3 → MayPublish version shelf m3.0
 may_publish_then shelf version before (View.Working v) image f c m1 m2 m3 may all g filled o = absurd may
+may_publish_then shelf version before (View.Noting x') image f c m1 m2 m3 may all g filled o = absurd may
+may_publish_then shelf version before View.Spent image f c m1 m2 m3 may all g filled o = absurd may
 may_publish_then shelf version before (View.Loading l) image f c m1 m2 m3 may all g filled o = may_publish_now shelf version before l image f may all c m1 m2 g filled m3 o
 
 pub may_close_then : (shelf version before : ℕ) (u : View) (image : ImageValue) (f : ℕ → Option Edition) (c : List (ℕ × Option Edition)) (m1 m2 m3 m4 : Mine) → IsReady shelf version before u → AllHave version image shelf f
     → GathersOn shelf (u, c) m1 → m2 ≡ (m1.0, down_from f (16 * shelf) 16 []) → OpensOn shelf m2 m3 → PublishesOn version shelf m3 m4 → MayClose before m4.0
 may_close_then shelf version before (View.Working v) image f c m1 m2 m3 m4 may all g filled o p = absurd may
+may_close_then shelf version before (View.Noting x') image f c m1 m2 m3 m4 may all g filled o p = absurd may
+may_close_then shelf version before View.Spent image f c m1 m2 m3 m4 may all g filled o p = absurd may
 may_close_then shelf version before (View.Loading l) image f c m1 m2 m3 m4 may all g filled o p = may_close_now shelf version before l image f may all c m1 m2 g filled m3 m4 o p
 
 pub loads_then : (shelf version before : ℕ) (u : View) (image : ImageValue) (f : ℕ → Option Edition) (c : List (ℕ × Option Edition)) (m1 m2 m3 m4 m5 : Mine) → IsReady shelf version before u → AllHave version image shelf f
     → GathersOn shelf (u, c) m1 → m2 ≡ (m1.0, down_from f (16 * shelf) 16 []) → OpensOn shelf m2 m3 → PublishesOn version shelf m3 m4 → ClosesOn before m4 m5 → Loads shelf version before image u m5.0 × (m5.1 ≡ [])
 loads_then shelf version before (View.Working v) image f c m1 m2 m3 m4 m5 may all g filled o p k = absurd may
+loads_then shelf version before (View.Noting x') image f c m1 m2 m3 m4 m5 may all g filled o p k = absurd may
+loads_then shelf version before View.Spent image f c m1 m2 m3 m4 m5 may all g filled o p k = absurd may
 loads_then shelf version before (View.Loading l) image f c m1 m2 m3 m4 m5 may all g filled o p k = loaded_so shelf version before l image f may all c m1 m2 g filled m3 m4 o p m5 k
 
 -- a shelf that was found with no worker
 pub freed_block : (shelf version n : ℕ) (u : View) (c : List (ℕ × Option Edition)) (m1 : Mine) → CollectsOn shelf version n (u, c) m1 → (n == 512 + 65536 * version) ≡ true → (f : ℕ → Option Edition) × IsBlock f shelf m1.1
 freed_block shelf version n (View.Working v) c m1 h is = absurd h
+freed_block shelf version n (View.Noting x') c m1 h is = absurd h
+freed_block shelf version n View.Spent c m1 h is = absurd h
 freed_block shelf version n (View.Loading l) c m1 h is =
     let k = subst (λ (b : Bool). CollectsFound l shelf version n b m1) is h in (k.0, ap (λ (m : Mine). m.1) k.2)
 
 pub may_put_back : (shelf version n : ℕ) (u : View) (c : List (ℕ × Option Edition)) (m1 m2 : Mine) → MayCollect shelf version u c → CollectsOn shelf version n (u, c) m1 → (n == 512 + 65536 * version) ≡ true
     → m2 ≡ (m1.0, down_from nothings (16 * shelf) 16 []) → MayPutBack shelf m2.0 m2.1
 may_put_back shelf version n (View.Working v) c m1 m2 may h is e = absurd h
+may_put_back shelf version n (View.Noting x') c m1 m2 may h is e = absurd h
+may_put_back shelf version n View.Spent c m1 m2 may h is e = absurd h
 may_put_back shelf version n (View.Loading l) c m1 m2 may h is e =
     let k = subst (λ (b : Bool). CollectsFound l shelf version n b m1) is h in
     let second : m2 ≡ (View.Loading (with_free l shelf k.1), down_from nothings (16 * shelf) 16 []) = e ∙ ap (λ (m : Mine). (m.0, down_from nothings (16 * shelf) 16 [])) k.2 in
@@ -141,6 +157,8 @@ may_put_back shelf version n (View.Loading l) c m1 m2 may h is e =
 pub frees_then : (shelf version n : ℕ) (u : View) (c : List (ℕ × Option Edition)) (m1 m2 m3 : Mine) → MayCollect shelf version u c → CollectsOn shelf version n (u, c) m1 → (n == 512 + 65536 * version) ≡ true
     → m2 ≡ (m1.0, down_from nothings (16 * shelf) 16 []) → PutsBackOn shelf m2 m3 → Frees shelf u m3.0 × (m3.1 ≡ [])
 frees_then shelf version n (View.Working v) c m1 m2 m3 may h is e p = absurd h
+frees_then shelf version n (View.Noting x') c m1 m2 m3 may h is e p = absurd h
+frees_then shelf version n View.Spent c m1 m2 m3 may h is e p = absurd h
 frees_then shelf version n (View.Loading l) c m1 m2 m3 may h is e p =
     let k = subst (λ (b : Bool). CollectsFound l shelf version n b m1) is h in
     let second : m2 ≡ (View.Loading (with_free l shelf k.1), down_from nothings (16 * shelf) 16 []) = e ∙ ap (λ (m : Mine). (m.0, down_from nothings (16 * shelf) 16 [])) k.2 in
@@ -150,6 +168,8 @@ frees_then shelf version n (View.Loading l) c m1 m2 m3 may h is e p =
 
 pub busy_then : (shelf version n : ℕ) (u : View) (c : List (ℕ × Option Edition)) (m1 : Mine) → CollectsOn shelf version n (u, c) m1 → (n == 512 + 65536 * version) ≡ false → FindsBusy shelf (n % 256) u m1.0 × (m1.1 ≡ [])
 busy_then shelf version n (View.Working v) c m1 h is = absurd h
+busy_then shelf version n (View.Noting x') c m1 h is = absurd h
+busy_then shelf version n View.Spent c m1 h is = absurd h
 busy_then shelf version n (View.Loading l) c m1 h is =
     let k = subst (λ (b : Bool). CollectsFound l shelf version n b m1) is h in
     subst (λ (m : Mine). FindsBusy shelf (n % 256) (View.Loading l) m.0 × (m.1 ≡ [])) (sym k.1)

@@ -32,6 +32,7 @@ use Rattle.shelf_steps.specs.Plays.{Mine, newest_of, with_open, with_current, wi
 use Rattle.shelf_steps.proofs.Courses.{kept_of, none_snoc, begins_longer, happened, goes_on, goes_same, begins_all, prefix_same, other_fits}
 use Rattle.shelf_steps.proofs.Frames.{loader_moves}
 use Rattle.shelf_steps.proofs.WordsAfter.{words_same, words_after, few_counted, version_bound, found_at}
+use Rattle.shelf_steps.proofs.NoteLists.{notices_loader}
 use Rattle.shelf_steps.proofs.SlotsAfter.{slots_block}
 use Rattle.shelf_steps.proofs.Chains.{take_block, give_block, IsHome, block_valid, block_else, block_out, carried_down, gives_valid, given_else, given_home, given_rest}
 
@@ -54,7 +55,7 @@ module _ (table : Table (Option Edition) View) (r : Ruled table) (id : ℕ) (l :
 -- a step of the loader leaves what the workers do
 module _ (table : Table (Option Edition) View) (r : Ruled table) (id : ℕ) (l l' : LoaderView) (at : get_elem? table.views id ≡ some (View.Loading l)) (as_many : l'.handed ≡ l.handed)
     (e : Event) (reply : Reply) (t : State) (images : List ImageValue) (whose : actor e ≡ None) (goes : Goes (extended r.course e reply t images)) (more : IsPrefix r.course.images images)
-    (workers : t.workers ≡ r.course.state.workers) (seen : t.seen ≡ r.course.state.seen) (up : r.course.state.current ≤ t.current) where
+    (workers : t.workers ≡ r.course.state.workers) (seen : t.seen ≡ r.course.state.seen) (notices : t.notices ≡ r.course.state.notices) (up : r.course.state.current ≤ t.current) where
   not_of : (u : ℕ) → actor e ≢ Some u
   not_of u q = let z : None ≡ Some u = sym whose ∙ q in cc
 
@@ -70,7 +71,8 @@ module _ (table : Table (Option Edition) View) (r : Ruled table) (id : ℕ) (l l
     loader = l';
     goes = goes;
     words = words;
-    seats = loader_moves r.course (extended r.course e reply t images) table.views r.loader r.seats id l l' at as_many others fits workers seen (λ w h. none_snoc (Some w) r.course.events e (not_of w) h);
+    seats = loader_moves r.course (extended r.course e reply t images) table.views r.loader r.seats id l l' at as_many others fits workers seen (λ w small h. none_snoc (Some w) r.course.events e (not_of w) h);
+    notices = notices_loader table.views id l l' at ∙ (r.notices ∙ sym notices);
     slots = slots;
   }
 
@@ -153,7 +155,7 @@ opens_as slots id k version l image f many small free hand current next few all 
       View.Loading l',
       give_block 16,
       gives_valid table.homes (down_from f (16 * k) 16 []) 16,
-      loader_ruled table r id l l' at refl e reply t images refl goes' more refl refl (omega arith)
+      loader_ruled table r id l l' at refl e reply t images refl goes' more refl refl refl (omega arith)
           (set table.words (k + 1) ((n + (256 + 65536 * version)) % 18446744073709551616)) (homes_after table.homes (down_from f (16 * k) 16 []) (give_block 16)) fits'
           (words_shelved table.words k ((n + (256 + 65536 * version)) % 18446744073709551616) (Shelf.Open (newest s + 1)) s t r.words small eight refl refl refl refl word)
           (slots_block table.homes (homes_after table.homes (down_from f (16 * k) 16 []) (give_block 16)) s.shelves t.shelves s.workers r.course.images images l.hand None k (Shelf.Open (newest s + 1))
@@ -170,7 +172,7 @@ opens_as slots id k version l image f many small free hand current next few all 
           refl,
           subst (λ m. AllHave m image k f) next all,
           (λ i. (View.Loading l', given_rest f (16 * k) 16 [] i)),
-          loader_happened table r id l l' at refl e reply t images refl goes' more refl refl (omega arith),
+          loader_happened table r id l l' at refl e reply t images refl goes' more refl refl refl (omega arith),
           ap (λ (xs : List ImageValue). xs ++ image ∷ []) (sym knows.images),
         ),
       ),
@@ -179,6 +181,8 @@ opens_as slots id k version l image f many small free hand current next few all 
 openings_as : (slots id k version : ℕ) (u : View) (c : List (ℕ × Option Edition)) → slots ≡ 128 → k < 8 → MayOpenOn k version u c
     → Allows Ruled slots id (u, c) (k + 1) (λ n. (n + (256 + 65536 * version)) % 18446744073709551616) (Opens (step slots (k + 1) (256 + 65536 * version) 0 none) (u, c))
 openings_as slots id k version (View.Working v) c many small may = absurd may
+openings_as slots id k version (View.Noting x') c many small may = absurd may
+openings_as slots id k version View.Spent c many small may = absurd may
 openings_as slots id k version (View.Loading l) c many small may =
     let block = may.5 in
     subst (λ (x : List (ℕ × Option Edition)). Allows Ruled slots id (View.Loading l, x) (k + 1) (λ n. (n + (256 + 65536 * version)) % 18446744073709551616) (Opens (step slots (k + 1) (256 + 65536 * version) 0 none) (View.Loading l, x))) (sym block.2)
@@ -191,17 +195,19 @@ openings slots id k version me many small may = openings_as slots id k version m
 -- a step that adds no version
 module _ (table : Table (Option Edition) View) (r : Ruled table) (id : ℕ) (l l' : LoaderView) (at : get_elem? table.views id ≡ some (View.Loading l)) (as_many : l'.handed ≡ l.handed)
     (e : Event) (reply : Reply) (t : State) (whose : actor e ≡ None) (is_step : Step r.course.state e reply t) (editions : t.editions ≡ r.course.state.editions)
-    (workers : t.workers ≡ r.course.state.workers) (seen : t.seen ≡ r.course.state.seen) (up : r.course.state.current ≤ t.current) where
+    (workers : t.workers ≡ r.course.state.workers) (seen : t.seen ≡ r.course.state.seen) (notices : t.notices ≡ r.course.state.notices) (up : r.course.state.current ≤ t.current) where
   pub noted_ruled : (words' : List ℕ) (homes' : List (Maybe (Option Edition))) → LoaderFits (extended r.course e reply t r.course.images) l' → WordsShow words' t → SlotsFit homes' t.shelves t.workers r.course.images l'.hand
       → Ruled record { words = words'; homes = homes'; views = set table.views id (View.Loading l') }
-  noted_ruled = loader_ruled table r id l l' at as_many e reply t r.course.images whose (goes_same r.course e reply t r.goes is_step editions) (prefix_same r.course.images) workers seen up
+  noted_ruled = loader_ruled table r id l l' at as_many e reply t r.course.images whose (goes_same r.course e reply t r.goes is_step editions) (prefix_same r.course.images) workers seen notices up
 
   pub noted : Noted l e reply (all_of (extended r.course e reply t r.course.images))
-  noted = (loader_happened table r id l l' at as_many e reply t r.course.images whose (goes_same r.course e reply t r.goes is_step editions) (prefix_same r.course.images) workers seen up, sym (loader_knows table r id l at).images)
+  noted = (loader_happened table r id l l' at as_many e reply t r.course.images whose (goes_same r.course e reply t r.goes is_step editions) (prefix_same r.course.images) workers seen notices up, sym (loader_knows table r id l at).images)
 
 publishings_as : (slots id k version : ℕ) (u : View) (c : List (ℕ × Option Edition)) → k < 8 → MayPublish version k u
     → Allows Ruled slots id (u, c) 0 (λ _. 8 * version + k) (λ _. Publishes (step slots 0 (8 * version + k) 0 none) (u, c) (8 * version + k))
 publishings_as slots id k version (View.Working v) c small may table r full at fits = absurd may
+publishings_as slots id k version (View.Noting x') c small may table r full at fits = absurd may
+publishings_as slots id k version View.Spent c small may table r full at fits = absurd may
 publishings_as slots id k version (View.Loading l) c small may table r full at fits =
     let s = r.course.state in
     let knows = loader_knows table r id l at in
@@ -216,9 +222,9 @@ publishings_as slots id k version (View.Loading l) c small may table r full at f
       View.Loading l',
       keeps,
       tt,
-      noted_ruled table r id l l' at refl e reply t refl is_step refl refl refl (omega arith) (set table.words 0 (8 * version + k)) table.homes fits'
+      noted_ruled table r id l l' at refl e reply t refl is_step refl refl refl refl (omega arith) (set table.words 0 (8 * version + k)) table.homes fits'
           (words_current table.words (8 * version + k) s t r.words refl refl refl) (loader_slots table r id l at),
-      (version, k, refl, small, (all_of d, refl, noted table r id l l' at refl e reply t refl is_step refl refl refl (omega arith))),
+      (version, k, refl, small, (all_of d, refl, noted table r id l l' at refl e reply t refl is_step refl refl refl refl (omega arith))),
     )
 
 pub publishings : (slots id k version : ℕ) (me : Mine) → k < 8 → MayPublish version k me.0
@@ -228,6 +234,8 @@ publishings slots id k version me small may = publishings_as slots id k version 
 closings_as : (slots id k : ℕ) (u : View) (c : List (ℕ × Option Edition)) → k < 8 → MayClose k u
     → Allows Ruled slots id (u, c) (k + 1) (λ n. (n + 256) % 18446744073709551616) (Closes (step slots (k + 1) 256 0 none) (u, c))
 closings_as slots id k (View.Working v) c small may table r full at fits = absurd may
+closings_as slots id k (View.Noting x') c small may table r full at fits = absurd may
+closings_as slots id k View.Spent c small may table r full at fits = absurd may
 closings_as slots id k (View.Loading l) c small may table r full at fits =
     let s = r.course.state in let version = may.0 in let n = get_or table.words (k + 1) 0 in
     let kept : Kept s = kept_of r.course r.goes in
@@ -247,12 +255,12 @@ closings_as slots id k (View.Loading l) c small may table r full at fits =
       View.Loading l',
       keeps,
       tt,
-      noted_ruled table r id l l' at refl e reply t refl is_step refl refl refl (omega arith) (set table.words (k + 1) ((n + 256) % 18446744073709551616)) table.homes fits'
+      noted_ruled table r id l l' at refl e reply t refl is_step refl refl refl refl (omega arith) (set table.words (k + 1) ((n + 256) % 18446744073709551616)) table.homes fits'
           (words_shelved table.words k ((n + 256) % 18446744073709551616) (Shelf.Closing version) s t r.words small eight refl refl refl refl word)
           (slots_block table.homes table.homes s.shelves t.shelves s.workers r.course.images r.course.images l.hand l.hand k (Shelf.Closing version)
           (slice_get-set_same s.shelves k (Shelf.Closing version) (omega arith)) (λ j ne. slice_get-set_other s.shelves k j (Shelf.Closing version) ne)
           (λ i h. refl) (prefix_same r.course.images) (λ j ne q. q) (λ j ne q. q) (λ u less. loader_slots table r id l at k u (Shelf.Open version) stands less) (loader_slots table r id l at)),
-      (k, refl, (version, all_of d, may.1, refl, noted table r id l l' at refl e reply t refl is_step refl refl refl (omega arith))),
+      (k, refl, (version, all_of d, may.1, refl, noted table r id l l' at refl e reply t refl is_step refl refl refl refl (omega arith))),
     )
 
 pub closings : (slots id k : ℕ) (me : Mine) → k < 8 → MayClose k me.0 → Allows Ruled slots id me (k + 1) (λ n. (n + 256) % 18446744073709551616) (Closes (step slots (k + 1) 256 0 none) me)
@@ -312,7 +320,7 @@ collects_found id k version l table r at many small shelf hand true found =
       View.Loading l',
       take_block f (16 * k) 16,
       block_valid table.homes [] f (16 * k) 16 home,
-      noted_ruled table r id l l' at refl e reply t refl is_step refl refl refl (omega arith) (set table.words (k + 1) 0) (homes_after table.homes [] (take_block f (16 * k) 16)) fits'
+      noted_ruled table r id l l' at refl e reply t refl is_step refl refl refl refl (omega arith) (set table.words (k + 1) 0) (homes_after table.homes [] (take_block f (16 * k) 16)) fits'
           (words_shelved table.words k 0 Shelf.Free s t r.words small eight refl refl refl refl (sym nobody))
           (slots_block table.homes (homes_after table.homes [] (take_block f (16 * k) 16)) s.shelves t.shelves s.workers r.course.images r.course.images l.hand (Some k) k Shelf.Free
           (slice_get-set_same s.shelves k Shelf.Free (omega arith)) (λ j ne. slice_get-set_other s.shelves k j Shelf.Free ne)
@@ -323,7 +331,7 @@ collects_found id k version l table r at many small shelf hand true found =
         f,
         all_of d,
         (λ i. (View.Loading l', carried_down f (16 * k) 16 [] i)),
-        noted table r id l l' at refl e reply t refl is_step refl refl refl (omega arith),
+        noted table r id l l' at refl e reply t refl is_step refl refl refl refl (omega arith),
         found_at table.words r.course r.goes r.words k e d refl small,
       ),
     )
@@ -344,12 +352,12 @@ collects_found id k version l table r at many small shelf hand false found =
       View.Loading l',
       keeps,
       tt,
-      noted_ruled table r id l l' at refl e reply s refl is_step refl refl refl (omega arith) (set table.words (k + 1) n) table.homes fits'
+      noted_ruled table r id l l' at refl e reply s refl is_step refl refl refl refl (omega arith) (set table.words (k + 1) n) table.homes fits'
           (words_same table.words (k + 1) s s r.words refl refl refl refl) (subst (λ (x : Option ℕ). SlotsFit table.homes s.shelves s.workers r.course.images x) hand (loader_slots table r id l at)),
       (
         all_of d,
         refl,
-        noted table r id l l' at refl e reply s refl is_step refl refl refl (omega arith),
+        noted table r id l l' at refl e reply s refl is_step refl refl refl refl (omega arith),
         some_one,
         found_at table.words r.course r.goes r.words k e d refl small,
       ),
@@ -362,6 +370,8 @@ collects_found id k version l table r at many small shelf hand false found =
 collectings_as : (slots id k version : ℕ) (u : View) (c : List (ℕ × Option Edition)) → slots ≡ 128 → k < 8 → MayCollect k version u c
     → Allows Ruled slots id (u, c) (k + 1) (λ n. either (n == 512 + 65536 * version) 0 n) (Collects (step slots (k + 1) (512 + 65536 * version) 0 none) (u, c))
 collectings_as slots id k version (View.Working v) c many small may = absurd may
+collectings_as slots id k version (View.Noting x') c many small may = absurd may
+collectings_as slots id k version View.Spent c many small may = absurd may
 collectings_as slots id k version (View.Loading l) c many small may =
     subst (λ (x : List (ℕ × Option Edition)). Allows Ruled slots id (View.Loading l, x) (k + 1) (λ n. either (n == 512 + 65536 * version) 0 n) (Collects (step slots (k + 1) (512 + 65536 * version) 0 none) (View.Loading l, x))) (sym may.2)
     (λ table r full at fits.
@@ -401,13 +411,15 @@ tries_free id k l c hand' a table r at small free slots false found =
     let l' : LoaderView = with_hand l hand' (all_of d) in
     let fits' : LoaderFits d l' = record { shows = record { current = knows.shows.current; current_shelf = knows.shows.current_shelf; shelves = knows.shows.shelves; newest_is = r.goes.as_many }; images = refl; known = begins_all d None } in (
       all_of d,
-      noted_ruled table r id l l' at refl e reply s refl is_step refl refl refl (omega arith) (set table.words (k + 1) n) (homes_after table.homes c a) fits' (words_same table.words (k + 1) s s r.words refl refl refl refl) slots,
-      noted table r id l l' at refl e reply s refl is_step refl refl refl (omega arith),
+      noted_ruled table r id l l' at refl e reply s refl is_step refl refl refl refl (omega arith) (set table.words (k + 1) n) (homes_after table.homes c a) fits' (words_same table.words (k + 1) s s r.words refl refl refl refl) slots,
+      noted table r id l l' at refl e reply s refl is_step refl refl refl refl (omega arith),
     )
 
 gatherings_as : (slots id k : ℕ) (u : View) (c : List (ℕ × Option Edition)) → slots ≡ 128 → k < 8 → MayGather k u c
     → Allows Ruled slots id (u, c) (k + 1) (λ n. either (n == 512) 0 n) (Gathers (step slots (k + 1) 512 0 none) (u, c))
 gatherings_as slots id k (View.Working v) c many small may = absurd may
+gatherings_as slots id k (View.Noting x') c many small may = absurd may
+gatherings_as slots id k View.Spent c many small may = absurd may
 gatherings_as slots id k (View.Loading l) c many small may =
     subst (λ (x : List (ℕ × Option Edition)). Allows Ruled slots id (View.Loading l, x) (k + 1) (λ n. either (n == 512) 0 n) (Gathers (step slots (k + 1) 512 0 none) (View.Loading l, x))) (sym may.2)
     (λ table r full at fits.
@@ -432,6 +444,8 @@ gatherings slots id k me many small may = gatherings_as slots id k me.0 me.1 man
 puttings_as : (slots id k : ℕ) (u : View) (c : List (ℕ × Option Edition)) → slots ≡ 128 → k < 8 → MayPutBack k u c
     → Allows Ruled slots id (u, c) (k + 1) (λ n. either (n == 512) 0 n) (PutsBack (step slots (k + 1) 512 0 none) (u, c))
 puttings_as slots id k (View.Working v) c many small may = absurd may
+puttings_as slots id k (View.Noting x') c many small may = absurd may
+puttings_as slots id k View.Spent c many small may = absurd may
 puttings_as slots id k (View.Loading l) c many small may =
     subst (λ (x : List (ℕ × Option Edition)). Allows Ruled slots id (View.Loading l, x) (k + 1) (λ n. either (n == 512) 0 n) (PutsBack (step slots (k + 1) 512 0 none) (View.Loading l, x))) (sym may.2)
     (λ table r full at fits.

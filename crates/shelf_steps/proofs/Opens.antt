@@ -2,6 +2,7 @@
 use Rattle.image_layout.specs.Image.{ImageValue}
 use Rattle.std.proofs.Common.{◌≡◌, ◌≢◌, ℕ, zero, suc, ◌+◌, ◌*◌, ◌<◌, ◌≤◌, ◌==◌, ◌⊎◌, true, false, cond, List, [], ◌∷◌, ◌++◌, map, length, replicate, set, get_or, Option, Some, None, slice_get, refl, ap, sym, ◌∙◌, subst, arith, rules, inl, inr, ⊎_elim, length-set}
 use Rattle.std.proofs.lemmas.Bool.Decides.{nat_tests}
+use Rattle.std.proofs.lemmas.List.{append-nil}
 use mathlib.Core.Logic.{dite}
 use mathlib.Core.Option.{some, some-injective, some-ne-none}
 use native.Mathlib.Decide.{ℕ_discrete}
@@ -19,10 +20,11 @@ use Rattle.shelf_steps.specs.Course.{Course, Goes}
 use Rattle.version_core.specs.Shown.{shelf_word}
 use Rattle.shelf_steps.specs.Seats.{WorkerFits, SeatsFit, SeatFits}
 use Rattle.shelf_steps.specs.Slots.{SlotsFit, SlotFits}
-use Rattle.shelf_steps.specs.Ruled.{Ruled, first_loader, first_words, FirstSlot, FirstSlots}
+use Rattle.shelf_steps.specs.Ruled.{Ruled, notices_of, first_loader, first_words, FirstSlot, FirstSlots}
 use Rattle.shelf_steps.specs.Plays.{MayHandOut, one_more, newcomer, keeps_loading, new_worker_view}
 use Rattle.shelf_steps.proofs.Courses.{kept_of, begins_all}
 use Rattle.shelf_steps.proofs.Frames.{there}
+use Rattle.shelf_steps.proofs.NoteLists.{notices_loader, notices_more}
 
 abbrev first_course : ImageValue → Course
 first_course image = record { state = start; events = []; replies = []; images = image ∷ [] }
@@ -77,6 +79,7 @@ opens_ruled image items f = record {
     every = λ w less. absurd (omega arith);
     unseated = first_workers;
   };
+  notices = refl;
   slots = first_at image items f;
 }
 
@@ -93,7 +96,7 @@ first_slots_grow image n items x f new = (
     length-snoc [] a = refl
     length-snoc (y ∷ ys) a = let r = length-snoc ys a in omega arith
 
-at_end : {A : Type 0} (l : List A) (a b : A) (j : ℕ) → get_elem? (l ++ a ∷ []) j ≡ some b → (get_elem? l j ≡ some b) ⊎ ((j ≡ length l) × (a ≡ b))
+pub at_end : {A : Type 0} (l : List A) (a b : A) (j : ℕ) → get_elem? (l ++ a ∷ []) j ≡ some b → (get_elem? l j ≡ some b) ⊎ ((j ≡ length l) × (a ≡ b))
 at_end [] a b zero e = inr (refl, some-injective a b e)
 at_end [] a b (suc j) e = absurd (some-ne-none b (sym e))
 at_end (x ∷ xs) a b zero e = inl e
@@ -111,6 +114,8 @@ owner_old owner number seat w ne = let t : (w == number) ≡ false = grind (arit
 
 old_seat : (c : Course) (l : LoaderView) (owner : ℕ → ℕ) (new seat : ℕ) (u : View) → seat ≢ 0 → SeatFits c l owner seat u → SeatFits c (one_more l) (owner_after owner l.handed new) seat u
 old_seat c l owner new seat (View.Loading x) apart o = absurd (apart o.0)
+old_seat c l owner new seat (View.Noting n) apart o = tt
+old_seat c l owner new seat View.Spent apart o = tt
 old_seat c l owner new seat (View.Working v) apart o = let a = o.0 in (omega arith, owner_old owner l.handed new v.number (λ e. omega arith) ∙ o.1, o.2)
 
 -- the loader hands out one more seat: nothing happens
@@ -155,6 +160,8 @@ split_seats c views l fit id first at kept room =
 
 splits_as : (id : ℕ) (u : View) → MayHandOut u → Splits Ruled id u (keeps_loading u) (new_worker_view u)
 splits_as id (View.Working v) room table r at = absurd room
+splits_as id (View.Noting x') room table r at = absurd room
+splits_as id View.Spent room table r at = absurd room
 splits_as id (View.Loading l) room table r at =
     let is = r.seats.each id (View.Loading l) at in
     let fit : SeatsFit r.course table.views l = subst (λ (x : LoaderView). SeatsFit r.course table.views x) (sym is.1) r.seats in
@@ -164,6 +171,8 @@ splits_as id (View.Loading l) room table r at =
       goes = r.goes;
       words = r.words;
       seats = split_seats r.course table.views l fit id is.0 at (kept_of r.course r.goes) room;
+      notices = notices_more (set table.views id (View.Loading (one_more l))) (View.Working (newcomer l.handed))
+          ∙ (append-nil (notices_of (set table.views id (View.Loading (one_more l)))) ∙ (notices_loader table.views id l (one_more l) at ∙ r.notices));
       slots = subst (λ (x : LoaderView). SlotsFit table.homes r.course.state.shelves r.course.state.workers r.course.images x.hand) (sym is.1) r.slots;
     }
 

@@ -19,9 +19,11 @@ use Rattle.version_core.specs.Shown.{shelf_word}
 use Rattle.shelf_steps.specs.Seats.{WorkerFits, LoaderFits, HasEdition}
 use Rattle.shelf_steps.specs.Slots.{SlotFits, IsFilled, Slot}
 use Rattle.shelf_steps.specs.Ruled.{Ruled}
-use Rattle.shelf_steps.specs.Laws.{Shelved, IsLoader, WordsAreTheLoaders, CountsAreWorkers, NumbersDiffer, HeldHaveEditions, SlotsOutAreHeld, SlotsAtHomeAreFilled, LooksAreSo, OneSeatLoads}
+use Rattle.shelf_steps.specs.Laws.{Shelved, IsLoader, WordsAreTheLoaders, CountsAreWorkers, NumbersDiffer, HeldHaveEditions, SlotsOutAreHeld, SlotsAtHomeAreFilled, LooksAreSo, OneSeatLoads, NoticesAreOfTheirTime}
 use Rattle.shelf_steps.proofs.Courses.{kept_of}
 use Rattle.shelf_steps.proofs.WordsAfter.{few_counted}
+use Rattle.version_core.proofs.Rising.{rise_at}
+use Rattle.shelf_steps.proofs.NoteLists.{notices_there}
 use Rattle.shelf_steps.proofs.Works.{held_on}
 
 module _ (table : Shelved) (l : LoaderView) (r : Ruled table) (at : IsLoader table l) where
@@ -122,3 +124,10 @@ looks_are table l i w r loads at =
       λ v k now. let q = looked_fits r.course.state w.number v k kept (f.shows.now ∙ ap (λ (x : Worker). Some x) now) in
           ((let a = q.3 in omega arith), (λ e. q.4 (e ∙ c) ∙ sym kn.shows.current_shelf)),
     )
+
+pub notices_old : NoticesAreOfTheirTime
+notices_old table l i v r loads at =
+    let kept : Kept r.course.state = kept_of r.course r.goes in let c = (knows table l r loads).shows.current in
+    let n = notices_there table.views i v at in
+    let most = rise_at 0 r.course.state.notices r.course.state.current n.0 v kept.notices (ap (λ (xs : List ℕ). slice_get xs n.0) (sym r.notices) ∙ n.1) in
+    let m = most.1 in omega arith

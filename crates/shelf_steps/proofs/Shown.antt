@@ -34,6 +34,7 @@ module _ (table : Shelved) (l : LoaderView) (r : Ruled table) (at : IsLoader tab
     loader = (knows table l r at).shows;
     numbered = r.goes.numbered;
     workers = λ i v there. (r.seats.each i (View.Working v) there).2.shows;
+    notices = r.notices;
     unseated = λ w past small. let u = r.seats.unseated w (subst (λ n. n ≤ w) same_handed past) small in (u.0, u.1);
   }
 
@@ -83,6 +84,7 @@ module _ (table : Shelved) (l : LoaderView) (r : Ruled table) (at : IsLoader tab
       workers = sym same_workers i;
       seen = sym same_seen i;
       editions = sym same_editions i;
+      notices = (sym b.notices ∙ a.notices) i;
     }
 
 pub one_state : OneStateIsShown

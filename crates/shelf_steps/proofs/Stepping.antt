@@ -19,6 +19,8 @@ use Rattle.shelf_steps.specs.Stepping.{DoesSo, Remembers, RemembersSo}
 
 of_idle : (u : View) (c : List (ℕ × Option Edition)) → DoesSo Worker.Idle (u, c) → IsIdle u
 of_idle (View.Loading l) c h = absurd h
+of_idle (View.Noting x') c h = absurd h
+of_idle View.Spent c h = absurd h
 of_idle (View.Working v) c h = h.0
 
 pub idle_now : (m : Mine) → DoesSo Worker.Idle m → IsIdle m.0
@@ -26,6 +28,8 @@ idle_now m h = of_idle m.0 m.1 h
 
 of_looked : (version k : ℕ) (u : View) (c : List (ℕ × Option Edition)) → DoesSo (Worker.Looked version k) (u, c) → (k < 8) × HasLooked k u
 of_looked version k (View.Loading l) c h = absurd h
+of_looked version k (View.Noting x') c h = absurd h
+of_looked version k View.Spent c h = absurd h
 of_looked version k (View.Working v) c h = (h.1.0, (version, h.0))
 
 pub looked_now : (version k : ℕ) (m : Mine) → DoesSo (Worker.Looked version k) m → (k < 8) × HasLooked k m.0
@@ -33,6 +37,8 @@ looked_now version k m h = of_looked version k m.0 m.1 h
 
 of_late : (k : ℕ) (u : View) (c : List (ℕ × Option Edition)) → DoesSo (Worker.Late k) (u, c) → (k < 8) × IsLate k u
 of_late k (View.Loading l) c h = absurd h
+of_late k (View.Noting x') c h = absurd h
+of_late k View.Spent c h = absurd h
 of_late k (View.Working v) c h = (h.1.0, h.0)
 
 pub late_now : (k : ℕ) (m : Mine) → DoesSo (Worker.Late k) m → (k < 8) × IsLate k m.0
@@ -40,6 +46,8 @@ late_now k m h = of_late k m.0 m.1 h
 
 of_holding : (k version : ℕ) (u : View) (c : List (ℕ × Option Edition)) → DoesSo (Worker.Holding k version) (u, c) → (k < 8) × HoldsOut k u c
 of_holding k version (View.Loading l) c h = absurd h
+of_holding k version (View.Noting x') c h = absurd h
+of_holding k version View.Spent c h = absurd h
 of_holding k version (View.Working v) c h = (h.1.0, (version, h.0, h.1.1))
 
 pub holding_now : (k version : ℕ) (m : Mine) → DoesSo (Worker.Holding k version) m → (k < 8) × HoldsOut k m.0 m.1
@@ -47,6 +55,8 @@ holding_now k version m h = of_holding k version m.0 m.1 h
 
 after_look : (u : View) (c : List (ℕ × Option Edition)) (n : ℕ) (m' : Mine) → DoesSo Worker.Idle (u, c) → Looks (u, c) n m' → DoesSo (Worker.Looked (n / 8) (n % 8)) m'
 after_look (View.Loading l) c n m' h look = absurd h
+after_look (View.Noting x') c n m' h look = absurd h
+after_look View.Spent c n m' h look = absurd h
 after_look (View.Working v) c n m' h look = subst (λ (m : Mine). DoesSo (Worker.Looked (n / 8) (n % 8)) m) (sym look.1) (refl, (omega arith, h.1))
 
 pub looked_so : (m m' : Mine) (n : ℕ) → DoesSo Worker.Idle m → Looks m n m' → DoesSo (Worker.Looked (n / 8) (n % 8)) m'
@@ -63,6 +73,8 @@ found_so v c version k n false m' small empty t = subst (λ (m : Mine). DoesSo (
 
 after_take : (u : View) (c : List (ℕ × Option Edition)) (version k n : ℕ) (b : Bool) (m' : Mine) → DoesSo (Worker.Looked version k) (u, c) → Takes (u, c) n m' → is_open n version ≡ b → DoesSo (taken version k b) m'
 after_take (View.Loading l) c version k n b m' h take is = absurd h
+after_take (View.Noting x') c version k n b m' h take is = absurd h
+after_take View.Spent c version k n b m' h take is = absurd h
 after_take (View.Working v) c version k n b m' h take is =
     let t : TakesFound v c version k n (is_open n version) m' = subst (λ (w : Worker). Rattle.shelf_steps.specs.Plays.TakesAs v c w n m') h.0 take in
     found_so v c version k n b m' h.1.0 h.1.1 (subst (λ x. TakesFound v c version k n x m') is t)
@@ -75,6 +87,8 @@ late_so m m' version k n h take is = after_take m.0 m.1 version k n false m' h t
 
 after_leave : (k : ℕ) (u : View) (c : List (ℕ × Option Edition)) (m' : Mine) → DoesSo (Worker.Late k) (u, c) → Leaves (u, c) m' → DoesSo Worker.Idle m'
 after_leave k (View.Loading l) c m' h leave = absurd h
+after_leave k (View.Noting x') c m' h leave = absurd h
+after_leave k View.Spent c m' h leave = absurd h
 after_leave k (View.Working v) c m' h leave = subst (λ (m : Mine). DoesSo Worker.Idle m) (sym leave.1) (refl, h.1.1)
 
 pub left_so : (k : ℕ) (m m' : Mine) → DoesSo (Worker.Late k) m → Leaves m m' → DoesSo Worker.Idle m'
@@ -82,6 +96,8 @@ left_so k m m' h leave = after_leave k m.0 m.1 m' h leave
 
 after_give : (u : View) (c : List (ℕ × Option Edition)) (m' : Mine) → GivesBack (u, c) m' → DoesSo Worker.Idle m'
 after_give (View.Loading l) c m' give = absurd give
+after_give (View.Noting x') c m' give = absurd give
+after_give View.Spent c m' give = absurd give
 after_give (View.Working v) c m' give = subst (λ (m : Mine). DoesSo Worker.Idle m) (sym give.1) (refl, refl)
 
 pub given_so : (m m' : Mine) → GivesBack m m' → DoesSo Worker.Idle m'
@@ -97,6 +113,8 @@ known_after shelves k x top top' within up known new j v is = dite (ℕ_discrete
 -- the loader may gather the slots of a free shelf
 gather_of : (k current newest : ℕ) (shelves : List Shelf) (u : View) (c : List (ℕ × Option Edition)) → RemembersSo current newest shelves (u, c) → slice_get shelves k ≡ Some Shelf.Free → MayGather k u c
 gather_of k current newest shelves (View.Working v) c h free = absurd h.0
+gather_of k current newest shelves (View.Noting x') c h free = absurd h.0
+gather_of k current newest shelves View.Spent c h free = absurd h.0
 gather_of k current newest shelves (View.Loading l) c h free = (ap (λ (s : List Shelf). slice_get s k) h.0.shelves_are ∙ free, h.0.empty, h.1)
 
 pub may_gather_so : (k current newest : ℕ) (shelves : List Shelf) (m : Mine) → RemembersSo current newest shelves m → slice_get shelves k ≡ Some Shelf.Free → MayGather k m.0 m.1
@@ -104,6 +122,8 @@ may_gather_so k current newest shelves m h free = gather_of k current newest she
 
 block_of : (k : ℕ) (u : View) (c : List (ℕ × Option Edition)) (m1 : Mine) → GathersOn k (u, c) m1 → IsBlock nothings k m1.1
 block_of k (View.Working v) c m1 g = absurd g
+block_of k (View.Noting x') c m1 g = absurd g
+block_of k View.Spent c m1 g = absurd g
 block_of k (View.Loading l) c m1 g = ap (λ (m : Mine). m.1) g.1
 
 pub gathered_so : (k : ℕ) (m m1 : Mine) → GathersOn k m m1 → IsBlock nothings k m1.1
@@ -112,6 +132,8 @@ gathered_so k m m1 g = block_of k m.0 m.1 m1 g
 filled_of : (k current newest : ℕ) (shelves : List Shelf) (image : ImageValue) (f : ℕ → Option Edition) (u : View) (c : List (ℕ × Option Edition)) (m1 m2 : Mine) → RemembersSo current newest shelves (u, c) → slice_get shelves k ≡ Some Shelf.Free
     → current ≡ newest → newest < 1000000000 → AllHave (newest + 1) image k f → GathersOn k (u, c) m1 → m2 ≡ (m1.0, down_from f (16 * k) 16 []) → MayOpenOn k (newest + 1) m2.0 m2.1
 filled_of k current newest shelves image f (View.Working v) c m1 m2 h free same left all g filled = absurd h.0
+filled_of k current newest shelves image f (View.Noting x') c m1 m2 h free same left all g filled = absurd h.0
+filled_of k current newest shelves image f View.Spent c m1 m2 h free same left all g filled = absurd h.0
 filled_of k current newest shelves image f (View.Loading l) c m1 m2 h free same left all g filled =
     let r = h.0 in
     let top : length g.0.images ≡ newest = ap (λ (x : List ImageValue). length x) g.2.1 ∙ r.newest_is in
@@ -125,6 +147,8 @@ may_open_so k current newest shelves image f m m1 m2 h free same left all g fill
 open_of : (k current newest : ℕ) (shelves : List Shelf) (f : ℕ → Option Edition) (u : View) (c : List (ℕ × Option Edition)) (m1 m2 m3 : Mine) → RemembersSo current newest shelves (u, c) → k < 8 → newest < 1000000000
     → GathersOn k (u, c) m1 → m2 ≡ (m1.0, down_from f (16 * k) 16 []) → OpensOn k m2 m3 → RemembersSo current (newest + 1) (set shelves k (Shelf.Open (newest + 1))) m3
 open_of k current newest shelves f (View.Working v) c m1 m2 m3 h small left g filled o = absurd h.0
+open_of k current newest shelves f (View.Noting x') c m1 m2 m3 h small left g filled o = absurd h.0
+open_of k current newest shelves f View.Spent c m1 m2 m3 h small left g filled o = absurd h.0
 open_of k current newest shelves f (View.Loading l) c m1 m2 m3 h small left g filled o =
     let r = h.0 in let eight = r.eight in
     let top : length g.0.images ≡ newest = ap (λ (x : List ImageValue). length x) g.2.1 ∙ r.newest_is in
@@ -151,6 +175,8 @@ opened_so k current newest shelves f m m1 m2 m3 h small left g filled o = open_o
 publish_of : (k version current newest : ℕ) (shelves : List Shelf) (u : View) (c : List (ℕ × Option Edition)) → RemembersSo current newest shelves (u, c) → slice_get shelves k ≡ Some (Shelf.Open version) → current < version
     → (version ≤ 1000000000) × MayPublish version k u × ((m' : Mine) → PublishesOn version k (u, c) m' → RemembersSo version newest shelves m')
 publish_of k version current newest shelves (View.Working v) c h is later = absurd h.0
+publish_of k version current newest shelves (View.Noting x') c h is later = absurd h.0
+publish_of k version current newest shelves View.Spent c h is later = absurd h.0
 publish_of k version current newest shelves (View.Loading l) c h is later =
     let r = h.0 in let a = r.known k version (ap (λ (s : Option Shelf). option_and_then version_of s) is) in let b = r.small in (
       omega arith,
@@ -166,6 +192,8 @@ published_so k version current newest shelves m h is later = publish_of k versio
 close_of : (k version current newest : ℕ) (shelves : List Shelf) (u : View) (c : List (ℕ × Option Edition)) → RemembersSo current newest shelves (u, c) → slice_get shelves k ≡ Some (Shelf.Open version) → version < current
     → MayClose k u × ((m' : Mine) → ClosesOn k (u, c) m' → RemembersSo current newest (set shelves k (Shelf.Closing version)) m')
 close_of k version current newest shelves (View.Working v) c h is older = absurd h.0
+close_of k version current newest shelves (View.Noting x') c h is older = absurd h.0
+close_of k version current newest shelves View.Spent c h is older = absurd h.0
 close_of k version current newest shelves (View.Loading l) c h is older =
     let r = h.0 in let here : slice_get l.shelves k ≡ Some (Shelf.Open version) = ap (λ (s : List Shelf). slice_get s k) r.shelves_are ∙ is in
     let within = slice_get_within shelves k (Shelf.Open version) is in (
@@ -194,6 +222,8 @@ closed_so k version current newest shelves m h is older = close_of k version cur
 collect_of : (k version current newest : ℕ) (shelves : List Shelf) (u : View) (c : List (ℕ × Option Edition)) → RemembersSo current newest shelves (u, c) → slice_get shelves k ≡ Some (Shelf.Closing version)
     → (version ≤ 1000000000) × MayCollect k version u c
 collect_of k version current newest shelves (View.Working v) c h is = absurd h.0
+collect_of k version current newest shelves (View.Noting x') c h is = absurd h.0
+collect_of k version current newest shelves View.Spent c h is = absurd h.0
 collect_of k version current newest shelves (View.Loading l) c h is =
     let r = h.0 in let a = r.known k version (ap (λ (s : Option Shelf). option_and_then version_of s) is) in let b = r.small in
     ((omega arith), (ap (λ (s : List Shelf). slice_get s k) r.shelves_are ∙ is, r.empty, h.1))
@@ -203,7 +233,11 @@ may_collect_so k version current newest shelves m h is = collect_of k version cu
 
 pub freed_so : (k current newest : ℕ) (shelves : List Shelf) (u u' : View) (x : Shelf) → OfLoader u (λ l. Remembers current newest shelves l) → slice_get shelves k ≡ Some x → Frees k u u' → OfLoader u' (λ l. Remembers current newest (set shelves k Shelf.Free) l)
 freed_so k current newest shelves (View.Working v) u' x h is f = absurd h
+freed_so k current newest shelves (View.Noting x') u' x h is f = absurd h
+freed_so k current newest shelves View.Spent u' x h is f = absurd h
 freed_so k current newest shelves (View.Loading a) (View.Working v) x h is f = absurd f
+freed_so k current newest shelves (View.Loading a) (View.Noting x') x h is f = absurd f
+freed_so k current newest shelves (View.Loading a) View.Spent x h is f = absurd f
 freed_so k current newest shelves (View.Loading a) (View.Loading b) x h is f = record {
   empty = f.hand;
   current_is = f.current.0 ∙ h.current_is;
@@ -216,7 +250,11 @@ freed_so k current newest shelves (View.Loading a) (View.Loading b) x h is f = r
 
 pub busy_so : (k count current newest : ℕ) (shelves : List Shelf) (u u' : View) → OfLoader u (λ l. Remembers current newest shelves l) → FindsBusy k count u u' → OfLoader u' (λ l. Remembers current newest shelves l)
 busy_so k count current newest shelves (View.Working v) u' h f = absurd h
+busy_so k count current newest shelves (View.Noting x') u' h f = absurd h
+busy_so k count current newest shelves View.Spent u' h f = absurd h
 busy_so k count current newest shelves (View.Loading a) (View.Working v) h f = absurd f
+busy_so k count current newest shelves (View.Loading a) (View.Noting x') h f = absurd f
+busy_so k count current newest shelves (View.Loading a) View.Spent h f = absurd f
 busy_so k count current newest shelves (View.Loading a) (View.Loading b) h f = record {
   empty = f.hand;
   current_is = f.current.0 ∙ h.current_is;

@@ -28,6 +28,7 @@ use Rattle.shelf_steps.specs.Plays.{Mine, looked_at, is_open, holding, come_late
 use Rattle.shelf_steps.proofs.Courses.{kept_of, none_snoc, begins_longer, happened, goes_same, begins_all, prefix_same, other_fits}
 use Rattle.shelf_steps.proofs.Frames.{there, worker_moves}
 use Rattle.shelf_steps.proofs.WordsAfter.{current_word, words_same, words_after, word_rises, word_falls, word_tells, found_at}
+use Rattle.shelf_steps.proofs.NoteLists.{notices_worker}
 use Rattle.shelf_steps.proofs.SlotsAfter.{slots_worker, slots_one}
 
 -- a step of a worker changes what is so of that worker alone
@@ -65,7 +66,7 @@ module _ (table : Table (Option Edition) View) (r : Ruled table) (id : ℕ) (v v
       (begins_longer r.course e reply t r.course.images u.known (Some u.number) (not_of u.number other) (prefix_same r.course.images) f.known) f
 
   pub next_seats : WorkerFits (extended r.course e reply t r.course.images) v' → SeatsFit (extended r.course e reply t r.course.images) (set table.views id (View.Working v')) r.loader
-  next_seats fits = worker_moves r.course (extended r.course e reply t r.course.images) table.views r.loader r.seats id v v' at named others loads rest (λ w other h. none_snoc (Some w) r.course.events e (not_of w other) h) fits
+  next_seats fits = worker_moves r.course (extended r.course e reply t r.course.images) table.views r.loader r.seats id v v' at named others loads rest (λ w small other h. none_snoc (Some w) r.course.events e (not_of w other) h) fits
 
   pub next_happened : Happened v.known e reply (all_of (extended r.course e reply t r.course.images))
   next_happened = happened r.course e reply t r.course.images v.known
@@ -73,6 +74,8 @@ module _ (table : Table (Option Edition) View) (r : Ruled table) (id : ℕ) (v v
 
 looks_as : (slots id : ℕ) (u : View) (c : List (ℕ × Option Edition)) → IsIdle u → Allows Ruled slots id (u, c) 0 (λ n. n) (Looks (u, c))
 looks_as slots id (View.Loading l) c idle table r full at small = absurd idle
+looks_as slots id (View.Noting x') c idle table r full at small = absurd idle
+looks_as slots id View.Spent c idle table r full at small = absurd idle
 looks_as slots id (View.Working v) c idle table r full at small =
     let s = r.course.state in let w = v.number in let n = get_or table.words 0 0 in
     let kept : Kept s = kept_of r.course r.goes in
@@ -105,6 +108,7 @@ looks_as slots id (View.Working v) c idle table r full at small =
         goes = next_goes table r id v v' at refl e reply t refl is_step refl refl refl refl rest;
         words = words_same table.words 0 s t r.words refl refl refl refl;
         seats = next_seats table r id v v' at refl e reply t refl is_step refl refl refl refl rest fits;
+        notices = notices_worker table.views id v v' at ∙ r.notices;
         slots = slots_worker table.homes s.shelves s.workers r.course.images r.loader.hand w Worker.Idle (Worker.Looked s.current s.current_shelf) is_idle (λ k x q. cc) r.slots;
       },
       (all_of d, refl, next_happened table r id v v' at refl e reply t refl is_step refl refl refl refl rest, seen_less, (λ p. let q = f.passed p in let q' = z.1 in omega arith), (t, next_goes table r id v v' at refl e reply t refl is_step refl refl refl refl rest, fits.shows)),
@@ -162,6 +166,7 @@ takes_found id k v version c table r at now true stands =
         goes = next_goes table r id v v' at refl e reply t refl is_step refl refl refl refl rest;
         words = words_counted table.words k ((n + 1) % 18446744073709551616) (get_or s.counts k 0 + 1) t.workers s kept r.words z.1 (word_rises table.words s k kept r.words z.1);
         seats = next_seats table r id v v' at refl e reply t refl is_step refl refl refl refl rest fits;
+        notices = notices_worker table.views id v v' at ∙ r.notices;
         slots = slots_one table.homes s.shelves s.workers r.course.images r.loader.hand k w (Worker.Looked version k) (Worker.Holding k version) (Shelf.Open version) none has (λ j x ne q. cc) stands z.0
             (there table.homes (16 * k + w) _ filled) (inr (refl, slice_get-set_same s.workers w (Worker.Holding k version) within)) r.slots;
       },
@@ -206,6 +211,7 @@ takes_found id k v version c table r at now false shut =
         goes = goes';
         words = words_counted table.words k ((n + 1) % 18446744073709551616) (get_or s.counts k 0 + 1) t.workers s kept r.words z.1 (word_rises table.words s k kept r.words z.1);
         seats = next_seats table r id v v' at refl e reply t refl is_step refl refl refl refl rest fits;
+        notices = notices_worker table.views id v v' at ∙ r.notices;
         slots = slots_worker table.homes s.shelves s.workers r.course.images r.loader.hand w (Worker.Looked version k) (Worker.Late k) has (λ j x q. cc) r.slots;
       },
       (
@@ -219,6 +225,8 @@ takes_found id k v version c table r at now false shut =
 
 takes_as : (slots id k : ℕ) (u : View) (c : List (ℕ × Option Edition)) → HasLooked k u → Allows Ruled slots id (u, c) (k + 1) (λ n. (n + 1) % 18446744073709551616) (Takes (u, c))
 takes_as slots id k (View.Loading l) c has table r full at fits = absurd has
+takes_as slots id k (View.Noting x') c has table r full at fits = absurd has
+takes_as slots id k View.Spent c has table r full at fits = absurd has
 takes_as slots id k (View.Working v) c has table r full at fits =
     let s = r.course.state in let n = get_or table.words (k + 1) 0 in
     let kept : Kept s = kept_of r.course r.goes in
@@ -261,6 +269,7 @@ leaves_with id k v table r at stays c a small slots =
         goes = next_goes table r id v v' at refl e reply t refl is_step refl refl refl refl rest;
         words = words_counted table.words k ((n + (18446744073709551616 - 1)) % 18446744073709551616) (get_or s.counts k 0 - 1) t.workers s kept r.words z.1 (word_falls table.words s k kept r.words z.1 z.2);
         seats = next_seats table r id v v' at refl e reply t refl is_step refl refl refl refl rest fits;
+        notices = notices_worker table.views id v v' at ∙ r.notices;
         slots = slots;
       },
       next_happened table r id v v' at refl e reply t refl is_step refl refl refl refl rest,
@@ -269,6 +278,8 @@ leaves_with id k v table r at stays c a small slots =
 
 leaves_as : (slots id k : ℕ) (u : View) (c : List (ℕ × Option Edition)) → IsLate k u → Allows Ruled slots id (u, c) (k + 1) (λ n. (n + (18446744073709551616 - 1)) % 18446744073709551616) (λ _. Leaves (u, c))
 leaves_as slots id k (View.Loading l) c late table r full at fits = absurd late
+leaves_as slots id k (View.Noting x') c late table r full at fits = absurd late
+leaves_as slots id k View.Spent c late table r full at fits = absurd late
 leaves_as slots id k (View.Working v) c late table r full at small =
     let s = r.course.state in
     let f : WorkerFits r.course v = (r.seats.each id (View.Working v) at).2 in
@@ -310,6 +321,8 @@ gives_as slots id k version v many now table r full at small =
 
 givings_as : (slots id k : ℕ) (u : View) (c : List (ℕ × Option Edition)) → slots ≡ 128 → HoldsOut k u c → Allows Ruled slots id (u, c) (k + 1) (λ n. (n + (18446744073709551616 - 1)) % 18446744073709551616) (λ _. GivesBack (u, c))
 givings_as slots id k (View.Loading l) c many h = absurd h
+givings_as slots id k (View.Noting x') c many h = absurd h
+givings_as slots id k View.Spent c many h = absurd h
 givings_as slots id k (View.Working v) c many h =
     subst (λ (x : List (ℕ × Option Edition)). Allows Ruled slots id (View.Working v, x) (k + 1) (λ n. (n + (18446744073709551616 - 1)) % 18446744073709551616) (λ _. GivesBack (View.Working v, x))) (sym h.2)
     (gives_as slots id k h.0 v many h.1)

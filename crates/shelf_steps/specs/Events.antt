@@ -1,21 +1,24 @@
 -- Each step is its event.
-use Rattle.std.specs.Prelude.{◌≡◌, ℕ, ◌/◌, ◌%◌, ◌<◌, ◌⊎◌}
+use Rattle.std.specs.Prelude.{◌≡◌, ℕ, ◌/◌, ◌%◌, ◌<◌, ◌⊎◌, max, [], ◌∷◌, ◌++◌, slice_set}
 use mathlib.Core.Option.{some}
 use lib.ListN.{get_elem?}
 use Rattle.version_core.specs.declared.event.Event.{Event}
 use Rattle.version_core.specs.declared.event.Reply.{Reply}
+use Rattle.version_core.specs.State.{noted, joined}
 use Rattle.shelf_steps.specs.declared.views.Known.{Known}
+use Rattle.shelf_steps.specs.declared.views.WorkerView.{WorkerView}
 use Rattle.shelf_steps.specs.declared.views.LoaderView.{LoaderView}
 use Rattle.shelf_steps.specs.declared.views.View.{View}
-use Rattle.shelf_steps.specs.Course.{Happened}
+use Rattle.shelf_steps.specs.Course.{Happened, extended}
 use Rattle.shelf_steps.specs.Ruled.{Ruled}
-use Rattle.shelf_steps.specs.Plays.{OfWorker, Mine, Looks, Takes, Leaves, GivesBack, OpensOn, PublishesOn, ClosesOn, CollectsOn, GathersOn, PutsBackOn, IsLate}
+use Rattle.shelf_steps.specs.Plays.{OfWorker, Mine, Looks, Takes, Leaves, GivesBack, OpensOn, PublishesOn, ClosesOn, CollectsOn, GathersOn, PutsBackOn, IsLate, IsSettled, with_seen}
 use Rattle.shelf_steps.specs.Laws.{Shelved, IsLoader}
 
 -- what a seat knows of the past
 abbrev pub known_of : View → Known
 known_of (View.Loading l) = l.known
 known_of (View.Working v) = v.known
+known_of _ = record { events = []; replies = []; images = [] }
 
 -- from one view to the next: the event, answered so, is the last that is known, and nothing of the seat's own stands between
 abbrev pub IsEvent : View → Event → Reply → View → Type 0
@@ -62,3 +65,26 @@ LateTakesTell =
 abbrev pub LateTakesRise : Type 0
 LateTakesRise =
     (m m1 m2 m3 m4 : Mine) (n word n' : ℕ) → Looks m n m1 → Takes m1 word m2 → IsLate (n % 8) m2.0 → Leaves m2 m3 → Looks m3 n' m4 → n / 8 < n' / 8
+
+-- the table once a notice was split from the loader's seat
+abbrev pub noting : Shelved → ℕ → LoaderView → Shelved
+noting table id l = record { words = table.words; homes = table.homes; views = slice_set table.views id (View.Loading l) ++ View.Noting l.current ∷ [] }
+
+-- and once a worker's seat has taken one in
+abbrev pub joining : Shelved → ℕ → WorkerView → ℕ → ℕ → Shelved
+joining table id v other n =
+    record { words = table.words; homes = table.homes; views = slice_set (slice_set table.views id (View.Working (with_seen v n))) other View.Spent }
+
+-- a notice that goes out is one event: what happened is longer by it, and by nothing else
+abbrev pub NotesAreEvents : Type 0
+NotesAreEvents =
+    (table : Shelved) (id : ℕ) (l : LoaderView) (r : Ruled table) → get_elem? table.views id ≡ some (View.Loading l)
+    → (after : Ruled (noting table id l)) × (after.course ≡ extended r.course Event.Note (Reply.Noted l.current) (noted r.course.state) r.course.images)
+
+-- and so is one that is taken in
+abbrev pub JoinsAreEvents : Type 0
+JoinsAreEvents =
+    (table : Shelved) (id other n : ℕ) (v : WorkerView) (r : Ruled table) → get_elem? table.views id ≡ some (View.Working v) → IsSettled (View.Working v)
+    → get_elem? table.views other ≡ some (View.Noting n)
+    → (after : Ruled (joining table id v other n))
+    × ((place : ℕ) × (after.course ≡ extended r.course (Event.Join v.number n) (Reply.Joined (max v.seen n)) (joined r.course.state v.number n place) r.course.images))

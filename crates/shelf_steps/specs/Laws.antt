@@ -13,7 +13,7 @@ use Rattle.shelf_steps.specs.declared.views.LoaderView.{LoaderView}
 use Rattle.shelf_steps.specs.declared.views.View.{View}
 use Rattle.shelf_steps.specs.Course.{Course, Goes, Begins, IsEdition}
 use Rattle.version_core.specs.Shown.{WordsShow, WorkerShows, LoaderShows, shelf_word}
-use Rattle.shelf_steps.specs.Ruled.{Ruled}
+use Rattle.shelf_steps.specs.Ruled.{Ruled, notices_of}
 
 abbrev pub Shelved : Type 0
 Shelved = Table (Option Edition) View
@@ -77,12 +77,17 @@ LooksAreSo =
     → (w.seen ≤ l.current) × (w.last ≤ l.current) × (w.passed ≡ true → w.last < l.current)
     × ((v k : ℕ) → w.now ≡ Worker.Looked v k → (v ≤ l.current) × (v ≡ l.current → k ≡ l.current_shelf))
 
+-- a notice is of the current version or an older one
+abbrev pub NoticesAreOfTheirTime : Type 0
+NoticesAreOfTheirTime = (table : Shelved) (l : LoaderView) (i v : ℕ) → Ruled table → IsLoader table l → get_elem? table.views i ≡ some (View.Noting v) → v ≤ l.current
+
 -- the words, and what each seat knows, show the state: editions are places in the loader's list of images, and a worker with no seat yet is idle and has seen nothing
 pub record TableShows (table : Shelved) (l : LoaderView) (s : State) : Type 0 where
   pub words : WordsShow table.words s
   pub loader : LoaderShows l.current l.current_shelf l.shelves (length l.known.images) s
   pub numbered : (i edition : ℕ) → slice_get s.editions i ≡ Some edition → edition ≡ i
   pub workers : (i : ℕ) (v : WorkerView) → get_elem? table.views i ≡ some (View.Working v) → WorkerShows v.number v.now v.seen s
+  pub notices : notices_of table.views ≡ s.notices
   pub unseated : (w : ℕ) → l.handed ≤ w → w < 16 → (slice_get s.workers w ≡ Some Worker.Idle) × (slice_index s.seen w ≡ 0)
 
 -- there is one course of events, of which each seat knows a beginning, behind which nothing of its own stands. It leads to the state that words and seats show

@@ -1,6 +1,6 @@
 -- What each step tells the seat that makes it.
 use Rattle.image_layout.specs.Image.{ImageValue}
-use Rattle.std.specs.Prelude.{◌≡◌, ℕ, ◌+◌, ◌*◌, ◌/◌, ◌%◌, ◌<◌, ◌≤◌, ◌==◌, ◌&&◌, Bool, true, false, List, [], ◌∷◌, ◌++◌, Option, Some, None, length, slice_get, slice_set}
+use Rattle.std.specs.Prelude.{◌≡◌, ℕ, ◌+◌, ◌*◌, ◌/◌, ◌%◌, ◌<◌, ◌≤◌, ◌==◌, ◌&&◌, ◌⊎◌, max, Bool, true, false, List, [], ◌∷◌, ◌++◌, Option, Some, None, length, slice_get, slice_set}
 use Rattle.std.specs.Arc.{arc_value}
 use Rattle.atomic_table.specs.Table.{Me, Step}
 use Rattle.atomic_table.specs.Seated.{TableId}
@@ -20,8 +20,8 @@ use Rattle.shelf_steps.specs.Slots.{down_from, nothings}
 
 -- what holds of a worker's view
 abbrev pub OfWorker : View → (WorkerView → Type 0) → Type 0
-OfWorker (View.Loading l) P = ⊥
 OfWorker (View.Working v) P = P v
+OfWorker _ P = ⊥
 
 -- what a seat knows, with the slots that are out with it
 abbrev pub Mine : Type 0
@@ -101,7 +101,7 @@ HoldsOut k u c = OfWorker u (λ v. (version : ℕ) × (v.now ≡ Worker.Holding 
 -- what holds of the loader's view
 abbrev pub OfLoader : View → (LoaderView → Type 0) → Type 0
 OfLoader (View.Loading l) P = P l
-OfLoader (View.Working v) P = ⊥
+OfLoader _ P = ⊥
 
 -- the version that was opened last
 abbrev pub newest_of : LoaderView → ℕ
@@ -219,11 +219,35 @@ one_more l = record { handed = l.handed + 1; current = l.current; current_shelf 
 
 abbrev pub keeps_loading : View → View
 keeps_loading (View.Loading l) = View.Loading (one_more l)
-keeps_loading (View.Working v) = View.Working v
+keeps_loading u = u
 
 abbrev pub new_worker_view : View → View
 new_worker_view (View.Loading l) = View.Working (newcomer l.handed)
-new_worker_view (View.Working v) = View.Working v
+new_worker_view u = u
 
 abbrev pub MayHandOut : View → Type 0
 MayHandOut u = OfLoader u (λ l. l.handed < 16)
+
+-- the notice that is split from the loader's view
+abbrev pub new_notice : View → View
+new_notice (View.Loading l) = View.Noting l.current
+new_notice u = View.Spent
+
+abbrev pub IsLoading : View → Type 0
+IsLoading u = OfLoader u (λ l. Unit {0})
+
+-- the worker has seen this version too
+abbrev pub with_seen : WorkerView → ℕ → WorkerView
+with_seen v n = record { number = v.number; now = v.now; seen = max v.seen n; last = v.last; passed = v.passed; edition = v.edition; known = v.known }
+
+-- what a worker knows once it has taken in a notice
+abbrev pub joins_notice : View → View → View
+joins_notice (View.Working v) (View.Noting n) = View.Working (with_seen v n)
+joins_notice u w = u
+
+-- the worker is idle or holds a version
+abbrev pub IsSettled : View → Type 0
+IsSettled u = OfWorker u (λ v. (v.now ≡ Worker.Idle) ⊎ ((k x : ℕ) × (v.now ≡ Worker.Holding k x)))
+
+abbrev pub IsNotice : ℕ → Mine → Type 0
+IsNotice version m = m ≡ (View.Noting version, [])

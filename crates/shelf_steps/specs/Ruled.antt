@@ -1,6 +1,6 @@
 -- The rule of the shelves.
 use Rattle.image_layout.specs.Image.{ImageValue}
-use Rattle.std.specs.Prelude.{◌≡◌, ℕ, ◌<◌, ◌≤◌, length, List, [], ◌∷◌, Option, None, replicate}
+use Rattle.std.specs.Prelude.{◌≡◌, ℕ, ◌<◌, ◌≤◌, length, List, [], ◌∷◌, ◌++◌, Option, None, replicate}
 use mathlib.Core.Option.{some}
 use lib.ListN.{get_elem?}
 use Rattle.atomic_table.specs.Table.{State as Table}
@@ -14,6 +14,15 @@ use Rattle.shelf_steps.specs.Seats.{SeatsFit}
 use Rattle.shelf_steps.specs.Slots.{SlotsFit}
 use Rattle.shelf_steps.specs.Plays.{HasImage}
 
+-- the versions that the views of notices spell, in the order of their seats
+abbrev pub notice_of : View → List ℕ
+notice_of (View.Noting v) = v ∷ []
+notice_of _ = []
+
+abbrev pub notices_of : List View → List ℕ
+notices_of [] = []
+notices_of (u ∷ us) = notice_of u ++ notices_of us
+
 -- there is one course of events, which the words show, the views know, and the slots follow
 pub record Ruled (table : Table (Option Edition) View) : Type 0 where
   pub course : Course
@@ -21,6 +30,7 @@ pub record Ruled (table : Table (Option Edition) View) : Type 0 where
   pub goes : Goes course
   pub words : WordsShow table.words course.state
   pub seats : SeatsFit course table.views loader
+  pub notices : notices_of table.views ≡ course.state.notices
   pub slots : SlotsFit table.homes course.state.shelves course.state.workers course.images loader.hand
 
 abbrev pub first_loader : ImageValue → LoaderView

@@ -33,6 +33,7 @@ pub record LoaderFits (c : Course) (l : LoaderView) : Type 0 where
 abbrev pub SeatFits : Course → LoaderView → (ℕ → ℕ) → ℕ → View → Type 0
 SeatFits c loader owner seat (View.Loading l) = (seat ≡ 0) × (l ≡ loader)
 SeatFits c loader owner seat (View.Working v) = (v.number < loader.handed) × (owner v.number ≡ seat) × WorkerFits c v
+SeatFits c loader owner seat _ = Unit {0}
 
 pub record SeatsFit (c : Course) (views : List View) (loader : LoaderView) : Type 0 where
   pub owner : ℕ → ℕ

@@ -1,10 +1,11 @@
 //! What the rule of the shelves says, and the steps that keep it, one by one. Functions without arguments do nothing: their
 //! contracts are the laws.
-ghost use Rattle.shelf_steps.specs.Laws.{WordsAreTheLoaders, CountsAreWorkers, NumbersDiffer, HeldHaveEditions, SlotsOutAreHeld, SlotsAtHomeAreFilled, LooksAreSo, OneSeatLoads, OneHistory, OneStateIsShown};
-ghost use Rattle.shelf_steps.specs.Events.{LooksAreEvents, TakesAreEvents, DropsAreEvents, OpensAreEvents, PublishesAreEvents, ClosesAreEvents, CollectsAreEvents, SpareTriesAreEvents, LateTakesTell, LateTakesRise};
+ghost use Rattle.shelf_steps.specs.Laws.{WordsAreTheLoaders, CountsAreWorkers, NumbersDiffer, HeldHaveEditions, SlotsOutAreHeld, SlotsAtHomeAreFilled, LooksAreSo, OneSeatLoads, OneHistory, NoticesAreOfTheirTime, OneStateIsShown};
+ghost use Rattle.shelf_steps.specs.Events.{LooksAreEvents, TakesAreEvents, DropsAreEvents, OpensAreEvents, PublishesAreEvents, ClosesAreEvents, CollectsAreEvents, SpareTriesAreEvents, NotesAreEvents, JoinsAreEvents, LateTakesTell, LateTakesRise};
 
 pub use crate::blocks::{empty_block, fill_block};
 pub use crate::loader_steps::{close, collect, gather, open, publish, put_back};
+pub use crate::noting::{join, note};
 pub use crate::opening::{new_shelves, new_worker};
 pub use crate::pinning::try_once;
 pub use crate::worker_steps::{give_back, leave_late, look, take};
@@ -20,6 +21,7 @@ pub fn the_rule_says()
     ensures looks { LooksAreSo }
     ensures loader { OneSeatLoads }
     ensures history { OneHistory }
+    ensures notices { NoticesAreOfTheirTime }
 {}
 
 /// The words and what the seats know show one state of the table of versions, and no two.
@@ -38,6 +40,12 @@ pub fn each_step_is_its_event()
     ensures close { ClosesAreEvents }
     ensures collect { CollectsAreEvents }
     ensures spare { SpareTriesAreEvents }
+{}
+
+/// A notice that goes out is one event, and so is one that is taken in, at whatever moment.
+pub fn notices_are_events()
+    ensures notes { NotesAreEvents }
+    ensures joins { JoinsAreEvents }
 {}
 
 /// A look followed by a take that comes late proves that the version looked at is no longer current, so that the next look

@@ -2,7 +2,7 @@
 
 use crate::edition::Edition;
 use crate::views::View;
-use atomic_table::{Play, Split, TableRule};
+use atomic_table::{Join, Play, Split, TableRule};
 use image_verifier::Verified;
 use std::alloc::Global;
 use std::sync::Arc;
@@ -108,4 +108,25 @@ impl Split<View> for HandingOut {
     ghost left = { keeps_loading };
 
     ghost right = { new_worker_view };
+}
+
+pub struct Noting;
+
+impl Split<View> for Noting {
+    ghost use Rattle.shelf_steps.specs.Plays.{new_notice};
+
+    ghost left = { λ u. u };
+
+    ghost right = { new_notice };
+}
+
+pub struct Joining;
+
+impl Join<View> for Joining {
+    ghost use Rattle.shelf_steps.specs.Plays.{joins_notice};
+    ghost use Rattle.shelf_steps.specs.declared.views.View.{View};
+
+    ghost both = { joins_notice };
+
+    ghost spent = { View.Spent };
 }

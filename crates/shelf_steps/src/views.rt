@@ -43,4 +43,8 @@ pub struct LoaderView {
 pub enum View {
     Loading(LoaderView),
     Working(WorkerView),
+    /// A notice of this version.
+    Noting { version: u64 },
+    /// What a notice leaves behind that was taken in.
+    Spent,
 }

@@ -1,17 +1,18 @@
 -- Each step keeps what holds in every state.
-use Rattle.std.proofs.Common.{◌≡◌, ◌≢◌, ℕ, ◌+◌, ◌<◌, ◌≤◌, ◌==◌, Bool, true, false, MatchBool, length, ◌++◌, ◌∷◌, [], get_or, Some, slice_get, refl, ap, sym, ◌∙◌, subst, arith, rules, inl, inr, length-append}
+use Rattle.std.proofs.Common.{◌≡◌, ◌≢◌, ℕ, ◌+◌, ◌<◌, ◌≤◌, ◌==◌, Bool, true, false, MatchBool, length, ◌++◌, ◌∷◌, [], get_or, Some, slice_get, refl, ap, sym, ◌∙◌, subst, arith, rules, ◌⊎◌, inl, inr, length-append}
 use Rattle.std.proofs.lemmas.Bool.Decides.{nat_tests}
 use Rattle.std.proofs.lemmas.Option.{slice_get_within}
 use Rattle.version_core.specs.declared.state.Shelf.{Shelf}
 use Rattle.version_core.specs.declared.state.Worker.{Worker}
 use Rattle.version_core.specs.declared.event.Event.{Event}
 use Rattle.version_core.specs.declared.event.Reply.{Reply}
-use Rattle.version_core.specs.State.{State, start, newest, looked, arrived, departed, opened, published, shelved}
-use Rattle.version_core.specs.Steps.{IsIdle, HasLooked, Holds, StaysAt, IsFree, IsOpen, IsClosing, IsUnpublished, IsOutdated, MayOpen, Step, LookStep, TakeStep, DropStep, OpenStep, PublishStep, CloseStep, CollectStep, AskStep}
+use Rattle.version_core.specs.State.{State, start, newest, looked, arrived, departed, opened, published, shelved, noted, joined}
+use Rattle.version_core.specs.Steps.{IsIdle, HasLooked, Holds, StaysAt, IsFree, IsOpen, IsClosing, IsUnpublished, IsOutdated, MayOpen, Step, LookStep, TakeStep, DropStep, OpenStep, PublishStep, CloseStep, CollectStep, AskStep, NoteStep, JoinStep, IsSettled}
 use Rattle.version_core.specs.Kept.{Kept, Fits, is_at, version_on}
 use Rattle.version_core.proofs.Shelves.{version_at, shelves_open, opening_stays, shelves_publish, shelves_close, closing_stays, shelves_free, none_unpublished}
 use Rattle.version_core.proofs.Counts.{counts_stay, counts_rise, counts_fall, counted_at, no_one_at}
-use Rattle.version_core.proofs.Workers.{workers_go_on, workers_look, workers_stay, workers_later, workers_away}
+use Rattle.version_core.proofs.Workers.{workers_go_on, workers_look, workers_stay, workers_later, workers_away, workers_see}
+use Rattle.version_core.proofs.Rising.{most_left, most_least, rise_later, rise_more, rise_less, rise_at}
 
 pub start_kept : Kept start
 start_kept = search rules
@@ -24,6 +25,7 @@ look_kept s w kept idle =
       shelves = kept.shelves;
       counts = counts_stay s.counts s.workers w Worker.Idle (Worker.Looked s.current s.current_shelf) kept.counts idle (λ i. refl) (λ i. refl);
       workers = workers_look s.current s.current_shelf s.shelves s.workers s.seen w kept.workers idle (omega arith);
+      notices = kept.notices;
     }
 
 -- what is known of a worker that has looked
@@ -38,6 +40,7 @@ arrived_kept s w v k now kept has there fits = record {
   shelves = kept.shelves;
   counts = counts_rise s.counts s.workers w k (Worker.Looked v k) now kept.counts (looked_fits s w v k kept has).1 has (λ i. refl) there;
   workers = workers_go_on s.current s.current_shelf s.shelves s.workers s.seen w (Worker.Looked v k) now kept.workers has fits;
+  notices = kept.notices;
 }
 
 pub arrive_in_time_kept : (s : State) (w v k : ℕ) → Kept s → HasLooked s w v k → IsOpen s k v → Kept (arrived s w k (Worker.Holding k v))
@@ -70,6 +73,7 @@ departed_kept s w k was kept small here there seen = record {
   shelves = kept.shelves;
   counts = counts_fall s.counts s.workers w k was kept.counts small here there;
   workers = workers_go_on s.current s.current_shelf s.shelves s.workers s.seen w was Worker.Idle kept.workers here seen;
+  notices = kept.notices;
 }
 
 pub depart_kept : (s : State) (w k : ℕ) → Kept s → StaysAt s w k → Kept (departed s w k)
@@ -99,6 +103,7 @@ open_kept s k e kept may free =
       shelves = rw longer (shelves_open s.current s.current_shelf (newest s) k s.shelves kept.shelves (newest_is_current s kept may.0) free);
       counts = kept.counts;
       workers = workers_stay s.current s.current_shelf s.shelves _ s.workers s.seen (λ j v has. opening_stays s.shelves k (newest s + 1) j v free has) kept.workers;
+      notices = kept.notices;
     }
 
 pub publish_kept : (s : State) (k v : ℕ) → Kept s → IsUnpublished s k v → Kept (published s k v)
@@ -107,6 +112,7 @@ publish_kept s k v kept new = record {
   shelves = shelves_publish s.current s.current_shelf (newest s) k v s.shelves kept.shelves new.0 new.1;
   counts = kept.counts;
   workers = workers_later s.current s.current_shelf v k s.shelves s.workers s.seen new.1 kept.workers;
+  notices = rise_later 0 s.notices s.current v kept.notices (let up = new.1 in omega arith);
 }
 
 below : (v n : ℕ) → v ≢ n → ¬ (n < v) → v < n
@@ -121,6 +127,7 @@ close_kept s k v kept outdated =
       shelves = shelves_close s.current s.current_shelf (newest s) k v s.shelves kept.shelves outdated.0 old;
       counts = kept.counts;
       workers = workers_stay s.current s.current_shelf s.shelves _ s.workers s.seen (λ j x has. closing_stays s.shelves k v j x outdated.0 has) kept.workers;
+      notices = kept.notices;
     }
 
 pub free_kept : (s : State) (k v : ℕ) → Kept s → IsClosing s k v → get_or s.counts k 0 ≡ 0 → Kept (shelved s k Shelf.Free)
@@ -131,7 +138,34 @@ free_kept s k v kept closing none =
       shelves = shelves_free s.current s.current_shelf (newest s) k v s.shelves kept.shelves closing;
       counts = kept.counts;
       workers = workers_away s.current s.current_shelf k s.shelves Shelf.Free s.workers s.seen (no_one_at s.counts s.workers k kept.counts (omega arith) none) kept.workers;
+      notices = kept.notices;
     }
+
+pub note_kept : (s : State) → Kept s → Kept (noted s)
+note_kept s kept = record { room = kept.room; shelves = kept.shelves; counts = kept.counts; workers = kept.workers; notices = rise_more 0 s.notices s.current kept.notices }
+
+see_kept : (s : State) (w v place : ℕ) (was : Worker) → Kept s → slice_get s.workers w ≡ Some was → (was ≡ Worker.Idle) ⊎ ((k x : ℕ) × (was ≡ Worker.Holding k x)) → get_or s.seen w 0 ≤ s.current
+    → slice_get s.notices place ≡ Some v → Kept (joined s w v place)
+see_kept s w v place was kept here so seen there = record {
+  room = kept.room;
+  shelves = kept.shelves;
+  counts = kept.counts;
+  workers = workers_see s.current s.current_shelf s.shelves s.workers s.seen w _ was kept.workers here so (most_left _ v) (most_least _ v s.current seen (rise_at 0 s.notices s.current place v kept.notices there).1);
+  notices = rise_less 0 s.notices s.current place v kept.notices there;
+}
+
+pub join_kept : (s : State) (w v place : ℕ) → Kept s → IsSettled s w → slice_get s.notices place ≡ Some v → Kept (joined s w v place)
+join_kept s w v place kept settled there =
+    elim settled [
+      | inl a ↦ see_kept s w v place Worker.Idle kept a (inl refl) (kept.workers.each w Worker.Idle a) there
+      | inr b ↦ see_kept s w v place (Worker.Holding b.0 b.1) kept b.2 (inr (b.0, b.1, refl)) (kept.workers.each w (Worker.Holding b.0 b.1) b.2).3 there
+    ]
+
+-- a worker that is idle or holds a version has its place
+pub settled_small : (s : State) (w : ℕ) → Kept s → IsSettled s w → w < 16
+settled_small s w kept settled =
+    let e = kept.workers.sixteen in
+    elim settled [ inl a ↦ (let l = slice_get_within s.workers w _ a in omega arith) | inr b ↦ (let l = slice_get_within s.workers w _ b.2 in omega arith) ]
 
 look_step_kept : (s : State) (w : ℕ) (r : Reply) (t : State) → Kept s → LookStep s w r t → Kept t
 look_step_kept s w (Reply.Looked v k) t kept h = subst Kept (sym h.3) (look_kept s w kept h.0)
@@ -176,6 +210,15 @@ ask_step_kept s w (Reply.From v e) t kept h = subst Kept (sym h.3) kept
 ask_step_kept s w Reply.NotNow t kept h = subst Kept (sym h.1) kept
 ask_step_kept s w _ t kept h = absurd h
 
+note_step_kept : (s : State) (r : Reply) (t : State) → Kept s → NoteStep s r t → Kept t
+note_step_kept s (Reply.Noted v) t kept h = subst Kept (sym h.1) (note_kept s kept)
+note_step_kept s _ t kept h = absurd h
+
+join_step_kept : (s : State) (w v : ℕ) (r : Reply) (t : State) → Kept s → JoinStep s w v r t → Kept t
+join_step_kept s w v (Reply.Joined n) t kept h = subst Kept (sym h.2.2) (join_kept s w v h.2.0 kept h.0 h.2.1)
+join_step_kept s w v Reply.NotNow t kept h = subst Kept (sym h.1) kept
+join_step_kept s w v _ t kept h = absurd h
+
 pub step_kept : (s : State) (e : Event) (r : Reply) (t : State) → Kept s → Step s e r t → Kept t
 step_kept s (Event.Look w) r t kept h = look_step_kept s w r t kept h
 step_kept s (Event.Take w) r t kept h = take_step_kept s w r t kept h
@@ -185,6 +228,8 @@ step_kept s Event.Publish r t kept h = publish_step_kept s r t kept h
 step_kept s (Event.Close k) r t kept h = close_step_kept s k r t kept h
 step_kept s (Event.Collect k) r t kept h = collect_step_kept s k r t kept h
 step_kept s (Event.Ask w) r t kept h = ask_step_kept s w r t kept h
+step_kept s Event.Note r t kept h = note_step_kept s r t kept h
+step_kept s (Event.Join w v) r t kept h = join_step_kept s w v r t kept h
 
 -- the version that a worker holds is one that was opened
 pub held_known : (s : State) (w k v : ℕ) → Kept s → Holds s w k v → (version_on s.shelves k ≡ Some v) × (0 < v) × (v ≤ newest s)

@@ -7,3 +7,4 @@ pub mod Runs
 pub mod Rests
 pub mod Replies
 pub mod Pins
+pub mod Rising

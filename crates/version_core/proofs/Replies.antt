@@ -1,14 +1,15 @@
 -- A state and an event have one reply and one next state, but for the free shelf that is opened.
-use Rattle.std.proofs.Common.{◌≡◌, ℕ, ◌<◌, Some, slice_get, refl, ap, sym, ◌∙◌, arith, inl, inr}
+use Rattle.std.proofs.Common.{◌≡◌, ℕ, ◌<◌, remove, Some, slice_get, refl, ap, sym, ◌∙◌, arith, inl, inr}
 use Rattle.version_core.specs.declared.state.Shelf.{Shelf}
 use Rattle.version_core.specs.declared.state.Worker.{Worker}
 use Rattle.version_core.specs.declared.event.Event.{Event}
 use Rattle.version_core.specs.declared.event.Reply.{Reply}
-use Rattle.version_core.specs.State.{State, newest, edition_of, arrived, departed, opened, published, shelved}
-use Rattle.version_core.specs.Steps.{IsUnpublished, OpensLeast, Step, LookStep, TakeStep, DropStep, OpenStep, PublishStep, CloseStep, CollectStep, AskStep}
+use Rattle.version_core.specs.State.{State, newest, edition_of, arrived, departed, opened, published, shelved, joined}
+use Rattle.version_core.specs.Steps.{IsUnpublished, OpensLeast, Step, LookStep, TakeStep, DropStep, OpenStep, PublishStep, CloseStep, CollectStep, AskStep, NoteStep, JoinStep}
 use Rattle.version_core.specs.Kept.{Kept}
 use Rattle.version_core.proofs.Shelves.{version_at}
 use Rattle.version_core.proofs.Pins.{stays_once}
+use Rattle.version_core.proofs.Rising.{remove_one}
 
 look_one : (s t u : State) (w : ℕ) (r q : Reply) → LookStep s w r t → LookStep s w q u → (q ≡ r) × (u ≡ t)
 look_one s t u w (Reply.Looked v k) (Reply.Looked x j) a b = (ap (λ n. Reply.Looked n j) (b.1 ∙ sym a.1) ∙ ap (λ n. Reply.Looked v n) (b.2 ∙ sym a.2), b.3 ∙ sym a.3)
@@ -139,6 +140,22 @@ ask_one s t u w Reply.NotNow Reply.NotNow a b = (refl, b.1 ∙ sym a.1)
 ask_one s t u w Reply.NotNow _ a b = absurd b
 ask_one s t u w _ q a b = absurd a
 
+note_one : (s t u : State) (r q : Reply) → NoteStep s r t → NoteStep s q u → (q ≡ r) × (u ≡ t)
+note_one s t u (Reply.Noted v) (Reply.Noted x) a b = (ap (λ n. Reply.Noted n) (b.0 ∙ sym a.0), b.1 ∙ sym a.1)
+note_one s t u (Reply.Noted v) _ a b = absurd b
+note_one s t u _ q a b = absurd a
+
+join_one : (s t u : State) (w v : ℕ) (r q : Reply) → Kept s → JoinStep s w v r t → JoinStep s w v q u → (q ≡ r) × (u ≡ t)
+join_one s t u w v (Reply.Joined n) (Reply.Joined m) kept a b =
+    let same = remove_one 0 s.notices s.current a.2.0 b.2.0 v kept.notices a.2.1 b.2.1 in
+    (ap (λ x. Reply.Joined x) (b.1 ∙ sym a.1), b.2.2 ∙ (ap (λ l. record (joined s w v a.2.0) { notices = l }) same ∙ sym a.2.2))
+join_one s t u w v (Reply.Joined n) Reply.NotNow kept a b = absurd (b.0 (a.0, (a.2.0, a.2.1)))
+join_one s t u w v (Reply.Joined n) _ kept a b = absurd b
+join_one s t u w v Reply.NotNow (Reply.Joined m) kept a b = absurd (a.0 (b.0, (b.2.0, b.2.1)))
+join_one s t u w v Reply.NotNow Reply.NotNow kept a b = (refl, b.1 ∙ sym a.1)
+join_one s t u w v Reply.NotNow _ kept a b = absurd b
+join_one s t u w v _ q kept a b = absurd a
+
 pub one_reply : (s t u : State) (e : Event) (r q : Reply) → Kept s → Step s e r t → OpensLeast s e r → Step s e q u → OpensLeast s e q → (q ≡ r) × (u ≡ t)
 one_reply s t u (Event.Look w) r q kept a least b least' = look_one s t u w r q a b
 one_reply s t u (Event.Take w) r q kept a least b least' = take_one s t u w r q a b
@@ -148,3 +165,5 @@ one_reply s t u Event.Publish r q kept a least b least' = publish_one s t u r q 
 one_reply s t u (Event.Close k) r q kept a least b least' = close_one s t u k r q a b
 one_reply s t u (Event.Collect k) r q kept a least b least' = collect_one s t u k r q a b
 one_reply s t u (Event.Ask w) r q kept a least b least' = ask_one s t u w r q a b
+one_reply s t u Event.Note r q kept a least b least' = note_one s t u r q a b
+one_reply s t u (Event.Join w v) r q kept a least b least' = join_one s t u w v r q kept a b

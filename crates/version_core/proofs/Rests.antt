@@ -7,7 +7,7 @@ use Rattle.version_core.specs.declared.state.Shelf.{Shelf}
 use Rattle.version_core.specs.declared.event.Event.{Event}
 use Rattle.version_core.specs.declared.event.Reply.{Reply}
 use Rattle.version_core.specs.State.{State, start, newest, opened, published, shelved}
-use Rattle.version_core.specs.Steps.{IsFree, IsOpen, IsClosing, MayOpen, Step, LookStep, TakeStep, DropStep, PublishStep, CloseStep, CollectStep, AskStep}
+use Rattle.version_core.specs.Steps.{IsFree, IsOpen, IsClosing, MayOpen, Step, LookStep, TakeStep, DropStep, PublishStep, CloseStep, CollectStep, AskStep, NoteStep, JoinStep}
 use Rattle.version_core.specs.Runs.{Run}
 use Rattle.version_core.specs.Kept.{Kept}
 use Rattle.version_core.specs.Rest.{IsAtRest, IsNoLoad, loaded}
@@ -63,12 +63,23 @@ ask_rests s w (Reply.From v e) t rest h = same_rests s t h.3 rest
 ask_rests s w Reply.NotNow t rest h = same_rests s t h.1 rest
 ask_rests s w _ t rest h = absurd h
 
+note_rests : (s : State) (r : Reply) (t : State) → IsAtRest s → NoteStep s r t → IsAtRest t
+note_rests s (Reply.Noted v) t rest h = subst IsAtRest (sym h.1) (record { published = rest.published; one_open = rest.one_open })
+note_rests s _ t rest h = absurd h
+
+join_rests : (s : State) (w v : ℕ) (r : Reply) (t : State) → IsAtRest s → JoinStep s w v r t → IsAtRest t
+join_rests s w v (Reply.Joined n) t rest h = subst IsAtRest (sym h.2.2) (record { published = rest.published; one_open = rest.one_open })
+join_rests s w v Reply.NotNow t rest h = same_rests s t h.1 rest
+join_rests s w v _ t rest h = absurd h
+
 pub rest_stays : (s t : State) (event : Event) (r : Reply) → IsAtRest s → IsNoLoad event → Step s event r t → IsAtRest t
 rest_stays s t (Event.Look w) r rest no_load h = look_rests s w r t rest h
 rest_stays s t (Event.Take w) r rest no_load h = take_rests s w r t rest h
 rest_stays s t (Event.Drop w) r rest no_load h = drop_rests s w r t rest h
 rest_stays s t (Event.Collect k) r rest no_load h = collect_rests s k r t rest h
 rest_stays s t (Event.Ask w) r rest no_load h = ask_rests s w r t rest h
+rest_stays s t Event.Note r rest no_load h = note_rests s r t rest h
+rest_stays s t (Event.Join w v) r rest no_load h = join_rests s w v r t rest h
 rest_stays s t (Event.Open e) r rest no_load h = absurd no_load
 rest_stays s t Event.Publish r rest no_load h = absurd no_load
 rest_stays s t (Event.Close k) r rest no_load h = absurd no_load

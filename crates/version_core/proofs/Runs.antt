@@ -1,5 +1,5 @@
 -- What runs keep, and how they are put together.
-use Rattle.std.proofs.Common.{◌≡◌, ℕ, zero, suc, ◌+◌, ◌-◌, ◌<◌, ◌≤◌, List, [], ◌∷◌, ◌++◌, length, set, get_or, take, Some, slice_get, refl, ap, sym, ◌∙◌, subst, arith, append_assoc, length-append, inr, Result, Ok, Err, OnErr, get_or-set_same, get_or-set_other}
+use Rattle.std.proofs.Common.{◌≡◌, ℕ, zero, suc, ◌+◌, ◌-◌, ◌<◌, ◌≤◌, max, List, [], ◌∷◌, ◌++◌, length, set, get_or, take, Some, slice_get, refl, ap, sym, ◌∙◌, subst, arith, append_assoc, length-append, inr, Result, Ok, Err, OnErr, get_or-set_same, get_or-set_other}
 use Rattle.std.proofs.lemmas.List.{append-nil, take_more}
 use Rattle.std.proofs.lemmas.Option.{slice_get_within, slice_get-get_or}
 use mathlib.Core.Logic.{dite}
@@ -8,12 +8,13 @@ use Rattle.version_core.specs.declared.state.Shelf.{Shelf}
 use Rattle.version_core.specs.declared.state.Worker.{Worker}
 use Rattle.version_core.specs.declared.event.Event.{Event}
 use Rattle.version_core.specs.declared.event.Reply.{Reply}
-use Rattle.version_core.specs.State.{State, start, newest, edition_of, looked, arrived, departed, opened, published, shelved}
-use Rattle.version_core.specs.Steps.{IsIdle, IsOpen, Holds, Opens, OpensLeast, Step, LookStep, TakeStep, DropStep, OpenStep, PublishStep, CloseStep, CollectStep, AskStep}
+use Rattle.version_core.specs.State.{State, start, newest, edition_of, looked, arrived, departed, opened, published, shelved, noted, joined}
+use Rattle.version_core.specs.Steps.{IsIdle, IsOpen, Holds, IsSettled, Grows, OpensLeast, Step, LookStep, TakeStep, DropStep, OpenStep, PublishStep, CloseStep, CollectStep, AskStep, NoteStep, JoinStep}
 use Rattle.version_core.specs.Runs.{Run, LeastRun, IsRun, IsReached, IsLater, IsStopped}
 use Rattle.version_core.specs.Kept.{Kept}
 use Rattle.version_core.proofs.Lists.{slice_get-append, slice_get-last, slice_get-set_same}
-use Rattle.version_core.proofs.Keeps.{start_kept, step_kept, held_known}
+use Rattle.version_core.proofs.Rising.{most_left, most_right}
+use Rattle.version_core.proofs.Keeps.{start_kept, step_kept, held_known, settled_small}
 use Rattle.version_core.proofs.Replies.{one_reply}
 
 pub run_kept : (s : State) (es : List Event) (rs : List Reply) (t : State) → Kept s → Run s es rs t → Kept t
@@ -75,8 +76,8 @@ one_run s t u [] [] (q ∷ qs) kept a b = absurd b
 one_run s t u (e ∷ es) [] qs kept a b = absurd a
 one_run s t u (e ∷ es) (r ∷ rs) [] kept a b = absurd b
 
--- a run that ended before the event at a place, which was about to open a version
-pub stopped_at : (s t u : State) (events : List Event) (i : ℕ) (d : Event) (replies : List Reply) → i < length events → Run s (take i events) replies t → LeastRun s (take i events) replies t → Opens t (get_or events i d) → u ≡ t → IsStopped s events u
+-- a run that ended before the event at a place, which was about to take memory
+pub stopped_at : (s t u : State) (events : List Event) (i : ℕ) (d : Event) (replies : List Reply) → i < length events → Run s (take i events) replies t → LeastRun s (take i events) replies t → Grows t (get_or events i d) → u ≡ t → IsStopped s events u
 stopped_at s t u events i d replies less h least opens same = subst (λ x. IsStopped s events x) (sym same) (record {
   done = i;
   replies = replies;
@@ -162,6 +163,29 @@ ask_later s w (Reply.From v e) t h = same_later s t h.3
 ask_later s w Reply.NotNow t h = same_later s t h.1
 ask_later s w _ t h = absurd h
 
+note_later : (s : State) (r : Reply) (t : State) → NoteStep s r t → IsLater s t
+note_later s (Reply.Noted v) t h = subst (λ x. IsLater s x) (sym h.1) (stays_later s (noted s) refl refl refl)
+note_later s _ t h = absurd h
+
+-- what a worker has seen after a join
+pub joined_seen : (s : State) (w v place : ℕ) → Kept s → IsSettled s w → get_or (joined s w v place).seen w 0 ≡ max (get_or s.seen w 0) v
+joined_seen s w v place kept settled = let small = settled_small s w kept settled in let l = kept.workers.sixteen_seen in get_or-set_same s.seen w _ 0 (omega arith)
+
+joined_later : (s : State) (w v place : ℕ) → Kept s → IsSettled s w → IsLater s (joined s w v place)
+joined_later s w v place kept settled = record {
+  current = omega arith;
+  seen = λ j. dite (ℕ_discrete j w)
+      (λ e. let g = joined_seen s w v place kept settled in let up = most_left (get_or s.seen w 0) v in
+      subst (λ n. get_or s.seen n 0 ≤ get_or (joined s w v place).seen n 0) (sym e) (omega arith))
+      (λ e. let g = get_or-set_other s.seen w j (max (get_or s.seen w 0) v) 0 e in omega arith);
+  editions = ([], sym (append-nil s.editions));
+}
+
+join_later : (s : State) (w v : ℕ) (r : Reply) (t : State) → Kept s → JoinStep s w v r t → IsLater s t
+join_later s w v (Reply.Joined n) t kept h = subst (λ x. IsLater s x) (sym h.2.2) (joined_later s w v h.2.0 kept h.0)
+join_later s w v Reply.NotNow t kept h = same_later s t h.1
+join_later s w v _ t kept h = absurd h
+
 pub step_later : (s : State) (e : Event) (r : Reply) (t : State) → Kept s → Step s e r t → IsLater s t
 step_later s (Event.Look w) r t kept h = look_later s w r t kept h
 step_later s (Event.Take w) r t kept h = take_later s w r t h
@@ -171,12 +195,25 @@ step_later s Event.Publish r t kept h = publish_later s r t h
 step_later s (Event.Close k) r t kept h = close_later s k r t h
 step_later s (Event.Collect k) r t kept h = collect_later s k r t h
 step_later s (Event.Ask w) r t kept h = ask_later s w r t h
+step_later s Event.Note r t kept h = note_later s r t h
+step_later s (Event.Join w v) r t kept h = join_later s w v r t kept h
 
 pub run_later : (s : State) (es : List Event) (rs : List Reply) (t : State) → Kept s → Run s es rs t → IsLater s t
 run_later s [] [] t kept h = same_later s t h
 run_later s (e ∷ es) (r ∷ rs) t kept h = later_later s h.0 t (step_later s e r h.0 kept h.1) (run_later h.0 es rs t (step_kept s e r h.0 kept h.1) h.2)
 run_later s [] (r ∷ rs) t kept h = absurd h
 run_later s (e ∷ es) [] t kept h = absurd h
+
+-- each look finds what was joined or a newer version
+pub looks_after : (s t u x : State) (w v seen found k : ℕ) (es : List Event) (rs : List Reply) → Kept s → Step s (Event.Join w v) (Reply.Joined seen) t → Run t es rs u → Step u (Event.Look w) (Reply.Looked found k) x
+    → (v ≤ seen) × (seen ≤ found)
+looks_after s t u x w v seen found k es rs kept join run look =
+    let kept' = step_kept s (Event.Join w v) (Reply.Joined seen) t kept join in
+    let there : get_or t.seen w 0 ≡ seen = ap (λ (y : State). get_or y.seen w 0) join.2.2 ∙ (joined_seen s w v join.2.0 kept join.0 ∙ sym join.1) in
+    let later = (run_later t es rs u kept' run).seen w in
+    let most = (run_kept t es rs u kept' run).workers.each w Worker.Idle look.0 in
+    let is = look.1 in let n = join.1 in let up = most_right (get_or s.seen w 0) v in
+    (omega arith, omega arith)
 
 pub edition_later : (s t : State) (v e : ℕ) → IsLater s t → edition_of s.editions v ≡ Some e → edition_of t.editions v ≡ Some e
 edition_later s t zero e later is = absurd (cc)

@@ -1,5 +1,5 @@
 -- What holds in every state of every run, part by part.
-use Rattle.std.specs.Prelude.{◌≡◌, ℕ, ◌+◌, ◌<◌, ◌≤◌, Bool, false, ◌==◌, List, length, count_by, slice_get, slice_index, Option, Some, None, ◌⊎◌}
+use Rattle.std.specs.Prelude.{◌≡◌, ℕ, ◌+◌, ◌<◌, ◌≤◌, Bool, false, ◌==◌, List, [], ◌∷◌, length, count_by, slice_get, slice_index, Option, Some, None, ◌⊎◌}
 use Rattle.std.specs.Option.{option_and_then}
 use Rattle.version_core.specs.declared.state.Shelf.{Shelf}
 use Rattle.version_core.specs.declared.state.Worker.{Worker}
@@ -49,8 +49,14 @@ pub record WorkersFit (current current_shelf : ℕ) (shelves : List Shelf) (work
   pub sixteen_seen : length seen ≡ 16
   pub each : (w : ℕ) (worker : Worker) → slice_get workers w ≡ Some worker → Fits current current_shelf shelves worker (slice_index seen w)
 
+-- versions that never fall, none below the one, none above the other
+abbrev pub RiseWithin : ℕ → List ℕ → ℕ → Type 0
+RiseWithin low [] high = low ≤ high
+RiseWithin low (v ∷ vs) high = (low ≤ v) × RiseWithin v vs high
+
 pub record Kept (s : State) : Type 0 where
   pub room : newest s ≤ 1000000000
   pub shelves : ShelvesFit s.current s.current_shelf (newest s) s.shelves
   pub counts : CountsFit s.counts s.workers
   pub workers : WorkersFit s.current s.current_shelf s.shelves s.workers s.seen
+  pub notices : RiseWithin 0 s.notices s.current

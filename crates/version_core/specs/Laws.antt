@@ -1,10 +1,10 @@
 -- What is true over every list of events. A state that is kept is one of which `Kept` holds: every state of every run is.
-use Rattle.std.specs.Prelude.{◌≡◌, ℕ, ◌<◌, List, [], ◌∷◌, ◌++◌, length, count_by, slice_index, Some}
+use Rattle.std.specs.Prelude.{◌≡◌, ℕ, ◌<◌, ◌≤◌, List, [], ◌∷◌, ◌++◌, length, count_by, slice_index, Some}
 use Rattle.version_core.specs.declared.state.Worker.{Worker}
 use Rattle.version_core.specs.declared.event.Event.{Event}
 use Rattle.version_core.specs.declared.event.Reply.{Reply}
 use Rattle.version_core.specs.State.{State, newest, edition_of, looked, arrived, departed}
-use Rattle.version_core.specs.Steps.{Step, IsIdle, IsOpen, Holds, OpensLeast}
+use Rattle.version_core.specs.Steps.{Step, IsIdle, IsOpen, Holds, IsNoted, OpensLeast}
 use Rattle.version_core.specs.Runs.{Run, LeastRun, IsRun, IsReached, IsLater}
 use Rattle.version_core.specs.Kept.{Kept, is_at, version_on}
 
@@ -57,6 +57,17 @@ abbrev pub DropsLetGo : Type 0
 DropsLetGo =
     (s t : State) (w k v : ℕ) (reply : Reply) → Kept s → Holds s w k v → Step s (Event.Drop w) reply t
     → (reply ≡ Reply.Dropped) × (t ≡ departed s w k) × IsIdle t w
+
+-- a notice is of the current version or an older one
+abbrev pub NoticesAreOfTheirTime : Type 0
+NoticesAreOfTheirTime = (s : State) (v : ℕ) → Kept s → IsNoted s v → v ≤ s.current
+
+-- once a worker has taken in a notice of a version, it has seen that version, and each of its looks gives that version or a newer one, whatever happens between
+abbrev pub JoinedVersionsStay : Type 0
+JoinedVersionsStay =
+    (s t u x : State) (w v seen found k : ℕ) (events : List Event) (replies : List Reply) → Kept s
+    → Step s (Event.Join w v) (Reply.Joined seen) t → Run t events replies u → Step u (Event.Look w) (Reply.Looked found k) x
+    → (v ≤ seen) × (seen ≤ found)
 
 -- an opening leaves its shelf open with the new version, which has the edition that the event names
 abbrev pub OpensWithEdition : Type 0

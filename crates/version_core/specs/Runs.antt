@@ -3,7 +3,7 @@ use Rattle.std.specs.Prelude.{◌≡◌, ℕ, ◌≤◌, List, [], ◌∷◌, �
 use Rattle.version_core.specs.declared.event.Event.{Event}
 use Rattle.version_core.specs.declared.event.Reply.{Reply}
 use Rattle.version_core.specs.State.{State, start}
-use Rattle.version_core.specs.Steps.{Step, Opens, OpensLeast}
+use Rattle.version_core.specs.Steps.{Step, Grows, OpensLeast}
 
 -- the events may be answered with these replies, one after another
 abbrev pub Run : State → List Event → List Reply → State → Type 0
@@ -32,11 +32,11 @@ pub record IsLater (s t : State) : Type 0 where
   pub seen : (w : ℕ) → slice_index s.seen w ≤ slice_index t.seen w
   pub editions : (opened : List ℕ) × (t.editions ≡ s.editions ++ opened)
 
--- want of memory ended the run before its first event, or before one that was about to open a version
+-- want of memory ended the run before its first event, or before one that was about to take memory
 pub record IsStopped (s : State) (events : List Event) (t : State) : Type 0 where
   pub done : ℕ
   pub replies : List Reply
   pub within : done ≤ length events
   pub run : Run s (take done events) replies t
   pub least : LeastRun s (take done events) replies t
-  pub there : (done ≡ 0) ⊎ ((e : Event) × (slice_get events done ≡ Some e) × Opens t e)
+  pub there : (done ≡ 0) ⊎ ((e : Event) × (slice_get events done ≡ Some e) × Grows t e)

@@ -1,5 +1,5 @@
 -- The table of versions as plain data.
-use Rattle.std.specs.Prelude.{ℕ, zero, suc, ◌+◌, ◌-◌, List, [], ◌∷◌, ◌++◌, Option, None, length, replicate, slice_get, slice_index, slice_set}
+use Rattle.std.specs.Prelude.{ℕ, zero, suc, ◌+◌, ◌-◌, max, List, [], ◌∷◌, ◌++◌, Option, None, length, remove, replicate, slice_get, slice_index, slice_set}
 use Rattle.version_core.specs.declared.state.Shelf.{Shelf}
 use Rattle.version_core.specs.declared.state.Worker.{Worker}
 
@@ -11,6 +11,7 @@ pub record State : Type 0 where
   pub workers : List Worker  -- sixteen
   pub seen : List ℕ  -- of each worker: the greatest version that it has seen
   pub editions : List ℕ  -- the edition of version 1, then that of version 2, and so on
+  pub notices : List ℕ  -- the versions whose notices are out
 
 -- version 1 has edition 0, stands open on shelf 0 and is current. All workers are idle and have seen nothing
 abbrev pub start : State
@@ -23,6 +24,7 @@ start =
       workers = replicate 16 Worker.Idle;
       seen = replicate 16 0;
       editions = 0 ∷ [];
+      notices = [];
     }
 
 -- the version that was opened last
@@ -57,3 +59,11 @@ published s k version = record s { current = version; current_shelf = k }
 -- the shelf has become this, and its count stays
 abbrev pub shelved : State → ℕ → Shelf → State
 shelved s k shelf = record s { shelves = slice_set s.shelves k shelf }
+
+-- a notice of the current version is out
+abbrev pub noted : State → State
+noted s = record s { notices = s.notices ++ s.current ∷ [] }
+
+-- the worker has seen the version of the notice at this place, which is out no longer
+abbrev pub joined : State → ℕ → ℕ → ℕ → State
+joined s w v place = record s { seen = slice_set s.seen w (max (slice_index s.seen w) v); notices = remove s.notices place }

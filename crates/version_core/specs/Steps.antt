@@ -1,10 +1,10 @@
 -- What an event may do, by its reply. A reply that is not named never comes.
-use Rattle.std.specs.Prelude.{◌≡◌, ◌≢◌, ℕ, ◌+◌, ◌<◌, Some, ◌⊎◌, slice_get, slice_index}
+use Rattle.std.specs.Prelude.{◌≡◌, ◌≢◌, ℕ, ◌+◌, ◌<◌, max, Some, ◌⊎◌, slice_get, slice_index}
 use Rattle.version_core.specs.declared.state.Shelf.{Shelf}
 use Rattle.version_core.specs.declared.state.Worker.{Worker}
 use Rattle.version_core.specs.declared.event.Event.{Event}
 use Rattle.version_core.specs.declared.event.Reply.{Reply}
-use Rattle.version_core.specs.State.{State, newest, edition_of, looked, arrived, departed, opened, published, shelved}
+use Rattle.version_core.specs.State.{State, newest, edition_of, looked, arrived, departed, opened, published, shelved, noted, joined}
 
 abbrev pub IsIdle : State → ℕ → Type 0
 IsIdle s w = slice_get s.workers w ≡ Some Worker.Idle
@@ -86,6 +86,29 @@ AskStep s w (Reply.From v e) t = (k : ℕ) × Holds s w k v × (edition_of s.edi
 AskStep s w Reply.NotNow t = ((k v : ℕ) → ¬ (Holds s w k v)) × (t ≡ s)
 AskStep s w _ t = ⊥
 
+-- a notice of the current version may go out at any time
+abbrev pub NoteStep : State → Reply → State → Type 0
+NoteStep s (Reply.Noted v) t = (v ≡ s.current) × (t ≡ noted s)
+NoteStep s _ t = ⊥
+
+-- the worker is idle or holds a version
+abbrev pub IsSettled : State → ℕ → Type 0
+IsSettled s w = IsIdle s w ⊎ ((k v : ℕ) × Holds s w k v)
+
+-- a notice of the version is out
+abbrev pub IsNoted : State → ℕ → Type 0
+IsNoted s v = (place : ℕ) × (slice_get s.notices place ≡ Some v)
+
+abbrev pub MayJoin : State → ℕ → ℕ → Type 0
+MayJoin s w v = IsSettled s w × IsNoted s v
+
+-- one such notice is taken in
+abbrev pub JoinStep : State → ℕ → ℕ → Reply → State → Type 0
+JoinStep s w v (Reply.Joined seen) t =
+    IsSettled s w × (seen ≡ max (slice_index s.seen w) v) × ((place : ℕ) × (slice_get s.notices place ≡ Some v) × (t ≡ joined s w v place))
+JoinStep s w v Reply.NotNow t = (¬ (MayJoin s w v)) × (t ≡ s)
+JoinStep s w v _ t = ⊥
+
 -- from s, the event may be answered with this reply and lead to t
 abbrev pub Step : State → Event → Reply → State → Type 0
 Step s (Event.Look w) r t = LookStep s w r t
@@ -96,11 +119,14 @@ Step s Event.Publish r t = PublishStep s r t
 Step s (Event.Close k) r t = CloseStep s k r t
 Step s (Event.Collect k) r t = CollectStep s k r t
 Step s (Event.Ask w) r t = AskStep s w r t
+Step s Event.Note r t = NoteStep s r t
+Step s (Event.Join w v) r t = JoinStep s w v r t
 
--- a version is about to be opened: the one event that takes memory
-abbrev pub Opens : State → Event → Type 0
-Opens s (Event.Open e) = MayOpen s × ((k : ℕ) × IsFree s k)
-Opens s _ = ⊥
+-- a version is about to be opened, or a notice to go out: the events that take memory
+abbrev pub Grows : State → Event → Type 0
+Grows s (Event.Open e) = MayOpen s × ((k : ℕ) × IsFree s k)
+Grows s Event.Note = Unit {0}
+Grows s _ = ⊥
 
 -- the shelf that is opened is the least of those that are free
 abbrev pub OpensLeast : State → Event → Reply → Type 0

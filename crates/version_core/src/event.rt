@@ -17,6 +17,10 @@ pub enum Event {
     Collect { shelf: usize },
     /// A worker asks for the edition that it holds.
     Ask { worker: usize },
+    /// A notice of the current version goes out.
+    Note,
+    /// A worker that is idle or holds a version takes in a notice of this version: from then on it has seen that version.
+    Join { worker: usize, version: u64 },
 }
 
 /// What an event is answered with.
@@ -44,6 +48,10 @@ pub enum Reply {
     Busy { count: u8 },
     /// The version that the worker holds, and its edition.
     From { version: u64, edition: u64 },
+    /// A notice of this version is out.
+    Noted { version: u64 },
+    /// The greatest version that the worker has seen.
+    Joined { seen: u64 },
     /// The event has no place in this state, and changed nothing.
     NotNow,
 }

@@ -1,6 +1,6 @@
 //! Laws over every list of events. The functions do nothing: their contracts are the laws.
 
-ghost use Rattle.version_core.specs.Laws.{EveryRunKeeps, EveryStepKeeps, CountsAreWorkers, NoHeldShelfIsCollected, NothingFalls, NothingFallsInAStep, EditionsStay, AsksAreAnswered, LooksAndTakesHold, DropsLetGo, OpensWithEdition, OneReply, OneRun, RunsBegin, RunsGrow, RunsGrowByRuns, RunsGrowWithReplies, RunsJoin, RunsPart};
+ghost use Rattle.version_core.specs.Laws.{EveryRunKeeps, EveryStepKeeps, CountsAreWorkers, NoHeldShelfIsCollected, NothingFalls, NothingFallsInAStep, EditionsStay, AsksAreAnswered, LooksAndTakesHold, DropsLetGo, OpensWithEdition, NoticesAreOfTheirTime, JoinedVersionsStay, OneReply, OneRun, RunsBegin, RunsGrow, RunsGrowByRuns, RunsGrowWithReplies, RunsJoin, RunsPart};
 ghost use Rattle.version_core.specs.State.{start};
 ghost use Rattle.version_core.specs.Kept.{Kept};
 ghost use Rattle.version_core.specs.Rest.{IsAtRest, RestStays, LoadsRest, RestIsSpent, RestIsFull};
@@ -25,6 +25,12 @@ pub fn every_step()
     ensures later { NothingFallsInAStep }
     ensures opened { OpensWithEdition }
     ensures reply { OneReply }
+{}
+
+/// A notice never tells of a version that isn't published yet, and what a worker has taken in by one it never falls behind.
+pub fn notices()
+    ensures versions { NoticesAreOfTheirTime }
+    ensures looks { JoinedVersionsStay }
 {}
 
 /// Who is idle, looks and takes at once holds the current version; who holds a version and drops it is idle.

@@ -1,6 +1,6 @@
-ghost use Rattle.std.specs.Prelude.{◌≡◌, ℕ, ◌<◌, ◌≤◌, IfOk, OnErr, MatchBool, MatchOption, slice_get, slice_index, Some};
-ghost use Rattle.version_core.specs.State.{start, edition_of, looked, arrived, departed};
-ghost use Rattle.version_core.specs.Steps.{IsIdle, HasLooked, Holds, StaysAt, IsFree, IsOpen, IsClosing, IsUnpublished, IsOutdated, MayOpen, Opens, OpensLeast, Step, LookStep, TakeStep, DropStep, OpenStep, PublishStep, CloseStep, CollectStep, AskStep};
+ghost use Rattle.std.specs.Prelude.{◌≡◌, ℕ, ◌<◌, ◌≤◌, max, IfOk, OnErr, MatchBool, MatchOption, slice_get, slice_index, Some};
+ghost use Rattle.version_core.specs.State.{start, edition_of, looked, arrived, departed, joined};
+ghost use Rattle.version_core.specs.Steps.{IsIdle, HasLooked, Holds, StaysAt, IsFree, IsOpen, IsClosing, IsUnpublished, IsOutdated, IsSettled, IsNoted, MayOpen, Grows, OpensLeast, Step, LookStep, TakeStep, DropStep, OpenStep, PublishStep, CloseStep, CollectStep, AskStep, NoteStep, JoinStep};
 ghost use Rattle.version_core.specs.Kept.{Kept};
 ghost use Rattle.version_core.specs.declared.event.Event.{Event};
 ghost use Rattle.version_core.specs.declared.event.Reply.{Reply};
@@ -11,7 +11,7 @@ use crate::state::{MOST_VERSIONS, Shelf, Worker};
 use std::alloc::{AllocError, Global};
 use std::marker::Model;
 
-/// The table: eight shelves, sixteen workers, and the edition of each version.
+/// The table: eight shelves, sixteen workers, the edition of each version, and the versions whose notices are out.
 ///
 /// Each event is a method of its own as well as a case of `step`.
 #[derive(Drop)]
@@ -23,6 +23,7 @@ pub struct Core {
     workers: [Worker; 16],
     seen: [u64; 16],
     editions: Vec<u64>,
+    notices: Vec<u64>,
 }
 
 impl Model for Core {
@@ -31,9 +32,9 @@ impl Model for Core {
 
     ghost Value = { State };
 
-    ghost view = { λ c. record { current = c.current; current_shelf = c.current_shelf; shelves = c.shelves; counts = c.counts; workers = c.workers; seen = c.seen; editions = c.editions.items } };
+    ghost view = { λ c. record { current = c.current; current_shelf = c.current_shelf; shelves = c.shelves; counts = c.counts; workers = c.workers; seen = c.seen; editions = c.editions.items; notices = c.notices.items } };
 
-    ghost invariant = { λ c. Kept (record { current = c.current; current_shelf = c.current_shelf; shelves = c.shelves; counts = c.counts; workers = c.workers; seen = c.seen; editions = c.editions.items }) };
+    ghost invariant = { λ c. Kept (record { current = c.current; current_shelf = c.current_shelf; shelves = c.shelves; counts = c.counts; workers = c.workers; seen = c.seen; editions = c.editions.items; notices = c.notices.items }) };
 }
 
 impl Core {
@@ -53,14 +54,15 @@ impl Core {
             workers: [Worker::Idle; 16],
             seen: [0; 16],
             editions,
+            notices: Vec::new(alloc),
         })
     }
 
-    /// One event. Only the opening of a version takes memory.
+    /// One event. Only the opening of a version and a notice that goes out take memory.
     pub fn step(&mut self, event: Event) -> Result<Reply, AllocError>
         ensures step { IfOk result (λ reply. Step self.old event reply self.new) }
         ensures least { IfOk result (OpensLeast self.old event) }
-        ensures memory { OnErr result (Opens self.old event) }
+        ensures memory { OnErr result (Grows self.old event) }
         ensures same { OnErr result (self.new ≡ self.old) }
     {
         match event {
@@ -72,6 +74,8 @@ impl Core {
             Event::Close { shelf } => Ok(self.close(shelf)),
             Event::Collect { shelf } => Ok(self.collect(shelf)),
             Event::Ask { worker } => Ok(self.ask(worker)),
+            Event::Note => self.note(),
+            Event::Join { worker, version } => Ok(self.join(worker, version)),
         }
     }
 
@@ -222,7 +226,7 @@ impl Core {
     pub fn open(&mut self, edition: u64) -> Result<Reply, AllocError>
         ensures step { IfOk result (λ reply. OpenStep self.old edition reply self.new) }
         ensures least { IfOk result (OpensLeast self.old (Event.Open edition)) }
-        ensures memory { OnErr result (Opens self.old (Event.Open edition)) }
+        ensures memory { OnErr result (Grows self.old (Event.Open edition)) }
         ensures same { OnErr result (self.new ≡ self.old) }
     {
         if !self.may_open() {
@@ -394,4 +398,68 @@ impl Core {
     {
         self.editions[version as usize - 1]
     }
+
+    /// A notice of the current version goes out. A refusal changes nothing.
+    pub fn note(&mut self) -> Result<Reply, AllocError>
+        ensures step { IfOk result (λ reply. NoteStep self.old reply self.new) }
+        ensures same { OnErr result (self.new ≡ self.old) }
+    {
+        let version = self.current;
+        self.notices.push(version)?;
+        Ok(Reply::Noted { version })
+    }
+
+    /// A worker that is idle or holds a version takes in a notice of this version, where one is out.
+    pub fn join(&mut self, worker: usize, version: u64) -> Reply
+        ensures { JoinStep self.old worker version result self.new }
+    {
+        if !self.is_settled(worker) {
+            return Reply::NotNow;
+        }
+        match self.notice_of(version) {
+            Some(place) => self.take_in(worker, version, place),
+            None => Reply::NotNow,
+        }
+    }
+
+    fn is_settled(&self, worker: usize) -> bool
+        ensures { MatchBool result (IsSettled self.now worker) (¬ (IsSettled self.now worker)) }
+    {
+        match self.worker(worker) {
+            Some(Worker::Idle | Worker::Holding { .. }) => true,
+            Some(Worker::Looked { .. } | Worker::Late { .. }) | None => false,
+        }
+    }
+
+    // The place of the first notice of the version.
+    fn notice_of(&self, version: u64) -> Option<usize>
+        ensures { MatchOption result (¬ (IsNoted self.now version)) (λ place. slice_get self.now.notices place ≡ Some version) }
+    {
+        let _ = &self.current;
+        for place in 0..self.notices.len() {
+            if self.notices[place] == version {
+                return Some(place);
+            }
+        }
+        None
+    }
+
+    fn take_in(&mut self, worker: usize, version: u64, place: usize) -> Reply
+        requires settled { IsSettled self.old worker }
+        requires there { slice_get self.old.notices place ≡ Some version }
+        ensures reply { result ≡ Reply.Joined (max (slice_index self.old.seen worker) version) }
+        ensures state { self.new ≡ joined self.old worker version place }
+    {
+        let _ = &self.current;
+        let seen = greater(self.seen[worker], version);
+        self.notices.remove(place);
+        self.seen[worker] = seen;
+        Reply::Joined { seen }
+    }
+}
+
+fn greater(a: u64, b: u64) -> u64
+    ensures { result ≡ max a b }
+{
+    if a < b { b } else { a }
 }

@@ -364,3 +364,89 @@ fn what_has_no_place_for_a_late_worker_and_a_closing_shelf(rt: HostRuntime) -> R
     ];
     refuses(&rt, rt.alloc(), &before, &events)
 }
+
+#[test]
+fn a_notice_tells_of_its_version(rt: HostRuntime) -> Result<(), Fail> {
+    let join = Event::Join {
+        worker: 1,
+        version: 2,
+    };
+    let events = [
+        Event::Open { edition: 1 },
+        Event::Publish,
+        join,
+        Event::Note,
+        join,
+        join,
+        Event::Look { worker: 1 },
+    ];
+    let replies = [
+        Reply::Opened {
+            version: 2,
+            shelf: 1,
+        },
+        Reply::Published { version: 2 },
+        Reply::NotNow,
+        Reply::Noted { version: 2 },
+        Reply::Joined { seen: 2 },
+        Reply::NotNow,
+        Reply::Looked {
+            version: 2,
+            shelf: 1,
+        },
+    ];
+    answers(&rt, rt.alloc(), &events, &replies)
+}
+
+/// A worker that holds a version may take in notices, also of an older version than it has seen; each of two alike is taken in once.
+#[test]
+fn notices_of_two_versions(rt: HostRuntime) -> Result<(), Fail> {
+    let of = |worker: usize, version: u64| Event::Join { worker, version };
+    let events = [
+        Event::Note,
+        Event::Note,
+        Event::Open { edition: 1 },
+        Event::Publish,
+        Event::Note,
+        Event::Look { worker: 3 },
+        of(3, 1),
+        Event::Take { worker: 3 },
+        of(3, 1),
+        of(4, 2),
+        of(4, 1),
+        of(5, 1),
+    ];
+    let replies = [
+        Reply::Noted { version: 1 },
+        Reply::Noted { version: 1 },
+        Reply::Opened {
+            version: 2,
+            shelf: 1,
+        },
+        Reply::Published { version: 2 },
+        Reply::Noted { version: 2 },
+        Reply::Looked {
+            version: 2,
+            shelf: 1,
+        },
+        Reply::NotNow,
+        Reply::Holds { version: 2 },
+        Reply::Joined { seen: 2 },
+        Reply::Joined { seen: 2 },
+        Reply::Joined { seen: 2 },
+        Reply::NotNow,
+    ];
+    answers(&rt, rt.alloc(), &events, &replies)
+}
+
+#[test]
+fn what_has_no_place_where_nothing_was_noted(rt: HostRuntime) -> Result<(), Fail> {
+    let of = |worker: usize, version: u64| Event::Join { worker, version };
+    refuses(&rt, rt.alloc(), &[], &[of(0, 1), of(0, 0), of(16, 1)])?;
+    refuses(
+        &rt,
+        rt.alloc(),
+        &[Event::Note],
+        &[of(0, 0), of(0, 2), of(16, 1)],
+    )
+}

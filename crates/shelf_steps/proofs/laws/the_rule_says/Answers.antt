@@ -1,4 +1,4 @@
-use Rattle.shelf_steps.proofs.Says.{words_are, counts_are, numbers_differ, held_have, slots_out, slots_home, looks_are, one_loads}
+use Rattle.shelf_steps.proofs.Says.{words_are, counts_are, numbers_differ, held_have, slots_out, slots_home, looks_are, one_loads, notices_old}
 use Rattle.shelf_steps.proofs.Shown.{one_history}
 use Rattle.shelf_steps.proofs.laws.the_rule_says.Goals as goal
 
@@ -28,3 +28,6 @@ returns-clause-history c = one_history
 
 pub returns-clause-loader : goal.returns-clause-loader
 returns-clause-loader c = one_loads
+
+pub returns-clause-notices : goal.returns-clause-notices
+returns-clause-notices c = notices_old

@@ -1,0 +1,111 @@
+-- What a notice does to a seat.
+use Rattle.std.proofs.Common.{◌≡◌, ℕ, zero, suc, ◌+◌, ◌<◌, ◌≤◌, max, ◌⊎◌, [], Some, None, Option, Result, Ok, Err, refl, ap, sym, ◌∙◌, subst, arith, inl, inr}
+use Rattle.version_core.specs.declared.state.Worker.{Worker}
+use Rattle.shelf_steps.specs.declared.edition.Edition.{Edition}
+use Rattle.shelf_steps.specs.declared.views.View.{View}
+use Rattle.shelf_steps.specs.Plays.{OfWorker, Mine, IsSettled, IsLoading, joins_notice, new_notice}
+use Rattle.shelf_steps.specs.Pinning.{IsIdleAs, IsHoldingAs}
+use Rattle.epochs.specs.declared.faults.PinFault.{PinFault}
+use Rattle.epochs.specs.Seats.{SeatValue, PinStep, ReleaseStep, JoinStep}
+use Rattle.epochs.specs.SeatLaws.{SeatStep, SeatSteps, GivesFrom, JoinedVersionsStay}
+use Rattle.epochs.specs.ShelfSeats.{FitsSeat, seen_of}
+use Rattle.epochs.specs.ShelfLoads.{RestsHere}
+use Rattle.version_core.specs.declared.state.Shelf.{Shelf}
+use Rattle.std.proofs.Common.{List}
+
+idle_settled : (number : ℕ) (u : View) → OfWorker u (λ a. (a.now ≡ Worker.Idle) × (a.number ≡ number)) → IsSettled u
+idle_settled number (View.Working a) h = inl h.0
+idle_settled number (View.Loading l) h = absurd h
+idle_settled number (View.Noting n) h = absurd h
+idle_settled number View.Spent h = absurd h
+
+holding_settled : (number shelf : ℕ) (e : Edition) (u : View) → OfWorker u (λ a. (a.now ≡ Worker.Holding shelf e.version) × (a.number ≡ number) × (a.edition ≡ Some e)) → IsSettled u
+holding_settled number shelf e (View.Working a) h = inr (shelf, e.version, h.0)
+holding_settled number shelf e (View.Loading l) h = absurd h
+holding_settled number shelf e (View.Noting n) h = absurd h
+holding_settled number shelf e View.Spent h = absurd h
+
+-- a seat between two calls may take in a notice
+pub seat_settled : (number : ℕ) (held : Option (ℕ × Edition)) (m : Mine) → FitsSeat number held m → IsSettled m.0
+seat_settled number None m h = idle_settled number m.0 h.0
+seat_settled number (Some x) m h = holding_settled number x.0 x.1 m.0 h.1.0
+
+idle_joined : (number n : ℕ) (u : View) → OfWorker u (λ a. (a.now ≡ Worker.Idle) × (a.number ≡ number)) → OfWorker (joins_notice u (View.Noting n)) (λ a. (a.now ≡ Worker.Idle) × (a.number ≡ number))
+idle_joined number n (View.Working a) h = h
+idle_joined number n (View.Loading l) h = absurd h
+idle_joined number n (View.Noting x) h = absurd h
+idle_joined number n View.Spent h = absurd h
+
+holding_joined : (number shelf n : ℕ) (e : Edition) (u : View) → OfWorker u (λ a. (a.now ≡ Worker.Holding shelf e.version) × (a.number ≡ number) × (a.edition ≡ Some e))
+    → OfWorker (joins_notice u (View.Noting n)) (λ a. (a.now ≡ Worker.Holding shelf e.version) × (a.number ≡ number) × (a.edition ≡ Some e))
+holding_joined number shelf n e (View.Working a) h = h
+holding_joined number shelf n e (View.Loading l) h = absurd h
+holding_joined number shelf n e (View.Noting x) h = absurd h
+holding_joined number shelf n e View.Spent h = absurd h
+
+joined_so : (number n : ℕ) (held : Option (ℕ × Edition)) (m : Mine) → FitsSeat number held m → FitsSeat number held (joins_notice m.0 (View.Noting n), m.1)
+joined_so number n None m h = (idle_joined number n m.0 h.0, h.1)
+joined_so number n (Some x) m h = (h.0, (holding_joined number x.0 n x.1 m.0 h.1.0, h.1.1))
+
+-- and is then what it was, but for what it has seen
+pub seat_joined : (number n : ℕ) (held : Option (ℕ × Edition)) (m notice m' : Mine) → FitsSeat number held m → notice ≡ (View.Noting n, []) → m' ≡ (joins_notice m.0 notice.0, m.1) → FitsSeat number held m'
+seat_joined number n held m notice m' h is e =
+    subst (λ (x : Mine). FitsSeat number held x) (sym (e ∙ ap (λ (x : Mine). (joins_notice m.0 x.0, m.1)) is)) (joined_so number n held m h)
+
+seen_so : (u : View) (n : ℕ) → IsSettled u → seen_of (joins_notice u (View.Noting n)) ≡ max (seen_of u) n
+seen_so (View.Working a) n h = refl
+seen_so (View.Loading l) n h = absurd h
+seen_so (View.Noting x) n h = absurd h
+seen_so View.Spent n h = absurd h
+
+pub seat_has_seen : (n : ℕ) (m notice m' : Mine) → IsSettled m.0 → notice ≡ (View.Noting n, []) → m' ≡ (joins_notice m.0 notice.0, m.1) → seen_of m'.0 ≡ max (seen_of m.0) n
+seat_has_seen n m notice m' settled is e =
+    ap (λ (x : Mine). seen_of x.0) (e ∙ ap (λ (x : Mine). (joins_notice m.0 x.0, m.1)) is) ∙ seen_so m.0 n settled
+
+loading_so : (current current_shelf : ℕ) (shelves : List Shelf) (u : View) → RestsHere current current_shelf shelves (u, []) → IsLoading u × (new_notice u ≡ View.Noting current)
+loading_so current current_shelf shelves (View.Loading l) h = (tt, ap (λ n. View.Noting n) h.0.current_is)
+loading_so current current_shelf shelves (View.Working v) h = absurd h.0
+loading_so current current_shelf shelves (View.Noting n) h = absurd h.0
+loading_so current current_shelf shelves View.Spent h = absurd h.0
+
+-- what a loader gives out between two calls is a notice of its current version
+pub loader_notes : (current current_shelf : ℕ) (shelves : List Shelf) (m : Mine) → RestsHere current current_shelf shelves m → IsLoading m.0 × (new_notice m.0 ≡ View.Noting current)
+loader_notes current current_shelf shelves m h = loading_so current current_shelf shelves m.0 (h.0, refl)
+
+pin_rises : (a b : SeatValue) (r : Result (Unit {0}) PinFault) → PinStep a r b → a.seen ≤ b.seen
+pin_rises a b (Ok u) h = let is = ap (λ (s : SeatValue). s.seen) h.1.3 in let up = h.1.2 in omega arith
+pin_rises a b (Err (PinFault.Moved newest)) h = let is = ap (λ (s : SeatValue). s.seen) h.2 in let up = h.1 in omega arith
+pin_rises a b (Err PinFault.AlreadyPinned) h = let is = ap (λ (s : SeatValue). s.seen) h.1 in omega arith
+pin_rises a b (Err PinFault.SeatLost) h = let is = ap (λ (s : SeatValue). s.seen) h.1 in omega arith
+pin_rises a b (Err PinFault.OutOfMemory) h = let is = ap (λ (s : SeatValue). s.seen) h.1 in omega arith
+pin_rises a b (Err PinFault.NotPinned) h = absurd h
+
+release_stays : (a b : SeatValue) (r : Result (Unit {0}) PinFault) → ReleaseStep a r b → a.seen ≤ b.seen
+release_stays a b (Ok u) h = let is = ap (λ (s : SeatValue). s.seen) h.1 in omega arith
+release_stays a b (Err PinFault.NotPinned) h = let is = ap (λ (s : SeatValue). s.seen) h.1 in omega arith
+release_stays a b (Err PinFault.SeatLost) h = let is = ap (λ (s : SeatValue). s.seen) h.1 in omega arith
+release_stays a b (Err (PinFault.Moved newest)) h = absurd h
+release_stays a b (Err PinFault.AlreadyPinned) h = absurd h
+release_stays a b (Err PinFault.OutOfMemory) h = absurd h
+
+join_rises : (a b : SeatValue) (v : ℕ) → JoinStep a v b → (a.seen ≤ b.seen) × (v ≤ b.seen)
+join_rises a b v h = let is = ap (λ (s : SeatValue). s.seen) h in (omega arith, omega arith)
+
+step_rises : (a b : SeatValue) → SeatStep a b → a.seen ≤ b.seen
+step_rises a b h = elim h [ inl p ↦ pin_rises a b p.0 p.1 | inr q ↦ elim q [ inl p ↦ release_stays a b p.0 p.1 | inr p ↦ (join_rises a b p.0 p.1).0 ] ]
+
+steps_rise : (n : ℕ) (a b : SeatValue) → SeatSteps n a b → a.seen ≤ b.seen
+steps_rise zero a b h = let is = ap (λ (s : SeatValue). s.seen) h in omega arith
+steps_rise (suc n) a b h = let one = step_rises a h.0 h.1 in let rest = steps_rise n h.0 b h.2 in omega arith
+
+gives_from : (c d : SeatValue) (v : ℕ) (r : Result (Unit {0}) PinFault) → v ≤ c.seen → PinStep c r d → GivesFrom v r d
+gives_from c d v (Ok u) low h = (h.1.0, h.1.1.value, ap (λ (s : SeatValue). s.held) h.1.3, (let up = h.1.2 in omega arith))
+gives_from c d v (Err (PinFault.Moved newest)) low h = let up = h.1 in omega arith
+gives_from c d v (Err PinFault.AlreadyPinned) low h = tt
+gives_from c d v (Err PinFault.SeatLost) low h = tt
+gives_from c d v (Err PinFault.OutOfMemory) low h = tt
+gives_from c d v (Err PinFault.NotPinned) low h = tt
+
+pub joined_stay : JoinedVersionsStay
+joined_stay a b c d v n r join steps pin =
+    let first = (join_rises a b v join).1 in let later = steps_rise n b c steps in gives_from c d v r (omega arith) pin

@@ -1,0 +1,187 @@
+-- A notice that goes out, and one that is taken in, keep the rule, and each is one event.
+use Rattle.std.proofs.Common.{◌≡◌, ◌≢◌, ℕ, ◌<◌, ◌≤◌, max, List, [], ◌∷◌, ◌++◌, length, set, get_or, remove, Option, Some, None, slice_get, refl, ap, sym, ◌∙◌, subst, arith, get_or-set_same, get_or-set_other, inl, inr, ⊎_elim}
+use Rattle.std.proofs.lemmas.Option.{slice_get_within}
+use mathlib.Core.Option.{some}
+use lib.ListN.{get_elem?}
+use Rattle.atomic_table.specs.Table.{Splits, Joins}
+use Rattle.atomic_table.proofs.Lists.{at_set, set_else, at_longer}
+use Rattle.version_core.specs.Actors.{nobody, actor, NoneOf}
+use Rattle.version_core.specs.declared.event.Event.{Event}
+use Rattle.version_core.specs.declared.event.Reply.{Reply}
+use Rattle.version_core.specs.declared.state.Worker.{Worker}
+use Rattle.version_core.specs.State.{State, noted, joined}
+use Rattle.version_core.specs.Steps.{Step, IsSettled as IsSettledAt}
+use Rattle.version_core.specs.Kept.{Kept}
+use Rattle.version_core.proofs.Rising.{most_left}
+use Rattle.shelf_steps.specs.declared.views.Known.{Known}
+use Rattle.shelf_steps.specs.declared.views.WorkerView.{WorkerView}
+use Rattle.shelf_steps.specs.declared.views.LoaderView.{LoaderView}
+use Rattle.shelf_steps.specs.declared.views.View.{View}
+use Rattle.shelf_steps.specs.Course.{Course, Goes, extended, Begins}
+use Rattle.version_core.specs.Shown.{WordsShow}
+use Rattle.shelf_steps.specs.Seats.{WorkerFits, LoaderFits, SeatFits, SeatsFit}
+use Rattle.shelf_steps.specs.Slots.{SlotsFit}
+use Rattle.shelf_steps.specs.Ruled.{Ruled, notices_of}
+use Rattle.shelf_steps.specs.Laws.{Shelved}
+use Rattle.shelf_steps.specs.Plays.{Mine, new_notice, with_seen, joins_notice, IsLoading, IsSettled, IsNotice}
+use Rattle.shelf_steps.specs.Events.{noting, joining, NotesAreEvents, JoinsAreEvents}
+use Rattle.shelf_steps.proofs.Courses.{kept_of, none_snoc, begins_longer, goes_same, prefix_same, other_fits}
+use Rattle.shelf_steps.proofs.Frames.{worker_moves, loader_moves}
+use Rattle.shelf_steps.proofs.NoteLists.{notices_worker, notices_loader, notices_more, notices_less}
+use Rattle.shelf_steps.proofs.Opens.{at_end}
+
+-- an event that is nobody's
+module _ (table : Shelved) (r : Ruled table) (e : Event) (reply : Reply) (t : State) (whose : actor e ≡ nobody)
+    (current : t.current ≡ r.course.state.current) (current_shelf : t.current_shelf ≡ r.course.state.current_shelf) (shelves : t.shelves ≡ r.course.state.shelves) (editions : t.editions ≡ r.course.state.editions) where
+  not_loaders : actor e ≢ None
+  not_loaders q = let z : Some 16 ≡ None = sym whose ∙ q in cc
+
+  not_of : (u : ℕ) → u < 16 → actor e ≢ Some u
+  not_of u small q = let z : Some 16 ≡ Some u = sym whose ∙ q in let same : 16 ≡ u = cc in omega arith
+
+  number_small : (u : WorkerView) → WorkerFits r.course u → u.number < 16
+  number_small u f = let l = slice_get_within r.course.state.workers u.number u.now f.shows.now in let z = (kept_of r.course r.goes).workers.sixteen in omega arith
+
+  known_on : (u : WorkerView) → WorkerFits r.course u → Begins u.known (Some u.number) (extended r.course e reply t r.course.images)
+  known_on u f = begins_longer r.course e reply t r.course.images u.known (Some u.number) (not_of u.number (number_small u f)) (prefix_same r.course.images) f.known
+
+  loader_on : (l : LoaderView) → LoaderFits r.course l → LoaderFits (extended r.course e reply t r.course.images) l
+  loader_on l f = record {
+    shows = record {
+      current = f.shows.current ∙ sym current;
+      current_shelf = f.shows.current_shelf ∙ sym current_shelf;
+      shelves = f.shows.shelves ∙ sym shelves;
+      newest_is = f.shows.newest_is ∙ ap (λ (xs : List ℕ). length xs) (sym editions);
+    };
+    images = f.images;
+    known = begins_longer r.course e reply t r.course.images l.known None not_loaders (prefix_same r.course.images) f.known;
+  }
+
+  worker_on : (u : WorkerView) → slice_get t.workers u.number ≡ slice_get r.course.state.workers u.number → get_or t.seen u.number 0 ≡ get_or r.course.state.seen u.number 0 → WorkerFits r.course u
+      → WorkerFits (extended r.course e reply t r.course.images) u
+  worker_on u now seen f = other_fits r.course (extended r.course e reply t r.course.images) u now seen (omega arith) (prefix_same r.course.images) (known_on u f) f
+
+  unmoved_on : (w : ℕ) → w < 16 → NoneOf (Some w) r.course.events → NoneOf (Some w) (extended r.course e reply t r.course.images).events
+  unmoved_on w small h = none_snoc (Some w) r.course.events e (not_of w small) h
+
+-- a seat more, which is a notice's
+seat_more : (c : Course) (views : List View) (loader : LoaderView) (n : ℕ) → SeatsFit c views loader → SeatsFit c (views ++ View.Noting n ∷ []) loader
+seat_more c views loader n fit = record {
+  owner = fit.owner;
+  loader_seat = at_longer views (View.Noting n ∷ []) 0 (View.Loading loader) fit.loader_seat;
+  loads = fit.loads;
+  few = fit.few;
+  each = λ seat u e. ⊎_elim
+      (λ (old : get_elem? views seat ≡ some u). fit.each seat u old)
+      (λ (q : (seat ≡ length views) × (View.Noting n ≡ u)). subst (λ (x : View). SeatFits c loader fit.owner seat x) q.1 tt)
+      (at_end views (View.Noting n) u seat e);
+  every = λ w less. let o = fit.every w less in (o.0, o.1, at_longer views (View.Noting n ∷ []) (fit.owner w) (View.Working o.0) o.2);
+  unseated = fit.unseated;
+}
+
+-- a notice's seat is left spent
+seat_spent : (c : Course) (views : List View) (loader : LoaderView) (other n : ℕ) → get_elem? views other ≡ some (View.Noting n) → SeatsFit c views loader → SeatsFit c (set views other View.Spent) loader
+seat_spent c views loader other n at fit = record {
+  owner = fit.owner;
+  loader_seat = set_else views other 0 View.Spent (λ e. let z : some (View.Loading loader) ≡ some (View.Noting n) = sym fit.loader_seat ∙ (ap (λ m. get_elem? views m) e ∙ at) in cc) ∙ fit.loader_seat;
+  loads = fit.loads;
+  few = fit.few;
+  each = λ seat u e. ⊎_elim
+      (λ (q : (seat ≡ other) × (View.Spent ≡ u)). subst (λ (x : View). SeatFits c loader fit.owner seat x) q.1 tt)
+      (λ (q : (seat ≢ other) × (get_elem? views seat ≡ some u)). fit.each seat u q.1)
+      (at_set views other seat View.Spent u e);
+  every = λ w less. let o = fit.every w less in
+      (o.0, o.1, set_else views other (fit.owner w) View.Spent (λ e. let z : some (View.Working o.0) ≡ some (View.Noting n) = sym o.2 ∙ (ap (λ m. get_elem? views m) e ∙ at) in cc) ∙ o.2);
+  unseated = fit.unseated;
+}
+
+pub notes_events : NotesAreEvents
+notes_events table id l r at =
+    let s : State = r.course.state in
+    let is = (r.seats.each id (View.Loading l) at).1 in
+    let knows : LoaderFits r.course l = subst (λ (x : LoaderView). LoaderFits r.course x) (sym is) r.seats.loads in
+    let e : Event = Event.Note in let reply : Reply = Reply.Noted l.current in let t : State = noted s in
+    let is_step : Step s e reply t = (knows.shows.current, refl) in
+    let d : Course = extended r.course e reply t r.course.images in
+    let views : List View = set table.views id (View.Loading l) in
+    let moved : SeatsFit d views l = loader_moves r.course d table.views r.loader r.seats id l l at refl (λ u f. worker_on table r e reply t refl refl refl refl refl u refl refl f)
+    (loader_on table r e reply t refl refl refl refl refl l knows) refl refl (λ w small h. unmoved_on table r e reply t refl refl refl refl refl w small h) in (
+      record {
+        course = d;
+        loader = l;
+        goes = goes_same r.course e reply t r.goes is_step refl;
+        words = record { nine = r.words.nine; cur = r.words.cur; each = r.words.each };
+        seats = seat_more d views l l.current moved;
+        notices = notices_more views (View.Noting l.current) ∙ (λ i. (notices_loader table.views id l l at ∙ r.notices) i ++ knows.shows.current i ∷ []);
+        slots = subst (λ (x : LoaderView). SlotsFit table.homes s.shelves s.workers r.course.images x.hand) (sym is) r.slots;
+      },
+      refl,
+    )
+
+-- a settled worker, as the state has it
+settled_so : (s : State) (v : WorkerView) → slice_get s.workers v.number ≡ Some v.now → IsSettled (View.Working v) → IsSettledAt s v.number
+settled_so s v here settled = elim settled [
+  | inl a ↦ inl (here ∙ ap (λ (x : Worker). Some x) a)
+  | inr b ↦ inr (b.0, b.1, here ∙ ap (λ (x : Worker). Some x) b.2)
+]
+
+other_than : (views : List View) (id other n : ℕ) (v : WorkerView) → get_elem? views id ≡ some (View.Working v) → get_elem? views other ≡ some (View.Noting n) → other ≢ id
+other_than views id other n v at at' e = let z : some (View.Noting n) ≡ some (View.Working v) = sym at' ∙ (ap (λ m. get_elem? views m) e ∙ at) in cc
+
+pub joins_events : JoinsAreEvents
+joins_events table id other n v r at settled at' =
+    let s : State = r.course.state in let w = v.number in
+    let kept : Kept s = kept_of r.course r.goes in
+    let f : WorkerFits r.course v = (r.seats.each id (View.Working v) at).2 in
+    let v' : WorkerView = with_seen v n in
+    let views : List View = set table.views id (View.Working v') in
+    let there : get_elem? views other ≡ some (View.Noting n) = set_else table.views id other (View.Working v') (other_than table.views id other n v at at') ∙ at' in
+    let same : notices_of views ≡ s.notices = notices_worker table.views id v v' at ∙ r.notices in
+    let less = notices_less views other n there in let place = less.0 in
+    let is_noted : slice_get s.notices place ≡ Some n = ap (λ (xs : List ℕ). slice_get xs place) (sym same) ∙ less.1 in
+    let more : max (get_or s.seen w 0) n ≡ max v.seen n = ap (λ m. max m n) f.shows.seen in
+    let e : Event = Event.Join w n in let reply : Reply = Reply.Joined (max v.seen n) in let t : State = joined s w n place in
+    let is_step : Step s e reply t = (settled_so s v f.shows.now settled, sym more, (place, is_noted, refl)) in
+    let d : Course = extended r.course e reply t r.course.images in
+    let within = slice_get_within s.workers w v.now f.shows.now in let many = kept.workers.sixteen in let many' = kept.workers.sixteen_seen in
+    let fits : WorkerFits d v' = record {
+      shows = record { now = f.shows.now; seen = get_or-set_same s.seen w (max (get_or s.seen w 0) n) 0 (omega arith) ∙ more };
+      last = (f.last.0, (let a = f.last.1 in let b = most_left v.seen n in omega arith));
+      passed = f.passed;
+      edition = f.edition;
+      known = known_on table r e reply t refl refl refl refl refl v f;
+    } in
+    let rest : (j : ℕ) → j ≢ w → (slice_get t.workers j ≡ slice_get s.workers j) × (get_or t.seen j 0 ≡ get_or s.seen j 0) = λ j ne. (refl, get_or-set_other s.seen w j (max (get_or s.seen w 0) n) 0 ne) in
+    let moved : SeatsFit d views r.loader = worker_moves r.course d table.views r.loader r.seats id v v' at refl
+    (λ u ne g. worker_on table r e reply t refl refl refl refl refl u refl (rest u.number ne).1 g)
+    (loader_on table r e reply t refl refl refl refl refl r.loader r.seats.loads) rest (λ j small ne h. unmoved_on table r e reply t refl refl refl refl refl j small h) fits in (
+      record {
+        course = d;
+        loader = r.loader;
+        goes = goes_same r.course e reply t r.goes is_step refl;
+        words = record { nine = r.words.nine; cur = r.words.cur; each = r.words.each };
+        seats = seat_spent d views r.loader other n there moved;
+        notices = less.2 ∙ ap (λ (xs : List ℕ). remove xs place) same;
+        slots = r.slots;
+      },
+      (place, refl),
+    )
+
+splits_as : (id : ℕ) (u : View) → IsLoading u → Splits Ruled id u u (new_notice u)
+splits_as id (View.Loading l) loads table r at = (notes_events table id l r at).0
+splits_as id (View.Working v) loads table r at = absurd loads
+splits_as id (View.Noting n) loads table r at = absurd loads
+splits_as id View.Spent loads table r at = absurd loads
+
+pub note_splits : (id : ℕ) (u : View) → IsLoading u → Splits Ruled id u u (new_notice u)
+note_splits = splits_as
+
+joins_as : (id other n : ℕ) (u : View) → IsSettled u → Joins Ruled id u other (View.Noting n) (joins_notice u (View.Noting n)) View.Spent
+joins_as id other n (View.Loading l) settled table r at apart there = absurd settled
+joins_as id other n (View.Noting m) settled table r at apart there = absurd settled
+joins_as id other n View.Spent settled table r at apart there = absurd settled
+joins_as id other n (View.Working v) settled table r at apart there =
+    (joins_events table id other n v r at settled (sym (set_else table.views id other (View.Working (with_seen v n)) apart) ∙ there)).0
+
+pub note_joins : (id other n : ℕ) (u : View) (m : Mine) → IsSettled u → IsNotice n m → Joins Ruled id u other m.0 (joins_notice u m.0) View.Spent
+note_joins id other n u m settled is = subst (λ (x : Mine). Joins Ruled id u other x.0 (joins_notice u x.0) View.Spent) (sym is) (joins_as id other n u settled)

@@ -1,0 +1,32 @@
+//! Notices of versions: one is split from the loader's seat, and a worker's seat takes it in.
+ghost use Rattle.std.specs.Prelude.{◌≡◌, ℕ, []};
+ghost use Rattle.shelf_steps.specs.Plays.{new_notice, joins_notice, IsLoading, IsSettled, IsNotice};
+
+use crate::places::{Place, ShelfTable};
+use crate::rule::{Joining, Noting};
+
+/// A split of the loader's seat: a notice of the current version. It takes no memory.
+pub fn note(shelves: &ShelfTable, loader: &mut Place) -> Place
+    requires table { loader.old.table ≡ shelves.now }
+    requires loader { IsLoading loader.old.me.0 }
+    ensures table { loader.new.table ≡ loader.old.table }
+    ensures loader { loader.new.me ≡ loader.old.me }
+    ensures notice { (result.table ≡ loader.old.table) × (result.me ≡ (new_notice loader.old.me.0, [])) }
+{
+    let seat = shelves.table.shared.split_seat::<Noting>(&mut loader.seat);
+    Place { seat }
+}
+
+/// A join: the worker, which is idle or holds a version, has seen the notice's version from now on.
+pub fn join(shelves: &ShelfTable, worker: &mut Place, notice: Place)
+    requires table { (worker.old.table ≡ shelves.now) × (notice.table ≡ shelves.now) }
+    requires settled { IsSettled worker.old.me.0 }
+    requires notice { (version : ℕ) × IsNotice version notice.me }
+    ensures table { worker.new.table ≡ worker.old.table }
+    ensures join { worker.new.me ≡ (joins_notice worker.old.me.0 notice.me.0, worker.old.me.1) }
+{
+    shelves
+        .table
+        .shared
+        .join_seat::<Joining>(&mut worker.seat, notice.seat);
+}
