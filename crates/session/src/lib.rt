@@ -16,3 +16,8 @@ pub use lines::Counted;
 pub use orders::{Gate, OpenGate, OrderFault, Orders};
 pub use serving::{MOST_REQUESTS, serve};
 pub use solo_orders::{FeedImage, SoloOrders};
+
+#[cfg(test)]
+mod scripted_tests;
+#[cfg(test)]
+mod tests;

@@ -4,6 +4,7 @@
 mod clients;
 mod feeds;
 mod loading;
+mod naming;
 mod refusal;
 mod running;
 mod served;
@@ -13,8 +14,12 @@ mod streams;
 pub use clients::{Client, Clients, ConnFault};
 pub use feeds::Feeds;
 pub use loading::load_one;
+pub use naming::run_shelves;
 pub use refusal::LoadRefusal;
 pub use running::{WorkersFault, run_workers};
 pub use served::{End, Served};
 pub use serving::serve_client;
 pub use streams::Streams;
+
+#[cfg(test)]
+mod tests;

@@ -1,0 +1,392 @@
+//! Sessions whose replies a plain model tells.
+
+use crate::tests::{Pieces, Taker, feed_of, image, taker_of, talked};
+use crate::{Ended, FeedImage, OpenGate, SessionFault};
+use orders::Gate;
+use std::alloc::{AllocError, Global};
+use std::io;
+use std::io::{Read, Write};
+use std::sync::Wait;
+use std::sync::atomic::{AtomicU64, Ordering};
+use std::test::Fail;
+
+// What a line asks.
+#[derive(Clone, Copy, PartialEq, Eq)]
+enum Asked {
+    Pin,
+    Release,
+    Profile,
+    Load(&'static str),
+    Wait(&'static str),
+    NoJson,
+    NoRequest,
+}
+
+const KINDS: [Asked; 12] = [
+    Asked::Pin,
+    Asked::Profile,
+    Asked::Load("slow"),
+    Asked::Release,
+    Asked::Profile,
+    Asked::Pin,
+    Asked::Load("fast"),
+    Asked::NoJson,
+    Asked::Load("none"),
+    Asked::NoRequest,
+    Asked::Wait("slow"),
+    Asked::Wait("fast"),
+];
+
+const SHORT: [Asked; 11] = [
+    Asked::Pin,
+    Asked::Load("slow"),
+    Asked::Profile,
+    Asked::Release,
+    Asked::Profile,
+    Asked::NoJson,
+    Asked::Pin,
+    Asked::Pin,
+    Asked::Load("none"),
+    Asked::Release,
+    Asked::Release,
+];
+
+// The feeds that may be ordered, each once, in order.
+const FEEDS: [&str; 3] = ["slow", "fast", "slow"];
+
+const PROFILE: &str =
+    "{\"do\":\"profile\",\"from\":\"A\",\"to\":\"C\",\"after\":\"07:00:00\",\"until\":\"09:00:00\",\"by\":\"10:00:00\",\"criterion\":\"arrival\"}\n";
+
+const FAST: &str =
+    "{\"arr\":\"08:20:00\",\"dep\":\"08:00:00\",\"journey\":\"ride 0 0 walk 1 1 0 ride 2 2\"}";
+
+const SLOW: &str = "{\"arr\":\"08:30:00\",\"dep\":\"08:00:00\",\"journey\":\"ride 0 1\"}";
+
+// What the model knows: the version that is held, the feeds of all versions so far, and those that may still be ordered.
+#[derive(Drop)]
+struct Shown {
+    held: Option<usize>,
+    published: Vec<&'static str>,
+    left: Vec<&'static str>,
+}
+
+impl Shown {
+    fn new(alloc: Global) -> Result<Shown, AllocError> {
+        let mut published = Vec::new(alloc);
+        published.push("fast")?;
+        Ok(Shown {
+            held: None,
+            published,
+            left: FEEDS.to_vec(alloc)?,
+        })
+    }
+
+    // Adds the reply to what is asked.
+    fn answer(&mut self, asked: Asked, replies: &mut String) -> Result<(), AllocError> {
+        match asked {
+            Asked::Pin => self.pin(replies),
+            Asked::Release => self.release(replies),
+            Asked::Profile => self.profile(replies),
+            Asked::Load(feed) => self.load(feed, false, replies),
+            Asked::Wait(feed) => self.load(feed, true, replies),
+            Asked::NoJson => refuse(111, "BadJson", replies),
+            Asked::NoRequest => refuse(112, "BadRequest", replies),
+        }
+    }
+
+    fn pin(&mut self, replies: &mut String) -> Result<(), AllocError> {
+        if self.held.is_some() {
+            return refuse(92, "AlreadyPinned", replies);
+        }
+        let version = self.published.len();
+        self.held = Some(version);
+        write!(
+            replies,
+            "{{\"base\":1705276800,\"ok\":\"pin\",\"version\":{version}}}\n"
+        )
+    }
+
+    fn release(&mut self, replies: &mut String) -> Result<(), AllocError> {
+        match self.held.take() {
+            Some(_) => replies.push_str("{\"ok\":\"release\"}\n"),
+            None => refuse(93, "NotPinned", replies),
+        }
+    }
+
+    fn profile(&mut self, replies: &mut String) -> Result<(), AllocError> {
+        let version = self.held.unwrap_or(self.published.len());
+        let point = match self.published.get(version.saturating_sub(1)) {
+            Some(&"slow") => SLOW,
+            _ => FAST,
+        };
+        write!(
+            replies,
+            "{{\"ok\":\"profile\",\"points\":[{point}],\"version\":{version},\"walk\":null}}\n"
+        )
+    }
+
+    fn load(
+        &mut self,
+        feed: &'static str,
+        waits: bool,
+        replies: &mut String,
+    ) -> Result<(), AllocError> {
+        let Some(place) = self.left.iter().position(|one| *one == feed) else {
+            return refuse(114, "UnknownFeed", replies);
+        };
+        self.left.remove(place);
+        self.published.push(feed)?;
+        if !waits {
+            return write!(replies, "{{\"feed\":\"{feed}\",\"ok\":\"load\"}}\n");
+        }
+        let version = self.published.len();
+        write!(
+            replies,
+            "{{\"feed\":\"{feed}\",\"ok\":\"load\",\"version\":{version}}}\n"
+        )
+    }
+}
+
+fn refuse(number: u32, name: &str, replies: &mut String) -> Result<(), AllocError> {
+    write!(replies, "{{\"error\":{number},\"name\":\"{name}\"}}\n")
+}
+
+// The line that asks so.
+fn ask(asked: Asked, requests: &mut String) -> Result<(), AllocError> {
+    match asked {
+        Asked::Pin => requests.push_str("{\"do\":\"pin\"}\n"),
+        Asked::Release => requests.push_str("{\"do\":\"release\"}\n"),
+        Asked::Profile => requests.push_str(PROFILE),
+        Asked::Load(feed) => write!(requests, "{{\"do\":\"load\",\"feed\":\"{feed}\"}}\n"),
+        Asked::Wait(feed) => write!(
+            requests,
+            "{{\"do\":\"load\",\"feed\":\"{feed}\",\"wait\":true}}\n"
+        ),
+        Asked::NoJson => requests.push_str("{\"do\":\"pi\n"),
+        Asked::NoRequest => requests.push_str("{\"do\":\"pie\"}\n"),
+    }
+}
+
+// A session: its requests, and the replies that the model tells.
+#[derive(Drop)]
+struct Script {
+    shown: Shown,
+    requests: String,
+    replies: String,
+}
+
+impl Script {
+    fn new(alloc: Global) -> Result<Script, AllocError> {
+        Ok(Script {
+            shown: Shown::new(alloc)?,
+            requests: String::new(alloc),
+            replies: String::new(alloc),
+        })
+    }
+
+    fn add(&mut self, asked: Asked) -> Result<(), AllocError> {
+        ask(asked, &mut self.requests)?;
+        self.shown.answer(asked, &mut self.replies)
+    }
+}
+
+fn short_script(alloc: Global) -> Result<Script, AllocError> {
+    let mut script = Script::new(alloc)?;
+    for asked in SHORT {
+        script.add(asked)?;
+    }
+    Ok(script)
+}
+
+// The sample, and the feeds with theirs.
+fn feeds(alloc: Global) -> Result<Vec<FeedImage>, Fail> {
+    let mut feeds = Vec::new(alloc);
+    for name in FEEDS {
+        let change = if name == "slow" { 121 } else { 0 };
+        feeds.push(feed_of(alloc, name, image(alloc, change)?)?)?;
+    }
+    Ok(feeds)
+}
+
+// What comes of a session over new shelves, and what is written.
+fn told<R: Wait, In: Read + Drop>(
+    rt: &R,
+    alloc: Global,
+    reader: In,
+) -> Result<(Result<Ended, SessionFault>, Taker), Fail> {
+    let taker = taker_of(alloc, 100_000, true);
+    talked(
+        rt,
+        alloc,
+        image(alloc, 0)?,
+        feeds(alloc)?,
+        reader,
+        taker,
+        &OpenGate,
+    )
+}
+
+// Numbers that look drawn: the same ones each time.
+#[derive(Drop)]
+struct Dice {
+    state: u64,
+}
+
+impl Dice {
+    fn roll(&mut self) -> usize {
+        self.state = self.state.wrapping_mul(48_271) % 2_147_483_647;
+        (self.state % 1_000) as usize
+    }
+}
+
+fn drawn(alloc: Global, dice: &mut Dice) -> Result<Script, AllocError> {
+    let mut script = Script::new(alloc)?;
+    for _ in 0..dice.roll() % 9 {
+        script.add(KINDS[dice.roll() % 12])?;
+    }
+    Ok(script)
+}
+
+#[test]
+fn drawn_sessions_are_answered(rt: HostRuntime) -> Result<(), Fail> {
+    let mut dice = Dice { state: 1 };
+    for _ in 0..200 {
+        let script = drawn(rt.alloc(), &mut dice)?;
+        let reader = Pieces {
+            rest: script.requests.as_bytes(),
+            most: 100,
+            is_failing: false,
+        };
+        let (ended, taker) = told(&rt, rt.alloc(), reader)?;
+        assert!(&rt; ended == Ok(Ended));
+        assert!(&rt; taker.taken.as_slice() == script.replies.as_bytes());
+    }
+    Ok(())
+}
+
+// A reader that gives its bytes in two reads.
+#[derive(Drop)]
+struct Halves<'a> {
+    front: &'a [u8],
+    back: &'a [u8],
+}
+
+impl Read for Halves<'_> {
+    fn read(&mut self, room: &mut [u8]) -> io::Result<usize> {
+        if self.front.is_empty() {
+            self.front = self.back;
+            self.back = b"";
+        }
+        let count = room.len().min(self.front.len());
+        let (piece, rest) = self.front.split_at(count);
+        room[..count].copy_from_slice(piece);
+        self.front = rest;
+        Ok(count)
+    }
+}
+
+#[test]
+fn lines_may_be_cut_anywhere(rt: HostRuntime) -> Result<(), Fail> {
+    let script = short_script(rt.alloc())?;
+    let bytes = script.requests.as_bytes();
+    for place in 0..bytes.len() {
+        let (front, back) = bytes.split_at(place);
+        let (ended, taker) = told(&rt, rt.alloc(), Halves { front, back })?;
+        assert!(&rt; ended == Ok(Ended));
+        assert!(&rt; taker.taken.as_slice() == script.replies.as_bytes());
+    }
+    Ok(())
+}
+
+// How many lines of the text are whole.
+fn whole_lines(text: &[u8]) -> usize {
+    text.iter().filter(|byte| **byte == b'\n').count()
+}
+
+#[test]
+fn a_read_may_fail_anywhere(rt: HostRuntime) -> Result<(), Fail> {
+    let script = short_script(rt.alloc())?;
+    let bytes = script.requests.as_bytes();
+    for place in 0..bytes.len() {
+        let (front, _) = bytes.split_at(place);
+        let reader = Pieces {
+            rest: front,
+            most: 7,
+            is_failing: true,
+        };
+        let (ended, taker) = told(&rt, rt.alloc(), reader)?;
+        assert!(&rt; ended == Err(SessionFault::ReadFailed));
+        assert!(&rt; script.replies.as_bytes().starts_with(&taker.taken));
+        assert_eq!(&rt; whole_lines(&taker.taken), whole_lines(front));
+        assert!(&rt; taker.taken.is_empty() || taker.taken.ends_with(b"\n"));
+    }
+    Ok(())
+}
+
+// How many scans are open.
+#[derive(Drop)]
+struct Scans {
+    open: AtomicU64,
+}
+
+impl Gate for Scans {
+    fn enter(&self) {
+        self.open.fetch_add(1, Ordering::SeqCst);
+    }
+
+    fn leave(&self) {
+        self.open.fetch_sub(1, Ordering::SeqCst);
+    }
+}
+
+// A writer that notes for each line how many scans are open.
+#[derive(Drop)]
+struct Notes<'a> {
+    scans: &'a Scans,
+    noted: String,
+}
+
+impl Write for Notes<'_> {
+    fn write(&mut self, piece: &[u8]) -> io::Result<usize> {
+        let open = self.scans.open.load(Ordering::SeqCst);
+        match write!(self.noted, "{open}") {
+            Ok(()) => Ok(piece.len()),
+            Err(_) => Err(io::Error::from(io::ErrorKind::OutOfMemory)),
+        }
+    }
+
+    fn flush(&mut self) -> io::Result<()> {
+        Ok(())
+    }
+}
+
+/// A scan is left once its reply was written.
+#[test]
+fn scans_are_left_behind_their_replies(rt: HostRuntime) -> Result<(), Fail> {
+    let alloc: Global = rt.alloc();
+    let script = short_script(alloc)?;
+    let scans = Scans {
+        open: AtomicU64::new(0),
+    };
+    let notes = Notes {
+        scans: &scans,
+        noted: String::new(alloc),
+    };
+    let reader = Pieces {
+        rest: script.requests.as_bytes(),
+        most: 100,
+        is_failing: false,
+    };
+    let (ended, notes) = talked(
+        &rt,
+        alloc,
+        image(alloc, 0)?,
+        feeds(alloc)?,
+        reader,
+        notes,
+        &scans,
+    )?;
+    assert!(&rt; ended == Ok(Ended));
+    assert_eq!(&rt; notes.noted.as_str(), "00101000000");
+    Ok(())
+}

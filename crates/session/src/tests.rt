@@ -1,0 +1,478 @@
+//! Sessions as clients see them.
+
+ghost use Rattle.std.specs.Prelude.{◌≡◌};
+
+use crate::{Counted, Ended, FeedImage, OpenGate, SessionFault, SoloOrders, serve};
+use epochs::{Named, ShelfLoader, ShelfSeat, Shelves, SoloShelves};
+use image_layout::sample_words;
+use image_verifier::{Verified, verify};
+use orders::{Gate, OrderFault, Ordered, Orders};
+use std::alloc::{AllocError, Global};
+use std::io;
+use std::io::{Read, Write};
+use std::marker::Brand;
+use std::sync::{Arc, Wait};
+use std::test::Fail;
+use timetable::Trace;
+
+// A reader that gives so many bytes at once at most, and behind the last of them fails or is at its end.
+#[derive(Drop)]
+pub(crate) struct Pieces<'a> {
+    pub(crate) rest: &'a [u8],
+    pub(crate) most: usize,
+    pub(crate) is_failing: bool,
+}
+
+impl Read for Pieces<'_> {
+    fn read(&mut self, room: &mut [u8]) -> io::Result<usize> {
+        if self.rest.is_empty() && self.is_failing {
+            return Err(io::Error::from(io::ErrorKind::Interrupted));
+        }
+        let count = room.len().min(self.most).min(self.rest.len());
+        let (piece, rest) = self.rest.split_at(count);
+        room[..count].copy_from_slice(piece);
+        self.rest = rest;
+        Ok(count)
+    }
+}
+
+// A writer that takes so many bytes in all, and then fails or takes none.
+#[derive(Drop)]
+pub(crate) struct Taker {
+    pub(crate) taken: Vec<u8>,
+    room: usize,
+    is_failing: bool,
+}
+
+impl Write for Taker {
+    fn write(&mut self, piece: &[u8]) -> io::Result<usize> {
+        let count = piece.len().min(self.room);
+        if count == 0 && self.is_failing {
+            return Err(io::Error::from(io::ErrorKind::BrokenPipe));
+        }
+        match self.taken.extend_from_slice(&piece[..count]) {
+            Ok(()) => {}
+            Err(_) => return Err(io::Error::from(io::ErrorKind::OutOfMemory)),
+        }
+        self.room -= count;
+        Ok(count)
+    }
+
+    fn flush(&mut self) -> io::Result<()> {
+        Ok(())
+    }
+}
+
+// A reader of one byte, over and over.
+#[derive(Drop)]
+struct Endless {
+    byte: u8,
+}
+
+impl Read for Endless {
+    fn read(&mut self, room: &mut [u8]) -> io::Result<usize> {
+        room.fill(self.byte);
+        Ok(room.len())
+    }
+}
+
+// A writer that counts bytes.
+#[derive(Drop)]
+struct Tally {
+    bytes: u64,
+}
+
+impl Write for Tally {
+    fn write(&mut self, piece: &[u8]) -> io::Result<usize> {
+        self.bytes = self.bytes.saturating_add(piece.len() as u64);
+        Ok(piece.len())
+    }
+
+    fn flush(&mut self) -> io::Result<()> {
+        Ok(())
+    }
+}
+
+/// The sample, in which changing at B takes so many seconds.
+pub(crate) fn image(alloc: Global, change: u32) -> Result<Arc<Verified, Global>, Fail> {
+    let mut words = sample_words().to_vec(alloc)?;
+    if let Some(word) = words.get_mut(34) {
+        *word = change;
+    }
+    image_of(alloc, words)
+}
+
+fn image_of(alloc: Global, words: Vec<u32>) -> Result<Arc<Verified, Global>, Fail> {
+    match verify(alloc, words) {
+        Ok(image) => match Arc::new(alloc, image) {
+            Ok(shared) => Ok(shared),
+            Err(_) => Err(AllocError.into()),
+        },
+        Err((_, fault)) => {
+            if fault.number() == 76 {
+                return Err(AllocError.into());
+            }
+            Err("the words are an image".into())
+        }
+    }
+}
+
+/// The sample with a footpath of 900 seconds from B to C.
+fn image_with_a_footpath(alloc: Global) -> Result<Arc<Verified, Global>, Fail> {
+    let sample = sample_words();
+    let (front, back) = sample.split_at(35);
+    let mut words = front.to_vec(alloc)?;
+    words.extend_from_slice(&[1, 900])?;
+    words.extend_from_slice(back)?;
+    for place in [5, 30] {
+        if let Some(word) = words.get_mut(place) {
+            *word = 4;
+        }
+    }
+    image_of(alloc, words)
+}
+
+const PIN: &str = "{\"do\":\"pin\"}";
+
+const RELEASE: &str = "{\"do\":\"release\"}";
+
+const PROFILE: &str =
+    "{\"do\":\"profile\",\"from\":\"A\",\"to\":\"C\",\"after\":\"07:00:00\",\"until\":\"09:00:00\",\"by\":\"10:00:00\",\"criterion\":\"arrival\"}";
+
+fn add_line(bytes: &mut Vec<u8>, line: &str) -> Result<(), AllocError> {
+    bytes.extend_from_slice(line.as_bytes())?;
+    bytes.push(b'\n')?;
+    Ok(())
+}
+
+/// The requests of a session: pins, an order, profiles, and lines that are none.
+fn requests(alloc: Global) -> Result<Vec<u8>, AllocError> {
+    let mut bytes = Vec::new(alloc);
+    add_line(&mut bytes, PIN)?;
+    add_line(&mut bytes, "{\"do\":\"load\",\"feed\":\"slow\"}")?;
+    add_line(&mut bytes, PROFILE)?;
+    add_line(&mut bytes, RELEASE)?;
+    add_line(&mut bytes, PROFILE)?;
+    add_line(&mut bytes, "{\"do\":\"pi")?;
+    add_line(&mut bytes, PIN)?;
+    add_line(&mut bytes, PIN)?;
+    for _ in 0..65_537 {
+        bytes.push(b'x')?;
+    }
+    bytes.push(b'\n')?;
+    add_line(&mut bytes, "{\"do\":\"load\",\"feed\":\"none\"}")?;
+    add_line(&mut bytes, RELEASE)?;
+    add_line(&mut bytes, RELEASE)?;
+    Ok(bytes)
+}
+
+/// Their replies.
+const REPLIES: &str =
+    "{\"base\":1705276800,\"ok\":\"pin\",\"version\":1}\n{\"feed\":\"slow\",\"ok\":\"load\"}\n{\"ok\":\"profile\",\"points\":[{\"arr\":\"08:20:00\",\"dep\":\"08:00:00\",\"journey\":\"ride 0 0 walk 1 1 0 ride 2 2\"}],\"version\":1,\"walk\":null}\n{\"ok\":\"release\"}\n{\"ok\":\"profile\",\"points\":[{\"arr\":\"08:30:00\",\"dep\":\"08:00:00\",\"journey\":\"ride 0 1\"}],\"version\":2,\"walk\":null}\n{\"error\":111,\"name\":\"BadJson\"}\n{\"base\":1705276800,\"ok\":\"pin\",\"version\":2}\n{\"error\":92,\"name\":\"AlreadyPinned\"}\n{\"error\":113,\"name\":\"LineTooLong\"}\n{\"error\":114,\"name\":\"UnknownFeed\"}\n{\"ok\":\"release\"}\n{\"error\":93,\"name\":\"NotPinned\"}\n";
+
+// Serves these bytes on new shelves: what came of it, and what was written.
+fn served<R: Wait>(
+    rt: &R,
+    alloc: Global,
+    reader: Pieces<'_>,
+    room: usize,
+    is_failing: bool,
+) -> Result<(Result<Ended, SessionFault>, Vec<u8>), Fail> {
+    let (first, slow) = (image(alloc, 0)?, image(alloc, 121)?);
+    served_from(rt, alloc, first, slow, reader, room, is_failing)
+}
+
+// The same on shelves with a first image, beside the one of a feed.
+fn served_from<R: Wait>(
+    rt: &R,
+    alloc: Global,
+    first: Arc<Verified, Global>,
+    slow: Arc<Verified, Global>,
+    reader: Pieces<'_>,
+    room: usize,
+    is_failing: bool,
+) -> Result<(Result<Ended, SessionFault>, Vec<u8>), Fail> {
+    let mut feeds = Vec::new(alloc);
+    feeds.push(feed_of(alloc, "slow", slow)?)?;
+    let taker = taker_of(alloc, room, is_failing);
+    let (ended, taker) = talked(rt, alloc, first, feeds, reader, taker, &OpenGate)?;
+    Ok((ended, taker.taken))
+}
+
+pub(crate) fn taker_of(alloc: Global, room: usize, is_failing: bool) -> Taker {
+    Taker {
+        taken: Vec::new(alloc),
+        room,
+        is_failing,
+    }
+}
+
+pub(crate) fn feed_of(
+    alloc: Global,
+    name: &str,
+    image: Arc<Verified, Global>,
+) -> Result<FeedImage, AllocError> {
+    let name = String::from_str(alloc, name)?;
+    Ok(FeedImage { name, image })
+}
+
+/// Serves a reader and a writer on new shelves: what came of it, and the writer.
+pub(crate) fn talked<R: Wait, In: Read + Drop, Out: Write + Drop, G: Gate>(
+    rt: &R,
+    alloc: Global,
+    first: Arc<Verified, Global>,
+    feeds: Vec<FeedImage>,
+    reader: In,
+    writer: Out,
+    gate: &G,
+) -> Result<(Result<Ended, SessionFault>, Out), Fail> {
+    let Ok((shelves, loader, mut seats)) = Shelves::new(alloc, first) else {
+        return Err(AllocError.into());
+    };
+    let Some(seat) = seats.pop() else {
+        return Err("a seat".into());
+    };
+    Ok(talked_at::<Brand, _, _, _, _>(
+        rt, alloc, shelves, loader, seat, feeds, reader, writer, gate,
+    ))
+}
+
+// The same at these shelves.
+fn talked_at<B: Named, R: Wait, In: Read + Drop, Out: Write + Drop, G: Gate>(
+    rt: &R,
+    alloc: Global,
+    shelves: Shelves,
+    loader: ShelfLoader,
+    seat: ShelfSeat,
+    feeds: Vec<FeedImage>,
+    reader: In,
+    writer: Out,
+    gate: &G,
+) -> (Result<Ended, SessionFault>, Out)
+    requires { (shelves ≡ B.table) × (loader.table ≡ B.table) × (seat.table ≡ B.table) }
+{
+    let (shelves, loader, mut seat) = SoloShelves::<B>::of(shelves, loader, seat);
+    let mut orders = SoloOrders::new(&shelves, loader, feeds);
+    let mut reader = Counted::new(reader);
+    let mut writer = Counted::new(writer);
+    let ended = serve(
+        rt,
+        alloc,
+        &mut reader,
+        &mut writer,
+        &shelves,
+        &mut seat,
+        &mut orders,
+        gate,
+    );
+    (ended, writer.into_inner())
+}
+
+#[test]
+fn any_reads_give_the_same_replies(rt: HostRuntime) -> Result<(), Fail> {
+    let bytes = requests(rt.alloc())?;
+    for most in [1, 7, 100_000] {
+        let reader = Pieces {
+            rest: &bytes,
+            most,
+            is_failing: false,
+        };
+        let (ended, written) = served(&rt, rt.alloc(), reader, 100_000, true)?;
+        assert!(&rt; ended == Ok(Ended));
+        assert_eq!(&rt; str::from_utf8(&written).unwrap_or("?"), REPLIES);
+    }
+    Ok(())
+}
+
+#[test]
+fn a_writer_that_fails_ends_the_session(rt: HostRuntime) -> Result<(), Fail> {
+    let bytes = requests(rt.alloc())?;
+    for room in 0..REPLIES.len() {
+        let reader = Pieces {
+            rest: &bytes,
+            most: 100_000,
+            is_failing: false,
+        };
+        let (ended, written) = served(&rt, rt.alloc(), reader, room, room % 2 == 1)?;
+        assert!(&rt; ended == Err(SessionFault::WriteFailed));
+        assert!(&rt; REPLIES.as_bytes().starts_with(&written));
+        assert_eq!(&rt; written.len(), room);
+    }
+    Ok(())
+}
+
+#[test]
+fn a_million_requests_are_answered(rt: HostRuntime) -> Result<(), Fail> {
+    let (ended, bytes) = tallied(&rt, rt.alloc(), b'\n')?;
+    assert!(&rt; ended == Err(SessionFault::TooManyRequests));
+    assert_eq!(&rt; bytes, 31_000_000);
+    Ok(())
+}
+
+#[test]
+fn a_line_without_end_ends_the_session(rt: HostRuntime) -> Result<(), Fail> {
+    let (ended, bytes) = tallied(&rt, rt.alloc(), b'x')?;
+    assert!(&rt; ended == Err(SessionFault::ReadFailed));
+    assert_eq!(&rt; bytes, 0);
+    Ok(())
+}
+
+// Serves this byte over and over: what came of it, and how many bytes were written.
+fn tallied<R: Wait>(
+    rt: &R,
+    alloc: Global,
+    byte: u8,
+) -> Result<(Result<Ended, SessionFault>, u64), Fail> {
+    let (ended, tally) = talked(
+        rt,
+        alloc,
+        image(alloc, 0)?,
+        Vec::new(alloc),
+        Endless { byte },
+        Tally { bytes: 0 },
+        &OpenGate,
+    )?;
+    Ok((ended, tally.bytes))
+}
+
+const BY_WALKING: &str =
+    "{\"do\":\"profile\",\"from\":\"A\",\"to\":\"C\",\"after\":\"07:00:00\",\"until\":\"09:00:00\",\"by\":\"10:00:00\",\"criterion\":\"arrival+trips+walk\"}";
+
+const WALKED_REPLIES: &str =
+    "{\"ok\":\"profile\",\"points\":[{\"arr\":\"08:20:00\",\"dep\":\"08:00:00\",\"journey\":\"ride 0 0 walk 1 1 0 ride 2 2\",\"trips\":2,\"walked\":0},{\"arr\":\"08:25:00\",\"dep\":\"08:00:00\",\"journey\":\"ride 0 0 walk 1 2 900\",\"trips\":1,\"walked\":900},{\"arr\":\"08:30:00\",\"dep\":\"08:00:00\",\"journey\":\"ride 0 1\",\"trips\":1,\"walked\":0}],\"version\":1,\"walk\":null}\n{\"feed\":\"slow\",\"ok\":\"load\"}\n{\"ok\":\"profile\",\"points\":[{\"arr\":\"08:20:00\",\"dep\":\"08:00:00\",\"journey\":\"ride 0 0 walk 1 1 60 ride 2 2\",\"trips\":2,\"walked\":60},{\"arr\":\"08:30:00\",\"dep\":\"08:00:00\",\"journey\":\"ride 0 1\",\"trips\":1,\"walked\":0}],\"version\":2,\"walk\":null}\n";
+
+/// What is walked is told where the criterion counts it: behind the last ride, and by a loop on the way.
+#[test]
+fn walked_seconds_are_told(rt: HostRuntime) -> Result<(), Fail> {
+    let alloc: Global = rt.alloc();
+    let mut bytes = Vec::new(alloc);
+    add_line(&mut bytes, BY_WALKING)?;
+    add_line(&mut bytes, "{\"do\":\"load\",\"feed\":\"slow\"}")?;
+    add_line(&mut bytes, BY_WALKING)?;
+    let reader = Pieces {
+        rest: &bytes,
+        most: 100_000,
+        is_failing: false,
+    };
+    let (first, slow) = (image_with_a_footpath(alloc)?, image(alloc, 60)?);
+    let (ended, written) = served_from(&rt, alloc, first, slow, reader, 10_000, true)?;
+    assert!(&rt; ended == Ok(Ended));
+    assert_eq!(&rt; str::from_utf8(&written).unwrap_or("?"), WALKED_REPLIES);
+    Ok(())
+}
+
+const WAIT: &str = "{\"do\":\"load\",\"feed\":\"slow\",\"wait\":true}";
+
+const WAITED_REPLIES: &str =
+    "{\"base\":1705276800,\"ok\":\"pin\",\"version\":1}\n{\"feed\":\"slow\",\"ok\":\"load\",\"version\":2}\n{\"error\":92,\"name\":\"AlreadyPinned\"}\n{\"ok\":\"release\"}\n{\"base\":1705276800,\"ok\":\"pin\",\"version\":2}\n{\"error\":114,\"name\":\"UnknownFeed\"}\n{\"error\":112,\"name\":\"BadRequest\"}\n";
+
+/// Who waits for a load is told its version, and pins that once what it holds is released.
+#[test]
+fn a_load_is_waited_for(rt: HostRuntime) -> Result<(), Fail> {
+    let alloc: Global = rt.alloc();
+    let mut bytes = Vec::new(alloc);
+    add_line(&mut bytes, PIN)?;
+    add_line(&mut bytes, WAIT)?;
+    add_line(&mut bytes, PIN)?;
+    add_line(&mut bytes, RELEASE)?;
+    add_line(&mut bytes, PIN)?;
+    add_line(&mut bytes, WAIT)?;
+    add_line(
+        &mut bytes,
+        "{\"do\":\"load\",\"feed\":\"slow\",\"wait\":\"yes\"}",
+    )?;
+    let reader = Pieces {
+        rest: &bytes,
+        most: 100_000,
+        is_failing: false,
+    };
+    let (ended, written) = served(&rt, alloc, reader, 10_000, true)?;
+    assert!(&rt; ended == Ok(Ended));
+    assert_eq!(&rt; str::from_utf8(&written).unwrap_or("?"), WAITED_REPLIES);
+    Ok(())
+}
+
+// Orders of which each that is waited for is overtaken by two others before it is answered.
+#[derive(Drop)]
+struct Overtaken<O> {
+    orders: O,
+    asked: Trace<Ordered>,
+}
+
+impl<N, O: Orders<Notice = N>> Orders for Overtaken<O> {
+    type Notice = N;
+
+    ghost asked = { λ orders. orders.asked };
+
+    ghost told = { O.told };
+
+    fn order<R: Wait>(&mut self, rt: &R, feed: &str) -> Result<(), OrderFault> {
+        let taken = self.orders.order(rt, feed);
+        self.asked.note(&Ordered::put(feed, taken));
+        taken
+    }
+
+    fn order_wait<R: Wait>(&mut self, rt: &R, feed: &str) -> Result<(u64, N), OrderFault> {
+        let told = self.orders.order_wait(rt, feed);
+        let _ = self.orders.order(rt, feed);
+        let _ = self.orders.order(rt, feed);
+        self.asked.note(&Ordered::waited(feed, &told));
+        told
+    }
+}
+
+fn overtaken_at<B: Named, R: Wait>(
+    rt: &R,
+    alloc: Global,
+    shelves: Shelves,
+    loader: ShelfLoader,
+    seat: ShelfSeat,
+    feeds: Vec<FeedImage>,
+    requests: &[u8],
+) -> Taker
+    requires { (shelves ≡ B.table) × (loader.table ≡ B.table) × (seat.table ≡ B.table) }
+{
+    let (shelves, loader, mut seat) = SoloShelves::<B>::of(shelves, loader, seat);
+    let mut orders = Overtaken {
+        orders: SoloOrders::new(&shelves, loader, feeds),
+        asked: Trace::new(),
+    };
+    let mut reader = Counted::new(requests);
+    let mut writer = Counted::new(taker_of(alloc, 10_000, true));
+    let _ = serve(
+        rt,
+        alloc,
+        &mut reader,
+        &mut writer,
+        &shelves,
+        &mut seat,
+        &mut orders,
+        &OpenGate,
+    );
+    writer.into_inner()
+}
+
+/// A notice that two versions overtook is told all the same, and the newest version is pinned.
+#[test]
+fn an_overtaken_notice_is_joined(rt: HostRuntime) -> Result<(), Fail> {
+    let alloc: Global = rt.alloc();
+    let mut feeds = Vec::new(alloc);
+    for _ in 0..3 {
+        feeds.push(feed_of(alloc, "slow", image(alloc, 121)?)?)?;
+    }
+    let mut bytes = Vec::new(alloc);
+    add_line(&mut bytes, WAIT)?;
+    add_line(&mut bytes, PIN)?;
+    let Ok((shelves, loader, mut seats)) = Shelves::new(alloc, image(alloc, 0)?) else {
+        return Err(AllocError.into());
+    };
+    let Some(seat) = seats.pop() else {
+        return Err("a seat".into());
+    };
+    let taker = overtaken_at::<Brand, _>(&rt, alloc, shelves, loader, seat, feeds, &bytes);
+    assert_eq!(&rt;
+        str::from_utf8(&taker.taken).unwrap_or("?"),
+        "{\"feed\":\"slow\",\"ok\":\"load\",\"version\":2}\n{\"base\":1705276800,\"ok\":\"pin\",\"version\":4}\n"
+    );
+    Ok(())
+}

@@ -1,0 +1,377 @@
+//! Clients over memory, served by threads.
+
+ghost use Rattle.std.specs.Prelude.{◌≡◌, ◌≤◌, [], All, length, IfOk};
+
+use super::*;
+use epochs::{ShelfLoader, ShelfSeat, Shelves};
+use feed_files::MemoryFiles;
+use feed_loader::Plan;
+use gtfs_tables::Day;
+use image_layout::sample_words;
+use image_verifier::verify;
+use orders::{Gate, OpenGate};
+use service_days::Zone;
+use std::alloc::{AllocError, Global};
+use std::io::Write;
+use std::marker::Brand;
+use std::process::Abort;
+use std::sync::atomic::{AtomicU64, Ordering};
+use std::sync::{Arc, Mutex, Wait};
+use std::test::Fail;
+use std::thread::Threads;
+use std::time::{Clock, Duration};
+use std::{io, thread};
+
+/// The files of a small feed, in which a change at the second stop takes 121 s.
+const FILES: [(&str, &[u8]); 6] = [
+    ("agency.txt", b"agency_timezone\nEtc/UTC\n"),
+    ("stops.txt", b"stop_id\nA\nB\nC\n"),
+    ("trips.txt", b"service_id,trip_id\nS,T1\nS,T2\n"),
+    (
+        "stop_times.txt",
+        b"trip_id,arrival_time,departure_time,stop_id,stop_sequence\nT1,08:00:00,08:00:00,A,1\nT1,08:10:00,08:10:00,B,2\nT1,08:30:00,08:30:00,C,3\nT2,08:12:00,08:12:00,B,1\nT2,08:20:00,08:20:00,C,2\n",
+    ),
+    (
+        "calendar.txt",
+        b"service_id,monday,tuesday,wednesday,thursday,friday,saturday,sunday,start_date,end_date\nS,1,1,1,1,1,1,1,20240115,20240115\n",
+    ),
+    (
+        "transfers.txt",
+        b"from_stop_id,to_stop_id,transfer_type,min_transfer_time\nB,B,2,121\n",
+    ),
+];
+
+/// The same without its stops and its transfers.
+const BAD_FILES: [(&str, &[u8]); 2] = [
+    ("agency.txt", b"agency_timezone\nEtc/UTC\n"),
+    ("trips.txt", b"service_id,trip_id\nS,T1\nS,T2\n"),
+];
+
+const PROFILE: &str =
+    "{\"do\":\"profile\",\"from\":\"A\",\"to\":\"C\",\"after\":\"07:00:00\",\"until\":\"09:00:00\",\"by\":\"10:00:00\",\"criterion\":\"arrival\"}\n";
+
+const PIN_LOAD_PROFILE: &str =
+    "{\"do\":\"pin\"}\n{\"do\":\"load\",\"feed\":\"slow\"}\n{\"do\":\"profile\",\"from\":\"A\",\"to\":\"C\",\"after\":\"07:00:00\",\"until\":\"09:00:00\",\"by\":\"10:00:00\",\"criterion\":\"arrival\"}\n";
+
+const REPLIES: &str =
+    "{\"base\":1705276800,\"ok\":\"pin\",\"version\":1}\n{\"feed\":\"slow\",\"ok\":\"load\"}\n{\"ok\":\"profile\",\"points\":[{\"arr\":\"08:20:00\",\"dep\":\"08:00:00\",\"journey\":\"ride 0 0 walk 1 1 0 ride 2 2\"}],\"version\":1,\"walk\":null}\n";
+
+/// What a session that waits for loads asks, and its replies.
+const WAIT: &str =
+    "{\"do\":\"pin\"}\n{\"do\":\"load\",\"feed\":\"slow\",\"wait\":true}\n{\"do\":\"pin\"}\n{\"do\":\"release\"}\n{\"do\":\"pin\"}\n{\"do\":\"load\",\"feed\":\"bad\",\"wait\":true}\n{\"do\":\"load\",\"feed\":\"none\",\"wait\":true}\n{\"do\":\"load\",\"feed\":\"slow\",\"wait\":true}\n";
+
+const WAITED: &str =
+    "{\"base\":1705276800,\"ok\":\"pin\",\"version\":1}\n{\"feed\":\"slow\",\"ok\":\"load\",\"version\":2}\n{\"error\":92,\"name\":\"AlreadyPinned\"}\n{\"ok\":\"release\"}\n{\"base\":1705276800,\"ok\":\"pin\",\"version\":2}\n{\"error\":120,\"name\":\"LoadRefused\",\"refusal\":1}\n{\"error\":114,\"name\":\"UnknownFeed\"}\n{\"feed\":\"slow\",\"ok\":\"load\",\"version\":3}\n";
+
+/// A writer to bytes that several threads may share, or one that nobody reads any more.
+#[derive(Drop)]
+struct Shared<'a, R> {
+    rt: &'a R,
+    bytes: &'a Mutex<Vec<u8>>,
+    is_gone: bool,
+}
+
+impl<'a, R: Wait> Write for Shared<'a, R> {
+    fn write(&mut self, piece: &[u8]) -> io::Result<usize> {
+        if self.is_gone {
+            return Err(io::Error::from(io::ErrorKind::BrokenPipe));
+        }
+        self.bytes.lock(self.rt).extend_from_slice(piece)?;
+        Ok(piece.len())
+    }
+
+    fn flush(&mut self) -> io::Result<()> {
+        Ok(())
+    }
+}
+
+/// A client whose requests lie in memory. One without a writer can't be opened.
+#[derive(Drop)]
+struct Visitor<'a, R> {
+    requests: &'static [u8],
+    replies: Option<Shared<'a, R>>,
+}
+
+impl<'a, R: Wait + Sync> Client for Visitor<'a, R> {
+    type Reader = &'static [u8];
+
+    type Writer = Shared<'a, R>;
+
+    ghost opens = { λ _ _. Unit {0} };
+
+    fn open(self) -> Result<(&'static [u8], Shared<'a, R>), ConnFault> {
+        match self.replies {
+            Some(replies) => Ok((self.requests, replies)),
+            None => Err(ConnFault),
+        }
+    }
+}
+
+/// Visitors who wait in a row: the last comes first.
+#[derive(Drop)]
+struct Row<C> {
+    visitors: Vec<C>,
+}
+
+impl<C> Clients<C> for Row<C> {
+    ghost none_left = { λ row. row.visitors.items ≡ [] };
+
+    fn next(&mut self) -> Option<C> {
+        self.visitors.pop()
+    }
+}
+
+/// The feeds `slow` and `bad`.
+#[derive(Drop)]
+struct TwoFeeds {
+    names: Vec<String>,
+    plan: Plan,
+    ghost one_day: { plan.days ≡ 1 },
+}
+
+impl Feeds for TwoFeeds {
+    type Files = MemoryFiles<'static>;
+
+    ghost named = { λ feed. feed.names.items };
+
+    fn names(&self) -> &[String] {
+        &self.names
+    }
+
+    fn plan(&self) -> &Plan {
+        &self.plan
+    }
+
+    fn files(&self, place: usize) -> Option<MemoryFiles<'static>> {
+        if place == 1 {
+            return Some(MemoryFiles { files: &BAD_FILES });
+        }
+        Some(MemoryFiles { files: &FILES })
+    }
+}
+
+fn two_feeds(alloc: Global) -> Result<TwoFeeds, AllocError> {
+    let slow = String::from_str(alloc, "slow")?;
+    let bad = String::from_str(alloc, "bad")?;
+    let names = vec![in alloc; slow, bad]?;
+    let plan = Plan {
+        first_day: Day {
+            year: 2024,
+            month: 1,
+            day: 15,
+        },
+        days: 1,
+        zone: Zone::fixed(0),
+        strict: false,
+    };
+    Ok(TwoFeeds { names, plan })
+}
+
+/// A gate that may keep the first scan waiting until another is over.
+#[derive(Drop)]
+struct Meeting<'a, R> {
+    rt: &'a R,
+    entered: AtomicU64,
+    left: AtomicU64,
+    missed: AtomicU64,
+    sleeps: u32,
+}
+
+impl<'a, R: Clock> Gate for Meeting<'a, R> {
+    fn enter(&self) {
+        if self.entered.fetch_add(1, Ordering::SeqCst) > 0 {
+            return;
+        }
+        for _ in 0..self.sleeps {
+            if self.left.load(Ordering::SeqCst) > 0 {
+                return;
+            }
+            thread::sleep(self.rt, Duration::from_millis(1));
+        }
+        self.missed.store(1, Ordering::SeqCst);
+    }
+
+    fn leave(&self) {
+        self.left.fetch_add(1, Ordering::SeqCst);
+    }
+}
+
+/// The shelves with the sample, the loader's seat, and as many workers' seats, one or two.
+fn shelves_for(alloc: Global, two: bool) -> Result<(Shelves, ShelfLoader, Vec<ShelfSeat>), Fail>
+    ensures loader { IfOk result (λ made. made.1.table ≡ made.0) }
+    ensures seats { IfOk result (λ made. All (λ seat. seat.table ≡ made.0) made.2.items) }
+    ensures count { IfOk result (λ made. (1 ≤ length made.2.items) × (length made.2.items ≤ 2)) }
+{
+    let Ok(image) = verify(alloc, sample_words().to_vec(alloc)?) else {
+        return Err(AllocError.into());
+    };
+    let Ok(shared) = Arc::new(alloc, image) else {
+        return Err(AllocError.into());
+    };
+    let Ok((shelves, loader, mut seats)) = Shelves::new(alloc, shared) else {
+        return Err(AllocError.into());
+    };
+    seats.truncate(if two { 2 } else { 1 });
+    Ok((shelves, loader, seats))
+}
+
+/// Serves the visitors; how their sessions ended, and what was written to the errors.
+fn serve_all<R: Threads + Wait + Sync + Abort, G: Gate + Sync>(
+    rt: &R,
+    alloc: Global,
+    visitors: Vec<Visitor<'_, R>>,
+    two: bool,
+    gate: &G,
+) -> Result<(Served, Vec<u8>), Fail> {
+    let (shelves, loader, seats) = shelves_for(alloc, two)?;
+    let feeds = two_feeds(alloc)?;
+    let told = Mutex::new(Vec::new(alloc));
+    let row = Row { visitors };
+    let errors = Shared {
+        rt,
+        bytes: &told,
+        is_gone: false,
+    };
+    let Ok((served, _)) = run_shelves::<Brand, _, _, _, _, _, _, _, _, _>(
+        rt, alloc, row, shelves, seats, loader, &feeds, gate, errors,
+    ) else {
+        return Err(AllocError.into());
+    };
+    Ok((served, told.into_inner()))
+}
+
+/// A session pins, orders a load, and goes on with what it holds; the loader tells of the version that it published.
+#[test]
+fn a_client_is_served(rt: HostRuntime) -> Result<(), Fail> {
+    let alloc: Global = rt.alloc();
+    let replies = Mutex::new(Vec::new(alloc));
+    let visitor = Visitor {
+        requests: PIN_LOAD_PROFILE.as_bytes(),
+        replies: Some(Shared {
+            rt: &rt,
+            bytes: &replies,
+            is_gone: false,
+        }),
+    };
+    let shut = Visitor {
+        requests: b"",
+        replies: None,
+    };
+    let mut visitors = Vec::new(alloc);
+    visitors.push(visitor)?;
+    visitors.push(shut)?;
+    let (served, told) = serve_all(&rt, alloc, visitors, true, &OpenGate)?;
+    assert_eq!(&rt; served.ended(), 1);
+    assert_eq!(&rt; served.failed(), 1);
+    assert_eq!(&rt; served.spent(), 0);
+    let replies = replies.into_inner();
+    assert!(&rt; replies.as_slice() == REPLIES.as_bytes());
+    assert!(&rt; told.as_slice() == b"loaded slow version 2\n".as_slice());
+    Ok(())
+}
+
+/// Whoever waits for a load is told its version, and pins it; or it is told the number with which the load was refused.
+#[test]
+fn loads_are_waited_for(rt: HostRuntime) -> Result<(), Fail> {
+    let alloc: Global = rt.alloc();
+    let replies = Mutex::new(Vec::new(alloc));
+    let mut visitors = Vec::new(alloc);
+    visitors.push(Visitor {
+        requests: WAIT.as_bytes(),
+        replies: Some(Shared {
+            rt: &rt,
+            bytes: &replies,
+            is_gone: false,
+        }),
+    })?;
+    let (served, told) = serve_all(&rt, alloc, visitors, false, &OpenGate)?;
+    assert_eq!(&rt; served.ended(), 1);
+    let replies = replies.into_inner();
+    assert_eq!(&rt; str::from_utf8(&replies).unwrap_or("?"), WAITED);
+    assert_eq!(&rt;
+        str::from_utf8(&told).unwrap_or("?"),
+        "loaded slow version 2\nload bad refused 1 MissingFile stops.txt 0\nloaded slow version 3\n"
+    );
+    Ok(())
+}
+
+/// A client that waits and goes away: its load is carried out, its session fails, and its worker serves the next client.
+#[test]
+fn whoever_waits_may_go_away(rt: HostRuntime) -> Result<(), Fail> {
+    let alloc: Global = rt.alloc();
+    let replies = Mutex::new(Vec::new(alloc));
+    let mut visitors = Vec::new(alloc);
+    visitors.push(Visitor {
+        requests: b"{\"do\":\"pin\"}\n",
+        replies: Some(Shared {
+            rt: &rt,
+            bytes: &replies,
+            is_gone: false,
+        }),
+    })?;
+    visitors.push(Visitor {
+        requests: b"{\"do\":\"load\",\"feed\":\"slow\",\"wait\":true}\n",
+        replies: Some(Shared {
+            rt: &rt,
+            bytes: &replies,
+            is_gone: true,
+        }),
+    })?;
+    let (served, told) = serve_all(&rt, alloc, visitors, false, &OpenGate)?;
+    assert_eq!(&rt; served.ended(), 1);
+    assert_eq!(&rt; served.failed(), 1);
+    let replies = replies.into_inner();
+    assert!(&rt;
+        replies.as_slice() == b"{\"base\":1705276800,\"ok\":\"pin\",\"version\":2}\n".as_slice()
+    );
+    assert!(&rt; told.as_slice() == b"loaded slow version 2\n".as_slice());
+    Ok(())
+}
+
+/// Whether the first of two scans met the second, within so many sleeps.
+fn scans_meet<R: Threads + Wait + Sync + Clock + Abort>(
+    rt: &R,
+    alloc: Global,
+    two: bool,
+    sleeps: u32,
+) -> Result<bool, Fail> {
+    let replies = Mutex::new(Vec::new(alloc));
+    let mut visitors = Vec::new(alloc);
+    for _ in 0..2 {
+        visitors.push(Visitor {
+            requests: PROFILE.as_bytes(),
+            replies: Some(Shared {
+                rt,
+                bytes: &replies,
+                is_gone: false,
+            }),
+        })?;
+    }
+    let gate = Meeting {
+        rt,
+        entered: AtomicU64::new(0),
+        left: AtomicU64::new(0),
+        missed: AtomicU64::new(0),
+        sleeps,
+    };
+    let (served, _) = serve_all(rt, alloc, visitors, two, &gate)?;
+    assert_eq!(rt; served.ended(), 2);
+    Ok(gate.missed.load(Ordering::SeqCst) == 0)
+}
+
+#[test]
+fn two_scans_at_once(rt: HostRuntime) -> Result<(), Fail> {
+    let alloc: Global = rt.alloc();
+    assert!(&rt; scans_meet(&rt, alloc, true, 10_000)?);
+    assert!(&rt; !scans_meet(&rt, alloc, false, 200)?);
+    Ok(())
+}
+
+/// Whichever growth is refused, what was started ends, and the test ends with `AllocError`.
+#[test]
+fn refused_growth_serves_nobody(rt: HostRuntime) -> Result<(), Fail> {
+    let alloc: Global = rt.alloc();
+    let (served, _) = serve_all(&rt, alloc, Vec::new(alloc), true, &OpenGate)?;
+    assert_eq!(&rt; served.ended(), 0);
+    Ok(())
+}
