@@ -19,7 +19,8 @@ idle_settled number (View.Loading l) h = absurd h
 idle_settled number (View.Noting n) h = absurd h
 idle_settled number View.Spent h = absurd h
 
-holding_settled : (number shelf : ℕ) (e : Edition) (u : View) → OfWorker u (λ a. (a.now ≡ Worker.Holding shelf e.version) × (a.number ≡ number) × (a.edition ≡ Some e)) → IsSettled u
+holding_settled : (number shelf : ℕ) (e : Edition) (u : View) → OfWorker u (λ a. (a.now ≡ Worker.Holding shelf e.version) × (a.number ≡ number)
+    × (a.edition ≡ Some e)) → IsSettled u
 holding_settled number shelf e (View.Working a) h = inr (shelf, e.version, h.0)
 holding_settled number shelf e (View.Loading l) h = absurd h
 holding_settled number shelf e (View.Noting n) h = absurd h
@@ -30,13 +31,15 @@ pub seat_settled : (number : ℕ) (held : Option (ℕ × Edition)) (m : Mine) �
 seat_settled number None m h = idle_settled number m.0 h.0
 seat_settled number (Some x) m h = holding_settled number x.0 x.1 m.0 h.1.0
 
-idle_joined : (number n : ℕ) (u : View) → OfWorker u (λ a. (a.now ≡ Worker.Idle) × (a.number ≡ number)) → OfWorker (joins_notice u (View.Noting n)) (λ a. (a.now ≡ Worker.Idle) × (a.number ≡ number))
+idle_joined : (number n : ℕ) (u : View) → OfWorker u (λ a. (a.now ≡ Worker.Idle) × (a.number ≡ number))
+    → OfWorker (joins_notice u (View.Noting n)) (λ a. (a.now ≡ Worker.Idle) × (a.number ≡ number))
 idle_joined number n (View.Working a) h = h
 idle_joined number n (View.Loading l) h = absurd h
 idle_joined number n (View.Noting x) h = absurd h
 idle_joined number n View.Spent h = absurd h
 
-holding_joined : (number shelf n : ℕ) (e : Edition) (u : View) → OfWorker u (λ a. (a.now ≡ Worker.Holding shelf e.version) × (a.number ≡ number) × (a.edition ≡ Some e))
+holding_joined : (number shelf n : ℕ) (e : Edition) (u : View) → OfWorker u (λ a. (a.now ≡ Worker.Holding shelf e.version) × (a.number ≡ number)
+    × (a.edition ≡ Some e))
     → OfWorker (joins_notice u (View.Noting n)) (λ a. (a.now ≡ Worker.Holding shelf e.version) × (a.number ≡ number) × (a.edition ≡ Some e))
 holding_joined number shelf n e (View.Working a) h = h
 holding_joined number shelf n e (View.Loading l) h = absurd h
@@ -48,7 +51,8 @@ joined_so number n None m h = (idle_joined number n m.0 h.0, h.1)
 joined_so number n (Some x) m h = (h.0, (holding_joined number x.0 n x.1 m.0 h.1.0, h.1.1))
 
 -- and is then what it was, but for what it has seen
-pub seat_joined : (number n : ℕ) (held : Option (ℕ × Edition)) (m notice m' : Mine) → FitsSeat number held m → notice ≡ (View.Noting n, []) → m' ≡ (joins_notice m.0 notice.0, m.1) → FitsSeat number held m'
+pub seat_joined : (number n : ℕ) (held : Option (ℕ × Edition)) (m notice m' : Mine) → FitsSeat number held m → notice ≡ (View.Noting n, [])
+    → m' ≡ (joins_notice m.0 notice.0, m.1) → FitsSeat number held m'
 seat_joined number n held m notice m' h is e =
     subst (λ (x : Mine). FitsSeat number held x) (sym (e ∙ ap (λ (x : Mine). (joins_notice m.0 x.0, m.1)) is)) (joined_so number n held m h)
 
@@ -58,18 +62,21 @@ seen_so (View.Loading l) n h = absurd h
 seen_so (View.Noting x) n h = absurd h
 seen_so View.Spent n h = absurd h
 
-pub seat_has_seen : (n : ℕ) (m notice m' : Mine) → IsSettled m.0 → notice ≡ (View.Noting n, []) → m' ≡ (joins_notice m.0 notice.0, m.1) → seen_of m'.0 ≡ max (seen_of m.0) n
+pub seat_has_seen : (n : ℕ) (m notice m' : Mine) → IsSettled m.0 → notice ≡ (View.Noting n, []) → m' ≡ (joins_notice m.0 notice.0, m.1)
+    → seen_of m'.0 ≡ max (seen_of m.0) n
 seat_has_seen n m notice m' settled is e =
     ap (λ (x : Mine). seen_of x.0) (e ∙ ap (λ (x : Mine). (joins_notice m.0 x.0, m.1)) is) ∙ seen_so m.0 n settled
 
-loading_so : (current current_shelf : ℕ) (shelves : List Shelf) (u : View) → RestsHere current current_shelf shelves (u, []) → IsLoading u × (new_notice u ≡ View.Noting current)
+loading_so : (current current_shelf : ℕ) (shelves : List Shelf) (u : View) → RestsHere current current_shelf shelves (u, []) → IsLoading u
+    × (new_notice u ≡ View.Noting current)
 loading_so current current_shelf shelves (View.Loading l) h = (tt, ap (λ n. View.Noting n) h.0.current_is)
 loading_so current current_shelf shelves (View.Working v) h = absurd h.0
 loading_so current current_shelf shelves (View.Noting n) h = absurd h.0
 loading_so current current_shelf shelves View.Spent h = absurd h.0
 
 -- what a loader gives out between two calls is a notice of its current version
-pub loader_notes : (current current_shelf : ℕ) (shelves : List Shelf) (m : Mine) → RestsHere current current_shelf shelves m → IsLoading m.0 × (new_notice m.0 ≡ View.Noting current)
+pub loader_notes : (current current_shelf : ℕ) (shelves : List Shelf) (m : Mine) → RestsHere current current_shelf shelves m → IsLoading m.0
+    × (new_notice m.0 ≡ View.Noting current)
 loader_notes current current_shelf shelves m h = loading_so current current_shelf shelves m.0 (h.0, refl)
 
 pin_rises : (a b : SeatValue) (r : Result (Unit {0}) PinFault) → PinStep a r b → a.seen ≤ b.seen

@@ -49,7 +49,8 @@ CollectsKeepPublished = (a b : TableValue) (seat : WorkerSeatValue) (found : Col
 
 -- what a seat may do: a pin, a release, and to take in a notice
 abbrev pub SeatStep : SeatValue → SeatValue → Type 0
-SeatStep a b = ((r : Result (Unit {0}) PinFault) × PinStep a r b) ⊎ (((r : Result (Unit {0}) PinFault) × ReleaseStep a r b) ⊎ ((version : ℕ) × JoinStep a version b))
+SeatStep a b = ((r : Result (Unit {0}) PinFault) × PinStep a r b) ⊎ (((r : Result (Unit {0}) PinFault) × ReleaseStep a r b) ⊎ ((version : ℕ)
+    × JoinStep a version b))
 
 -- so many of these, one after another
 abbrev pub SeatSteps : ℕ → SeatValue → SeatValue → Type 0

@@ -1,5 +1,6 @@
 -- What a seat shows, and what it may be answered.
-use Rattle.std.specs.Prelude.{◌≡◌, ◌≢◌, ℕ, zero, suc, ◌+◌, ◌<◌, ◌≤◌, max, true, slice_get, slice_index, List, [], ◌∷◌, ◌++◌, Option, Some, None, Result, Ok, Err}
+use Rattle.std.specs.Prelude.{◌≡◌, ◌≢◌, ℕ, zero, suc, ◌+◌, ◌<◌, ◌≤◌, max, true, slice_get, slice_index, List, [], ◌∷◌, ◌++◌, Option, Some, None, Result, Ok}
+use Rattle.std.specs.Prelude.{Err}
 use Rattle.std.specs.declared.snapshot.Snapshot.{Snapshot}
 use Rattle.std.specs.Arc.{arc_value}
 use Rattle.image_layout.specs.Image.{ImageValue}

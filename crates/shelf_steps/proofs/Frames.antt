@@ -33,7 +33,8 @@ module _ (c d : Course) (views : List View) (loader : LoaderView) (fit : SeatsFi
   other_seat seat (View.Working u) apart o = (o.0, o.1, others u (λ e. apart (sym o.1 ∙ (ap fit.owner e ∙ mine.1))) o.2)
 
   pub worker_moves : LoaderFits d loader → ((w : ℕ) → w ≢ v.number → (slice_get d.state.workers w ≡ slice_get c.state.workers w) × (get_or d.state.seen w 0 ≡ get_or c.state.seen w 0))
-      → ((w : ℕ) → w < 16 → w ≢ v.number → NoneOf (Some w) c.events → NoneOf (Some w) d.events) → WorkerFits d v' → SeatsFit d (set views id (View.Working v')) loader
+      → ((w : ℕ) → w < 16 → w ≢ v.number → NoneOf (Some w) c.events → NoneOf (Some w) d.events) → WorkerFits d v'
+      → SeatsFit d (set views id (View.Working v')) loader
   worker_moves loads rest unmoved fits = record {
     owner = fit.owner;
     loader_seat = set_else views id 0 (View.Working v') not_loader ∙ fit.loader_seat;
@@ -47,7 +48,8 @@ module _ (c d : Course) (views : List View) (loader : LoaderView) (fit : SeatsFi
         dite (ℕ_discrete w v.number)
         (λ e. (v', named ∙ sym e, ap (λ x. get_elem? (set views id (View.Working v')) x) (ap fit.owner e ∙ mine.1) ∙ set_here views id (View.Working v') (there views id (View.Working v) at)))
         (λ ne. (n.0, n.1, set_else views id (fit.owner w) (View.Working v') (λ e. let same : some (View.Working n.0) ≡ some (View.Working v) = sym n.2 ∙ (ap (λ x. get_elem? views x) e ∙ at) in let z : n.0 ≡ v = cc in ne (sym n.1 ∙ ap (λ (x : WorkerView). x.number) z)) ∙ n.2));
-    unseated = λ w past small. let m = mine.0 in let other : w ≢ v.number = λ e. omega arith in let z = rest w other in let o = fit.unseated w past small in (z.0 ∙ o.0, z.1 ∙ o.1, unmoved w small other o.2);
+    unseated = λ w past small. let m = mine.0 in let other : w ≢ v.number = λ e. omega arith in let z = rest w other in let o = fit.unseated w past small in
+        (z.0 ∙ o.0, z.1 ∙ o.1, unmoved w small other o.2);
   }
 
 module _ (c d : Course) (views : List View) (loader : LoaderView) (fit : SeatsFit c views loader) (id : ℕ) (l l' : LoaderView) (at : get_elem? views id ≡ some (View.Loading l)) (as_many : l'.handed ≡ l.handed)
@@ -64,7 +66,8 @@ module _ (c d : Course) (views : List View) (loader : LoaderView) (fit : SeatsFi
   seat_of_other seat View.Spent apart o = tt
   seat_of_other seat (View.Working u) apart o = ((let a = o.0 in let b = same_handed in omega arith), o.1, others u o.2)
 
-  pub loader_moves : LoaderFits d l' → d.state.workers ≡ c.state.workers → d.state.seen ≡ c.state.seen → ((w : ℕ) → w < 16 → NoneOf (Some w) c.events → NoneOf (Some w) d.events) → SeatsFit d (set views id (View.Loading l')) l'
+  pub loader_moves : LoaderFits d l' → d.state.workers ≡ c.state.workers → d.state.seen ≡ c.state.seen → ((w : ℕ) → w < 16 → NoneOf (Some w) c.events
+      → NoneOf (Some w) d.events) → SeatsFit d (set views id (View.Loading l')) l'
   loader_moves loads workers seen unmoved = record {
     owner = fit.owner;
     loader_seat = ap (λ n. get_elem? (set views id (View.Loading l')) n) (sym loader_is.0) ∙ set_here views id (View.Loading l') (there views id (View.Loading l) at);
@@ -76,5 +79,10 @@ module _ (c d : Course) (views : List View) (loader : LoaderView) (fit : SeatsFi
         (at_set views id seat (View.Loading l') u e);
     every = λ w less. let n = fit.every w (let b = same_handed in omega arith) in
         (n.0, n.1, set_else views id (fit.owner w) (View.Loading l') (λ e. let same : some (View.Working n.0) ≡ some (View.Loading l) = sym n.2 ∙ (ap (λ x. get_elem? views x) e ∙ at) in cc) ∙ n.2);
-    unseated = λ w past small. let b = same_handed in let o = fit.unseated w (omega arith) small in (ap (λ (x : List Worker). slice_get x w) workers ∙ o.0, ap (λ (x : List ℕ). get_or x w 0) seen ∙ o.1, unmoved w small o.2);
+    unseated = λ w past small. let b = same_handed in let o = fit.unseated w (omega arith) small in (
+      ap (λ (x : List Worker). slice_get x w) workers
+          ∙ o.0,
+      ap (λ (x : List ℕ). get_or x w 0) seen ∙ o.1,
+      unmoved w small o.2,
+    );
   }

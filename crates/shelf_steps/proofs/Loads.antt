@@ -55,7 +55,8 @@ module _ (table : Table (Option Edition) View) (r : Ruled table) (id : ℕ) (l :
 -- a step of the loader leaves what the workers do
 module _ (table : Table (Option Edition) View) (r : Ruled table) (id : ℕ) (l l' : LoaderView) (at : get_elem? table.views id ≡ some (View.Loading l)) (as_many : l'.handed ≡ l.handed)
     (e : Event) (reply : Reply) (t : State) (images : List ImageValue) (whose : actor e ≡ None) (goes : Goes (extended r.course e reply t images)) (more : IsPrefix r.course.images images)
-    (workers : t.workers ≡ r.course.state.workers) (seen : t.seen ≡ r.course.state.seen) (notices : t.notices ≡ r.course.state.notices) (up : r.course.state.current ≤ t.current) where
+    (workers : t.workers ≡ r.course.state.workers) (seen : t.seen ≡ r.course.state.seen) (notices : t.notices ≡ r.course.state.notices)
+    (up : r.course.state.current ≤ t.current) where
   not_of : (u : ℕ) → actor e ≢ Some u
   not_of u q = let z : None ≡ Some u = sym whose ∙ q in cc
 
@@ -71,7 +72,8 @@ module _ (table : Table (Option Edition) View) (r : Ruled table) (id : ℕ) (l l
     loader = l';
     goes = goes;
     words = words;
-    seats = loader_moves r.course (extended r.course e reply t images) table.views r.loader r.seats id l l' at as_many others fits workers seen (λ w small h. none_snoc (Some w) r.course.events e (not_of w) h);
+    seats = loader_moves r.course (extended r.course e reply t images) table.views r.loader r.seats id l l' at as_many others fits workers seen (λ w small h.
+        none_snoc (Some w) r.course.events e (not_of w) h);
     notices = notices_loader table.views id l l' at ∙ (r.notices ∙ sym notices);
     slots = slots;
   }
@@ -195,13 +197,19 @@ openings slots id k version me many small may = openings_as slots id k version m
 -- a step that adds no version
 module _ (table : Table (Option Edition) View) (r : Ruled table) (id : ℕ) (l l' : LoaderView) (at : get_elem? table.views id ≡ some (View.Loading l)) (as_many : l'.handed ≡ l.handed)
     (e : Event) (reply : Reply) (t : State) (whose : actor e ≡ None) (is_step : Step r.course.state e reply t) (editions : t.editions ≡ r.course.state.editions)
-    (workers : t.workers ≡ r.course.state.workers) (seen : t.seen ≡ r.course.state.seen) (notices : t.notices ≡ r.course.state.notices) (up : r.course.state.current ≤ t.current) where
+    (workers : t.workers ≡ r.course.state.workers) (seen : t.seen ≡ r.course.state.seen) (notices : t.notices ≡ r.course.state.notices)
+    (up : r.course.state.current ≤ t.current) where
   pub noted_ruled : (words' : List ℕ) (homes' : List (Maybe (Option Edition))) → LoaderFits (extended r.course e reply t r.course.images) l' → WordsShow words' t → SlotsFit homes' t.shelves t.workers r.course.images l'.hand
       → Ruled record { words = words'; homes = homes'; views = set table.views id (View.Loading l') }
-  noted_ruled = loader_ruled table r id l l' at as_many e reply t r.course.images whose (goes_same r.course e reply t r.goes is_step editions) (prefix_same r.course.images) workers seen notices up
+  noted_ruled = loader_ruled table r id l l' at as_many e reply t r.course.images whose (goes_same r.course e reply t r.goes is_step editions)
+      (prefix_same r.course.images) workers seen notices up
 
   pub noted : Noted l e reply (all_of (extended r.course e reply t r.course.images))
-  noted = (loader_happened table r id l l' at as_many e reply t r.course.images whose (goes_same r.course e reply t r.goes is_step editions) (prefix_same r.course.images) workers seen notices up, sym (loader_knows table r id l at).images)
+  noted = (
+    loader_happened table r id l l' at as_many e reply t r.course.images whose (goes_same r.course e reply t r.goes is_step editions)
+        (prefix_same r.course.images) workers seen notices up,
+    sym (loader_knows table r id l at).images,
+  )
 
 publishings_as : (slots id k version : ℕ) (u : View) (c : List (ℕ × Option Edition)) → k < 8 → MayPublish version k u
     → Allows Ruled slots id (u, c) 0 (λ _. 8 * version + k) (λ _. Publishes (step slots 0 (8 * version + k) 0 none) (u, c) (8 * version + k))
@@ -255,7 +263,8 @@ closings_as slots id k (View.Loading l) c small may table r full at fits =
       View.Loading l',
       keeps,
       tt,
-      noted_ruled table r id l l' at refl e reply t refl is_step refl refl refl refl (omega arith) (set table.words (k + 1) ((n + 256) % 18446744073709551616)) table.homes fits'
+      noted_ruled table r id l l' at refl e reply t refl is_step refl refl refl refl (omega arith) (set table.words (k + 1)
+          ((n + 256) % 18446744073709551616)) table.homes fits'
           (words_shelved table.words k ((n + 256) % 18446744073709551616) (Shelf.Closing version) s t r.words small eight refl refl refl refl word)
           (slots_block table.homes table.homes s.shelves t.shelves s.workers r.course.images r.course.images l.hand l.hand k (Shelf.Closing version)
           (slice_get-set_same s.shelves k (Shelf.Closing version) (omega arith)) (λ j ne. slice_get-set_other s.shelves k j (Shelf.Closing version) ne)
@@ -320,7 +329,8 @@ collects_found id k version l table r at many small shelf hand true found =
       View.Loading l',
       take_block f (16 * k) 16,
       block_valid table.homes [] f (16 * k) 16 home,
-      noted_ruled table r id l l' at refl e reply t refl is_step refl refl refl refl (omega arith) (set table.words (k + 1) 0) (homes_after table.homes [] (take_block f (16 * k) 16)) fits'
+      noted_ruled table r id l l' at refl e reply t refl is_step refl refl refl refl (omega arith) (set table.words (k + 1) 0) (homes_after table.homes []
+          (take_block f (16 * k) 16)) fits'
           (words_shelved table.words k 0 Shelf.Free s t r.words small eight refl refl refl refl (sym nobody))
           (slots_block table.homes (homes_after table.homes [] (take_block f (16 * k) 16)) s.shelves t.shelves s.workers r.course.images r.course.images l.hand (Some k) k Shelf.Free
           (slice_get-set_same s.shelves k Shelf.Free (omega arith)) (λ j ne. slice_get-set_other s.shelves k j Shelf.Free ne)
@@ -411,7 +421,8 @@ tries_free id k l c hand' a table r at small free slots false found =
     let l' : LoaderView = with_hand l hand' (all_of d) in
     let fits' : LoaderFits d l' = record { shows = record { current = knows.shows.current; current_shelf = knows.shows.current_shelf; shelves = knows.shows.shelves; newest_is = r.goes.as_many }; images = refl; known = begins_all d None } in (
       all_of d,
-      noted_ruled table r id l l' at refl e reply s refl is_step refl refl refl refl (omega arith) (set table.words (k + 1) n) (homes_after table.homes c a) fits' (words_same table.words (k + 1) s s r.words refl refl refl refl) slots,
+      noted_ruled table r id l l' at refl e reply s refl is_step refl refl refl refl (omega arith) (set table.words (k + 1) n)
+          (homes_after table.homes c a) fits' (words_same table.words (k + 1) s s r.words refl refl refl refl) slots,
       noted table r id l l' at refl e reply s refl is_step refl refl refl refl (omega arith),
     )
 

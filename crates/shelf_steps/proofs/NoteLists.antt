@@ -9,15 +9,18 @@ use Rattle.shelf_steps.specs.declared.views.View.{View}
 use Rattle.shelf_steps.specs.Ruled.{notice_of, notices_of}
 
 -- a seat that is no notice's, before and after
-notices_same : (views : List View) (id : ℕ) (u u' : View) → get_elem? views id ≡ some u → notice_of u ≡ [] → notice_of u' ≡ [] → notices_of (set views id u') ≡ notices_of views
+notices_same : (views : List View) (id : ℕ) (u u' : View) → get_elem? views id ≡ some u → notice_of u ≡ [] → notice_of u' ≡ []
+    → notices_of (set views id u') ≡ notices_of views
 notices_same [] id u u' at none none' = refl
 notices_same (x ∷ xs) zero u u' at none none' = ap (λ (l : List ℕ). l ++ notices_of xs) (none' ∙ sym (ap notice_of (some-injective x u at) ∙ none))
 notices_same (x ∷ xs) (suc i) u u' at none none' = ap (λ (l : List ℕ). notice_of x ++ l) (notices_same xs i u u' at none none')
 
-pub notices_worker : (views : List View) (id : ℕ) (v v' : WorkerView) → get_elem? views id ≡ some (View.Working v) → notices_of (set views id (View.Working v')) ≡ notices_of views
+pub notices_worker : (views : List View) (id : ℕ) (v v' : WorkerView) → get_elem? views id ≡ some (View.Working v)
+    → notices_of (set views id (View.Working v')) ≡ notices_of views
 notices_worker views id v v' at = notices_same views id (View.Working v) (View.Working v') at refl refl
 
-pub notices_loader : (views : List View) (id : ℕ) (l l' : LoaderView) → get_elem? views id ≡ some (View.Loading l) → notices_of (set views id (View.Loading l')) ≡ notices_of views
+pub notices_loader : (views : List View) (id : ℕ) (l l' : LoaderView) → get_elem? views id ≡ some (View.Loading l)
+    → notices_of (set views id (View.Loading l')) ≡ notices_of views
 notices_loader views id l l' at = notices_same views id (View.Loading l) (View.Loading l') at refl refl
 
 -- one seat more

@@ -1,5 +1,6 @@
 -- A notice that goes out, and one that is taken in, keep the rule, and each is one event.
-use Rattle.std.proofs.Common.{◌≡◌, ◌≢◌, ℕ, ◌<◌, ◌≤◌, max, List, [], ◌∷◌, ◌++◌, length, set, get_or, remove, Option, Some, None, slice_get, refl, ap, sym, ◌∙◌, subst, arith, get_or-set_same, get_or-set_other, inl, inr, ⊎_elim}
+use Rattle.std.proofs.Common.{◌≡◌, ◌≢◌, ℕ, ◌<◌, ◌≤◌, max, List, [], ◌∷◌, ◌++◌, length, set, get_or, remove, Option, Some, None, slice_get, refl, ap, sym, ◌∙◌}
+use Rattle.std.proofs.Common.{subst, arith, get_or-set_same, get_or-set_other, inl, inr, ⊎_elim}
 use Rattle.std.proofs.lemmas.Option.{slice_get_within}
 use mathlib.Core.Option.{some}
 use lib.ListN.{get_elem?}
@@ -32,7 +33,8 @@ use Rattle.shelf_steps.proofs.Opens.{at_end}
 
 -- an event that is nobody's
 module _ (table : Shelved) (r : Ruled table) (e : Event) (reply : Reply) (t : State) (whose : actor e ≡ nobody)
-    (current : t.current ≡ r.course.state.current) (current_shelf : t.current_shelf ≡ r.course.state.current_shelf) (shelves : t.shelves ≡ r.course.state.shelves) (editions : t.editions ≡ r.course.state.editions) where
+    (current : t.current ≡ r.course.state.current) (current_shelf : t.current_shelf ≡ r.course.state.current_shelf)
+    (shelves : t.shelves ≡ r.course.state.shelves) (editions : t.editions ≡ r.course.state.editions) where
   not_loaders : actor e ≢ None
   not_loaders q = let z : Some 16 ≡ None = sym whose ∙ q in cc
 
@@ -40,10 +42,12 @@ module _ (table : Shelved) (r : Ruled table) (e : Event) (reply : Reply) (t : St
   not_of u small q = let z : Some 16 ≡ Some u = sym whose ∙ q in let same : 16 ≡ u = cc in omega arith
 
   number_small : (u : WorkerView) → WorkerFits r.course u → u.number < 16
-  number_small u f = let l = slice_get_within r.course.state.workers u.number u.now f.shows.now in let z = (kept_of r.course r.goes).workers.sixteen in omega arith
+  number_small u f = let l = slice_get_within r.course.state.workers u.number u.now f.shows.now in let z = (kept_of r.course r.goes).workers.sixteen in
+      omega arith
 
   known_on : (u : WorkerView) → WorkerFits r.course u → Begins u.known (Some u.number) (extended r.course e reply t r.course.images)
-  known_on u f = begins_longer r.course e reply t r.course.images u.known (Some u.number) (not_of u.number (number_small u f)) (prefix_same r.course.images) f.known
+  known_on u f = begins_longer r.course e reply t r.course.images u.known (Some u.number) (not_of u.number (number_small u f))
+      (prefix_same r.course.images) f.known
 
   loader_on : (l : LoaderView) → LoaderFits r.course l → LoaderFits (extended r.course e reply t r.course.images) l
   loader_on l f = record {
@@ -57,9 +61,11 @@ module _ (table : Shelved) (r : Ruled table) (e : Event) (reply : Reply) (t : St
     known = begins_longer r.course e reply t r.course.images l.known None not_loaders (prefix_same r.course.images) f.known;
   }
 
-  worker_on : (u : WorkerView) → slice_get t.workers u.number ≡ slice_get r.course.state.workers u.number → get_or t.seen u.number 0 ≡ get_or r.course.state.seen u.number 0 → WorkerFits r.course u
+  worker_on : (u : WorkerView) → slice_get t.workers u.number ≡ slice_get r.course.state.workers u.number
+      → get_or t.seen u.number 0 ≡ get_or r.course.state.seen u.number 0 → WorkerFits r.course u
       → WorkerFits (extended r.course e reply t r.course.images) u
-  worker_on u now seen f = other_fits r.course (extended r.course e reply t r.course.images) u now seen (omega arith) (prefix_same r.course.images) (known_on u f) f
+  worker_on u now seen f = other_fits r.course (extended r.course e reply t r.course.images) u now seen (omega arith) (prefix_same r.course.images)
+      (known_on u f) f
 
   unmoved_on : (w : ℕ) → w < 16 → NoneOf (Some w) r.course.events → NoneOf (Some w) (extended r.course e reply t r.course.images).events
   unmoved_on w small h = none_snoc (Some w) r.course.events e (not_of w small) h
@@ -80,18 +86,24 @@ seat_more c views loader n fit = record {
 }
 
 -- a notice's seat is left spent
-seat_spent : (c : Course) (views : List View) (loader : LoaderView) (other n : ℕ) → get_elem? views other ≡ some (View.Noting n) → SeatsFit c views loader → SeatsFit c (set views other View.Spent) loader
+seat_spent : (c : Course) (views : List View) (loader : LoaderView) (other n : ℕ) → get_elem? views other ≡ some (View.Noting n) → SeatsFit c views loader
+    → SeatsFit c (set views other View.Spent) loader
 seat_spent c views loader other n at fit = record {
   owner = fit.owner;
-  loader_seat = set_else views other 0 View.Spent (λ e. let z : some (View.Loading loader) ≡ some (View.Noting n) = sym fit.loader_seat ∙ (ap (λ m. get_elem? views m) e ∙ at) in cc) ∙ fit.loader_seat;
+  loader_seat = set_else views other 0 View.Spent (λ e. let z : some (View.Loading loader) ≡ some (View.Noting n) = sym fit.loader_seat
+      ∙ (ap (λ m. get_elem? views m) e ∙ at) in cc) ∙ fit.loader_seat;
   loads = fit.loads;
   few = fit.few;
   each = λ seat u e. ⊎_elim
       (λ (q : (seat ≡ other) × (View.Spent ≡ u)). subst (λ (x : View). SeatFits c loader fit.owner seat x) q.1 tt)
       (λ (q : (seat ≢ other) × (get_elem? views seat ≡ some u)). fit.each seat u q.1)
       (at_set views other seat View.Spent u e);
-  every = λ w less. let o = fit.every w less in
-      (o.0, o.1, set_else views other (fit.owner w) View.Spent (λ e. let z : some (View.Working o.0) ≡ some (View.Noting n) = sym o.2 ∙ (ap (λ m. get_elem? views m) e ∙ at) in cc) ∙ o.2);
+  every = λ w less. let o = fit.every w less in (
+    o.0,
+    o.1,
+    set_else views other (fit.owner w) View.Spent (λ e. let z : some (View.Working o.0) ≡ some (View.Noting n) = sym o.2
+        ∙ (ap (λ m. get_elem? views m) e ∙ at) in cc) ∙ o.2,
+  );
   unseated = fit.unseated;
 }
 
@@ -104,7 +116,8 @@ notes_events table id l r at =
     let is_step : Step s e reply t = (knows.shows.current, refl) in
     let d : Course = extended r.course e reply t r.course.images in
     let views : List View = set table.views id (View.Loading l) in
-    let moved : SeatsFit d views l = loader_moves r.course d table.views r.loader r.seats id l l at refl (λ u f. worker_on table r e reply t refl refl refl refl refl u refl refl f)
+    let moved : SeatsFit d views l = loader_moves r.course d table.views r.loader r.seats id l l at refl (λ u f.
+    worker_on table r e reply t refl refl refl refl refl u refl refl f)
     (loader_on table r e reply t refl refl refl refl refl l knows) refl refl (λ w small h. unmoved_on table r e reply t refl refl refl refl refl w small h) in (
       record {
         course = d;
@@ -125,7 +138,8 @@ settled_so s v here settled = elim settled [
   | inr b ↦ inr (b.0, b.1, here ∙ ap (λ (x : Worker). Some x) b.2)
 ]
 
-other_than : (views : List View) (id other n : ℕ) (v : WorkerView) → get_elem? views id ≡ some (View.Working v) → get_elem? views other ≡ some (View.Noting n) → other ≢ id
+other_than : (views : List View) (id other n : ℕ) (v : WorkerView) → get_elem? views id ≡ some (View.Working v)
+    → get_elem? views other ≡ some (View.Noting n) → other ≢ id
 other_than views id other n v at at' e = let z : some (View.Noting n) ≡ some (View.Working v) = sym at' ∙ (ap (λ m. get_elem? views m) e ∙ at) in cc
 
 pub joins_events : JoinsAreEvents
@@ -135,7 +149,8 @@ joins_events table id other n v r at settled at' =
     let f : WorkerFits r.course v = (r.seats.each id (View.Working v) at).2 in
     let v' : WorkerView = with_seen v n in
     let views : List View = set table.views id (View.Working v') in
-    let there : get_elem? views other ≡ some (View.Noting n) = set_else table.views id other (View.Working v') (other_than table.views id other n v at at') ∙ at' in
+    let there : get_elem? views other ≡ some (View.Noting n) = set_else table.views id other (View.Working v') (other_than table.views id other n v at at')
+    ∙ at' in
     let same : notices_of views ≡ s.notices = notices_worker table.views id v v' at ∙ r.notices in
     let less = notices_less views other n there in let place = less.0 in
     let is_noted : slice_get s.notices place ≡ Some n = ap (λ (xs : List ℕ). slice_get xs place) (sym same) ∙ less.1 in
@@ -151,10 +166,12 @@ joins_events table id other n v r at settled at' =
       edition = f.edition;
       known = known_on table r e reply t refl refl refl refl refl v f;
     } in
-    let rest : (j : ℕ) → j ≢ w → (slice_get t.workers j ≡ slice_get s.workers j) × (get_or t.seen j 0 ≡ get_or s.seen j 0) = λ j ne. (refl, get_or-set_other s.seen w j (max (get_or s.seen w 0) n) 0 ne) in
+    let rest : (j : ℕ) → j ≢ w → (slice_get t.workers j ≡ slice_get s.workers j)
+    × (get_or t.seen j 0 ≡ get_or s.seen j 0) = λ j ne. (refl, get_or-set_other s.seen w j (max (get_or s.seen w 0) n) 0 ne) in
     let moved : SeatsFit d views r.loader = worker_moves r.course d table.views r.loader r.seats id v v' at refl
     (λ u ne g. worker_on table r e reply t refl refl refl refl refl u refl (rest u.number ne).1 g)
-    (loader_on table r e reply t refl refl refl refl refl r.loader r.seats.loads) rest (λ j small ne h. unmoved_on table r e reply t refl refl refl refl refl j small h) fits in (
+    (loader_on table r e reply t refl refl refl refl refl r.loader r.seats.loads) rest (λ j small ne h.
+    unmoved_on table r e reply t refl refl refl refl refl j small h) fits in (
       record {
         course = d;
         loader = r.loader;

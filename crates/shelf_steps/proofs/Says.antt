@@ -19,7 +19,8 @@ use Rattle.version_core.specs.Shown.{shelf_word}
 use Rattle.shelf_steps.specs.Seats.{WorkerFits, LoaderFits, HasEdition}
 use Rattle.shelf_steps.specs.Slots.{SlotFits, IsFilled, Slot}
 use Rattle.shelf_steps.specs.Ruled.{Ruled}
-use Rattle.shelf_steps.specs.Laws.{Shelved, IsLoader, WordsAreTheLoaders, CountsAreWorkers, NumbersDiffer, HeldHaveEditions, SlotsOutAreHeld, SlotsAtHomeAreFilled, LooksAreSo, OneSeatLoads, NoticesAreOfTheirTime}
+use Rattle.shelf_steps.specs.Laws.{Shelved, IsLoader, WordsAreTheLoaders, CountsAreWorkers, NumbersDiffer, HeldHaveEditions, SlotsOutAreHeld}
+use Rattle.shelf_steps.specs.Laws.{SlotsAtHomeAreFilled, LooksAreSo, OneSeatLoads, NoticesAreOfTheirTime}
 use Rattle.shelf_steps.proofs.Courses.{kept_of}
 use Rattle.shelf_steps.proofs.WordsAfter.{few_counted}
 use Rattle.version_core.proofs.Rising.{rise_at}

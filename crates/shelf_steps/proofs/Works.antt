@@ -66,7 +66,8 @@ module _ (table : Table (Option Edition) View) (r : Ruled table) (id : ℕ) (v v
       (begins_longer r.course e reply t r.course.images u.known (Some u.number) (not_of u.number other) (prefix_same r.course.images) f.known) f
 
   pub next_seats : WorkerFits (extended r.course e reply t r.course.images) v' → SeatsFit (extended r.course e reply t r.course.images) (set table.views id (View.Working v')) r.loader
-  next_seats fits = worker_moves r.course (extended r.course e reply t r.course.images) table.views r.loader r.seats id v v' at named others loads rest (λ w small other h. none_snoc (Some w) r.course.events e (not_of w other) h) fits
+  next_seats fits = worker_moves r.course (extended r.course e reply t r.course.images) table.views r.loader r.seats id v v' at named others loads rest
+      (λ w small other h. none_snoc (Some w) r.course.events e (not_of w other) h) fits
 
   pub next_happened : Happened v.known e reply (all_of (extended r.course e reply t r.course.images))
   next_happened = happened r.course e reply t r.course.images v.known

@@ -11,7 +11,8 @@ use Rattle.shelf_steps.specs.declared.views.LoaderView.{LoaderView}
 use Rattle.shelf_steps.specs.declared.views.View.{View}
 use Rattle.shelf_steps.specs.Course.{Happened, extended}
 use Rattle.shelf_steps.specs.Ruled.{Ruled}
-use Rattle.shelf_steps.specs.Plays.{OfWorker, Mine, Looks, Takes, Leaves, GivesBack, OpensOn, PublishesOn, ClosesOn, CollectsOn, GathersOn, PutsBackOn, IsLate, IsSettled, with_seen}
+use Rattle.shelf_steps.specs.Plays.{OfWorker, Mine, Looks, Takes, Leaves, GivesBack, OpensOn, PublishesOn, ClosesOn, CollectsOn, GathersOn, PutsBackOn}
+use Rattle.shelf_steps.specs.Plays.{IsLate, IsSettled, with_seen}
 use Rattle.shelf_steps.specs.Laws.{Shelved, IsLoader}
 
 -- what a seat knows of the past
@@ -87,4 +88,5 @@ JoinsAreEvents =
     (table : Shelved) (id other n : ℕ) (v : WorkerView) (r : Ruled table) → get_elem? table.views id ≡ some (View.Working v) → IsSettled (View.Working v)
     → get_elem? table.views other ≡ some (View.Noting n)
     → (after : Ruled (joining table id v other n))
-    × ((place : ℕ) × (after.course ≡ extended r.course (Event.Join v.number n) (Reply.Joined (max v.seen n)) (joined r.course.state v.number n place) r.course.images))
+    × ((place : ℕ) × (after.course ≡ extended r.course (Event.Join v.number n) (Reply.Joined (max v.seen n))
+    (joined r.course.state v.number n place) r.course.images))

@@ -79,7 +79,8 @@ LooksAreSo =
 
 -- a notice is of the current version or an older one
 abbrev pub NoticesAreOfTheirTime : Type 0
-NoticesAreOfTheirTime = (table : Shelved) (l : LoaderView) (i v : ℕ) → Ruled table → IsLoader table l → get_elem? table.views i ≡ some (View.Noting v) → v ≤ l.current
+NoticesAreOfTheirTime = (table : Shelved) (l : LoaderView) (i v : ℕ) → Ruled table → IsLoader table l → get_elem? table.views i ≡ some (View.Noting v)
+    → v ≤ l.current
 
 -- the words, and what each seat knows, show the state: editions are places in the loader's list of images, and a worker with no seat yet is idle and has seen nothing
 pub record TableShows (table : Shelved) (l : LoaderView) (s : State) : Type 0 where

@@ -1,7 +1,9 @@
 //! What the rule of the shelves says, and the steps that keep it, one by one. Functions without arguments do nothing: their
 //! contracts are the laws.
-ghost use Rattle.shelf_steps.specs.Laws.{WordsAreTheLoaders, CountsAreWorkers, NumbersDiffer, HeldHaveEditions, SlotsOutAreHeld, SlotsAtHomeAreFilled, LooksAreSo, OneSeatLoads, OneHistory, NoticesAreOfTheirTime, OneStateIsShown};
-ghost use Rattle.shelf_steps.specs.Events.{LooksAreEvents, TakesAreEvents, DropsAreEvents, OpensAreEvents, PublishesAreEvents, ClosesAreEvents, CollectsAreEvents, SpareTriesAreEvents, NotesAreEvents, JoinsAreEvents, LateTakesTell, LateTakesRise};
+ghost use Rattle.shelf_steps.specs.Laws.{WordsAreTheLoaders, CountsAreWorkers, NumbersDiffer, HeldHaveEditions, SlotsOutAreHeld, SlotsAtHomeAreFilled};
+ghost use Rattle.shelf_steps.specs.Laws.{LooksAreSo, OneSeatLoads, OneHistory, NoticesAreOfTheirTime, OneStateIsShown};
+ghost use Rattle.shelf_steps.specs.Events.{LooksAreEvents, TakesAreEvents, DropsAreEvents, OpensAreEvents, PublishesAreEvents, ClosesAreEvents};
+ghost use Rattle.shelf_steps.specs.Events.{CollectsAreEvents, SpareTriesAreEvents, NotesAreEvents, JoinsAreEvents, LateTakesTell, LateTakesRise};
 
 pub use crate::blocks::{empty_block, fill_block};
 pub use crate::loader_steps::{close, collect, gather, open, publish, put_back};

@@ -1,5 +1,6 @@
 -- Each step keeps what holds in every state.
-use Rattle.std.proofs.Common.{◌≡◌, ◌≢◌, ℕ, ◌+◌, ◌<◌, ◌≤◌, ◌==◌, Bool, true, false, MatchBool, length, ◌++◌, ◌∷◌, [], get_or, Some, slice_get, refl, ap, sym, ◌∙◌, subst, arith, rules, ◌⊎◌, inl, inr, length-append}
+use Rattle.std.proofs.Common.{◌≡◌, ◌≢◌, ℕ, ◌+◌, ◌<◌, ◌≤◌, ◌==◌, Bool, true, false, MatchBool, length, ◌++◌, ◌∷◌, [], get_or, Some, slice_get, refl, ap, sym}
+use Rattle.std.proofs.Common.{◌∙◌, subst, arith, rules, ◌⊎◌, inl, inr, length-append}
 use Rattle.std.proofs.lemmas.Bool.Decides.{nat_tests}
 use Rattle.std.proofs.lemmas.Option.{slice_get_within}
 use Rattle.version_core.specs.declared.state.Shelf.{Shelf}
@@ -7,7 +8,8 @@ use Rattle.version_core.specs.declared.state.Worker.{Worker}
 use Rattle.version_core.specs.declared.event.Event.{Event}
 use Rattle.version_core.specs.declared.event.Reply.{Reply}
 use Rattle.version_core.specs.State.{State, start, newest, looked, arrived, departed, opened, published, shelved, noted, joined}
-use Rattle.version_core.specs.Steps.{IsIdle, HasLooked, Holds, StaysAt, IsFree, IsOpen, IsClosing, IsUnpublished, IsOutdated, MayOpen, Step, LookStep, TakeStep, DropStep, OpenStep, PublishStep, CloseStep, CollectStep, AskStep, NoteStep, JoinStep, IsSettled}
+use Rattle.version_core.specs.Steps.{IsIdle, HasLooked, Holds, StaysAt, IsFree, IsOpen, IsClosing, IsUnpublished, IsOutdated, MayOpen, Step, LookStep}
+use Rattle.version_core.specs.Steps.{TakeStep, DropStep, OpenStep, PublishStep, CloseStep, CollectStep, AskStep, NoteStep, JoinStep, IsSettled}
 use Rattle.version_core.specs.Kept.{Kept, Fits, is_at, version_on}
 use Rattle.version_core.proofs.Shelves.{version_at, shelves_open, opening_stays, shelves_publish, shelves_close, closing_stays, shelves_free, none_unpublished}
 use Rattle.version_core.proofs.Counts.{counts_stay, counts_rise, counts_fall, counted_at, no_one_at}
@@ -142,15 +144,24 @@ free_kept s k v kept closing none =
     }
 
 pub note_kept : (s : State) → Kept s → Kept (noted s)
-note_kept s kept = record { room = kept.room; shelves = kept.shelves; counts = kept.counts; workers = kept.workers; notices = rise_more 0 s.notices s.current kept.notices }
+note_kept s kept = record {
+  room = kept.room;
+  shelves = kept.shelves;
+  counts = kept.counts;
+  workers = kept.workers;
+  notices = rise_more 0 s.notices s.current
+      kept.notices;
+}
 
-see_kept : (s : State) (w v place : ℕ) (was : Worker) → Kept s → slice_get s.workers w ≡ Some was → (was ≡ Worker.Idle) ⊎ ((k x : ℕ) × (was ≡ Worker.Holding k x)) → get_or s.seen w 0 ≤ s.current
+see_kept : (s : State) (w v place : ℕ) (was : Worker) → Kept s → slice_get s.workers w ≡ Some was → (was ≡ Worker.Idle) ⊎ ((k x : ℕ)
+    × (was ≡ Worker.Holding k x)) → get_or s.seen w 0 ≤ s.current
     → slice_get s.notices place ≡ Some v → Kept (joined s w v place)
 see_kept s w v place was kept here so seen there = record {
   room = kept.room;
   shelves = kept.shelves;
   counts = kept.counts;
-  workers = workers_see s.current s.current_shelf s.shelves s.workers s.seen w _ was kept.workers here so (most_left _ v) (most_least _ v s.current seen (rise_at 0 s.notices s.current place v kept.notices there).1);
+  workers = workers_see s.current s.current_shelf s.shelves s.workers s.seen w _ was kept.workers here so (most_left _ v) (most_least _ v s.current seen
+      (rise_at 0 s.notices s.current place v kept.notices there).1);
   notices = rise_less 0 s.notices s.current place v kept.notices there;
 }
 

@@ -5,7 +5,8 @@ use Rattle.version_core.specs.declared.state.Worker.{Worker}
 use Rattle.version_core.specs.declared.event.Event.{Event}
 use Rattle.version_core.specs.declared.event.Reply.{Reply}
 use Rattle.version_core.specs.State.{State, newest, edition_of, arrived, departed, opened, published, shelved, joined}
-use Rattle.version_core.specs.Steps.{IsUnpublished, OpensLeast, Step, LookStep, TakeStep, DropStep, OpenStep, PublishStep, CloseStep, CollectStep, AskStep, NoteStep, JoinStep}
+use Rattle.version_core.specs.Steps.{IsUnpublished, OpensLeast, Step, LookStep, TakeStep, DropStep, OpenStep, PublishStep, CloseStep, CollectStep, AskStep}
+use Rattle.version_core.specs.Steps.{NoteStep, JoinStep}
 use Rattle.version_core.specs.Kept.{Kept}
 use Rattle.version_core.proofs.Shelves.{version_at}
 use Rattle.version_core.proofs.Pins.{stays_once}

@@ -7,7 +7,8 @@ use Rattle.version_core.specs.declared.state.Shelf.{Shelf}
 use Rattle.version_core.specs.declared.event.Event.{Event}
 use Rattle.version_core.specs.declared.event.Reply.{Reply}
 use Rattle.version_core.specs.State.{State, start, newest, opened, published, shelved}
-use Rattle.version_core.specs.Steps.{IsFree, IsOpen, IsClosing, MayOpen, Step, LookStep, TakeStep, DropStep, PublishStep, CloseStep, CollectStep, AskStep, NoteStep, JoinStep}
+use Rattle.version_core.specs.Steps.{IsFree, IsOpen, IsClosing, MayOpen, Step, LookStep, TakeStep, DropStep, PublishStep, CloseStep, CollectStep, AskStep}
+use Rattle.version_core.specs.Steps.{NoteStep, JoinStep}
 use Rattle.version_core.specs.Runs.{Run}
 use Rattle.version_core.specs.Kept.{Kept}
 use Rattle.version_core.specs.Rest.{IsAtRest, IsNoLoad, loaded}

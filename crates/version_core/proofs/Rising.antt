@@ -49,7 +49,8 @@ same_first (n ∷ ns) high (suc i) v h is =
     ap (λ m. v ∷ m ∷ remove ns i) (sym same) ∙ (ap (λ l. v ∷ l) (same_first ns high i v (rw (← same) at h.1) is) ∙ ap (λ m. m ∷ ns) same)
 
 -- so it doesn't matter which notice of a version is taken out
-pub remove_one : (low : ℕ) (ns : List ℕ) (high i j v : ℕ) → RiseWithin low ns high → slice_get ns i ≡ Some v → slice_get ns j ≡ Some v → remove ns j ≡ remove ns i
+pub remove_one : (low : ℕ) (ns : List ℕ) (high i j v : ℕ) → RiseWithin low ns high → slice_get ns i ≡ Some v → slice_get ns j ≡ Some v
+    → remove ns j ≡ remove ns i
 remove_one low [] high i j v h a b = absurd (cc)
 remove_one low (n ∷ ns) high zero zero v h a b = refl
 remove_one low (n ∷ ns) high zero (suc j) v h a b = let same : n ≡ v = cc in ap (λ m. m ∷ remove ns j) same ∙ same_first ns high j v (rw same at h.1) b

@@ -1,5 +1,6 @@
 -- What runs keep, and how they are put together.
-use Rattle.std.proofs.Common.{◌≡◌, ℕ, zero, suc, ◌+◌, ◌-◌, ◌<◌, ◌≤◌, max, List, [], ◌∷◌, ◌++◌, length, set, get_or, take, Some, slice_get, refl, ap, sym, ◌∙◌, subst, arith, append_assoc, length-append, inr, Result, Ok, Err, OnErr, get_or-set_same, get_or-set_other}
+use Rattle.std.proofs.Common.{◌≡◌, ℕ, zero, suc, ◌+◌, ◌-◌, ◌<◌, ◌≤◌, max, List, [], ◌∷◌, ◌++◌, length, set, get_or, take, Some, slice_get, refl, ap, sym, ◌∙◌}
+use Rattle.std.proofs.Common.{subst, arith, append_assoc, length-append, inr, Result, Ok, Err, OnErr, get_or-set_same, get_or-set_other}
 use Rattle.std.proofs.lemmas.List.{append-nil, take_more}
 use Rattle.std.proofs.lemmas.Option.{slice_get_within, slice_get-get_or}
 use mathlib.Core.Logic.{dite}
@@ -9,7 +10,8 @@ use Rattle.version_core.specs.declared.state.Worker.{Worker}
 use Rattle.version_core.specs.declared.event.Event.{Event}
 use Rattle.version_core.specs.declared.event.Reply.{Reply}
 use Rattle.version_core.specs.State.{State, start, newest, edition_of, looked, arrived, departed, opened, published, shelved, noted, joined}
-use Rattle.version_core.specs.Steps.{IsIdle, IsOpen, Holds, IsSettled, Grows, OpensLeast, Step, LookStep, TakeStep, DropStep, OpenStep, PublishStep, CloseStep, CollectStep, AskStep, NoteStep, JoinStep}
+use Rattle.version_core.specs.Steps.{IsIdle, IsOpen, Holds, IsSettled, Grows, OpensLeast, Step, LookStep, TakeStep, DropStep, OpenStep, PublishStep}
+use Rattle.version_core.specs.Steps.{CloseStep, CollectStep, AskStep, NoteStep, JoinStep}
 use Rattle.version_core.specs.Runs.{Run, LeastRun, IsRun, IsReached, IsLater, IsStopped}
 use Rattle.version_core.specs.Kept.{Kept}
 use Rattle.version_core.proofs.Lists.{slice_get-append, slice_get-last, slice_get-set_same}
@@ -77,7 +79,8 @@ one_run s t u (e ∷ es) [] qs kept a b = absurd a
 one_run s t u (e ∷ es) (r ∷ rs) [] kept a b = absurd b
 
 -- a run that ended before the event at a place, which was about to take memory
-pub stopped_at : (s t u : State) (events : List Event) (i : ℕ) (d : Event) (replies : List Reply) → i < length events → Run s (take i events) replies t → LeastRun s (take i events) replies t → Grows t (get_or events i d) → u ≡ t → IsStopped s events u
+pub stopped_at : (s t u : State) (events : List Event) (i : ℕ) (d : Event) (replies : List Reply) → i < length events → Run s (take i events) replies t
+    → LeastRun s (take i events) replies t → Grows t (get_or events i d) → u ≡ t → IsStopped s events u
 stopped_at s t u events i d replies less h least opens same = subst (λ x. IsStopped s events x) (sym same) (record {
   done = i;
   replies = replies;
@@ -169,7 +172,8 @@ note_later s _ t h = absurd h
 
 -- what a worker has seen after a join
 pub joined_seen : (s : State) (w v place : ℕ) → Kept s → IsSettled s w → get_or (joined s w v place).seen w 0 ≡ max (get_or s.seen w 0) v
-joined_seen s w v place kept settled = let small = settled_small s w kept settled in let l = kept.workers.sixteen_seen in get_or-set_same s.seen w _ 0 (omega arith)
+joined_seen s w v place kept settled = let small = settled_small s w kept settled in let l = kept.workers.sixteen_seen in
+    get_or-set_same s.seen w _ 0 (omega arith)
 
 joined_later : (s : State) (w v place : ℕ) → Kept s → IsSettled s w → IsLater s (joined s w v place)
 joined_later s w v place kept settled = record {
@@ -205,7 +209,8 @@ run_later s [] (r ∷ rs) t kept h = absurd h
 run_later s (e ∷ es) [] t kept h = absurd h
 
 -- each look finds what was joined or a newer version
-pub looks_after : (s t u x : State) (w v seen found k : ℕ) (es : List Event) (rs : List Reply) → Kept s → Step s (Event.Join w v) (Reply.Joined seen) t → Run t es rs u → Step u (Event.Look w) (Reply.Looked found k) x
+pub looks_after : (s t u x : State) (w v seen found k : ℕ) (es : List Event) (rs : List Reply) → Kept s → Step s (Event.Join w v) (Reply.Joined seen) t
+    → Run t es rs u → Step u (Event.Look w) (Reply.Looked found k) x
     → (v ≤ seen) × (seen ≤ found)
 looks_after s t u x w v seen found k es rs kept join run look =
     let kept' = step_kept s (Event.Join w v) (Reply.Joined seen) t kept join in

@@ -1,5 +1,6 @@
 -- What the workers keep when one of them, or a shelf, changes.
-use Rattle.std.proofs.Common.{◌≡◌, ◌≢◌, ℕ, ◌<◌, ◌≤◌, ◌==◌, ◌⊎◌, true, false, List, set, get_or, Some, slice_get, refl, ap, sym, ◌∙◌, subst, arith, inl, inr, length-set, get_or-set_same, get_or-set_other}
+use Rattle.std.proofs.Common.{◌≡◌, ◌≢◌, ℕ, ◌<◌, ◌≤◌, ◌==◌, ◌⊎◌, true, false, List, set, get_or, Some, slice_get, refl, ap, sym, ◌∙◌, subst, arith, inl, inr}
+use Rattle.std.proofs.Common.{length-set, get_or-set_same, get_or-set_other}
 use Rattle.std.proofs.lemmas.Bool.Decides.{nat_tests}
 use Rattle.std.proofs.lemmas.Option.{slice_get_within}
 use mathlib.Core.Logic.{dite}
@@ -83,14 +84,16 @@ workers_away current at k xs y ws seen gone fit = record {
 }
 
 -- a worker that is idle or holds a version may have seen more, up to the current version
-fits_risen : (current at : ℕ) (xs : List Shelf) (worker : Worker) (seen more : ℕ) → Fits current at xs worker seen → (worker ≡ Worker.Idle) ⊎ ((k v : ℕ) × (worker ≡ Worker.Holding k v)) → seen ≤ more → more ≤ current
+fits_risen : (current at : ℕ) (xs : List Shelf) (worker : Worker) (seen more : ℕ) → Fits current at xs worker seen → (worker ≡ Worker.Idle) ⊎ ((k v : ℕ)
+    × (worker ≡ Worker.Holding k v)) → seen ≤ more → more ≤ current
     → Fits current at xs worker more
 fits_risen current at xs Worker.Idle seen more f so up most = most
 fits_risen current at xs (Worker.Holding k v) seen more f so up most = let a = f.2 in (f.0, f.1, omega arith, most)
 fits_risen current at xs (Worker.Looked v k) seen more f so up most = elim so [ inl a ↦ absurd (cc) | inr b ↦ absurd (let e = b.2 in cc) ]
 fits_risen current at xs (Worker.Late k) seen more f so up most = elim so [ inl a ↦ absurd (cc) | inr b ↦ absurd (let e = b.2 in cc) ]
 
-pub workers_see : (current at : ℕ) (xs : List Shelf) (ws : List Worker) (seen : List ℕ) (w more : ℕ) (was : Worker) → WorkersFit current at xs ws seen → slice_get ws w ≡ Some was
+pub workers_see : (current at : ℕ) (xs : List Shelf) (ws : List Worker) (seen : List ℕ) (w more : ℕ) (was : Worker) → WorkersFit current at xs ws seen
+    → slice_get ws w ≡ Some was
     → (was ≡ Worker.Idle) ⊎ ((k v : ℕ) × (was ≡ Worker.Holding k v)) → get_or seen w 0 ≤ more → more ≤ current → WorkersFit current at xs ws (set seen w more)
 workers_see current at xs ws seen w more was fit here so up most =
     let within = slice_get_within ws w was here in let l = fit.sixteen in let l' = fit.sixteen_seen in
@@ -101,6 +104,7 @@ workers_see current at xs ws seen w more was fit here so up most =
       sixteen_seen = length-set seen w more ∙ fit.sixteen_seen;
       each = λ j worker is. dite (ℕ_discrete j w)
           (λ e. let two : Some worker ≡ Some was = sym is ∙ (ap (λ n. slice_get ws n) e ∙ here) in let same : worker ≡ was = cc in
-          subst (λ (n : ℕ). Fits current at xs worker (get_or (set seen w more) n 0)) (sym e) (subst (λ (q : Worker). Fits current at xs q (get_or (set seen w more) w 0)) (sym same) new))
+          subst (λ (n : ℕ). Fits current at xs worker (get_or (set seen w more) n 0)) (sym e) (subst (λ (q : Worker).
+          Fits current at xs q (get_or (set seen w more) w 0)) (sym same) new))
           (λ e. subst (λ (n : ℕ). Fits current at xs worker n) (sym (get_or-set_other seen w j more 0 e)) (fit.each j worker is));
     }

@@ -1,6 +1,8 @@
 //! Laws over every list of events. The functions do nothing: their contracts are the laws.
 
-ghost use Rattle.version_core.specs.Laws.{EveryRunKeeps, EveryStepKeeps, CountsAreWorkers, NoHeldShelfIsCollected, NothingFalls, NothingFallsInAStep, EditionsStay, AsksAreAnswered, LooksAndTakesHold, DropsLetGo, OpensWithEdition, NoticesAreOfTheirTime, JoinedVersionsStay, OneReply, OneRun, RunsBegin, RunsGrow, RunsGrowByRuns, RunsGrowWithReplies, RunsJoin, RunsPart};
+ghost use Rattle.version_core.specs.Laws.{EveryRunKeeps, EveryStepKeeps, CountsAreWorkers, NoHeldShelfIsCollected, NothingFalls, NothingFallsInAStep};
+ghost use Rattle.version_core.specs.Laws.{EditionsStay, AsksAreAnswered, LooksAndTakesHold, DropsLetGo, OpensWithEdition, NoticesAreOfTheirTime};
+ghost use Rattle.version_core.specs.Laws.{JoinedVersionsStay, OneReply, OneRun, RunsBegin, RunsGrow, RunsGrowByRuns, RunsGrowWithReplies, RunsJoin, RunsPart};
 ghost use Rattle.version_core.specs.State.{start};
 ghost use Rattle.version_core.specs.Kept.{Kept};
 ghost use Rattle.version_core.specs.Rest.{IsAtRest, RestStays, LoadsRest, RestIsSpent, RestIsFull};

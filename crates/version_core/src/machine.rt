@@ -1,6 +1,8 @@
 ghost use Rattle.std.specs.Prelude.{◌≡◌, ℕ, ◌<◌, ◌≤◌, max, IfOk, OnErr, MatchBool, MatchOption, slice_get, slice_index, Some};
 ghost use Rattle.version_core.specs.State.{start, edition_of, looked, arrived, departed, joined};
-ghost use Rattle.version_core.specs.Steps.{IsIdle, HasLooked, Holds, StaysAt, IsFree, IsOpen, IsClosing, IsUnpublished, IsOutdated, IsSettled, IsNoted, MayOpen, Grows, OpensLeast, Step, LookStep, TakeStep, DropStep, OpenStep, PublishStep, CloseStep, CollectStep, AskStep, NoteStep, JoinStep};
+ghost use Rattle.version_core.specs.Steps.{IsIdle, HasLooked, Holds, StaysAt, IsFree, IsOpen, IsClosing, IsUnpublished, IsOutdated, IsSettled, IsNoted};
+ghost use Rattle.version_core.specs.Steps.{MayOpen, Grows, OpensLeast, Step, LookStep, TakeStep, DropStep, OpenStep, PublishStep, CloseStep, CollectStep};
+ghost use Rattle.version_core.specs.Steps.{AskStep, NoteStep, JoinStep};
 ghost use Rattle.version_core.specs.Kept.{Kept};
 ghost use Rattle.version_core.specs.declared.event.Event.{Event};
 ghost use Rattle.version_core.specs.declared.event.Reply.{Reply};

@@ -10,5 +10,6 @@ join_seat-requires c =
       ap (λ (p : PlaceValue). p.table) c.notice.view_is ∙ (c.requires.table.1 ∙ sym c.shelves.view_is),
       ap (λ (m : Mine). m.1) notice,
       (let n = c.shelves.invariant.0 in omega arith),
-      note_joins c.worker.inside.seat.id c.notice.inside.seat.id c.requires.notice.0 c.worker.inside.seat.me.0 c.notice.inside.seat.me (subst (λ (p : PlaceValue). IsSettled p.me.0) (sym c.worker.view_is) c.requires.settled) notice,
+      note_joins c.worker.inside.seat.id c.notice.inside.seat.id c.requires.notice.0 c.worker.inside.seat.me.0 c.notice.inside.seat.me (subst (λ
+          (p : PlaceValue). IsSettled p.me.0) (sym c.worker.view_is) c.requires.settled) notice,
     )

@@ -24,4 +24,5 @@ bounds-self-inside-worker-2 c = settled_small _ c.args.worker c.self.invariant (
 pub invariant_of-self : goal.invariant_of-self
 invariant_of-self c =
     rw (c.remove.ensures.items, c.greater-seen.ensures)
-    (join_kept _ c.args.worker c.args.version c.args.place c.self.invariant (rw (← c.self.view_is) at c.requires.settled) (rw (← c.self.view_is) at c.requires.there))
+    (join_kept _ c.args.worker c.args.version c.args.place c.self.invariant (rw (← c.self.view_is) at c.requires.settled) (rw
+    (← c.self.view_is) at c.requires.there))
