@@ -25,12 +25,14 @@ LONGEST_REPLY = 256 * 1024 * 1024
 class Refused(Exception):
     """The server refused a request; the session goes on as before (after 97 SeatLost nothing is pinned)."""
 
-    def __init__(self, number: int, name: str, newest: int | None = None) -> None:
-        super().__init__(f"{number} {name}")
+    def __init__(self, number: int, name: str, newest: int | None = None, refusal: int | None = None) -> None:
+        super().__init__(f"{number} {name}" if refusal is None else f"{number} {name} {refusal}")
         self.number = number
         self.name = name
         #: The newest version that was seen, of 91 Moved alone.
         self.newest = newest
+        #: The number with which the load was refused, of 120 LoadRefused alone.
+        self.refusal = refusal
 
 
 class SessionEnded(ConnectionError):
@@ -77,6 +79,7 @@ class CsaClient:
     def __init__(self, host: str = "127.0.0.1", port: int = 7070, timeout: float = 30.0) -> None:
         """Connects. `timeout`, in seconds, bounds the connecting and then each request; what takes longer raises TimeoutError and closes."""
         self._socket: socket.socket | None = socket.create_connection((host, port), timeout)
+        self._timeout = timeout
         self._socket.setsockopt(socket.IPPROTO_TCP, socket.TCP_NODELAY, 1)
         self._replies = self._socket.makefile("rb")
 
@@ -104,6 +107,20 @@ class CsaClient:
         """Orders that the feed of this name is loaded and published. It returns when the order stands in the queue, not when it is done."""
         self._ask({"do": "load", "feed": feed})
 
+    def load_and_wait(self, feed: str, timeout: float | None = None) -> int:
+        """Orders the feed and waits until it is published: its version. From then on this session pins that version or a newer one.
+
+        The server's worker serves nobody else meanwhile. `timeout`, in seconds, bounds this request in place of the session's own: a
+        load may take minutes. Refused 120 has the number of the load's refusal.
+        """
+        if timeout is not None and self._socket is not None:
+            self._socket.settimeout(timeout)
+        try:
+            return self._ask({"do": "load", "feed": feed, "wait": True})["version"]
+        finally:
+            if self._socket is not None:
+                self._socket.settimeout(self._timeout)
+
     def close(self) -> None:
         """Ends the session; what it pinned is released by the server."""
         if self._socket is not None:
@@ -117,7 +134,7 @@ class CsaClient:
     def __exit__(self, *_: object) -> None:
         self.close()
 
-    def _ask(self, request: dict[str, str]) -> dict[str, Any]:
+    def _ask(self, request: dict[str, Any]) -> dict[str, Any]:
         """Sends one line and gives its reply, or raises what it says."""
         if self._socket is None:
             raise SessionEnded("the session is closed")
@@ -128,7 +145,7 @@ class CsaClient:
                 raise SessionEnded("the server ended the session")
             reply = json.loads(line)
             if "error" in reply:
-                refused = Refused(reply["error"], reply["name"], reply.get("newest"))
+                refused = Refused(reply["error"], reply["name"], reply.get("newest"), reply.get("refusal"))
             elif reply["ok"] != request["do"]:
                 raise SessionEnded(f"this is no reply to {request['do']}")
             else:

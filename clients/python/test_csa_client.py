@@ -104,6 +104,21 @@ class CannedReplies(unittest.TestCase):
         self.assertEqual((unknown.exception.number, unknown.exception.newest), (114, None))
         client.load("slow")
 
+    def test_a_load_is_waited_for(self) -> None:
+        client = self.session(
+            ('{"do": "load", "feed": "slow", "wait": true}', b'{"feed":"slow","ok":"load","version":2}\n'),
+            ('{"do": "load", "feed": "bad", "wait": true}', b'{"error":120,"name":"LoadRefused","refusal":1}\n'),
+            ('{"do": "load", "feed": "slow", "wait": true}', b""),
+            timeout=5.0,
+        )
+        self.assertEqual(client.load_and_wait("slow", timeout=2.0), 2)
+        with self.assertRaises(Refused) as refused:
+            client.load_and_wait("bad")
+        self.assertEqual((refused.exception.number, refused.exception.refusal), (120, 1))
+        self.assertEqual(str(refused.exception), "120 LoadRefused 1")
+        with self.assertRaises(TimeoutError):
+            client.load_and_wait("slow", timeout=0.2)
+
     def test_an_ended_session_is_told(self) -> None:
         client = self.session(('{"do": "pin"}', b'{"base":0,'))
         with self.assertRaises(SessionEnded):

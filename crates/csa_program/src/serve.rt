@@ -17,11 +17,12 @@ use image_verifier::Verified;
 use orders::OpenGate;
 use std::alloc::{AllocError, Global};
 use std::io::{Read, Write};
+use std::marker::Brand;
 use std::net::{Ipv4Addr, Net, TcpListener, TcpStream};
 use std::rt::Files;
 use std::sync::{Arc, Wait};
 use std::thread::Threads;
-use workers::{Feeds, Served, run_workers};
+use workers::{Feeds, Served, run_shelves};
 
 /// The folders of the feeds that may be loaded.
 #[derive(Drop)]
@@ -137,8 +138,8 @@ fn listen<
         return begun;
     }
     let door = Door::new(&listener, request.sessions);
-    match run_workers(
-        rt, alloc, door, &shelves, seats, loader, folders, &OpenGate, errors,
+    match run_shelves::<Brand, _, _, _, _, _, _, _, _, _>(
+        rt, alloc, door, shelves, seats, loader, folders, &OpenGate, errors,
     ) {
         Ok((served, door)) => tell_served(alloc, &served, door.has_failed(), output),
         Err(_) => status::OUT_OF_MEMORY,

@@ -5,7 +5,7 @@ use Rattle.load_orders.specs.declared.queue.Order.{Order}
 use Rattle.load_orders.specs.declared.queue.Known.{Known}
 
 -- it holds at most four orders
-abbrev pub AtMostFour : List Order → Type 0
+abbrev pub AtMostFour : {N : Type 0} → List (Order N) → Type 0
 AtMostFour items = length items ≤ 4
 
 -- an end that has put and taken nothing
@@ -13,7 +13,7 @@ abbrev pub nothing : Known
 nothing = record { orders = [] }
 
 -- an end puts an order, or takes one
-abbrev pub IsOneMore : Known → Order → Known → Type 0
+abbrev pub IsOneMore : {N : Type 0} → Known → Order N → Known → Type 0
 IsOneMore before order after = after ≡ record { orders = before.orders ++ order.feed ∷ [] }
 
 -- which queue, of all that there are

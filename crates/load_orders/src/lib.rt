@@ -6,7 +6,7 @@ mod queue;
 mod taking;
 
 pub use orders::{OrderFault, Orders};
-pub use queue::{MOST_WAITING, Order};
+pub use queue::{LoadAnswer, MOST_WAITING, Order};
 pub use taking::{LoaderOrders, OrderEnd, WorkerOrders, order_queue};
 
 #[cfg(test)]

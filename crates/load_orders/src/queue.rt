@@ -1,17 +1,29 @@
 //! The queue under its rule.
 
 use crossbeam_channel::protocol::{Lesson, Outcome, Protocol, Split};
-use crossbeam_channel::{RuledReceiver, RuledSender};
+use crossbeam_channel::{RuledReceiver, RuledSender, Sender};
 use std::alloc::Global;
 use std::collections::LinkedList;
 
 /// How many orders may wait.
 pub const MOST_WAITING: usize = 4;
 
-/// An order to load a feed: its place in the list of feeds.
-#[derive(Clone, Copy, Debug, PartialEq, Eq)]
-pub struct Order {
+/// What came of a load, as it is told to whoever waits for it.
+#[derive(Drop)]
+pub enum LoadAnswer<N> {
+    /// A version was published, of which this is a notice.
+    Published { notice: N },
+    /// A version was published, and there was no memory for a notice of it.
+    Unnoticed,
+    /// The load or its publish was refused, with this number.
+    Refused { refusal: u8 },
+}
+
+/// An order to load a feed: its place in the list of feeds, and where what comes of it is told, if somebody waits for that.
+#[derive(Drop)]
+pub struct Order<N: Drop> {
     pub feed: usize,
+    pub answer: Option<Sender<LoadAnswer<N>>>,
 }
 
 /// What an end of the queue knows: the feeds of the orders that it put or took, in order. No value of it is made.
@@ -22,7 +34,7 @@ pub struct Known {
 /// The rule: the queue holds at most four orders.
 pub struct Waiting;
 
-impl Protocol<Order, Known> for Waiting {
+impl<N: Drop> Protocol<Order<N>, Known> for Waiting {
     ghost use Rattle.load_orders.specs.Queue.{AtMostFour, nothing};
 
     ghost holds = { λ items views. AtMostFour items };
@@ -33,13 +45,13 @@ impl Protocol<Order, Known> for Waiting {
 /// An order joins the queue, or leaves it.
 pub struct Moves;
 
-impl Outcome<Order, Known> for Moves {
+impl<N: Drop> Outcome<Order<N>, Known> for Moves {
     ghost use Rattle.load_orders.specs.Queue.{IsOneMore};
 
     ghost then = { IsOneMore };
 }
 
-impl Lesson<Order, Known> for Moves {
+impl<N: Drop> Lesson<Order<N>, Known> for Moves {
     ghost use Rattle.load_orders.specs.Queue.{AtMostFour};
 
     ghost fact = { λ view items. AtMostFour items };
@@ -56,6 +68,6 @@ impl Split<Known> for Another {
     ghost right = { λ view. nothing };
 }
 
-pub type OrderSender = RuledSender<Order, Known, Waiting, Global>;
+pub type OrderSender<N> = RuledSender<Order<N>, Known, Waiting, Global>;
 
-pub type OrderReceiver = RuledReceiver<Order, Known, Waiting, Global>;
+pub type OrderReceiver<N> = RuledReceiver<Order<N>, Known, Waiting, Global>;

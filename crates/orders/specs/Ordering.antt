@@ -1,22 +1,41 @@
 -- Orders to load a feed.
-use Rattle.std.specs.Prelude.{ℕ, List, Option, Some, None, Result, Ok, Err, codes}
+use Rattle.std.specs.Prelude.{ℕ, List, Result, Ok, Err, codes}
 use Rattle.orders.specs.declared.fault.OrderFault.{OrderFault}
+use Rattle.orders.specs.declared.ordered.Outcome.{Outcome}
 
 abbrev pub order_fault_number : OrderFault → ℕ
 order_fault_number OrderFault.UnknownFeed = 114
 order_fault_number OrderFault.OrdersFull = 115
+order_fault_number OrderFault.OutOfMemory = 116
+order_fault_number (OrderFault.LoadRefused refusal) = 120
 order_fault_number OrderFault.LoaderGone = 121
 
 abbrev pub order_fault_name : OrderFault → List ℕ
 order_fault_name OrderFault.UnknownFeed = codes "UnknownFeed"
 order_fault_name OrderFault.OrdersFull = codes "OrdersFull"
+order_fault_name OrderFault.OutOfMemory = codes "OutOfMemory"
+order_fault_name (OrderFault.LoadRefused refusal) = codes "LoadRefused"
 order_fault_name OrderFault.LoaderGone = codes "LoaderGone"
 
--- an order that was asked for: the feed's name, and why it wasn't taken, if it wasn't
+-- why an order isn't taken that nobody waits for: what came of it isn't told
+abbrev pub IsNotTaken : OrderFault → Type 0
+IsNotTaken OrderFault.OutOfMemory = ⊥
+IsNotTaken (OrderFault.LoadRefused refusal) = ⊥
+IsNotTaken _ = Unit {0}
+
+-- an order that was asked for: the feed's name, and what it was answered
 pub record OrderValue : Type 0 where
   pub feed : List ℕ
-  pub refused : Option OrderFault
+  pub outcome : Outcome
 
 abbrev pub order_value : List ℕ → Result (Unit {0}) OrderFault → OrderValue
-order_value feed (Ok u) = record { feed = feed; refused = None }
-order_value feed (Err fault) = record { feed = feed; refused = Some fault }
+order_value feed taken = record { feed = feed; outcome = Outcome.Put taken }
+
+-- the version that was told with a notice, or why there is none
+abbrev pub version_told : {N : Type 0} → Result (ℕ × N) OrderFault → Result ℕ OrderFault
+version_told (Ok told) = Ok told.0
+version_told (Err fault) = Err fault
+
+-- one that was waited for
+abbrev pub waited_value : List ℕ → Result ℕ OrderFault → OrderValue
+waited_value feed version = record { feed = feed; outcome = Outcome.Waited version }

@@ -5,7 +5,7 @@ ghost use Rattle.orders.specs.Ordering.{order_fault_name, order_fault_number};
 
 use thiserror::Error;
 
-/// Why an order to load a feed wasn't taken.
+/// Why an order to load a feed wasn't taken, or no version came of one that was waited for.
 #[derive(Clone, Copy, Debug, PartialEq, Eq, Error)]
 pub enum OrderFault {
     #[error("there is no feed of this name")]
@@ -13,18 +13,26 @@ pub enum OrderFault {
     /// As many orders as may wait are waiting.
     #[error("too many orders are waiting")]
     OrdersFull,
+    /// The feed's load or its publish was refused, with this number.
+    #[error("the load was refused with {refusal}")]
+    LoadRefused { refusal: u8 },
+    /// There was no memory to wait, or none to tell of the version that came.
+    #[error("out of memory")]
+    OutOfMemory,
     #[error("the loader takes no orders any more")]
     LoaderGone,
 }
 
 impl OrderFault {
-    /// The number by which the fault is told: 114, 115 or 121.
+    /// The number by which the fault is told: 114 to 116, 120 or 121.
     pub fn number(self) -> u8
         ensures { result ≡ order_fault_number self }
     {
         match self {
             OrderFault::UnknownFeed => 114,
             OrderFault::OrdersFull => 115,
+            OrderFault::OutOfMemory => 116,
+            OrderFault::LoadRefused { refusal: _ } => 120,
             OrderFault::LoaderGone => 121,
         }
     }
@@ -36,6 +44,8 @@ impl OrderFault {
         match self {
             OrderFault::UnknownFeed => "UnknownFeed",
             OrderFault::OrdersFull => "OrdersFull",
+            OrderFault::OutOfMemory => "OutOfMemory",
+            OrderFault::LoadRefused { refusal: _ } => "LoadRefused",
             OrderFault::LoaderGone => "LoaderGone",
         }
     }

@@ -7,7 +7,7 @@ mod scans;
 mod taking;
 
 pub use fault::OrderFault;
-pub use ordered::Ordered;
+pub use ordered::{Ordered, Outcome};
 pub use scans::{Gate, OpenGate};
 pub use taking::Orders;
 

@@ -5,11 +5,20 @@ use std::collections::LinkedList;
 use std::marker::Model;
 use timetable::Kept;
 
-/// An order that was asked for: the feed's name, which contracts alone see, and why it wasn't taken, if it wasn't.
+/// What an order was answered.
+#[derive(Clone, Copy, Debug, PartialEq, Eq)]
+pub enum Outcome {
+    /// Whether it was taken. Nobody waits for it.
+    Put { taken: Result<(), OrderFault> },
+    /// The version that came of it, or why none came.
+    Waited { version: Result<u64, OrderFault> },
+}
+
+/// An order that was asked for: the feed's name, which contracts alone see, and what it was answered.
 #[derive(Drop)]
 pub struct Ordered {
     feed: Kept<LinkedList<u8>>,
-    refused: Option<OrderFault>,
+    outcome: Outcome,
 }
 
 impl Model for Ordered {
@@ -17,20 +26,34 @@ impl Model for Ordered {
 
     ghost Value = { OrderValue };
 
-    ghost view = { λ o. record { feed = o.feed.value; refused = o.refused } };
+    ghost view = { λ o. record { feed = o.feed.value; outcome = o.outcome } };
 }
 
 impl Ordered {
     ghost use Rattle.std.specs.Prelude.{◌≡◌};
-    ghost use Rattle.orders.specs.Ordering.{order_value};
+    ghost use Rattle.orders.specs.Ordering.{order_value, version_told, waited_value};
 
-    /// An order with its outcome. It takes no memory.
-    pub fn of(feed: &str, outcome: Result<(), OrderFault>) -> Ordered
-        ensures { result ≡ order_value feed.now outcome }
+    /// An order that nobody waits for. It takes no memory.
+    pub fn put(feed: &str, taken: Result<(), OrderFault>) -> Ordered
+        ensures { result ≡ order_value feed.now taken }
     {
         Ordered {
             feed: Kept::at(&feed, &()),
-            refused: outcome.err(),
+            outcome: Outcome::Put { taken },
+        }
+    }
+
+    /// An order that was waited for, with the version and the notice of it that came. It takes no memory.
+    pub fn waited<N>(feed: &str, told: &Result<(u64, N), OrderFault>) -> Ordered
+        ensures { result ≡ waited_value feed.now (version_told told.now) }
+    {
+        let version = match told {
+            Ok((version, _)) => Ok(*version),
+            Err(fault) => Err(*fault),
+        };
+        Ordered {
+            feed: Kept::at(&feed, &()),
+            outcome: Outcome::Waited { version },
         }
     }
 }

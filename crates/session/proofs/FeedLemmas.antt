@@ -1,10 +1,18 @@
--- The first feed of a name.
-use Rattle.std.proofs.Common.{◌≡◌, ◌<◌, ℕ, List, [], ◌∷◌, Some, length, refl, sym, bytes_eq, get_or, string_bytes}
+-- The first feed of a name, and what is told of its load.
+use Rattle.std.proofs.Common.{◌≡◌, ◌<◌, ℕ, List, [], ◌∷◌, Option, Some, None, Result}
+use Rattle.std.proofs.Common.{Ok, Err, IfErr, IfOk, IfSome, length, refl, sym, bytes_eq, get_or, string_bytes}
 use Rattle.std.specs.List.{remove}
 use Rattle.std.proofs.lemmas.List.Quantifiers.{position-Some}
 use Rattle.std.proofs.lemmas.Option.{slice_get_read}
 use Rattle.session.specs.declared.solo_orders.FeedImage.{FeedImage}
-use Rattle.session.specs.Feeds.{Leaves, place_of}
+use Rattle.session.specs.declared.solo_orders.NotLoaded.{NotLoaded}
+use Rattle.session.specs.Feeds.{IsLoadedAs, IsRefusedSo, Leaves, LoadStep, OrderStep, WaitStep, notice_told, order_told, place_of, wait_told}
+use Rattle.epochs.specs.declared.seats.LoaderAnswer.{LoaderAnswer}
+use Rattle.orders.specs.Ordering.{IsNotTaken}
+use Rattle.std.specs.Arc.{arc_value}
+use Rattle.epochs.specs.Seats.{CollectStep, PublishStep, RefuseStep}
+use Rattle.epochs.specs.declared.collected.Collected.{Collected}
+use Rattle.epochs.specs.declared.faults.PublishFault.{PublishFault}
 
 -- a place that is found is one of the list
 pub is_within : (name : List ℕ) (feeds : List FeedImage) (place : ℕ) → Some place ≡ place_of name feeds → place < length feeds
@@ -15,3 +23,49 @@ pub leaves : (name : List ℕ) (feeds : List FeedImage) (place : ℕ) (found : F
     → others ≡ remove feeds place → Leaves name feeds found others
 leaves name feeds place found others at read gone =
     record { place = place; first = sym at; is_there = slice_get_read feeds (length feeds) place found refl (is_within name feeds place at) read; others_are = gone }
+
+-- what is told of a load agrees with what it did
+pub order_agrees : {N : Type 0} (name : List ℕ) (feeds others : List FeedImage) (answers answers_then : List LoaderAnswer) (r : Result (ℕ × Option N) NotLoaded)
+    → LoadStep name feeds answers r others answers_then → OrderStep name feeds answers (order_told r) others answers_then
+order_agrees name feeds others answers answers_then (Ok loaded) step = (loaded.0, step)
+order_agrees name feeds others answers answers_then (Err NotLoaded.UnknownFeed) step = step
+order_agrees name feeds others answers answers_then (Err (NotLoaded.Refused fault)) step = (fault, step)
+
+pub order_is_plain : {N : Type 0} (r : Result (ℕ × Option N) NotLoaded) → IfErr (order_told r) IsNotTaken
+order_is_plain (Ok loaded) = tt
+order_is_plain (Err NotLoaded.UnknownFeed) = tt
+order_is_plain (Err (NotLoaded.Refused fault)) = tt
+
+notice_agrees : {N : Type 0} (name : List ℕ) (feeds others : List FeedImage) (answers answers_then : List LoaderAnswer) (version : ℕ) (notice : Option N)
+    → IsLoadedAs name feeds answers version others answers_then → WaitStep name feeds answers (notice_told version notice) others answers_then
+notice_agrees name feeds others answers answers_then version (Some notice) step = step
+notice_agrees name feeds others answers answers_then version None step = (version, step)
+
+pub wait_agrees : {N : Type 0} (name : List ℕ) (feeds others : List FeedImage) (answers answers_then : List LoaderAnswer) (r : Result (ℕ × Option N) NotLoaded)
+    → LoadStep name feeds answers r others answers_then → WaitStep name feeds answers (wait_told r) others answers_then
+wait_agrees name feeds others answers answers_then (Ok loaded) step = notice_agrees name feeds others answers answers_then loaded.0 loaded.1 step
+wait_agrees name feeds others answers answers_then (Err NotLoaded.UnknownFeed) step = step
+wait_agrees name feeds others answers answers_then (Err (NotLoaded.Refused fault)) step = (fault, refl, step)
+
+notice_is_of : {N : Type 0} (noted : N → ℕ) (version : ℕ) (notice : Option N) → IfSome notice (λ n. noted n ≡ version)
+    → IfOk (notice_told version notice) (λ told. noted told.1 ≡ told.0)
+notice_is_of noted version (Some notice) same = same
+notice_is_of noted version None same = tt
+
+-- and a notice is of the version that is told
+pub wait_is_of : {N : Type 0} (noted : N → ℕ) (r : Result (ℕ × Option N) NotLoaded) → IfOk r (λ loaded. IfSome loaded.1 (λ n. noted n ≡ loaded.0))
+    → IfOk (wait_told r) (λ told. noted told.1 ≡ told.0)
+wait_is_of noted (Ok loaded) same = notice_is_of noted loaded.0 loaded.1 same
+wait_is_of noted (Err NotLoaded.UnknownFeed) same = tt
+wait_is_of noted (Err (NotLoaded.Refused fault)) same = tt
+
+pub loaded_as : (name : List ℕ) (feeds others : List FeedImage) (answers between answers_then : List LoaderAnswer)
+    (version : ℕ) (found : FeedImage) (collected : Collected)
+    → Leaves name feeds found others → PublishStep answers (arc_value found.image) version between → CollectStep between collected answers_then
+    → IsLoadedAs name feeds answers version others answers_then
+loaded_as name feeds others answers between answers_then version found collected gone publish collect =
+    record { found = found; between = between; collected = collected; leaves = gone; publish = publish; collect = collect }
+
+pub refused_so : (name : List ℕ) (feeds others : List FeedImage) (answers answers_then : List LoaderAnswer) (fault : PublishFault) (found : FeedImage)
+    → Leaves name feeds found others → RefuseStep answers fault answers_then → IsRefusedSo name feeds answers fault others answers_then
+refused_so name feeds others answers answers_then fault found gone refused = record { found = found; leaves = gone; refused = refused }

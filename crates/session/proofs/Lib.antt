@@ -5,4 +5,5 @@ pub mod TurnLemmas
 mod LineLemmas
 mod PlainLemmas
 mod AnswerLemmas
+mod LoadLemmas
 mod FeedLemmas

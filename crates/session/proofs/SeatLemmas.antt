@@ -1,12 +1,13 @@
--- A seat's answers.
-use Rattle.std.proofs.Common.{◌≡◌, ◌≢◌, ◌≤◌, ℕ, List, [], ◌∷◌, ◌++◌, Option, Some, None, Result, Ok, Err, refl, sym, ap, ◌∙◌, subst, append_assoc, append-nil, arith}
+-- What is done at a seat.
+use Rattle.std.proofs.Common.{◌≡◌, ◌≢◌, ◌≤◌, ℕ, max, List, [], ◌∷◌, ◌++◌, Option, Some}
+use Rattle.std.proofs.Common.{None, Result, Ok, Err, refl, sym, ap, ◌∙◌, subst, append_assoc, append-nil, arith}
 use Rattle.std.specs.declared.snapshot.Snapshot.{Snapshot}
 use Rattle.image_layout.specs.Image.{ImageValue}
 use Rattle.epochs.specs.declared.seats.Answer.{Answer}
 use Rattle.epochs.specs.declared.faults.PinFault.{PinFault}
 use Rattle.epochs.specs.Pins.{HoldsInHistory}
-use Rattle.epochs.specs.Seats.{SeatValue, PinStep, ReleaseStep, pinned}
-use Rattle.session.specs.SeatSteps.{AnswerStep, Follows, IsGivenBack, NeverFalls, PinsOnce}
+use Rattle.epochs.specs.Seats.{SeatValue, PinStep, ReleaseStep, JoinStep, pinned}
+use Rattle.session.specs.SeatSteps.{AnswerStep, Follows, IsGivenBack, NeverFalls, PinsOnce, SeatMove, answered, joined, answers_in}
 
 abbrev version_in : Option (ℕ × ImageValue) → ℕ
 version_in None = 0
@@ -62,9 +63,12 @@ some_is_held v i h some none = nothing_is_held v i h none some
 
 -- a pin and what gives it back
 pub pins_once : (number : ℕ) (a m b : SeatValue) (v : ℕ) (image : ImageValue) → (pin : IsPinned number a m v image) → (release : IsReleased number m b)
-    → PinsOnce (Answer.Pinned v pin.shown ∷ release.last ∷ []) v image × Follows number a (Answer.Pinned v pin.shown ∷ release.last ∷ []) b
+    → PinsOnce (answered (Answer.Pinned v pin.shown) ∷ answered release.last ∷ []) v image
+    × Follows number a (answered (Answer.Pinned v pin.shown) ∷ answered release.last ∷ []) b
 pins_once number a m b v image pin release =
-    let once : PinsOnce (Answer.Pinned v pin.shown ∷ release.last ∷ []) v image = record { shown = pin.shown; last = release.last; image_is = pin.image_is; given_back = release.given_back; answers_are = refl } in
+    let moves : List SeatMove = answered (Answer.Pinned v pin.shown) ∷ answered release.last ∷ [] in
+    let once : PinsOnce moves v image =
+    record { shown = pin.shown; last = release.last; image_is = pin.image_is; given_back = release.given_back; moves_are = refl } in
     (once, (m, pin.step, (b, release.step, refl)))
 
 -- each answer is the last of the list after its step, and what was seen never falls
@@ -82,10 +86,16 @@ step_grows number a b (Answer.ReleaseRefused PinFault.AlreadyPinned) step = absu
 step_grows number a b (Answer.ReleaseRefused PinFault.OutOfMemory) step = absurd step
 step_grows number a b (Answer.ReleaseRefused (PinFault.Moved n)) step = absurd step
 
-pub answers_grow : (number : ℕ) (a b : SeatValue) (answers : List Answer) → Follows number a answers b → b.answers ≡ a.answers ++ answers
+joined_grows : (a m b : SeatValue) (version : ℕ) (answers : List Answer) → JoinStep a version m → b.answers ≡ m.answers ++ answers
+    → b.answers ≡ a.answers ++ answers
+joined_grows a m b version answers step grown = grown ∙ ap (λ (s : SeatValue). s.answers ++ answers) step
+
+pub answers_grow : (number : ℕ) (a b : SeatValue) (moves : List SeatMove) → Follows number a moves b → b.answers ≡ a.answers ++ answers_in moves
 answers_grow number a b [] same = ap (λ (s : SeatValue). s.answers) same ∙ sym (append-nil a.answers)
-answers_grow number a b (answer ∷ answers) (m, step, rest) =
-    answers_grow number m b answers rest ∙ ap (λ (xs : List Answer). xs ++ answers) (step_grows number a m answer step) ∙ append_assoc a.answers (answer ∷ []) answers
+answers_grow number a b (answered answer ∷ moves) (m, step, rest) =
+    answers_grow number m b moves rest ∙ ap (λ (xs : List Answer). xs ++ answers_in moves) (step_grows number a m answer step)
+    ∙ append_assoc a.answers (answer ∷ []) (answers_in moves)
+answers_grow number a b (joined version ∷ moves) (m, step, rest) = joined_grows a m b version (answers_in moves) step (answers_grow number m b moves rest)
 
 -- a step that pins nothing sees no less
 rises : (least : ℕ) (a b : SeatValue) (n : ℕ) → least ≤ a.seen → a.seen ≤ n → b.seen ≡ n → least ≤ b.seen
@@ -97,24 +107,33 @@ stays least a b low is = omega (arith, low, is)
 abbrev seen_in : SeatValue → ℕ
 seen_in s = s.seen
 
-pub never_falls : (number least : ℕ) (a b : SeatValue) (answers : List Answer) → least ≤ a.seen → Follows number a answers b → NeverFalls least answers
+pub never_falls : (number least : ℕ) (a b : SeatValue) (moves : List SeatMove) → least ≤ a.seen → Follows number a moves b → NeverFalls least moves
 never_falls number least a b [] low same = tt
-never_falls number least a b (Answer.Pinned version image ∷ answers) low (m, step, rest) =
+never_falls number least a b (answered (Answer.Pinned version image) ∷ moves) low (m, step, rest) =
     let seen : m.seen ≡ version = ap seen_in step.2 in
-    (omega (arith, low, step.1), never_falls number version m b answers (omega (arith, seen)) rest)
-never_falls number least a b (Answer.PinRefused (PinFault.Moved newest) ∷ answers) low (m, step, rest) =
-    never_falls number least m b answers (rises least a m newest low (omega (arith, step.1)) (ap seen_in step.2)) rest
-never_falls number least a b (Answer.PinRefused PinFault.AlreadyPinned ∷ answers) low (m, step, rest) = never_falls number least m b answers (stays least a m low (ap seen_in step.1)) rest
-never_falls number least a b (Answer.PinRefused PinFault.SeatLost ∷ answers) low (m, step, rest) = never_falls number least m b answers (stays least a m low (ap seen_in step.1)) rest
-never_falls number least a b (Answer.PinRefused PinFault.OutOfMemory ∷ answers) low (m, step, rest) = never_falls number least m b answers (stays least a m low (ap seen_in step.1)) rest
-never_falls number least a b (Answer.PinRefused PinFault.NotPinned ∷ answers) low (m, step, rest) = absurd step
-never_falls number least a b (Answer.Released ∷ answers) low (m, step, rest) = never_falls number least m b answers (stays least a m low (ap seen_in step.1)) rest
-never_falls number least a b (Answer.ReleaseRefused PinFault.NotPinned ∷ answers) low (m, step, rest) = never_falls number least m b answers (stays least a m low (ap seen_in step.1)) rest
-never_falls number least a b (Answer.ReleaseRefused PinFault.SeatLost ∷ answers) low (m, step, rest) = never_falls number least m b answers (stays least a m low (ap seen_in step.1)) rest
-never_falls number least a b (Answer.ReleaseRefused PinFault.AlreadyPinned ∷ answers) low (m, step, rest) = absurd step
-never_falls number least a b (Answer.ReleaseRefused PinFault.OutOfMemory ∷ answers) low (m, step, rest) = absurd step
-never_falls number least a b (Answer.ReleaseRefused (PinFault.Moved n) ∷ answers) low (m, step, rest) = absurd step
+    (omega (arith, low, step.1), never_falls number version m b moves (omega (arith, seen)) rest)
+never_falls number least a b (answered (Answer.PinRefused (PinFault.Moved newest)) ∷ moves) low (m, step, rest) =
+    never_falls number least m b moves (rises least a m newest low (omega (arith, step.1)) (ap seen_in step.2)) rest
+never_falls number least a b (answered (Answer.PinRefused PinFault.AlreadyPinned) ∷ moves) low (m, step, rest) =
+    never_falls number least m b moves (stays least a m low (ap seen_in step.1)) rest
+never_falls number least a b (answered (Answer.PinRefused PinFault.SeatLost) ∷ moves) low (m, step, rest) =
+    never_falls number least m b moves (stays least a m low (ap seen_in step.1)) rest
+never_falls number least a b (answered (Answer.PinRefused PinFault.OutOfMemory) ∷ moves) low (m, step, rest) =
+    never_falls number least m b moves (stays least a m low (ap seen_in step.1)) rest
+never_falls number least a b (answered (Answer.PinRefused PinFault.NotPinned) ∷ moves) low (m, step, rest) = absurd step
+never_falls number least a b (answered Answer.Released ∷ moves) low (m, step, rest) =
+    never_falls number least m b moves (stays least a m low (ap seen_in step.1)) rest
+never_falls number least a b (answered (Answer.ReleaseRefused PinFault.NotPinned) ∷ moves) low (m, step, rest) =
+    never_falls number least m b moves (stays least a m low (ap seen_in step.1)) rest
+never_falls number least a b (answered (Answer.ReleaseRefused PinFault.SeatLost) ∷ moves) low (m, step, rest) =
+    never_falls number least m b moves (stays least a m low (ap seen_in step.1)) rest
+never_falls number least a b (answered (Answer.ReleaseRefused PinFault.AlreadyPinned) ∷ moves) low (m, step, rest) = absurd step
+never_falls number least a b (answered (Answer.ReleaseRefused PinFault.OutOfMemory) ∷ moves) low (m, step, rest) = absurd step
+never_falls number least a b (answered (Answer.ReleaseRefused (PinFault.Moved n)) ∷ moves) low (m, step, rest) = absurd step
+never_falls number least a b (joined version ∷ moves) low (m, step, rest) =
+    let seen : m.seen ≡ max a.seen version = ap seen_in step in
+    never_falls number (max least version) m b moves (omega (arith, low, seen)) rest
 
-pub Follows-append : (number : ℕ) (a m b : SeatValue) (xs ys : List Answer) → Follows number a xs m → Follows number m ys b → Follows number a (xs ++ ys) b
+pub Follows-append : (number : ℕ) (a m b : SeatValue) (xs ys : List SeatMove) → Follows number a xs m → Follows number m ys b → Follows number a (xs ++ ys) b
 Follows-append number a m b [] ys same rest = subst (λ (s : SeatValue). Follows number s ys b) same rest
 Follows-append number a m b (x ∷ xs) ys (n, step, more) rest = (n, step, Follows-append number n m b xs ys more rest)

@@ -1,7 +1,6 @@
 -- Turns: one line, and lines one after the other.
-use Rattle.std.proofs.Common.{◌≡◌, ◌⊎◌, ◌≤◌, ℕ, List, [], ◌∷◌, ◌++◌, length, refl, sym, ap, ◌∙◌, subst, append_assoc, append-nil, inl, inr}
+use Rattle.std.proofs.Common.{◌≡◌, ◌⊎◌, ◌≤◌, ℕ, Bool, true, false, List, [], ◌∷◌, ◌++◌, length, refl, sym, ap, ◌∙◌, subst, append_assoc, append-nil, inl, inr}
 use Rattle.serde_json.specs.Data.{Data}
-use Rattle.epochs.specs.declared.seats.Answer.{Answer}
 use Rattle.epochs.specs.Seats.{SeatValue}
 use Rattle.lines.specs.Showing.{ShowsLine}
 use Rattle.lines.specs.declared.text.Line.{Line}
@@ -12,15 +11,16 @@ use Rattle.session_texts.specs.Requests.{Asks, RequestValue, load, request_value
 use Rattle.session_texts.specs.declared.requests.Request.{Request}
 use Rattle.session_texts.specs.declared.refusals.Refusal.{Refusal}
 use Rattle.session.specs.Lines.{Asked, too_long, no_json, no_request, asks, IsAsked, memory_line, refusal_line}
-use Rattle.session.specs.SeatSteps.{Follows}
-use Rattle.session.specs.Sessions.{AreTurns, answers_of, lines_in, orders_of, text_of}
-use Rattle.session.specs.Turns.{HasTurn, IsMet, IsTurn, OrderIsMet, Turn, TurnsTo}
+use Rattle.session.specs.SeatSteps.{Follows, SeatMove}
+use Rattle.session.specs.Sessions.{AreTurns, moves_of, lines_in, orders_of, text_of}
+use Rattle.session.specs.Turns.{HasTurn, IsLoaded, IsMet, IsTurn, OrderIsMet, Turn, TurnsTo}
 use Rattle.session.proofs.SeatLemmas.{Follows-append}
 
-abbrev turn_of : List ℕ → List Answer → List OrderValue → List ℕ → Turn
-turn_of line answers orders reply = record { line = line; answers = answers; orders = orders; reply = reply }
+abbrev turn_of : List ℕ → List SeatMove → List OrderValue → List ℕ → Turn
+turn_of line moves orders reply = record { line = line; moves = moves; orders = orders; reply = reply }
 
-has_turn : (number : ℕ) (a b : SeatValue) (asked asked_then : List OrderValue) (t : Turn) → IsTurn a.held t → Follows number a t.answers b → asked_then ≡ asked ++ t.orders → HasTurn number t.line t.reply a asked b asked_then
+has_turn : (number : ℕ) (a b : SeatValue) (asked asked_then : List OrderValue) (t : Turn) → IsTurn a.held t → Follows number a t.moves b
+    → asked_then ≡ asked ++ t.orders → HasTurn number t.line t.reply a asked b asked_then
 has_turn number a b asked asked_then t is seat orders =
     let turns : TurnsTo number a asked t b asked_then = record { is = is; seat = seat; orders = orders } in
     (t, refl, refl, turns)
@@ -53,8 +53,16 @@ bad_request_turn number a asked bytes line reply d here json none told =
 pub asks_known : (d : Data) (shown known : Request) → shown ≡ known → Asks d (request_value shown) → Asks d (request_value known)
 asks_known d shown known is asks_it = subst (λ (r : Request). Asks d (request_value r)) is asks_it
 
+-- and a load is waited for, or isn't
+pub waits_for : (d : Data) (feed : List ℕ) (waits : Bool) → waits ≡ true → Asks d (load feed waits) → Asks d (load feed true)
+waits_for d feed waits is asks_it = subst (λ (b : Bool). Asks d (load feed b)) is asks_it
+
+pub waits_not : (d : Data) (feed : List ℕ) (waits : Bool) → waits ≡ false → Asks d (load feed waits) → Asks d (load feed false)
+waits_not d feed waits is asks_it = subst (λ (b : Bool). Asks d (load feed b)) is asks_it
+
 -- a request of the seat is met
-meets_turn : (number : ℕ) (a b : SeatValue) (what : Asked) (line reply : List ℕ) → IsAsked line what → (met : IsMet number a what reply b) → IsTurn a.held (turn_of line met.answers [] reply)
+meets_turn : (number : ℕ) (a b : SeatValue) (what : Asked) (line reply : List ℕ) → IsAsked line what → (met : IsMet number a what reply b)
+    → IsTurn a.held (turn_of line met.moves [] reply)
 meets_turn number a b what line reply is met =
     elim met.meets [
       | inl memory ↦ inl memory
@@ -65,16 +73,25 @@ pub seat_turn : (number : ℕ) (a b : SeatValue) (asked : List OrderValue) (byte
     → IsMet number a (asks request) reply b → HasTurn number line reply a asked b asked
 seat_turn number a b asked bytes line reply d request here json asks_it met =
     let is : IsAsked line (asks request) = (here.1, (d, subst (λ (xs : List ℕ). IsJson xs d) here.0 json, asks_it)) in
-    has_turn number a b asked asked (turn_of line met.answers [] reply) (meets_turn number a b (asks request) line reply is met) met.seat (sym (append-nil asked))
+    has_turn number a b asked asked (turn_of line met.moves [] reply) (meets_turn number a b (asks request) line reply is met) met.seat (sym (append-nil asked))
 
 -- a feed is ordered
-pub order_turn : (number : ℕ) (a : SeatValue) (asked asked_then put : List OrderValue) (bytes line reply feed : List ℕ) (d : Data) → (bytes ≡ line) × (length line ≤ 65_536) → IsJson bytes d → Asks d (load feed)
+pub order_turn : (number : ℕ) (a : SeatValue) (asked asked_then put : List OrderValue) (bytes line reply feed : List ℕ) (d : Data) → (bytes ≡ line)
+    × (length line ≤ 65_536) → IsJson bytes d → Asks d (load feed false)
     → asked_then ≡ asked ++ put → OrderIsMet feed put reply ⊎ ((put ≡ []) × (reply ≡ memory_line)) → HasTurn number line reply a asked a asked_then
 order_turn number a asked asked_then put bytes line reply feed d here json asks_it grown (inl met) =
-    let is : IsAsked line (asks (load feed)) = (here.1, (d, subst (λ (xs : List ℕ). IsJson xs d) here.0 json, asks_it)) in
-    has_turn number a a asked asked_then (turn_of line [] put reply) (inr (asks (load feed), is, (refl, met))) refl grown
+    let is : IsAsked line (asks (load feed false)) = (here.1, (d, subst (λ (xs : List ℕ). IsJson xs d) here.0 json, asks_it)) in
+    has_turn number a a asked asked_then (turn_of line [] put reply) (inr (asks (load feed false), is, (refl, met))) refl grown
 order_turn number a asked asked_then put bytes line reply feed d here json asks_it grown (inr memory) =
     has_turn number a a asked asked_then (turn_of line [] put reply) (inl (memory.1, memory.0, inl refl)) refl grown
+
+-- and is waited for
+pub load_turn : (number : ℕ) (a b : SeatValue) (asked asked_then put : List OrderValue) (bytes line reply feed : List ℕ) (d : Data) → (bytes ≡ line)
+    × (length line ≤ 65_536) → IsJson bytes d → Asks d (load feed true)
+    → asked_then ≡ asked ++ put → IsLoaded number a feed put reply b → HasTurn number line reply a asked b asked_then
+load_turn number a b asked asked_then put bytes line reply feed d here json asks_it grown loaded =
+    let is : IsAsked line (asks (load feed true)) = (here.1, (d, subst (λ (xs : List ℕ). IsJson xs d) here.0 json, asks_it)) in
+    has_turn number a b asked asked_then (turn_of line loaded.moves put reply) (inr (asks (load feed true), is, loaded.meets)) loaded.seat grown
 
 -- turns, and one more
 pub lines_in-more : (turns : List Turn) (t : Turn) → lines_in (turns ++ t ∷ []) ≡ lines_in turns ++ t.line ∷ []
@@ -92,9 +109,11 @@ AreTurns-more number a m b asked between asked_then [] t same turn =
 AreTurns-more number a m b asked between asked_then (u ∷ turns) t (n, middle, first, rest) turn = (n, middle, first, AreTurns-more number n m b middle between asked_then turns t rest turn)
 
 -- the lists grow by the turns' own
-pub answers_follow : (number : ℕ) (a b : SeatValue) (asked asked_then : List OrderValue) (turns : List Turn) → AreTurns number a asked turns b asked_then → Follows number a (answers_of turns) b
-answers_follow number a b asked asked_then [] same = same.0
-answers_follow number a b asked asked_then (t ∷ turns) (m, between, turn, rest) = Follows-append number a m b t.answers (answers_of turns) turn.seat (answers_follow number m b between asked_then turns rest)
+pub moves_follow : (number : ℕ) (a b : SeatValue) (asked asked_then : List OrderValue) (turns : List Turn) → AreTurns number a asked turns b asked_then
+    → Follows number a (moves_of turns) b
+moves_follow number a b asked asked_then [] same = same.0
+moves_follow number a b asked asked_then (t ∷ turns) (m, between, turn, rest) =
+    Follows-append number a m b t.moves (moves_of turns) turn.seat (moves_follow number m b between asked_then turns rest)
 
 pub orders_grow : (number : ℕ) (a b : SeatValue) (asked asked_then : List OrderValue) (turns : List Turn) → AreTurns number a asked turns b asked_then → asked_then ≡ asked ++ orders_of turns
 orders_grow number a b asked asked_then [] same = same.1 ∙ sym (append-nil asked)

@@ -5,18 +5,17 @@ use Rattle.std.specs.List.{position, remove}
 use Rattle.epochs.specs.declared.collected.Collected.{Collected}
 use Rattle.epochs.specs.declared.faults.PublishFault.{PublishFault}
 use Rattle.epochs.specs.declared.seats.LoaderAnswer.{LoaderAnswer}
+use Rattle.epochs.specs.FaultNumber.{publish_fault_number}
 use Rattle.epochs.specs.Seats.{CollectStep, PublishStep, RefuseStep}
+use Rattle.orders.specs.Ordering.{OrderValue}
 use Rattle.orders.specs.declared.fault.OrderFault.{OrderFault}
 use Rattle.session.specs.declared.solo_orders.FeedImage.{FeedImage}
-use Rattle.session.specs.declared.solo_orders.SoloOrders.{SoloOrders}
+use Rattle.session.specs.declared.solo_orders.NotLoaded.{NotLoaded}
 
--- the feeds that weren't ordered yet
-abbrev pub feeds_of : SoloOrders → List FeedImage
-feeds_of orders = orders.feeds.items
-
--- what the loader's seat was answered so far
-abbrev pub answers_of : SoloOrders → List LoaderAnswer
-answers_of orders = orders.loader
+pub record SoloOrdersValue : Type 0 where
+  pub feeds : List FeedImage  -- that weren't ordered yet
+  pub answers : List LoaderAnswer  -- of the loader's seat so far
+  pub asked : List OrderValue  -- all orders that were asked for, refused ones too
 
 -- where the first feed of the name stands
 abbrev pub place_of : List ℕ → List FeedImage → Option ℕ
@@ -29,17 +28,64 @@ pub record Leaves (name : List ℕ) (feeds : List FeedImage) (found : FeedImage)
   pub is_there : slice_get feeds place ≡ Some found
   pub others_are : others ≡ remove feeds place
 
--- its image is published, and then the shelves are collected
-abbrev pub PublishesThenCollects : List LoaderAnswer → FeedImage → List LoaderAnswer → Type 0
-PublishesThenCollects answers found answers_then =
-    (version : ℕ) × (between : List LoaderAnswer) × (collected : Collected) × PublishStep answers (arc_value found.image) version between × CollectStep between collected answers_then
+-- its image is published as this version, and then the shelves are collected
+pub record IsLoadedAs (name : List ℕ) (feeds : List FeedImage) (answers : List LoaderAnswer) (version : ℕ) (others : List FeedImage)
+    (answers_then : List LoaderAnswer) : Type 0 where
+  pub found : FeedImage
+  pub between : List LoaderAnswer
+  pub collected : Collected
+  pub leaves : Leaves name feeds found others
+  pub publish : PublishStep answers (arc_value found.image) version between
+  pub collect : CollectStep between collected answers_then
+
+-- or the publish is refused
+pub record IsRefusedSo (name : List ℕ) (feeds : List FeedImage) (answers : List LoaderAnswer) (fault : PublishFault) (others : List FeedImage)
+    (answers_then : List LoaderAnswer) : Type 0 where
+  pub found : FeedImage
+  pub leaves : Leaves name feeds found others
+  pub refused : RefuseStep answers fault answers_then
+
+-- or no feed has the name, and nothing changes
+pub record IsUnknown (name : List ℕ) (feeds : List FeedImage) (answers : List LoaderAnswer) (others : List FeedImage)
+    (answers_then : List LoaderAnswer) : Type 0 where
+  pub none : place_of name feeds ≡ None
+  pub feeds_are : others ≡ feeds
+  pub answers_are : answers_then ≡ answers
+
+-- what a load does, by what came of it
+abbrev pub LoadStep : {N : Type 0} → List ℕ → List FeedImage → List LoaderAnswer → Result (ℕ × Option N) NotLoaded → List FeedImage → List LoaderAnswer → Type 0
+LoadStep name feeds answers (Ok loaded) others answers_then = IsLoadedAs name feeds answers loaded.0 others answers_then
+LoadStep name feeds answers (Err NotLoaded.UnknownFeed) others answers_then = IsUnknown name feeds answers others answers_then
+LoadStep name feeds answers (Err (NotLoaded.Refused fault)) others answers_then = IsRefusedSo name feeds answers fault others answers_then
+
+-- what is told of it to whoever doesn't wait: a refused publish as too many orders
+abbrev pub order_told : {N : Type 0} → Result (ℕ × Option N) NotLoaded → Result (Unit {0}) OrderFault
+order_told (Ok loaded) = Ok tt
+order_told (Err NotLoaded.UnknownFeed) = Err OrderFault.UnknownFeed
+order_told (Err (NotLoaded.Refused fault)) = Err OrderFault.OrdersFull
+
+-- and to whoever waits
+abbrev pub notice_told : {N : Type 0} → ℕ → Option N → Result (ℕ × N) OrderFault
+notice_told version (Some notice) = Ok (version, notice)
+notice_told version None = Err OrderFault.OutOfMemory
+
+abbrev pub wait_told : {N : Type 0} → Result (ℕ × Option N) NotLoaded → Result (ℕ × N) OrderFault
+wait_told (Ok loaded) = notice_told loaded.0 loaded.1
+wait_told (Err NotLoaded.UnknownFeed) = Err OrderFault.UnknownFeed
+wait_told (Err (NotLoaded.Refused fault)) = Err (OrderFault.LoadRefused (publish_fault_number fault))
 
 -- what an order does, by its outcome
 abbrev pub OrderStep : List ℕ → List FeedImage → List LoaderAnswer → Result (Unit {0}) OrderFault → List FeedImage → List LoaderAnswer → Type 0
-OrderStep name feeds answers (Ok u) others answers_then = (found : FeedImage) × Leaves name feeds found others × PublishesThenCollects answers found answers_then
--- no feed has the name, and nothing changes
-OrderStep name feeds answers (Err OrderFault.UnknownFeed) others answers_then = (place_of name feeds ≡ None) × (others ≡ feeds) × (answers_then ≡ answers)
--- the publish is refused
-OrderStep name feeds answers (Err OrderFault.OrdersFull) others answers_then =
-    (found : FeedImage) × Leaves name feeds found others × ((fault : PublishFault) × RefuseStep answers fault answers_then)
-OrderStep name feeds answers (Err OrderFault.LoaderGone) others answers_then = ⊥
+OrderStep name feeds answers (Ok u) others answers_then = (version : ℕ) × IsLoadedAs name feeds answers version others answers_then
+OrderStep name feeds answers (Err OrderFault.UnknownFeed) others answers_then = IsUnknown name feeds answers others answers_then
+OrderStep name feeds answers (Err OrderFault.OrdersFull) others answers_then = (fault : PublishFault) × IsRefusedSo name feeds answers fault others answers_then
+OrderStep name feeds answers (Err _) others answers_then = ⊥
+
+-- and one that is waited for: want of memory tells that the version stands and no notice came of it
+abbrev pub WaitStep : {N : Type 0} → List ℕ → List FeedImage → List LoaderAnswer → Result (ℕ × N) OrderFault → List FeedImage → List LoaderAnswer → Type 0
+WaitStep name feeds answers (Ok told) others answers_then = IsLoadedAs name feeds answers told.0 others answers_then
+WaitStep name feeds answers (Err OrderFault.UnknownFeed) others answers_then = IsUnknown name feeds answers others answers_then
+WaitStep name feeds answers (Err (OrderFault.LoadRefused refusal)) others answers_then =
+    (fault : PublishFault) × (refusal ≡ publish_fault_number fault) × IsRefusedSo name feeds answers fault others answers_then
+WaitStep name feeds answers (Err OrderFault.OutOfMemory) others answers_then = (version : ℕ) × IsLoadedAs name feeds answers version others answers_then
+WaitStep name feeds answers (Err _) others answers_then = ⊥

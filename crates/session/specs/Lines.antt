@@ -8,7 +8,7 @@ use Rattle.epochs.specs.FaultNumber.{pin_fault_name, pin_fault_number}
 use Rattle.orders.specs.declared.fault.OrderFault.{OrderFault}
 use Rattle.orders.specs.Ordering.{order_fault_name, order_fault_number}
 use Rattle.session_texts.specs.Judging.{IsJson, IsNoJson}
-use Rattle.session_texts.specs.Refusals.{error_line, moved_text, refusal_name, refusal_number}
+use Rattle.session_texts.specs.Refusals.{error_line, load_refused_text, moved_text, refusal_name, refusal_number}
 use Rattle.session_texts.specs.Requests.{Asks, RequestValue}
 use Rattle.session_texts.specs.declared.refusals.Refusal.{Refusal}
 use Rattle.session.specs.declared.reply.Reply.{Reply}
@@ -45,12 +45,16 @@ abbrev pub query_fault_line : QueryFault → List ℕ
 query_fault_line fault = error_line (fault_number fault) (fault_name fault)
 
 abbrev pub order_fault_line : OrderFault → List ℕ
-order_fault_line fault = error_line (order_fault_number fault) (order_fault_name fault)
+order_fault_line (OrderFault.LoadRefused refusal) = load_refused_text refusal
+order_fault_line OrderFault.UnknownFeed = error_line (order_fault_number OrderFault.UnknownFeed) (order_fault_name OrderFault.UnknownFeed)
+order_fault_line OrderFault.OrdersFull = error_line (order_fault_number OrderFault.OrdersFull) (order_fault_name OrderFault.OrdersFull)
+order_fault_line OrderFault.OutOfMemory = memory_line
+order_fault_line OrderFault.LoaderGone = error_line (order_fault_number OrderFault.LoaderGone) (order_fault_name OrderFault.LoaderGone)
 
 -- the bytes of a reply
 abbrev pub line_bytes : ReplyLine → List ℕ
 line_bytes (ReplyLine.Fixed line) = line.now
-line_bytes (ReplyLine.Moved line) = line.bytes
+line_bytes (ReplyLine.Short line) = line.bytes
 line_bytes (ReplyLine.Made line) = string_bytes line
 
 abbrev pub text_of_reply : Reply → List ℕ

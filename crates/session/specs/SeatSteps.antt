@@ -1,11 +1,16 @@
--- What a seat's answers make of it.
-use Rattle.std.specs.Prelude.{◌≡◌, ◌≤◌, ℕ, List, [], ◌∷◌, Some, None, Ok, Err}
+-- What is done at a seat, and what it makes of the seat.
+use Rattle.std.specs.Prelude.{◌≡◌, ◌≤◌, ℕ, max, List, [], ◌∷◌, Some, None, Ok, Err}
 use Rattle.std.specs.declared.snapshot.Snapshot.{Snapshot}
 use Rattle.image_layout.specs.Image.{ImageValue}
 use Rattle.epochs.specs.declared.seats.Answer.{Answer}
 use Rattle.epochs.specs.declared.faults.PinFault.{PinFault}
 use Rattle.epochs.specs.Pins.{HoldsInHistory}
-use Rattle.epochs.specs.Seats.{SeatValue, PinStep, ReleaseStep, pinned}
+use Rattle.epochs.specs.Seats.{SeatValue, PinStep, ReleaseStep, JoinStep, pinned}
+
+-- a call is answered, or a notice of this version is joined
+pub data SeatMove : Type 0 where
+  answered : Answer → SeatMove
+  joined : ℕ → SeatMove
 
 -- from one value of a worker's seat to the next, by one answer. What is pinned is the image that was published as that version, in a
 -- history of versions in which this worker holds it
@@ -16,10 +21,20 @@ AnswerStep number a (Answer.PinRefused fault) b = PinStep a (Err fault) b
 AnswerStep number a Answer.Released b = ReleaseStep a (Ok tt) b
 AnswerStep number a (Answer.ReleaseRefused fault) b = ReleaseStep a (Err fault) b
 
--- by answers one after the other
-abbrev pub Follows : ℕ → SeatValue → List Answer → SeatValue → Type 0
+-- by an answer, or by a notice, after which the seat has seen that version
+abbrev pub MoveStep : ℕ → SeatValue → SeatMove → SeatValue → Type 0
+MoveStep number a (answered answer) b = AnswerStep number a answer b
+MoveStep number a (joined version) b = JoinStep a version b
+
+-- by one after the other
+abbrev pub Follows : ℕ → SeatValue → List SeatMove → SeatValue → Type 0
 Follows number a [] b = b ≡ a
-Follows number a (answer ∷ answers) b = (m : SeatValue) × AnswerStep number a answer m × Follows number m answers b
+Follows number a (first ∷ moves) b = (m : SeatValue) × MoveStep number a first m × Follows number m moves b
+
+abbrev pub answers_in : List SeatMove → List Answer
+answers_in [] = []
+answers_in (answered answer ∷ moves) = answer ∷ answers_in moves
+answers_in (joined version ∷ moves) = answers_in moves
 
 -- what was held is given back: a seat that is told lost is emptied too
 abbrev pub IsGivenBack : Answer → Type 0
@@ -28,15 +43,16 @@ IsGivenBack (Answer.ReleaseRefused PinFault.SeatLost) = Unit {0}
 IsGivenBack _ = ⊥
 
 -- a version is pinned and given back
-pub record PinsOnce (answers : List Answer) (version : ℕ) (image : ImageValue) : Type 0 where
+pub record PinsOnce (moves : List SeatMove) (version : ℕ) (image : ImageValue) : Type 0 where
   pub shown : Snapshot ImageValue
   pub last : Answer
   pub image_is : shown.value ≡ image
   pub given_back : IsGivenBack last
-  pub answers_are : answers ≡ Answer.Pinned version shown ∷ last ∷ []
+  pub moves_are : moves ≡ answered (Answer.Pinned version shown) ∷ answered last ∷ []
 
--- the versions pinned never fall, from this one on
-abbrev pub NeverFalls : ℕ → List Answer → Type 0
+-- the versions pinned never fall, from this one on, nor below one of which a notice was joined
+abbrev pub NeverFalls : ℕ → List SeatMove → Type 0
 NeverFalls least [] = Unit {0}
-NeverFalls least (Answer.Pinned version image ∷ answers) = (least ≤ version) × NeverFalls version answers
-NeverFalls least (answer ∷ answers) = NeverFalls least answers
+NeverFalls least (answered (Answer.Pinned version image) ∷ moves) = (least ≤ version) × NeverFalls version moves
+NeverFalls least (answered answer ∷ moves) = NeverFalls least moves
+NeverFalls least (joined version ∷ moves) = NeverFalls (max least version) moves

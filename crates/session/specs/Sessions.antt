@@ -7,7 +7,7 @@ use Rattle.orders.specs.Ordering.{OrderValue}
 use Rattle.lines.specs.Cutting.{lines_of, rest_of, whole_lines}
 use Rattle.session.specs.declared.fault.Ended.{Ended}
 use Rattle.session.specs.declared.fault.SessionFault.{SessionFault}
-use Rattle.session.specs.SeatSteps.{AnswerStep, IsGivenBack}
+use Rattle.session.specs.SeatSteps.{AnswerStep, IsGivenBack, SeatMove}
 use Rattle.session.specs.Turns.{Turn, TurnsTo}
 
 -- each turn leaves the seat and the orders to the next
@@ -25,9 +25,9 @@ abbrev pub text_of : List Turn → List ℕ
 text_of [] = []
 text_of (t ∷ turns) = t.reply ++ text_of turns
 
-abbrev pub answers_of : List Turn → List Answer
-answers_of [] = []
-answers_of (t ∷ turns) = t.answers ++ answers_of turns
+abbrev pub moves_of : List Turn → List SeatMove
+moves_of [] = []
+moves_of (t ∷ turns) = t.moves ++ moves_of turns
 
 abbrev pub orders_of : List Turn → List OrderValue
 orders_of [] = []

@@ -1,95 +1,125 @@
 -- Turns of a session: a line, what was done for it, and the reply.
-use Rattle.std.specs.Prelude.{◌≡◌, ◌⊎◌, ◌++◌, ◌∷◌, ℕ, List, [], Option, Some, None, Ok, Err}
+use Rattle.std.specs.Prelude.{◌≡◌, ◌⊎◌, ◌++◌, ◌∷◌, ℕ, Bool, true, false, List, [], Option, Some, None, Ok, Err}
 use Rattle.std.specs.declared.snapshot.Snapshot.{Snapshot}
 use Rattle.image_layout.specs.Image.{ImageValue}
 use Rattle.epochs.specs.declared.seats.Answer.{Answer}
 use Rattle.epochs.specs.declared.faults.PinFault.{PinFault}
 use Rattle.epochs.specs.Seats.{SeatValue}
 use Rattle.orders.specs.declared.fault.OrderFault.{OrderFault}
-use Rattle.orders.specs.Ordering.{OrderValue, order_value}
-use Rattle.session_texts.specs.Replies.{line_of, load_data, pin_text, release_text}
+use Rattle.orders.specs.Ordering.{IsNotTaken, OrderValue, order_value, waited_value}
+use Rattle.session_texts.specs.Replies.{line_of, load_data, loaded_data, pin_text, release_text}
 use Rattle.session_texts.specs.Requests.{AskValue, pin, release, profile, load}
 use Rattle.session_texts.specs.declared.refusals.Refusal.{Refusal}
 use Rattle.session.specs.Lines.{Asked, too_long, no_json, no_request, asks, IsAsked, memory_line, order_fault_line, pin_fault_line, refusal_line}
 use Rattle.session.specs.Profiles.{IsProfileReply}
-use Rattle.session.specs.SeatSteps.{Follows, PinsOnce}
+use Rattle.session.specs.SeatSteps.{Follows, PinsOnce, SeatMove, answered, joined}
 
 pub record Turn : Type 0 where
   pub line : List ℕ  -- without its LF
-  pub answers : List Answer  -- of the seat's calls in this turn
+  pub moves : List SeatMove  -- at the seat in this turn
   pub orders : List OrderValue  -- that were asked for in this turn
   pub reply : List ℕ  -- with its LF
 
 -- a pin is refused
-pub record PinIsRefused (answers : List Answer) (reply : List ℕ) : Type 0 where
+pub record PinIsRefused (moves : List SeatMove) (reply : List ℕ) : Type 0 where
   pub fault : PinFault
-  pub answers_are : answers ≡ Answer.PinRefused fault ∷ []
+  pub moves_are : moves ≡ answered (Answer.PinRefused fault) ∷ []
   pub reply_is : reply ≡ pin_fault_line fault
 
 -- a version is pinned, and told with the base from which its clock texts count
-pub record PinIsMet (answers : List Answer) (reply : List ℕ) : Type 0 where
+pub record PinIsMet (moves : List SeatMove) (reply : List ℕ) : Type 0 where
   pub version : ℕ
   pub image : Snapshot ImageValue
-  pub answers_are : answers ≡ Answer.Pinned version image ∷ []
+  pub moves_are : moves ≡ answered (Answer.Pinned version image) ∷ []
   pub reply_is : reply ≡ pin_text image.value.names.base version ++ 10 ∷ []
 
-pub record ReleaseIsRefused (answers : List Answer) (reply : List ℕ) : Type 0 where
+pub record ReleaseIsRefused (moves : List SeatMove) (reply : List ℕ) : Type 0 where
   pub fault : PinFault
-  pub answers_are : answers ≡ Answer.ReleaseRefused fault ∷ []
+  pub moves_are : moves ≡ answered (Answer.ReleaseRefused fault) ∷ []
   pub reply_is : reply ≡ pin_fault_line fault
 
 -- the feed is ordered, or isn't
 abbrev pub OrderIsMet : List ℕ → List OrderValue → List ℕ → Type 0
 OrderIsMet feed orders reply =
     ((orders ≡ order_value feed (Ok tt) ∷ []) × (reply ≡ line_of (load_data feed)))
-    ⊎ ((fault : OrderFault) × (orders ≡ order_value feed (Err fault) ∷ []) × (reply ≡ order_fault_line fault))
+    ⊎ ((fault : OrderFault) × IsNotTaken fault × (orders ≡ order_value feed (Err fault) ∷ []) × (reply ≡ order_fault_line fault))
+
+-- the version that came of the order was told, a notice of it is joined, and it is the reply, if there is room for that
+pub record VersionIsMet (feed : List ℕ) (moves : List SeatMove) (orders : List OrderValue) (reply : List ℕ) : Type 0 where
+  pub version : ℕ
+  pub moves_are : moves ≡ joined version ∷ []
+  pub orders_are : orders ≡ waited_value feed (Ok version) ∷ []
+  pub reply_is : (reply ≡ line_of (loaded_data feed version)) ⊎ (reply ≡ memory_line)
+
+-- or none came
+pub record NoVersionIsMet (feed : List ℕ) (moves : List SeatMove) (orders : List OrderValue) (reply : List ℕ) : Type 0 where
+  pub fault : OrderFault
+  pub moves_are : moves ≡ []
+  pub orders_are : orders ≡ waited_value feed (Err fault) ∷ []
+  pub reply_is : reply ≡ order_fault_line fault
+
+-- an order is put, or is waited for
+abbrev pub LoadIsMet : Bool → List ℕ → List SeatMove → List OrderValue → List ℕ → Type 0
+LoadIsMet false feed moves orders reply = (moves ≡ []) × OrderIsMet feed orders reply
+LoadIsMet true feed moves orders reply = VersionIsMet feed moves orders reply ⊎ NoVersionIsMet feed moves orders reply
 
 -- a profile is answered from a version that is pinned for it and given back
-pub record ProfileIsMetOnce (ask : AskValue) (answers : List Answer) (reply : List ℕ) : Type 0 where
+pub record ProfileIsMetOnce (ask : AskValue) (moves : List SeatMove) (reply : List ℕ) : Type 0 where
   pub version : ℕ
   pub image : ImageValue
-  pub once : PinsOnce answers version image
+  pub once : PinsOnce moves version image
   pub told : IsProfileReply image version ask reply
 
 -- from what is held, or else from a version that is pinned once
-abbrev pub ProfileIsMet : Option (ℕ × ImageValue) → AskValue → List Answer → List ℕ → Type 0
-ProfileIsMet (Some held) ask answers reply = (answers ≡ []) × IsProfileReply held.1 held.0 ask reply
-ProfileIsMet None ask answers reply = ProfileIsMetOnce ask answers reply ⊎ PinIsRefused answers reply
+abbrev pub ProfileIsMet : Option (ℕ × ImageValue) → AskValue → List SeatMove → List ℕ → Type 0
+ProfileIsMet (Some held) ask moves reply = (moves ≡ []) × IsProfileReply held.1 held.0 ask reply
+ProfileIsMet None ask moves reply = ProfileIsMetOnce ask moves reply ⊎ PinIsRefused moves reply
 
 -- nothing was done, and the refusal is told
-abbrev pub IsRefused : Refusal → List Answer → List OrderValue → List ℕ → Type 0
-IsRefused refusal answers orders reply = (answers ≡ []) × (orders ≡ []) × (reply ≡ refusal_line refusal)
+abbrev pub IsRefused : Refusal → List SeatMove → List OrderValue → List ℕ → Type 0
+IsRefused refusal moves orders reply = (moves ≡ []) × (orders ≡ []) × (reply ≡ refusal_line refusal)
 
 -- what was asked, at a seat that holds this, is met so
-abbrev pub Meets : Option (ℕ × ImageValue) → Asked → List Answer → List OrderValue → List ℕ → Type 0
-Meets held too_long answers orders reply = IsRefused Refusal.LineTooLong answers orders reply
-Meets held no_json answers orders reply = IsRefused Refusal.BadJson answers orders reply
-Meets held no_request answers orders reply = IsRefused Refusal.BadRequest answers orders reply
-Meets held (asks pin) answers orders reply = (orders ≡ []) × (PinIsMet answers reply ⊎ PinIsRefused answers reply)
-Meets held (asks release) answers orders reply = (orders ≡ []) × (((answers ≡ Answer.Released ∷ []) × (reply ≡ release_text)) ⊎ ReleaseIsRefused answers reply)
-Meets held (asks (load feed)) answers orders reply = (answers ≡ []) × OrderIsMet feed orders reply
-Meets held (asks (profile ask)) answers orders reply = (orders ≡ []) × ProfileIsMet held ask answers reply
+abbrev pub Meets : Option (ℕ × ImageValue) → Asked → List SeatMove → List OrderValue → List ℕ → Type 0
+Meets held too_long moves orders reply = IsRefused Refusal.LineTooLong moves orders reply
+Meets held no_json moves orders reply = IsRefused Refusal.BadJson moves orders reply
+Meets held no_request moves orders reply = IsRefused Refusal.BadRequest moves orders reply
+Meets held (asks pin) moves orders reply = (orders ≡ []) × (PinIsMet moves reply ⊎ PinIsRefused moves reply)
+Meets held (asks release) moves orders reply =
+    (orders ≡ []) × (((moves ≡ answered Answer.Released ∷ []) × (reply ≡ release_text)) ⊎ ReleaseIsRefused moves reply)
+Meets held (asks (load feed waits)) moves orders reply = LoadIsMet waits feed moves orders reply
+Meets held (asks (profile ask)) moves orders reply = (orders ≡ []) × ProfileIsMet held ask moves reply
 
 -- memory was wanting: nothing was ordered, and what is held is as before
-abbrev pub WantsMemory : List Answer → List OrderValue → List ℕ → Type 0
-WantsMemory answers orders reply =
+abbrev pub WantsMemory : List SeatMove → List OrderValue → List ℕ → Type 0
+WantsMemory moves orders reply =
     (reply ≡ memory_line) × (orders ≡ [])
-    × ((answers ≡ []) ⊎ (answers ≡ Answer.PinRefused PinFault.OutOfMemory ∷ []) ⊎ ((version : ℕ) × (image : ImageValue) × PinsOnce answers version image))
+    × ((moves ≡ []) ⊎ (moves ≡ answered (Answer.PinRefused PinFault.OutOfMemory) ∷ []) ⊎ ((version : ℕ) × (image : ImageValue) × PinsOnce moves version image))
 
--- what was asked of the seat is met so, or want of memory is told: the seat's answers lead from what it was to what it is
+-- what was asked of the seat is met so, or want of memory is told: what is done at the seat leads from what it was to what it is
 pub record IsMet (number : ℕ) (a : SeatValue) (asked : Asked) (reply : List ℕ) (b : SeatValue) : Type 0 where
-  pub answers : List Answer
-  pub meets : WantsMemory answers [] reply ⊎ Meets a.held asked answers [] reply
-  pub seat : Follows number a answers b
+  pub moves : List SeatMove
+  pub meets : WantsMemory moves [] reply ⊎ Meets a.held asked moves [] reply
+  pub seat : Follows number a moves b
+
+-- what was waited for is met so, and the seat is led from what it was to what it is
+pub record IsLoaded (number : ℕ) (a : SeatValue) (feed : List ℕ) (put : List OrderValue) (reply : List ℕ) (b : SeatValue) : Type 0 where
+  pub moves : List SeatMove
+  pub meets : LoadIsMet true feed moves put reply
+  pub seat : Follows number a moves b
+
+-- two that tell the versions of notices tell the same
+abbrev pub AgreeOnNotices : {N : Type 0} → (N → ℕ) → (N → ℕ) → Type 0
+AgreeOnNotices {N} told noted = (notice : N) → told notice ≡ noted notice
 
 -- a line is answered as what it asks is met; or want of memory is told
 abbrev pub IsTurn : Option (ℕ × ImageValue) → Turn → Type 0
-IsTurn held t = WantsMemory t.answers t.orders t.reply ⊎ ((asked : Asked) × IsAsked t.line asked × Meets held asked t.answers t.orders t.reply)
+IsTurn held t = WantsMemory t.moves t.orders t.reply ⊎ ((asked : Asked) × IsAsked t.line asked × Meets held asked t.moves t.orders t.reply)
 
 -- by a turn the seat and the orders come from what they were to what they are: their lists grow by the turn's own
 pub record TurnsTo (number : ℕ) (a : SeatValue) (asked : List OrderValue) (t : Turn) (b : SeatValue) (asked_then : List OrderValue) : Type 0 where
   pub is : IsTurn a.held t
-  pub seat : Follows number a t.answers b
+  pub seat : Follows number a t.moves b
   pub orders : asked_then ≡ asked ++ t.orders
 
 -- there is such a turn of this line and this reply

@@ -6,14 +6,14 @@ ghost use Rattle.session.specs.Lines.{order_fault_line, pin_fault_line, query_fa
 use arrayvec::ArrayString;
 use epochs::PinFault;
 use orders::OrderFault;
-use session_texts::{Refusal, moved_line};
+use session_texts::{Refusal, load_refused_line, moved_line};
 use timetable::query::QueryFault;
 
 // A line with its LF.
 #[derive(Drop)]
 enum ReplyLine {
     Fixed(&'static str),
-    Moved(ArrayString<64>),
+    Short(ArrayString<64>),
     Made(String),
 }
 
@@ -31,7 +31,7 @@ impl Reply {
     {
         match &self.line {
             ReplyLine::Fixed(line) => line.as_bytes(),
-            ReplyLine::Moved(line) => line.as_bytes(),
+            ReplyLine::Short(line) => line.as_bytes(),
             ReplyLine::Made(line) => line.as_bytes(),
         }
     }
@@ -81,7 +81,7 @@ impl Reply {
         ensures { text_of_reply result ≡ pin_fault_line fault }
     {
         match fault {
-            PinFault::Moved { newest } => Reply::of(ReplyLine::Moved(moved_line(newest))),
+            PinFault::Moved { newest } => Reply::of(ReplyLine::Short(moved_line(newest))),
             PinFault::AlreadyPinned => Reply::refusal(Refusal::AlreadyPinned),
             PinFault::NotPinned => Reply::refusal(Refusal::NotPinned),
             PinFault::SeatLost => Reply::refusal(Refusal::SeatLost),
@@ -105,6 +105,10 @@ impl Reply {
         match fault {
             OrderFault::UnknownFeed => Reply::refusal(Refusal::UnknownFeed),
             OrderFault::OrdersFull => Reply::refusal(Refusal::OrdersFull),
+            OrderFault::OutOfMemory => Reply::refusal(Refusal::OutOfMemory),
+            OrderFault::LoadRefused { refusal } => {
+                Reply::of(ReplyLine::Short(load_refused_line(refusal)))
+            }
             OrderFault::LoaderGone => Reply::refusal(Refusal::LoaderGone),
         }
     }

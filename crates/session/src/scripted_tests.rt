@@ -17,11 +17,12 @@ enum Asked {
     Release,
     Profile,
     Load(&'static str),
+    Wait(&'static str),
     NoJson,
     NoRequest,
 }
 
-const KINDS: [Asked; 10] = [
+const KINDS: [Asked; 12] = [
     Asked::Pin,
     Asked::Profile,
     Asked::Load("slow"),
@@ -32,6 +33,8 @@ const KINDS: [Asked; 10] = [
     Asked::NoJson,
     Asked::Load("none"),
     Asked::NoRequest,
+    Asked::Wait("slow"),
+    Asked::Wait("fast"),
 ];
 
 const SHORT: [Asked; 11] = [
@@ -84,7 +87,8 @@ impl Shown {
             Asked::Pin => self.pin(replies),
             Asked::Release => self.release(replies),
             Asked::Profile => self.profile(replies),
-            Asked::Load(feed) => self.load(feed, replies),
+            Asked::Load(feed) => self.load(feed, false, replies),
+            Asked::Wait(feed) => self.load(feed, true, replies),
             Asked::NoJson => refuse(111, "BadJson", replies),
             Asked::NoRequest => refuse(112, "BadRequest", replies),
         }
@@ -121,13 +125,25 @@ impl Shown {
         )
     }
 
-    fn load(&mut self, feed: &'static str, replies: &mut String) -> Result<(), AllocError> {
+    fn load(
+        &mut self,
+        feed: &'static str,
+        waits: bool,
+        replies: &mut String,
+    ) -> Result<(), AllocError> {
         let Some(place) = self.left.iter().position(|one| *one == feed) else {
             return refuse(114, "UnknownFeed", replies);
         };
         self.left.remove(place);
         self.published.push(feed)?;
-        write!(replies, "{{\"feed\":\"{feed}\",\"ok\":\"load\"}}\n")
+        if !waits {
+            return write!(replies, "{{\"feed\":\"{feed}\",\"ok\":\"load\"}}\n");
+        }
+        let version = self.published.len();
+        write!(
+            replies,
+            "{{\"feed\":\"{feed}\",\"ok\":\"load\",\"version\":{version}}}\n"
+        )
     }
 }
 
@@ -142,6 +158,10 @@ fn ask(asked: Asked, requests: &mut String) -> Result<(), AllocError> {
         Asked::Release => requests.push_str("{\"do\":\"release\"}\n"),
         Asked::Profile => requests.push_str(PROFILE),
         Asked::Load(feed) => write!(requests, "{{\"do\":\"load\",\"feed\":\"{feed}\"}}\n"),
+        Asked::Wait(feed) => write!(
+            requests,
+            "{{\"do\":\"load\",\"feed\":\"{feed}\",\"wait\":true}}\n"
+        ),
         Asked::NoJson => requests.push_str("{\"do\":\"pi\n"),
         Asked::NoRequest => requests.push_str("{\"do\":\"pie\"}\n"),
     }
@@ -222,7 +242,7 @@ impl Dice {
 fn drawn(alloc: Global, dice: &mut Dice) -> Result<Script, AllocError> {
     let mut script = Script::new(alloc)?;
     for _ in 0..dice.roll() % 9 {
-        script.add(KINDS[dice.roll() % 10])?;
+        script.add(KINDS[dice.roll() % 12])?;
     }
     Ok(script)
 }

@@ -6,7 +6,7 @@ ghost use Rattle.lines.specs.Counting.{failures_of, inner_of, one_more};
 ghost use Rattle.lines.specs.Showing.{ShowsLine};
 ghost use Rattle.epochs.specs.Seats.{SeatValue};
 ghost use Rattle.session.specs.Sessions.{LastRelease, Serves};
-ghost use Rattle.session.specs.Turns.{Turn, TurnsTo};
+ghost use Rattle.session.specs.Turns.{AgreeOnNotices, Turn, TurnsTo};
 
 use crate::fault::{Ended, SessionFault};
 use crate::turns::turn;
@@ -21,7 +21,15 @@ use std::sync::Wait;
 pub const MOST_REQUESTS: u32 = 1_000_000;
 
 /// Serves a session.
-pub fn serve<R: Wait, In: Read, Out: Write, T: Versions, O: Orders, G: Gate>(
+pub fn serve<
+    R: Wait,
+    In: Read,
+    Out: Write,
+    N: Drop,
+    T: Versions<Notice = N>,
+    O: Orders<Notice = N>,
+    G: Gate,
+>(
     rt: &R,
     alloc: Global,
     reader: &mut Counted<In>,
@@ -32,6 +40,7 @@ pub fn serve<R: Wait, In: Read, Out: Write, T: Versions, O: Orders, G: Gate>(
     gate: &G,
 ) -> Result<Ended, SessionFault>
     requires fits { T.fits shelves.now seat.old }
+    requires notices { AgreeOnNotices O.told T.noted }
     requires reads { failures_of reader.old < 2 ^ 64 - 1 }
     requires writes { failures_of writer.old < 2 ^ 64 - 1 }
     ensures fits { T.fits shelves.now seat.new }
@@ -60,7 +69,15 @@ fn release_last<R: Wait, T: Versions>(rt: &R, shelves: &T, seat: &mut T::Seat)
 }
 
 // Answers line after line.
-fn answer_lines<R: Wait, In: Read, Out: Write, T: Versions, O: Orders, G: Gate>(
+fn answer_lines<
+    R: Wait,
+    In: Read,
+    Out: Write,
+    N: Drop,
+    T: Versions<Notice = N>,
+    O: Orders<Notice = N>,
+    G: Gate,
+>(
     rt: &R,
     alloc: Global,
     reader: &mut Counted<In>,
@@ -71,6 +88,7 @@ fn answer_lines<R: Wait, In: Read, Out: Write, T: Versions, O: Orders, G: Gate>(
     gate: &G,
 ) -> Result<Ended, SessionFault>
     requires fits { T.fits shelves.now seat.old }
+    requires notices { AgreeOnNotices O.told T.noted }
     requires reads { failures_of reader.old < 2 ^ 64 - 1 }
     requires writes { failures_of writer.old < 2 ^ 64 - 1 }
     ensures fits { T.fits shelves.now seat.new }
@@ -107,7 +125,14 @@ fn answer_lines<R: Wait, In: Read, Out: Write, T: Versions, O: Orders, G: Gate>(
 }
 
 // Answers a line and writes the reply.
-fn answer_line<R: Wait, Out: Write, T: Versions, O: Orders, G: Gate>(
+fn answer_line<
+    R: Wait,
+    Out: Write,
+    N: Drop,
+    T: Versions<Notice = N>,
+    O: Orders<Notice = N>,
+    G: Gate,
+>(
     rt: &R,
     alloc: Global,
     line: Line<'_>,
@@ -117,7 +142,8 @@ fn answer_line<R: Wait, Out: Write, T: Versions, O: Orders, G: Gate>(
     orders: &mut O,
     gate: &G,
 ) -> Result<(), WriteFailed>
-    requires { T.fits shelves.now seat.old }
+    requires fits { T.fits shelves.now seat.old }
+    requires notices { AgreeOnNotices O.told T.noted }
     ensures fits { T.fits shelves.now seat.new }
     ensures number { T.number seat.new ≡ T.number seat.old }
     ensures failures { MatchResult result

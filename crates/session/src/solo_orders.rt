@@ -1,13 +1,14 @@
-//! Orders that are met at once, over shelves for one worker.
+//! Orders that are met at once, by the loader's seat of some shelves.
 
-ghost use Rattle.std.specs.Prelude.{◌≡◌, ◌++◌, ◌∷◌, []};
-ghost use Rattle.orders.specs.Ordering.{order_value};
-ghost use Rattle.session.specs.Feeds.{OrderStep, answers_of, feeds_of, place_of};
+ghost use Rattle.std.specs.Prelude.{◌≡◌, ◌++◌, ◌∷◌, [], IfErr, IfOk, IfSome};
+ghost use Rattle.orders.specs.Ordering.{IsNotTaken, order_value, version_told, waited_value};
+ghost use Rattle.session.specs.Feeds.{LoadStep, OrderStep, WaitStep, order_told, place_of, wait_told};
 
-use epochs::{LoaderSeat, Loads, SoloShelves};
+use epochs::{Loads, PublishFault, Versions};
 use image_verifier::Verified;
 use orders::{OrderFault, Ordered, Orders};
 use std::alloc::Global;
+use std::marker::Model;
 use std::sync::{Arc, Wait};
 use timetable::Trace;
 
@@ -18,28 +19,41 @@ pub struct FeedImage {
     pub image: Arc<Verified, Global>,
 }
 
+// Why a feed isn't loaded.
+#[derive(Clone, Copy, Debug, PartialEq, Eq)]
+enum NotLoaded {
+    UnknownFeed,
+    Refused(PublishFault),
+}
+
 /// Takes orders over shelves for one worker: the image of the first feed of the name leaves the list, is published, and the shelves are
-/// collected, before the order returns.
+/// collected, before the order returns. So nobody waits long for one.
 ///
-/// A name that no feed of the list has is unknown, and a publish that is refused is told as too many orders.
+/// A name that no feed of the list has is unknown. A publish that is refused is told as too many orders to whoever doesn't wait.
 #[derive(Drop)]
-pub struct SoloOrders<'a> {
-    shelves: &'a SoloShelves,
-    loader: LoaderSeat,
+pub struct SoloOrders<'a, N: Drop, L: Drop, T: Versions<Notice = N> + Loads<Loader = L>> {
+    shelves: &'a T,
+    loader: L,
     feeds: Vec<FeedImage>,
     asked: Trace<Ordered>,
 }
 
-impl<'a> SoloOrders<'a> {
+impl<'a, N: Drop, L: Drop, T: Versions<Notice = N> + Loads<Loader = L>> Model
+    for SoloOrders<'a, N, L, T> {
+    ghost use Rattle.session.specs.Feeds.{SoloOrdersValue};
+
+    ghost Value = { SoloOrdersValue };
+
+    ghost view = { λ s. record { feeds = s.feeds.items; answers = T.Loads.answers s.loader; asked = s.asked } };
+
+    ghost invariant = { λ s. T.Loads.loads s.shelves.now s.loader };
+}
+
+impl<'a, N: Drop, L: Drop, T: Versions<Notice = N> + Loads<Loader = L>> SoloOrders<'a, N, L, T> {
     /// Nothing was ordered yet.
-    pub fn new(
-        shelves: &'a SoloShelves,
-        loader: LoaderSeat,
-        feeds: Vec<FeedImage>,
-    ) -> SoloOrders<'a>
-        ensures asked { ⟦<SoloOrders<'a> as Orders>⟧.asked result ≡ [] }
-        ensures feeds { feeds_of result ≡ feeds.items }
-        ensures answers { answers_of result ≡ loader }
+    pub fn new(shelves: &'a T, loader: L, feeds: Vec<FeedImage>) -> SoloOrders<'a, N, L, T>
+        requires { T.Loads.loads shelves.now loader }
+        ensures { result ≡ record { feeds = feeds.items; answers = T.Loads.answers loader; asked = [] } }
     {
         SoloOrders {
             shelves,
@@ -49,41 +63,100 @@ impl<'a> SoloOrders<'a> {
         }
     }
 
-    // Where the first feed of the name stands.
-    fn place(&self, feed: &str) -> Option<usize>
-        ensures { result ≡ place_of feed.now (feeds_of self.now) }
-    {
-        self.feeds.iter().position(|one| one.name.as_str() == feed)
-    }
-
-    // Publishes the first image of the name, and collects the shelves.
-    fn load<R: Wait>(&mut self, rt: &R, feed: &str) -> Result<(), OrderFault>
+    fn load<R: Wait>(&mut self, rt: &R, feed: &str) -> Result<(u64, Option<N>), NotLoaded>
         ensures asked { self.new.asked ≡ self.old.asked }
-        ensures step { OrderStep feed.now (feeds_of self.old) (answers_of self.old) result (feeds_of self.new) (answers_of self.new) }
+        ensures step { LoadStep feed.now self.old.feeds self.old.answers result self.new.feeds self.new.answers }
+        ensures notice { IfOk result (λ loaded. IfSome loaded.1 (λ notice. T.Versions.noted notice ≡ loaded.0)) }
     {
-        let Some(place) = self.place(feed) else {
-            return Err(OrderFault::UnknownFeed);
-        };
-        let found = self.feeds.remove(place);
-        match self.shelves.publish(rt, &mut self.loader, found.image) {
-            Ok(_) => {
-                let _collected = self.shelves.collect(rt, &mut self.loader);
-                Ok(())
-            }
-            Err(_) => Err(OrderFault::OrdersFull),
-        }
+        publish_first(rt, self.shelves, &mut self.loader, &mut self.feeds, feed)
     }
 }
 
-impl Orders for SoloOrders<'_> {
+// Publishes the first image of the name, and collects the shelves.
+fn publish_first<R: Wait, N: Drop, T: Versions<Notice = N> + Loads>(
+    rt: &R,
+    shelves: &T,
+    loader: &mut T::Loader,
+    feeds: &mut Vec<FeedImage>,
+    feed: &str,
+) -> Result<(u64, Option<N>), NotLoaded>
+    requires { T.Loads.loads shelves.now loader.old }
+    ensures loads { T.Loads.loads shelves.now loader.new }
+    ensures step { LoadStep feed.now feeds.old.items (T.Loads.answers loader.old) result feeds.new.items (T.Loads.answers loader.new) }
+    ensures notice { IfOk result (λ loaded. IfSome loaded.1 (λ notice. T.Versions.noted notice ≡ loaded.0)) }
+{
+    let Some(place) = place_in(feeds, feed) else {
+        return Err(NotLoaded::UnknownFeed);
+    };
+    let found = feeds.remove(place);
+    match shelves.publish(rt, loader, found.image) {
+        Ok(loaded) => {
+            let _collected = shelves.collect(rt, loader);
+            Ok(loaded)
+        }
+        Err((_, fault)) => Err(NotLoaded::Refused(fault)),
+    }
+}
+
+// Where the first feed of the name stands.
+fn place_in(feeds: &[FeedImage], feed: &str) -> Option<usize>
+    ensures { result ≡ place_of feed.now feeds.now }
+{
+    feeds.iter().position(|one| one.name.as_str() == feed)
+}
+
+fn told_of_order<N: Drop>(loaded: Result<(u64, Option<N>), NotLoaded>) -> Result<(), OrderFault>
+    ensures { result ≡ order_told loaded }
+{
+    match loaded {
+        Ok(_) => Ok(()),
+        Err(NotLoaded::UnknownFeed) => Err(OrderFault::UnknownFeed),
+        Err(NotLoaded::Refused(_)) => Err(OrderFault::OrdersFull),
+    }
+}
+
+fn told_of_wait<N: Drop>(
+    loaded: Result<(u64, Option<N>), NotLoaded>,
+) -> Result<(u64, N), OrderFault>
+    ensures { result ≡ wait_told loaded }
+{
+    match loaded {
+        Ok((version, Some(notice))) => Ok((version, notice)),
+        Ok((_, None)) => Err(OrderFault::OutOfMemory),
+        Err(NotLoaded::UnknownFeed) => Err(OrderFault::UnknownFeed),
+        Err(NotLoaded::Refused(fault)) => Err(OrderFault::LoadRefused {
+            refusal: fault.number(),
+        }),
+    }
+}
+
+impl<'a, N: Drop, L: Drop, T: Versions<Notice = N> + Loads<Loader = L>> Orders
+    for SoloOrders<'a, N, L, T> {
+    type Notice = N;
+
     ghost asked = { λ orders. orders.asked };
+
+    ghost told = { T.Versions.noted };
 
     fn order<R: Wait>(&mut self, rt: &R, feed: &str) -> Result<(), OrderFault>
         ensures asked { self.new.asked ≡ self.old.asked ++ order_value feed.now result ∷ [] }
-        ensures step { OrderStep feed.now (feeds_of self.old) (answers_of self.old) result (feeds_of self.new) (answers_of self.new) }
+        ensures refused { IfErr result IsNotTaken }
+        ensures step { OrderStep feed.now self.old.feeds self.old.answers result self.new.feeds self.new.answers }
     {
-        let outcome = self.load(rt, feed);
-        self.asked.note(&Ordered::of(feed, outcome));
+        let loaded = self.load(rt, feed);
+        let outcome = told_of_order(loaded);
+        self.asked.note(&Ordered::put(feed, outcome));
+        outcome
+    }
+
+    fn order_wait<R: Wait>(&mut self, rt: &R, feed: &str) -> Result<(u64, N), OrderFault>
+        ensures asked { self.new.asked ≡ self.old.asked ++ waited_value feed.now (version_told result) ∷ [] }
+        ensures notice { IfOk result (λ told. T.Versions.noted told.1 ≡ told.0) }
+        ensures step { WaitStep feed.now self.old.feeds self.old.answers result self.new.feeds self.new.answers }
+    {
+        let loaded = self.load(rt, feed);
+        let outcome = told_of_wait(loaded);
+        self.asked.note(&Ordered::waited(feed, &outcome));
         outcome
     }
 }

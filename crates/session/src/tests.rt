@@ -1,15 +1,19 @@
 //! Sessions as clients see them.
 
+ghost use Rattle.std.specs.Prelude.{◌≡◌};
+
 use crate::{Counted, Ended, FeedImage, OpenGate, SessionFault, SoloOrders, serve};
-use epochs::{LoaderSeat, SoloShelves, WorkerSeat};
+use epochs::{Named, ShelfLoader, ShelfSeat, Shelves, SoloShelves};
 use image_layout::sample_words;
 use image_verifier::{Verified, verify};
-use orders::Gate;
+use orders::{Gate, OrderFault, Ordered, Orders};
 use std::alloc::{AllocError, Global};
 use std::io;
 use std::io::{Read, Write};
+use std::marker::Brand;
 use std::sync::{Arc, Wait};
 use std::test::Fail;
+use timetable::Trace;
 
 // A reader that gives so many bytes at once at most, and behind the last of them fails or is at its end.
 #[derive(Drop)]
@@ -128,16 +132,6 @@ fn image_with_a_footpath(alloc: Global) -> Result<Arc<Verified, Global>, Fail> {
     image_of(alloc, words)
 }
 
-fn new_shelves(
-    alloc: Global,
-    first: Arc<Verified, Global>,
-) -> Result<(SoloShelves, LoaderSeat, WorkerSeat), Fail> {
-    match SoloShelves::new(alloc, first) {
-        Ok(made) => Ok(made),
-        Err(_) => Err(AllocError.into()),
-    }
-}
-
 const PIN: &str = "{\"do\":\"pin\"}";
 
 const RELEASE: &str = "{\"do\":\"release\"}";
@@ -232,7 +226,32 @@ pub(crate) fn talked<R: Wait, In: Read + Drop, Out: Write + Drop, G: Gate>(
     writer: Out,
     gate: &G,
 ) -> Result<(Result<Ended, SessionFault>, Out), Fail> {
-    let (shelves, loader, mut seat) = new_shelves(alloc, first)?;
+    let Ok((shelves, loader, mut seats)) = Shelves::new(alloc, first) else {
+        return Err(AllocError.into());
+    };
+    let Some(seat) = seats.pop() else {
+        return Err("a seat".into());
+    };
+    Ok(talked_at::<Brand, _, _, _, _>(
+        rt, alloc, shelves, loader, seat, feeds, reader, writer, gate,
+    ))
+}
+
+// The same at these shelves.
+fn talked_at<B: Named, R: Wait, In: Read + Drop, Out: Write + Drop, G: Gate>(
+    rt: &R,
+    alloc: Global,
+    shelves: Shelves,
+    loader: ShelfLoader,
+    seat: ShelfSeat,
+    feeds: Vec<FeedImage>,
+    reader: In,
+    writer: Out,
+    gate: &G,
+) -> (Result<Ended, SessionFault>, Out)
+    requires { (shelves ≡ B.table) × (loader.table ≡ B.table) × (seat.table ≡ B.table) }
+{
+    let (shelves, loader, mut seat) = SoloShelves::<B>::of(shelves, loader, seat);
     let mut orders = SoloOrders::new(&shelves, loader, feeds);
     let mut reader = Counted::new(reader);
     let mut writer = Counted::new(writer);
@@ -246,7 +265,7 @@ pub(crate) fn talked<R: Wait, In: Read + Drop, Out: Write + Drop, G: Gate>(
         &mut orders,
         gate,
     );
-    Ok((ended, writer.into_inner()))
+    (ended, writer.into_inner())
 }
 
 #[test]
@@ -339,5 +358,121 @@ fn walked_seconds_are_told(rt: HostRuntime) -> Result<(), Fail> {
     let (ended, written) = served_from(&rt, alloc, first, slow, reader, 10_000, true)?;
     assert!(&rt; ended == Ok(Ended));
     assert_eq!(&rt; str::from_utf8(&written).unwrap_or("?"), WALKED_REPLIES);
+    Ok(())
+}
+
+const WAIT: &str = "{\"do\":\"load\",\"feed\":\"slow\",\"wait\":true}";
+
+const WAITED_REPLIES: &str =
+    "{\"base\":1705276800,\"ok\":\"pin\",\"version\":1}\n{\"feed\":\"slow\",\"ok\":\"load\",\"version\":2}\n{\"error\":92,\"name\":\"AlreadyPinned\"}\n{\"ok\":\"release\"}\n{\"base\":1705276800,\"ok\":\"pin\",\"version\":2}\n{\"error\":114,\"name\":\"UnknownFeed\"}\n{\"error\":112,\"name\":\"BadRequest\"}\n";
+
+/// Who waits for a load is told its version, and pins that once what it holds is released.
+#[test]
+fn a_load_is_waited_for(rt: HostRuntime) -> Result<(), Fail> {
+    let alloc: Global = rt.alloc();
+    let mut bytes = Vec::new(alloc);
+    add_line(&mut bytes, PIN)?;
+    add_line(&mut bytes, WAIT)?;
+    add_line(&mut bytes, PIN)?;
+    add_line(&mut bytes, RELEASE)?;
+    add_line(&mut bytes, PIN)?;
+    add_line(&mut bytes, WAIT)?;
+    add_line(
+        &mut bytes,
+        "{\"do\":\"load\",\"feed\":\"slow\",\"wait\":\"yes\"}",
+    )?;
+    let reader = Pieces {
+        rest: &bytes,
+        most: 100_000,
+        is_failing: false,
+    };
+    let (ended, written) = served(&rt, alloc, reader, 10_000, true)?;
+    assert!(&rt; ended == Ok(Ended));
+    assert_eq!(&rt; str::from_utf8(&written).unwrap_or("?"), WAITED_REPLIES);
+    Ok(())
+}
+
+// Orders of which each that is waited for is overtaken by two others before it is answered.
+#[derive(Drop)]
+struct Overtaken<O> {
+    orders: O,
+    asked: Trace<Ordered>,
+}
+
+impl<N, O: Orders<Notice = N>> Orders for Overtaken<O> {
+    type Notice = N;
+
+    ghost asked = { λ orders. orders.asked };
+
+    ghost told = { O.told };
+
+    fn order<R: Wait>(&mut self, rt: &R, feed: &str) -> Result<(), OrderFault> {
+        let taken = self.orders.order(rt, feed);
+        self.asked.note(&Ordered::put(feed, taken));
+        taken
+    }
+
+    fn order_wait<R: Wait>(&mut self, rt: &R, feed: &str) -> Result<(u64, N), OrderFault> {
+        let told = self.orders.order_wait(rt, feed);
+        let _ = self.orders.order(rt, feed);
+        let _ = self.orders.order(rt, feed);
+        self.asked.note(&Ordered::waited(feed, &told));
+        told
+    }
+}
+
+fn overtaken_at<B: Named, R: Wait>(
+    rt: &R,
+    alloc: Global,
+    shelves: Shelves,
+    loader: ShelfLoader,
+    seat: ShelfSeat,
+    feeds: Vec<FeedImage>,
+    requests: &[u8],
+) -> Taker
+    requires { (shelves ≡ B.table) × (loader.table ≡ B.table) × (seat.table ≡ B.table) }
+{
+    let (shelves, loader, mut seat) = SoloShelves::<B>::of(shelves, loader, seat);
+    let mut orders = Overtaken {
+        orders: SoloOrders::new(&shelves, loader, feeds),
+        asked: Trace::new(),
+    };
+    let mut reader = Counted::new(requests);
+    let mut writer = Counted::new(taker_of(alloc, 10_000, true));
+    let _ = serve(
+        rt,
+        alloc,
+        &mut reader,
+        &mut writer,
+        &shelves,
+        &mut seat,
+        &mut orders,
+        &OpenGate,
+    );
+    writer.into_inner()
+}
+
+/// A notice that two versions overtook is told all the same, and the newest version is pinned.
+#[test]
+fn an_overtaken_notice_is_joined(rt: HostRuntime) -> Result<(), Fail> {
+    let alloc: Global = rt.alloc();
+    let mut feeds = Vec::new(alloc);
+    for _ in 0..3 {
+        feeds.push(feed_of(alloc, "slow", image(alloc, 121)?)?)?;
+    }
+    let mut bytes = Vec::new(alloc);
+    add_line(&mut bytes, WAIT)?;
+    add_line(&mut bytes, PIN)?;
+    let Ok((shelves, loader, mut seats)) = Shelves::new(alloc, image(alloc, 0)?) else {
+        return Err(AllocError.into());
+    };
+    let Some(seat) = seats.pop() else {
+        return Err("a seat".into());
+    };
+    let taker = overtaken_at::<Brand, _>(&rt, alloc, shelves, loader, seat, feeds, &bytes);
+    assert_eq!(&rt;
+        str::from_utf8(&taker.taken).unwrap_or("?"),
+        "{\"feed\":\"slow\",\"ok\":\"load\",\"version\":2}\n{\"base\":1705276800,\"ok\":\"pin\",\"version\":4}\n"
+    );
     Ok(())
 }

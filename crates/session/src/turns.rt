@@ -3,9 +3,9 @@
 ghost use Rattle.std.specs.Prelude.{◌≡◌, ℕ, List};
 ghost use Rattle.lines.specs.Showing.{ShowsLine};
 ghost use Rattle.session.specs.Lines.{text_of_reply};
-ghost use Rattle.session.specs.Turns.{HasTurn};
+ghost use Rattle.session.specs.Turns.{AgreeOnNotices, HasTurn};
 
-use crate::ordering::order_feed;
+use crate::ordering::{load_feed, order_feed};
 use crate::pinning::{pin_version, release_version};
 use crate::profiles::answer_profile;
 use crate::reply::Reply;
@@ -17,7 +17,7 @@ use std::alloc::Global;
 use std::sync::Wait;
 
 /// Does what a line asks, and makes the reply.
-pub(crate) fn turn<R: Wait, T: Versions, O: Orders, G: Gate>(
+pub(crate) fn turn<R: Wait, N: Drop, T: Versions<Notice = N>, O: Orders<Notice = N>, G: Gate>(
     rt: &R,
     alloc: Global,
     line: Line<'_>,
@@ -26,7 +26,8 @@ pub(crate) fn turn<R: Wait, T: Versions, O: Orders, G: Gate>(
     orders: &mut O,
     gate: &G,
 ) -> Reply
-    requires { T.fits shelves.now seat.old }
+    requires fits { T.fits shelves.now seat.old }
+    requires notices { AgreeOnNotices O.told T.noted }
     ensures fits { T.fits shelves.now seat.new }
     ensures number { T.number seat.new ≡ T.number seat.old }
     ensures turn { (l : List ℕ) → ShowsLine line.entry l → HasTurn (T.number seat.old) l (text_of_reply result) (T.value seat.old) (O.asked orders.old) (T.value seat.new) (O.asked orders.new) }
@@ -46,6 +47,9 @@ pub(crate) fn turn<R: Wait, T: Versions, O: Orders, G: Gate>(
         Some(Request::Pin) => pin_version(rt, alloc, shelves, seat),
         Some(Request::Release) => release_version(rt, shelves, seat),
         Some(Request::Profile(ask)) => answer_profile(rt, alloc, shelves, seat, gate, &ask),
-        Some(Request::Load { feed }) => order_feed(rt, alloc, orders, feed),
+        Some(Request::Load { feed, waits: false }) => order_feed(rt, alloc, orders, feed),
+        Some(Request::Load { feed, waits: true }) => {
+            load_feed(rt, alloc, shelves, seat, orders, feed)
+        }
     }
 }

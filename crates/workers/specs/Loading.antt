@@ -1,11 +1,14 @@
 -- What comes of an order to load a feed.
-use Rattle.std.specs.Prelude.{◌≡◌, ◌⊎◌, ℕ, List, Result, Ok, Err}
+use Rattle.std.specs.Prelude.{◌≡◌, ◌⊎◌, ℕ, List, Option, Some, None, Result, Ok, Err}
 use Rattle.image_layout.specs.Image.{ImageValue}
 use Rattle.connections.specs.declared.report.Report.{Report}
 use Rattle.feed_files.specs.Reading.{Content}
+use Rattle.feed_loader.specs.Faults.{fault_number}
 use Rattle.feed_loader.specs.Refused.{IsLoadRefusal, IsLoaded, IsWantOfMemory}
 use Rattle.feed_loader.specs.declared.fault.LoadFault.{LoadFault}
 use Rattle.feed_loader.specs.declared.plan.Plan.{Plan}
+use Rattle.epochs.specs.FaultNumber.{publish_fault_number}
+use Rattle.load_orders.specs.declared.queue.LoadAnswer.{LoadAnswer}
 use Rattle.epochs.specs.Seats.{PublishStep, RefuseStep, CollectStep}
 use Rattle.epochs.specs.declared.collected.Collected.{Collected}
 use Rattle.epochs.specs.declared.faults.PublishFault.{PublishFault}
@@ -37,6 +40,20 @@ pub record IsPublished (before : List LoaderAnswer) (image : ImageValue) (versio
 abbrev pub IsNotPublished : List LoaderAnswer → LoadRefusal → List LoaderAnswer → Type 0
 IsNotPublished before (LoadRefusal.Load fault) after = after ≡ before
 IsNotPublished before (LoadRefusal.Publish fault) after = ((after ≡ before) × (fault ≡ PublishFault.OutOfMemory)) ⊎ RefuseStep before fault after
+
+-- the number by which a refusal is told
+abbrev pub refusal_number : LoadRefusal → ℕ
+refusal_number (LoadRefusal.Load fault) = fault_number fault
+refusal_number (LoadRefusal.Publish fault) = publish_fault_number fault
+
+-- what whoever waits for a load is told of it
+abbrev pub notice_answer : {N : Type 0} → Option N → LoadAnswer N
+notice_answer (Some notice) = LoadAnswer.Published notice
+notice_answer None = LoadAnswer.Unnoticed
+
+abbrev pub load_answer : {N : Type 0} → Result (ℕ × Option N) LoadRefusal → LoadAnswer N
+load_answer (Ok loaded) = notice_answer loaded.1
+load_answer (Err refusal) = LoadAnswer.Refused (refusal_number refusal)
 
 -- what the reading of the files came to
 abbrev pub reading_refused : LoadRefusal → Result (Unit {0}) LoadFault

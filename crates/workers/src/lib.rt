@@ -4,6 +4,7 @@
 mod clients;
 mod feeds;
 mod loading;
+mod naming;
 mod refusal;
 mod running;
 mod served;
@@ -13,6 +14,7 @@ mod streams;
 pub use clients::{Client, Clients, ConnFault};
 pub use feeds::Feeds;
 pub use loading::load_one;
+pub use naming::run_shelves;
 pub use refusal::LoadRefusal;
 pub use running::{WorkersFault, run_workers};
 pub use served::{End, Served};

@@ -1,5 +1,8 @@
 //! Why an ordered feed isn't loaded.
 
+ghost use Rattle.std.specs.Prelude.{◌≡◌};
+ghost use Rattle.workers.specs.Loading.{refusal_number};
+
 use epochs::PublishFault;
 use feed_loader::LoadFault;
 use std::error::Error;
@@ -12,6 +15,18 @@ pub enum LoadRefusal {
     Load(LoadFault),
     /// The image isn't published. Want of memory may be told before it was tried.
     Publish(PublishFault),
+}
+
+impl LoadRefusal {
+    /// The number by which the refusal is told: that of the fault within.
+    pub fn number(self) -> u8
+        ensures { result ≡ refusal_number self }
+    {
+        match self {
+            LoadRefusal::Load(fault) => fault.number(),
+            LoadRefusal::Publish(fault) => fault.number(),
+        }
+    }
 }
 
 /// The number, the name and the places, each after a space, as in `8 IdTwice stops.txt 3`. Where no shelf is free, the places are

@@ -32,8 +32,8 @@ impl From<AllocError> for WorkersFault {
 }
 
 /// Serves all clients, with a worker for each seat, and loads the feeds that they order; what came of a load is told to the
-/// error writer. It returns when there are no more clients, all sessions have ended, and all orders were carried out; who asked for
-/// clients comes back.
+/// error writer, and to whoever waits for it. It returns when there are no more clients, all sessions have ended, and all orders
+/// were carried out; who asked for clients comes back.
 pub fn run_workers<
     I: Read + Send + Drop,
     O: Write + Send + Drop,
@@ -41,7 +41,8 @@ pub fn run_workers<
     K: Clients<C> + Drop,
     S: Send + Drop,
     L: Send + Drop,
-    T: Versions<Seat = S> + Loads<Loader = L> + Sync,
+    N: Send + Drop,
+    T: Versions<Seat = S, Notice = N> + Loads<Loader = L> + Sync,
     D: FeedFiles + Send + Drop,
     F: Feeds<Files = D> + Sync,
     G: Gate + Sync,
@@ -70,7 +71,9 @@ pub fn run_workers<
         thread::scope_env(),
         rt,
         move |scope| -> Result<(Served, K), WorkersFault>
-            requires { IsSync R.row × IsSync T.row × IsSync F.row × IsSync G.row × IsSend S.row × IsSend L.row × IsSend C.row × IsSend I.row × IsSend O.row × IsSend D.row × IsSend E.row × All (T.Versions.fits shelves.now) seats.items × T.Loads.loads shelves.now loader }
+            requires { IsSync R.row × IsSync T.row × IsSync F.row × IsSync G.row × IsSend S.row × IsSend L.row × IsSend N.row
+                × IsSend C.row × IsSend I.row × IsSend O.row × IsSend D.row × IsSend E.row
+                × All (T.Versions.fits shelves.now) seats.items × T.Loads.loads shelves.now loader }
             ensures { IfOk result (λ served. K.none_left served.1) }
         {
             let Ok(loading) = scope.spawn(
@@ -96,7 +99,7 @@ pub fn run_workers<
                             mine,
                             shelves,
                             seat,
-                            WorkerOrders::new(feeds.names(), end),
+                            WorkerOrders::new(alloc, feeds.names(), shelves, end),
                             gate,
                         )
                         .0

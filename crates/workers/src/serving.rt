@@ -2,6 +2,7 @@
 
 ghost use Rattle.std.specs.Prelude.{◌≡◌, ◌<◌, ◌∷◌, ◌++◌, [], None};
 ghost use Rattle.lines.specs.Counting.{failures_of, inner_of};
+ghost use Rattle.session.specs.Turns.{AgreeOnNotices};
 ghost use Rattle.workers.specs.Sessions.{AreServed, IsServed, IsSession};
 ghost use Rattle.workers.specs.declared.served.End.{End};
 
@@ -19,7 +20,14 @@ use std::sync::Wait;
 
 /// Serves a client at this seat, and adds how its session ended. A client that can't be opened is a session that failed, and then
 /// there is no reader and no writer to give back.
-pub fn serve_client<R: Wait, C: Client, T: Versions, O: Orders, G: Gate>(
+pub fn serve_client<
+    R: Wait,
+    C: Client,
+    N: Drop,
+    T: Versions<Notice = N>,
+    O: Orders<Notice = N>,
+    G: Gate,
+>(
     rt: &R,
     alloc: Global,
     client: C,
@@ -29,7 +37,8 @@ pub fn serve_client<R: Wait, C: Client, T: Versions, O: Orders, G: Gate>(
     gate: &G,
     served: &mut Served,
 ) -> Option<Streams<C::Reader, C::Writer>>
-    requires { T.fits shelves.now seat.old }
+    requires fits { T.fits shelves.now seat.old }
+    requires notices { AgreeOnNotices O.told T.noted }
     ensures fits { T.fits shelves.now seat.new }
     ensures number { T.number seat.new ≡ T.number seat.old }
     ensures idle { (T.value seat.old).held ≡ None → (T.value seat.new).held ≡ None }
@@ -51,7 +60,15 @@ pub fn serve_client<R: Wait, C: Client, T: Versions, O: Orders, G: Gate>(
     }
 }
 
-fn serve_streams<R: Wait, In: Read + Drop, Out: Write + Drop, T: Versions, O: Orders, G: Gate>(
+fn serve_streams<
+    R: Wait,
+    In: Read + Drop,
+    Out: Write + Drop,
+    N: Drop,
+    T: Versions<Notice = N>,
+    O: Orders<Notice = N>,
+    G: Gate,
+>(
     rt: &R,
     alloc: Global,
     reader: In,
@@ -61,7 +78,8 @@ fn serve_streams<R: Wait, In: Read + Drop, Out: Write + Drop, T: Versions, O: Or
     orders: &mut O,
     gate: &G,
 ) -> (End, Streams<In, Out>)
-    requires { T.fits shelves.now seat.old }
+    requires fits { T.fits shelves.now seat.old }
+    requires notices { AgreeOnNotices O.told T.noted }
     ensures fits { T.fits shelves.now seat.new }
     ensures number { T.number seat.new ≡ T.number seat.old }
     ensures idle { (T.value seat.new).held ≡ None }
@@ -84,7 +102,14 @@ fn serve_streams<R: Wait, In: Read + Drop, Out: Write + Drop, T: Versions, O: Or
 }
 
 /// Serves clients until there are no more: how their sessions ended, in turn. The seat and the orders come back.
-pub(crate) fn work<R: Wait, C: Client + Drop, T: Versions, O: Orders, G: Gate>(
+pub(crate) fn work<
+    R: Wait,
+    C: Client + Drop,
+    N: Drop,
+    T: Versions<Notice = N>,
+    O: Orders<Notice = N>,
+    G: Gate,
+>(
     rt: &R,
     alloc: Global,
     clients: Receiver<C>,
@@ -93,7 +118,8 @@ pub(crate) fn work<R: Wait, C: Client + Drop, T: Versions, O: Orders, G: Gate>(
     mut orders: O,
     gate: &G,
 ) -> (Served, T::Seat, O)
-    requires { T.fits shelves.now seat }
+    requires fits { T.fits shelves.now seat }
+    requires notices { AgreeOnNotices O.told T.noted }
     ensures { AreServed C.opens C.Reader.remaining C.Writer.contents (T.number seat) result.0 (T.value seat) (O.asked orders) (T.value result.1) (O.asked result.2) }
 {
     let mut served = Served::new();

@@ -1,9 +1,9 @@
 //! Clients over memory, served by threads.
 
-ghost use Rattle.std.specs.Prelude.{◌≡◌, ◌≤◌, [], length, IfOk};
+ghost use Rattle.std.specs.Prelude.{◌≡◌, ◌≤◌, [], All, length, IfOk};
 
 use super::*;
-use epochs::LockedShelves;
+use epochs::{ShelfLoader, ShelfSeat, Shelves};
 use feed_files::MemoryFiles;
 use feed_loader::Plan;
 use gtfs_tables::Day;
@@ -13,6 +13,7 @@ use orders::{Gate, OpenGate};
 use service_days::Zone;
 use std::alloc::{AllocError, Global};
 use std::io::Write;
+use std::marker::Brand;
 use std::process::Abort;
 use std::sync::atomic::{AtomicU64, Ordering};
 use std::sync::{Arc, Mutex, Wait};
@@ -40,6 +41,12 @@ const FILES: [(&str, &[u8]); 6] = [
     ),
 ];
 
+/// The same without its stops and its transfers.
+const BAD_FILES: [(&str, &[u8]); 2] = [
+    ("agency.txt", b"agency_timezone\nEtc/UTC\n"),
+    ("trips.txt", b"service_id,trip_id\nS,T1\nS,T2\n"),
+];
+
 const PROFILE: &str =
     "{\"do\":\"profile\",\"from\":\"A\",\"to\":\"C\",\"after\":\"07:00:00\",\"until\":\"09:00:00\",\"by\":\"10:00:00\",\"criterion\":\"arrival\"}\n";
 
@@ -49,15 +56,26 @@ const PIN_LOAD_PROFILE: &str =
 const REPLIES: &str =
     "{\"base\":1705276800,\"ok\":\"pin\",\"version\":1}\n{\"feed\":\"slow\",\"ok\":\"load\"}\n{\"ok\":\"profile\",\"points\":[{\"arr\":\"08:20:00\",\"dep\":\"08:00:00\",\"journey\":\"ride 0 0 walk 1 1 0 ride 2 2\"}],\"version\":1,\"walk\":null}\n";
 
-/// A writer to bytes that several threads may share.
+/// What a session that waits for loads asks, and its replies.
+const WAIT: &str =
+    "{\"do\":\"pin\"}\n{\"do\":\"load\",\"feed\":\"slow\",\"wait\":true}\n{\"do\":\"pin\"}\n{\"do\":\"release\"}\n{\"do\":\"pin\"}\n{\"do\":\"load\",\"feed\":\"bad\",\"wait\":true}\n{\"do\":\"load\",\"feed\":\"none\",\"wait\":true}\n{\"do\":\"load\",\"feed\":\"slow\",\"wait\":true}\n";
+
+const WAITED: &str =
+    "{\"base\":1705276800,\"ok\":\"pin\",\"version\":1}\n{\"feed\":\"slow\",\"ok\":\"load\",\"version\":2}\n{\"error\":92,\"name\":\"AlreadyPinned\"}\n{\"ok\":\"release\"}\n{\"base\":1705276800,\"ok\":\"pin\",\"version\":2}\n{\"error\":120,\"name\":\"LoadRefused\",\"refusal\":1}\n{\"error\":114,\"name\":\"UnknownFeed\"}\n{\"feed\":\"slow\",\"ok\":\"load\",\"version\":3}\n";
+
+/// A writer to bytes that several threads may share, or one that nobody reads any more.
 #[derive(Drop)]
 struct Shared<'a, R> {
     rt: &'a R,
     bytes: &'a Mutex<Vec<u8>>,
+    is_gone: bool,
 }
 
 impl<'a, R: Wait> Write for Shared<'a, R> {
     fn write(&mut self, piece: &[u8]) -> io::Result<usize> {
+        if self.is_gone {
+            return Err(io::Error::from(io::ErrorKind::BrokenPipe));
+        }
         self.bytes.lock(self.rt).extend_from_slice(piece)?;
         Ok(piece.len())
     }
@@ -103,15 +121,15 @@ impl<C> Clients<C> for Row<C> {
     }
 }
 
-/// The one feed `slow`.
+/// The feeds `slow` and `bad`.
 #[derive(Drop)]
-struct SlowFeed {
+struct TwoFeeds {
     names: Vec<String>,
     plan: Plan,
     ghost one_day: { plan.days ≡ 1 },
 }
 
-impl Feeds for SlowFeed {
+impl Feeds for TwoFeeds {
     type Files = MemoryFiles<'static>;
 
     ghost named = { λ feed. feed.names.items };
@@ -124,14 +142,18 @@ impl Feeds for SlowFeed {
         &self.plan
     }
 
-    fn files(&self, _place: usize) -> Option<MemoryFiles<'static>> {
+    fn files(&self, place: usize) -> Option<MemoryFiles<'static>> {
+        if place == 1 {
+            return Some(MemoryFiles { files: &BAD_FILES });
+        }
         Some(MemoryFiles { files: &FILES })
     }
 }
 
-fn slow_feed(alloc: Global) -> Result<SlowFeed, AllocError> {
+fn two_feeds(alloc: Global) -> Result<TwoFeeds, AllocError> {
     let slow = String::from_str(alloc, "slow")?;
-    let names = vec![in alloc; slow]?;
+    let bad = String::from_str(alloc, "bad")?;
+    let names = vec![in alloc; slow, bad]?;
     let plan = Plan {
         first_day: Day {
             year: 2024,
@@ -142,7 +164,7 @@ fn slow_feed(alloc: Global) -> Result<SlowFeed, AllocError> {
         zone: Zone::fixed(0),
         strict: false,
     };
-    Ok(SlowFeed { names, plan })
+    Ok(TwoFeeds { names, plan })
 }
 
 /// A gate that may keep the first scan waiting until another is over.
@@ -175,11 +197,10 @@ impl<'a, R: Clock> Gate for Meeting<'a, R> {
 }
 
 /// The shelves with the sample, the loader's seat, and as many workers' seats, one or two.
-fn shelves_for(
-    alloc: Global,
-    two: bool,
-) -> Result<(LockedShelves, epochs::LoaderSeat, Vec<epochs::WorkerSeat>), Fail>
-    ensures { IfOk result (λ made. (1 ≤ length made.2.items) × (length made.2.items ≤ 2)) }
+fn shelves_for(alloc: Global, two: bool) -> Result<(Shelves, ShelfLoader, Vec<ShelfSeat>), Fail>
+    ensures loader { IfOk result (λ made. made.1.table ≡ made.0) }
+    ensures seats { IfOk result (λ made. All (λ seat. seat.table ≡ made.0) made.2.items) }
+    ensures count { IfOk result (λ made. (1 ≤ length made.2.items) × (length made.2.items ≤ 2)) }
 {
     let Ok(image) = verify(alloc, sample_words().to_vec(alloc)?) else {
         return Err(AllocError.into());
@@ -187,17 +208,10 @@ fn shelves_for(
     let Ok(shared) = Arc::new(alloc, image) else {
         return Err(AllocError.into());
     };
-    let Ok((shelves, loader, mut seats)) = LockedShelves::new(alloc, shared) else {
+    let Ok((shelves, loader, mut seats)) = Shelves::new(alloc, shared) else {
         return Err(AllocError.into());
     };
-    let (Some(first), Some(second)) = (seats.pop(), seats.pop()) else {
-        return Err("seats".into());
-    };
-    let seats = if two {
-        vec![in alloc; first, second]?
-    } else {
-        vec![in alloc; first]?
-    };
+    seats.truncate(if two { 2 } else { 1 });
     Ok((shelves, loader, seats))
 }
 
@@ -210,12 +224,17 @@ fn serve_all<R: Threads + Wait + Sync + Abort, G: Gate + Sync>(
     gate: &G,
 ) -> Result<(Served, Vec<u8>), Fail> {
     let (shelves, loader, seats) = shelves_for(alloc, two)?;
-    let feed = slow_feed(alloc)?;
+    let feeds = two_feeds(alloc)?;
     let told = Mutex::new(Vec::new(alloc));
     let row = Row { visitors };
-    let errors = Shared { rt, bytes: &told };
-    let Ok((served, _)) = run_workers(rt, alloc, row, &shelves, seats, loader, &feed, gate, errors)
-    else {
+    let errors = Shared {
+        rt,
+        bytes: &told,
+        is_gone: false,
+    };
+    let Ok((served, _)) = run_shelves::<Brand, _, _, _, _, _, _, _, _, _>(
+        rt, alloc, row, shelves, seats, loader, &feeds, gate, errors,
+    ) else {
         return Err(AllocError.into());
     };
     Ok((served, told.into_inner()))
@@ -231,6 +250,7 @@ fn a_client_is_served(rt: HostRuntime) -> Result<(), Fail> {
         replies: Some(Shared {
             rt: &rt,
             bytes: &replies,
+            is_gone: false,
         }),
     };
     let shut = Visitor {
@@ -250,6 +270,64 @@ fn a_client_is_served(rt: HostRuntime) -> Result<(), Fail> {
     Ok(())
 }
 
+/// Whoever waits for a load is told its version, and pins it; or it is told the number with which the load was refused.
+#[test]
+fn loads_are_waited_for(rt: HostRuntime) -> Result<(), Fail> {
+    let alloc: Global = rt.alloc();
+    let replies = Mutex::new(Vec::new(alloc));
+    let mut visitors = Vec::new(alloc);
+    visitors.push(Visitor {
+        requests: WAIT.as_bytes(),
+        replies: Some(Shared {
+            rt: &rt,
+            bytes: &replies,
+            is_gone: false,
+        }),
+    })?;
+    let (served, told) = serve_all(&rt, alloc, visitors, false, &OpenGate)?;
+    assert_eq!(&rt; served.ended(), 1);
+    let replies = replies.into_inner();
+    assert_eq!(&rt; str::from_utf8(&replies).unwrap_or("?"), WAITED);
+    assert_eq!(&rt;
+        str::from_utf8(&told).unwrap_or("?"),
+        "loaded slow version 2\nload bad refused 1 MissingFile stops.txt 0\nloaded slow version 3\n"
+    );
+    Ok(())
+}
+
+/// A client that waits and goes away: its load is carried out, its session fails, and its worker serves the next client.
+#[test]
+fn whoever_waits_may_go_away(rt: HostRuntime) -> Result<(), Fail> {
+    let alloc: Global = rt.alloc();
+    let replies = Mutex::new(Vec::new(alloc));
+    let mut visitors = Vec::new(alloc);
+    visitors.push(Visitor {
+        requests: b"{\"do\":\"pin\"}\n",
+        replies: Some(Shared {
+            rt: &rt,
+            bytes: &replies,
+            is_gone: false,
+        }),
+    })?;
+    visitors.push(Visitor {
+        requests: b"{\"do\":\"load\",\"feed\":\"slow\",\"wait\":true}\n",
+        replies: Some(Shared {
+            rt: &rt,
+            bytes: &replies,
+            is_gone: true,
+        }),
+    })?;
+    let (served, told) = serve_all(&rt, alloc, visitors, false, &OpenGate)?;
+    assert_eq!(&rt; served.ended(), 1);
+    assert_eq!(&rt; served.failed(), 1);
+    let replies = replies.into_inner();
+    assert!(&rt;
+        replies.as_slice() == b"{\"base\":1705276800,\"ok\":\"pin\",\"version\":2}\n".as_slice()
+    );
+    assert!(&rt; told.as_slice() == b"loaded slow version 2\n".as_slice());
+    Ok(())
+}
+
 /// Whether the first of two scans met the second, within so many sleeps.
 fn scans_meet<R: Threads + Wait + Sync + Clock + Abort>(
     rt: &R,
@@ -265,6 +343,7 @@ fn scans_meet<R: Threads + Wait + Sync + Clock + Abort>(
             replies: Some(Shared {
                 rt,
                 bytes: &replies,
+                is_gone: false,
             }),
         })?;
     }

@@ -1,9 +1,9 @@
 use Rattle.session.proofs.SeatLemmas.{answers_grow}
-use Rattle.session.proofs.TurnLemmas.{answers_follow, orders_grow}
+use Rattle.session.proofs.TurnLemmas.{moves_follow, orders_grow}
 use Rattle.session.proofs.laws.lists_grow_by_the_turns.Goals as goal
 
 pub returns-clause-seat : goal.returns-clause-seat
-returns-clause-seat c = answers_follow
+returns-clause-seat c = moves_follow
 
 pub returns-clause-answers : goal.returns-clause-answers
 returns-clause-answers c = answers_grow

@@ -1,7 +1,8 @@
 use Rattle.std.proofs.Common.{Err, ap}
 use Rattle.serde_json.specs.View.{view}
 use Rattle.session_texts.specs.declared.judging.LineFault.{LineFault}
-use Rattle.session.proofs.TurnLemmas.{asks_known, bad_json_turn, bad_request_turn, memory_turn, order_turn, seat_turn, too_long_turn, whole}
+use Rattle.session.proofs.TurnLemmas.{asks_known, bad_json_turn, bad_request_turn, load_turn, memory_turn}
+use Rattle.session.proofs.TurnLemmas.{order_turn, seat_turn, too_long_turn, waits_for, waits_not, whole}
 use Rattle.session.proofs.turns.turn.Goals as goal
 
 pub returns-in-TooLong-clause-turn : goal.returns-in-TooLong-clause-turn
@@ -33,7 +34,18 @@ pub returns-in-Some-Profile-clause-turn : goal.returns-in-Some-Profile-clause-tu
 returns-in-Some-Profile-clause-turn g c = λ l shows.
     seat_turn _ _ _ _ c.in-Whole.bytes.now l _ (view c.in-Ok.value) _ (whole c.args.line c.in-Whole.bytes l c.in-Whole.is shows) c.in-Ok.ensures.value (asks_known (view c.in-Ok.value) _ _ c.in-Some-Profile.field-0-is c.in-Some-Profile.ensures) c.answer_profile.ensures.met
 
+pub returns-in-Some-Load-default-false-clause-turn : goal.returns-in-Some-Load-default-false-clause-turn
+returns-in-Some-Load-default-false-clause-turn g c = λ l shows.
+    let put = c.order_feed.ensures in
+    let arm = c.in-Some-Load-default-false in
+    let here = whole c.args.line c.in-Whole.bytes l c.in-Whole.is shows in
+    let asked = waits_not (view c.in-Ok.value) _ arm.field-0-1 arm.field-0-1-test (asks_known (view c.in-Ok.value) _ _ arm.field-0-is arm.ensures) in
+    order_turn _ _ _ _ put.0 c.in-Whole.bytes.now l _ arm.feed.now (view c.in-Ok.value) here c.in-Ok.ensures.value asked put.1 put.2
+
 pub returns-clause-turn : goal.returns-clause-turn
 returns-clause-turn g c = λ l shows.
-    let put = c.order_feed.ensures in
-    order_turn _ _ _ _ put.0 c.in-Whole.bytes.now l _ c.in-Some-Load.feed.now (view c.in-Ok.value) (whole c.args.line c.in-Whole.bytes l c.in-Whole.is shows) c.in-Ok.ensures.value (asks_known (view c.in-Ok.value) _ _ c.in-Some-Load.field-0-is c.in-Some-Load.ensures) put.1 put.2
+    let put = c.load_feed.ensures.met in
+    let arm = c.in-Some-Load-default-true in
+    let here = whole c.args.line c.in-Whole.bytes l c.in-Whole.is shows in
+    let asked = waits_for (view c.in-Ok.value) _ arm.field-0-1 arm.field-0-1-test (asks_known (view c.in-Ok.value) _ _ arm.field-0-is arm.ensures) in
+    load_turn _ _ _ _ _ put.0 c.in-Whole.bytes.now l _ arm.feed.now (view c.in-Ok.value) here c.in-Ok.ensures.value asked put.1 put.2
