@@ -390,3 +390,52 @@ fn scans_are_left_behind_their_replies(rt: HostRuntime) -> Result<(), Fail> {
     assert_eq!(&rt; notes.noted.as_str(), "00101000000");
     Ok(())
 }
+
+const GROWING: [Asked; 4] = [Asked::Profile, Asked::Pin, Asked::Profile, Asked::Release];
+
+// What is told where memory is wanting at this line: nothing comes of the line.
+fn wanting_at(alloc: Global, line: usize) -> Result<Script, AllocError> {
+    let mut script = Script::new(alloc)?;
+    for place in 0..4 {
+        if place == line {
+            ask(GROWING[place], &mut script.requests)?;
+            refuse(116, "OutOfMemory", &mut script.replies)?;
+        } else {
+            script.add(GROWING[place])?;
+        }
+    }
+    Ok(script)
+}
+
+fn is_told_by_one(scripts: &[Script], replies: &[u8]) -> bool {
+    scripts
+        .iter()
+        .any(|script| script.replies.as_bytes() == replies)
+}
+
+/// Whichever growth is refused while a line is answered, that line's reply tells want of memory, the others are as ever, and a pin that can't be
+/// told is given back. A refused growth ends the test with `AllocError`.
+#[test]
+fn refused_growth_is_told_by_a_reply(rt: HostRuntime) -> Result<(), Fail> {
+    let alloc: Global = rt.alloc();
+    let whole = wanting_at(alloc, 4)?;
+    let mut wanting = Vec::new(alloc);
+    for line in 0..4 {
+        wanting.push(wanting_at(alloc, line)?)?;
+    }
+    let mut taker = taker_of(alloc, 10_000, true);
+    taker.taken.reserve(10_000)?;
+    let reader = Pieces {
+        rest: whole.requests.as_bytes(),
+        most: 100,
+        is_failing: false,
+    };
+    let (first, feeds) = (image(alloc, 0)?, Vec::new(alloc));
+    let (ended, taker) = talked(&rt, alloc, first, feeds, reader, taker, &OpenGate)?;
+    assert!(&rt; ended == Ok(Ended));
+    if is_told_by_one(&wanting, &taker.taken) {
+        return Err(AllocError.into());
+    }
+    assert!(&rt; taker.taken.as_slice() == whole.replies.as_bytes());
+    Ok(())
+}

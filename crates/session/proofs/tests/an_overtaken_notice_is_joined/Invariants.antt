@@ -2,4 +2,4 @@ use Rattle.session.proofs.tests.an_overtaken_notice_is_joined.Given as goal
 
 -- the shelves that were just made
 abbrev pub ghosts-overtaken_at : goal.ghosts-overtaken_at
-ghosts-overtaken_at a = record { table = a.shelves }
+ghosts-overtaken_at g a = record { table = a.shelves }
