@@ -3,12 +3,14 @@
 
 use csa_program::run;
 use std::env;
-use std::io::IsTerminal;
+use std::io::{ErrorKind, IsTerminal};
 use std::process::ExitCode;
 
 fn main(rt: HostRuntime) -> ExitCode {
-    let Ok(arguments) = env::args(&rt) else {
-        return ExitCode::from(64);
+    let arguments = match env::args(&rt) {
+        Ok(arguments) => arguments,
+        Err(fault) if fault.kind() == ErrorKind::OutOfMemory => return ExitCode::from(4),
+        Err(_) => return ExitCode::from(64),
     };
     let words: Vec<String> = match arguments.collect(rt.alloc()) {
         Ok(words) => words,

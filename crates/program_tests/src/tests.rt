@@ -1,6 +1,5 @@
 //! The commands as a user runs them: words and input in, lines and a status out.
 
-use crate::feed_tests::{base_feed, clear_feed};
 use csa_program::{Disk, run};
 use image_layout::{Words, sample_words};
 use std::alloc::{AllocError, Global};
@@ -359,67 +358,4 @@ fn a_line_that_cannot_be_written_is_told(rt: HostRuntime) -> Result<(), Fail> {
     let status = run(&rt, &VERIFY, &mut input, &mut output, &mut errors, false);
     assert_eq!(rt; status, 3);
     Ok(())
-}
-
-/// Asks the program over an input, with room for what it writes. Where a growth is refused, the status says that alone.
-fn ends_well_or_with_4<R: Machine + Net<Listener = TcpListener, Stream = TcpStream> + Abort>(
-    rt: &R,
-    words: &[&str],
-    bytes: &[u8],
-) -> Result<(), Fail> {
-    let mut input: &[u8] = bytes;
-    let mut room = [0u8; 256];
-    let mut more_room = [0u8; 256];
-    let mut output: &mut [u8] = &mut room;
-    let mut errors: &mut [u8] = &mut more_room;
-    match run(rt, words, &mut input, &mut output, &mut errors, false) {
-        0 => Ok(()),
-        status => {
-            assert_eq!(rt; status, 4);
-            assert_eq!(rt; output.len(), 256);
-            assert_eq!(rt; errors.len(), 256);
-            Err(Fail::from(AllocError))
-        }
-    }
-}
-
-/// A folder of the base feed. It may be there already: a test whose growth is refused leaves it.
-fn lay_again<R: Machine + Net<Listener = TcpListener, Stream = TcpStream> + Abort>(
-    rt: &R,
-    folder: &str,
-) -> Result<(), Fail> {
-    let _ = fs::create_dir(rt, folder);
-    for (name, text) in base_feed() {
-        let path = format!(in rt.alloc(); "{folder}/{name}")?;
-        fs::write(rt, path.as_str(), text)?;
-    }
-    Ok(())
-}
-
-/// Whichever growth is refused, the status is 4, and nothing is said of it.
-#[test]
-fn refused_growth_ends_with_4(rt: HostRuntime) -> Result<(), Fail> {
-    let bytes = Words::to_bytes(rt.alloc(), &sample_words())?;
-    lay_again(&rt, "wanting")?;
-    let plan = "--first 20240115 --days 1 --zone fixed:0";
-    let query = "--from A --to C --after 07:00:00 --until 09:00:00 --by 10:00:00";
-    let profile = format!(in rt.alloc(); "csa profile - {query} --criterion arrival+trips")?;
-    let build = format!(in rt.alloc(); "csa build wanting wanting.csa {plan}")?;
-    for line in [
-        "csa verify -",
-        "csa stops - A",
-        "csa upgrade - wanting.csa",
-        "csa tables wanting",
-        profile.as_str(),
-        build.as_str(),
-    ] {
-        let mut words = Vec::with_capacity(rt.alloc(), 16)?;
-        for word in line.split(' ') {
-            words.push(word)?;
-        }
-        ends_well_or_with_4(&rt, &words, &bytes)?;
-    }
-    ends_well_or_with_4(&rt, &journey_words(BY_CHANGE, "09:00:00"), &bytes)?;
-    fs::remove_file(&rt, "wanting.csa")?;
-    clear_feed(&rt, "wanting", &base_feed())
 }
