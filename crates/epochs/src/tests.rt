@@ -104,7 +104,8 @@ fn load<T: Loads, R: Wait>(
     match shelves.publish(rt, loader, image) {
         Ok((version, notice)) => {
             let found = shelves.collect(rt, loader);
-            Some((version, notice, found.freed))
+            let freed = found.freed;
+            Some((version, notice, freed))
         }
         Err(_) => None,
     }
