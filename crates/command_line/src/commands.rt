@@ -25,8 +25,8 @@ const BUILD_EXAMPLE: &str =
 const SERVE_EXAMPLE: &str =
     "Example: csa serve --image examples/base.csa --port 7077 --workers 2 --sessions 0 --first 20240115 --days 1 --zone fixed:0 \
 slow=examples/slow\n\
-A session is lines of JSON over TCP: {\"do\":\"pin\"}, {\"do\":\"release\"}, {\"do\":\"load\",\"feed\":\"slow\"} and \
-{\"do\":\"profile\",\"from\":\"A\",\"to\":\"C\",\"after\":\"07:00:00\",\"until\":\"09:00:00\",\"by\":\"10:00:00\",\
+A session is lines of JSON over TCP: {\"do\":\"pin\"}, {\"do\":\"release\"}, {\"do\":\"load\",\"feed\":\"slow\"} (with \"wait\":true \
+it replies once the new version stands, or why it doesn't) and {\"do\":\"profile\",\"from\":\"A\",\"to\":\"C\",\"after\":\"07:00:00\",\"until\":\"09:00:00\",\"by\":\"10:00:00\",\
 \"criterion\":\"arrival\"}";
 
 fn word<'a>(alloc: Global, id: &'a str, name: &'a str, help: &'a str) -> Arg<'a> {

@@ -194,10 +194,11 @@ fn repeated(frequencies: &'static [u8]) -> Texts {
     }
 }
 
-// How many runs and connections two days have, whichever the starts are, exact or not, in whichever order of the rows.
+// How many runs and connections two days have, whichever the starts are, exact or not, in whichever order of the rows, also
+// where so many rows overlap that seconds are marked.
 #[test]
 fn starts_are_counted_once(rt: HostRuntime) -> Result<(), Fail> {
-    let tables: [(&'static [u8], usize, usize, usize); 6] = [
+    let tables: [(&'static [u8], usize, usize, usize); 7] = [
         (
             b"trip_id,start_time,end_time,headway_secs\nT,09:00:00,10:00:00,1200\n",
             8,
@@ -227,6 +228,12 @@ fn starts_are_counted_once(rt: HostRuntime) -> Result<(), Fail> {
             6,
             10,
             2,
+        ),
+        (
+            b"trip_id,start_time,end_time,headway_secs\nT,00:00:00,00:01:00,10\nT,00:00:05,00:01:00,10\nT,00:00:00,00:02:00,7\nT,00:00:03,00:02:00,7\nT,00:00:30,00:00:45,1\nT,00:00:30,00:02:00,45\n",
+            108,
+            214,
+            1,
         ),
         (NO_FREQUENCIES, 4, 6, 0),
     ];

@@ -3,10 +3,20 @@
 
 use csa_program::run;
 use std::env;
+use std::fs::File;
 use std::io::{ErrorKind, IsTerminal};
 use std::process::ExitCode;
 
+// A folder: neither reads nor writes of it succeed.
+const FOLDER: &str = "/";
+
 fn main(rt: HostRuntime) -> ExitCode {
+    // In the place of a stream that was closed the next file or client that is opened would stand: these do, until the end.
+    let _held = [
+        File::open(&rt, FOLDER),
+        File::open(&rt, FOLDER),
+        File::open(&rt, FOLDER),
+    ];
     let arguments = match env::args(&rt) {
         Ok(arguments) => arguments,
         Err(fault) if fault.kind() == ErrorKind::OutOfMemory => return ExitCode::from(4),

@@ -172,22 +172,6 @@ impl FileRows for Vec<FrequencyRow> {
     }
 }
 
-impl OptionalRows for Vec<CalendarRow> {
-    ghost are_none = { λ rows. rows.items ≡ [] };
-
-    fn none(alloc: Global) -> Vec<CalendarRow> {
-        Vec::new(alloc)
-    }
-}
-
-impl OptionalRows for Vec<CalendarDateRow> {
-    ghost are_none = { λ rows. rows.items ≡ [] };
-
-    fn none(alloc: Global) -> Vec<CalendarDateRow> {
-        Vec::new(alloc)
-    }
-}
-
 impl OptionalRows for Vec<TransferRow> {
     ghost are_none = { λ rows. rows.items ≡ [] };
 
