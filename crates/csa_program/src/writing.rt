@@ -1,6 +1,7 @@
 //! An image's words into a file.
 
 use image_layout::Words;
+use std::alloc::Global;
 use std::fs::File;
 use std::io::Write;
 use std::rt::Files;
@@ -21,9 +22,12 @@ fn is_special<H: Files>(rt: &H, path: &str) -> bool {
 /// it is the one that was read. Into anything else the words are written.
 pub fn put_image<H: Files + AllocGlobal>(rt: &H, path: &str, words: &[u32]) -> io::Result<()> {
     if is_special(rt, path) {
-        return write_words(rt, path, words);
+        let mut file = File::create(rt, path)?;
+        return write_words(rt.alloc(), &mut file, words);
     }
     let beside = format!(in rt.alloc(); "{path}.part")?;
+    // What a run that was ended left there goes; so does a link, which then isn't followed.
+    let _ = fs::remove_file(rt, beside.as_str());
     let outcome = put_by_way_of(rt, beside.as_str(), path, words);
     if outcome.is_err() {
         let _ = fs::remove_file(rt, beside.as_str());
@@ -37,15 +41,15 @@ fn put_by_way_of<H: Files + AllocGlobal>(
     path: &str,
     words: &[u32],
 ) -> io::Result<()> {
-    write_words(rt, beside, words)?;
+    let mut file = File::create_new(rt, beside)?;
+    write_words(rt.alloc(), &mut file, words)?;
     fs::rename(rt, beside, path)
 }
 
 // Writes the words by pieces, so that they aren't held as bytes beside them.
-fn write_words<H: Files + AllocGlobal>(rt: &H, path: &str, words: &[u32]) -> io::Result<()> {
-    let mut file = File::create(rt, path)?;
+fn write_words<W: Write>(alloc: Global, file: &mut W, words: &[u32]) -> io::Result<()> {
     for piece in words.chunks(PIECE_WORDS) {
-        let bytes = Words::to_bytes(rt.alloc(), piece)?;
+        let bytes = Words::to_bytes(alloc, piece)?;
         file.write_all(&bytes)?;
     }
     file.flush()
