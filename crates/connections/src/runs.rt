@@ -74,7 +74,7 @@ fn running_on(
     ensures told { (feed : JoinedFeed) → HoldsServices feed.calendar.items feed.calendar_dates.items services.now
         → IfOk result (λ running. running.items ≡ map (runs_then feed day) trips.now) }
 {
-    let mut asked = DayServices::new(alloc);
+    let mut asked = DayServices::new(alloc, services);
     let mut running = Vec::with_capacity(alloc, trips.len())?;
     for trip in trips {
         let runs = is_running(&mut asked, services, day, trip)?;
@@ -303,7 +303,7 @@ pub(crate) fn runs_on(
     ensures err { IfErr result (λ fault. IsWantOfMemory fault
         ⊎ ((fault ≡ too_many_of Table.Trips) × (MAX_TRIPS < length (runs_of_days feed.now (map (λ d. d.day) days.now))))) }
 {
-    let Ok(services) = Services::new(alloc, &feed.calendar, &feed.calendar_dates) else {
+    let Ok(services) = Services::new(alloc, feed.hash, &feed.calendar, &feed.calendar_dates) else {
         return Err(out_of_memory());
     };
     let Ok(groups) = rows_by_trip(alloc, &feed.frequencies, feed.trips.len()) else {

@@ -11,6 +11,7 @@ use feed_loader::{LoadFault, Report};
 use std::alloc::{AllocError, Global};
 use std::io;
 use std::io::{ErrorKind, Write};
+use std::random::RandomSource;
 use std::rt::Files;
 
 /// Why no image is written.
@@ -45,7 +46,7 @@ impl<'a> From<PlanFailure<'a>> for Failure<'a> {
 
 /// Makes the image of the folder's feed, writes it, and prints what was counted; or tells the first thing that is wrong. The file
 /// is written only where nothing was. Where that is asked for, or `errors` is a terminal, it is told there what is done.
-pub fn run<H: Files + AllocGlobal, O: Write, E: Write>(
+pub fn run<H: Files + RandomSource + AllocGlobal, O: Write, E: Write>(
     rt: &H,
     request: BuildRequest<'_>,
     output: &mut O,
@@ -68,7 +69,7 @@ pub fn run<H: Files + AllocGlobal, O: Write, E: Write>(
     }
 }
 
-fn build<'a, H: Files + AllocGlobal, E: Write>(
+fn build<'a, H: Files + RandomSource + AllocGlobal, E: Write>(
     rt: &H,
     request: BuildRequest<'a>,
     log: Option<&mut E>,

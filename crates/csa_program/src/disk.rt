@@ -3,7 +3,9 @@
 ghost use Rattle.std.specs.Prelude.{◌≡◌, [], None};
 
 use feed_files::{FailedNames, FeedFiles, FileFault, FolderFiles};
+use gtfs_tables::IdHash;
 use std::alloc::Global;
+use std::random::RandomSource;
 use std::rt::Files;
 
 /// A disk with feeds' folders. It asks of a machine no more than that, so that its files can be read from any thread.
@@ -15,9 +17,12 @@ pub trait Disk {
         folder: &str,
         name: &str,
     ) -> Result<Option<Vec<u8>>, FileFault>;
+
+    /// A hash of a new random key, by which ids of a feed's files are looked up.
+    fn id_hash(&self) -> IdHash;
 }
 
-impl<H: Files + AllocGlobal> Disk for H {
+impl<H: Files + RandomSource + AllocGlobal> Disk for H {
     fn feed_file(
         &self,
         alloc: Global,
@@ -26,6 +31,10 @@ impl<H: Files + AllocGlobal> Disk for H {
     ) -> Result<Option<Vec<u8>>, FileFault> {
         FolderFiles::new(self, folder).read(alloc, name)
     }
+
+    fn id_hash(&self) -> IdHash {
+        IdHash::random(self)
+    }
 }
 
 /// The files of a folder on a disk. No contract says what a disk holds, so it tells nothing of their bytes.
@@ -33,6 +42,7 @@ impl<H: Files + AllocGlobal> Disk for H {
 pub struct DiskFolder<'a, H> {
     disk: &'a H,
     folder: &'a str,
+    hash: IdHash,
     failures: u64,
     failed: FailedNames,
 }
@@ -46,6 +56,7 @@ impl<'a, H: Disk> DiskFolder<'a, H> {
         DiskFolder {
             disk,
             folder,
+            hash: disk.id_hash(),
             failures: 0,
             failed: FailedNames::none(),
         }
@@ -66,5 +77,9 @@ impl<'a, H: Disk> FeedFiles for DiskFolder<'a, H> {
             self.failed.note(name);
         }
         read
+    }
+
+    fn id_hash(&self) -> IdHash {
+        self.hash
     }
 }

@@ -27,6 +27,7 @@ use command_line::{Request, Unread, read};
 use std::convert::AsStr;
 use std::io::{Read, Write};
 use std::net::{Net, TcpListener, TcpStream};
+use std::random::RandomSource;
 use std::rt::Files;
 use std::sync::Wait;
 use std::thread::Threads;
@@ -39,6 +40,7 @@ use std::thread::Threads;
 /// done.
 pub fn run<
     H: Files
+        + RandomSource
         + Disk
         + AllocGlobal
         + Net<Listener = TcpListener, Stream = TcpStream>

@@ -5,6 +5,7 @@ ghost use Rattle.connections.specs.declared.days.TheConstants.{MAX_DAYS};
 
 use feed_files::{FeedFiles, FileFault};
 use feed_loader::{LoadFault, Plan, Report, load};
+use gtfs_tables::IdHash;
 use image_verifier::Verified;
 use std::alloc::Global;
 use std::io::Write;
@@ -74,5 +75,9 @@ impl<F: FeedFiles, W: Write> FeedFiles for ToldFiles<F, W> {
             self.tell(alloc, "making", "connections and footpaths");
         }
         read
+    }
+
+    fn id_hash(&self) -> IdHash {
+        self.files.id_hash()
     }
 }

@@ -7,10 +7,15 @@ use feed_loader::LoadFault;
 use gtfs_tables::{Tables, join};
 use std::alloc::{AllocError, Global};
 use std::io::Write;
+use std::random::RandomSource;
 use std::rt::Files;
 
 /// Reads and joins the tables of the folder's files, and prints how many records each has, or the first thing that is wrong.
-pub fn run<H: Files + AllocGlobal, O: Write>(rt: &H, folder: &str, output: &mut O) -> u8 {
+pub fn run<H: Files + RandomSource + AllocGlobal, O: Write>(
+    rt: &H,
+    folder: &str,
+    output: &mut O,
+) -> u8 {
     let alloc = rt.alloc();
     match count_records(rt, folder) {
         Ok(line) => status::line_written(output, line, status::ACCEPTED),
@@ -19,7 +24,7 @@ pub fn run<H: Files + AllocGlobal, O: Write>(rt: &H, folder: &str, output: &mut 
 }
 
 // The line of counts, where the tables can be read and joined.
-fn count_records<H: Files + AllocGlobal>(
+fn count_records<H: Files + RandomSource + AllocGlobal>(
     rt: &H,
     folder: &str,
 ) -> Result<Result<String, AllocError>, LoadFault> {

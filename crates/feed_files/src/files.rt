@@ -3,6 +3,7 @@
 ghost use Rattle.std.specs.Prelude.{◌≡◌, ℕ, List, Option, IfOk, IfSome, option_map};
 ghost use Rattle.feed_files.specs.Files.{counted, failed_also};
 
+use gtfs_tables::IdHash;
 use std::alloc::Global;
 use thiserror::Error;
 
@@ -35,4 +36,8 @@ pub trait FeedFiles {
         ensures same { holds self.new ≡ holds self.old }
         ensures failures { failures self.new ≡ counted (failures self.old) result }
         ensures failed { failed self.new ≡ failed_also (failed self.old) name.now result };
+
+    /// The hash by which ids that the files have are looked up: of a random key where strangers may have made them. No answer
+    /// depends on it.
+    fn id_hash(&self) -> IdHash;
 }

@@ -5,11 +5,13 @@ ghost use Rattle.feed_files.specs.Files.{one_more};
 
 use crate::failed::FailedNames;
 use crate::files::{FeedFiles, FileFault, LONGEST_FILE};
+use gtfs_tables::IdHash;
 use std::alloc::Global;
 use std::fs::{File, OpenFile};
 use std::io;
 use std::io::{ErrorKind, Read};
 use std::path::Path;
+use std::random::RandomSource;
 use std::rt::Files;
 
 /// The files of a folder. No contract says what a disk holds, so it tells nothing of their bytes.
@@ -17,12 +19,13 @@ use std::rt::Files;
 pub struct FolderFiles<'a, H> {
     rt: &'a H,
     folder: &'a str,
+    hash: IdHash,
     failures: u64,
     failed: FailedNames,
 }
 
-impl<'a, H: Files + AllocGlobal> FolderFiles<'a, H> {
-    /// The files of the folder at a path, which need not be there: then no file is.
+impl<'a, H: Files + RandomSource + AllocGlobal> FolderFiles<'a, H> {
+    /// The files of the folder at a path, which need not be there: then no file is. Their ids get a hash of a random key.
     pub fn new(rt: &'a H, folder: &'a str) -> FolderFiles<'a, H>
         ensures failures { result.failures ≡ 0 }
         ensures failed { result.failed ≡ [] }
@@ -30,6 +33,7 @@ impl<'a, H: Files + AllocGlobal> FolderFiles<'a, H> {
         FolderFiles {
             rt,
             folder,
+            hash: IdHash::random(rt),
             failures: 0,
             failed: FailedNames::none(),
         }
@@ -95,7 +99,7 @@ pub(crate) fn file_up_to<H: Files>(
     }
 }
 
-impl<'a, H: Files + AllocGlobal> FeedFiles for FolderFiles<'a, H> {
+impl<'a, H: Files + RandomSource + AllocGlobal> FeedFiles for FolderFiles<'a, H> {
     ghost failures = { λ files. files.failures };
 
     ghost failed = { λ files. files.failed };
@@ -109,5 +113,9 @@ impl<'a, H: Files + AllocGlobal> FeedFiles for FolderFiles<'a, H> {
             self.failed.note(name);
         }
         read
+    }
+
+    fn id_hash(&self) -> IdHash {
+        self.hash
     }
 }

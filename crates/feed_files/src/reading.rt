@@ -9,8 +9,8 @@ ghost use Rattle.feed_files.specs.Reading.{Content, FineBefore, HoldsCalendars, 
 use crate::files::{FeedFiles, FileFault};
 use crate::tables::{FileRows, OptionalRows};
 use gtfs_tables::{
-    AgencyRow, CalendarDateRow, CalendarRow, FaultKind, FrequencyRow, StopRow, StopTimes, Table,
-    TableFault, Tables, TransferRow, TripRow,
+    AgencyRow, CalendarDateRow, CalendarRow, FaultKind, FrequencyRow, IdHash, StopRow, StopTimes,
+    Table, TableFault, Tables, TransferRow, TripRow,
 };
 use std::alloc::Global;
 use thiserror::Error;
@@ -50,12 +50,12 @@ fn bytes_of<F: FeedFiles, T: FileRows>(
 }
 
 // The rows of bytes, as a part of reading the feed.
-fn rows_of<T: FileRows>(alloc: Global, bytes: &[u8]) -> Result<Option<T>, ReadFault>
+fn rows_of<T: FileRows>(alloc: Global, hash: IdHash, bytes: &[u8]) -> Result<Option<T>, ReadFault>
     ensures ok { IfOk result (λ rows. IsHeld T.holds (Some bytes.now) rows) }
     ensures failures { failed_in result ≡ 0 }
     ensures err { IfErr result (NoRows T.table (OptionalFault T.tells (Some bytes.now))) }
 {
-    match T::rows_of(alloc, bytes) {
+    match T::rows_of(alloc, hash, bytes) {
         Ok(rows) => Ok(Some(rows)),
         Err(fault) => Err(ReadFault::Table(fault)),
     }
@@ -70,7 +70,7 @@ fn optional<F: FeedFiles, T: FileRows>(alloc: Global, files: &mut F) -> Result<O
     ensures err { (bytes : Option (List ℕ)) → F.holds files.old (file_name T.table) ≡ Some bytes → IfErr result (NoRows T.table (OptionalFault T.tells bytes)) }
 {
     match bytes_of::<F, T>(alloc, files) {
-        Ok(Some(bytes)) => rows_of(alloc, &bytes),
+        Ok(Some(bytes)) => rows_of(alloc, files.id_hash(), &bytes),
         Ok(None) => Ok(None),
         Err(fault) => Err(fault),
     }

@@ -10,9 +10,9 @@ ghost use Rattle.gtfs_rows.specs.Tables.{HoldsAgencies, HoldsCalendar, HoldsCale
 ghost use Rattle.feed_files.specs.Reading.{HoldsStopsInLimit, HoldsTripsInLimit};
 
 use gtfs_tables::{
-    AgencyRow, CalendarDateRow, CalendarRow, FaultKind, FrequencyRow, StopRow, StopTimes, Table,
-    TableFault, TransferRow, TripRow, read_agency, read_calendar, read_calendar_dates,
-    read_frequencies, read_stop_times, read_stops, read_transfers, read_trips,
+    AgencyRow, CalendarDateRow, CalendarRow, FaultKind, FrequencyRow, IdHash, StopRow, StopTimes,
+    Table, TableFault, TransferRow, TripRow, read_agency, read_calendar_by, read_calendar_dates_by,
+    read_frequencies, read_stop_times_by, read_stops_by, read_transfers, read_trips_by,
 };
 use std::alloc::Global;
 
@@ -28,8 +28,8 @@ pub(crate) trait FileRows: Sized + Drop {
     fn table() -> Table
         ensures { result ≡ table };
 
-    // The rows of the file's bytes, or their first fault.
-    fn rows_of(alloc: Global, bytes: &[u8]) -> Result<Self, TableFault>
+    // The rows of the file's bytes, or their first fault; ids are looked up by the hash.
+    fn rows_of(alloc: Global, hash: IdHash, bytes: &[u8]) -> Result<Self, TableFault>
         ensures ok { IfOk result (λ rows. holds bytes.now rows) }
         ensures file { IfErr result (λ fault. fault.table ≡ table) }
         ensures err { IfErr result (λ fault. fault.kind ≢ FaultKind.OutOfMemory → tells bytes.now fault.row fault.kind) };
@@ -55,7 +55,7 @@ impl FileRows for Vec<AgencyRow> {
         Table::Agency
     }
 
-    fn rows_of(alloc: Global, bytes: &[u8]) -> Result<Vec<AgencyRow>, TableFault> {
+    fn rows_of(alloc: Global, _hash: IdHash, bytes: &[u8]) -> Result<Vec<AgencyRow>, TableFault> {
         read_agency(alloc, bytes)
     }
 }
@@ -71,8 +71,8 @@ impl FileRows for Vec<StopRow> {
         Table::Stops
     }
 
-    fn rows_of(alloc: Global, bytes: &[u8]) -> Result<Vec<StopRow>, TableFault> {
-        read_stops(alloc, bytes)
+    fn rows_of(alloc: Global, hash: IdHash, bytes: &[u8]) -> Result<Vec<StopRow>, TableFault> {
+        read_stops_by(alloc, hash, bytes)
     }
 }
 
@@ -87,8 +87,8 @@ impl FileRows for Vec<TripRow> {
         Table::Trips
     }
 
-    fn rows_of(alloc: Global, bytes: &[u8]) -> Result<Vec<TripRow>, TableFault> {
-        read_trips(alloc, bytes)
+    fn rows_of(alloc: Global, hash: IdHash, bytes: &[u8]) -> Result<Vec<TripRow>, TableFault> {
+        read_trips_by(alloc, hash, bytes)
     }
 }
 
@@ -103,8 +103,8 @@ impl FileRows for StopTimes {
         Table::StopTimes
     }
 
-    fn rows_of(alloc: Global, bytes: &[u8]) -> Result<StopTimes, TableFault> {
-        read_stop_times(alloc, bytes)
+    fn rows_of(alloc: Global, hash: IdHash, bytes: &[u8]) -> Result<StopTimes, TableFault> {
+        read_stop_times_by(alloc, hash, bytes)
     }
 }
 
@@ -119,8 +119,8 @@ impl FileRows for Vec<CalendarRow> {
         Table::Calendar
     }
 
-    fn rows_of(alloc: Global, bytes: &[u8]) -> Result<Vec<CalendarRow>, TableFault> {
-        read_calendar(alloc, bytes)
+    fn rows_of(alloc: Global, hash: IdHash, bytes: &[u8]) -> Result<Vec<CalendarRow>, TableFault> {
+        read_calendar_by(alloc, hash, bytes)
     }
 }
 
@@ -135,8 +135,12 @@ impl FileRows for Vec<CalendarDateRow> {
         Table::CalendarDates
     }
 
-    fn rows_of(alloc: Global, bytes: &[u8]) -> Result<Vec<CalendarDateRow>, TableFault> {
-        read_calendar_dates(alloc, bytes)
+    fn rows_of(
+        alloc: Global,
+        hash: IdHash,
+        bytes: &[u8],
+    ) -> Result<Vec<CalendarDateRow>, TableFault> {
+        read_calendar_dates_by(alloc, hash, bytes)
     }
 }
 
@@ -151,7 +155,7 @@ impl FileRows for Vec<TransferRow> {
         Table::Transfers
     }
 
-    fn rows_of(alloc: Global, bytes: &[u8]) -> Result<Vec<TransferRow>, TableFault> {
+    fn rows_of(alloc: Global, _hash: IdHash, bytes: &[u8]) -> Result<Vec<TransferRow>, TableFault> {
         read_transfers(alloc, bytes)
     }
 }
@@ -167,7 +171,11 @@ impl FileRows for Vec<FrequencyRow> {
         Table::Frequencies
     }
 
-    fn rows_of(alloc: Global, bytes: &[u8]) -> Result<Vec<FrequencyRow>, TableFault> {
+    fn rows_of(
+        alloc: Global,
+        _hash: IdHash,
+        bytes: &[u8],
+    ) -> Result<Vec<FrequencyRow>, TableFault> {
         read_frequencies(alloc, bytes)
     }
 }

@@ -5,7 +5,7 @@ use crate::files::{FeedFiles, FileFault};
 use crate::folder::{FolderFiles, file_up_to};
 use crate::memory::MemoryFiles;
 use crate::reading::{ReadFault, read_tables};
-use gtfs_tables::{FaultKind, Table, TableFault, Tables};
+use gtfs_tables::{FaultKind, IdHash, Table, TableFault, Tables};
 use std::alloc::{AllocError, Global};
 use std::fs;
 use std::test::Fail;
@@ -152,6 +152,10 @@ impl<'a> FeedFiles for Failing<'a> {
         }
         self.left -= 1;
         self.files.read(alloc, name)
+    }
+
+    fn id_hash(&self) -> IdHash {
+        self.files.id_hash()
     }
 }
 

@@ -4,7 +4,7 @@ ghost use Rattle.std.specs.Prelude.{◌≡◌};
 
 use super::*;
 use footpaths::FootFault;
-use gtfs_tables::{Day, FaultKind, Table, TableFault};
+use gtfs_tables::{Day, FaultKind, IdHash, Table, TableFault};
 use image_layout::{sample_words, second_sample_words};
 use image_verifier::{Verified, verify};
 use image_writer::write;
@@ -61,6 +61,49 @@ fn a_feed_makes_its_image(rt: HostRuntime) -> Result<(), Fail> {
         skipped: 0,
     };
     assert_eq!(rt; report, counted);
+    Ok(())
+}
+
+/// Files whose ids are looked up by this hash.
+#[derive(Drop)]
+struct Hashed<F> {
+    files: F,
+    hash: IdHash,
+}
+
+impl<F: FeedFiles> FeedFiles for Hashed<F> {
+    ghost failures = { λ hashed. F.failures hashed.files };
+
+    ghost failed = { λ hashed. F.failed hashed.files };
+
+    ghost holds = { λ hashed. F.holds hashed.files };
+
+    fn read(&mut self, alloc: Global, name: &str) -> Result<Option<Vec<u8>>, FileFault> {
+        self.files.read(alloc, name)
+    }
+
+    fn id_hash(&self) -> IdHash {
+        self.hash
+    }
+}
+
+/// Whatever the key of the hash, the image has the same words.
+#[test]
+fn an_image_has_no_trace_of_a_key(rt: HostRuntime) -> Result<(), Fail> {
+    for hash in [
+        IdHash::of_key(1),
+        IdHash::of_key(u64::MAX),
+        IdHash::random(&rt),
+    ] {
+        let mut files = Hashed {
+            files: MemoryFiles { files: &FILES },
+            hash,
+        };
+        let Ok((image, _report)) = load(rt.alloc(), &mut files, &one_day()) else {
+            panic!(rt; "the feed is refused");
+        };
+        assert!(rt; image.words() == second_sample_words().as_slice());
+    }
     Ok(())
 }
 
@@ -246,6 +289,10 @@ impl<'a> FeedFiles for Failing<'a> {
             return Err(FileFault::Failed);
         }
         self.held.read(alloc, name)
+    }
+
+    fn id_hash(&self) -> IdHash {
+        self.held.id_hash()
     }
 }
 

@@ -1,6 +1,7 @@
 // Each kind of fault in small files, what comes first where there are two, and the forms that a file may have.
 
 use crate::fault::{FaultKind, Table};
+use crate::id_hash::IdHash;
 use crate::read::{
     read_agency, read_calendar, read_calendar_dates, read_frequencies, read_stop_times, read_stops,
     read_transfers, read_trips, stops_up_to, trips_up_to,
@@ -271,22 +272,50 @@ fn limits(rt: HostRuntime) -> Result<(), Fail> {
     let alloc = rt.alloc();
     let kind = FaultKind::TooMany;
     let stops: &[u8] = b"stop_id,location_type\nA,0\nS,1\nB,\n";
-    assert_eq!(rt; stops_up_to(2, alloc, stops)?.len(), 3);
-    assert!(rt; tells(stops_up_to(1, alloc, stops), Table::Stops, 0, kind));
-    assert!(rt; tells(stops_up_to(0, alloc, stops), Table::Stops, 0, kind));
+    assert_eq!(rt; stops_up_to(2, alloc, IdHash::of_key(7), stops)?.len(), 3);
+    assert!(rt;
+        tells(
+            stops_up_to(1, alloc, IdHash::of_key(7), stops),
+            Table::Stops,
+            0,
+            kind
+        )
+    );
+    assert!(rt;
+        tells(
+            stops_up_to(0, alloc, IdHash::of_key(7), stops),
+            Table::Stops,
+            0,
+            kind
+        )
+    );
     let twice: &[u8] = b"stop_id,location_type\nA,0\nB,0\nA,0\n";
     assert!(rt;
         tells(
-            stops_up_to(0, alloc, twice),
+            stops_up_to(0, alloc, IdHash::of_key(7), twice),
             Table::Stops,
             3,
             FaultKind::IdTwice
         )
     );
     let trips: &[u8] = b"trip_id,service_id\nT,S\nU,S\n";
-    assert_eq!(rt; trips_up_to(2, alloc, trips)?.len(), 2);
-    assert!(rt; tells(trips_up_to(1, alloc, trips), Table::Trips, 0, kind));
-    assert!(rt; tells(trips_up_to(0, alloc, trips), Table::Trips, 0, kind));
-    assert!(rt; trips_up_to(0, alloc, b"trip_id,service_id\n")?.is_empty());
+    assert_eq!(rt; trips_up_to(2, alloc, IdHash::of_key(7), trips)?.len(), 2);
+    assert!(rt;
+        tells(
+            trips_up_to(1, alloc, IdHash::of_key(7), trips),
+            Table::Trips,
+            0,
+            kind
+        )
+    );
+    assert!(rt;
+        tells(
+            trips_up_to(0, alloc, IdHash::of_key(7), trips),
+            Table::Trips,
+            0,
+            kind
+        )
+    );
+    assert!(rt; trips_up_to(0, alloc, IdHash::of_key(7), b"trip_id,service_id\n")?.is_empty());
     Ok(())
 }

@@ -8,11 +8,15 @@ ghost use Rattle.gtfs_rows.specs.Ids.{seen_also};
 ghost use Rattle.gtfs_rows.specs.Rows.{StandsAt};
 
 use crate::fault::FaultKind;
+use crate::id_hash::IdHash;
 use indexmap::IndexSet;
 use std::alloc::Global;
 
 // Adds a key, if there is one, that isn't there yet.
-pub(crate) fn add_key(keys: &mut IndexSet<String>, key: Option<String>) -> Result<(), FaultKind>
+pub(crate) fn add_key(
+    keys: &mut IndexSet<String, IdHash>,
+    key: Option<String>,
+) -> Result<(), FaultKind>
     ensures new { OnOk result (is_among (option_map string_bytes key) (map string_bytes keys.old.keys) ≡ false) }
     ensures last { OnOk result (map string_bytes keys.new.keys ≡ map string_bytes keys.old.keys ++ option_to_list (option_map string_bytes key)) }
     ensures err { IfErr result (λ kind. kind ≢ FaultKind.OutOfMemory
@@ -34,7 +38,7 @@ pub(crate) fn add_key(keys: &mut IndexSet<String>, key: Option<String>) -> Resul
 // The place of an id, which goes last where it isn't there yet. It is first sought at a place where it is likely.
 pub(crate) fn place_of(
     alloc: Global,
-    ids: &mut IndexSet<String>,
+    ids: &mut IndexSet<String, IdHash>,
     likely: Option<u32>,
     id: &[u8],
 ) -> Result<u32, FaultKind>
@@ -59,7 +63,7 @@ pub(crate) fn place_of(
 }
 
 // The place, if the id is there.
-fn id_at(ids: &IndexSet<String>, place: Option<u32>, id: &[u8]) -> Option<u32>
+fn id_at(ids: &IndexSet<String, IdHash>, place: Option<u32>, id: &[u8]) -> Option<u32>
     ensures { IfSome result (λ place. StandsAt (map string_bytes ids.now.keys) place id.now) }
 {
     let place = place?;
@@ -72,7 +76,7 @@ fn id_at(ids: &IndexSet<String>, place: Option<u32>, id: &[u8]) -> Option<u32>
 }
 
 // The place of an id, if it is there.
-fn find_id(ids: &IndexSet<String>, id: &str) -> Option<usize>
+fn find_id(ids: &IndexSet<String, IdHash>, id: &str) -> Option<usize>
     ensures { IfSome result (λ place. StandsAt (map string_bytes ids.now.keys) place id.now) }
 {
     let (place, _) = ids.get_full(id)?;
@@ -80,7 +84,7 @@ fn find_id(ids: &IndexSet<String>, id: &str) -> Option<usize>
 }
 
 // The place of an id, which goes last where it isn't there yet.
-fn add_id(ids: &mut IndexSet<String>, id: String) -> Result<usize, FaultKind>
+fn add_id(ids: &mut IndexSet<String, IdHash>, id: String) -> Result<usize, FaultKind>
     ensures more { OnOk result (map string_bytes ids.new.keys ≡ seen_also (map string_bytes ids.old.keys) (string_bytes id)) }
     ensures ok { IfOk result (λ place. StandsAt (map string_bytes ids.new.keys) place (string_bytes id)) }
     ensures err { IfErr result (λ kind. kind ≡ FaultKind.OutOfMemory) }

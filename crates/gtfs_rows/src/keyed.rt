@@ -10,6 +10,7 @@ ghost use Rattle.gtfs_rows.specs.Faults.{HoldsRows, IsFaultOf, KeysOf, values_th
 ghost use Rattle.gtfs_rows.specs.declared.fault.FaultKind.{FaultKind as Kind};
 
 use crate::fault::{FaultKind, Table, TableFault};
+use crate::id_hash::IdHash;
 use crate::ids::add_key;
 use crate::reader::{TableRows, read_table};
 use csv::ByteRecord;
@@ -49,17 +50,17 @@ pub(crate) trait Row: Sized + Drop {
 #[derive(Drop)]
 pub(crate) struct Keyed<R> {
     pub(crate) rows: Vec<R>,
-    pub(crate) keys: IndexSet<String>,
+    pub(crate) keys: IndexSet<String, IdHash>,
 }
 
 impl<R: Row> Keyed<R> {
-    pub(crate) fn new(alloc: Global) -> Keyed<R>
+    pub(crate) fn new(alloc: Global, hash: IdHash) -> Keyed<R>
         ensures rows { result.rows.items ≡ [] }
         ensures keys { result.keys.keys ≡ [] }
     {
         Keyed {
             rows: Vec::new(alloc),
-            keys: IndexSet::new(alloc),
+            keys: IndexSet::with_hasher(alloc, hash),
         }
     }
 }
@@ -92,6 +93,7 @@ impl<R: Row> TableRows for Keyed<R> {
 // The rows of a file whose rows each stand for one record.
 pub(crate) fn read_rows<R: Row>(
     alloc: Global,
+    hash: IdHash,
     table: Table,
     bytes: &[u8],
     names: &[&str],
@@ -104,7 +106,7 @@ pub(crate) fn read_rows<R: Row>(
     ensures err { IfErr result (λ fault. fault.kind ≢ FaultKind.OutOfMemory
         → IsFaultOf (record { names = map (λ name. name.now) names.now; required = required; judge = λ places. values_then_key (R.values places) (R.key places) }) bytes.now fault.row fault.kind) }
 {
-    let keyed: Keyed<R> = Keyed::new(alloc);
+    let keyed: Keyed<R> = Keyed::new(alloc, hash);
     match read_table(keyed, alloc, table, bytes, names, required) {
         Ok(keyed) => Ok(keyed.rows),
         Err(fault) => Err(fault),

@@ -7,6 +7,7 @@ mod agencies;
 mod cells;
 mod changes;
 pub mod fault;
+pub mod id_hash;
 mod ids;
 mod keyed;
 pub mod laws;
@@ -20,9 +21,11 @@ mod stops;
 pub mod values;
 
 pub use fault::{FaultKind, Table, TableFault};
+pub use id_hash::IdHash;
 pub use read::{
-    MAX_STOPS, MAX_TRIPS, read_agency, read_calendar, read_calendar_dates, read_frequencies,
-    read_stop_times, read_stops, read_transfers, read_trips,
+    MAX_STOPS, MAX_TRIPS, read_agency, read_calendar, read_calendar_by, read_calendar_dates,
+    read_calendar_dates_by, read_frequencies, read_stop_times, read_stop_times_by, read_stops,
+    read_stops_by, read_transfers, read_trips, read_trips_by,
 };
 pub use rows::{
     AgencyRow, CalendarDateRow, CalendarRow, Exception, FrequencyRow, Location, StopRow,

@@ -6,6 +6,7 @@ ghost use Rattle.gtfs_rows.specs.Tables.{HoldsAgencies, HoldsCalendar, HoldsCale
 
 use crate::agencies::Agencies;
 use crate::fault::{FaultKind, Table, TableFault};
+use crate::id_hash::IdHash;
 use crate::keyed::read_rows;
 use crate::reader::read_table;
 use crate::rows::{
@@ -20,6 +21,11 @@ pub const MAX_STOPS: usize = 1_000_000;
 
 /// The greatest number of trips of a feed.
 pub const MAX_TRIPS: usize = 20_000_000;
+
+// The hash of ids that nobody made to collide, or that aren't looked up.
+fn known_key() -> IdHash {
+    IdHash::of_key(0)
+}
 
 /// The agencies of the bytes of `agency.txt`.
 pub fn read_agency(alloc: Global, bytes: &[u8]) -> Result<Vec<AgencyRow>, TableFault>
@@ -47,9 +53,22 @@ pub fn read_stop_times(alloc: Global, bytes: &[u8]) -> Result<StopTimes, TableFa
     ensures file { IfErr result (λ fault. fault.table ≡ Table.StopTimes) }
     ensures err { IfErr result (λ fault. fault.kind ≢ FaultKind.OutOfMemory → IsFaultOf stop_times_shape bytes.now fault.row fault.kind) }
 {
+    read_stop_times_by(alloc, known_key(), bytes)
+}
+
+/// What [`read_stop_times`] gives, its ids looked up by this hash.
+pub fn read_stop_times_by(
+    alloc: Global,
+    hash: IdHash,
+    bytes: &[u8],
+) -> Result<StopTimes, TableFault>
+    ensures ok { IfOk result (λ t. HoldsStopTimes bytes.now t) }
+    ensures file { IfErr result (λ fault. fault.table ≡ Table.StopTimes) }
+    ensures err { IfErr result (λ fault. fault.kind ≢ FaultKind.OutOfMemory → IsFaultOf stop_times_shape bytes.now fault.row fault.kind) }
+{
     let stop_times = StopTimes {
-        trips: IndexSet::new(alloc),
-        stops: IndexSet::new(alloc),
+        trips: IndexSet::with_hasher(alloc, hash),
+        stops: IndexSet::with_hasher(alloc, hash),
         rows: Vec::new(alloc),
     };
     let names = [
@@ -73,27 +92,40 @@ pub fn read_stop_times(alloc: Global, bytes: &[u8]) -> Result<StopTimes, TableFa
 }
 
 // The rows of the bytes of `stops.txt`, however many.
-fn stop_rows(alloc: Global, bytes: &[u8]) -> Result<Vec<StopRow>, TableFault>
+fn stop_rows(alloc: Global, hash: IdHash, bytes: &[u8]) -> Result<Vec<StopRow>, TableFault>
     ensures ok { IfOk result (λ rows. HoldsStops bytes.now rows.items) }
     ensures file { IfErr result (λ fault. fault.table ≡ Table.Stops) }
     ensures err { IfErr result (λ fault. fault.kind ≢ FaultKind.OutOfMemory → IsFaultOf stops_shape bytes.now fault.row fault.kind) }
 {
     let names = ["stop_id", "location_type", "parent_station"];
-    read_rows(alloc, Table::Stops, bytes, &names, 1)
+    read_rows(alloc, hash, Table::Stops, bytes, &names, 1)
 }
 
 // The rows of the bytes of `trips.txt`, however many.
-fn trip_rows(alloc: Global, bytes: &[u8]) -> Result<Vec<TripRow>, TableFault>
+fn trip_rows(alloc: Global, hash: IdHash, bytes: &[u8]) -> Result<Vec<TripRow>, TableFault>
     ensures ok { IfOk result (λ rows. HoldsTrips bytes.now rows.items) }
     ensures file { IfErr result (λ fault. fault.table ≡ Table.Trips) }
     ensures err { IfErr result (λ fault. fault.kind ≢ FaultKind.OutOfMemory → IsFaultOf trips_shape bytes.now fault.row fault.kind) }
 {
     let names = ["service_id", "trip_id"];
-    read_rows(alloc, Table::Trips, bytes, &names, 2)
+    read_rows(alloc, hash, Table::Trips, bytes, &names, 2)
 }
 
 /// The services by weekdays of the bytes of `calendar.txt`.
 pub fn read_calendar(alloc: Global, bytes: &[u8]) -> Result<Vec<CalendarRow>, TableFault>
+    ensures ok { IfOk result (λ rows. HoldsCalendar bytes.now rows.items) }
+    ensures file { IfErr result (λ fault. fault.table ≡ Table.Calendar) }
+    ensures err { IfErr result (λ fault. fault.kind ≢ FaultKind.OutOfMemory → IsFaultOf calendar_shape bytes.now fault.row fault.kind) }
+{
+    read_calendar_by(alloc, known_key(), bytes)
+}
+
+/// What [`read_calendar`] gives, its ids looked up by this hash.
+pub fn read_calendar_by(
+    alloc: Global,
+    hash: IdHash,
+    bytes: &[u8],
+) -> Result<Vec<CalendarRow>, TableFault>
     ensures ok { IfOk result (λ rows. HoldsCalendar bytes.now rows.items) }
     ensures file { IfErr result (λ fault. fault.table ≡ Table.Calendar) }
     ensures err { IfErr result (λ fault. fault.kind ≢ FaultKind.OutOfMemory → IsFaultOf calendar_shape bytes.now fault.row fault.kind) }
@@ -110,7 +142,7 @@ pub fn read_calendar(alloc: Global, bytes: &[u8]) -> Result<Vec<CalendarRow>, Ta
         "start_date",
         "end_date",
     ];
-    read_rows(alloc, Table::Calendar, bytes, &names, 10)
+    read_rows(alloc, hash, Table::Calendar, bytes, &names, 10)
 }
 
 /// The services' added and removed days of the bytes of `calendar_dates.txt`.
@@ -119,8 +151,21 @@ pub fn read_calendar_dates(alloc: Global, bytes: &[u8]) -> Result<Vec<CalendarDa
     ensures file { IfErr result (λ fault. fault.table ≡ Table.CalendarDates) }
     ensures err { IfErr result (λ fault. fault.kind ≢ FaultKind.OutOfMemory → IsFaultOf calendar_dates_shape bytes.now fault.row fault.kind) }
 {
+    read_calendar_dates_by(alloc, known_key(), bytes)
+}
+
+/// What [`read_calendar_dates`] gives, its ids looked up by this hash.
+pub fn read_calendar_dates_by(
+    alloc: Global,
+    hash: IdHash,
+    bytes: &[u8],
+) -> Result<Vec<CalendarDateRow>, TableFault>
+    ensures ok { IfOk result (λ rows. HoldsCalendarDates bytes.now rows.items) }
+    ensures file { IfErr result (λ fault. fault.table ≡ Table.CalendarDates) }
+    ensures err { IfErr result (λ fault. fault.kind ≢ FaultKind.OutOfMemory → IsFaultOf calendar_dates_shape bytes.now fault.row fault.kind) }
+{
     let names = ["service_id", "date", "exception_type"];
-    read_rows(alloc, Table::CalendarDates, bytes, &names, 3)
+    read_rows(alloc, hash, Table::CalendarDates, bytes, &names, 3)
 }
 
 /// The transfers of the bytes of `transfers.txt`.
@@ -139,7 +184,7 @@ pub fn read_transfers(alloc: Global, bytes: &[u8]) -> Result<Vec<TransferRow>, T
         "from_trip_id",
         "to_trip_id",
     ];
-    read_rows(alloc, Table::Transfers, bytes, &names, 2)
+    read_rows(alloc, known_key(), Table::Transfers, bytes, &names, 2)
 }
 
 /// The rows of the bytes of `frequencies.txt`.
@@ -149,7 +194,7 @@ pub fn read_frequencies(alloc: Global, bytes: &[u8]) -> Result<Vec<FrequencyRow>
     ensures err { IfErr result (λ fault. fault.kind ≢ FaultKind.OutOfMemory → IsFaultOf frequencies_shape bytes.now fault.row fault.kind) }
 {
     let names = ["trip_id", "start_time", "end_time", "headway_secs"];
-    read_rows(alloc, Table::Frequencies, bytes, &names, 4)
+    read_rows(alloc, known_key(), Table::Frequencies, bytes, &names, 4)
 }
 
 /// The stops and other places of the bytes of `stops.txt`, of which at most [`MAX_STOPS`] are stops.
@@ -159,13 +204,24 @@ pub fn read_stops(alloc: Global, bytes: &[u8]) -> Result<Vec<StopRow>, TableFaul
     ensures file { IfErr result (λ fault. fault.table ≡ Table.Stops) }
     ensures err { IfErr result (λ fault. fault.kind ≢ FaultKind.OutOfMemory → IsStopsFault MAX_STOPS bytes.now fault.row fault.kind) }
 {
-    stops_up_to(MAX_STOPS, alloc, bytes)
+    read_stops_by(alloc, known_key(), bytes)
+}
+
+/// What [`read_stops`] gives, its ids looked up by this hash.
+pub fn read_stops_by(alloc: Global, hash: IdHash, bytes: &[u8]) -> Result<Vec<StopRow>, TableFault>
+    ensures ok { IfOk result (λ rows. HoldsStops bytes.now rows.items) }
+    ensures few { IfOk result (λ rows. count_by is_stop rows.items ≤ MAX_STOPS) }
+    ensures file { IfErr result (λ fault. fault.table ≡ Table.Stops) }
+    ensures err { IfErr result (λ fault. fault.kind ≢ FaultKind.OutOfMemory → IsStopsFault MAX_STOPS bytes.now fault.row fault.kind) }
+{
+    stops_up_to(MAX_STOPS, alloc, hash, bytes)
 }
 
 // The rows of `stops.txt`, of which at most so many are stops.
 pub(crate) fn stops_up_to(
     limit: usize,
     alloc: Global,
+    hash: IdHash,
     bytes: &[u8],
 ) -> Result<Vec<StopRow>, TableFault>
     ensures ok { IfOk result (λ rows. HoldsStops bytes.now rows.items) }
@@ -173,7 +229,7 @@ pub(crate) fn stops_up_to(
     ensures file { IfErr result (λ fault. fault.table ≡ Table.Stops) }
     ensures err { IfErr result (λ fault. fault.kind ≢ FaultKind.OutOfMemory → IsStopsFault limit bytes.now fault.row fault.kind) }
 {
-    let rows = stop_rows(alloc, bytes)?;
+    let rows = stop_rows(alloc, hash, bytes)?;
     if count_stops(&rows) > limit {
         return Err(Table::Stops.fault(0, FaultKind::TooMany));
     }
@@ -196,13 +252,24 @@ pub fn read_trips(alloc: Global, bytes: &[u8]) -> Result<Vec<TripRow>, TableFaul
     ensures file { IfErr result (λ fault. fault.table ≡ Table.Trips) }
     ensures err { IfErr result (λ fault. fault.kind ≢ FaultKind.OutOfMemory → IsTripsFault MAX_TRIPS bytes.now fault.row fault.kind) }
 {
-    trips_up_to(MAX_TRIPS, alloc, bytes)
+    read_trips_by(alloc, known_key(), bytes)
+}
+
+/// What [`read_trips`] gives, its ids looked up by this hash.
+pub fn read_trips_by(alloc: Global, hash: IdHash, bytes: &[u8]) -> Result<Vec<TripRow>, TableFault>
+    ensures ok { IfOk result (λ rows. HoldsTrips bytes.now rows.items) }
+    ensures few { IfOk result (λ rows. length rows.items ≤ MAX_TRIPS) }
+    ensures file { IfErr result (λ fault. fault.table ≡ Table.Trips) }
+    ensures err { IfErr result (λ fault. fault.kind ≢ FaultKind.OutOfMemory → IsTripsFault MAX_TRIPS bytes.now fault.row fault.kind) }
+{
+    trips_up_to(MAX_TRIPS, alloc, hash, bytes)
 }
 
 // The rows of `trips.txt`, at most so many.
 pub(crate) fn trips_up_to(
     limit: usize,
     alloc: Global,
+    hash: IdHash,
     bytes: &[u8],
 ) -> Result<Vec<TripRow>, TableFault>
     ensures ok { IfOk result (λ rows. HoldsTrips bytes.now rows.items) }
@@ -210,7 +277,7 @@ pub(crate) fn trips_up_to(
     ensures file { IfErr result (λ fault. fault.table ≡ Table.Trips) }
     ensures err { IfErr result (λ fault. fault.kind ≢ FaultKind.OutOfMemory → IsTripsFault limit bytes.now fault.row fault.kind) }
 {
-    let rows = trip_rows(alloc, bytes)?;
+    let rows = trip_rows(alloc, hash, bytes)?;
     if rows.len() > limit {
         return Err(Table::Trips.fault(0, FaultKind::TooMany));
     }

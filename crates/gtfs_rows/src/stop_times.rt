@@ -12,6 +12,7 @@ ghost use Rattle.gtfs_rows.specs.Values.{number_of};
 
 use crate::cells::cell;
 use crate::fault::FaultKind;
+use crate::id_hash::IdHash;
 use crate::ids::place_of;
 use crate::reader::TableRows;
 use crate::rows::StopTimeRow;
@@ -24,8 +25,8 @@ use std::alloc::{AllocError, Global};
 /// the order in which they are first seen.
 #[derive(Drop)]
 pub struct StopTimes {
-    pub trips: IndexSet<String>,
-    pub stops: IndexSet<String>,
+    pub trips: IndexSet<String, IdHash>,
+    pub stops: IndexSet<String, IdHash>,
     pub rows: Vec<StopTimeRow>,
 }
 
@@ -66,7 +67,7 @@ fn available(text: &[u8]) -> bool
 // The place of a stop_id among the ids, unless it is blank. It is first sought at a place where it is likely.
 fn stop_place(
     alloc: Global,
-    stops: &mut IndexSet<String>,
+    stops: &mut IndexSet<String, IdHash>,
     likely: Option<u32>,
     id: &[u8],
 ) -> Result<Option<u32>, FaultKind>

@@ -1,12 +1,14 @@
 // The files of a small feed, and what each fault looks like.
 
 use crate::fault::{FaultKind, Table, TableFault};
+use crate::id_hash::IdHash;
 use crate::read::{
     read_agency, read_calendar, read_calendar_dates, read_frequencies, read_stop_times, read_stops,
     read_transfers, read_trips,
 };
 use crate::rows::{Exception, Location, TransferKind};
 use crate::values::Day;
+use std::hash::BuildHasher;
 use std::test::Fail;
 
 // Whether the answer is this fault of the table.
@@ -20,6 +22,15 @@ pub(crate) fn tells<T: Drop>(
         Ok(_) => false,
         Err(fault) => fault.table == table && fault.row == row && fault.kind == kind,
     }
+}
+
+// A key gives one hash, two keys give two, and no two random keys are one.
+#[test]
+fn hashes_go_by_their_keys(rt: HostRuntime) {
+    let first = IdHash::of_key(1).hash_one("A");
+    assert!(rt; first == IdHash::of_key(1).hash_one("A"));
+    assert!(rt; first != IdHash::of_key(2).hash_one("A"));
+    assert!(rt; IdHash::random(&rt).hash_one("A") != IdHash::random(&rt).hash_one("A"));
 }
 
 #[test]

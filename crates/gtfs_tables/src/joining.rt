@@ -20,7 +20,9 @@ use crate::names::{Named, named_each, stops_by_id, trips_by_id};
 use crate::order::{Turn, turns_in_order};
 use crate::tables::{Feed, Frequency, Stop, Tables, Transfer, Trip};
 use crate::times::{first_wrong, is_flex};
-use gtfs_rows::{FaultKind, Location, StopRow, StopTimeRow, StopTimes, Table, TableFault, TripRow};
+use gtfs_rows::{
+    FaultKind, IdHash, Location, StopRow, StopTimeRow, StopTimes, Table, TableFault, TripRow,
+};
 use indexmap::IndexMap;
 use std::alloc::{AllocError, Global};
 
@@ -70,10 +72,11 @@ fn link(alloc: Global, tables: &Tables) -> Result<Links, TableFault>
     ensures ok { IfOk result (IsLinked (stop_named tables.now.stops.items) (trip_named tables.now.trips.items) tables.now) }
     ensures err { IfErr result (λ fault. fault.kind ≢ FaultKind.OutOfMemory → IsNamingFault (stop_named tables.now.stops.items) (trip_named tables.now.trips.items) tables.now fault) }
 {
-    let Ok(names) = stops_by_id(alloc, &tables.stops) else {
+    let hash = *tables.stop_times.trips.hasher();
+    let Ok(names) = stops_by_id(alloc, hash, &tables.stops) else {
         return Err(out_of_memory());
     };
-    let Ok(places) = trips_by_id(alloc, &tables.trips) else {
+    let Ok(places) = trips_by_id(alloc, hash, &tables.trips) else {
         return Err(out_of_memory());
     };
     link_by(alloc, tables, &names, &places)
@@ -84,8 +87,8 @@ fn link(alloc: Global, tables: &Tables) -> Result<Links, TableFault>
 fn link_by(
     alloc: Global,
     tables: &Tables,
-    names: &IndexMap<&str, Named>,
-    places: &IndexMap<&str, u32>,
+    names: &IndexMap<&str, Named, IdHash>,
+    places: &IndexMap<&str, u32, IdHash>,
 ) -> Result<Links, TableFault>
     ensures ok { IfOk result (IsLinked (held_at names.now) (held_at places.now) tables.now) }
     ensures err { IfErr result (λ fault. fault.kind ≢ FaultKind.OutOfMemory → IsNamingFault (held_at names.now) (held_at places.now) tables.now fault) }
@@ -127,7 +130,7 @@ fn link_by(
 fn judged_times(
     alloc: Global,
     stop_times: &StopTimes,
-    names: &IndexMap<&str, Named>,
+    names: &IndexMap<&str, Named, IdHash>,
     trips: &[Option<u32>],
 ) -> Result<(Vec<Option<Named>>, Vec<bool>), TableFault>
     ensures fine { IfOk result (λ judged. first_fault_of Table.StopTimes (λ row. linked_fault trips.now
@@ -169,6 +172,7 @@ fn feed_of(alloc: Global, tables: Tables, links: Links, strict: bool) -> Result<
         calendar_dates,
         ..
     } = tables;
+    let hash = *stop_times.trips.hasher();
     let StopTimes { rows, .. } = stop_times;
     let Links {
         turns,
@@ -203,6 +207,7 @@ fn feed_of(alloc: Global, tables: Tables, links: Links, strict: bool) -> Result<
         skipped,
         calendar,
         calendar_dates,
+        hash,
     })
 }
 

@@ -11,8 +11,8 @@ use crate::names::Named;
 use crate::order::Turn;
 use crate::tables::{Frequency, Place, Transfer};
 use gtfs_rows::{
-    FaultKind, FrequencyRow, Location, StopRow, StopTimeRow, Table, TableFault, TransferKind,
-    TransferRow,
+    FaultKind, FrequencyRow, IdHash, Location, StopRow, StopTimeRow, Table, TableFault,
+    TransferKind, TransferRow,
 };
 use indexmap::IndexMap;
 use std::alloc::{AllocError, Global};
@@ -68,7 +68,7 @@ fn stop_at(stops: &[Option<Named>], row: &StopTimeRow) -> Option<Named>
 pub(crate) fn stations(
     alloc: Global,
     stops: &[StopRow],
-    names: &IndexMap<&str, Named>,
+    names: &IndexMap<&str, Named, IdHash>,
 ) -> Result<Vec<Option<u32>>, TableFault>
     ensures fine { IfOk result (λ found. first_fault_of Table.Stops (parent_fault (held_at names.now)) stops.now ≡ None) }
     ensures ok { IfOk result (λ found. found.items ≡ map (station_of (held_at names.now)) stops.now) }
@@ -91,7 +91,7 @@ pub(crate) fn stations(
 }
 
 // The station that a stop names as its parent. Of other places the parent isn't looked up.
-fn station(row: &StopRow, names: &IndexMap<&str, Named>) -> Result<Option<u32>, FaultKind>
+fn station(row: &StopRow, names: &IndexMap<&str, Named, IdHash>) -> Result<Option<u32>, FaultKind>
     ensures fine { IfOk result (λ place. parent_fault (held_at names.now) row.now ≡ None) }
     ensures ok { IfOk result (λ place. place ≡ station_of (held_at names.now) row.now) }
     ensures err { IfErr result (λ kind. parent_fault (held_at names.now) row.now ≡ Some kind) }
@@ -302,7 +302,7 @@ fn row_numbered(rows: &[StopTimeRow], number: u64) -> StopTimeRow
 pub(crate) fn repeating(
     alloc: Global,
     frequencies: &[FrequencyRow],
-    places: &IndexMap<&str, u32>,
+    places: &IndexMap<&str, u32, IdHash>,
     trips: usize,
 ) -> Result<Vec<bool>, TableFault>
     ensures fine { IfOk result (λ repeats. first_fault_of Table.Frequencies (frequency_fault (held_at places.now)) frequencies.now ≡ None) }
@@ -323,7 +323,7 @@ pub(crate) fn repeating(
 }
 
 // A row of frequencies.txt with the place of its trip, 0 for one that isn't known.
-fn frequency(row: &FrequencyRow, places: &IndexMap<&str, u32>) -> Frequency
+fn frequency(row: &FrequencyRow, places: &IndexMap<&str, u32, IdHash>) -> Frequency
     ensures { result ≡ frequency_of (held_at places.now) row.now }
 {
     let place = places.get(row.trip.as_str()).copied();
@@ -339,7 +339,7 @@ fn frequency(row: &FrequencyRow, places: &IndexMap<&str, u32>) -> Frequency
 pub(crate) fn linked_frequencies(
     alloc: Global,
     rows: &[FrequencyRow],
-    places: &IndexMap<&str, u32>,
+    places: &IndexMap<&str, u32, IdHash>,
 ) -> Result<Vec<Frequency>, AllocError>
     ensures { IfOk result (λ linked. linked.items ≡ map (frequency_of (held_at places.now)) rows.now) }
 {
@@ -363,7 +363,7 @@ fn mark(marks: &mut Vec<bool>, place: usize)
 pub(crate) fn transfers(
     alloc: Global,
     rows: &[TransferRow],
-    names: &IndexMap<&str, Named>,
+    names: &IndexMap<&str, Named, IdHash>,
 ) -> Result<Vec<Transfer>, TableFault>
     ensures fine { IfOk result (λ kept. first_fault_of Table.Transfers (transfer_fault (held_at names.now)) rows.now ≡ None) }
     ensures ok { IfOk result (λ kept. AllZip (IsTransferOf (held_at names.now)) (filter is_kept rows.now) kept.items) }
@@ -385,7 +385,10 @@ pub(crate) fn transfers(
 }
 
 // A transfer between what its two ids name, unless it is skipped.
-fn transfer(row: &TransferRow, names: &IndexMap<&str, Named>) -> Result<Option<Transfer>, FaultKind>
+fn transfer(
+    row: &TransferRow,
+    names: &IndexMap<&str, Named, IdHash>,
+) -> Result<Option<Transfer>, FaultKind>
     ensures fine { IfOk result (λ found. transfer_fault (held_at names.now) row.now ≡ None) }
     ensures kept { IfOk result (λ found. is_some found ≡ is_kept row.now) }
     ensures ok { IfOk result (λ found. IfSome found (IsTransferOf (held_at names.now) row.now)) }

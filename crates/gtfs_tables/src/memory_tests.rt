@@ -5,8 +5,8 @@ ghost use Rattle.std.specs.Prelude.{◌≡◌};
 
 use crate::spread::spread;
 use crate::{
-    FaultKind, FrequencyRow, Location, StopRow, StopTimeRow, StopTimes, Tables, TransferKind,
-    TransferRow, TripRow, join,
+    FaultKind, FrequencyRow, IdHash, Location, StopRow, StopTimeRow, StopTimes, Tables,
+    TransferKind, TransferRow, TripRow, join,
 };
 use indexmap::IndexSet;
 use std::alloc::{AllocError, Global};
@@ -28,8 +28,8 @@ fn row(sequence: u32, time: Option<u32>) -> StopTimeRow
 }
 
 // The set of the blank id.
-fn blank_id(alloc: Global) -> Result<IndexSet<String>, AllocError> {
-    let mut ids = IndexSet::new(alloc);
+fn blank_id(alloc: Global) -> Result<IndexSet<String, IdHash>, AllocError> {
+    let mut ids = IndexSet::with_hasher(alloc, IdHash::of_key(1));
     ids.insert_full(String::new(alloc))?;
     Ok(ids)
 }

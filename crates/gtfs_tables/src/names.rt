@@ -6,7 +6,7 @@ ghost use Rattle.std.specs.Str.{bytes_eq};
 ghost use Rattle.std.specs.String.{string_bytes};
 ghost use Rattle.gtfs_tables.specs.Names.{held_at, named_as as name_of, stop_named, trip_named};
 
-use gtfs_rows::{Location, StopRow, TripRow};
+use gtfs_rows::{IdHash, Location, StopRow, TripRow};
 use indexmap::{IndexMap, IndexSet};
 use std::alloc::{AllocError, Global};
 
@@ -24,12 +24,13 @@ pub enum Named {
 // What each id of stops.txt names.
 pub(crate) fn stops_by_id<'a>(
     alloc: Global,
+    hash: IdHash,
     stops: &'a [StopRow],
-) -> Result<IndexMap<&'a str, Named>, AllocError>
+) -> Result<IndexMap<&'a str, Named, IdHash>, AllocError>
     requires { length stops.now ≤ u32.MAX }
     ensures { IfOk result (λ names. (id : List ℕ) → held_at names id ≡ stop_named stops.now id) }
 {
-    let mut names = IndexMap::with_capacity(alloc, stops.len())?;
+    let mut names = IndexMap::with_capacity_and_hasher(alloc, stops.len(), hash)?;
     let mut number = 0;
     for (place, row) in stops.iter().enumerate() {
         let name = named_as(row.location, number, place as u32);
@@ -55,12 +56,13 @@ fn named_as(location: Location, number: u32, place: u32) -> Named
 // The place of the row of each id of trips.txt.
 pub(crate) fn trips_by_id<'a>(
     alloc: Global,
+    hash: IdHash,
     trips: &'a [TripRow],
-) -> Result<IndexMap<&'a str, u32>, AllocError>
+) -> Result<IndexMap<&'a str, u32, IdHash>, AllocError>
     requires { length trips.now ≤ u32.MAX }
     ensures { IfOk result (λ places. (id : List ℕ) → held_at places id ≡ trip_named trips.now id) }
 {
-    let mut places = IndexMap::with_capacity(alloc, trips.len())?;
+    let mut places = IndexMap::with_capacity_and_hasher(alloc, trips.len(), hash)?;
     for (place, row) in trips.iter().enumerate() {
         add_first(&mut places, row.id.as_str(), place as u32)?;
     }
@@ -69,7 +71,7 @@ pub(crate) fn trips_by_id<'a>(
 
 // Keeps what an id names, unless an earlier row has the id.
 fn add_first<'a, T: Copy>(
-    names: &mut IndexMap<&'a str, T>,
+    names: &mut IndexMap<&'a str, T, IdHash>,
     id: &'a str,
     name: T,
 ) -> Result<(), AllocError>
@@ -84,8 +86,8 @@ fn add_first<'a, T: Copy>(
 // What each of the ids names.
 pub(crate) fn named_each<T: Copy>(
     alloc: Global,
-    ids: &IndexSet<String>,
-    names: &IndexMap<&str, T>,
+    ids: &IndexSet<String, IdHash>,
+    names: &IndexMap<&str, T, IdHash>,
 ) -> Result<Vec<Option<T>>, AllocError>
     ensures { IfOk result (λ named. named.items ≡ map (λ id. held_at names.now (string_bytes id)) ids.now.keys) }
 {

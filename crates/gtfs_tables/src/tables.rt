@@ -1,7 +1,7 @@
 // The tables of a feed as they are read, and as they name one another.
 
 use gtfs_rows::{
-    AgencyRow, CalendarDateRow, CalendarRow, FrequencyRow, StopRow, StopTimeRow, StopTimes,
+    AgencyRow, CalendarDateRow, CalendarRow, FrequencyRow, IdHash, StopRow, StopTimeRow, StopTimes,
     TransferKind, TransferRow, TripRow,
 };
 
@@ -91,4 +91,6 @@ pub struct Feed {
     pub skipped: usize,
     pub calendar: Vec<CalendarRow>,
     pub calendar_dates: Vec<CalendarDateRow>,
+    /// The hash by which ids are looked up. Nothing that is found depends on it.
+    pub hash: IdHash,
 }

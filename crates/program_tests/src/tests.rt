@@ -6,6 +6,7 @@ use std::alloc::{AllocError, Global};
 use std::fs;
 use std::net::{Net, TcpListener, TcpStream};
 use std::process::Abort;
+use std::random::RandomSource;
 use std::rt::Files;
 use std::sync::Wait;
 use std::test::Fail;
@@ -13,9 +14,9 @@ use std::thread::Threads;
 
 /// What the program needs of the machine that it runs on, beside sockets: a bound on their types can't stand in a bundle, since the
 /// tests' functions wouldn't know the types.
-pub(crate) trait Machine: Files + Disk + AllocGlobal + Threads + Wait + Sync {}
+pub(crate) trait Machine: Files + RandomSource + Disk + AllocGlobal + Threads + Wait + Sync {}
 
-impl<H: Files + AllocGlobal + Threads + Wait + Sync> Machine for H {}
+impl<H: Files + RandomSource + AllocGlobal + Threads + Wait + Sync> Machine for H {}
 
 /// What a command wrote, and its status.
 #[derive(Drop)]

@@ -9,7 +9,7 @@ ghost use Rattle.service_days.specs.Services.{HoldsServices, is_active};
 ghost use Rattle.std.specs.String.{string_bytes};
 
 use crate::services::{Services, active};
-use gtfs_rows::Day;
+use gtfs_rows::{Day, IdHash};
 use indexmap::IndexMap;
 use std::alloc::{AllocError, Global};
 
@@ -17,16 +17,16 @@ use std::alloc::{AllocError, Global};
 /// up once.
 #[derive(Drop)]
 pub struct DayServices {
-    running: IndexMap<String, bool>,
+    running: IndexMap<String, bool, IdHash>,
 }
 
 impl DayServices {
-    /// None was asked for.
-    pub fn new(alloc: Global) -> DayServices
+    /// None of these services was asked for.
+    pub fn new(alloc: Global, services: &Services) -> DayServices
         ensures { (calendar : List CalendarRow) (dates : List CalendarDateRow) (day : ServiceDay) → AreOfDay calendar dates day result }
     {
         DayServices {
-            running: IndexMap::new(alloc),
+            running: IndexMap::with_hasher(alloc, services.hash()),
         }
     }
 

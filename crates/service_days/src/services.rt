@@ -9,7 +9,7 @@ ghost use Rattle.gtfs_rows.specs.declared.rows.CalendarDateRow.{CalendarDateRow}
 ghost use Rattle.service_days.specs.Services.{HoldsServices, adds, exceptions_in, is_active, is_not_after, is_same_day, removes, runs_in, weeks_in};
 
 use crate::day::civil_date;
-use gtfs_rows::{CalendarDateRow, CalendarRow, Day, Exception};
+use gtfs_rows::{CalendarDateRow, CalendarRow, Day, Exception, IdHash};
 use indexmap::IndexMap;
 use std::alloc::{AllocError, Global};
 
@@ -31,30 +31,40 @@ struct DayException {
 /// The services of a feed, found by their ids.
 #[derive(Drop)]
 pub struct Services {
-    weeks: IndexMap<String, Vec<Week>>,
-    exceptions: IndexMap<String, Vec<DayException>>,
+    weeks: IndexMap<String, Vec<Week>, IdHash>,
+    exceptions: IndexMap<String, Vec<DayException>, IdHash>,
 }
 
 impl Services {
-    /// The services of `calendar.txt` and `calendar_dates.txt`, whose rows may be of any order.
+    /// The services of `calendar.txt` and `calendar_dates.txt`, whose rows may be of any order, looked up by this hash.
     pub fn new(
         alloc: Global,
+        hash: IdHash,
         calendar: &[CalendarRow],
         dates: &[CalendarDateRow],
     ) -> Result<Services, AllocError>
         ensures { IfOk result (HoldsServices calendar.now dates.now) }
     {
         Ok(Services {
-            weeks: weeks_of(alloc, calendar)?,
-            exceptions: exceptions_of(alloc, dates)?,
+            weeks: weeks_of(alloc, hash, calendar)?,
+            exceptions: exceptions_of(alloc, hash, dates)?,
         })
+    }
+
+    // The hash by which services are looked up.
+    pub(crate) fn hash(&self) -> IdHash {
+        *self.weeks.hasher()
     }
 }
 
-fn weeks_of(alloc: Global, rows: &[CalendarRow]) -> Result<IndexMap<String, Vec<Week>>, AllocError>
+fn weeks_of(
+    alloc: Global,
+    hash: IdHash,
+    rows: &[CalendarRow],
+) -> Result<IndexMap<String, Vec<Week>, IdHash>, AllocError>
     ensures { IfOk result (λ weeks. (service : List ℕ) → option_map_or (λ held. held.items) (get_by_text weeks service) [] ≡ weeks_in rows.now service) }
 {
-    let mut weeks = IndexMap::new(alloc);
+    let mut weeks = IndexMap::with_hasher(alloc, hash);
     for row in rows {
         let week = Week {
             weekdays: row.weekdays,
@@ -71,12 +81,13 @@ fn weeks_of(alloc: Global, rows: &[CalendarRow]) -> Result<IndexMap<String, Vec<
 
 fn exceptions_of(
     alloc: Global,
+    hash: IdHash,
     rows: &[CalendarDateRow],
-) -> Result<IndexMap<String, Vec<DayException>>, AllocError>
+) -> Result<IndexMap<String, Vec<DayException>, IdHash>, AllocError>
     ensures { IfOk result (λ exceptions. (service : List ℕ)
         → option_map_or (λ held. held.items) (get_by_text exceptions service) [] ≡ exceptions_in rows.now service) }
 {
-    let mut exceptions = IndexMap::new(alloc);
+    let mut exceptions = IndexMap::with_hasher(alloc, hash);
     for row in rows {
         let exception = DayException {
             day: row.day,

@@ -7,7 +7,7 @@ use crate::day::{day_after, day_start};
 use crate::fault::DayFault;
 use crate::services::{Services, active};
 use crate::zone::Zone;
-use gtfs_rows::{CalendarDateRow, CalendarRow, Day, Exception};
+use gtfs_rows::{CalendarDateRow, CalendarRow, Day, Exception, IdHash};
 use std::alloc::{AllocError, Global};
 use std::test::Fail;
 
@@ -190,7 +190,7 @@ fn services_of_dates_alone(rt: HostRuntime) -> Result<(), Fail> {
         date("X", "20240115", Exception::Added, alloc)?,
         date("X", "20240116", Exception::Removed, alloc)?,
     ];
-    let services = Services::new(alloc, &[], &dates)?;
+    let services = Services::new(alloc, IdHash::of_key(1), &[], &dates)?;
     assert!(rt; active(&services, "X", day("20240115")?));
     assert!(rt; !active(&services, "X", day("20240116")?));
     assert!(rt; !active(&services, "Y", day("20240115")?));
@@ -206,9 +206,9 @@ fn services_asked_for_twice(rt: HostRuntime) -> Result<(), Fail> {
         date("X", "20240115", Exception::Added, alloc)?,
         date("Z", "20240115", Exception::Removed, alloc)?,
     ];
-    let services = Services::new(alloc, &[], &dates)?;
+    let services = Services::new(alloc, IdHash::of_key(1), &[], &dates)?;
     let monday = day("20240115")?;
-    let mut asked = DayServices::new(alloc);
+    let mut asked = DayServices::new(alloc, &services);
     for (service, runs) in [
         ("X", true),
         ("Y", false),
@@ -247,7 +247,7 @@ fn services_of_both_tables(rt: HostRuntime) -> Result<(), Fail> {
         date("weekend", "20240204", Exception::Added, alloc)?,
         date("weekend", "20240221", Exception::Added, alloc)?,
     ];
-    let services = Services::new(alloc, &rows, &dates)?;
+    let services = Services::new(alloc, IdHash::of_key(1), &rows, &dates)?;
     for (service, text, runs) in [
         ("weekend", "20240112", false),
         ("weekend", "20240113", true),
@@ -290,7 +290,12 @@ fn each_weekday(rt: HostRuntime) -> Result<(), Fail> {
     for weekday in 0..7 {
         let mut weekdays = [false; 7];
         weekdays[weekday] = true;
-        let services = Services::new(alloc, &[calendar("S", weekdays, alloc)?], &[])?;
+        let services = Services::new(
+            alloc,
+            IdHash::of_key(1),
+            &[calendar("S", weekdays, alloc)?],
+            &[],
+        )?;
         for (i, text) in days.iter().enumerate() {
             assert!(rt; active(&services, "S", day(text)?) == (i == weekday));
         }
@@ -304,7 +309,7 @@ fn refused_growth_of_services(rt: HostRuntime) -> Result<(), Fail> {
     let alloc = rt.alloc();
     let rows = [calendar("S", [true; 7], alloc)?];
     let dates = [date("S", "20240112", Exception::Removed, alloc)?];
-    let services = Services::new(alloc, &rows, &dates)?;
+    let services = Services::new(alloc, IdHash::of_key(1), &rows, &dates)?;
     assert!(rt; active(&services, "S", day("20240111")?));
     assert!(rt; !active(&services, "S", day("20240112")?));
     Ok(())

@@ -1,7 +1,7 @@
 use super::*;
 use gtfs_tables::{
-    Feed, Place, Stop, Tables, Transfer, TransferKind, join, read_agency, read_calendar_dates,
-    read_stop_times, read_stops, read_transfers, read_trips,
+    Feed, IdHash, Place, Stop, Tables, Transfer, TransferKind, join, read_agency,
+    read_calendar_dates, read_stop_times, read_stops, read_transfers, read_trips,
 };
 use std::alloc::{AllocError, Global};
 use std::test::Fail;
@@ -38,6 +38,7 @@ fn feed_of(alloc: Global, transfers: &[Transfer]) -> Result<Feed, AllocError> {
         skipped: 0,
         calendar: Vec::new(alloc),
         calendar_dates: Vec::new(alloc),
+        hash: IdHash::of_key(1),
     })
 }
 
