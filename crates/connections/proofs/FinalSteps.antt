@@ -6,7 +6,7 @@ use Rattle.std.specs.List.{slice_get, swap}
 use Rattle.std.specs.String.{string_bytes}
 use Rattle.std.proofs.lemmas.Bool.{and_parts, cases_Bool, cases_eq, cases_order}
 use Rattle.std.proofs.lemmas.List.{get_or-set_other, get_or-set_same, get_or_append_left, get_or_push, length-set, length_push, take_all}
-use Rattle.std.proofs.lemmas.List.Elements.{All-append, All-cons, All-nil, Contains-append_left, Contains-append_right}
+use Rattle.std.proofs.lemmas.List.Elements.{All-append, All-cons, All-nil, Contains-append_left, Contains-append_right, Contains-get_or}
 use Rattle.std.proofs.lemmas.List.Sorted.{Contains-permutation, IsPermutation-keeps, IsPermutation-sym, length_permutation}
 use Rattle.std.proofs.lemmas.List.Sums.{length-filter}
 use Rattle.std.proofs.lemmas.List.Edits.{length-swap, swap_is}
@@ -26,7 +26,7 @@ use Rattle.service_days.specs.declared.zone.Zone.{Zone}
 use Rattle.service_days.proofs.StartFacts.{same_start}
 use Rattle.timetable.specs.declared.limits.TheConstants.{MAX_CONNECTIONS, MAX_TRIPS}
 use Rattle.timetable.specs.declared.network.Connection.{Connection}
-use Rattle.connections.specs.Building.{AreByRun, AreSorted, IsEarlier, IsNotAfter, LeavesRange}
+use Rattle.connections.specs.Building.{AreByRun, AreSorted, HasDigits, IsEarlier, IsNotAfter, LeavesRange}
 use Rattle.connections.specs.Days.{AreStarted, HasNoStartAmong, HaveStarts, days_from}
 use Rattle.connections.specs.Faults.{IsWantOfMemory, range_fault, too_many_of}
 use Rattle.connections.specs.Hops.{AreInside}
@@ -178,6 +178,17 @@ runs_are_of feed days runs e =
     (λ k d lt. (each k d lt).0, λ k d lt. (each k d lt).1)
 
 -- ---- the connections in order
+
+pub have_digits : (feed : Feed) (zone : Zone) (base : ℤ) (runs : List Run) (cs : List Connection) → AreByRun feed zone base runs (length runs) cs
+    → length runs ≤ MAX_TRIPS → All HasDigits cs
+have_digits feed zone base runs cs b few k d lt =
+    let w = b.only (get_or cs k d) (Contains-get_or cs k d lt) in
+    let run = w.2 in
+    let trip = w.3.hop.trip in
+    let time = w.3.hop.arr.in_time in
+    let most : length runs ≤ 20000000 = few in
+    let end : (get_or cs k d).arr < 2000000000 = time in
+    (omega (arith, end), omega (arith, run, trip, most))
 
 -- no two are of one run and depart together
 abbrev AreApart : List Connection → Type 0

@@ -1,5 +1,5 @@
 -- The connections of the runs before they are put in order.
-use Rattle.std.specs.Prelude.{◌≡◌, ◌-◌, ◌<◌, ◌≤◌, ◌⊎◌, ℕ, ℤ, List, length, take, slice_index_or, Contains}
+use Rattle.std.specs.Prelude.{◌≡◌, ◌+◌, ◌-◌, ◌*◌, ◌^◌, ◌<◌, ◌≤◌, ◌⊎◌, ℕ, ℤ, List, length, take, slice_index_or, Contains}
 use Rattle.gtfs_rows.specs.declared.rows.StopTimeRow.{StopTimeRow}
 use Rattle.gtfs_tables.specs.Joined.{rows_of}
 use Rattle.gtfs_tables.specs.declared.tables.Feed.{Feed}
@@ -56,3 +56,11 @@ pub record IsNotAfter (c d : Connection) : Type 0 where
 abbrev pub AreSorted : List Connection → Type 0
 AreSorted connections = (i j : ℕ) (d : Connection) → i < j → j < length connections
     → IsNotAfter (slice_index_or connections i d) (slice_index_or connections j d)
+
+-- departure, arrival and run as the digits of one number
+abbrev pub order_of : Connection → ℕ
+order_of c = (c.dep * 2 ^ 32 + c.arr) * 2 ^ 32 + c.trip
+
+-- the digits behind the first are digits
+abbrev pub HasDigits : Connection → Type 0
+HasDigits c = (c.arr < 2 ^ 32) × (c.trip < 2 ^ 32)

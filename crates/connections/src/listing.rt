@@ -5,7 +5,7 @@ ghost use Rattle.std.specs.Prelude.{slice_index_or};
 ghost use Rattle.gtfs_tables.specs.Joined.{HasTimedEnds, IsRunnable, makes_connections as makes, rows_of as rows_between};
 ghost use Rattle.service_days.specs.Zones.{IsDayStart};
 ghost use Rattle.service_days.specs.declared.zone.Zone.{Zone as DayZone};
-ghost use Rattle.connections.specs.Building.{AddsRun, AreByRun, AreSorted, LeavesRange};
+ghost use Rattle.connections.specs.Building.{AddsRun, AreByRun, AreSorted, HasDigits, LeavesRange, order_of};
 ghost use Rattle.connections.specs.Faults.{IsWantOfMemory, range_fault};
 ghost use Rattle.connections.specs.Listed.{AreListed, AreRunsInside, HasRunOutside};
 ghost use Rattle.connections.specs.Outcome.{IsFirstRefusal, IsListing, IsReport};
@@ -23,6 +23,9 @@ use service_days::Zone;
 use std::alloc::{AllocError, Global};
 use timetable::Connection;
 use timetable::limits::MAX_CONNECTIONS;
+
+// One more than the greatest digit of an order number.
+const DIGIT: u128 = 1 << 32;
 
 // The rows of a trip.
 fn rows_of<'a>(stop_times: &'a [StopTimeRow], trip: &Trip) -> &'a [StopTimeRow]
@@ -163,14 +166,21 @@ fn connections_by_run(
     Ok(connections)
 }
 
+// The number by which a connection stands in the order: departure, arrival and run, each a digit of 32 bits. One number is
+// compared faster than three.
+fn order_number(connection: &Connection) -> u128
+    ensures { result ≡ order_of connection.now }
+{
+    (connection.dep as u128 * DIGIT + connection.arr as u128) * DIGIT + connection.trip as u128
+}
+
 // Puts connections in order: by departure, arrival and run.
 fn put_in_order(connections: &mut Vec<Connection>)
+    requires { All HasDigits connections.old.items }
     ensures permutation { IsPermutation connections.old.items connections.new.items }
     ensures sorted { AreSorted connections.new.items }
 {
-    connections.sort_unstable_by_key(|connection| {
-        (connection.dep, connection.arr, connection.trip)
-    });
+    connections.sort_unstable_by_key(|connection| order_number(connection));
 }
 
 /// The connections and the runs of a feed on so many days, 1 to [`MAX_DAYS`], from the first one on, and what was counted.

@@ -11,13 +11,15 @@ use Rattle.gtfs_rows.specs.declared.rows.StopTimeRow.{StopTimeRow}
 use Rattle.gtfs_rows.specs.declared.rows.TripRow.{TripRow}
 use Rattle.gtfs_tables.specs.Feeds.{IsLinked, IsNamingFault, feed_trip, feed_trips, rows_by, stop_time_fault, stops_by, trip_fault, trips_by}
 use Rattle.gtfs_tables.specs.First.{first_below, first_fault_of}
-use Rattle.gtfs_tables.specs.Order.{IsInOrder, row_of}
+use Rattle.gtfs_tables.specs.Order.{IsInOrder, row_of, turns_by, turns_in}
 use Rattle.gtfs_tables.specs.Rows.{frequency_fault, is_flex_id, linked_fault, linked_row, parent_fault}
 use Rattle.gtfs_tables.specs.declared.joining.Links.{Links}
 use Rattle.gtfs_tables.specs.declared.names.Named.{Named}
+use Rattle.gtfs_tables.specs.declared.order.RowOrder.{RowOrder}
 use Rattle.gtfs_tables.specs.declared.order.Turn.{Turn}
 use Rattle.gtfs_tables.specs.declared.tables.Tables.{Tables}
 use Rattle.gtfs_tables.specs.declared.tables.Trip.{Trip}
+use Rattle.gtfs_tables.proofs.TurnFacts.{turns_kept}
 
 pub of_one : {X : Type 0} (a b : Option X) (x : X) → a ≡ Some x → option_or a b ≡ Some x
 of_one a b x e = rw e refl
@@ -53,11 +55,13 @@ same_trips turns rows f g from (trip ∷ trips) same =
     ∙ ap (λ rest. feed_trip turns rows g from trip ∷ rest) rest
 
 -- what was judged or made of lists that are those of the tables
-pub order_told : (placed : List ℕ → Option ℕ) (t : Tables) (rows : List StopTimeRow) (ts : List (Option ℕ)) (turns : List Turn) → rows
+pub order_told : (placed : List ℕ → Option ℕ) (t : Tables) (rows : List StopTimeRow) (ts : List (Option ℕ)) (order : RowOrder) → rows
     ≡ t.stop_times.rows.items → ts ≡ trips_by placed t
-    → IsInOrder ts rows turns → IsInOrder (trips_by placed t) t.stop_times.rows.items turns
-order_told placed t rows ts turns e f order = subst (λ (x : List StopTimeRow). IsInOrder (trips_by placed t) x turns) e
-    (subst (λ (x : List (Option ℕ)). IsInOrder x rows turns) f order)
+    → IsInOrder ts rows (turns_in ts order rows)
+    → IsInOrder (trips_by placed t) t.stop_times.rows.items (turns_in (trips_by placed t) order t.stop_times.rows.items)
+order_told placed t rows ts order e f is =
+    subst (λ (x : List StopTimeRow). IsInOrder (trips_by placed t) x (turns_in (trips_by placed t) order x)) e
+    (subst (λ (x : List (Option ℕ)). IsInOrder x rows (turns_in x order rows)) f is)
 
 pub stops_told : (named : List ℕ → Option Named) (given stops : List StopRow) (r : Option TableFault) → given ≡ stops
     → first_fault_of kinds.Stops (parent_fault named) given ≡ r → first_fault_of kinds.Stops (parent_fault named) stops ≡ r
@@ -71,17 +75,25 @@ times_told named placed t ts r e h = subst (λ (x : List (Option ℕ)). first_fa
     (λ row. linked_fault x (stops_by named t) (is_flex_id t.stop_times.rows.items row.trip) row) t.stop_times.rows.items ≡ r) e h
 
 pub rows_told : (named : List ℕ → Option Named) (placed : List ℕ → Option ℕ) (t : Tables) (ts : List (Option ℕ)) (ss : List (Option Named))
-    (given turns : List Turn)
-    (rows : List StopTimeRow) → ts ≡ trips_by placed t → ss ≡ stops_by named t → given ≡ turns
+    (order : RowOrder)
+    (rows : List StopTimeRow) → ts ≡ trips_by placed t → ss ≡ stops_by named t
     → rows ≡ map (λ turn. linked_row ts ss (is_flex_id t.stop_times.rows.items (row_of t.stop_times.rows.items turn.number).trip)
-    (row_of t.stop_times.rows.items turn.number)) given
-    → rows ≡ rows_by named placed t turns
-rows_told named placed t ts ss given turns rows e s f h =
-    subst (λ (x : List Turn). rows ≡ rows_by named placed t x) f
-    (subst (λ (x : List (Option Named)). rows ≡ map (λ turn. linked_row (trips_by placed t) x
-    (is_flex_id t.stop_times.rows.items (row_of t.stop_times.rows.items turn.number).trip) (row_of t.stop_times.rows.items turn.number)) given) s
+    (row_of t.stop_times.rows.items turn.number)) (turns_in ts order t.stop_times.rows.items)
+    → rows ≡ rows_by named placed t (turns_in (trips_by placed t) order t.stop_times.rows.items)
+rows_told named placed t ts ss order rows e s h =
+    subst (λ (x : List (Option Named)). rows ≡ map (λ turn. linked_row (trips_by placed t) x
+    (is_flex_id t.stop_times.rows.items (row_of t.stop_times.rows.items turn.number).trip) (row_of t.stop_times.rows.items turn.number))
+    (turns_in (trips_by placed t) order t.stop_times.rows.items)) s
     (subst (λ (x : List (Option ℕ)). rows ≡ map (λ turn. linked_row x ss
-    (is_flex_id t.stop_times.rows.items (row_of t.stop_times.rows.items turn.number).trip) (row_of t.stop_times.rows.items turn.number)) given) e h))
+    (is_flex_id t.stop_times.rows.items (row_of t.stop_times.rows.items turn.number).trip) (row_of t.stop_times.rows.items turn.number))
+    (turns_in x order t.stop_times.rows.items)) e h)
+
+-- the linked rows' turns are those of the rows
+pub turns_told : (named : List ℕ → Option Named) (placed : List ℕ → Option ℕ) (t : Tables) (order : RowOrder) (rows : List StopTimeRow)
+    → rows ≡ rows_by named placed t (turns_in (trips_by placed t) order t.stop_times.rows.items)
+    → turns_by order rows ≡ turns_in (trips_by placed t) order t.stop_times.rows.items
+turns_told named placed t order rows made =
+    turns_kept (trips_by placed t) (stops_by named t) (λ row. is_flex_id t.stop_times.rows.items row.trip) order t.stop_times.rows.items rows made
 
 -- the marks of flex trips, told of lists that are those of the tables
 pub flex_told : (rows : List StopTimeRow) (ts trips : List (Option ℕ)) (given flex : List Bool) → ts ≡ trips → given ≡ flex

@@ -9,3 +9,4 @@ pub mod OrderFacts
 pub mod RowFacts
 pub mod SpreadFacts
 pub mod TimeFacts
+pub mod TurnFacts

@@ -1,6 +1,6 @@
 -- The turns of rows, a row on, and where those of a trip begin.
 use Rattle.std.proofs.Common.{◌≡◌, ℕ, zero, suc, ◌+◌, ◌<◌, ◌≤◌, ◌⊎◌, inl, inr, List, [], ◌∷◌, ◌++◌, length, get_or, take, Bool, true, false, eqb, ltb, Option, refl, ap, ◌∙◌, sym, arith}
-use Rattle.std.specs.Prelude.{count_by, filter, IsSortedBy, unwrap_or}
+use Rattle.std.specs.Prelude.{count_by, filter, IsSortedBy}
 use Rattle.std.specs.List.{AllWithin}
 use Rattle.std.specs.List.Sorted.{IsNonDecreasingBy}
 use Rattle.std.proofs.lemmas.Bool.{cases_order, false≢true, le-ltb, lt-ltb, ne_eqb}
@@ -8,7 +8,6 @@ use Rattle.std.proofs.lemmas.List.Sums.{length-filter}
 use Rattle.std.proofs.lemmas.List.Sorted.{IsNonDecreasingBy-from_all_adjacent}
 use Rattle.std.proofs.lemmas.List.{get_or_default, length-take-le, take_more}
 use Rattle.gtfs_rows.specs.declared.rows.StopTimeRow.{StopTimeRow}
-use Rattle.gtfs_tables.specs.Names.{named_at}
 use Rattle.gtfs_tables.specs.Order.{comes_before, first_turn, turn_of, turns_from}
 use Rattle.gtfs_tables.specs.declared.order.Turn.{Turn}
 
@@ -24,11 +23,10 @@ turns-more trips rows i row lt e =
     let front : take (i + 1) rows ≡ take i rows ++ row ∷ [] = take_more rows i row lt ∙ ap (λ x. take i rows ++ x ∷ []) (sym e) in
     rw front (turns-push trips 1 (i + 1) (take i rows) row (omega (arith, len)))
 
-pub turns-pushed : (trips : List (Option ℕ)) (rows : List StopTimeRow) (i trip : ℕ) (d : StopTimeRow) (turns : List Turn) → i < length rows → turns ≡ turns_from trips 1 (take i rows)
-    → trip ≡ unwrap_or (named_at trips (get_or rows i d).trip) 0
-    → turns ++ record { trip = trip; sequence = (get_or rows i d).sequence; number = i + 1 } ∷ [] ≡ turns_from trips 1 (take (i + 1) rows)
-turns-pushed trips rows i trip d turns lt e f =
-    rw (e, f) (sym (turns-more trips rows i (get_or rows i d) lt (get_or_default rows i d (get_or rows i d) lt)))
+pub turns-pushed : (trips : List (Option ℕ)) (rows : List StopTimeRow) (i : ℕ) (d : StopTimeRow) (turns : List Turn) → i < length rows
+    → turns ≡ turns_from trips 1 (take i rows) → turns ++ turn_of trips (i + 1) (get_or rows i d) ∷ [] ≡ turns_from trips 1 (take (i + 1) rows)
+turns-pushed trips rows i d turns lt e =
+    rw e (sym (turns-more trips rows i (get_or rows i d) lt (get_or_default rows i d (get_or rows i d) lt)))
 
 -- the trips rise along the turns
 trip_rises : (a b : Turn) → comes_before b a ≡ false → a.trip ≤ b.trip

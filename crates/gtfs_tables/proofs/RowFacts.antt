@@ -1,5 +1,5 @@
 -- The rows of the tables, a row on.
-use Rattle.std.proofs.Common.{◌≡◌, ℕ, zero, suc, ap, subst, ◌+◌, ◌-◌, ◌<◌, ◌≤◌, List, [], ◌∷◌, ◌++◌, length, get_or, get_or-set_other}
+use Rattle.std.proofs.Common.{◌≡◌, ℕ, ap, subst, ◌+◌, ◌-◌, ◌<◌, ◌≤◌, List, [], ◌∷◌, ◌++◌, length, get_or, get_or-set_other}
 use Rattle.std.proofs.Common.{map, set, take, Bool, true, false, eqb, ◌||◌, Option, Some, None, refl, ◌∙◌, sym, arith, inl, inr, ◌⊎◌}
 use Rattle.std.specs.Prelude.{filter, is_some, option_to_list, IfSome}
 use Rattle.std.specs.List.{AllZip}
@@ -132,22 +132,6 @@ filed f before (row ∷ rows) (turn ∷ turns) e =
 pub filed_rows : {A : Type 0} (f : StopTimeRow → A) (rows : List StopTimeRow) (turns : List Turn) → length turns ≡ length rows
     → map (λ turn. turn.number) turns ≡ numbers_from 1 (length turns) → map (λ turn. f (row_of rows turn.number)) turns ≡ map f rows
 filed_rows f rows turns len e = filed f [] rows turns (e ∙ ap (numbers_from 1) len)
-
--- the numbers from a number on, one more
-numbers-next : (first n : ℕ) → numbers_from first (suc n) ≡ numbers_from first n ++ (first + n) ∷ []
-numbers-next first zero = ap (λ (n : ℕ). n ∷ []) (omega arith)
-numbers-next first (suc n) =
-    let last : first + 1 + n ≡ first + suc n = omega arith in
-    ap (λ ns. first ∷ ns) (numbers-next (first + 1) n ∙ ap (λ (n' : ℕ). numbers_from (first + 1) n ++ n' ∷ []) last)
-
-pub filed_more : (turns : List Turn) (i : ℕ) → i < length turns → (get_or turns i no_turn).number ≡ i + 1 → map (λ turn. turn.number) (take i turns)
-    ≡ numbers_from 1 i
-    → map (λ turn. turn.number) (take (i + 1) turns) ≡ numbers_from 1 (i + 1)
-filed_more turns i lt number before =
-    let next : suc i ≡ i + 1 = omega arith in
-    let last : i + 1 ≡ 1 + i = omega arith in
-    map_more (λ (turn : Turn). turn.number) turns i no_turn lt ∙ ap (λ ns. ns ++ (get_or turns i no_turn).number ∷ []) before
-    ∙ ap (λ (n : ℕ). numbers_from 1 i ++ n ∷ []) (number ∙ last) ∙ sym (numbers-next 1 i) ∙ ap (numbers_from 1) next
 
 pub kept_next : (named : List ℕ → Option Named) (rows : List TransferRow) (i : ℕ) (row : TransferRow) (kept new : List Transfer) (found : Option Transfer)
     → i < length rows → row ≡ get_or rows i row

@@ -13,7 +13,7 @@ use Rattle.gtfs_rows.specs.declared.rows.StopTimeRow.{StopTimeRow}
 use Rattle.gtfs_rows.specs.declared.rows.TripRow.{TripRow}
 use Rattle.gtfs_tables.specs.First.{first_below, first_fault_of}
 use Rattle.gtfs_tables.specs.Names.{stop_named, trip_named}
-use Rattle.gtfs_tables.specs.Order.{IsInOrder, first_turn, of_trip, row_of}
+use Rattle.gtfs_tables.specs.Order.{IsInOrder, first_turn, of_trip, row_of, turns_in}
 use Rattle.gtfs_tables.specs.Rows.{IsTransferOf, frequency_fault, frequency_of, is_flex_id, is_kept, is_repeated, linked_fault, linked_row, parent_fault, station_of, transfer_fault}
 use Rattle.gtfs_tables.specs.Times.{first_wrong, is_flex}
 use Rattle.gtfs_tables.specs.declared.joining.Links.{Links}
@@ -113,7 +113,7 @@ pub record IsFirstFault (strict : Bool) (t : Tables) (fault : TableFault) : Type
 
 -- what is made before the trips are judged; the transfers wait
 pub record IsLinked (named : List ℕ → Option Named) (placed : List ℕ → Option ℕ) (t : Tables) (links : Links) : Type 0 where
-  pub in_order : IsInOrder (trips_by placed t) t.stop_times.rows.items links.turns.items
+  pub in_order : IsInOrder (trips_by placed t) t.stop_times.rows.items (turns_in (trips_by placed t) links.order t.stop_times.rows.items)
   pub fine : naming_fault named placed t ≡ None
   pub stations : links.stations.items ≡ map (station_of named) t.stops.items
   pub trips : links.names.trips.items ≡ trips_by placed t

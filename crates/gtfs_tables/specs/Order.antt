@@ -4,6 +4,8 @@ use Rattle.std.specs.Prelude.{◌==◌, ◌+◌, ◌-◌, List, [], ◌∷◌, c
 use Rattle.std.specs.List.{slice_index_or, slice_range}
 use Rattle.gtfs_rows.specs.declared.rows.StopTimeRow.{StopTimeRow}
 use Rattle.gtfs_tables.specs.Names.{named_at}
+use Rattle.gtfs_tables.specs.declared.order.RowOrder.{RowOrder}
+use Rattle.gtfs_tables.specs.declared.order.RowOrder.TheVariants as orders
 use Rattle.gtfs_tables.specs.declared.order.Turn.{Turn}
 
 -- where a row goes: its trip, its stop_sequence and its record's number
@@ -24,6 +26,20 @@ comes_before a b =
 pub record IsInOrder (trips : List (Option ℕ)) (rows : List StopTimeRow) (turns : List Turn) : Type 0 where
   pub same : IsPermutation (turns_from trips 1 rows) turns
   pub rising : IsSortedBy comes_before turns
+
+-- the same of rows that have their trips' places already
+abbrev pub filed_turns : ℕ → List StopTimeRow → List Turn
+filed_turns number [] = []
+filed_turns number (row ∷ rest) = record { trip = row.trip; sequence = row.sequence; number = number } ∷ filed_turns (number + 1) rest
+
+-- the turns that an order gives rows: as they are read, and once they have their trips' places and stand in that order
+abbrev pub turns_in : List (Option ℕ) → RowOrder → List StopTimeRow → List Turn
+turns_in trips orders.Filed rows = turns_from trips 1 rows
+turns_in trips (orders.ByTurns turns) rows = turns.items
+
+abbrev pub turns_by : RowOrder → List StopTimeRow → List Turn
+turns_by orders.Filed rows = filed_turns 1 rows
+turns_by (orders.ByTurns turns) rows = turns.items
 
 -- where the rows of a trip begin: behind those of the trips before it
 abbrev pub first_turn : List Turn → ℕ → ℕ

@@ -1,11 +1,12 @@
 // The tables of a feed joined, or the first thing that is wrong with them.
 
 ghost use Rattle.std.specs.Prelude.{◌≡◌, ◌≢◌, ◌≤◌, ◌<◌, ◌+◌, ℕ, List, length, map, filter, IfOk, IfErr, IsSortedBy, Some, None, Option, false, slice_index_or, option_map};
-ghost use Rattle.std.specs.List.{AllWithin};
+ghost use Rattle.std.specs.List.{AllWithin, slice_range};
+ghost use Rattle.gtfs_rows.specs.declared.rows.StopTimeRow.{StopTimeRow as LinkedRow};
 ghost use Rattle.gtfs_rows.specs.Tables.{is_stop};
 ghost use Rattle.gtfs_tables.specs.First.{first_below, first_fault_of};
 ghost use Rattle.gtfs_tables.specs.Names.{held_at, stop_named, trip_named};
-ghost use Rattle.gtfs_tables.specs.Order.{comes_before, first_turn, row_of};
+ghost use Rattle.gtfs_tables.specs.Order.{comes_before, first_turn, row_of, turns_by};
 ghost use Rattle.gtfs_tables.specs.Rows.{is_flex_id, linked_fault, linked_row, station_of};
 ghost use Rattle.std.specs.String.{string_bytes};
 ghost use Rattle.gtfs_tables.specs.Times.{first_wrong as wrong_first};
@@ -17,7 +18,7 @@ use crate::links::{
     skipped_in, stations, transfers as linked_transfers,
 };
 use crate::names::{Named, named_each, stops_by_id, trips_by_id};
-use crate::order::{Turn, turns_in_order};
+use crate::order::{RowOrder, number_at, order_of_rows, trip_at};
 use crate::tables::{Feed, Frequency, Stop, Tables, Transfer, Trip};
 use crate::times::{first_wrong, is_flex};
 use gtfs_rows::{
@@ -29,7 +30,7 @@ use std::alloc::{AllocError, Global};
 // What is made of the tables before their trips are judged. The transfers' fault waits until then.
 #[derive(Drop)]
 struct Links {
-    turns: Vec<Turn>,
+    order: RowOrder,
     stations: Vec<Option<u32>>,
     names: RowNames,
     repeats: Vec<bool>,
@@ -96,7 +97,7 @@ fn link_by(
     let Ok(trips) = named_each(alloc, &tables.stop_times.trips, places) else {
         return Err(out_of_memory());
     };
-    let Ok(turns) = turns_in_order(alloc, &tables.stop_times.rows, &trips) else {
+    let Ok(order) = order_of_rows(alloc, &tables.stop_times.rows, &trips) else {
         return Err(out_of_memory());
     };
     let stations = match stations(alloc, &tables.stops, names) {
@@ -116,7 +117,7 @@ fn link_by(
     };
     let transfers = linked_transfers(alloc, &tables.transfers, names);
     Ok(Links {
-        turns,
+        order,
         stations,
         names: RowNames { trips, stops, flex },
         repeats,
@@ -175,7 +176,7 @@ fn feed_of(alloc: Global, tables: Tables, links: Links, strict: bool) -> Result<
     let hash = *stop_times.trips.hasher();
     let StopTimes { rows, .. } = stop_times;
     let Links {
-        turns,
+        order,
         stations,
         names,
         repeats,
@@ -183,11 +184,11 @@ fn feed_of(alloc: Global, tables: Tables, links: Links, strict: bool) -> Result<
         transfers: kept,
     } = links;
     let skipped = skipped_in(&transfers);
-    let Ok(stop_times) = linked_rows(alloc, rows, &turns, &names.trips, &names.stops, &names.flex)
+    let Ok(stop_times) = linked_rows(alloc, rows, &order, &names.trips, &names.stops, &names.flex)
     else {
         return Err(out_of_memory());
     };
-    let trips = match timed_trips(alloc, trips, &stop_times, &turns, &repeats, strict) {
+    let trips = match timed_trips(alloc, trips, &stop_times, &order, &repeats, strict) {
         Ok(trips) => trips,
         Err(fault) => return Err(fault),
     };
@@ -216,15 +217,15 @@ fn timed_trips(
     alloc: Global,
     trips: Vec<TripRow>,
     rows: &[StopTimeRow],
-    turns: &[Turn],
+    order: &RowOrder,
     repeats: &[bool],
     strict: bool,
 ) -> Result<Vec<Trip>, TableFault>
-    requires len { length rows.now ≡ length turns.now }
-    requires rising { IsSortedBy comes_before turns.now }
-    ensures fine { IfOk result (λ timed. first_below (trip_fault strict turns.now rows.now) (length trips.items) ≡ None) }
-    ensures ok { IfOk result (λ timed. timed.items ≡ feed_trips turns.now rows.now (λ t. slice_index_or repeats.now t false) 0 trips.items) }
-    ensures err { IfErr result (λ fault. fault.kind ≢ FaultKind.OutOfMemory → first_below (trip_fault strict turns.now rows.now) (length trips.items) ≡ Some fault) }
+    requires len { length rows.now ≡ length (turns_by order.now rows.now) }
+    requires rising { IsSortedBy comes_before (turns_by order.now rows.now) }
+    ensures fine { IfOk result (λ timed. first_below (trip_fault strict (turns_by order.now rows.now) rows.now) (length trips.items) ≡ None) }
+    ensures ok { IfOk result (λ timed. timed.items ≡ feed_trips (turns_by order.now rows.now) rows.now (λ t. slice_index_or repeats.now t false) 0 trips.items) }
+    ensures err { IfErr result (λ fault. fault.kind ≢ FaultKind.OutOfMemory → first_below (trip_fault strict (turns_by order.now rows.now) rows.now) (length trips.items) ≡ Some fault) }
 {
     let Ok(mut timed) = Vec::with_capacity(alloc, trips.len()) else {
         return Err(out_of_memory());
@@ -232,8 +233,8 @@ fn timed_trips(
     let mut first = 0;
     let mut place = 0;
     for row in trips {
-        let end = end_of_trip(turns, first, place);
-        match judge_trip(alloc, &rows[first..end], &turns[first..end], strict) {
+        let end = end_of_trip(rows, order, first, place);
+        match judge_trip(alloc, rows, order, first, end, strict) {
             Ok(()) => {}
             Err(fault) => return Err(fault),
         }
@@ -256,46 +257,53 @@ fn timed_trips(
 }
 
 // The place behind the last row of a trip.
-fn end_of_trip(turns: &[Turn], first: usize, trip: usize) -> usize
-    requires rising { IsSortedBy comes_before turns.now }
-    requires within { first ≤ length turns.now }
-    requires before { AllWithin (λ turn. turn.trip < trip) turns.now 0 first }
+fn end_of_trip(rows: &[StopTimeRow], order: &RowOrder, first: usize, trip: usize) -> usize
+    requires len { length rows.now ≡ length (turns_by order.now rows.now) }
+    requires rising { IsSortedBy comes_before (turns_by order.now rows.now) }
+    requires within { first ≤ length rows.now }
+    requires before { AllWithin (λ turn. turn.trip < trip) (turns_by order.now rows.now) 0 first }
     ensures from { first ≤ result }
-    ensures within { result ≤ length turns.now }
-    ensures before { AllWithin (λ turn. turn.trip < trip + 1) turns.now 0 result }
-    ensures end { result ≡ first_turn turns.now (trip + 1) }
+    ensures within { result ≤ length rows.now }
+    ensures before { AllWithin (λ turn. turn.trip < trip + 1) (turns_by order.now rows.now) 0 result }
+    ensures end { result ≡ first_turn (turns_by order.now rows.now) (trip + 1) }
 {
-    for at in first..turns.len() {
-        if turns[at].trip as usize > trip {
+    for at in first..rows.len() {
+        if trip_at(rows, order, at) as usize > trip {
             return at;
         }
     }
-    turns.len()
+    rows.len()
 }
 
-// Judges the times of a trip.
+// Judges the times of a trip, whose rows stand from a place on up to before another.
 fn judge_trip(
     alloc: Global,
     rows: &[StopTimeRow],
-    turns: &[Turn],
+    order: &RowOrder,
+    first: usize,
+    end: usize,
     strict: bool,
 ) -> Result<(), TableFault>
-    ensures ok { IfOk result (λ _. option_map (told_of turns.now) (wrong_first strict rows.now) ≡ None) }
-    ensures err { IfErr result (λ fault. fault.kind ≢ FaultKind.OutOfMemory → option_map (told_of turns.now) (wrong_first strict rows.now) ≡ Some fault) }
+    requires rising { first ≤ end }
+    requires within { end ≤ length rows.now }
+    ensures ok { IfOk result (λ _. option_map (told_of (slice_range (turns_by order.now rows.now) first end)) (wrong_first strict (slice_range rows.now first end)) ≡ None) }
+    ensures err { IfErr result (λ fault. fault.kind ≢ FaultKind.OutOfMemory
+        → option_map (told_of (slice_range (turns_by order.now rows.now) first end)) (wrong_first strict (slice_range rows.now first end)) ≡ Some fault) }
 {
-    match first_wrong(alloc, rows, strict) {
+    match first_wrong(alloc, &rows[first..end], strict) {
         Ok(None) => Ok(()),
-        Ok(Some((at, kind))) => Err(told(turns, at, kind)),
+        Ok(Some((at, kind))) => Err(told(order, first, end, at, kind)),
         Err(_) => Err(out_of_memory()),
     }
 }
 
-// The fault of a trip's row, told of its record.
-fn told(turns: &[Turn], at: usize, kind: FaultKind) -> TableFault
-    ensures { result ≡ told_of turns.now (at, kind) }
+// The fault of one of a trip's rows, told of its record.
+fn told(order: &RowOrder, first: usize, end: usize, at: usize, kind: FaultKind) -> TableFault
+    requires { first ≤ end }
+    ensures { (rows : List LinkedRow) → end ≤ length rows → result ≡ told_of (slice_range (turns_by order.now rows) first end) (at, kind) }
 {
-    let row = if at < turns.len() {
-        turns[at].number
+    let row = if at < end - first {
+        number_at(order, first + at)
     } else {
         0
     };

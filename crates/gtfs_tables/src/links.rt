@@ -4,11 +4,11 @@ ghost use Rattle.std.specs.Prelude.{◌≡◌, ◌≢◌, ◌<◌, ℕ, length, 
 ghost use Rattle.std.specs.List.{AllZip};
 ghost use Rattle.gtfs_tables.specs.First.{fault_at as fault_of, first_fault_of};
 ghost use Rattle.gtfs_tables.specs.Names.{held_at, named_at};
-ghost use Rattle.gtfs_tables.specs.Order.{numbers_from, row_of};
+ghost use Rattle.gtfs_tables.specs.Order.{row_of, turns_in};
 ghost use Rattle.gtfs_tables.specs.Rows.{IsTransferOf, ends_fault, end_fault, frequency_fault, frequency_of, is_flex_id, is_kept, is_repeated, linked_fault, linked_row, named_by, parent_fault, station_of, stop_fault, stop_number, stop_of, transfer_fault};
 
 use crate::names::Named;
-use crate::order::Turn;
+use crate::order::{RowOrder, Turn};
 use crate::tables::{Frequency, Place, Transfer};
 use gtfs_rows::{
     FaultKind, FrequencyRow, IdHash, Location, StopRow, StopTimeRow, Table, TableFault,
@@ -196,36 +196,24 @@ fn linked(
     }
 }
 
-// The rows by their turns, each with its trip's place and its stop's number. Rows that are in order already stay where
-// they are.
+// The rows in their order, each with its trip's place and its stop's number. Rows that are in order already stay where they
+// are.
 pub(crate) fn linked_rows(
     alloc: Global,
     rows: Vec<StopTimeRow>,
-    turns: &[Turn],
+    order: &RowOrder,
     trips: &[Option<u32>],
     stops: &[Option<Named>],
     flex: &[bool],
 ) -> Result<Vec<StopTimeRow>, AllocError>
     requires { (id : ℕ) → id < length trips.now → slice_index_or flex.now id false ≡ is_flex_id rows.items id }
     ensures { IfOk result (λ ordered. ordered.items ≡ map (λ turn. let row = row_of rows.items turn.number in
-        linked_row trips.now stops.now (is_flex_id rows.items row.trip) row) turns.now) }
+        linked_row trips.now stops.now (is_flex_id rows.items row.trip) row) (turns_in trips.now order.now rows.items)) }
 {
-    if turns.len() == rows.len() && are_as_filed(turns) {
-        return Ok(linked_in_place(rows, trips, stops, flex));
+    match order {
+        RowOrder::Filed => Ok(linked_in_place(rows, trips, stops, flex)),
+        RowOrder::ByTurns(turns) => linked_by_turns(alloc, &rows, turns, trips, stops, flex),
     }
-    linked_by_turns(alloc, &rows, turns, trips, stops, flex)
-}
-
-// Whether the turns are those of the records in the order of the file.
-fn are_as_filed(turns: &[Turn]) -> bool
-    ensures { result ≡ true → map (λ turn. turn.number) turns.now ≡ numbers_from 1 (length turns.now) }
-{
-    for at in 0..turns.len() {
-        if turns[at].number != at as u64 + 1 {
-            return false;
-        }
-    }
-    true
 }
 
 // The rows, each with its trip's place and its stop's number.

@@ -11,7 +11,7 @@ use Rattle.connections.specs.Runs.{IsTripRun, count_hops, runs_of_days}
 use Rattle.connections.specs.declared.days.ServiceDay.{ServiceDay}
 use Rattle.connections.specs.declared.runs.Run.{Run}
 use Rattle.connections.proofs.DaySteps.{first_day}
-use Rattle.connections.proofs.FinalSteps.{connections_refused, listing_made, runs_are_of, runs_refused, times_refused}
+use Rattle.connections.proofs.FinalSteps.{connections_refused, have_digits, listing_made, runs_are_of, runs_refused, times_refused}
 use Rattle.connections.proofs.listing.runs_of.Goals as goal
 
 pub returns-in-Err-runs_on-clause-err : goal.returns-in-Err-runs_on-clause-err
@@ -102,6 +102,19 @@ returns-in-Err-connections_by_run-clause-err c =
     18446744073709551615 base fault started runs_are few counted c.if-count.false room first.1
     (subst (λ (rs : List Run). IsWantOfMemory fault ⊎ ((fault ≡ range_fault) × HasRunOutside c.args.feed.now c.args.zone.now base rs))
     c.deref-6.ensures.value (c.in-Err-connections_by_run.ensures.err c.args.zone.now base none base_is starts))
+
+pub put_in_order-requires : goal.put_in_order-requires
+put_in_order-requires c =
+    let started : AreStarted c.args.zone.now (days_from c.args.first_day c.args.days) c.in-Ok.days.items = c.in-Ok.ensures.ok in
+    let few : length c.in-Ok-runs_on.runs.items ≤ MAX_TRIPS = c.in-Ok-runs_on.ensures.few in
+    let none : ServiceDay = record { day = record { year = 0; month = 0; day = 0 }; start = pos 0 } in
+    let base : ℤ = (get_or c.in-Ok.days.items 0 none).start in
+    let base_is : base ≡ (get_or c.deref-5.result.now 0 none).start = ap (λ (ds : List ServiceDay). (get_or ds 0 none).start) (sym c.deref-5.ensures.value) in
+    let starts : All (λ (d : ServiceDay). IsDayStart c.args.zone.now d.day d.start) c.deref-5.result.now =
+    subst (λ (ds : List ServiceDay). All (λ (d : ServiceDay). IsDayStart c.args.zone.now d.day d.start) ds) (sym c.deref-5.ensures.value) started.starts in
+    have_digits c.args.feed.now c.args.zone.now base c.in-Ok-runs_on.runs.items c.in-Ok-connections_by_run.connections.items
+    (subst (λ (rs : List Run). AreByRun c.args.feed.now c.args.zone.now base rs (length rs) c.in-Ok-connections_by_run.connections.items)
+    c.deref-6.ensures.value (c.in-Ok-connections_by_run.ensures.ok c.args.zone.now base none base_is starts)) few
 
 pub returns-clause-ok : goal.returns-clause-ok
 returns-clause-ok c =

@@ -8,6 +8,7 @@ use Rattle.gtfs_rows.specs.declared.rows.TransferRow.{TransferRow}
 use Rattle.gtfs_tables.specs.Feeds.{stop_time_fault, trips_by}
 use Rattle.gtfs_tables.specs.First.{first_fault_of}
 use Rattle.gtfs_tables.specs.Names.{held_at}
+use Rattle.gtfs_tables.specs.Order.{turns_in}
 use Rattle.gtfs_tables.specs.Rows.{IsTransferOf, frequency_fault, frequency_of, is_kept, is_repeated, parent_fault, station_of, transfer_fault}
 use Rattle.gtfs_tables.proofs.JoinFacts.{frequencies_told, of_none, of_one, of_three, of_two, flex_told, order_told, stops_told, times_told}
 use Rattle.gtfs_tables.proofs.joining.link_by.Goals as goal
@@ -15,14 +16,15 @@ use Rattle.gtfs_tables.proofs.joining.link_by.Goals as goal
 pub returns-in_default-clause-err : goal.returns-in_default-clause-err
 returns-in_default-clause-err c = λ other. absurd (other c.out_of_memory.ensures)
 
-pub returns-in_default-turns_in_order-clause-err : goal.returns-in_default-turns_in_order-clause-err
-returns-in_default-turns_in_order-clause-err c = λ other. absurd (other c.out_of_memory-in_default-turns_in_order.ensures)
+pub returns-in_default-order_of_rows-clause-err : goal.returns-in_default-order_of_rows-clause-err
+returns-in_default-order_of_rows-clause-err c = λ other. absurd (other c.out_of_memory-in_default-order_of_rows.ensures)
 
 pub returns-in-Err-clause-err : goal.returns-in-Err-clause-err
 returns-in-Err-clause-err c = λ other. record {
-  turns = c.in-Ok-turns_in_order.turns.items;
-  in_order = order_told (held_at c.args.places.now) c.args.tables.now c.deref.result.now c.deref-2.result.now c.in-Ok-turns_in_order.turns.items
-      c.deref.ensures.value (c.deref-2.ensures.value ∙ c.in-Ok.ensures) c.in-Ok-turns_in_order.ensures;
+  turns = turns_in (trips_by (held_at c.args.places.now) c.args.tables.now) c.in-Ok-order_of_rows.order
+      c.args.tables.now.stop_times.rows.items;
+  in_order = order_told (held_at c.args.places.now) c.args.tables.now c.deref.result.now c.deref-2.result.now c.in-Ok-order_of_rows.order
+      c.deref.ensures.value (c.deref-2.ensures.value ∙ c.in-Ok.ensures) c.in-Ok-order_of_rows.ensures;
   first = of_one (first_fault_of kinds.Stops (parent_fault (held_at c.args.names.now)) c.args.tables.now.stops.items)
       (option_or (first_fault_of kinds.StopTimes (stop_time_fault (held_at c.args.names.now) (held_at c.args.places.now) c.args.tables.now)
       c.args.tables.now.stop_times.rows.items) (first_fault_of kinds.Frequencies (frequency_fault (held_at c.args.places.now))
@@ -32,9 +34,10 @@ returns-in-Err-clause-err c = λ other. record {
 
 pub returns-in-Err-judged_times-clause-err : goal.returns-in-Err-judged_times-clause-err
 returns-in-Err-judged_times-clause-err c = λ other. record {
-  turns = c.in-Ok-turns_in_order.turns.items;
-  in_order = order_told (held_at c.args.places.now) c.args.tables.now c.deref.result.now c.deref-2.result.now c.in-Ok-turns_in_order.turns.items
-      c.deref.ensures.value (c.deref-2.ensures.value ∙ c.in-Ok.ensures) c.in-Ok-turns_in_order.ensures;
+  turns = turns_in (trips_by (held_at c.args.places.now) c.args.tables.now) c.in-Ok-order_of_rows.order
+      c.args.tables.now.stop_times.rows.items;
+  in_order = order_told (held_at c.args.places.now) c.args.tables.now c.deref.result.now c.deref-2.result.now c.in-Ok-order_of_rows.order
+      c.deref.ensures.value (c.deref-2.ensures.value ∙ c.in-Ok.ensures) c.in-Ok-order_of_rows.ensures;
   first = of_two (first_fault_of kinds.Stops (parent_fault (held_at c.args.names.now)) c.args.tables.now.stops.items)
       (first_fault_of kinds.StopTimes (stop_time_fault (held_at c.args.names.now) (held_at c.args.places.now) c.args.tables.now)
       c.args.tables.now.stop_times.rows.items) (first_fault_of kinds.Frequencies (frequency_fault (held_at c.args.places.now))
@@ -46,9 +49,10 @@ returns-in-Err-judged_times-clause-err c = λ other. record {
 
 pub returns-in-Err-repeating-clause-err : goal.returns-in-Err-repeating-clause-err
 returns-in-Err-repeating-clause-err c = λ other. record {
-  turns = c.in-Ok-turns_in_order.turns.items;
-  in_order = order_told (held_at c.args.places.now) c.args.tables.now c.deref.result.now c.deref-2.result.now c.in-Ok-turns_in_order.turns.items
-      c.deref.ensures.value (c.deref-2.ensures.value ∙ c.in-Ok.ensures) c.in-Ok-turns_in_order.ensures;
+  turns = turns_in (trips_by (held_at c.args.places.now) c.args.tables.now) c.in-Ok-order_of_rows.order
+      c.args.tables.now.stop_times.rows.items;
+  in_order = order_told (held_at c.args.places.now) c.args.tables.now c.deref.result.now c.deref-2.result.now c.in-Ok-order_of_rows.order
+      c.deref.ensures.value (c.deref-2.ensures.value ∙ c.in-Ok.ensures) c.in-Ok-order_of_rows.ensures;
   first = of_three (first_fault_of kinds.Stops (parent_fault (held_at c.args.names.now)) c.args.tables.now.stops.items)
       (first_fault_of kinds.StopTimes (stop_time_fault (held_at c.args.names.now) (held_at c.args.places.now) c.args.tables.now)
       c.args.tables.now.stop_times.rows.items) (first_fault_of kinds.Frequencies (frequency_fault (held_at c.args.places.now))
@@ -64,8 +68,8 @@ returns-in_default-linked_frequencies-clause-err c = λ other. absurd (other c.o
 
 pub returns-clause-ok : goal.returns-clause-ok
 returns-clause-ok c = record {
-  in_order = order_told (held_at c.args.places.now) c.args.tables.now c.deref.result.now c.deref-2.result.now c.in-Ok-turns_in_order.turns.items
-      c.deref.ensures.value (c.deref-2.ensures.value ∙ c.in-Ok.ensures) c.in-Ok-turns_in_order.ensures;
+  in_order = order_told (held_at c.args.places.now) c.args.tables.now c.deref.result.now c.deref-2.result.now c.in-Ok-order_of_rows.order
+      c.deref.ensures.value (c.deref-2.ensures.value ∙ c.in-Ok.ensures) c.in-Ok-order_of_rows.ensures;
   fine = of_none (first_fault_of kinds.Stops (parent_fault (held_at c.args.names.now)) c.args.tables.now.stops.items)
       (first_fault_of kinds.StopTimes (stop_time_fault (held_at c.args.names.now) (held_at c.args.places.now) c.args.tables.now)
       c.args.tables.now.stop_times.rows.items) (first_fault_of kinds.Frequencies (frequency_fault (held_at c.args.places.now))

@@ -1,7 +1,7 @@
 use Rattle.std.proofs.Common.{◌≡◌, ◌+◌, ◌≤◌, ◌<◌, None, false, length, slice_index_or}
 use Rattle.std.specs.List.{AllWithin}
 use Rattle.gtfs_tables.specs.First.{first_below}
-use Rattle.gtfs_tables.specs.Order.{first_turn}
+use Rattle.gtfs_tables.specs.Order.{first_turn, turns_by}
 use Rattle.gtfs_tables.specs.Feeds.{feed_trips, trip_fault}
 use Rattle.gtfs_tables.proofs.joining.timed_trips.Given as goal
 
@@ -9,9 +9,9 @@ abbrev pub invariant-loop-row : goal.invariant-loop-row
 invariant-loop-row l = record {
   place : l.place ≡ length l.yielded;
   left : length l.yielded + length l.row-iterator.rest.items ≡ length l.fn.trips.items;
-  within : l.first ≤ length l.turns;
-  first : l.first ≡ first_turn l.turns l.place;
-  before : AllWithin (λ turn. turn.trip < l.place) l.turns 0 l.first;
-  fine : first_below (trip_fault l.strict l.turns l.rows) l.place ≡ None;
-  timed : l.timed.items ≡ feed_trips l.turns l.rows (λ t. slice_index_or l.repeats t false) 0 l.yielded;
+  within : l.first ≤ length l.rows;
+  first : l.first ≡ first_turn (turns_by l.order l.rows) l.place;
+  before : AllWithin (λ turn. turn.trip < l.place) (turns_by l.order l.rows) 0 l.first;
+  fine : first_below (trip_fault l.strict (turns_by l.order l.rows) l.rows) l.place ≡ None;
+  timed : l.timed.items ≡ feed_trips (turns_by l.order l.rows) l.rows (λ t. slice_index_or l.repeats t false) 0 l.yielded;
 }

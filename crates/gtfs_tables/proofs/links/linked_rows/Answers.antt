@@ -1,10 +1,14 @@
-use Rattle.std.proofs.Common.{◌∙◌, sym, rules}
+use Rattle.std.proofs.Common.{◌∙◌, ap, map, sym}
 use Rattle.gtfs_rows.specs.declared.rows.StopTimeRow.{StopTimeRow}
+use Rattle.gtfs_tables.specs.Order.{row_of, turns_in}
 use Rattle.gtfs_tables.specs.Rows.{is_flex_id, linked_row}
-use Rattle.gtfs_tables.proofs.RowFacts.{filed_rows}
+use Rattle.gtfs_tables.specs.declared.order.RowOrder.{RowOrder}
+use Rattle.gtfs_tables.proofs.TurnFacts.{made_as_filed}
 use Rattle.gtfs_tables.proofs.links.linked_rows.Goals as goal
 
-pub returns-then-are_as_filed : goal.returns-then-are_as_filed
-returns-then-are_as_filed c =
+pub returns-in-Filed : goal.returns-in-Filed
+returns-in-Filed c =
     let link = λ (row : StopTimeRow). linked_row c.args.trips.now c.args.stops.now (is_flex_id c.args.rows.items row.trip) row in
-    c.linked_in_place.ensures ∙ sym (filed_rows link c.args.rows.items c.args.turns.now (search rules) (c.are_as_filed.ensures c.if-are_as_filed.true))
+    c.linked_in_place.ensures ∙ sym (made_as_filed link c.args.trips.now c.args.rows.items)
+    ∙ ap (λ (order : RowOrder). map (λ turn. link (row_of c.args.rows.items turn.number)) (turns_in c.args.trips.now order c.args.rows.items))
+    (sym c.in-Filed.is)
