@@ -1,22 +1,16 @@
 -- Connections that were sorted by departure, arrival and run.
 use Rattle.std.proofs.Common.{◌≡◌, ℕ, zero, suc, ◌+◌, ◌<◌, ◌≤◌, inl, inr, List, length, get_or, false, sym, ap, ◌∙◌, subst, arith, Bor}
 use Rattle.std.specs.declared.cmp.Ordering.{Ordering}
-use Rattle.std.specs.declared.cmp.Ordering.TheVariants.{Less, Equal}
+use Rattle.std.specs.declared.cmp.Ordering.TheVariants.{Equal}
 use Rattle.std.specs.Fn.{Called, ComputesKey}
 use Rattle.std.specs.List.Sorted.{IsSortedByKey}
 use Rattle.std.specs.Ordering.{is_lt, nat_cmp, ordering_then}
 use Rattle.std.proofs.lemmas.Bool.{cases_eq, cases_lt, false≢true}
-use Rattle.std.proofs.lemmas.Bool.Decides.{nat_tests}
 use Rattle.std.proofs.lemmas.List.Sorted.{answers_always}
 use denote.Param.Members.{Mut}
+use Rattle.reasoning.proofs.OrderLemmas.{nat_less, nat_equal}
 use Rattle.timetable.specs.declared.network.Connection.{Connection}
 use Rattle.connections.specs.Building.{AreSorted, IsNotAfter}
-
-nat_less : (m n : ℕ) → m < n → nat_cmp m n ≡ Less
-nat_less m n less = grind (arith, nat_tests)
-
-nat_equal : (m n : ℕ) → m ≡ n → nat_cmp m n ≡ Equal
-nat_equal m n same = grind (arith, nat_tests)
 
 abbrev key_of : Connection → ℕ × ℕ × ℕ
 key_of c = (c.dep, c.arr, c.trip)
