@@ -1,4 +1,4 @@
-// The order of the rows of stop_times.txt: by trip, then by stop_sequence, then by record.
+//! The order of the rows of stop_times.txt: by trip, then by stop_sequence, then by record.
 
 ghost use Rattle.std.specs.Prelude.{◌≡◌, ◌≤◌, ◌<◌, ◌+◌, ℕ, length, map, IfOk, All, IsSortedBy, Bool, true, false};
 ghost use Rattle.std.specs.Bool.{IsTrue};
