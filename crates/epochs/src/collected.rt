@@ -1,4 +1,4 @@
-//! What collecting the closed shelves gave: which are free, and how many workers are still at the others.
+//! What was found at the closing shelves: which are free now, and how many workers are still at the others.
 
 /// What the tries at the closing shelves found.
 #[derive(Clone, Copy, Debug, PartialEq, Eq)]
