@@ -119,7 +119,7 @@ module _ {V : Type 0} (rules : Rules V) (laws : Laws rules) (entries : List (Ent
   put_points : points_from (entries ++ e ∷ []) more (length entries) ≡ put_front ++ points_from entries items e.next
   put_points =
       let some = are.some in
-      let next_is : next_of (entries ++ e ∷ []) (length entries) ≡ e.next = ap next_in (slice_get-middle {X = X} entries e []) in
+      let next_is : next_of (entries ++ e ∷ []) (length entries) ≡ e.next = ap next_in (slice_get-middle entries e []) in
       unrolled rules (entries ++ e ∷ []) more put_are (length entries)
       ∙ ap (λ ps. ps ++ points_from (entries ++ e ∷ []) more (next_of (entries ++ e ∷ []) (length entries))) (front_new entries more e some ∙ put_whole)
       ∙ ap (λ ps. put_front ++ ps) (ap (points_from (entries ++ e ∷ []) more) next_is ∙ same_points rules entries (entries ++ e ∷ []) items more are (e ∷ [], refl) put_extends e.next put_next)
@@ -134,7 +134,7 @@ module _ {V : Type 0} (rules : Rules V) (laws : Laws rules) (entries : List (Ent
   put_within = let long = length_push entries e in omega arith
 
   pub put_departs : departure_of (entries ++ e ∷ []) (length entries) ≡ departure
-  put_departs = ap departure_in (slice_get-middle {X = X} entries e []) ∙ departs
+  put_departs = ap departure_in (slice_get-middle entries e []) ∙ departs
 
   pub put_union : IsUnion rules points (points_from entries items m) (points_from (entries ++ e ∷ []) more (length entries))
   put_union = record {

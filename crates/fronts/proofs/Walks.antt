@@ -36,7 +36,7 @@ module _ {V : Type 0} (rules : Rules V) (departure first walk secs : ℕ) (ridde
   boardings_more laws steps new kept now v r are a in_ridden worth is =
       let step : Step = record { first = first; label = r.label; walk = walk } in
       let me : Item V = record { departure = departure; value = v; tag = length steps } in
-      let here : slice_get new (length steps) ≡ Some step = ap (λ (ss : List Step). slice_get ss (length steps)) is.steps_more ∙ slice_get-middle {X = X} steps step [] in
+      let here : slice_get new (length steps) ≡ Some step = ap (λ (ss : List Step). slice_get ss (length steps)) is.steps_more ∙ slice_get-middle steps step [] in
       let mine : IsBoarding rules new departure first walk secs ridden me = record { by = r; is_ridden = in_ridden; departs = refl; worth = worth; goes_on = here } in (
         (λ p h. elim (Contains-push_cases kept me p (subst (λ ps. Contains ps p) is.kept_more h)) [
           | inl o ↦ boarding_stays steps new p (step ∷ [], is.steps_more) (are p o)
