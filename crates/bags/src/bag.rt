@@ -1,3 +1,5 @@
+//! A bag: points under a criterion, none of which dominates another, with what is asked of it and how a point is taken in.
+
 ghost use Rattle.std.specs.Prelude.{length};
 ghost use Rattle.bags.specs.Dominance.{IsBag};
 ghost use Rattle.bags.specs.Arrangement.{points_in, AreListed, AreLinked};

@@ -1,10 +1,11 @@
 -- The connections of a run, a row on.
 use Rattle.std.proofs.Common.{◌≡◌, ℕ, ℤ, ◌+◌, ◌<◌, inl, inr, List, [], ◌∷◌, ◌++◌, length, get_or, Option, Some, None, IsSome, All, refl, sym, ap, ◌∙◌, subst}
 use Rattle.std.proofs.Common.{arith, append_assoc}
-use Rattle.std.proofs.lemmas.Bool.{cases_eq, false≢true}
+use Rattle.std.proofs.lemmas.Bool.{cases_eq}
 use Rattle.std.proofs.lemmas.Int.{ints}
 use Rattle.std.proofs.lemmas.List.{append-nil, get_or_append_left, get_or_push, length_push}
 use Rattle.std.proofs.lemmas.Option.{slice_get-get_or}
+use Rattle.reasoning.proofs.OptionLemmas.{is_some-none}
 use Rattle.gtfs_rows.specs.declared.rows.StopTimeRow.{StopTimeRow}
 use Rattle.timetable.specs.declared.network.Connection.{Connection}
 use Rattle.connections.specs.Hops.{AddsHops, IsClock, IsHop, IsOutside, IsUsed}
@@ -72,8 +73,4 @@ hops_more base start rows run n old mid new hop was is now = (
 
 pub has_stop : (rows : List StopTimeRow) (p : ℕ) (d : StopTimeRow) → All (λ (row : StopTimeRow). IsSome row.stop) rows → p < length rows
     → (get_or rows p d).stop ≡ None → ⊥
-has_stop rows p d stops lt none = by (get_or rows p d).stop (stops p d lt) none
-  where
-    by : (o : Option ℕ) → IsSome o → o ≡ None → ⊥
-    by None s e = false≢true s
-    by (Some x) s e = cc
+has_stop rows p d stops lt none = is_some-none (get_or rows p d).stop (stops p d lt) none

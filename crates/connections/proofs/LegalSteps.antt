@@ -1,10 +1,11 @@
 -- Listed connections are legal.
-use Rattle.std.proofs.Common.{◌≡◌, ℕ, suc, ℤ, ◌+◌, ◌-◌, ◌<◌, ◌≤◌, inl, inr, List, ◌∷◌, length, get_or, Option, Some, None, IsSomeAnd, All, Contains, true}
+use Rattle.std.proofs.Common.{◌≡◌, ℕ, suc, ℤ, ◌+◌, ◌-◌, ◌<◌, ◌≤◌, inl, inr, List, ◌∷◌, length, get_or, Option, Some, None, IsSomeAnd, All, true}
 use Rattle.std.proofs.Common.{false, refl, sym, ap, ◌∙◌, subst, arith}
 use Rattle.std.specs.List.{slice_get}
 use Rattle.std.proofs.lemmas.Bool.{cases_order}
 use Rattle.std.proofs.lemmas.Int.{ints}
 use Rattle.std.proofs.lemmas.Option.{get_or_from_slice_get, same_Some, slice_get-get_or, slice_get_within}
+use Rattle.reasoning.proofs.ListLemmas.{contains_at, at_contains}
 use Rattle.gtfs_rows.specs.declared.rows.StopTimeRow.{StopTimeRow}
 use Rattle.gtfs_rows.specs.declared.values.Day.{Day}
 use Rattle.gtfs_tables.specs.Joined.{IsRunnable, makes_connections}
@@ -45,12 +46,6 @@ stays : (rows : List StopTimeRow) (k : ℕ) → arrives rows (k + 1) ≤ departs
 unfolding arrives departs
 stays rows k = let e : k + 1 ≡ suc k = omega arith in rw e (omega arith)
 
-pub at_inside : (cs : List Connection) (i : ℕ) (c : Connection) → At cs i c → Contains cs c
-at_inside cs i c at = (i, slice_get_within cs i c at, get_or_from_slice_get cs i c c at)
-
-pub inside_at : (cs : List Connection) (c : Connection) → Contains cs c → (k : ℕ) × At cs k c
-inside_at cs c inside = (inside.0, slice_get-get_or cs inside.0 c inside.1 ∙ ap (λ (x : Connection). Some x) inside.2)
-
 known_below : (o : Option ℕ) (s n : ℕ) → o ≡ Some s → IsSomeAnd o (λ x. x < n) → s < n
 known_below None s n e h = absurd h
 known_below (Some x) s n e h = let same : x ≡ s = cc in omega (arith, h, same)
@@ -78,7 +73,7 @@ module _ (feed : Feed) (zone : Zone) (base : ℤ) (runs : List Run) (cs : List C
       known
 
   hop_of : (i : ℕ) (c : Connection) → At cs i c → (r : ℕ) × (p : ℕ) × IsRunHop feed zone base runs r p c
-  hop_of i c at = listed.only c (at_inside cs i c at)
+  hop_of i c at = listed.only c (contains_at cs i c at)
 
   stops_in_range : (i : ℕ) (c : Connection) → At cs i c → (c.from < length feed.stops.items) × (c.to < length feed.stops.items)
   stops_in_range i c at =
@@ -176,7 +171,7 @@ module _ (feed : Feed) (zone : Zone) (base : ℤ) (runs : List Run) (cs : List C
         | inr (inr above) ↦
             let within = hop_within base start rows r q d y in
             let e = hop_at r start rows (p + 1) at (omega (arith, above, within)) in
-            let place = inside_at cs e.0 (listed.each r (p + 1) e.0 (record { start = start; rows = rows; run_at = at; hop = e.1 })) in
+            let place = at_contains cs e.0 (listed.each r (p + 1) e.0 (record { start = start; rows = rows; run_at = at; hop = e.1 })) in
             let low = stands_before i place.0 r p (p + 1) start rows c e.0 before.first place.1 at x e.1 (omega arith) in
             let high = stands_before place.0 j r (p + 1) q start rows e.0 d place.1 before.second at e.1 y above in
             absurd (before.none_between place.0 e.0 place.1 low high (e.1.trip ∙ sym y.trip))
@@ -228,5 +223,5 @@ limits_listing feed zone first days cs runs some l =
     record {
       trips = l.few_runs;
       few = l.few;
-      times = λ i c at. (let w = (l.listed base.0 base.1).only c (at_inside cs i c at) in w.2.hop.arr.in_time);
+      times = λ i c at. (let w = (l.listed base.0 base.1).only c (contains_at cs i c at) in w.2.hop.arr.in_time);
     }

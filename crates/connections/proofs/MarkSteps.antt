@@ -9,6 +9,7 @@ use Rattle.std.proofs.lemmas.List.{get_or-replicate, get_or-set_other, get_or-se
 use Rattle.std.specs.Prelude.{IsPermutation}
 use Rattle.std.proofs.lemmas.List.Sorted.{All-permutation, list_any-IsPermutation}
 use Rattle.std.proofs.lemmas.Nat.{div-add-mod', mod-mul-add}
+use Rattle.std.proofs.Math.Bool.{or-false}
 use Rattle.gtfs_tables.specs.declared.tables.Frequency.{Frequency}
 use Rattle.connections.specs.Marks.{AreMarks, Covers}
 use Rattle.connections.specs.Repeats.{is_start, last_end, leaves_at, starts_before}
@@ -65,19 +66,15 @@ row_covered other row some same late none s lt is =
 abbrev pub with_row : (ℕ → Bool) → Frequency → ℕ → ℕ → Bool
 with_row test row next s = test s || (leaves_at s row && nat_lt s next)
 
-or_nothing : (b : Bool) → (b || false) ≡ b
-or_nothing true = refl
-or_nothing false = refl
-
 -- none of them is added, where those before a time are there already
 pub marks_begin : (test : ℕ → Bool) (marks : List Bool) (row : Frequency) (from : ℕ) → AreMarks test marks
     → ((s : ℕ) → s < from → leaves_at s row ≡ true → test s ≡ true) → AreMarks (with_row test row from) marks
 marks_begin test marks row from was covered s d lt = was s d lt ∙ sym (elim (cases_Bool (leaves_at s row)) [
   | inl is ↦ elim (cases_lt s from) [
     | inl low ↦ (let t : test s ≡ true = covered s low is in rw t refl)
-    | inr high ↦ rw (is, le-ltb s from high) (or_nothing (test s))
+    | inr high ↦ rw (is, le-ltb s from high) (or-false (test s))
   ]
-  | inr none ↦ rw none (or_nothing (test s))
+  | inr none ↦ rw none (or-false (test s))
 ])
 
 -- the next start is marked

@@ -2,6 +2,7 @@
 use Rattle.std.proofs.Common.{◌≡◌, ℕ, zero, suc, ℤ, ◌<◌, ◌≤◌, ◌⊎◌, inl, inr, List, [], ◌∷◌, refl, sym, ap, ◌∙◌, subst, arith}
 use Rattle.std.proofs.lemmas.Bool.{cases_order}
 use Rattle.std.proofs.lemmas.Option.{same_Some, slice_get_within}
+use Rattle.reasoning.proofs.ListLemmas.{contains_at, at_contains}
 use Rattle.gtfs_rows.specs.declared.values.Day.{Day}
 use Rattle.gtfs_tables.specs.declared.tables.Feed.{Feed}
 use Rattle.service_days.specs.declared.zone.Zone.{Zone}
@@ -11,7 +12,7 @@ use Rattle.connections.specs.Hops.{IsHop}
 use Rattle.connections.specs.Listed.{AreListed, IsBefore, IsRunHop}
 use Rattle.connections.specs.Outcome.{IsListing}
 use Rattle.connections.specs.declared.runs.Run.{Run}
-use Rattle.connections.proofs.LegalSteps.{at_inside, base_of, inside_at}
+use Rattle.connections.proofs.LegalSteps.{base_of}
 use Rattle.connections.proofs.ListSteps.{hop_along, hops_rise, same_run_at}
 
 -- ---- lists that rise by a relation that doesn't go both ways
@@ -99,14 +100,14 @@ module _ (feed : Feed) (zone : Zone) (base : ℤ) (runs : List Run) where
 
   listed_rises : (cs : List Connection) → AreListed feed zone base runs cs → Rises ComesFirst cs
   listed_rises cs l i j c d lt at_c at_d =
-      let x = l.only c (at_inside cs i c at_c) in
-      let y = l.only d (at_inside cs j d at_d) in
+      let x = l.only c (contains_at cs i c at_c) in
+      let y = l.only d (contains_at cs j d at_d) in
       (x.0, x.1, y.0, y.1, x.2, y.2, l.in_order i j x.0 x.1 y.0 y.1 c d lt at_c at_d x.2 y.2)
 
   among : (cs ds : List Connection) → AreListed feed zone base runs cs → AreListed feed zone base runs ds → Among cs ds
   among cs ds l m i c at =
-      let x = l.only c (at_inside cs i c at) in
-      inside_at ds c (m.each x.0 x.1 c x.2)
+      let x = l.only c (contains_at cs i c at) in
+      at_contains ds c (m.each x.0 x.1 c x.2)
 
   pub one_listed : (cs ds : List Connection) → AreListed feed zone base runs cs → AreListed feed zone base runs ds → cs ≡ ds
   one_listed cs ds l m = one_list ComesFirst never_round cs ds (listed_rises cs l) (listed_rises ds m) (among cs ds l m) (among ds cs m l)

@@ -8,6 +8,7 @@ use Rattle.std.proofs.lemmas.List.{get_or_append_left, get_or_push, length_push}
 use Rattle.std.proofs.lemmas.List.Elements.{Contains-append_cases, Contains-append_left, Contains-append_right, Contains-get_or}
 use Rattle.std.proofs.lemmas.List.Folds.{Any-from_list_any, list_any_at}
 use Rattle.std.proofs.lemmas.Nat.{div-add-mod', mod-mul-add}
+use Rattle.reasoning.proofs.ListLemmas.{contains_only}
 use Rattle.gtfs_rows.specs.declared.rows.StopTimeRow.{StopTimeRow}
 use Rattle.gtfs_tables.specs.declared.tables.Frequency.{Frequency}
 use Rattle.service_days.specs.Zones.{IsDayStart}
@@ -20,10 +21,6 @@ use Rattle.connections.proofs.RepeatSteps.{start_below, start_here}
 
 -- ---- which times are starts
 
-last_one : (n s : ℕ) → Contains (n ∷ []) s → s ≡ n
-last_one n s (zero, lt, is) = sym is
-last_one n s (suc k, lt, is) = absurd (omega (arith, lt))
-
 -- what a start before a time is, and which are there
 only_before : (rows : List Frequency) (n s : ℕ) → Contains (starts_before rows n) s → (s < n) × (is_start rows s ≡ true)
 unfolding starts_before
@@ -31,7 +28,7 @@ only_before rows zero s inside = absurd (let lt = inside.1 in omega (arith, lt))
 only_before rows (suc n) s inside = elim (cases_Bool (is_start rows n)) [
   | inl met ↦ elim (Contains-append_cases (starts_before rows n) (n ∷ []) s (subst (λ (xs : List ℕ). Contains xs s) (start_here rows n met) inside)) [
     | inl old ↦ (let was = only_before rows n s old in (let lt = was.0 in omega (arith, lt), was.1))
-    | inr fresh ↦ (let same : s ≡ n = last_one n s fresh in (omega (arith, same), ap (is_start rows) same ∙ met))
+    | inr fresh ↦ (let same : s ≡ n = contains_only n s fresh in (omega (arith, same), ap (is_start rows) same ∙ met))
   ]
   | inr unmet ↦ (let same : starts_before rows (suc n) ≡ starts_before rows n = rw unmet refl in
       let was = only_before rows n s (subst (λ (xs : List ℕ). Contains xs s) same inside) in (let lt = was.0 in omega (arith, lt), was.1))

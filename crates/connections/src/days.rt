@@ -1,4 +1,4 @@
-// The service days that are asked for.
+//! The service days that are asked for, each with the instant at which it starts, or the first that has no start.
 
 ghost use Rattle.std.specs.Prelude.{◌≡◌, ◌≤◌, IfOk, IfErr, ◌⊎◌};
 ghost use Rattle.connections.specs.Days.{AreStarted, HasNoStartAmong, days_from};

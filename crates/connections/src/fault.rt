@@ -1,4 +1,4 @@
-// Why there are no connections.
+//! Why a feed gives no connections: a day without a start, times out of range, too many runs or connections, no memory.
 
 ghost use Rattle.std.specs.Prelude.{◌≡◌};
 ghost use Rattle.connections.specs.Faults.{IsWantOfMemory, range_fault, too_many_of};

@@ -1,4 +1,4 @@
-// The connections of one run.
+//! The connections of one run: a row to the next at which it stops, in seconds from the zero of the timetable.
 
 ghost use Rattle.std.specs.Prelude.{◌≡◌, ◌≤◌, ◌<◌, ◌+◌, ◌-◌, ◌^◌, pos, ◌+ℤ◌, ◌≤ℤ◌, length, OnOk, MatchOption, MatchBool, All, IsSome};
 ghost use Rattle.connections.specs.Hops.{AddsHops, HaveClocks, IsClock, IsHop, IsInside, IsOutside, LackClocks, LiesOutside, zero_of};

@@ -1,4 +1,4 @@
-// The connections of runs, in order.
+//! The connections of all runs in the order of a timetable: by departure, then by arrival, then by run.
 
 ghost use Rattle.std.specs.Prelude.{◌≡◌, ◌≤◌, ◌<◌, ◌-◌, ◌^◌, ◌⊎◌, ℤ, min, length, map, IfOk, IfErr, OnOk, OnErr, All, Contains, IsPermutation, true};
 ghost use Rattle.std.specs.Prelude.{slice_index_or};

@@ -1,4 +1,4 @@
-// The starts of a trip with many rows, marked second by second: rows that overlap cost no more than the starts that they give.
+//! The starts of a trip with many rows, marked second by second: rows that overlap cost no more than the starts that they give.
 
 ghost use Rattle.std.specs.Prelude.{◌≡◌, ◌≤◌, ◌<◌, ◌||◌, ◌⊎◌, ℕ, Bool, true, length, All, IfOk, IsPermutation};
 ghost use Rattle.connections.specs.Marks.{AreMarks, Covers};

@@ -1,4 +1,4 @@
-// The starts of the trips that repeat.
+//! The starts of the trips that repeat: each second at which a row of frequencies.txt has its trip leave.
 
 ghost use Rattle.std.specs.Prelude.{◌≡◌, ◌<◌, [], length, IfOk, IfSome, OnOk, MatchOption};
 ghost use Rattle.connections.specs.Grouping.{AddsRow, AreGrouped};

@@ -1,4 +1,4 @@
-// What was counted.
+//! What was counted on the way from a feed to its connections.
 
 ghost use Rattle.std.specs.Prelude.{◌≡◌, length, count_by};
 ghost use Rattle.connections.specs.Outcome.{IsReport};

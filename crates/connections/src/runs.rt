@@ -1,4 +1,4 @@
-// Which trips run on which days.
+//! Runs: which trips leave on which service days, how often, and with which repeats.
 
 ghost use Rattle.std.specs.Prelude.{◌≡◌, ◌≤◌, ◌<◌, ◌^◌, ◌-◌, ◌+◌, ◌++◌, min, length, map, IfOk, IfErr, OnOk, All, ◌⊎◌, ℕ};
 ghost use Rattle.gtfs_tables.specs.Joined.{makes_connections as makes};

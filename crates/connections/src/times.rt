@@ -1,4 +1,4 @@
-// The times of a trip's rows, spread and lifted.
+//! The times of a trip's rows: spread over the blank ones, then lifted, so that each arrival is after the departure before it.
 
 ghost use Rattle.std.specs.Prelude.{◌≡◌, ◌≤◌, ◌<◌, ◌+◌, ◌-◌, ◌^◌, max, not, ◌&&◌, ◌==◌, length, IfOk, IfSome, MatchOption, IsSome};
 ghost use Rattle.gtfs_tables.specs.Spread.{arrival_at};

@@ -1,3 +1,5 @@
+//! The criterion of arrival, of how many trips are ridden and of how long is walked.
+
 ghost use Rattle.std.specs.Prelude.{◌+◌, ◌&&◌, Some, min, nat_le, nat_lt};
 ghost use Rattle.std.specs.Ordering.{nat_cmp, ordering_then};
 ghost use Rattle.std.proofs.lemmas.Bool.{le-leb};

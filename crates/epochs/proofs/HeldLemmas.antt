@@ -1,17 +1,13 @@
 -- What seats hold stays what was published.
-use Rattle.std.proofs.Common.{◌≡◌, ℕ, zero, suc, List, ◌∷◌, [], ◌++◌, Some, ap, sym, ◌∙◌}
+use Rattle.std.proofs.Common.{◌≡◌, ℕ, List, ◌∷◌, [], Some, ap, sym, ◌∙◌}
 use Rattle.image_layout.specs.Image.{ImageValue}
-use Rattle.version_core.proofs.Lists.{slice_get-append}
 use Rattle.epochs.specs.declared.collected.Collected.{Collected}
 use Rattle.epochs.specs.Seats.{WorkerSeatValue}
 use Rattle.epochs.specs.Pins.{Pins, Releases}
 use Rattle.epochs.specs.History.{TableValue, image_of}
 use Rattle.epochs.specs.Publishing.{Collects, Publishes}
 use Rattle.epochs.specs.SeatLaws.{HoldsPublished}
-
-images_stay : (images more : List ImageValue) (version : ℕ) (image : ImageValue) → image_of images version ≡ Some image → image_of (images ++ more) version ≡ Some image
-images_stay images more zero image is = absurd (cc)
-images_stay images more (suc n) image is = slice_get-append images more n image is
+use Rattle.shelf_steps.proofs.Loads.{image_of-append}
 
 same_images : (before after : List ImageValue) (seat : WorkerSeatValue) → after ≡ before → HoldsPublished before seat → HoldsPublished after seat
 same_images before after seat same h version image held = ap (λ l. image_of l version) same ∙ h version image held
@@ -32,7 +28,7 @@ releases_keep_published a b seat after other h = same_images a.images b.images o
 
 pub publishes_keep_published : (a b : TableValue) (seat : WorkerSeatValue) (image : ImageValue) (version : ℕ) → Publishes a image version b → HoldsPublished a.images seat → HoldsPublished b.images seat
 publishes_keep_published a b seat image version h before v held is =
-    ap (λ l. image_of l v) h.images ∙ images_stay a.images (image ∷ []) v held (before v held is)
+    ap (λ l. image_of l v) h.images ∙ image_of-append a.images (image ∷ []) v held (before v held is)
 
 pub collects_keep_published : (a b : TableValue) (seat : WorkerSeatValue) (found : Collected) → Collects a found b → HoldsPublished a.images seat → HoldsPublished b.images seat
 collects_keep_published a b seat found h = same_images a.images b.images seat h.images

@@ -2,6 +2,7 @@
 use Rattle.std.proofs.Common.{◌≡◌, ◌≢◌, ℕ, zero, suc, ◌+◌, ◌<◌, ◌≤◌, List, [], ◌∷◌, ◌++◌, length, set, Option, Some, slice_get, refl, ap, sym, ◌∙◌, subst, arith, ◌⊎◌, inl, inr, length-append, length-set, append_assoc}
 use Rattle.std.specs.Arc.{arc_value}
 use Rattle.std.proofs.lemmas.Option.{slice_get_within}
+use Rattle.reasoning.proofs.ListLemmas.{at_below}
 use Rattle.image_layout.specs.Image.{ImageValue}
 use Rattle.version_core.specs.declared.event.Event.{Event}
 use Rattle.version_core.specs.declared.event.Reply.{Reply}
@@ -13,32 +14,21 @@ use Rattle.version_core.specs.Runs.{Run, IsRun}
 use Rattle.version_core.specs.Kept.{Kept}
 use Rattle.version_core.specs.Rest.{IsAtRest, LoadsRest, loaded}
 use Rattle.version_core.specs.Laws.{RunsGrowByRuns}
-use Rattle.version_core.proofs.Lists.{slice_get-set, slice_get-append, slice_get-last}
+use Rattle.version_core.proofs.Lists.{slice_get-set}
 use Rattle.shelf_steps.specs.declared.edition.Edition.{Edition}
 use Rattle.epochs.specs.History.{IsHistory, AreShelved, StandsOn, IsEdition, HeldHaveImages, image_of}
 use Rattle.epochs.specs.Publishing.{Publishes}
-
-there : {X : Type 0} (xs : List X) (n : ℕ) → n < length xs → (x : X) × (slice_get xs n ≡ Some x)
-there [] n small = absurd (omega arith)
-there (x ∷ xs) zero small = (x, refl)
-there (x ∷ xs) (suc n) small = there xs n (omega arith)
+use Rattle.shelf_steps.proofs.Loads.{image_of-append, image_last}
 
 image_there : (images : List ImageValue) (v : ℕ) → 0 < v → v ≤ length images → (image : ImageValue) × (image_of images v ≡ Some image)
 image_there images zero some small = absurd (omega arith)
-image_there images (suc n) some small = there images n (omega arith)
+image_there images (suc n) some small = at_below images n (omega arith)
 
 pub held_have_images : (s : State) (events : List Event) (images : List ImageValue) → Kept s → IsHistory s events images → HeldHaveImages s images
 held_have_images s events images kept h w k v holds =
     let f = kept.workers.each w (Worker.Holding k v) holds in let known = kept.shelves.known k v f.1 in
     let many = h.as_many in let most = known.1 in
     image_there images v known.0 (omega arith)
-
-image_of-append : (images more : List ImageValue) (v : ℕ) (image : ImageValue) → image_of images v ≡ Some image → image_of (images ++ more) v ≡ Some image
-image_of-append images more zero image is = absurd (cc)
-image_of-append images more (suc n) image is = slice_get-append images more n image is
-
-image_last : (images : List ImageValue) (image : ImageValue) (n : ℕ) → n ≡ suc (length images) → image_of (images ++ image ∷ []) n ≡ Some image
-image_last images image n is = subst (λ i. image_of (images ++ image ∷ []) i ≡ Some image) (sym is) (slice_get-last images image)
 
 edition_stays : (images more : List ImageValue) (v : ℕ) (edition : Option Edition) → IsEdition images v edition → IsEdition (images ++ more) v edition
 edition_stays images more v edition h = (h.0, h.1, h.2, image_of-append images more v (arc_value h.0.image) h.3)

@@ -1,5 +1,5 @@
 -- What a loader's seat is told.
-use Rattle.std.proofs.Common.{◌≡◌, ◌≢◌, replicate, ℕ, zero, suc, ◌<◌, ◌≤◌, true, List, [], ◌∷◌, ◌++◌, Some, slice_get, get_or, refl, ap, sym, ◌∙◌, arith, inl, inr}
+use Rattle.std.proofs.Common.{◌≡◌, ◌≢◌, ℕ, zero, suc, ◌<◌, ◌≤◌, true, List, [], ◌∷◌, ◌++◌, Some, slice_get, get_or, refl, ap, sym, ◌∙◌, arith, inl, inr}
 use Rattle.std.proofs.lemmas.Option.{slice_get_within, slice_get-get_or}
 use Rattle.image_layout.specs.Image.{ImageValue}
 use Rattle.version_core.specs.declared.state.Shelf.{Shelf}
@@ -7,8 +7,8 @@ use Rattle.version_core.specs.declared.state.Worker.{Worker}
 use Rattle.version_core.specs.State.{State, newest, start}
 use Rattle.version_core.specs.Kept.{Kept, version_of}
 use Rattle.version_core.specs.Rest.{IsAtRest}
-use Rattle.version_core.proofs.Lists.{slice_get-set_other}
 use Rattle.std.specs.Option.{option_and_then}
+use Rattle.reasoning.proofs.ListLemmas.{slice_get-replicate, slice_get-set_other}
 use Rattle.epochs.specs.declared.collected.Collected.{Collected}
 use Rattle.epochs.specs.declared.faults.PublishFault.{PublishFault}
 use Rattle.epochs.specs.declared.seats.LoaderAnswer.{LoaderAnswer}
@@ -54,11 +54,6 @@ refused_so a b before after (PublishFault.ShelvesFull counts) kept h told =
     let full : AreFull a.state counts = h.3 in
     let within = slice_get_within a.state.shelves a.state.current_shelf _ kept.shelves.current_open in let eight = kept.shelves.eight in
     ((a.state.current_shelf, (omega arith), full.current, full.others), told)
-
-slice_get-replicate : {X : Type 0} (n k : ℕ) (x : X) → k < n → slice_get (replicate n x) k ≡ Some x
-slice_get-replicate zero k x small = absurd (omega arith)
-slice_get-replicate (suc n) zero x small = refl
-slice_get-replicate (suc n) (suc k) x small = slice_get-replicate n k x (omega arith)
 
 pub new_seats_fit : (number : ℕ) → number < 16 → SeatFits start (idle_seat number)
 new_seats_fit number small = (slice_get-replicate 16 number Worker.Idle small, slice_get-replicate 16 number 0 small)

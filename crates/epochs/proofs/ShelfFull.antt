@@ -1,10 +1,10 @@
 -- Where each closing shelf was tried and none is free, workers are at all but the current one.
-use Rattle.std.proofs.Common.{◌≡◌, ◌≢◌, ℕ, zero, suc, ◌<◌, ◌≤◌, ◌⊎◌, Bool, true, false, List, [], ◌∷◌, ◌++◌, length, get_or, Option, Some, None, slice_get, refl, ap, sym, ◌∙◌, subst, arith, inl, inr}
+use Rattle.std.proofs.Common.{◌≡◌, ◌≢◌, ℕ, zero, suc, ◌<◌, ◌≤◌, ◌⊎◌, Bool, true, false, List, [], ◌∷◌, ◌++◌, get_or, Option, Some, None, slice_get, refl, ap, sym, ◌∙◌, subst, arith, inl, inr}
 use mathlib.Core.Logic.{dite}
 use native.Mathlib.Decide.{ℕ_discrete}
 use Rattle.std.proofs.lemmas.Option.{slice_get_within}
+use Rattle.reasoning.proofs.ListLemmas.{slice_get-set_same, slice_get-set_other, at_below}
 use Rattle.version_core.specs.declared.state.Shelf.{Shelf}
-use Rattle.version_core.proofs.Lists.{slice_get-set_same, slice_get-set_other}
 use Rattle.shelf_steps.specs.declared.views.LoaderView.{LoaderView}
 use Rattle.shelf_steps.specs.declared.views.View.{View}
 use Rattle.epochs.specs.declared.collected.Collected.{Collected}
@@ -72,11 +72,6 @@ tried_all (suc n) u freed busy u' t j less = dite (ℕ_discrete j n)
     (subst (λ (s : Option Shelf). Told s (get_or busy n 0) (shelf_of u' n)) (untried n u freed busy t.0 t.1 n (omega arith)) (tried_here n (shelf_of t.0 n) t.0 (get_or freed n false) (get_or busy n 0) u' t.2 refl)))
     (λ ne. subst (λ (s : Option Shelf). Told (shelf_of u j) (get_or busy j 0) s) (sym (tried_other n j (shelf_of t.0 n) t.0 (get_or freed n false) (get_or busy n 0) u' t.2 ne)) (tried_all n u freed busy t.0 t.1 j (omega arith)))
 
-shelf_there : (xs : List Shelf) (k : ℕ) → k < length xs → (x : Shelf) × (slice_get xs k ≡ Some x)
-shelf_there [] k h = absurd (omega arith)
-shelf_there (x ∷ xs) zero h = (x, refl)
-shelf_there (x ∷ xs) (suc k) h = shelf_there xs k (omega arith)
-
 -- a shelf that is neither free nor open is closing
 busy_at : (l : LoaderView) (k count : ℕ) (x : Shelf) → slice_get l.shelves k ≡ Some x → x ≢ Shelf.Free → ((v : ℕ) → x ≢ Shelf.Open v) → ((v : ℕ) → slice_get l.shelves k ≡ Some (Shelf.Closing v) → 0 < count) → 0 < count
 busy_at l k count Shelf.Free is a b f = absurd (a refl)
@@ -96,7 +91,7 @@ full_so current current_shelf shelves (View.Loading l) u' found rest none t none
       omega arith,
       (told l.current_shelf (omega arith)).2 current (same l.current_shelf ∙ (ap (λ n. slice_get shelves n) cur ∙ rest.stands)),
       λ k less ne.
-          let x = shelf_there shelves k (omega arith) in
+          let x = at_below shelves k (omega arith) in
           let is : slice_get l.shelves k ≡ Some x.0 = same k ∙ x.1 in
           busy_at l k (get_or found.busy k 0) x.0 is (λ e. none (k, is ∙ ap (λ (y : Shelf). Some y) e)) (λ v e. ne (rest.one_open k v (x.1 ∙ ap (λ (y : Shelf). Some y) e) ∙ sym cur)) (told k less).1,
     )

@@ -1,5 +1,5 @@
 -- What a pin and a release say of a seat.
-use Rattle.std.proofs.Common.{zero, suc, get_or, ◌≡◌, ℕ, ◌+◌, ◌≤◌, List, [], ◌∷◌, ◌++◌, length, Some, slice_get, refl, ap, sym, ◌∙◌, subst, arith, length-append}
+use Rattle.std.proofs.Common.{◌≡◌, ℕ, ◌+◌, ◌≤◌, List, [], ◌∷◌, ◌++◌, length, Some, slice_get, refl, ap, sym, ◌∙◌, subst, arith, length-append}
 use Rattle.std.specs.List.{All}
 use Rattle.std.specs.Arc.{arc_value}
 use Rattle.image_layout.specs.Image.{ImageValue}
@@ -16,7 +16,8 @@ use Rattle.shelf_steps.specs.Course.{image_of}
 use Rattle.atomic_table.specs.Seated.{TableId}
 use mathlib.Core.Logic.{dite}
 use native.Mathlib.Decide.{ℕ_discrete}
-use Rattle.version_core.proofs.Lists.{slice_get-append, slice_get-last}
+use Rattle.std.proofs.lemmas.Option.{get_or_from_slice_get}
+use Rattle.reasoning.proofs.ListLemmas.{slice_get-append, slice_get-last}
 use Rattle.epochs.specs.ShelfSeats.{ShelfSeatValue, SeatsHanded, new_seat, seen_of}
 
 late_seen : (u u' : View) (n : ℕ) → Late u n u' → (seen_of u ≤ n) × (seen_of u' ≡ n)
@@ -108,12 +109,7 @@ one_more_seat table n seats more seat handed added new = (
       (λ ne. ap (λ (l : List ShelfSeatValue). slice_get l j) added ∙ slice_get-append seats (seat ∷ []) j (new_seat table j) (handed.1 j (omega arith))),
 )
 
-got : (seats : List ShelfSeatValue) (k : ℕ) (d seat : ShelfSeatValue) → slice_get seats k ≡ Some seat → get_or seats k d ≡ seat
-got [] k d seat is = absurd (cc)
-got (x ∷ xs) zero d seat is = cc
-got (x ∷ xs) (suc k) d seat is = got xs k d seat is
-
 -- seats that were handed out are seats of that table
 pub handed_fit : (table : TableId) (n : ℕ) (seats : List ShelfSeatValue) → SeatsHanded table n seats → All (λ (seat : ShelfSeatValue). seat.table ≡ table) seats
 handed_fit table n seats handed k d less =
-    ap (λ (seat : ShelfSeatValue). seat.table) (got seats k d (new_seat table k) (handed.1 k (let e = handed.0 in omega arith)))
+    ap (λ (seat : ShelfSeatValue). seat.table) (get_or_from_slice_get seats k (new_seat table k) d (handed.1 k (let e = handed.0 in omega arith)))

@@ -1,8 +1,9 @@
 -- The loader's seat between two loads.
 use Rattle.std.proofs.Common.{◌≡◌, ◌≢◌, ℕ, zero, suc, ◌+◌, ◌<◌, ◌≤◌, Bool, false, List, [], ◌∷◌, ◌++◌, length, set, get_or, Some, slice_get, ap, sym, ◌∙◌, subst, arith, length-set, length-append, get_or-set_same, get_or-set_other, inl, inr}
 use Rattle.std.proofs.lemmas.Option.{slice_get_within}
+use Rattle.reasoning.proofs.ListLemmas.{slice_get-set_same, slice_get-set_other}
 use Rattle.version_core.specs.declared.state.Shelf.{Shelf}
-use Rattle.version_core.proofs.Lists.{slice_get-set_same, slice_get-set_other, slice_get-set}
+use Rattle.version_core.proofs.Lists.{slice_get-set}
 use Rattle.shelf_steps.specs.declared.views.LoaderView.{LoaderView}
 use Rattle.shelf_steps.specs.declared.views.View.{View}
 use Rattle.image_layout.specs.Image.{ImageValue}

@@ -3,6 +3,7 @@ use Rattle.std.proofs.Common.{◌≡◌, ℕ, zero, suc, ◌+◌, ◌<◌, ◌�
 use Rattle.std.proofs.lemmas.Option.{get_or_from_slice_get, slice_get_within}
 use mathlib.Core.Logic.{dite}
 use native.Mathlib.Decide.{ℕ_discrete}
+use Rattle.reasoning.proofs.ListLemmas.{slice_get-set_same, slice_get-set_other}
 use Rattle.image_layout.specs.Image.{ImageValue}
 use Rattle.version_core.specs.declared.event.Event.{Event}
 use Rattle.version_core.specs.declared.event.Reply.{Reply}
@@ -13,7 +14,7 @@ use Rattle.version_core.specs.Runs.{IsRun}
 use Rattle.version_core.specs.Kept.{Kept}
 use Rattle.version_core.specs.Rest.{IsAtRest, RestIsFull}
 use Rattle.version_core.specs.Laws.{RunsJoin}
-use Rattle.version_core.proofs.Lists.{slice_get-set, slice_get-set_same, slice_get-set_other}
+use Rattle.version_core.proofs.Lists.{slice_get-set}
 use Rattle.shelf_steps.specs.declared.edition.Edition.{Edition}
 use Rattle.epochs.specs.declared.collected.Collected.{Collected}
 use Rattle.epochs.specs.History.{TableValue, AreShelved, StandsOn}

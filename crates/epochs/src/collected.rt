@@ -1,3 +1,5 @@
+//! What was found at the closing shelves: which are free now, and how many workers are still at the others.
+
 /// What the tries at the closing shelves found.
 #[derive(Clone, Copy, Debug, PartialEq, Eq)]
 pub struct Collected {

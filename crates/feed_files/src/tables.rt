@@ -1,4 +1,4 @@
-// The eight files, each with its rows.
+//! The eight files of a feed: the rows that each is read into, and what stands for one that may be missing.
 
 ghost use Rattle.std.specs.Prelude.{◌≡◌, ◌≢◌, ℕ, List, [], IfOk, IfErr};
 ghost use Rattle.gtfs_rows.specs.declared.fault.FaultKind.{FaultKind as Kind};

@@ -1,4 +1,4 @@
-// What is made of a joined feed.
+//! What is made of a joined feed: connections, footpaths and names, and of them a timetable.
 
 ghost use Rattle.std.specs.Prelude.{◌≡◌, ◌≤◌, ◌<◌, ◌+◌, ◌⊎◌, length, IfOk, IfErr};
 ghost use Rattle.timetable.specs.declared.limits.TheConstants.{MAX_NAME_BYTES};

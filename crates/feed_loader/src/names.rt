@@ -1,4 +1,4 @@
-// The names of a feed's stops and runs.
+//! The names of a feed's stops and runs: a stop's own name, and a run's id with its day and its repeat.
 
 ghost use Rattle.std.specs.Prelude.{◌≡◌, ◌+◌, min, map, IfOk};
 ghost use Rattle.std.specs.String.{string_bytes};

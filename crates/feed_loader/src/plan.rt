@@ -1,3 +1,5 @@
+//! What is asked of a load: the days, the zone and how strictly times are judged.
+
 use gtfs_tables::Day;
 use service_days::Zone;
 

@@ -1,4 +1,4 @@
-// The image of a timetable and its names.
+//! A timetable and its names written as an image, and the image verified.
 
 ghost use Rattle.std.specs.Prelude.{◌≡◌, IfOk, IfErr};
 ghost use Rattle.image_layout.specs.declared.layout.TheConstants.{LAYOUT};

@@ -7,6 +7,8 @@ use Rattle.std.proofs.lemmas.Bool.{cases_eq}
 use Rattle.std.proofs.lemmas.Option.{same_Some, none-some}
 use Rattle.std.proofs.lemmas.List.{get_or-set_same, get_or-set_other, get_or_default, append-nil, take_all, drop_all}
 use Rattle.std.proofs.lemmas.List.Elements.{All-contains, Contains-push_cases, Contains-append_left}
+use Rattle.reasoning.proofs.ListLemmas.{contains_at, at_contains, slice_get-last}
+use Rattle.reasoning.proofs.OptionLemmas.{option_cases}
 use Rattle.timetable.specs.declared.network.Footpath.{Footpath}
 use Rattle.timetable.specs.Journeys.{IsWalk, walk_end}
 use Rattle.timetable.specs.Legal.{HasFootpath, IsOrderedBefore, AreInOrder}
@@ -16,8 +18,8 @@ use Rattle.footpaths.specs.Walks.{on_foot, AreJoined}
 use Rattle.footpaths.specs.Closure.{IsClosure, HasMorePairs, HasLongerWalk, AreInRange}
 use Rattle.footpaths.specs.Search.{time_at, AreReached, IsToldLeast, AreToldLeast}
 use Rattle.footpaths.specs.Collected.{IsClosedInto, taken, IsTakeFault, IsCountFault}
-use Rattle.footpaths.proofs.IndexLemmas.{Contains-at, at_Contains}
-use Rattle.footpaths.proofs.OrderLemmas.{in_order_push, get-end, no_longer}
+use Rattle.footpaths.proofs.OrderLemmas.{no_longer}
+use Rattle.timetable.proofs.LegalFacts.{in_order_push}
 
 -- the times of the first stops reached were taken out of the table, and the others stay
 pub record AreTaken (start : List (Option ℕ)) (reached : List ℕ) (i : ℕ) (times : List (Option ℕ)) : Type 0 where
@@ -38,17 +40,13 @@ pub record IsClosing (listed : List Footpath) (cap target : ℕ) (start : List (
   pub whole : (from to : ℕ) → to < target → AreJoined listed from to → (secs : ℕ) × HasFootpath closed from to secs
   pub moved : (s secs : ℕ) → time_at start s ≡ Some secs → (time_at times s ≡ Some secs) ⊎ HasFootpath closed s target secs
 
-pub option_cases : (o : Option ℕ) → (o ≡ None) ⊎ ((d : ℕ) × (o ≡ Some d))
-option_cases None = inl refl
-option_cases (Some d) = inr (d, refl)
-
 pub HasFootpath-append : (xs ys : List Footpath) (a b secs : ℕ) → HasFootpath xs a b secs → HasFootpath (xs ++ ys) a b secs
 HasFootpath-append xs ys a b secs (i, at) =
-    let has = Contains-at xs i (record { from = a; to = b; secs = secs }) at in
-    at_Contains (xs ++ ys) (record { from = a; to = b; secs = secs }) (Contains-append_left xs ys (record { from = a; to = b; secs = secs }) has)
+    let has = contains_at {X = Footpath} xs i (record { from = a; to = b; secs = secs }) at in
+    at_contains {X = Footpath} (xs ++ ys) (record { from = a; to = b; secs = secs }) (Contains-append_left xs ys (record { from = a; to = b; secs = secs }) has)
 
 pub HasFootpath-push : (xs : List Footpath) (a b secs : ℕ) → HasFootpath (xs ++ record { from = a; to = b; secs = secs } ∷ []) a b secs
-HasFootpath-push xs a b secs = (length xs, get-end xs (record { from = a; to = b; secs = secs }))
+HasFootpath-push xs a b secs = (length xs, slice_get-last {X = Footpath} xs (record { from = a; to = b; secs = secs }))
 
 -- a stop's time is taken out
 module _ (times : List (Option ℕ)) (stop : ℕ) (inside : stop < length times) where
@@ -265,7 +263,7 @@ module _ (listed closed : List Footpath) (stops longest : ℕ) (in_range : AreIn
   pub few_pairs : (most : ℕ) → length closed ≤ most → HasMorePairs listed most → ⊥
   few_pairs most few (pairs, is) =
       let bound = no_longer pairs closed is.in_order all.in_order (λ j f at.
-      let joined = is.joined f (Contains-at pairs j f at) in
+      let joined = is.joined f (contains_at pairs j f at) in
       all.whole f.from f.to (joined_in_range listed stops f.from f.to in_range joined) joined) in
       omega (arith, bound, few, is.more)
 

@@ -2,26 +2,20 @@
 use Rattle.std.proofs.Common.{◌≡◌, ◌≢◌, ℕ, zero, suc, ◌+◌, ◌<◌, ◌≤◌, ◌⊎◌, inl, inr, List, [], ◌∷◌, ◌++◌, Contains, refl, sym, ap, subst, ◌∙◌, arith}
 use Rattle.std.proofs.lemmas.Bool.{cases_eq, cases_lt}
 use Rattle.std.proofs.lemmas.List.Elements.{Contains-push_cases}
+use Rattle.reasoning.proofs.ListLemmas.{contains_rest, contains_cases}
 use Rattle.timetable.specs.declared.network.Footpath.{Footpath}
 use Rattle.timetable.specs.Journeys.{IsWalk, walk_end, walk_secs}
 use Rattle.timetable.specs.Legal.{HasFootpath, AreInOrder}
 use Rattle.footpaths.specs.Walks.{on_foot, IsWalkBetween, AreJoined, IsLeastTime}
 use Rattle.footpaths.specs.Closure.{IsClosure, AreInRange}
-use Rattle.footpaths.proofs.OrderLemmas.{at_nothing, in_order_push}
+use Rattle.footpaths.proofs.OrderLemmas.{at_nothing}
 use Rattle.footpaths.proofs.ClosureLemmas.{HasFootpath-append, HasFootpath-push, joined_in_range}
 use Rattle.footpaths.proofs.LawLemmas.{joined_leads, joined_end, joined_secs, leaves_in_range}
-
--- a footpath is the first, or one of the rest
-first_or_rest : (f : Footpath) (fs : List Footpath) (g : Footpath) → Contains (f ∷ fs) g → (f ≡ g) ⊎ Contains fs g
-first_or_rest f fs g (zero, below, is) = inl is
-first_or_rest f fs g (suc k, below, is) = inr (k, omega (arith, below), is)
-
-among_more : (f : Footpath) (fs : List Footpath) (g : Footpath) → Contains fs g → Contains (f ∷ fs) g
-among_more f fs g (k, below, is) = (suc k, omega (arith, below), is)
+use Rattle.timetable.proofs.LegalFacts.{in_order_push}
 
 walk_of_more : (f : Footpath) (fs walk : List Footpath) (a : ℕ) → IsWalk (on_foot fs) a walk → IsWalk (on_foot (f ∷ fs)) a walk
 walk_of_more f fs [] a leads = tt
-walk_of_more f fs (g ∷ rest) a (in_list, start, more) = (among_more f fs g in_list, start, walk_of_more f fs rest g.to more)
+walk_of_more f fs (g ∷ rest) a (in_list, start, more) = (contains_rest g f fs in_list, start, walk_of_more f fs rest g.to more)
 
 -- walks over the rest, each perhaps of no footpath: from a stop to where a footpath begins, and from where it ends to another stop
 record IsWay (f : Footpath) (fs : List Footpath) (a b : ℕ) (front back : List Footpath) : Type 0 where
@@ -38,7 +32,7 @@ HasWay f fs a b secs = (front : List Footpath) × (back : List Footpath) × IsWa
 cut_walk : (f : Footpath) (fs walk : List Footpath) (a b : ℕ) → IsWalk (on_foot (f ∷ fs)) a walk → walk_end a walk ≡ b → IsWalk (on_foot fs) a walk
     ⊎ HasWay f fs a b (walk_secs walk)
 cut_walk f fs [] a b leads ends = inl tt
-cut_walk f fs (g ∷ rest) a b (in_list, start, more) ends = elim (first_or_rest f fs g in_list) [
+cut_walk f fs (g ∷ rest) a b (in_list, start, more) ends = elim (contains_cases g f fs in_list) [
   | inl same ↦
       let begin : a ≡ f.from = sym start ∙ ap (λ (x : Footpath). x.from) (sym same) in
       let takes : f.secs ≡ g.secs = ap (λ (x : Footpath). x.secs) same in

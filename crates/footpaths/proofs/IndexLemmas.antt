@@ -1,28 +1,17 @@
 -- How footpaths are brought into the order of the stops that they lead into.
-use Rattle.std.proofs.Common.{◌≡◌, ◌≢◌, ℕ, ◌+◌, ◌-◌, ◌<◌, ◌≤◌, inl, inr, List, [], ◌∷◌, ◌++◌, length, take, drop, Some, Contains, get_or, set, sym, ap, subst}
+use Rattle.std.proofs.Common.{◌≡◌, ◌≢◌, ℕ, ◌+◌, ◌-◌, ◌<◌, ◌≤◌, inl, inr, List, [], ◌∷◌, ◌++◌, length, take, drop, Contains, get_or, set, sym, ap, subst}
 use Rattle.std.proofs.Common.{◌∙◌, arith, length-append}
 use Rattle.std.specs.List.{slice_range}
 use Rattle.std.proofs.Math.ListN.{length-set}
 use Rattle.std.proofs.lemmas.Bool.{cases_eq, cases_lt}
-use Rattle.std.proofs.lemmas.Option.{same_Some, slice_get-get_or, slice_get_within, get_or_from_slice_get}
+use Rattle.std.proofs.lemmas.Option.{slice_get_within}
 use Rattle.std.proofs.lemmas.List.{get_or-set_same, get_or-set_other, get_or_append_left, get_or-append_right, take-append-le, drop-append-le, take_all}
 use Rattle.std.proofs.lemmas.List.{drop_at, length-drop, append-nil, append_assoc}
 use Rattle.std.proofs.lemmas.List.Elements.{All-append, All-push, All-nil, All-weaker, Contains-push, Contains-append_left}
+use Rattle.reasoning.proofs.ListLemmas.{contains_at, at_contains, same_at}
 use Rattle.timetable.specs.declared.network.Footpath.{Footpath}
 use Rattle.timetable.specs.Legal.{At}
 use Rattle.footpaths.specs.Index.{AreThoseInto, IsIndexUpTo, IsLastInto, AreChains, AddsThoseFrom}
-
--- what stands at a place is an element
-pub Contains-at : (paths : List Footpath) (i : ℕ) (f : Footpath) → At paths i f → Contains paths f
-Contains-at paths i f at = (i, slice_get_within paths i f at, get_or_from_slice_get paths i f f at)
-
--- an element stands at a place
-pub at_Contains : (paths : List Footpath) (f : Footpath) → Contains paths f → (i : ℕ) × At paths i f
-at_Contains paths f (k, below, is) = (k, slice_get-get_or paths k f below ∙ ap (λ (g : Footpath). Some g) is)
-
--- at one place stands one footpath
-pub same_at : (paths : List Footpath) (i : ℕ) (f g : Footpath) → At paths i f → At paths i g → f ≡ g
-same_at paths i f g at_f at_g = same_Some f g (sym at_f ∙ at_g)
 
 module _ (listed : List Footpath) (i : ℕ) (path : Footpath) (at_path : At listed i path) where
   last_here : IsLastInto listed path.to (i + 1) (i + 1)
@@ -93,7 +82,7 @@ pub adds_more : (listed old new : List Footpath) (stop k j : ℕ) (path : Footpa
 adds_more listed old new stop k j path at_path e to left before adds = record {
   added = adds.added ++ path ∷ [];
   is = ap (λ (xs : List Footpath). xs ++ path ∷ []) adds.is ∙ append_assoc old adds.added (path ∷ []);
-  into = All-push (λ (f : Footpath). Contains listed f × (f.to ≡ stop)) adds.added path adds.into (Contains-at listed j path at_path, to);
+  into = All-push (λ (f : Footpath). Contains listed f × (f.to ≡ stop)) adds.added path adds.into (contains_at listed j path at_path, to);
   whole = λ i f low at into_stop. elim (cases_lt i j) [
     | inl below ↦ absurd (before.none_after i f low below at (into_stop ∙ sym to))
     | inr above ↦ elim (cases_eq i j) [
@@ -109,7 +98,7 @@ adds_more listed old new stop k j path at_path e to left before adds = record {
 pub those_added : (listed old new : List Footpath) (stop : ℕ) (adds : AddsThoseFrom listed stop 0 old new) → AreThoseInto listed stop adds.added
 those_added listed old new stop adds = record {
   into = adds.into;
-  whole = λ f in_list to. let (i, at) = at_Contains listed f in_list in adds.whole i f (omega arith) at to;
+  whole = λ f in_list to. let (i, at) = at_contains listed f in_list in adds.whole i f (omega arith) at to;
 }
 
 -- what is added behind leaves a range as it was

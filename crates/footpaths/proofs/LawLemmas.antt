@@ -1,6 +1,7 @@
 -- Closures meet what a legal timetable asks of footpaths; there is one at most; closed footpaths are their own.
 use Rattle.std.proofs.Common.{◌≡◌, ◌≢◌, ℕ, ◌+◌, ◌<◌, ◌≤◌, List, [], ◌∷◌, ◌++◌, length, Contains, refl, sym, ap, subst, ◌∙◌, arith}
 use Rattle.std.proofs.lemmas.List.Elements.{All-contains}
+use Rattle.reasoning.proofs.ListLemmas.{contains_at, at_contains}
 use Rattle.timetable.specs.declared.network.Footpath.{Footpath}
 use Rattle.timetable.specs.Journeys.{IsWalk, walk_end, walk_secs}
 use Rattle.timetable.specs.TimetableValue.{TimetableValue}
@@ -8,16 +9,15 @@ use Rattle.timetable.specs.Legal.{HasFootpath, IsLegal}
 use Rattle.timetable.specs.LegalProp.{same_secs}
 use Rattle.footpaths.specs.Walks.{on_foot, IsWalkBetween, IsLeastTime}
 use Rattle.footpaths.specs.Closure.{IsClosure, HasMorePairs, HasLongerWalk, AreInRange, HasLoops, HasLegalFootpaths}
-use Rattle.footpaths.proofs.IndexLemmas.{Contains-at, at_Contains}
 use Rattle.footpaths.proofs.WalkLemmas.{alone}
 use Rattle.footpaths.proofs.OrderLemmas.{no_longer, same_list}
 use Rattle.footpaths.proofs.ClosureLemmas.{joined_in_range}
 
 has_Contains : (paths : List Footpath) (f : Footpath) → Contains paths f → HasFootpath paths f.from f.to f.secs
-has_Contains paths f in_it = at_Contains paths f in_it
+has_Contains paths f in_it = at_contains paths f in_it
 
 Contains-has : (paths : List Footpath) (a b secs : ℕ) → HasFootpath paths a b secs → Contains paths (record { from = a; to = b; secs = secs })
-Contains-has paths a b secs (i, at) = Contains-at paths i (record { from = a; to = b; secs = secs }) at
+Contains-has paths a b secs (i, at) = contains_at {X = Footpath} paths i (record { from = a; to = b; secs = secs }) at
 
 -- a walk and a walk from where it ends are one walk
 pub joined_leads : (listed first second : List Footpath) (a : ℕ) → IsWalk (on_foot listed) a first → IsWalk (on_foot listed) (walk_end a first) second
@@ -56,7 +56,7 @@ pub legal_closure : (stops : ℕ) (listed closure : List Footpath) → AreInRang
     → HasLegalFootpaths stops closure
 legal_closure stops listed closure in_range loops is = record {
   ends_in_range = λ i f at.
-      let (walk, walks, time) = (is.least f (Contains-at closure i f at)).walked in
+      let (walk, walks, time) = (is.least f (contains_at closure i f at)).walked in
       (leaves_in_range listed stops in_range walk f.from walks.leads walks.some, joined_in_range listed stops f.from f.to in_range (walk, walks));
   in_order = is.in_order;
   loops = λ s below.
@@ -124,7 +124,7 @@ closed_stays stops paths legal = record {
 -- a closure counts the pairs that walks join
 pub more_pairs : (listed closure : List Footpath) (most : ℕ) → IsClosure listed closure → HasMorePairs listed most → most < length closure
 more_pairs listed closure most is (pairs, joins) =
-    let bound = no_longer pairs closure joins.in_order is.in_order (λ j f at. is.whole f.from f.to (joins.joined f (Contains-at pairs j f at))) in
+    let bound = no_longer pairs closure joins.in_order is.in_order (λ j f at. is.whole f.from f.to (joins.joined f (contains_at pairs j f at))) in
     omega (arith, bound, joins.more)
 
 pub pairs_of_closure : (listed closure : List Footpath) (most : ℕ) → IsClosure listed closure → most < length closure → HasMorePairs listed most

@@ -1,43 +1,14 @@
 -- Lists of footpaths by the stop led into, then by the stop left.
-use Rattle.std.proofs.Common.{◌≡◌, ℕ, zero, suc, ◌+◌, ◌<◌, ◌≤◌, ◌⊎◌, inl, inr, List, [], ◌∷◌, ◌++◌, length, Some, Contains, refl, sym, ap, subst, ◌∙◌, arith}
-use Rattle.std.proofs.Common.{length-append}
-use Rattle.std.specs.List.{slice_get}
-use Rattle.std.proofs.lemmas.Bool.{cases_order}
-use Rattle.std.proofs.lemmas.Option.{same_Some, none-some, slice_get_within}
+use Rattle.std.proofs.Common.{◌≡◌, ℕ, zero, suc, ◌+◌, ◌<◌, ◌≤◌, ◌⊎◌, inl, inr, List, [], ◌∷◌, length, Some, Contains, refl, sym, ap, subst, ◌∙◌, arith}
+use Rattle.std.proofs.lemmas.Option.{same_Some, none-some}
+use Rattle.reasoning.proofs.ListLemmas.{contains_at, at_contains}
 use Rattle.timetable.specs.declared.network.Footpath.{Footpath}
 use Rattle.timetable.specs.Legal.{At, HasFootpath, IsOrderedBefore, AreInOrder}
 use Rattle.timetable.specs.LegalProp.{in_order_later}
-use Rattle.footpaths.proofs.IndexLemmas.{Contains-at, at_Contains}
-
-pub get-left : (xs ys : List Footpath) (i : ℕ) → i < length xs → slice_get (xs ++ ys) i ≡ slice_get xs i
-get-left [] ys i below = absurd (omega (arith, below))
-get-left (x ∷ xs) ys zero below = refl
-get-left (x ∷ xs) ys (suc i) below = get-left xs ys i (omega (arith, below))
-
-pub get-end : (xs : List Footpath) (f : Footpath) → slice_get (xs ++ f ∷ []) (length xs) ≡ Some f
-get-end [] f = refl
-get-end (x ∷ xs) f = get-end xs f
 
 -- nothing stands in an empty list
 pub at_nothing : (i : ℕ) (f : Footpath) → At [] i f → ⊥
 at_nothing i f at = none-some f at
-
--- a footpath behind all others
-pub in_order_push : (paths : List Footpath) (f : Footpath) → AreInOrder paths → ((e : Footpath) → Contains paths e → IsOrderedBefore e f)
-    → AreInOrder (paths ++ f ∷ [])
-in_order_push paths f in_order after i d e at_d at_e =
-    let size : length (paths ++ f ∷ []) ≡ length paths + 1 = length-append paths (f ∷ []) in
-    let inside : i + 1 < length paths + 1 = omega (arith, size, slice_get_within (paths ++ f ∷ []) (i + 1) e at_e) in
-    let d_inside : i < length paths = omega (arith, inside) in
-    let was_d : At paths i d = sym (get-left paths (f ∷ []) i d_inside) ∙ at_d in
-    elim (cases_order (i + 1) (length paths)) [
-      | inl same ↦
-          let at_end : At (paths ++ f ∷ []) (length paths) e = subst (λ (n : ℕ). At (paths ++ f ∷ []) n e) same at_e in
-          let equal : f ≡ e = same_Some f e (sym (get-end paths f) ∙ at_end) in
-          subst (λ (g : Footpath). IsOrderedBefore d g) equal (after d (Contains-at paths i d was_d))
-      | inr (inl below) ↦ in_order i d e was_d (sym (get-left paths (f ∷ []) (i + 1) below) ∙ at_e)
-      | inr (inr above) ↦ absurd (omega (arith, inside, above))
-    ]
 
 in_order_tail : (x : Footpath) (xs : List Footpath) → AreInOrder (x ∷ xs) → AreInOrder xs
 in_order_tail x xs in_order i d e at_d at_e =
@@ -114,23 +85,23 @@ no_longer (x ∷ p) (y ∷ w) in_part in_whole all = elim (pair_cases y w x (all
 pub same_list : (c d : List Footpath) → AreInOrder c → AreInOrder d → ((f : Footpath) → Contains c f → Contains d f)
     → ((f : Footpath) → Contains d f → Contains c f) → c ≡ d
 same_list [] [] in_c in_d there back = refl
-same_list [] (y ∷ d) in_c in_d there back = let (i, at) = at_Contains [] y (back y (Contains-at (y ∷ d) 0 y refl)) in absurd (at_nothing i y at)
-same_list (x ∷ c) [] in_c in_d there back = let (i, at) = at_Contains [] x (there x (Contains-at (x ∷ c) 0 x refl)) in absurd (at_nothing i x at)
+same_list [] (y ∷ d) in_c in_d there back = let (i, at) = at_contains {X = Footpath} [] y (back y (contains_at (y ∷ d) 0 y refl)) in absurd (at_nothing i y at)
+same_list (x ∷ c) [] in_c in_d there back = let (i, at) = at_contains {X = Footpath} [] x (there x (contains_at (x ∷ c) 0 x refl)) in absurd (at_nothing i x at)
 same_list (x ∷ c) (y ∷ d) in_c in_d there back =
-    let same : x ≡ y = first_same (at_Contains (y ∷ d) x (there x (Contains-at (x ∷ c) 0 x refl)))
-    (at_Contains (x ∷ c) y (back y (Contains-at (y ∷ d) 0 y refl))) in
+    let same : x ≡ y = first_same (at_contains (y ∷ d) x (there x (contains_at (x ∷ c) 0 x refl)))
+    (at_contains (x ∷ c) y (back y (contains_at (y ∷ d) 0 y refl))) in
     let rest : c ≡ d = same_list c d (in_order_tail x c in_c) (in_order_tail y d in_d)
-    (λ f in_c_rest. let (i, at) = at_Contains c f in_c_rest in
+    (λ f in_c_rest. let (i, at) = at_contains c f in_c_rest in
     into_tail y d f (λ (e : y ≡ f). never_same x f (first_before x c in_c i f at) (ap (λ (g : Footpath). g.from) (same ∙ e))
-    (ap (λ (g : Footpath). g.to) (same ∙ e))) (at_Contains (y ∷ d) f (there f (Contains-at (x ∷ c) (suc i) f at))))
-    (λ f in_d_rest. let (i, at) = at_Contains d f in_d_rest in
+    (ap (λ (g : Footpath). g.to) (same ∙ e))) (at_contains (y ∷ d) f (there f (contains_at (x ∷ c) (suc i) f at))))
+    (λ f in_d_rest. let (i, at) = at_contains d f in_d_rest in
     into_tail x c f (λ (e : x ≡ f). never_same y f (first_before y d in_d i f at) (ap (λ (g : Footpath). g.from) (sym same ∙ e))
-    (ap (λ (g : Footpath). g.to) (sym same ∙ e))) (at_Contains (x ∷ c) f (back f (Contains-at (y ∷ d) (suc i) f at)))) in
+    (ap (λ (g : Footpath). g.to) (sym same ∙ e))) (at_contains (x ∷ c) f (back f (contains_at (y ∷ d) (suc i) f at)))) in
     ap (λ (g : Footpath). g ∷ c) same ∙ ap (λ (xs : List Footpath). y ∷ xs) rest
   where
     into_tail : (z : Footpath) (zs : List Footpath) (f : Footpath) → (z ≡ f → ⊥) → (i : ℕ) × At (z ∷ zs) i f → Contains zs f
     into_tail z zs f differ (zero, at) = absurd (differ (same_Some z f at))
-    into_tail z zs f differ (suc i, at) = Contains-at zs i f at
+    into_tail z zs f differ (suc i, at) = contains_at zs i f at
 
     first_same : (i : ℕ) × At (y ∷ d) i x → (j : ℕ) × At (x ∷ c) j y → x ≡ y
     first_same (zero, at) other = sym (same_Some y x at)

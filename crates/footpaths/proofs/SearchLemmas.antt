@@ -1,5 +1,5 @@
 -- How what is known of the walks into a stop changes.
-use Rattle.std.proofs.Common.{◌≡◌, ◌≢◌, ℕ, suc, ◌+◌, ◌<◌, ◌≤◌, inl, inr, false, List, [], ◌∷◌, ◌++◌, length, Option, Some, None, All, Contains, get_or, set}
+use Rattle.std.proofs.Common.{◌≡◌, ◌≢◌, ℕ, ◌+◌, ◌<◌, ◌≤◌, inl, inr, false, List, [], ◌∷◌, ◌++◌, length, Option, Some, None, All, Contains, get_or, set}
 use Rattle.std.proofs.Common.{sum_by, is_none, true≢false, refl, sym, subst, ◌∙◌, arith}
 use Rattle.std.specs.List.Sorted.{IsPermutation}
 use Rattle.std.proofs.Math.ListN.{length-set}
@@ -9,6 +9,7 @@ use Rattle.std.proofs.lemmas.List.{get_or-set_same, get_or-set_other, get_or_def
 use Rattle.std.proofs.lemmas.List.Elements.{All-cons, All-nil, All-push, Contains-push, Contains-append_left}
 use Rattle.std.proofs.lemmas.List.Sorted.{Contains-permutation, All-permutation}
 use Rattle.std.proofs.lemmas.List.Sums.{sum_by-set}
+use Rattle.reasoning.proofs.ListLemmas.{contains_first, contains_rest}
 use Rattle.timetable.specs.declared.network.Footpath.{Footpath}
 use Rattle.footpaths.specs.declared.search.Found.{Found}
 use Rattle.footpaths.specs.Search.{time_at, found_at, IsWithin, IsUndercut, IsToldTime, AreWalked, AreReached, Grows, weight_of, weight}
@@ -28,12 +29,6 @@ Grows-trans a b c p q r first second = record {
 -- what is pending, and one time more
 abbrev pub IsJoinedBy : List Found → Found → List Found → Type 0
 IsJoinedBy pending x pending' = IsPermutation (x ∷ pending) pending'
-
-Contains-head : (x : Found) (xs : List Found) → Contains (x ∷ xs) x
-Contains-head x xs = (0, omega arith, refl)
-
-Contains-tail : (x y : Found) (xs : List Found) → Contains xs y → Contains (x ∷ xs) y
-Contains-tail x y xs (k, below, is) = (suc k, omega (arith, below), is)
 
 module _ (times : List (Option ℕ)) (pending pending' : List Found) (stop secs : ℕ) (inside : stop < length times)
     (joined : IsJoinedBy pending (found_at secs stop) pending') where
@@ -58,13 +53,13 @@ module _ (times : List (Option ℕ)) (pending pending' : List Found) (stop secs 
           (secs, subst (λ (s : ℕ). time_at (set times stop (Some secs)) s ≡ Some secs) (sym same) time_now, omega (arith, less, within.2))
       | inr differ ↦ (within.0, time_other other differ ∙ within.1, within.2)
     ];
-    kept = λ x in_it. Contains-permutation (found_at secs stop ∷ pending) pending' x joined (Contains-tail (found_at secs stop) x pending in_it);
+    kept = λ x in_it. Contains-permutation (found_at secs stop ∷ pending) pending' x joined (contains_rest x (found_at secs stop) pending in_it);
     fresh = λ other d at. elim (cases_eq other stop) [
       | inl same ↦
           let now : Some secs ≡ Some d = sym time_now ∙ subst (λ (s : ℕ). time_at (set times stop (Some secs)) s ≡ Some d) same at in
           let equal : secs ≡ d = same_Some secs d now in
           let here : Contains pending' (found_at secs stop) =
-          Contains-permutation (found_at secs stop ∷ pending) pending' (found_at secs stop) joined (Contains-head (found_at secs stop) pending) in
+          Contains-permutation (found_at secs stop ∷ pending) pending' (found_at secs stop) joined (contains_first (found_at secs stop) pending) in
           let moved : Contains pending' (found_at d stop) = subst (λ (s : ℕ). Contains pending' (found_at s stop)) equal here in
           inr (subst (λ (s : ℕ). Contains pending' (found_at d s)) (sym same) moved)
       | inr differ ↦ inl (sym (time_other other differ) ∙ at)

@@ -1,10 +1,11 @@
 -- A table of times of walks into a stop, in which no footpath makes a time less, has the least times.
-use Rattle.std.proofs.Common.{◌≡◌, ◌≢◌, ℕ, zero, suc, ◌+◌, ◌⊎◌, inl, inr, List, [], ◌∷◌, length, Option, Some, None, All, Contains, refl, sym, ap, subst, ◌∙◌}
+use Rattle.std.proofs.Common.{◌≡◌, ◌≢◌, ℕ, ◌+◌, inl, inr, List, [], ◌∷◌, length, Option, Some, None, All, Contains, refl, sym, ap, subst, ◌∙◌}
 use Rattle.std.proofs.Common.{arith}
 use Rattle.std.specs.List.Sorted.{IsPermutation}
 use Rattle.std.proofs.lemmas.Option.{same_Some, none-some}
 use Rattle.std.proofs.lemmas.List.Elements.{All-contains}
 use Rattle.std.proofs.lemmas.List.Sorted.{Contains-permutation}
+use Rattle.reasoning.proofs.ListLemmas.{contains_cases}
 use Rattle.timetable.specs.declared.network.Footpath.{Footpath}
 use Rattle.timetable.specs.Journeys.{IsWalk, walk_end, walk_secs}
 use Rattle.footpaths.specs.Walks.{on_foot, IsWalkBetween}
@@ -37,10 +38,6 @@ pub followed_those : (listed : List Footpath) (times : List (Option ℕ)) (stop 
 followed_those listed times stop secs paths those within f in_list to =
     All-contains (λ (g : Footpath). IsWithin times g.from (g.secs + secs)) paths f within (those.whole f in_list to)
 
-Contains-cases : (x : Found) (xs : List Found) (y : Found) → Contains (x ∷ xs) y → (x ≡ y) ⊎ Contains xs y
-Contains-cases x xs y (zero, below, is) = inl is
-Contains-cases x xs y (suc k, below, is) = inr (k, omega (arith, below), is)
-
 -- a time comes out of those that are pending, and is followed unless it is no longer in the table
 pub still_pending_or_followed : (listed : List Footpath) (times times' : List (Option ℕ)) (all pending pending' : List Found) (next : Found)
     → IsPermutation all (next ∷ pending) → Grows times pending times' pending'
@@ -51,7 +48,7 @@ still_pending_or_followed listed times times' all pending pending' next moved gr
       | inr in_it ↦ inl in_it
       | inl before ↦ elim (old stop secs before) [
         | inr done ↦ inr (λ f in_list to. grows.lower f.from (f.secs + secs) (done f in_list to))
-        | inl in_it ↦ elim (Contains-cases next pending (found_at secs stop) (Contains-permutation all (next ∷ pending) (found_at secs stop) moved in_it)) [
+        | inl in_it ↦ elim (contains_cases (found_at secs stop) next pending (Contains-permutation all (next ∷ pending) (found_at secs stop) moved in_it)) [
           | inr rest ↦ inl (grows.kept (found_at secs stop) rest)
           | inl same ↦
               let its_stop : next.stop ≡ stop = ap (λ (x : Found). x.stop) same in

@@ -1,4 +1,4 @@
-// The closure of listed footpaths.
+//! The closure of listed footpaths: one for each ordered pair of stops that a walk over listed ones joins, with the least time of any.
 
 ghost use Rattle.std.specs.Prelude.{◌≡◌, ◌<◌, ◌≤◌, ◌+◌, ◌^◌, [], ◌∷◌, ◌++◌, ℕ, length, true, false, None, All, Contains, IfOk, IfErr, OnOk, slice_set};
 ghost use Rattle.std.specs.List.Sorted.{IsNonDecreasing};

@@ -1,4 +1,4 @@
-// Why listed footpaths have no closure.
+//! Why listed footpaths have no closure.
 
 ghost use Rattle.std.specs.Prelude.{◌≡◌};
 ghost use Rattle.footpaths.specs.declared.fault.FootFault.TheVariants.{OutOfMemory};

@@ -1,4 +1,4 @@
-// Footpaths by the stop that they lead into.
+//! Footpaths by the stop that they lead into.
 
 ghost use Rattle.std.specs.Prelude.{◌≡◌, ◌<◌, ◌≤◌, ◌+◌, ℕ, length, slice_index, All, IfOk, OnOk};
 ghost use Rattle.timetable.specs.Legal.{At};

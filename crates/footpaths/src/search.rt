@@ -1,4 +1,4 @@
-// The least times of walks into one stop: from the stop backwards, the nearest stop first.
+//! The least times of walks into one stop: from the stop backwards, the nearest stop first.
 
 ghost use Rattle.std.specs.Prelude.{◌≡◌, ◌<◌, ◌≤◌, ◌+◌, ◌*◌, true, false, ℕ, [], None, Some, is_none, Contains, All, length, min, IfOk, OnOk, ◌⊎◌};
 ghost use Rattle.std.specs.BinaryHeap.{heap_items, heap_len};

@@ -1,35 +1,18 @@
 -- What stays while further entries and items come.
-use Rattle.std.proofs.Common.{◌≡◌, ℕ, zero, suc, ◌+◌, ◌<◌, ◌≤◌, List, [], ◌∷◌, ◌++◌, length, take, drop, slice_get, Option, Some, None, refl, sym, ◌∙◌, ap, ap₂, subst, arith, append_assoc, append-nil, length-append, length-drop}
+use Rattle.std.proofs.Common.{◌≡◌, ℕ, zero, suc, ◌+◌, ◌<◌, ◌≤◌, List, ◌∷◌, ◌++◌, length, take, drop, slice_get, Option, Some, None, refl, sym, ◌∙◌, ap, ap₂, subst, arith, length-append, length-drop}
 use Rattle.std.proofs.lemmas.List.{take-append-le, drop-append-le}
+use Rattle.reasoning.proofs.ListLemmas.{slice_get-front}
 use Rattle.criteria.specs.Laws.{Rules}
 use Rattle.fronts.specs.declared.entry.Item.{Item}
 use Rattle.fronts.specs.declared.entry.Entry.{Entry}
 use Rattle.fronts.specs.Front.{own, front_of, front, next_in, next_of, departure_in, departure_of, points_to, points_from, Extends}
 use Rattle.fronts.specs.Entries.{AreEntries, IsLinked}
 
-pub extends_none : {X : Type 0} (xs : List X) → Extends xs xs
-extends_none xs = ([], sym (append-nil xs))
-
-pub extends_on : {X : Type 0} (a b c : List X) → Extends a b → Extends b c → Extends a c
-extends_on a b c ab bc = (ab.0 ++ bc.0, bc.1 ∙ ap (λ xs. xs ++ bc.0) ab.1 ∙ append_assoc a ab.0 bc.0)
-
-pub extends_one : {X : Type 0} (old new : List X) (x : X) → new ≡ old ++ x ∷ [] → Extends old new
-extends_one old new x e = (x ∷ [], e)
-
 pub extends_long : {X : Type 0} (old new : List X) → Extends old new → length old ≤ length new
 extends_long old new ext = let e = ap length ext.1 ∙ length-append old ext.0 in omega arith
 
-pub at_old : {X : Type 0} (xs ys : List X) (k : ℕ) → k < length xs → slice_get (xs ++ ys) k ≡ slice_get xs k
-at_old [] ys k lt = absurd (omega arith)
-at_old (x ∷ xs) ys zero lt = refl
-at_old (x ∷ xs) ys (suc k) lt = at_old xs ys k (omega arith)
-
-pub at_new : {X : Type 0} (xs : List X) (y : X) (ys : List X) → slice_get (xs ++ y ∷ ys) (length xs) ≡ Some y
-at_new [] y ys = refl
-at_new (x ∷ xs) y ys = at_new xs y ys
-
 pub same_at : {X : Type 0} (old new : List X) → Extends old new → (k : ℕ) → k < length old → slice_get new k ≡ slice_get old k
-same_at {X} old new ext k lt = ap (λ (xs : List X). slice_get xs k) ext.1 ∙ at_old old ext.0 k lt
+same_at {X} old new ext k lt = ap (λ (xs : List X). slice_get xs k) ext.1 ∙ slice_get-front old ext.0 k lt
 
 pub same_part : {X : Type 0} (old new : List X) → Extends old new → (r c : ℕ) → r + c ≤ length old → take c (drop r new) ≡ take c (drop r old)
 same_part {X} old new ext r c within =

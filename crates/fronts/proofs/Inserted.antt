@@ -1,6 +1,7 @@
 -- An insertion as a whole.
 use Rattle.std.proofs.Common.{◌≡◌, ◌⊎◌, ℕ, ◌<◌, ◌≤◌, List, [], ◌∷◌, length, get_or, Contains, inl, inr, sym, ap, subst, arith}
 use Rattle.std.proofs.lemmas.List.Elements.{Contains-append_cases, Contains-push_cases}
+use Rattle.reasoning.proofs.ListLemmas.{not_in_nil}
 use Rattle.criteria.specs.Laws.{Rules, Laws, Admits, IsSecs}
 use Rattle.fronts.specs.declared.entry.Item.{Item}
 use Rattle.fronts.specs.declared.entry.Entry.{Entry}
@@ -10,7 +11,6 @@ use Rattle.fronts.specs.Front.{front, next_of, departure_of, points_from, Better
 use Rattle.fronts.specs.Entries.{AreEntries}
 use Rattle.fronts.specs.Putting.{IsLate, IsPath, DepartBefore, CoversAll, MayPut, IsUnion}
 use Rattle.fronts.specs.Walking.{AreBoardings, AllWalked, TakesBoardings}
-use Rattle.fronts.proofs.Filters.{not_in_nil}
 use Rattle.fronts.proofs.Growth.{extends_long, same_points, same_departure, same_next}
 use Rattle.fronts.proofs.Points.{of_front, points_admitted}
 

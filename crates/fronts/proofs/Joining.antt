@@ -2,13 +2,13 @@
 use Rattle.std.proofs.Common.{◌≡◌, ◌⊎◌, ℕ, ◌<◌, ◌≤◌, true, false, not, List, length, Contains, inl, inr, sym, ◌∙◌, ap, subst, arith}
 use Rattle.std.proofs.lemmas.Bool.{cases_Bool, true≢false, not-true}
 use Rattle.std.proofs.lemmas.List.Folds.{list_any-from_Any}
+use Rattle.reasoning.proofs.ListLemmas.{from_filter, into_filter}
 use Rattle.criteria.specs.Laws.{Rules, Laws, Admits, NoWorse}
 use Rattle.fronts.specs.declared.entry.Item.{Item}
 use Rattle.fronts.specs.declared.entry.Entry.{Entry}
 use Rattle.fronts.specs.Front.{front, next_of, departure_of, points_from, Betters, Covers, Extends}
 use Rattle.fronts.specs.Entries.{AreEntries}
 use Rattle.fronts.specs.Putting.{betters, left_by, CoversAll, MayPut, IsUnion}
-use Rattle.fronts.proofs.Filters.{from_filter, into_filter}
 use Rattle.fronts.proofs.Growth.{same_points, same_next}
 use Rattle.fronts.proofs.Points.{of_front, of_next, front_or_next, front_betters_all, points_admitted}
 use Rattle.fronts.proofs.OnePut.{betters_some}

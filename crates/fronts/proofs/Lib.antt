@@ -1,4 +1,3 @@
-pub mod Filters
 pub mod Growth
 pub mod Points
 pub mod Paths

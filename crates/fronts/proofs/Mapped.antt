@@ -3,6 +3,7 @@ use Rattle.std.proofs.Common.{◌≡◌, ◌⊎◌, ℕ, zero, suc, ◌+◌, ◌
 use Rattle.std.proofs.lemmas.List.{length-map, length-take-le, get_or-take, get_or-drop}
 use Rattle.std.proofs.lemmas.Option.{slice_get-map, slice_get-get_or, slice_get_within}
 use Rattle.std.proofs.lemmas.List.Elements.{Contains-append_cases, Contains-append_left, Contains-append_right, Contains-push, Contains-push_cases}
+use Rattle.reasoning.proofs.ListLemmas.{not_in_nil}
 use Rattle.criteria.specs.Laws.{Rules, Laws, Admits}
 use Rattle.bags.specs.declared.point.Point.{Point}
 use Rattle.fronts.specs.declared.entry.Item.{Item}
@@ -14,7 +15,6 @@ use Rattle.fronts.specs.Entries.{AreEntries}
 use Rattle.fronts.specs.Putting.{IsLate}
 use Rattle.fronts.specs.Walking.{TakesBoardings}
 use Rattle.fronts.specs.Lists.{point_of, IsBettered, IsCovered, TakesRidden}
-use Rattle.fronts.proofs.Filters.{not_in_nil}
 use Rattle.fronts.proofs.Points.{front_from, points_admitted}
 
 module _ {V : Type 0} where

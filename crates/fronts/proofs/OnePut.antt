@@ -3,14 +3,14 @@ use Rattle.std.proofs.Common.{◌≡◌, ◌⊎◌, ℕ, ◌+◌, ◌<◌, ◌�
 use Rattle.std.proofs.lemmas.Bool.{cases_Bool}
 use Rattle.std.proofs.lemmas.List.{length_push, drop_at, take_all}
 use Rattle.std.proofs.lemmas.List.Elements.{Contains-append_left, Contains-append_right, Contains-append_cases}
+use Rattle.reasoning.proofs.ListLemmas.{from_filter, into_filter, one_passes, slice_get-middle}
 use Rattle.criteria.specs.Laws.{Rules, Laws, Admits, NoWorse}
 use Rattle.fronts.specs.declared.entry.Item.{Item}
 use Rattle.fronts.specs.declared.entry.Entry.{Entry}
 use Rattle.fronts.specs.Front.{own, front, next_in, next_of, departure_in, departure_of, points_from, Betters, Extends}
 use Rattle.fronts.specs.Entries.{IsLinked, AreEntries}
 use Rattle.fronts.specs.Putting.{betters, left_by, MayPut, IsUnion, Follows}
-use Rattle.fronts.proofs.Filters.{from_filter, into_filter, one_passes}
-use Rattle.fronts.proofs.Growth.{at_new, same_points}
+use Rattle.fronts.proofs.Growth.{same_points}
 use Rattle.fronts.proofs.Points.{of_front, of_next, front_or_next, unrolled, next_within, departs_at, next_at}
 use Rattle.fronts.proofs.Pushing.{front_new, pushed}
 
@@ -119,7 +119,7 @@ module _ {V : Type 0} (rules : Rules V) (laws : Laws rules) (entries : List (Ent
   put_points : points_from (entries ++ e ∷ []) more (length entries) ≡ put_front ++ points_from entries items e.next
   put_points =
       let some = are.some in
-      let next_is : next_of (entries ++ e ∷ []) (length entries) ≡ e.next = ap next_in (at_new entries e []) in
+      let next_is : next_of (entries ++ e ∷ []) (length entries) ≡ e.next = ap next_in (slice_get-middle entries e []) in
       unrolled rules (entries ++ e ∷ []) more put_are (length entries)
       ∙ ap (λ ps. ps ++ points_from (entries ++ e ∷ []) more (next_of (entries ++ e ∷ []) (length entries))) (front_new entries more e some ∙ put_whole)
       ∙ ap (λ ps. put_front ++ ps) (ap (points_from (entries ++ e ∷ []) more) next_is ∙ same_points rules entries (entries ++ e ∷ []) items more are (e ∷ [], refl) put_extends e.next put_next)
@@ -134,7 +134,7 @@ module _ {V : Type 0} (rules : Rules V) (laws : Laws rules) (entries : List (Ent
   put_within = let long = length_push entries e in omega arith
 
   pub put_departs : departure_of (entries ++ e ∷ []) (length entries) ≡ departure
-  put_departs = ap departure_in (at_new entries e []) ∙ departs
+  put_departs = ap departure_in (slice_get-middle entries e []) ∙ departs
 
   pub put_union : IsUnion rules points (points_from entries items m) (points_from (entries ++ e ∷ []) more (length entries))
   put_union = record {

@@ -2,13 +2,13 @@
 use Rattle.std.proofs.Common.{◌≡◌, ◌⊎◌, ℕ, zero, suc, ◌+◌, ◌<◌, ◌≤◌, List, [], ◌∷◌, ◌++◌, length, Contains, inl, inr, get_or, Some, true, false, ◌||◌, take, drop, refl, sym, ◌∙◌, ap, subst, arith}
 use Rattle.std.proofs.lemmas.List.Elements.{Contains-append_left, Contains-append_right, Contains-append_cases}
 use Rattle.std.proofs.lemmas.Option.{slice_get-get_or}
+use Rattle.reasoning.proofs.ListLemmas.{not_in_nil, contains_first, contains_rest}
 use Rattle.criteria.specs.Laws.{Rules, Laws, Admits}
 use Rattle.fronts.specs.declared.entry.Item.{Item}
 use Rattle.fronts.specs.declared.entry.Entry.{Entry}
 use Rattle.fronts.specs.Front.{own, front_of, front, next_in, departure_in, next_of, departure_of, points_to, points_from, Betters}
 use Rattle.fronts.specs.Entries.{AreEntries}
 use Rattle.fronts.specs.Putting.{IsLate, betters}
-use Rattle.fronts.proofs.Filters.{not_in_nil}
 
 -- on the way to the first late entry
 pub record LeadsTo {V : Type 0} (entries : List (Entry V)) (items : List (Item V)) (head time m : ℕ) : Type 0 where
@@ -144,12 +144,6 @@ pub front_at : {V : Type 0} (entries : List (Entry V)) (items : List (Item V)) (
 front_at entries items zero e some lt is = absurd (omega arith)
 front_at entries items (suc m) e some lt is = ap (front_of items) (slice_get-get_or entries (suc m) e lt ∙ ap Some (sym is))
 
-pub contains_first : {X : Type 0} (x : X) (xs : List X) → Contains (x ∷ xs) x
-contains_first x xs = (0, omega arith, refl)
-
-pub contains_later : {X : Type 0} (x y : X) (xs : List X) → Contains xs y → Contains (x ∷ xs) y
-contains_later x y xs h = Contains-append_right (x ∷ []) xs y h
-
 pub first_betters : {V : Type 0} (rules : Rules V) (points rest : List (Item V)) (p : Item V) (v : V) → points ≡ p ∷ rest → rules.no_worse p.value v ≡ true → betters rules points v ≡ true
 first_betters rules points rest p v e t = ap (λ ps. betters rules ps v) e ∙ ap (λ b. b || betters rules rest v) t
 
@@ -165,4 +159,4 @@ entry_admitted rules entries items are m e some lt is =
 
 pub part_admitted : {V : Type 0} (rules : Rules V) (entries : List (Entry V)) (items : List (Item V)) → AreEntries rules entries items → (m : ℕ) (e : Entry V) → 0 < m → m < length entries → e ≡ get_or entries m e → (p : Item V) → Contains (take e.count (drop e.rest items)) p → Admits rules p.value
 part_admitted rules entries items are m e some lt is p h =
-    (are.each m).admitted p (subst (λ ps. Contains ps p) (sym (front_at entries items m e some lt is)) (contains_later (own e) p (take e.count (drop e.rest items)) h))
+    (are.each m).admitted p (subst (λ ps. Contains ps p) (sym (front_at entries items m e some lt is)) (contains_rest p (own e) (take e.count (drop e.rest items)) h))

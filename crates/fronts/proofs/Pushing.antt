@@ -3,13 +3,13 @@ use Rattle.std.proofs.Common.{◌≡◌, ℕ, zero, suc, ◌+◌, ◌<◌, ◌�
 use Rattle.std.proofs.lemmas.Bool.{cases_order}
 use Rattle.std.proofs.lemmas.List.{length_push}
 use Rattle.std.proofs.lemmas.Option.{slice_get_past, slice_get_within, same_Some}
+use Rattle.reasoning.proofs.ListLemmas.{not_in_nil, slice_get-front, slice_get-middle}
 use Rattle.criteria.specs.Laws.{Rules}
 use Rattle.fronts.specs.declared.entry.Item.{Item}
 use Rattle.fronts.specs.declared.entry.Entry.{Entry}
 use Rattle.fronts.specs.Front.{own, front_of, front, next_in, next_of, departure_in, departure_of, Extends}
 use Rattle.fronts.specs.Entries.{IsLinked, IsEntry, AreEntries}
-use Rattle.fronts.proofs.Growth.{at_old, at_new, extends_long, same_front, same_next, same_departure}
-use Rattle.fronts.proofs.Filters.{not_in_nil}
+use Rattle.fronts.proofs.Growth.{extends_long, same_front, same_next, same_departure}
 use Rattle.fronts.proofs.Points.{next_within}
 
 linked_as : {V : Type 0} (rules : Rules V) (d d2 n n2 l l2 : ℕ) (p p2 r r2 : List (Item V)) → d ≡ d2 → n ≡ n2 → l ≡ l2 → p ≡ p2 → r ≡ r2 → IsLinked rules d n l p r → IsLinked rules d2 n2 l2 p2 r2
@@ -27,7 +27,7 @@ linked_none rules d l = record {
 
 -- the front of what was pushed last
 pub front_new : {V : Type 0} (entries : List (Entry V)) (items : List (Item V)) (e : Entry V) → 0 < length entries → front (entries ++ e ∷ []) items (length entries) ≡ own e ∷ take e.count (drop e.rest items)
-front_new {V} entries items e some = go (length entries) some (at_new entries e [])
+front_new {V} entries items e some = go (length entries) some (slice_get-middle entries e [])
   where
     go : (n : ℕ) → 0 < n → slice_get (entries ++ e ∷ []) n ≡ Some e → front (entries ++ e ∷ []) items n ≡ own e ∷ take e.count (drop e.rest items)
     go zero lt at = absurd (omega arith)
@@ -54,23 +54,23 @@ module _ {V : Type 0} (rules : Rules V) (entries : List (Entry V)) (items more :
         ends = same_next rules entries (entries ++ e ∷ []) items more are on ext 0 some ∙ are.ends;
         never = same_departure rules entries (entries ++ e ∷ []) items more are on ext 0 some ∙ are.never;
         back = λ m. elim (cases_order (suc m) (length entries)) [
-          | inl here ↦ (let at = ap next_in (ap (slice_get (entries ++ e ∷ [])) here ∙ at_new entries e []) in omega arith)
+          | inl here ↦ (let at = ap next_in (ap (slice_get (entries ++ e ∷ [])) here ∙ slice_get-middle entries e []) in omega arith)
           | inr o ↦ elim o [
             | inl low ↦ (let at = same_next rules entries (entries ++ e ∷ []) items more are on ext (suc m) low in let back = are.back m in omega arith)
             | inr high ↦ (let at = ap next_in (slice_get_past (entries ++ e ∷ []) (suc m) (omega arith)) in omega arith)
           ]
         ];
         within = λ m f at. elim (cases_order m (length entries)) [
-          | inl here ↦ (let same : e ≡ f = same_Some e f (sym (ap (slice_get (entries ++ e ∷ [])) here ∙ at_new entries e []) ∙ at) in subst (λ (z : Entry V). z.rest + z.count ≤ length more) same fits)
+          | inl here ↦ (let same : e ≡ f = same_Some e f (sym (ap (slice_get (entries ++ e ∷ [])) here ∙ slice_get-middle entries e []) ∙ at) in subst (λ (z : Entry V). z.rest + z.count ≤ length more) same fits)
           | inr o ↦ elim o [
-            | inl low ↦ (let old = are.within m f (sym (at_old entries (e ∷ []) m low) ∙ at) in let grows = extends_long items more ext in omega arith)
+            | inl low ↦ (let old = are.within m f (sym (slice_get-front entries (e ∷ []) m low) ∙ at) in let grows = extends_long items more ext in omega arith)
             | inr high ↦ (let lt = slice_get_within (entries ++ e ∷ []) m f at in absurd (omega arith))
           ]
         ];
         each = λ m. elim (cases_order m (length entries)) [
           | inl here ↦
               subst (IsEntry rules (entries ++ e ∷ []) more) (sym here)
-              (let at = at_new entries e [] in
+              (let at = slice_get-middle entries e [] in
               let same_n : next_of (entries ++ e ∷ []) (length entries) ≡ e.next = ap next_in at in
               linked_as rules e.departure (departure_of (entries ++ e ∷ []) (length entries)) e.next (next_of (entries ++ e ∷ []) (length entries)) (departure_of entries e.next) (departure_of (entries ++ e ∷ []) (next_of (entries ++ e ∷ []) (length entries)))
               (own e ∷ take e.count (drop e.rest more)) (front (entries ++ e ∷ []) more (length entries)) (front entries items e.next) (front (entries ++ e ∷ []) more (next_of (entries ++ e ∷ []) (length entries)))

@@ -4,6 +4,7 @@ use Rattle.std.proofs.lemmas.Bool.{cases_order}
 use Rattle.std.proofs.lemmas.List.{get_or_default}
 use Rattle.std.proofs.lemmas.List.Elements.{Contains-append_left, Contains-push, Contains-push_cases}
 use Rattle.std.proofs.lemmas.Option.{slice_get_within}
+use Rattle.reasoning.proofs.ListLemmas.{not_in_nil, slice_get-middle}
 use Rattle.criteria.specs.Laws.{Rules, Laws, Admits}
 use Rattle.fronts.specs.declared.entry.Item.{Item}
 use Rattle.fronts.specs.declared.entry.Entry.{Entry}
@@ -12,8 +13,7 @@ use Rattle.fronts.specs.declared.entry.Step.{Step}
 use Rattle.fronts.specs.Front.{Betters, Extends}
 use Rattle.fronts.specs.Entries.{IsEntry, AreEntries}
 use Rattle.fronts.specs.Walking.{IsKept, IsBoarding, AreBoardings, AllWalked}
-use Rattle.fronts.proofs.Filters.{not_in_nil}
-use Rattle.fronts.proofs.Growth.{at_new, same_at}
+use Rattle.fronts.proofs.Growth.{same_at}
 use Rattle.fronts.proofs.Pushing.{linked_none}
 
 module _ {V : Type 0} (rules : Rules V) (departure first walk secs : ℕ) (ridden : List (Ridden V)) where
@@ -36,7 +36,7 @@ module _ {V : Type 0} (rules : Rules V) (departure first walk secs : ℕ) (ridde
   boardings_more laws steps new kept now v r are a in_ridden worth is =
       let step : Step = record { first = first; label = r.label; walk = walk } in
       let me : Item V = record { departure = departure; value = v; tag = length steps } in
-      let here : slice_get new (length steps) ≡ Some step = ap (λ (ss : List Step). slice_get ss (length steps)) is.steps_more ∙ at_new steps step [] in
+      let here : slice_get new (length steps) ≡ Some step = ap (λ (ss : List Step). slice_get ss (length steps)) is.steps_more ∙ slice_get-middle steps step [] in
       let mine : IsBoarding rules new departure first walk secs ridden me = record { by = r; is_ridden = in_ridden; departs = refl; worth = worth; goes_on = here } in (
         (λ p h. elim (Contains-push_cases kept me p (subst (λ ps. Contains ps p) is.kept_more h)) [
           | inl o ↦ boarding_stays steps new p (step ∷ [], is.steps_more) (are p o)

@@ -1,5 +1,6 @@
 -- Lists of entries, and the fronts that they carry.
-use Rattle.std.specs.Prelude.{◌≡◌, ℕ, zero, suc, ◌≤◌, List, [], ◌∷◌, ◌++◌, take, drop, slice_get, Option, Some, None, Contains}
+use Rattle.std.specs.Prelude.{ℕ, zero, suc, ◌≤◌, List, [], ◌∷◌, ◌++◌, take, drop, slice_get, Option, Some, None, Contains}
+pub use Rattle.reasoning.specs.Lists.{Extends}
 use Rattle.criteria.specs.Laws.{Rules, NoWorse}
 use Rattle.fronts.specs.declared.entry.Item.{Item}
 use Rattle.fronts.specs.declared.entry.Entry.{Entry}
@@ -49,7 +50,3 @@ Betters {V} rules points v = (p : Item V) × Contains points p × NoWorse rules 
 -- a list has a point that departs no earlier and is no worse
 abbrev pub Covers : {V : Type 0} → Rules V → List (Item V) → ℕ → V → Type 0
 Covers {V} rules points departure v = (p : Item V) × Contains points p × (departure ≤ p.departure) × NoWorse rules p.value v
-
--- further elements after those of a list
-abbrev pub Extends : {X : Type 0} → List X → List X → Type 0
-Extends {X} old new = (more : List X) × (new ≡ old ++ more)

@@ -1,3 +1,5 @@
+//! What lists of fronts are made of: items, entries with their fronts, and the steps by which one goes on.
+
 /// A departure, in seconds, and a value, with a tag that names how one goes on.
 #[derive(Clone, Copy, Debug, Drop)]
 pub struct Item<V> {

@@ -1,3 +1,5 @@
+//! The lists of fronts: the front from a time on, its points, and the list that comes of an insertion.
+
 use crate::entry::{Entry, Item, Ridden, Step};
 use crate::insertion::insert;
 use crate::search::late;

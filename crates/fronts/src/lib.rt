@@ -1,6 +1,6 @@
-// Fronts: lists of entries in one vector, each with the front of the points that depart at its time or later.
-//
-// Entries and items are only pushed, never changed, so a place names the same list for ever. Place 0 ends each list.
+//! Fronts: lists of entries in one vector, each with the front of the points that depart at its time or later.
+//!
+//! Entries and items are only pushed, never changed, so a place names the same list for ever. Place 0 ends each list.
 #![tactic(auto)]
 
 pub mod entry;

@@ -3,7 +3,8 @@ use Rattle.std.proofs.Common.{◌≡◌, ◌≢◌, ◌+◌, ◌<◌, ◌≤◌,
 use Rattle.std.specs.List.{position_from}
 use Rattle.std.specs.Str.{IsCharBoundary, IsUtf8, bytes_eq}
 use Rattle.std.proofs.lemmas.Str.{IsCharBoundary-after_ascii, IsUtf8-drop, IsUtf8-nil, IsUtf8-take}
-use Rattle.std.proofs.lemmas.Bool.{eqb-true, ne_eqb, false≢true}
+use Rattle.std.proofs.lemmas.Bool.{eqb-true, ne_eqb}
+use Rattle.reasoning.proofs.BoolLemmas.{and-right}
 use Rattle.csv.specs.Records.{AllText, field_at}
 use Rattle.gtfs_rows.specs.Source.{AllRecordsText, Record}
 use Rattle.gtfs_rows.specs.Cells.{cell, column, kept_len, places_of, trim_front, trim_spaces}
@@ -26,10 +27,6 @@ unfolding field_at
 field_there [] i h = absurd (omega arith)
 field_there (f ∷ rest) zero h = (f, refl, refl)
 field_there (f ∷ rest) (suc i) h = let (g, is, more) = field_there rest i (omega arith) in let e : suc i + 1 ≡ suc (i + 1) = omega arith in (g, is, rw e more)
-
-and-right : (a b : Bool) → (a && b) ≡ true → b ≡ true
-and-right true b e = e
-and-right false b e = absurd (false≢true e)
 
 -- a text with no space at its start is text
 front_text : (bs : List ℕ) → IsUtf8 bs → IsUtf8 (trim_front bs)

@@ -51,12 +51,6 @@ keys_hold key before r keys new k same is last =
     last ∙ ap (λ (xs : List (List ℕ)). xs ++ option_to_list (option_map string_bytes k)) same
     ∙ ap (λ (o : Option (List ℕ)). keys_of key before ++ option_to_list o) is ∙ sym (keys_more key before r)
 
-pub all_zip_more : {A B : Type 0} (R : A → B → Type 0) (xs : List A) (ys : List B) (x : A) (y : B) → AllZip R xs ys → R x y → AllZip R (xs ++ x ∷ []) (ys ++ y ∷ [])
-all_zip_more R [] [] x y a h = (h, tt)
-all_zip_more R [] (b ∷ ys) x y a h = absurd a
-all_zip_more R (b ∷ xs) [] x y a h = absurd a
-all_zip_more R (b ∷ xs) (d ∷ ys) x y a h = (a.0, all_zip_more R xs ys x y a.1 h)
-
 -- an id of a set at its place
 pub stands : (keys : List (String Global)) (i : ℕ) (k : String Global) (id : List ℕ) → slice_get keys i ≡ Some k → bytes_eq id (string_bytes k) ≡ true → StandsAt (map string_bytes keys) i id
 stands keys i k id e same =

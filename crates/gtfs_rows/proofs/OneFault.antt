@@ -5,6 +5,7 @@ use Rattle.std.specs.Str.{IsUtf8, is_utf8}
 use Rattle.std.proofs.lemmas.Bool.{cases_Bool, cases_order, false≢true}
 use Rattle.std.proofs.lemmas.Option.{none-some, same_Some}
 use Rattle.std.proofs.lemmas.Str.{IsUtf8-from_is_utf8, is_utf8-from_IsUtf8}
+use Rattle.reasoning.proofs.BoolLemmas.{where_true}
 use Rattle.gtfs_rows.specs.Source.{Record, table_records}
 use Rattle.gtfs_rows.specs.Cells.{Places, has_required, places_of}
 use Rattle.gtfs_rows.specs.Faults.{HoldsFile, HoldsRecords, IsFaultOf, IsFaultOfRecords, IsFirstFault, Judge, Shape, fault_at, judge_under}
@@ -46,15 +47,11 @@ one_fault s bytes n m kind other a b = by (cases_Bool (is_utf8 bytes))
         let y : (m ≡ 0) × (other ≡ kinds.BadUtf8) = b.1 no_text in
         (x.0 ∙ sym y.0, x.1 ∙ sym y.1)
 
-chosen : (found : Bool) (P Q : Type 0) → found ≡ true → MatchBool found P Q → P
-chosen true P Q e h = h
-chosen false P Q e h = absurd (false≢true e)
-
 no_fault_of_records : {T : Type 0} (s : Shape) (holds : Places → List Record → T → Type 0) (records : List Record) (t : T) (n : ℕ) (kind : FaultKind)
     → HoldsRecords s holds records t → IsFaultOfRecords s records n kind → ⊥
 no_fault_of_records s holds [] t n kind held fault = held
 no_fault_of_records s holds (header ∷ records) t n kind held fault =
-    let (k, n_is, first) = chosen (has_required s.required (places_of s.names header)) ((k : ℕ) × (n ≡ k + 1) × IsFirstFault (judge_under s header) records k kind) ((n ≡ 0) × (kind ≡ kinds.MissingColumn)) held.0 fault in
+    let (k, n_is, first) = where_true (has_required s.required (places_of s.names header)) ((k : ℕ) × (n ≡ k + 1) × IsFirstFault (judge_under s header) records k kind) ((n ≡ 0) × (kind ≡ kinds.MissingColumn)) held.0 fault in
     none-some kind (sym (held.1 k first.within) ∙ first.here)
 
 pub no_fault : {T : Type 0} (s : Shape) (holds : Places → List Record → T → Type 0) (bytes : List ℕ) (t : T) (n : ℕ) (kind : FaultKind) → HoldsFile s holds bytes t → IsFaultOf s bytes n kind → ⊥

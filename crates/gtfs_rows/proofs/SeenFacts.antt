@@ -8,13 +8,15 @@ use Rattle.std.proofs.lemmas.List.{map-append}
 use Rattle.std.proofs.lemmas.List.Elements.{filter-append}
 use Rattle.std.proofs.lemmas.Map.Views.{any-filter_same}
 use Rattle.std.proofs.lemmas.Slice.Eq.{bytes_eq-Decides}
+use Rattle.reasoning.proofs.ListLemmas.{all_zip-push}
+use Rattle.reasoning.proofs.OrderLemmas.{texts_differ}
 use Rattle.indexmap.specs.IndexSet.{insert_key}
 use Rattle.gtfs_rows.specs.Source.{Record}
 use Rattle.gtfs_rows.specs.Cells.{Places}
 use Rattle.gtfs_rows.specs.Ids.{first_seen, given_also, is_given, seen_also}
 use Rattle.gtfs_rows.specs.Rows.{IsStopId, SpellsStopTime, StandsAt, stop_ids, trip_ids, value}
 use Rattle.gtfs_rows.specs.declared.rows.StopTimeRow.{StopTimeRow}
-use Rattle.gtfs_rows.proofs.KeyFacts.{all_zip_more, any-map}
+use Rattle.gtfs_rows.proofs.KeyFacts.{any-map}
 
 equal : (a b : List ℕ) → bytes_eq a b ≡ true → a ≡ b
 equal a b e = (bytes_eq-Decides a b).0 e
@@ -57,13 +59,6 @@ another p x t seen kept apart = by (list_any (bytes_eq t) seen) refl
     by true h = ap (λ (ys : List (List ℕ)). x ∷ filter p ys) (also_same seen t h) ∙ sym (also_same (x ∷ filter p seen) t (among ∙ h))
     by false h = ap (λ (ys : List (List ℕ)). x ∷ filter p ys) (also_last seen t h) ∙ ap (λ (ys : List (List ℕ)). x ∷ ys) (keeps_last p seen t kept) ∙ sym (also_last (x ∷ filter p seen) t (among ∙ h))
 
-unequal : (a b : List ℕ) → bytes_eq a b ≡ false → bytes_eq b a ≡ false
-unequal a b e = by (bytes_eq b a) refl
-  where
-    by : (c : Bool) → bytes_eq b a ≡ c → bytes_eq b a ≡ false
-    by true h = let is : b ≡ a = equal b a h in let own : bytes_eq a b ≡ true = rw is (self a) in cc
-    by false h = h
-
 one_more : (x : List ℕ) (seen : List (List ℕ)) (t : List ℕ) → x ∷ filter (λ other. not (bytes_eq x other)) (seen_also seen t) ≡ seen_also (x ∷ filter (λ other. not (bytes_eq x other)) seen) t
 one_more x seen t = by (bytes_eq t x) refl
   where
@@ -71,7 +66,7 @@ one_more x seen t = by (bytes_eq t x) refl
     by true e =
         subst (λ (u : List ℕ). x ∷ filter (λ other. not (bytes_eq x other)) (seen_also seen u) ≡ seen_also (x ∷ filter (λ other. not (bytes_eq x other)) seen) u)
         (sym (equal t x e)) (first_again (λ other. not (bytes_eq x other)) x seen (ap not (self x)))
-    by false e = another (λ other. not (bytes_eq x other)) x t seen (ap not (unequal t x e)) e
+    by false e = another (λ other. not (bytes_eq x other)) x t seen (ap not (texts_differ t x e)) e
 
 -- the different texts of one text more
 pub first_seen_more : (texts : List (List ℕ)) (t : List ℕ) → first_seen (texts ++ t ∷ []) ≡ seen_also (first_seen texts) t
@@ -162,4 +157,4 @@ pub rows_more : (trips stops new_trips new_stops : List (List ℕ)) (trip stop :
     → AllZip (SpellsStopTime new_trips new_stops places) (before ++ r ∷ []) new
 rows_more trips stops new_trips new_stops trip stop places before r rows new row t s n held spelled =
     let earlier : AllZip (SpellsStopTime new_trips new_stops places) before rows = rw (t, s) (spells_also trips stops trip stop places before rows held) in
-    rw n (all_zip_more (SpellsStopTime new_trips new_stops places) before rows r row earlier spelled)
+    rw n (all_zip-push (SpellsStopTime new_trips new_stops places) before rows r row earlier spelled)

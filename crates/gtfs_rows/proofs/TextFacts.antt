@@ -4,8 +4,9 @@ use Rattle.std.specs.Str.{IsUtf8}
 use Rattle.std.specs.Prelude.{⊤}
 use Rattle.std.proofs.Math.Utf8.{encode, encodes, low_scalar, next, scalar, scalars}
 use Rattle.std.proofs.lemmas.Str.{IsUtf8-append, IsUtf8-encode, IsUtf8-nil, IsUtf8-past_char, encode_ascii}
-use Rattle.std.proofs.lemmas.Bool.{eqb-true, false≢true, ltb-false, ltb-true, ne_eqb}
+use Rattle.std.proofs.lemmas.Bool.{eqb-true, ltb-false, ltb-true, ne_eqb}
 use Rattle.std.proofs.Math.Dec.{ltb}
+use Rattle.reasoning.proofs.BoolLemmas.{and-left, and-right}
 use Rattle.csv.specs.Machine.{Read, Runs, ends_at_end, field_after, fields_after, is_end, next_record, step}
 use Rattle.csv.specs.Reading.{default_config, is_bom, records_from, records_next, strip_bom}
 use Rattle.csv.specs.Records.{AllText}
@@ -136,14 +137,6 @@ grown : (g field x : List ℕ) → IsUtf8 field → IsUtf8 x → (g ≡ field ++
 grown g field x u v (inl e) = rw e (IsUtf8-append field x u v)
 grown g field x u v (inr e) = rw e u
 
-and_left : (a b : Bool) → (a && b) ≡ true → a ≡ true
-and_left true b e = refl
-and_left false b e = e
-
-and_right : (a b : Bool) → (a && b) ≡ true → b ≡ true
-and_right true b e = e
-and_right false b e = absurd (false≢true e)
-
 -- one low byte
 low_next : (c : ℕ) (rest : List ℕ) (s : State) (fields : List (List ℕ)) (field : List ℕ) (p : Read) → c < 128 → IsUtf8 rest → AllText fields → IsUtf8 field
     → ((t : State) (f : List (List ℕ)) (g : List ℕ) → AllText f → IsUtf8 g → next_record default_config t f g rest ≡ Some p → AllText p.0 × IsUtf8 p.2)
@@ -171,19 +164,19 @@ next_text [] h s fields field p ft u e = by (ends_at_end s) refl
         rw (← r) (all_more fields field ft u, IsUtf8-nil)
     by false n = let q : None ≡ Some p = rw n at e in cc
 next_text (c ∷ cs) h s fields field p ft u e =
-    by (ltb c 128) refl (λ t f g fs us. next_text cs (and_right (scalar c) (scalars cs) h) t f g p fs us)
+    by (ltb c 128) refl (λ t f g fs us. next_text cs (and-right (scalar c) (scalars cs) h) t f g p fs us)
   where
     by : (x : Bool) → ltb c 128 ≡ x
         → ((t : State) (f : List (List ℕ)) (g : List ℕ) → AllText f → IsUtf8 g → next_record default_config t f g (encodes cs) ≡ Some p → AllText p.0 × IsUtf8 p.2)
         → AllText p.0 × IsUtf8 p.2
     by true x go =
         let low : c < 128 = ltb-true c 128 x in
-        low_next c (encodes cs) s fields field p low (cs, (and_right (scalar c) (scalars cs) h, refl)) ft u go (rw (encode_ascii c low) at e)
+        low_next c (encodes cs) s fields field p low (cs, (and-right (scalar c) (scalars cs) h, refl)) ft u go (rw (encode_ascii c low) at e)
     by false x go =
         let high : 128 ≤ c = ltb-false c 128 x in
         let (b, xs, is, hb, hxs) = high_char c high in
         let (t, g, eq, which) = high_run s b xs (encodes cs) fields field hb hxs in
-        let text : IsUtf8 (b ∷ xs) = rw (← is) (IsUtf8-encode c (and_left (scalar c) (scalars cs) h)) in
+        let text : IsUtf8 (b ∷ xs) = rw (← is) (IsUtf8-encode c (and-left (scalar c) (scalars cs) h)) in
         let e2 : next_record default_config s fields field (b ∷ xs ++ encodes cs) ≡ Some p = rw is at e in
         go t fields g ft (grown g field (b ∷ xs) u text which) (sym eq ∙ e2)
 
@@ -214,10 +207,10 @@ bom_text (a ∷ b ∷ c ∷ rest) u = by (is_bom a b c) refl
   where
     by : (x : Bool) → is_bom a b c ≡ x → IsUtf8 (if is_bom a b c then rest else a ∷ b ∷ c ∷ rest)
     by true e =
-        let ab : ((a == 0xEF) && (b == 0xBB)) ≡ true = and_left ((a == 0xEF) && (b == 0xBB)) (c == 0xBF) e in
-        let ea : a ≡ 0xEF = eqb-true a 0xEF (and_left (a == 0xEF) (b == 0xBB) ab) in
-        let eb : b ≡ 0xBB = eqb-true b 0xBB (and_right (a == 0xEF) (b == 0xBB) ab) in
-        let ec : c ≡ 0xBF = eqb-true c 0xBF (and_right ((a == 0xEF) && (b == 0xBB)) (c == 0xBF) e) in
+        let ab : ((a == 0xEF) && (b == 0xBB)) ≡ true = and-left ((a == 0xEF) && (b == 0xBB)) (c == 0xBF) e in
+        let ea : a ≡ 0xEF = eqb-true a 0xEF (and-left (a == 0xEF) (b == 0xBB) ab) in
+        let eb : b ≡ 0xBB = eqb-true b 0xBB (and-right (a == 0xEF) (b == 0xBB) ab) in
+        let ec : c ≡ 0xBF = eqb-true c 0xBF (and-right ((a == 0xEF) && (b == 0xBB)) (c == 0xBF) e) in
         rw e (IsUtf8-past_char (a ∷ b ∷ c ∷ rest) rest 65279 u (mark a b c rest ea eb ec))
     by false e = rw e u
 

@@ -1,4 +1,4 @@
-// agency.txt, whose records share one time zone.
+//! agency.txt, whose records share one time zone.
 
 ghost use Rattle.std.specs.Prelude.{◌≡◌, []};
 ghost use Rattle.std.specs.List.{AllZip};

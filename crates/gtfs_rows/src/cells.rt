@@ -1,4 +1,4 @@
-// The columns of a table and what a record has in them.
+//! The columns of a table and what a record has in them.
 
 ghost use Rattle.std.specs.Prelude.{◌≡◌, ◌≤◌, length, map, IfOk, IsUtf8, true, false};
 ghost use Rattle.std.specs.String.{string_bytes};

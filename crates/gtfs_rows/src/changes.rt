@@ -1,4 +1,4 @@
-// transfers.txt and frequencies.txt.
+//! transfers.txt and frequencies.txt: where one changes, and when trips repeat.
 
 ghost use Rattle.std.specs.Prelude.{◌≡◌, ◌<◌, length, None, Some, IfOk, IfErr};
 ghost use Rattle.csv.specs.Records.{fields_of};

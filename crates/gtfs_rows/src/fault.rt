@@ -1,4 +1,4 @@
-// What can be wrong with a feed.
+//! What can be wrong with a feed: the kinds of faults, their numbers and names, and in which file and record one was found.
 
 ghost use Rattle.std.specs.Prelude.{◌≡◌};
 ghost use Rattle.gtfs_rows.specs.Told.{fault_name, fault_number, file_name as name_of_file};

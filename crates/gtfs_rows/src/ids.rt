@@ -1,4 +1,4 @@
-// Sets of ids, in the order in which they were first seen.
+//! Sets of ids, in the order in which they were first seen.
 
 ghost use Rattle.std.specs.Prelude.{◌≡◌, ◌≢◌, ◌++◌, ◌∷◌, [], map, option_map, true, false, IfErr, IfOk, IfSome, IsUtf8, OnOk};
 ghost use Rattle.std.specs.String.{string_bytes};

@@ -1,4 +1,4 @@
-// Rows that each stand for one record, some of which have a key of their own.
+//! Rows that each stand for one record, some of which have a key of their own.
 
 ghost use Rattle.std.specs.Prelude.{◌≡◌, ◌≢◌, ◌≤◌, ℕ, List, [], map, Option, None, Some, length, option_map, IfOk, IfErr};
 ghost use Rattle.std.specs.String.{string_bytes};

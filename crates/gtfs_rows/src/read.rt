@@ -1,4 +1,4 @@
-// The reading of each of the eight files.
+//! The reading of each of the eight files: one function for each, with the columns that it must have and those that it may have.
 
 ghost use Rattle.std.specs.Prelude.{◌≡◌, ◌≢◌, ◌≤◌, ◌<◌, ◌∷◌, [], IfOk, IfErr, length, count_by};
 ghost use Rattle.gtfs_rows.specs.Faults.{IsFaultOf};

@@ -1,4 +1,4 @@
-// The reading of any table, record by record.
+//! The reading of any table: its header, then record by record until the first fault.
 
 ghost use Rattle.std.specs.Prelude.{◌≡◌, ◌≢◌, ◌≤◌, ◌+◌, ◌++◌, ◌∷◌, [], ℕ, List, Option, Some, None, length, map, IfOk, IfErr, OnOk, IsUtf8, true, false};
 ghost use Rattle.csv.specs.Records.{AllText, fields_of};

@@ -1,4 +1,4 @@
-// The rows of the tables.
+//! The rows of the tables, as structs.
 
 use crate::values::Day;
 

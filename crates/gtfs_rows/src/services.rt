@@ -1,4 +1,4 @@
-// calendar.txt and calendar_dates.txt.
+//! calendar.txt and calendar_dates.txt: on which days services run.
 
 ghost use Rattle.std.specs.Prelude.{◌≡◌, ◌+◌, ◌<◌, length, None, Some, IfOk, IfErr};
 ghost use Rattle.csv.specs.Records.{fields_of};

@@ -1,4 +1,4 @@
-// The records of a file's bytes, one at a time.
+//! The records of a file's bytes, one at a time.
 
 ghost use Rattle.std.specs.Prelude.{◌≡◌, ◌∷◌, [], IfOk, OnOk};
 ghost use Rattle.std.specs.Bool.{MatchBool};

@@ -1,4 +1,4 @@
-// stop_times.txt, the longest table: its rows keep numbers, and each id is kept once.
+//! stop_times.txt, the longest table: its rows keep numbers, and each id is kept once.
 
 ghost use Rattle.std.specs.Prelude.{◌≡◌, ◌≢◌, ◌<◌, ◌++◌, ◌∷◌, [], List, length, map, IfOk, IfErr, OnOk, IsUtf8, None, Some};
 ghost use Rattle.std.specs.String.{string_bytes};

@@ -1,4 +1,4 @@
-// stops.txt and trips.txt, whose records have ids.
+//! stops.txt and trips.txt, whose records have ids.
 
 ghost use Rattle.std.specs.Prelude.{◌≡◌, None, Some};
 ghost use Rattle.gtfs_rows.specs.Rows.{SpellsStop, SpellsTrip, location_of, no_fault, stop_key, trip_key};

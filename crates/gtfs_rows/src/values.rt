@@ -1,4 +1,4 @@
-// Times, dates and numbers as tables write them.
+//! Times, dates and numbers as tables write them, and how they are read.
 
 ghost use Rattle.std.specs.Prelude.{◌≡◌, ◌==◌, ◌+◌, ◌*◌, ◌<◌, ◌≤◌, ℕ, true, length, drop, IfSome};
 ghost use Rattle.std.specs.Result.{result_ok};

@@ -21,9 +21,6 @@ use Rattle.gtfs_tables.specs.declared.tables.Tables.{Tables}
 use Rattle.gtfs_tables.specs.declared.tables.Trip.{Trip}
 use Rattle.gtfs_tables.proofs.TurnFacts.{turns_kept}
 
-pub of_one : {X : Type 0} (a b : Option X) (x : X) → a ≡ Some x → option_or a b ≡ Some x
-of_one a b x e = rw e refl
-
 pub of_two : {X : Type 0} (a b c : Option X) (x : X) → a ≡ None → b ≡ Some x → option_or a (option_or b c) ≡ Some x
 of_two a b c x e f = rw (e, f) refl
 

@@ -1,14 +1,16 @@
 -- What holds of a joined feed.
-use Rattle.std.proofs.Common.{◌≡◌, ℕ, zero, suc, ◌+◌, ◌-◌, ◌<◌, ◌≤◌, ◌⊎◌, inl, inr, ◌∙◌, sym, ap, refl, subst, arith, Bool, true, false, not, ◌||◌, List, [], ◌∷◌, length, map, take, drop, get_or, Option, Some, None, IsSomeAnd, All}
+use Rattle.std.proofs.Common.{◌≡◌, ℕ, zero, suc, ◌+◌, ◌-◌, ◌<◌, ◌≤◌, inl, inr, ◌∙◌, sym, ap, refl, subst, arith, Bool, true, false, not, ◌||◌, List, [], ◌∷◌, length, map, take, drop, get_or, Option, Some, None, IsSomeAnd, All}
 use Rattle.std.specs.Prelude.{count_by, filter, is_none, nat_le, nat_lt, option_and_then, option_map, if◌then◌else◌}
 use Rattle.std.specs.List.{AllZip, list_any, slice_get, slice_index_or, slice_range}
 use Rattle.std.specs.Option.{option_or}
 use Rattle.std.specs.Str.{bytes_eq}
 use Rattle.std.specs.String.{string_bytes}
-use Rattle.std.proofs.lemmas.Bool.{and_parts, cases_Bool, cases_eq, false≢true, leb-true, ltb-true, le-ltb, lt-ltb}
+use Rattle.std.proofs.lemmas.Bool.{and_parts, cases_Bool, cases_eq, false≢true, leb-true, ltb-true, le-ltb, lt-ltb, not-true}
 use Rattle.std.proofs.lemmas.List.{get_or-drop, get_or-take, length-drop, length-map, length-take}
 use Rattle.std.proofs.lemmas.List.Folds.{list_any_at}
 use Rattle.std.proofs.lemmas.List.Sums.{count_by-le-length, length-filter}
+use Rattle.reasoning.proofs.FirstLemmas.{option_or-none, option_or-some}
+use Rattle.reasoning.proofs.OptionLemmas.{option_cases}
 use Rattle.gtfs_rows.specs.Tables.{is_stop}
 use Rattle.gtfs_rows.specs.declared.fault.FaultKind.{FaultKind}
 use Rattle.gtfs_rows.specs.declared.fault.Table.TheVariants as tables
@@ -33,14 +35,9 @@ use Rattle.gtfs_tables.specs.declared.tables.Place.TheVariants as places
 use Rattle.gtfs_tables.specs.declared.tables.Tables.{Tables}
 use Rattle.gtfs_tables.specs.declared.tables.Transfer.{Transfer}
 use Rattle.gtfs_tables.specs.declared.tables.Trip.{Trip}
-use Rattle.gtfs_tables.proofs.FirstFacts.{option_or-none, option_or-some}
 use Rattle.gtfs_tables.proofs.TimeFacts.{ends_timed}
 
 -- ---- what an id names is one of the stops
-
-option_cases : {X : Type 0} (o : Option X) → (o ≡ None) ⊎ ((x : X) × (o ≡ Some x))
-option_cases None = inl refl
-option_cases (Some x) = inr (x, refl)
 
 -- what is found below a place is found at one
 found_at : {X : Type 0} (f : ℕ → Option X) (n : ℕ) (x : X) → first_below f n ≡ Some x → (k : ℕ) × (k < n) × (f k ≡ Some x)
@@ -259,10 +256,6 @@ fault_none strict t turns k e lt =
     let trips = none_left (first_below (trip_fault strict turns rows) (length t.trips.items)) (first_fault_of tables.Transfers (transfer_fault (stop_named t.stops.items)) t.transfers.items) behind in
     unmapped (told_of (of_trip turns k turns)) (first_wrong strict (of_trip turns k rows)) (none_below (trip_fault strict turns rows) (length t.trips.items) k trips lt)
 
-not_true : (b : Bool) → not b ≡ true → b ≡ false
-not_true true e = absurd (false≢true e)
-not_true false e = refl
-
 -- the trip at a place, as it is made, is runnable
 made_runnable : (strict : Bool) (t : Tables) (feed : Feed) (joined : IsJoined strict t feed) (k : ℕ) (row : TripRow) → k < length t.trips.items
     → IsRunnableTrip (count_by is_stop t.stops.items) (rows_by (stop_named t.stops.items) (trip_named t.trips.items) t joined.turns)
@@ -280,10 +273,10 @@ made_runnable strict t feed joined k row lt =
       timed = λ makes.
           let parts = and_parts (not (is_flex (of_trip turns k rows))) (nat_le 2 (first_turn turns (k + 1) - first_turn turns k)) makes in
           let two = leb-true 2 (first_turn turns (k + 1) - first_turn turns k) parts.1 in
-          timed_by strict (of_trip turns k rows) (le-ltb (length (of_trip turns k rows)) 2 (omega arith)) (not_true (is_flex (of_trip turns k rows)) parts.0) (fault_none strict t turns k joined.faultless lt);
+          timed_by strict (of_trip turns k rows) (le-ltb (length (of_trip turns k rows)) 2 (omega arith)) (not-true (is_flex (of_trip turns k rows)) parts.0) (fault_none strict t turns k joined.faultless lt);
       stops_below = λ makes i d less.
           let parts = and_parts (not (is_flex (of_trip turns k rows))) (nat_le 2 (first_turn turns (k + 1) - first_turn turns k)) makes in
-          let steady = not_true (is_flex (of_trip turns k rows)) parts.0 in
+          let steady = not-true (is_flex (of_trip turns k rows)) parts.0 in
           let at : get_or (of_trip turns k rows) i d ≡ get_or rows (first_turn turns k + i) d = slice_at rows (first_turn turns k) (first_turn turns (k + 1)) i d (omega arith) in
           stop_below (count_by is_stop t.stops.items) (get_or (of_trip turns k rows) i d).stop (none_any (λ (row : StopTimeRow). is_none row.stop) (of_trip turns k rows) i d steady less)
           (λ s e. row_below t turns (first_turn turns k + i) s d (omega arith) (sym (ap (λ (row : StopTimeRow). row.stop) at) ∙ e));

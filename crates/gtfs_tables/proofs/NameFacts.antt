@@ -7,18 +7,19 @@ use Rattle.std.specs.Option.{option_or}
 use Rattle.std.specs.Str.{bytes_eq}
 use Rattle.std.specs.String.{string_bytes}
 use Rattle.std.specs.HashMap.{Updates, IsEmpty}
-use Rattle.std.proofs.lemmas.Bool.{cases_Bool, false_from_ne_true}
+use Rattle.std.proofs.lemmas.Bool.{cases_Bool}
 use Rattle.std.proofs.lemmas.List.{map-append}
 use Rattle.std.proofs.lemmas.Map.Text.{hash_map_updates_str}
 use Rattle.std.proofs.lemmas.Option.{slice_get_read}
 use Rattle.std.proofs.lemmas.Slice.Eq.{bytes_eq-Decides}
+use Rattle.reasoning.proofs.FirstLemmas.{first_below-next}
+use Rattle.reasoning.proofs.OrderLemmas.{texts_differ}
 use Rattle.indexmap.specs.IndexMap.{IndexMap}
 use Rattle.gtfs_rows.specs.Tables.{is_stop}
 use Rattle.gtfs_rows.specs.declared.rows.StopRow.{StopRow}
 use Rattle.gtfs_rows.specs.declared.rows.TripRow.{TripRow}
 use Rattle.gtfs_tables.specs.First.{first_below}
 use Rattle.gtfs_tables.specs.Names.{held_at, named_as, stop_with, trip_with}
-use Rattle.gtfs_tables.proofs.FirstFacts.{first_below-next}
 
 pub trip_named-more : (trips : List TripRow) (k : ℕ) (row : TripRow) (id : List ℕ) → k < length trips → row ≡ get_or trips k row
     → first_below (trip_with trips id) (k + 1) ≡ option_or (first_below (trip_with trips id) k) (if bytes_eq id (string_bytes row.id) then Some k else None)
@@ -42,9 +43,6 @@ same_way a b e =
     let same : a ≡ b = (bytes_eq-Decides a b).0 e in
     (sym same, (bytes_eq-Decides b a).1 (sym same))
 
-other_way : (a b : List ℕ) → bytes_eq a b ≡ false → bytes_eq b a ≡ false
-other_way a b e = false_from_ne_true (bytes_eq b a) (λ t. let back = same_way b a t in cc)
-
 -- an id that the map hasn't is put in
 pub held-put : {X S : Type 0} (m n : IndexMap (Bor (List ℕ)) X S) (id : Bor (List ℕ)) (name : X) → held_at m id.now ≡ None
     → Updates (λ x y. bytes_eq x.now y.now) m n id (Some name) → (q : List ℕ)
@@ -59,7 +57,7 @@ held-put m n id name none put q = by (cases_Bool (bytes_eq id.now q))
         let back = same_way id.now q t in
         let before : held_at m q ≡ None = ap (held_at m) back.0 ∙ none in
         after ∙ rw (t, before, back.1) refl
-    by (inr f) = after ∙ rw (f, other_way id.now q f) (sym (option_or-nothing (held_at m q)))
+    by (inr f) = after ∙ rw (f, texts_differ id.now q f) (sym (option_or-nothing (held_at m q)))
 
 -- an id that the map has keeps what it has
 pub held-kept : {X S : Type 0} (m n o : IndexMap (Bor (List ℕ)) X S) (id : Bor (List ℕ)) (first name : X) → held_at m id.now ≡ Some first
@@ -78,7 +76,7 @@ held-kept m n o id first name some put back q = by (cases_Bool (bytes_eq id.now 
         let way = same_way id.now q t in
         let before : held_at m q ≡ Some first = ap (held_at m) way.0 ∙ some in
         after ∙ rw (t, before) refl
-    by (inr f) = after ∙ rw (f) (mid ∙ rw (f, other_way id.now q f) (sym (option_or-nothing (held_at m q))))
+    by (inr f) = after ∙ rw (f) (mid ∙ rw (f, texts_differ id.now q f) (sym (option_or-nothing (held_at m q))))
 
 pub held-none : {X S : Type 0} (m : IndexMap (Bor (List ℕ)) X S) (q : List ℕ) → IsEmpty m → held_at m q ≡ None
 held-none m q e = rw e refl

@@ -9,6 +9,8 @@ use Rattle.std.proofs.lemmas.Grind.{get_or-set_at}
 use Rattle.std.proofs.lemmas.List.Folds.{list_any_more}
 use Rattle.std.proofs.lemmas.List.{append-nil, append_assoc, get_or_at, get_or_past, length-append, map_more}
 use Rattle.std.proofs.lemmas.List.Elements.{filter_more}
+use Rattle.std.proofs.Math.Bool.{or-false}
+use Rattle.reasoning.proofs.ListLemmas.{all_zip-push}
 use Rattle.gtfs_rows.specs.declared.rows.FrequencyRow.{FrequencyRow}
 use Rattle.gtfs_rows.specs.declared.rows.StopTimeRow.{StopTimeRow}
 use Rattle.gtfs_rows.specs.declared.rows.TransferRow.{TransferRow}
@@ -22,10 +24,6 @@ use Rattle.gtfs_tables.specs.declared.tables.Transfer.{Transfer}
 pub transfer_judged : (named : List ℕ → Option Named) (row : TransferRow) (from to : Option Named) → is_kept row ≡ true
     → named (string_bytes row.from) ≡ from → named (string_bytes row.to) ≡ to → transfer_fault named row ≡ ends_fault from to
 transfer_judged named row from to kept e f = rw (kept, e, f) refl
-
-or_false : (b : Bool) → (b || false) ≡ b
-or_false true = refl
-or_false false = refl
 
 -- the marks of the trips that rows of frequencies.txt name, a row on
 pub marked_more : (named : List ℕ → Option ℕ) (rows : List FrequencyRow) (i u n : ℕ) (row : FrequencyRow) (old : List Bool) → i < length rows → row
@@ -48,7 +46,7 @@ marked_more named rows i u n row old lt e names len before t within = by (cases_
     by (inr other) =
         let set_else : get_or (set old u true) t false ≡ get_or old t false = get_or-set_other old u t true false other in
         let differs : eqb u t ≡ false = ne_eqb u t (λ s. other (sym s)) in
-        set_else ∙ here ∙ sym (more ∙ rw differs (or_false (is_repeated named (take i rows) t)))
+        set_else ∙ here ∙ sym (more ∙ rw differs (or-false (is_repeated named (take i rows) t)))
 
 -- a trip that isn't known is a fault, and gives no stop, flex or not
 pub fault_same : (trips : List (Option ℕ)) (stops : List (Option Named)) (rows : List StopTimeRow) (flex : List Bool) (row : StopTimeRow)
@@ -71,13 +69,6 @@ row_same trips stops rows flex row same = by (cases_lt row.trip (length trips))
     by (inl lt) = rw (same row.trip lt) refl
     by (inr le) = let none : get_or trips row.trip None ≡ None = get_or_past trips row.trip None le in rw none refl
 
--- two lists side by side, a pair on
-zip_push : {A B : Type 0} (R : A → B → Type 0) (xs : List A) (ys : List B) (x : A) (y : B) → AllZip R xs ys → R x y → AllZip R (xs ++ x ∷ []) (ys ++ y ∷ [])
-zip_push R [] [] x y z r = (r, tt)
-zip_push R [] (b ∷ ys) x y z r = absurd z
-zip_push R (a ∷ xs) [] x y z r = absurd z
-zip_push R (a ∷ xs) (b ∷ ys) x y z r = (z.0, zip_push R xs ys x y z.1 r)
-
 pub kept_more : (named : List ℕ → Option Named) (rows : List TransferRow) (i : ℕ) (row : TransferRow) (kept : List Transfer) (found : Transfer)
     → i < length rows → row ≡ get_or rows i row
     → true ≡ is_kept row → IsTransferOf named row found → AllZip (IsTransferOf named) (filter is_kept (take i rows)) kept
@@ -85,7 +76,7 @@ pub kept_more : (named : List ℕ → Option Named) (rows : List TransferRow) (i
 kept_more named rows i row kept found lt e counted is before =
     let more : filter is_kept (take (i + 1) rows) ≡ filter is_kept (take i rows) ++ row ∷ [] = filter_more is_kept rows i row lt
     ∙ rw (sym e, sym counted) refl in
-    rw more (zip_push (IsTransferOf named) (filter is_kept (take i rows)) kept row found before is)
+    rw more (all_zip-push (IsTransferOf named) (filter is_kept (take i rows)) kept row found before is)
 
 pub kept_same : (named : List ℕ → Option Named) (rows : List TransferRow) (i : ℕ) (row : TransferRow) (kept : List Transfer) → i < length rows → row
     ≡ get_or rows i row

@@ -1,7 +1,8 @@
 -- Facts on spread times.
 use Rattle.std.proofs.Common.{◌≡◌, ◌+◌, ◌-◌, ◌*◌, ◌/◌, ◌<◌, ◌≤◌, ◌∷◌, ◌∙◌, ◌⊎◌, inl, inr, ℕ, zero, suc, List, [], length, Option, Some, None, IsSome, refl, sym, slice_index_or, arith}
 use Rattle.std.proofs.Math.Nat.{div-le_of_le-mul, mul-le-mul_right}
-use Rattle.std.proofs.lemmas.Bool.{cases_order, false≢true}
+use Rattle.std.proofs.lemmas.Bool.{cases_order}
+use Rattle.reasoning.proofs.OptionLemmas.{is_some-none}
 use Rattle.gtfs_tables.specs.Spread.{IsGap, IsSpreadBefore, arrival_at, departure_at, either, part_of}
 use Rattle.gtfs_rows.specs.declared.rows.StopTimeRow.{StopTimeRow}
 
@@ -38,10 +39,6 @@ arrives_within [] i t e = cc
 arrives_within (row ∷ rows) zero t e = omega arith
 arrives_within (row ∷ rows) (suc i) t e = let less : i < length rows = arrives_within rows i t e in omega arith
 
-pub some_none : (o : Option ℕ) → IsSome o → o ≡ None → ⊥
-some_none None s e = false≢true s
-some_none (Some x) s e = cc
-
 -- what the times of one row more, and of the blank ones after it, are
 pub record IsStep (rows : List StopTimeRow) (old new : List (ℕ × ℕ)) (at next : ℕ) : Type 0 where
   pub len : length old ≡ at
@@ -60,7 +57,7 @@ gap_from rows old new at next p q a b i s g h low high less = by (cases_order p 
   where
     by : (p ≡ at) ⊎ ((p < at) ⊎ (at < p)) → p ≡ at
     by (inl e) = e
-    by (inr (inl below)) = absurd (some_none (arrival_at rows at) s.from (g.blank at below (omega arith)))
+    by (inr (inl below)) = absurd (is_some-none (arrival_at rows at) s.from (g.blank at below (omega arith)))
     by (inr (inr above)) =
         let none : departure_at rows p ≡ None = never_departs rows p (s.between p (omega arith) (omega arith)) in
         absurd (let from = g.from in cc)
@@ -75,7 +72,7 @@ gap_to rows old new at next p q a b i s g h low high less = by (cases_order q ne
         absurd (let to = g.to in cc)
     by (inr (inr above)) =
         let within : q < length rows = arrives_within rows q b g.to in
-        absurd (some_none (arrival_at rows next) (s.to (omega arith)) (g.blank next (omega arith) above))
+        absurd (is_some-none (arrival_at rows next) (s.to (omega arith)) (g.blank next (omega arith) above))
 
 given_more : (rows : List StopTimeRow) (old new : List (ℕ × ℕ)) (at next : ℕ) → IsStep rows old new at next → IsSpreadBefore rows old at
     → (i a d : ℕ) → i < next → arrival_at rows i ≡ Some a → departure_at rows i ≡ Some d → slice_index_or new i (0, 0) ≡ (a, d)
@@ -92,7 +89,7 @@ blank_more : (rows : List StopTimeRow) (old new : List (ℕ × ℕ)) (at next : 
 blank_more rows old new at next s before p q a b i g low high less = by (cases_order i at)
   where
     by : (i ≡ at) ⊎ ((i < at) ⊎ (at < i)) → slice_index_or new i (0, 0) ≡ (part_of a b (q - p) (i - p), part_of a b (q - p) (i - p))
-    by (inl same) = absurd (some_none (arrival_at rows at) s.from (rw same at (g.blank i low high)))
+    by (inl same) = absurd (is_some-none (arrival_at rows at) s.from (rw same at (g.blank i low high)))
     by (inr (inl below)) = s.kept i (omega (arith, s.len)) ∙ before.blank p q a b i g low high below
     by (inr (inr above)) =
         let from : p ≡ at = gap_from rows old new at next p q a b i s g above low high less in

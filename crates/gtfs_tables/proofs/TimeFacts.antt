@@ -3,13 +3,13 @@ use Rattle.std.proofs.Common.{◌≡◌, ◌+◌, ◌-◌, ◌<◌, ◌≤◌, �
 use Rattle.std.specs.Prelude.{if◌then◌else◌, is_none, is_some, nat_le, nat_lt, unwrap_or}
 use Rattle.std.specs.Option.{option_or}
 use Rattle.std.proofs.lemmas.Bool.{and_cases, and_from, and_parts, cases_Bool, cases_eq, cases_order, false≢true, le-leb, leb-true, leb-false}
+use Rattle.reasoning.proofs.FirstLemmas.{option_or-none, option_or-some, option_or_parts}
 use Rattle.gtfs_rows.specs.declared.fault.FaultKind.{FaultKind}
 use Rattle.gtfs_rows.specs.declared.fault.FaultKind.TheVariants as kinds
 use Rattle.gtfs_rows.specs.declared.rows.StopTimeRow.{StopTimeRow}
 use Rattle.gtfs_tables.specs.First.{first_below, first_place, place_if}
 use Rattle.gtfs_tables.specs.Spread.{IsGap, IsSpread, arrival_at, departure_at}
 use Rattle.gtfs_tables.specs.Times.{arrives_spread, departed_before, departs_spread, end_without_time, given_before, given_from, goes_back, has_no_duration, is_short, is_twice, wrong_at, wrong_given}
-use Rattle.gtfs_tables.proofs.FirstFacts.{option_or-none, option_or-some}
 use Rattle.gtfs_tables.proofs.SpreadFacts.{departs, never_departs}
 
 pub departed-next : (rows : List StopTimeRow) (k : ℕ) → departed_before rows (k + 1) ≡ unwrap_or (departure_at rows k) (departed_before rows k)
@@ -141,10 +141,6 @@ nowhere_at : (kind : FaultKind) (place : Option ℕ) → wrong_at kind place ≡
 nowhere_at kind None e = refl
 nowhere_at kind (Some k) e = absurd cc
 
-later_none : {X : Type 0} (x y : Option X) → option_or x y ≡ None → (x ≡ None) × (y ≡ None)
-later_none None y e = (refl, e)
-later_none (Some x) y e = absurd cc
-
 ends_by : (a b : Option ℕ) (last : ℕ) → (if is_none a then Some 0 else (if is_none b then Some last else None)) ≡ None → IsSome a × IsSome b
 ends_by None b last e = absurd cc
 ends_by (Some a) None last e = absurd cc
@@ -152,8 +148,8 @@ ends_by (Some a) (Some b) last e = (refl, refl)
 
 pub ends_timed : (rows : List StopTimeRow) → wrong_given rows ≡ None → IsSome (arrival_at rows 0) × IsSome (arrival_at rows (length rows - 1))
 ends_timed rows e =
-    let behind = later_none (wrong_at kinds.SequenceTwice (first_place (is_twice rows) (length rows))) (option_or (wrong_at kinds.EndWithoutTime (end_without_time rows)) (wrong_at kinds.TimeGoesBack (first_place (goes_back rows) (length rows)))) e in
-    let ends = later_none (wrong_at kinds.EndWithoutTime (end_without_time rows)) (wrong_at kinds.TimeGoesBack (first_place (goes_back rows) (length rows))) behind.1 in
+    let behind = option_or_parts (wrong_at kinds.SequenceTwice (first_place (is_twice rows) (length rows))) (option_or (wrong_at kinds.EndWithoutTime (end_without_time rows)) (wrong_at kinds.TimeGoesBack (first_place (goes_back rows) (length rows)))) e in
+    let ends = option_or_parts (wrong_at kinds.EndWithoutTime (end_without_time rows)) (wrong_at kinds.TimeGoesBack (first_place (goes_back rows) (length rows))) behind.1 in
     ends_by (arrival_at rows 0) (arrival_at rows (length rows - 1)) (length rows - 1) (nowhere_at kinds.EndWithoutTime (end_without_time rows) ends.0)
 
 agree : {X : Type 0} (f g : ℕ → Option X) (n : ℕ) → ((k : ℕ) → k < n → f k ≡ g k) → first_below f n ≡ first_below g n

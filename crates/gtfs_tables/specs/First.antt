@@ -1,15 +1,10 @@
 -- The first fault of a table's rows.
-use Rattle.std.specs.Prelude.{ℕ, zero, suc, ◌+◌, List, length, option_map, option_and_then, Option, Some, None, Bool, if◌then◌else◌}
+use Rattle.std.specs.Prelude.{ℕ, ◌+◌, List, length, option_map, option_and_then, Option, Some, None, Bool, if◌then◌else◌}
 use Rattle.std.specs.List.{slice_get}
-use Rattle.std.specs.Option.{option_or}
+unfoldable pub use Rattle.reasoning.specs.First.{first_below}
 use Rattle.gtfs_rows.specs.declared.fault.FaultKind.{FaultKind}
 use Rattle.gtfs_rows.specs.declared.fault.Table.{Table}
 use Rattle.gtfs_rows.specs.declared.fault.TableFault.{TableFault}
-
--- what f gives at the least place below n at which it gives something
-unfoldable pub first_below : {X : Type 0} → (ℕ → Option X) → ℕ → Option X
-first_below f zero = None
-first_below f (suc n) = option_or (first_below f n) (f n)
 
 -- the least place below n that passes
 abbrev pub place_if : (ℕ → Bool) → ℕ → Option ℕ

@@ -2,6 +2,7 @@
 use Rattle.std.specs.Prelude.{◌≡◌, ◌==◌, ◌&&◌, ◌||◌, not, ℕ, List, option_and_then, Option, Some, None, Bool, true, false, if◌then◌else◌, is_none, unwrap_or}
 use Rattle.std.specs.List.{list_any}
 use Rattle.std.specs.String.{string_bytes}
+pub use Rattle.reasoning.specs.Options.{is_that_number as is_place}
 use Rattle.gtfs_rows.specs.Faults.{fault_unless, or_fault}
 use Rattle.gtfs_rows.specs.Rows.{is_blank}
 use Rattle.gtfs_rows.specs.Tables.{is_stop}
@@ -79,10 +80,6 @@ frequency_fault named row = fault_unless (named (string_bytes row.trip)) kinds.U
 -- a row with its trip's place
 abbrev pub frequency_of : (List ℕ → Option ℕ) → FrequencyRow → Frequency
 frequency_of named row = record { trip = unwrap_or (named (string_bytes row.trip)) 0; start = row.start; end = row.end; headway = row.headway }
-
-abbrev pub is_place : Option ℕ → ℕ → Bool
-is_place None t = false
-is_place (Some u) t = u == t
 
 -- a row of frequencies.txt names the trip
 abbrev pub is_repeated : (List ℕ → Option ℕ) → List FrequencyRow → ℕ → Bool

@@ -1,4 +1,4 @@
-// The tables of a feed joined, or the first thing that is wrong with them.
+//! The tables of a feed joined, or the first thing that is wrong with them.
 
 ghost use Rattle.std.specs.Prelude.{◌≡◌, ◌≢◌, ◌≤◌, ◌<◌, ◌+◌, ℕ, List, length, map, filter, IfOk, IfErr, IsSortedBy, Some, None, Option, false, slice_index_or, option_map};
 ghost use Rattle.std.specs.List.{AllWithin, slice_range};

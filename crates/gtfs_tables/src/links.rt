@@ -1,4 +1,4 @@
-// The rows of the tables, each id replaced by what it names, or the first of each that names nothing.
+//! The rows of the tables, each id replaced by what it names, or the first of each that names nothing.
 
 ghost use Rattle.std.specs.Prelude.{◌≡◌, ◌≢◌, ◌<◌, ℕ, length, map, filter, IfOk, IfErr, IfSome, None, Some, is_some, slice_index_or, slice_set, true, false, not, count_by};
 ghost use Rattle.std.specs.List.{AllZip};

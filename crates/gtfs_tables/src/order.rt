@@ -1,4 +1,4 @@
-// The order of the rows of stop_times.txt: by trip, then by stop_sequence, then by record.
+//! The order of the rows of stop_times.txt: by trip, then by stop_sequence, then by record.
 
 ghost use Rattle.std.specs.Prelude.{◌≡◌, ◌<◌, ◌+◌, List, length, map, IfOk, IsSortedBy, slice_index_or, true};
 ghost use Rattle.gtfs_rows.specs.declared.rows.StopTimeRow.{StopTimeRow as FiledRow};

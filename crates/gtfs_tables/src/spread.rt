@@ -1,4 +1,4 @@
-// The times of a trip's rows, spread over its blank ones.
+//! The times of a trip's rows, spread over its blank ones.
 
 ghost use Rattle.std.specs.Prelude.{◌≡◌, ◌+◌, ◌-◌, ◌*◌, ◌/◌, ◌<◌, ◌≤◌, ℕ, None, Some, length, slice_index_or, IfOk, IsSome, OnOk};
 ghost use Rattle.gtfs_tables.specs.Spread.{IsSpread, arrival_at, departure_at, part_of};

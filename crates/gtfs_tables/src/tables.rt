@@ -1,4 +1,4 @@
-// The tables of a feed as they are read, and as they name one another.
+//! The tables of a feed as they are read, and as they name one another.
 
 use gtfs_rows::{
     AgencyRow, CalendarDateRow, CalendarRow, FrequencyRow, IdHash, StopRow, StopTimeRow, StopTimes,

@@ -1,4 +1,4 @@
-// What can be wrong with the times of a trip.
+//! What can be wrong with the times of a trip: a sequence twice, an end without a time, times that go back, no duration.
 
 ghost use Rattle.std.specs.Prelude.{◌≡◌, ◌<◌, ◌≤◌, ◌-◌, ◌+◌, ℕ, length, IfOk, None, Some, nat_lt, slice_index_or};
 ghost use Rattle.gtfs_tables.specs.First.{first_place};

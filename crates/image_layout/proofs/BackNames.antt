@@ -165,7 +165,7 @@ repeat_back layout p n known first can i lt d =
           ap (λ (b : Bool). cond {A = ℕ} b word 0) lacks ∙ sym (first (the_first layout known lacks) i d lt)
     ]
 
-abbrev label : List ℕ → ℕ → ℕ → TripNameValue
+abbrev pub label : List ℕ → ℕ → ℕ → TripNameValue
 label name day repeat = record { name = name; day = day; repeat = repeat }
 
 abbrev labels : ℤ → List (List ℕ) → List TripNameValue → NamesValue
@@ -187,7 +187,7 @@ trip_named n k d lt =
     ∙ ap (λ (j : ℕ). get_or (map (λ (t : TripNameValue). t.name) n.trips) j []) back ∙ get_or-map (λ (t : TripNameValue). t.name) n.trips k d [] lt)
 
 -- labels of equal parts
-label_is : (name : List ℕ) (day repeat : ℕ) (t : TripNameValue) → name ≡ t.name → day ≡ t.day → repeat ≡ t.repeat → label name day repeat ≡ t
+pub label_is : (name : List ℕ) (day repeat : ℕ) (t : TripNameValue) → name ≡ t.name → day ≡ t.day → repeat ≡ t.repeat → label name day repeat ≡ t
 label_is name day repeat t e f g = rw (e, f, g) refl
 
 labels_are : (base : ℤ) (stops : List (List ℕ)) (trips : List TripNameValue) (n : NamesValue) → base ≡ n.base → stops ≡ n.stops → trips ≡ n.trips → labels base stops trips ≡ n

@@ -2,7 +2,7 @@
 use Rattle.std.proofs.Common.{◌≡◌, ℕ, zero, suc, ◌+◌, ◌*◌, ◌/◌, ◌%◌, ◌^◌, ◌<◌, ◌≤◌, Bool, true, eqb, ◌&&◌, List, [], ◌∷◌, ◌++◌, length, get_or, take, drop, map, refl, sym, ap, ◌∙◌, arith}
 use Rattle.std.specs.Prelude.{slice_index, slice_get, Some}
 use Rattle.std.proofs.lemmas.Option.{slice_get-get_or}
-use Rattle.std.specs.List.{flat_map, range_with_len, list_all}
+use Rattle.std.specs.List.{flat_map, range_with_len, list_all, concat}
 use Rattle.std.specs.Int.{w32, w64, to_le_bytes, from_le_bytes, cast_signed, cast_unsigned, byte_at}
 use Rattle.std.proofs.Math.Seq.{take-add}
 use Rattle.std.proofs.lemmas.Bool.{and_parts, eqb-true}
@@ -15,7 +15,7 @@ use Rattle.image_layout.specs.Places.{is_layout, header_of, foot_index_place, fo
 use Rattle.image_layout.specs.Fields.{layout_of, flags_of}
 use Rattle.image_layout.specs.Text.{bytes_of, padded_text_of}
 use Rattle.image_layout.specs.declared.layout.TheConstants.{MAGIC}
-use Rattle.image_layout.specs.Spelling.{footpath_words, text, text_words, header, image_in}
+use Rattle.image_layout.specs.Spelling.{footpath_words, text, text_words, header, image_in, byte_count_before}
 use Rattle.image_layout.specs.Shown.{name_count, connection_of, connections_of, footpaths_of, timetable_of, names_of}
 use Rattle.image_layout.proofs.Sections.{take_next, take_six, connections_again}
 use Rattle.image_layout.proofs.Feet.{IsFootIndex, foot_index_again, footpaths_again}
@@ -164,3 +164,10 @@ connection_is w i lt =
     let size = length-map-range_with_len (connection_of w) 0 count in
     slice_get-get_or (map (connection_of w) (range_with_len 0 count)) i (connection_of w 0) (omega (arith, size))
     ∙ ap Some (get_or-map-range_with_len (connection_of w) 0 count i i (connection_of w 0) lt (omega arith))
+
+-- no more bytes stand before a name than there are
+pub count_within : (ns : List (List ℕ)) (i : ℕ) → byte_count_before ns i ≤ length (concat ns)
+count_within [] zero = omega arith
+count_within [] (suc i) = omega arith
+count_within (x ∷ xs) zero = omega arith
+count_within (x ∷ xs) (suc i) = omega (arith, count_within xs i, length-append x (concat (take i xs)), length-append x (concat xs))

@@ -1,9 +1,9 @@
 -- Accepted words are the image of a legal timetable and names within the limits.
-use Rattle.std.proofs.Common.{◌≡◌, ℕ, ◌+◌, ◌^◌, ◌<◌, ◌≤◌, Bool, true, false, not, ◌||◌, eqb, ltb, List, length, get_or, drop, None, refl}
+use Rattle.std.proofs.Common.{◌≡◌, ℕ, ◌+◌, ◌^◌, ◌<◌, ◌≤◌, true, false, not, ◌||◌, eqb, ltb, List, length, get_or, drop, None}
 use Rattle.std.specs.Prelude.{slice_index}
 use Rattle.std.specs.List.{list_all}
 use Rattle.std.specs.Str.{is_utf8}
-use Rattle.std.proofs.lemmas.Bool.{or_parts, ltb-false, eqb-true}
+use Rattle.std.proofs.lemmas.Bool.{or_parts, ltb-false, eqb-true, not-false}
 use Rattle.image_layout.specs.Places.{is_layout, header_of, word_count, IsWhole}
 use Rattle.image_layout.specs.Fields.{trip_of, foot_index_of, name_index_of}
 use Rattle.image_layout.specs.Text.{padded_text_of}
@@ -21,10 +21,6 @@ use Rattle.image_verifier.specs.FirstFault.{is_too_large, header_fault, section_
 use Rattle.timetable.proofs.FirstLemmas.{or_else_parts, no_fault, first_below-none}
 use Rattle.image_verifier.proofs.ConnectionLemmas.{IsSound-from}
 use Rattle.image_verifier.proofs.FootLemmas.{HasFootRange-from}
-
-pub not-false : (b : Bool) → not b ≡ false → b ≡ true
-not-false true e = refl
-not-false false e = absurd cc
 
 -- each step without fault
 pub record AreFaultless (w : List ℕ) : Type 0 where

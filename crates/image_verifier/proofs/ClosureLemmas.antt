@@ -1,10 +1,11 @@
 -- The footpath from a stop into a stop by its place, and first faults by stops as first faults by places.
-use Rattle.std.proofs.Common.{◌≡◌, ◌≢◌, ℕ, zero, suc, ◌+◌, ◌-◌, ◌<◌, ◌≤◌, eqb, cond, List, length, get_or, Option, Some, None, refl, sym, ap, subst, ◌∙◌, arith, inl, inr, ◌⊎◌}
+use Rattle.std.proofs.Common.{◌≡◌, ◌≢◌, ℕ, zero, suc, ◌+◌, ◌-◌, ◌<◌, ◌≤◌, eqb, cond, List, length, get_or, Option, Some, None, refl, sym, ap, subst, ◌∙◌, arith, inl, inr}
 use Rattle.std.proofs.lemmas.Bool.{cases_Bool, cases_order, cases_lt, cases_eq, eqb-true, eqb-false, eq-eqb, ne_eqb, le-ltb, lt-ltb}
 use Rattle.std.proofs.lemmas.Option.{same_Some}
 use Rattle.std.proofs.Math.ListN.{set}
 use Rattle.std.specs.Prelude.{replicate}
 use Rattle.std.proofs.lemmas.List.{ext_get_or, get_or-set_same, get_or-set_other, get_or-replicate, length-set, length-replicate}
+use Rattle.reasoning.proofs.OptionLemmas.{option_cases, some-none}
 use Rattle.image_layout.specs.Places.{header_of}
 use Rattle.image_layout.specs.Fields.{foot_index_of, foot_from_of, foot_secs_of}
 use Rattle.image_verifier.specs.declared.closure.TheConstants.{NEVER}
@@ -14,10 +15,6 @@ use Rattle.timetable.specs.First.{first_below, first_between, any_between}
 use Rattle.image_verifier.specs.FootFaults.{HasFootRange, HasFootRanges, IsInto}
 use Rattle.image_verifier.specs.ClosureFaults.{secs_from, secs_between, is_open, open_fault, way_fault, into_fault, or_never, HasSecs}
 use Rattle.timetable.proofs.FirstLemmas.{or_else-none, or_else-some, first_between-found, first_between-none, first_between-all, first_between-empty, first_between-more, first_below-found, first_below-all, any_between-some, any_between-none}
-
-pub option_cases : {X : Type 0} (o : Option X) → (o ≡ None) ⊎ ((x : X) × (o ≡ Some x))
-option_cases None = inl refl
-option_cases (Some x) = inr (x, refl)
 
 -- at i, below n, f gives x, and it gives nothing before
 pub record IsFirstBelow {X : Type 0} (f : ℕ → Option X) (n i : ℕ) (x : X) : Type 0 where
@@ -153,11 +150,8 @@ secs_between-some w a c secs e =
       | inl same ↦
           let from : foot_from_of w h.0 ≡ a = eqb-true _ _ same in
           (h.0, record { low = h.1.low; high = h.1.high; from = from; secs = same_Some _ _ (sym (secs_here w a h.0 from) ∙ h.1.here) })
-      | inr other ↦ absurd (some_none secs (sym h.1.here ∙ secs_elsewhere w a h.0 (eqb-false _ _ other)))
+      | inr other ↦ absurd (some-none secs (sym h.1.here ∙ secs_elsewhere w a h.0 (eqb-false _ _ other)))
     ]
-  where
-    some_none : (x : ℕ) → Some x ≡ None → ⊥
-    some_none x e = absurd cc
 
 -- the fault of three stops, by the seconds between them
 pub open_fault-by : (w : List ℕ) (a b c : ℕ) (first second direct : Option ℕ) → secs_between w a b ≡ first → secs_between w b c ≡ second → secs_between w a c ≡ direct → open_fault w a b c ≡ cond (is_open first second direct) (Some (NotClosed a b c)) None
@@ -193,19 +187,16 @@ open_fault-no_second w a b c e2 = open_fault-by w a b c (secs_between w a b) Non
 pub open_fault-none : (w : List ℕ) (a b c first second : ℕ) → secs_between w a b ≡ Some first → secs_between w b c ≡ Some second → open_fault w a b c ≡ None → (direct : ℕ) × (secs_between w a c ≡ Some direct) × (direct ≤ first + second)
 open_fault-none w a b c first second e1 e2 none =
     elim (option_cases (secs_between w a c)) [
-      | inl e3 ↦ absurd (some_none (NotClosed a b c) (sym (open_fault-missing w a b c first second e1 e2 e3) ∙ none))
+      | inl e3 ↦ absurd (some-none (NotClosed a b c) (sym (open_fault-missing w a b c first second e1 e2 e3) ∙ none))
       | inr some ↦ (
         some.0,
         some.1,
         elim (cases_lt (first + second) some.0) [
-          | inl lt ↦ absurd (some_none (NotClosed a b c) (sym (open_fault-longer w a b c first second some.0 e1 e2 some.1 lt) ∙ none))
+          | inl lt ↦ absurd (some-none (NotClosed a b c) (sym (open_fault-longer w a b c first second some.0 e1 e2 some.1 lt) ∙ none))
           | inr le ↦ le
         ],
       )
     ]
-  where
-    some_none : (f : ImageFault) → Some f ≡ None → ⊥
-    some_none f e = absurd cc
 
 first_secs : (w : List ℕ) (first second : ℕ) → HasFootRanges w → IsInto w (foot_from_of w second) first → secs_between w (foot_from_of w first) (foot_from_of w second) ≡ Some (foot_secs_of w first)
 first_secs w first second ranges into = secs_between-at w (foot_from_of w first) (foot_from_of w second) first (ranges (foot_from_of w second) into.stop) into.start into.end refl

@@ -1,7 +1,8 @@
 -- Words of a legal timetable and names within the limits have no fault.
-use Rattle.std.proofs.Common.{◌≡◌, ℕ, zero, suc, ◌+◌, ◌-◌, ◌<◌, ◌≤◌, Bool, true, false, not, ◌&&◌, eqb, ltb, List, Option, Some, None, refl, sym, ap, subst, ◌∙◌, arith, inl, inr}
+use Rattle.std.proofs.Common.{◌≡◌, ℕ, zero, suc, ◌+◌, ◌-◌, ◌<◌, ◌≤◌, true, false, not, ◌&&◌, eqb, ltb, List, Option, Some, None, refl, sym, ap, subst, ◌∙◌, arith, inl, inr}
 use Rattle.std.specs.Prelude.{slice_get}
-use Rattle.std.proofs.lemmas.Bool.{or_from, and_right, le-ltb, lt-leb, eq-eqb, eqb-true}
+use Rattle.std.proofs.lemmas.Bool.{or_from, and_right, le-ltb, lt-leb, eq-eqb, eqb-true, both_ways}
+use Rattle.reasoning.proofs.OptionLemmas.{option_cases}
 use Rattle.timetable.specs.declared.network.Connection.{Connection}
 use Rattle.timetable.specs.declared.network.Footpath.{Footpath}
 use Rattle.timetable.specs.Legal.{At, HasFootpath, IsJustBefore}
@@ -20,7 +21,7 @@ use Rattle.image_verifier.specs.ClosureFaults.{secs_between, open_fault, way_fau
 use Rattle.timetable.proofs.FirstLemmas.{or_else-none, passes, first_below-all, any_between-all, any_between-found, last_below-some}
 use Rattle.image_verifier.proofs.ConnectionLemmas.{IsSound}
 use Rattle.image_verifier.proofs.FootLemmas.{HasFootRange-from}
-use Rattle.image_verifier.proofs.ClosureLemmas.{option_cases, secs_between-at, secs_between-some, open_fault-closed, open_fault-no_first, open_fault-no_second}
+use Rattle.image_verifier.proofs.ClosureLemmas.{secs_between-at, secs_between-some, open_fault-closed, open_fault-no_first, open_fault-no_second}
 
 -- the shown connection of a place
 shown_at : (w : List ℕ) (i : ℕ) → i < (header_of w).connections → At (connections_of w) i (connection_of w i)
@@ -53,14 +54,10 @@ unbroken_from_legal w can i lt (Some j) e =
       before = l.below;
       same_trip = eqb-true _ _ l.stands;
       none_between = λ k d at low high same.
-          (let s = connection_shown w k d at in both_tests _ (l.last k low high) (eq-eqb _ _ (sym (ap (λ (x : Connection). x.trip) s.1) ∙ same)));
+          (let s = connection_shown w k d at in both_ways _ (l.last k low high) (eq-eqb _ _ (sym (ap (λ (x : Connection). x.trip) s.1) ∙ same)));
     } in
     let goes = can.legal.unbroken j i (connection_of w j) (connection_of w i) before in
     or_from _ _ (ap not (eq-eqb _ _ goes.0)) (le-ltb _ _ goes.1)
-  where
-    both_tests : (b : Bool) → b ≡ false → b ≡ true → ⊥
-    both_tests true e f = absurd cc
-    both_tests false e f = absurd cc
 
 sorted_from_legal : (w : List ℕ) → HasImage (timetable_of w) (names_of w) → (i : ℕ) → i < (header_of w).connections → (ltb 0 i && ltb (dep_of w i) (dep_of w (i - 1))) ≡ false
 sorted_from_legal w can zero lt = refl

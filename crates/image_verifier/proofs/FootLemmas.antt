@@ -1,6 +1,6 @@
 -- What the footpaths into a stop keep where they have no fault.
-use Rattle.std.proofs.Common.{◌≡◌, ℕ, ◌+◌, ◌-◌, ◌<◌, ◌≤◌, Bool, true, false, not, ◌||◌, List, None, refl, ap, arith}
-use Rattle.std.proofs.lemmas.Bool.{or_parts, leb-false, ltb-false}
+use Rattle.std.proofs.Common.{◌≡◌, ℕ, ◌+◌, ◌-◌, ◌<◌, ◌≤◌, true, false, not, ◌||◌, List, None, ap, arith}
+use Rattle.std.proofs.lemmas.Bool.{or_parts, leb-false, ltb-false, not-false}
 use Rattle.image_layout.specs.Places.{header_of}
 use Rattle.image_layout.specs.Fields.{foot_index_of, foot_from_of}
 use Rattle.image_verifier.specs.declared.fault.ImageFault.TheVariants.{FootRange, FootUnsorted, NoLoop}
@@ -14,10 +14,6 @@ pub record AreFootTests (w : List ℕ) (s : ℕ) : Type 0 where
   pub each : any_between (is_bad_footpath w) (foot_index_of w s) (foot_index_of w (s + 1)) ≡ false
   pub rising : any_between (is_fall w) (foot_index_of w s + 1) (foot_index_of w (s + 1)) ≡ false
   pub loop : any_between (is_from w s) (foot_index_of w s) (foot_index_of w (s + 1)) ≡ true
-
-not-false : (b : Bool) → not b ≡ false → b ≡ true
-not-false true e = refl
-not-false false e = absurd cc
 
 pub AreFootTests-from : (w : List ℕ) (s : ℕ) → foot_fault w s ≡ None → AreFootTests w s
 unfolding foot_fault

@@ -1,6 +1,6 @@
 -- The timetable that accepted words show is legal.
 use Rattle.std.proofs.Common.{◌≡◌, ℕ, zero, suc, ◌+◌, ◌-◌, ◌<◌, ◌≤◌, false, not, ◌&&◌, eqb, ltb, List, Option, Some, None, sym, ap, subst, ◌∙◌, arith, inl, inr}
-use Rattle.std.proofs.lemmas.Bool.{cases_order, or_parts, leb-false, ltb-false, lt-ltb, eqb-true, eq-eqb, ne_eqb}
+use Rattle.std.proofs.lemmas.Bool.{cases_order, or_parts, leb-false, ltb-false, lt-ltb, eqb-true, eq-eqb, ne_eqb, not-false}
 use Rattle.timetable.specs.declared.network.Connection.{Connection}
 use Rattle.timetable.specs.declared.network.Footpath.{Footpath}
 use Rattle.timetable.specs.Legal.{At, HasFootpath, IsJustBefore, IsOrderedBefore, IsLegal}
@@ -18,7 +18,7 @@ use Rattle.timetable.proofs.FirstLemmas.{no_fault, first_below-none, any_between
 use Rattle.image_verifier.proofs.ConnectionLemmas.{IsSound, IsSound-from}
 use Rattle.image_verifier.proofs.FootLemmas.{AreFootTests-from, HasFootRange-from}
 use Rattle.image_verifier.proofs.ClosureLemmas.{secs_between-at, secs_between-some, open_fault-none}
-use Rattle.image_verifier.proofs.AcceptedLemmas.{not-false, AreFaultless, IsFootIndex-from, own-none}
+use Rattle.image_verifier.proofs.AcceptedLemmas.{AreFaultless, IsFootIndex-from, own-none}
 
 pub sound_at : (w : List ℕ) → AreFaultless w → (i : ℕ) → i < (header_of w).connections → IsSound w i
 sound_at w good i lt = IsSound-from w i (own-none w i (good.connections i lt)).0

@@ -1,7 +1,7 @@
 -- A search that halves what is left reads as many departures as there are binary digits.
-use Rattle.std.proofs.Common.{◌≡◌, ℕ, zero, suc, ◌+◌, ◌*◌, ◌/◌, ◌^◌, ◌<◌, ◌≤◌, List, [], ◌∷◌, ◌++◌, ◌-◌, length, Contains, refl, sym, ap, ◌∙◌, subst, arith}
+use Rattle.std.proofs.Common.{◌≡◌, ℕ, zero, suc, ◌+◌, ◌*◌, ◌/◌, ◌^◌, ◌<◌, ◌≤◌, List, [], ◌∷◌, ◌++◌, ◌-◌, length, Contains, sym, ap, ◌∙◌, subst, arith}
 use Rattle.std.proofs.Math.Nat.{pow-suc}
-use Rattle.std.proofs.lemmas.List.Elements.{Contains-append_left, Contains-append_right}
+use Rattle.std.proofs.lemmas.List.Elements.{Contains-append_left, Contains-push}
 use Rattle.std.proofs.lemmas.List.{append_assoc, append-nil, length-append}
 use Rattle.std.proofs.lemmas.Option.{slice_get_within}
 use Rattle.timetable.specs.declared.network.Connection.{Connection}
@@ -47,9 +47,6 @@ spare_less number low high low2 high2 place before now h some half digits has =
 note_more : (place : ℕ) (before now read : List ℕ) → now ≡ before ++ read → now ++ place ∷ [] ≡ before ++ (read ++ place ∷ [])
 note_more place before now read noted = ap (λ (xs : List ℕ). xs ++ place ∷ []) noted ∙ append_assoc before read (place ∷ [])
 
-has_last : (place : ℕ) (read : List ℕ) → Contains (read ++ place ∷ []) place
-has_last place read = Contains-append_right read (place ∷ []) place (0, omega arith, refl)
-
 -- the search goes on above the place that was read
 pub goes_on_above : (number low high place : ℕ) (before now : List ℕ) → IsHalving number low high before now → low < high → high - (place + 1) ≤ (high - low) / 2 → IsHalving number (place + 1) high before (now ++ place ∷ [])
 goes_on_above number low high place before now h some half = record {
@@ -57,7 +54,7 @@ goes_on_above number low high place before now h some half = record {
   noted = note_more place before now h.read h.noted;
   spare = spare_less number low high (place + 1) high place before now h some half;
   has_high = λ lt. Contains-append_left h.read (place ∷ []) high (h.has_high lt);
-  has_low = λ lt. let back : place ≡ (place + 1) - 1 = omega arith in subst (λ (x : ℕ). Contains (h.read ++ place ∷ []) x) back (has_last place h.read);
+  has_low = λ lt. let back : place ≡ (place + 1) - 1 = omega arith in subst (λ (x : ℕ). Contains (h.read ++ place ∷ []) x) back (Contains-push h.read place);
 }
 
 -- .. or below it
@@ -66,7 +63,7 @@ goes_on_below number low high place before now h some half = record {
   read = h.read ++ place ∷ [];
   noted = note_more place before now h.read h.noted;
   spare = spare_less number low high low place place before now h some half;
-  has_high = λ lt. has_last place h.read;
+  has_high = λ lt. Contains-push h.read place;
   has_low = λ lt. Contains-append_left h.read (place ∷ []) (low - 1) (h.has_low lt);
 }
 

@@ -1,10 +1,9 @@
 -- A list that is made from places, one element after the other.
-use Rattle.std.proofs.Common.{◌≡◌, ℕ, zero, suc, ◌+◌, ◌-◌, ◌<◌, ◌≤◌, List, [], ◌∷◌, ◌++◌, length, take, map, refl, sym, ap, ◌∙◌, arith}
+use Rattle.std.proofs.Common.{◌≡◌, ℕ, zero, suc, ◌+◌, ◌-◌, ◌<◌, ◌≤◌, List, [], ◌∷◌, ◌++◌, length, take, map, sym, ap, ◌∙◌, arith}
 use Rattle.std.specs.List.{flat_map, range_with_len}
 use Rattle.std.proofs.lemmas.List.{append_assoc, append-nil, map-append, take_more}
 use Rattle.std.proofs.lemmas.List.FromFn.{map-range_with_len_more}
 use Rattle.std.proofs.lemmas.Option.{get_or_from_slice_get}
-use Rattle.timetable.specs.NamesValue.{TripNameValue}
 use Rattle.timetable.specs.Legal.{At}
 
 -- one more of those from place a on, behind others
@@ -46,10 +45,3 @@ next_taken {X} xs taken k x lt so_far at =
     ap (λ (ys : List X). ys ++ x ∷ []) so_far
     ∙ ap (λ (y : X). take k xs ++ y ∷ []) (sym (get_or_from_slice_get xs k x x at))
     ∙ sym (take_more xs k x lt)
-
-abbrev label : List ℕ → ℕ → ℕ → TripNameValue
-label name day repeat = record { name = name; day = day; repeat = repeat }
-
--- a trip's name of equal parts
-pub label_is : (name : List ℕ) (day repeat : ℕ) (t : TripNameValue) → name ≡ t.name → day ≡ t.day → repeat ≡ t.repeat → label name day repeat ≡ t
-label_is name day repeat t e f g = rw (e, f, g) refl

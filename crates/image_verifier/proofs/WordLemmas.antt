@@ -1,11 +1,11 @@
 -- Every word of an image fits 32 bits.
-use Rattle.std.proofs.Common.{ℕ, zero, suc, ◌+◌, ◌/◌, ◌%◌, ◌^◌, ◌<◌, ◌≤◌, Bool, true, false, cond, eqb, List, [], ◌∷◌, length, take, map, refl, arith, inl, inr}
+use Rattle.std.proofs.Common.{ℕ, suc, ◌+◌, ◌/◌, ◌%◌, ◌^◌, ◌<◌, Bool, true, false, cond, eqb, List, [], ◌∷◌, length, map, refl, arith, inl, inr}
 use Rattle.std.specs.Prelude.{FitsSigned, ℤ, All, nat_lt, slice_index}
-use Rattle.std.specs.List.{flat_map, concat, range_with_len}
+use Rattle.std.specs.List.{flat_map, range_with_len}
 use Rattle.std.specs.Int.{w32, w64, from_le_bytes, cast_unsigned}
 use Rattle.std.proofs.lemmas.Bool.{cases_Bool, cases_lt}
 use Rattle.std.proofs.Math.Facts.{Fits-of_z}
-use Rattle.std.proofs.lemmas.List.{length-append, get_or_past}
+use Rattle.std.proofs.lemmas.List.{get_or_past}
 use Rattle.std.proofs.lemmas.List.Sums.{count_by-le-length}
 use Rattle.std.proofs.lemmas.List.Elements.{All-nil, All-cons, All-append, All-get_or}
 use Rattle.timetable.specs.declared.network.Connection.{Connection}
@@ -17,6 +17,7 @@ use Rattle.image_layout.specs.declared.layout.TheConstants.{LAYOUT}
 use Rattle.image_layout.specs.Spelling.{connection_words, footpath_words, footpath_count_below, name_list, byte_count_before, text, text_words, header, repeats_in, image_in}
 use Rattle.image_layout.specs.Image.{HasImage}
 use Rattle.image_layout.proofs.Bytes.{concat_are_bytes}
+use Rattle.image_layout.proofs.Whole.{count_within}
 
 abbrev IsWord : ℕ → Type 0
 IsWord x = x < 4294967296
@@ -38,12 +39,6 @@ all_flat f (x ∷ xs) each = All-append IsWord (f x) (flat_map f xs) (each 0 x r
 all_mapped : {X : Type 0} (f : X → ℕ) (xs : List X) → ((i : ℕ) (x : X) → At xs i x → IsWord (f x)) → All IsWord (map f xs)
 all_mapped f [] each = All-nil IsWord
 all_mapped f (x ∷ xs) each = All-cons IsWord (f x) (map f xs) (each 0 x refl) (all_mapped f xs (λ i y at. each (suc i) y at))
-
-before_within : (ns : List (List ℕ)) (i : ℕ) → byte_count_before ns i ≤ length (concat ns)
-before_within [] zero = omega arith
-before_within [] (suc i) = omega arith
-before_within (x ∷ xs) zero = omega arith
-before_within (x ∷ xs) (suc i) = omega (arith, length-append x (concat (take i xs)), length-append x (concat xs), before_within xs i)
 
 flags_small : (a b : Bool) → cond {A = ℕ} a 1 0 + cond {A = ℕ} b 2 0 < 4294967296
 flags_small true true = omega arith
@@ -101,7 +96,7 @@ image_fits layout p n fits can =
     (All-append IsWord _ _ (all_flat connection_words p.connections (connection_fits p n can))
     (All-append IsWord _ _ (all_mapped (footpath_count_below p.footpaths) (range_with_len 0 (p.stops + 1)) (λ i s at. omega (arith, count_by-le-length (λ (f : Footpath). nat_lt f.to s) p.footpaths, can.limits.footpaths)))
     (All-append IsWord _ _ (all_flat footpath_words p.footpaths (footpath_fits p n can))
-    (All-append IsWord _ _ (all_mapped (byte_count_before (name_list n)) (range_with_len 0 (length (name_list n) + 1)) (λ i k at. omega (arith, before_within (name_list n) k, can.names.bytes)))
+    (All-append IsWord _ _ (all_mapped (byte_count_before (name_list n)) (range_with_len 0 (length (name_list n) + 1)) (λ i k at. omega (arith, count_within (name_list n) k, can.names.bytes)))
     (All-append IsWord _ _ (all_mapped (λ (t : TripNameValue). t.day) n.trips can.names.days)
     (All-append IsWord _ _ (all_repeats layout p n can)
     (all_text (text n) (concat_are_bytes (name_list n) can.names.utf8))))))))

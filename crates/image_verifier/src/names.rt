@@ -34,7 +34,7 @@ fn is_bad_name_range(words: &[u32], name: usize) -> bool
     name == 0 && name_index_at(words, 0) != 0 || end < start || end > Header::of(words).name_bytes
 }
 
-#[tactic(auto, unfolding(crate::specs::NameFaults::name_fault), using(crate::proofs::NameLemmas::text_is_long))]
+#[tactic(auto, unfolding(crate::specs::NameFaults::name_fault), using(image_layout::proofs::Whole::text_is_long))]
 fn name_fault(words: &[u32], text: &[u8], name: usize) -> Option<ImageFault>
     requires whole { IsWhole words.now }
     requires text { text.now ≡ padded_text_of words.now }
@@ -52,7 +52,7 @@ fn name_fault(words: &[u32], text: &[u8], name: usize) -> Option<ImageFault>
     None
 }
 
-#[tactic(auto, unfolding(crate::specs::NameFaults::names_end_fault), using(crate::proofs::NameLemmas::text_is_long))]
+#[tactic(auto, unfolding(crate::specs::NameFaults::names_end_fault), using(image_layout::proofs::Whole::text_is_long))]
 fn names_end_fault(words: &[u32], text: &[u8]) -> Option<ImageFault>
     requires whole { IsWhole words.now }
     requires text { text.now ≡ padded_text_of words.now }

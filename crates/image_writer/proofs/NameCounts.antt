@@ -1,5 +1,5 @@
 -- The bytes of names, one name after the other.
-use Rattle.std.proofs.Common.{◌≡◌, ℕ, zero, suc, ◌+◌, ◌≤◌, List, [], ◌∷◌, ◌++◌, length, take, map, sym, ap, ◌∙◌, arith}
+use Rattle.std.proofs.Common.{◌≡◌, ℕ, zero, suc, ◌+◌, List, [], ◌∷◌, ◌++◌, length, take, map, sym, ap, ◌∙◌, arith}
 use Rattle.std.specs.List.{concat, range_with_len}
 use Rattle.std.proofs.lemmas.List.{append-nil, append_assoc, length-append, take_all}
 use Rattle.std.proofs.lemmas.List.FromFn.{map-range_with_len_more}
@@ -19,13 +19,6 @@ text_next (x ∷ xs) (suc i) name at =
 
 pub count_next : (ns : List (List ℕ)) (i : ℕ) (name : List ℕ) → At ns i name → byte_count_before ns (i + 1) ≡ byte_count_before ns i + length name
 count_next ns i name at = ap length (text_next ns i name at) ∙ length-append (concat (take i ns)) name
-
--- no more bytes stand before a name than there are
-pub count_within : (ns : List (List ℕ)) (i : ℕ) → byte_count_before ns i ≤ length (concat ns)
-count_within [] zero = omega arith
-count_within [] (suc i) = omega arith
-count_within (x ∷ xs) zero = omega arith
-count_within (x ∷ xs) (suc i) = omega (arith, count_within xs i, length-append x (concat (take i xs)), length-append x (concat xs))
 
 pub text_whole : (ns : List (List ℕ)) → concat (take (length ns) ns) ≡ concat ns
 text_whole ns = ap concat (take_all (length ns) ns (omega arith))

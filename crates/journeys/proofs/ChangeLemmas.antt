@@ -3,8 +3,8 @@ use Rattle.std.proofs.Common.{◌≡◌, ◌≢◌, ℕ, suc, ◌+◌, ◌-◌, 
 use Rattle.std.proofs.Common.{refl, sym, ap, subst, ◌∙◌, arith, inl, inr}
 use Rattle.std.specs.List.{list_all}
 use Rattle.std.proofs.lemmas.Bool.{cases_Bool, or_parts, or_from, and_parts, ltb-false, ltb-true, lt-ltb, le-ltb, eq-eqb, eqb-true, eqb-false, ne_eqb}
-use Rattle.std.proofs.lemmas.Bool.{not-false, cond-true, cond-false}
-use Rattle.reasoning.proofs.BoolLemmas.{and-both}
+use Rattle.std.proofs.lemmas.Bool.{not-false, cond-true, cond-false, and_from}
+use Rattle.std.proofs.lemmas.List.{nil_from_length}
 use Rattle.reasoning.proofs.FirstLemmas.{no_fault, first_between-none, first_between-all, passes}
 use Rattle.timetable.specs.declared.network.Footpath.{Footpath}
 use Rattle.timetable.specs.TimetableValue.{TimetableValue}
@@ -35,10 +35,6 @@ led_there (Some stop) goal e = ap Some (eqb-true stop goal (not-false _ e))
 led_somewhere : (o : Option ℕ) → is_nowhere o ≡ false → (stop : ℕ) × (o ≡ Some stop)
 led_somewhere None e = absurd cc
 led_somewhere (Some stop) e = (stop, refl)
-
-no_length : {X : Type 0} (xs : List X) → length xs ≡ 0 → xs ≡ []
-no_length [] e = refl
-no_length (x ∷ xs) e = absurd (omega (arith, e))
 
 module _ (t : TimetableValue) (rides : List RideValue) (i : ℕ) where
   -- where a ride comes next
@@ -94,7 +90,7 @@ module _ (t : TimetableValue) (rides : List RideValue) (i : ℕ) where
       let joined : is_broken t rides i ≡ false =
       elim (cases_Bool (ltb (i + 1) (length rides))) [
         | inl more ↦ (let change = ride.changes (omega (arith, ltb-true _ _ more)) in broken_change (ltb-true _ _ more)
-            ∙ or_from _ _ (ne_eqb _ _ (λ e. change.some (no_length _ e)))
+            ∙ or_from _ _ (ne_eqb _ _ (λ e. change.some (nil_from_length _ e)))
             (ap (λ (o : Option ℕ). is_elsewhere o (leg_stop t rides (i + 1))) goes ∙ ap not (eq-eqb _ _ (change.joins ∙ ap (leg_stop t rides) (sym next)))))
         | inr last ↦ broken_last (ltb-false _ _ last) ∙ ap is_nowhere goes
       ] in
@@ -135,7 +131,7 @@ pub start_fault-none : (t : TimetableValue) (start : Option Footpath) (stop sour
     → start_fault t start stop ≡ None
 start_fault-none t None stop source is at = refl
 start_fault-none t (Some f) stop source is at =
-    walk_fault-none t 0 (f ∷ []) (eqb f.from f.to || not (eqb f.to stop)) (and-both _ _ (has_footpath-Contains t f is.0) refl)
+    walk_fault-none t 0 (f ∷ []) (eqb f.from f.to || not (eqb f.to stop)) (and_from _ _ (has_footpath-Contains t f is.0) refl)
     (or_from _ _ (ne_eqb _ _ (λ loop. is.2 (sym loop ∙ is.1))) (ap not (eq-eqb _ _ (sym at))))
 
 pub begin_of-start : (t : TimetableValue) (start : Option Footpath) (stop source : ℕ) → IsStart t source start → stop ≡ start_end source start

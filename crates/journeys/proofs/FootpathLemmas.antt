@@ -1,9 +1,8 @@
 -- What the test for a footpath says, and footpaths into a stop by the stop that they leave.
 use Rattle.std.proofs.Common.{◌≡◌, ℕ, ◌+◌, ◌<◌, ◌≤◌, true, false, List, slice_get, Some, Contains, ◌↔◌, true≢false, refl, sym, ap, subst, ◌∙◌, arith, inl, inr}
-use Rattle.std.proofs.lemmas.Bool.{cases_eq, cases_order, cases_Bool, and_parts, eqb-true, eq-eqb}
+use Rattle.std.proofs.lemmas.Bool.{cases_eq, cases_order, cases_Bool, and_parts, eqb-true, eq-eqb, and_from}
 use Rattle.std.proofs.lemmas.Option.{slice_get_within, get_or_from_slice_get, same_Some}
 use Rattle.std.proofs.lemmas.List.Folds.{Any-from_list_any, list_any_at}
-use Rattle.reasoning.proofs.BoolLemmas.{and-both}
 use Rattle.reasoning.proofs.ListLemmas.{at_contains}
 use Rattle.timetable.specs.declared.network.Footpath.{Footpath}
 use Rattle.timetable.specs.TimetableValue.{TimetableValue}
@@ -12,7 +11,7 @@ use Rattle.timetable.specs.LegalProp.{in_order_later}
 use Rattle.journeys.specs.Faults.{is_same, has_footpath}
 
 is_same-refl : (f : Footpath) → is_same f f ≡ true
-is_same-refl f = and-both _ _ (eq-eqb f.from f.from refl) (and-both _ _ (eq-eqb f.to f.to refl) (eq-eqb f.secs f.secs refl))
+is_same-refl f = and_from _ _ (eq-eqb f.from f.from refl) (and_from _ _ (eq-eqb f.to f.to refl) (eq-eqb f.secs f.secs refl))
 
 is_same-eq : (f g : Footpath) → is_same f g ≡ true → f ≡ g
 is_same-eq f g e =

@@ -1,6 +1,7 @@
 -- Legs without fault.
-use Rattle.std.proofs.Common.{◌≡◌, ◌≢◌, ℕ, ◌<◌, Bool, false, not, ◌||◌, eqb, leb, ltb, cond, List, length, Some, None, refl, sym, ap, ◌∙◌, arith}
+use Rattle.std.proofs.Common.{◌≡◌, ◌≢◌, ℕ, ◌<◌, not, ◌||◌, eqb, leb, ltb, List, length, Some, None, refl, sym, ap, ◌∙◌, arith}
 use Rattle.std.proofs.lemmas.Bool.{or_parts, or_from, leb-false, ltb-false, le-ltb, lt-leb, eq-eqb, eqb-true, ne_eqb, eqb-false, not-false}
+use Rattle.std.proofs.lemmas.Bool.{cond-false}
 use Rattle.reasoning.specs.First.{first_below}
 use Rattle.reasoning.proofs.FirstLemmas.{no_fault, first_below-none, first_below-all, passes}
 use Rattle.timetable.specs.declared.journey.Leg.{Leg}
@@ -34,14 +35,10 @@ leg_fault-none t i leg is =
     (passes _ (NoBoarding i) _ (ap not is.boards)
     (passes _ (NoAlighting i) None (ap not is.alights) refl)))
 
--- behind a test that doesn't stand comes the rest
-pub passed : {X : Type 0} (b : Bool) (x y : X) → b ≡ false → cond b x y ≡ y
-passed b x y e = rw e refl
-
 pub legs_fault-first : (t : TimetableValue) (rides : List RideValue) → length rides ≢ 0
     → legs_fault t rides ≡ first_below (λ i. leg_fault t i (ride_at rides i).leg) (length rides)
 unfolding legs_fault
-legs_fault-first t rides some = passed (eqb (length rides) 0) (Some (LegRange 0)) _ (ne_eqb _ _ some)
+legs_fault-first t rides some = cond-false (eqb (length rides) 0) (Some (LegRange 0)) _ (ne_eqb _ _ some)
 
 -- legs without fault: there is one at least, and each is a leg
 pub some_legs : (t : TimetableValue) (rides : List RideValue) → legs_fault t rides ≡ None → 0 < length rides

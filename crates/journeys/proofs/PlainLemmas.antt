@@ -105,7 +105,7 @@ clock_is_plain time =
     (behind 58 (two_digits (time % 60)) is_colon (two_are_plain (time % 60)))
 
 -- plain bytes are characters of one byte
-plain_is_small : (b : ℕ) → IsPlainByte b → b < 128
+pub plain_is_small : (b : ℕ) → IsPlainByte b → b < 128
 plain_is_small b (inl space) = omega (arith, space)
 plain_is_small b (inr (inl digit)) = omega (arith, digit.1)
 plain_is_small b (inr (inr letter)) = omega (arith, letter.1)

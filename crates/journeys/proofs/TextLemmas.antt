@@ -8,12 +8,13 @@ use Rattle.std.specs.Char.{is_ascii_digit}
 use Rattle.std.specs.Str.{all_ascii_digits}
 use Rattle.std.specs.List.{list_all, prefix_len, flat_map, AllByRecursion}
 use Rattle.std.proofs.Math.Seq.{take-append_seam, drop-append_seam}
-use Rattle.std.proofs.lemmas.List.{take-append-drop, length-append}
+use Rattle.std.proofs.lemmas.List.{take-append-drop, length-append, nil_from_length}
 use Rattle.std.proofs.lemmas.List.Folds.{prefix_len-append}
 use Rattle.std.proofs.lemmas.Bool.{cases_Bool, cases_eq, eq-eqb, ne_eqb, eqb-true, cond-true, cond-false, ltb-true, and_parts, and_right}
 use Rattle.std.proofs.lemmas.Option.{same_Some, cond_some}
 use Rattle.std.proofs.lemmas.Str.Parse.{IsNumeralModel, numerals_by_fold}
 use Rattle.std.proofs.lemmas.Fmt.{digits_decimal, digits_value-decimal, decimal-digits_value, decimal_nonempty, first_decimal, decimal_digit}
+use Rattle.reasoning.proofs.OptionLemmas.{some_where}
 use Rattle.timetable.specs.declared.network.Footpath.{Footpath}
 use Rattle.timetable.specs.declared.journey.Leg.{Leg}
 use Rattle.timetable.specs.JourneyValue.{RideValue, JourneyValue}
@@ -128,10 +129,6 @@ number_at-takes bytes n rest e =
       omega (arith, number.small, same),
     )
 
-when_true : {X : Type 0} (b : Bool) (o : Option X) (x : X) → cond b o None ≡ Some x → (b ≡ true) × (o ≡ Some x)
-when_true true o x e = (refl, e)
-when_true false o x e = absurd cc
-
 field_at-again : (n : ℕ) (rest : List ℕ) → n < 2 ^ 32 → NoDigit rest → field_at (number_text n ++ rest) ≡ Some (n, rest)
 unfolding field_at
 field_at-again n rest small none = number_at-again n rest small none
@@ -140,7 +137,7 @@ field_at-takes : (bytes : List ℕ) (n : ℕ) (rest : List ℕ) → field_at byt
 unfolding field_at
 field_at-takes [] n rest e = absurd cc
 field_at-takes (b ∷ bytes) n rest e =
-    let parts = when_true (eqb b 32) (number_at bytes) (n, rest) e in
+    let parts = some_where (eqb b 32) (number_at bytes) (n, rest) e in
     let space : b ≡ 32 = eqb-true b 32 parts.0 in
     let number = number_at-takes bytes n rest parts.1 in
     (λ i. space i ∷ number.0 i, number.1)
@@ -330,10 +327,6 @@ when_not : {X : Type 0} (b : Bool) (x y : Option X) (z : X) → cond b x y ≡ S
 when_not true x y z e = inl (refl, e)
 when_not false x y z e = inr (refl, e)
 
-no_length : (xs : List ℕ) → length xs ≡ 0 → xs ≡ []
-no_length [] e = refl
-no_length (x ∷ xs) e = absurd (omega (arith, e))
-
 rides_at-takes : (n : ℕ) (bytes : List ℕ) (rides : List RideValue) → rides_at n bytes ≡ Some rides → AreRidesOf bytes rides
 unfolding rides_at
 rides_at-takes zero bytes rides e = absurd cc
@@ -343,7 +336,7 @@ rides_at-takes (suc n) bytes rides e =
     let one = ride_at-takes bytes a.0 a.1 in
     elim (when_not (eqb (length a.0.1) 0) (Some (a.0.0 ∷ []))
     (after (codes " ride") a.0.1 >>= λ rest. rides_at n rest >>= λ rides. Some (a.0.0 ∷ rides)) rides a.2) [
-      | inl last ↦ (let none = no_length a.0.1 (eqb-true (length a.0.1) 0 last.0) in
+      | inl last ↦ (let none = nil_from_length a.0.1 (eqb-true (length a.0.1) 0 last.0) in
           (a.0.0, [], sym (same_Some _ _ last.1), one.0 ∙ ap (λ (xs : List ℕ). body_text a.0.0 ++ xs) none, (one.1, tt)))
       | inr more ↦
           let b = bind_some (after (codes " ride") a.0.1) (λ rest. rides_at n rest >>= λ rides. Some (a.0.0 ∷ rides)) rides more.1 in

@@ -1,11 +1,11 @@
 -- Walks, a footpath on.
-use Rattle.std.proofs.Common.{◌≡◌, ℕ, ◌+◌, ◌<◌, ◌≤◌, suc, zero, Bool, true, false, cond, eqb, List, [], ◌∷◌, length, get_or, drop, Option, Some, None}
+use Rattle.std.proofs.Common.{◌≡◌, ℕ, ◌+◌, ◌<◌, ◌≤◌, suc, zero, true, eqb, List, [], ◌∷◌, length, get_or, drop, Some}
 use Rattle.std.proofs.Common.{refl, ap, arith, add-one}
 use Rattle.std.specs.List.{list_all}
-use Rattle.std.proofs.lemmas.Bool.{and_parts, eqb-true, eq-eqb}
+use Rattle.std.proofs.lemmas.Bool.{and_parts, eqb-true, eq-eqb, and_from}
 use Rattle.std.proofs.lemmas.Option.{same_Some}
 use Rattle.std.proofs.Math.Seq.{drop-cons}
-use Rattle.reasoning.proofs.BoolLemmas.{and-both}
+use Rattle.reasoning.proofs.OptionLemmas.{some_where}
 use Rattle.timetable.specs.declared.network.Footpath.{Footpath}
 use Rattle.timetable.specs.TimetableValue.{TimetableValue}
 use Rattle.timetable.specs.Journeys.{IsWalk, walk_end, walk_secs}
@@ -32,13 +32,9 @@ pub IsWalk-from : (t : TimetableValue) (walk : List Footpath) (stop end : ℕ) �
 IsWalk-from t [] stop end known led = (tt, same_Some stop end led)
 IsWalk-from t (f ∷ walk) stop end known led =
     let parts = and_parts _ _ known in
-    let joined = when_chosen (eqb f.from stop) (led_to f.to walk) end led in
+    let joined = some_where (eqb f.from stop) (led_to f.to walk) end led in
     let rest = IsWalk-from t walk f.to end parts.1 joined.1 in
     ((Contains-has_footpath t f parts.0, eqb-true f.from stop joined.0, rest.0), rest.1)
-  where
-    when_chosen : (b : Bool) (o : Option ℕ) (x : ℕ) → cond b o None ≡ Some x → (b ≡ true) × (o ≡ Some x)
-    when_chosen true o x e = (refl, e)
-    when_chosen false o x e = absurd cc
 
 -- and the reverse
 pub led_to-IsWalk : (t : TimetableValue) (walk : List Footpath) (stop : ℕ) → IsWalk t stop walk → led_to stop walk ≡ Some (walk_end stop walk)
@@ -47,4 +43,4 @@ led_to-IsWalk t (f ∷ walk) stop is = rw (eq-eqb f.from stop is.1) (led_to-IsWa
 
 pub known-IsWalk : (t : TimetableValue) (walk : List Footpath) (stop : ℕ) → IsWalk t stop walk → list_all (has_footpath t) walk ≡ true
 known-IsWalk t [] stop is = refl
-known-IsWalk t (f ∷ walk) stop is = and-both _ _ (has_footpath-Contains t f is.0) (known-IsWalk t walk f.to is.2)
+known-IsWalk t (f ∷ walk) stop is = and_from _ _ (has_footpath-Contains t f is.0) (known-IsWalk t walk f.to is.2)

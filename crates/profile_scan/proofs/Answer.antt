@@ -1,8 +1,9 @@
 -- Undominated points that match at the window's start are the answer, and there is one answer only.
-use Rattle.std.proofs.Common.{◌≡◌, ◌⊎◌, ℕ, zero, suc, ◌≤◌, List, [], ◌∷◌, Contains, AllPairs, get_or, map, arith, refl, sym, ◌∙◌, ap, subst, inl, inr, nat_le}
+use Rattle.std.proofs.Common.{◌≡◌, ℕ, zero, suc, ◌≤◌, List, [], ◌∷◌, Contains, AllPairs, get_or, map, arith, refl, sym, ◌∙◌, ap, subst, inl, inr, nat_le}
 use Rattle.std.specs.declared.cmp.Ordering.TheVariants.{Less}
 use Rattle.std.proofs.lemmas.Bool.{cases_order, and_from, le-leb}
 use Rattle.std.proofs.lemmas.List.{get_or_default}
+use Rattle.reasoning.proofs.ListLemmas.{contains_rest, contains_cases}
 use Rattle.criteria.specs.Laws.{Rules, Laws, Admits, NoWorse}
 use Rattle.bags.specs.Dominance.{Dominates, Apart, IsBag}
 use Rattle.bags.specs.declared.point.Point.{Point}
@@ -76,14 +77,6 @@ module _ {V : Type 0} (rules : Rules V) (laws : Laws rules) (t : TimetableValue)
 pub match_is_the_answer : {V : Type 0} (rules : Rules V) → Laws rules → MatchIsTheAnswer rules
 match_is_the_answer rules laws t q can start is_start tags found matches bag ordered = found_is_answer rules laws t q can start is_start tags found matches bag ordered
 
--- an element is the first or stands after it
-head_or_later : {X : Type 0} (x : X) (xs : List X) (y : X) → Contains (x ∷ xs) y → (x ≡ y) ⊎ Contains xs y
-head_or_later x xs y (zero, lt, is) = inl is
-head_or_later x xs y (suc k, lt, is) = inr (k, omega arith, is)
-
-later_is_in : {X : Type 0} (x : X) (xs : List X) (y : X) → Contains xs y → Contains (x ∷ xs) y
-later_is_in x xs y is = (suc is.0, omega (arith, is.1), is.2)
-
 -- the first stands before each later one
 head_is_before : {X : Type 0} (R : X → X → Type 0) (x : X) (xs : List X) (y : X) → AllPairs R (x ∷ xs) → Contains xs y → R x y
 head_is_before R x xs y all is = subst (R x) is.2 (all zero (suc is.0) y (omega arith) (omega (arith, is.1)))
@@ -124,9 +117,9 @@ module _ {V : Type 0} (rules : Rules V) (laws : Laws rules) where
   heads_alike x xs y ys a_in_order b_in_order x_admits y_admits into back =
       let there = into x (zero, omega arith, refl) in
       let here = back y (zero, omega arith, refl) in
-      elim (head_or_later y ys there.0 there.1) [
+      elim (contains_cases there.0 y ys there.1) [
         | inl e ↦ (sym there.2 ∙ ap (λ (p : Point V). p.departure) (sym e), sym there.3 ∙ ap (λ (p : Point V). p.value) (sym e))
-        | inr later ↦ elim (head_or_later x xs here.0 here.1) [
+        | inr later ↦ elim (contains_cases here.0 x xs here.1) [
           | inl f ↦ (ap (λ (p : Point V). p.departure) f ∙ here.2, ap (λ (p : Point V). p.value) f ∙ here.3)
           | inr after ↦
               let y_before : Before rules y x = like_before y x there.0 there.2 there.3 (head_is_before (Before rules) y ys there.0 b_in_order later) in
@@ -138,8 +131,8 @@ module _ {V : Type 0} (rules : Rules V) (laws : Laws rules) where
   -- .. and the later ones of the one are among the later ones of the other
   tails_alike : (x : Point V) (xs : List (Point V)) (y : Point V) (ys : List (Point V)) → AllPairs (Before rules) (x ∷ xs) → Admits rules x.value → x.departure ≡ y.departure → x.value ≡ y.value → ListsAll (x ∷ xs) (y ∷ ys) → ListsAll xs ys
   tails_alike x xs y ys in_order x_admits departs worth into p is =
-      let there = into p (later_is_in x xs p is) in
-      elim (head_or_later y ys there.0 there.1) [
+      let there = into p (contains_rest p x xs is) in
+      elim (contains_cases there.0 y ys there.1) [
         | inl e ↦ absurd (not_before_itself x p x_admits (departs ∙ ap (λ (r : Point V). r.departure) e ∙ there.2) (worth ∙ ap (λ (r : Point V). r.value) e ∙ there.3) (head_is_before (Before rules) x xs p in_order is))
         | inr later ↦ (there.0, later, there.2, there.3)
       ]
@@ -152,7 +145,7 @@ module _ {V : Type 0} (rules : Rules V) (laws : Laws rules) where
       let x_admits = a_admitted x (zero, omega arith, refl) in
       let y_admits = b_admitted y (zero, omega arith, refl) in
       let alike = heads_alike x xs y ys a_in_order b_in_order x_admits y_admits into back in
-      let rest = same_untagged xs ys (tail_pairs (Before rules) x xs a_in_order) (tail_pairs (Before rules) y ys b_in_order) (λ p is. a_admitted p (later_is_in x xs p is)) (λ p is. b_admitted p (later_is_in y ys p is)) (tails_alike x xs y ys a_in_order x_admits alike.0 alike.1 into) (tails_alike y ys x xs b_in_order y_admits (sym alike.0) (sym alike.1) back) in
+      let rest = same_untagged xs ys (tail_pairs (Before rules) x xs a_in_order) (tail_pairs (Before rules) y ys b_in_order) (λ p is. a_admitted p (contains_rest p x xs is)) (λ p is. b_admitted p (contains_rest p y ys is)) (tails_alike x xs y ys a_in_order x_admits alike.0 alike.1 into) (tails_alike y ys x xs b_in_order y_admits (sym alike.0) (sym alike.1) back) in
       λ i. (alike.0 i, alike.1 i) ∷ rest i
 
 pub one_answer : {V : Type 0} (rules : Rules V) → Laws rules → OneAnswer rules

@@ -1,35 +1,28 @@
 -- What a bound leaves of points, and that the rest is outdone.
-use Rattle.std.proofs.Common.{◌≡◌, ◌⊎◌, ℕ, ◌+◌, ◌<◌, ◌≤◌, Bool, true, false, not, List, [], Contains, length, inl, inr, refl, sym, ◌∙◌, ap, subst, arith}
+use Rattle.std.proofs.Common.{◌≡◌, ◌⊎◌, ℕ, ◌+◌, ◌<◌, ◌≤◌, Bool, true, false, not, List, [], Contains, length, inl, inr, sym, ◌∙◌, ap, subst, arith}
 use Rattle.std.specs.List.{list_any}
-use Rattle.std.proofs.lemmas.Bool.{cases_Bool, true≢false}
+use Rattle.std.proofs.lemmas.Bool.{cases_Bool, true≢false, not-true, not_from_false}
 use Rattle.std.proofs.lemmas.List.Folds.{list_any_at}
+use Rattle.reasoning.proofs.ListLemmas.{from_filter, into_filter, one_passes}
 use Rattle.criteria.specs.Laws.{Rules, Laws, Admits, NoWorse, RidingWorsens}
 use Rattle.bags.specs.declared.point.Point.{Point}
 use Rattle.timetable.specs.TimetableValue.{TimetableValue}
 use Rattle.timetable.specs.Legal.{IsLegal}
 use Rattle.timetable.specs.Journeys.{connection_at}
 use Rattle.timetable.proofs.LegalFacts.{departures_rise}
-use Rattle.fronts.proofs.Filters.{from_filter, into_filter, one_passes}
 use Rattle.profile_scan.specs.Steps.{AreCarried}
 use Rattle.profile_scan.specs.Bound.{is_bettered, carried, AreBounds, IsLateValue}
 use Rattle.profile_scan.proofs.Admitted.{AreAdmitted}
 use Rattle.profile_scan.proofs.Outdone.{KeepsCovers, outdone_worse, outdone_on}
 
-not_false : (b : Bool) → not b ≡ true → b ≡ false
-not_false true h = absurd (true≢false (sym h))
-not_false false h = refl
-
-false_not : (b : Bool) → b ≡ false → not b ≡ true
-false_not b h = ap not h
-
 module _ {V : Type 0} (rules : Rules V) (values : List V) where
   pub from_carried : (points : List (Point V)) (p : Point V) → Contains (carried rules values points) p → Contains points p × (is_bettered rules values (rules.ride p.value) ≡ false)
   from_carried points p h =
       let f = from_filter (λ (x : Point V). not (is_bettered rules values (rules.ride x.value))) points p h in
-      (f.0, not_false (is_bettered rules values (rules.ride p.value)) f.1)
+      (f.0, not-true (is_bettered rules values (rules.ride p.value)) f.1)
 
   pub into_carried : (points : List (Point V)) (p : Point V) → Contains points p → is_bettered rules values (rules.ride p.value) ≡ false → Contains (carried rules values points) p
-  into_carried points p h free = into_filter (λ (x : Point V). not (is_bettered rules values (rules.ride x.value))) points p h (false_not (is_bettered rules values (rules.ride p.value)) free)
+  into_carried points p h free = into_filter (λ (x : Point V). not (is_bettered rules values (rules.ride x.value))) points p h (not_from_false (is_bettered rules values (rules.ride p.value)) free)
 
   pub some_betters : (v : V) → is_bettered rules values v ≡ true → (b : V) × Contains values b × NoWorse rules b v
   some_betters v h = one_passes (λ b. rules.no_worse b v) values h

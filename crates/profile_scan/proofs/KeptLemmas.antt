@@ -2,6 +2,7 @@
 use Rattle.std.proofs.Common.{◌≡◌, ◌≢◌, ℕ, zero, suc, ◌+◌, ◌<◌, ◌≤◌, List, [], ◌∷◌, ◌++◌, length, get_or, set, replicate, slice_index, get_or-set_same, get_or-set_other, length-set, inl, inr, refl, sym, ◌∙◌, ap, subst, arith}
 use Rattle.std.proofs.lemmas.Bool.{cases_eq}
 use Rattle.std.proofs.lemmas.List.{length-replicate}
+use Rattle.reasoning.proofs.ListLemmas.{slice_index-replicate}
 use Rattle.bags.specs.Bag.{points_of}
 use Rattle.bags.specs.declared.bag.Bag.{Bag}
 use Rattle.profile_scan.specs.Kept.{bag_points, labels_in, labels_at, used, ArePlaced}
@@ -34,11 +35,6 @@ module _ where
   none_used zero = refl
   none_used (suc n) = let rest = none_used n in omega arith
 
-  no_slot : (n k : ℕ) → slice_index (replicate n 0) k ≡ 0
-  no_slot zero k = refl
-  no_slot (suc n) zero = refl
-  no_slot (suc n) (suc k) = no_slot n k
-
   used-le : (slots : List ℕ) → used slots ≤ length slots
   unfolding used
   used-le [] = omega arith
@@ -61,8 +57,8 @@ none_placed slots n count few e none =
     subst (λ (xs : List ℕ). ArePlaced xs count) (sym e) (record {
       few = let long : length (replicate {A = ℕ} n 0) ≡ n = length-replicate {A = ℕ} n 0 in omega arith;
       counted = none ∙ sym (none_used n);
-      within = λ trip. let z = no_slot n trip in omega arith;
-      apart = λ a b same some. absurd (some (no_slot n a));
+      within = λ trip. let z = slice_index-replicate n trip in omega arith;
+      apart = λ a b same some. absurd (some (slice_index-replicate n a));
     })
 
 -- there is a number for one trip more

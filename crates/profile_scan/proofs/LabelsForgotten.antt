@@ -1,5 +1,6 @@
 -- A timetable of one trip over two connections: a step that forgets the trip's labels is refuted on it.
 use Rattle.std.proofs.Common.{◌≡◌, ◌≢◌, ℕ, zero, suc, ◌+◌, ◌<◌, ◌≤◌, [], ◌∷◌, Some, None, arith, refl, sym, subst, inl, inr}
+use Rattle.reasoning.proofs.ListLemmas.{not_in_nil}
 use Rattle.criteria.specs.Laws.{Rules, Laws}
 use Rattle.bags.specs.declared.point.Point.{Point}
 use Rattle.timetable.specs.declared.network.Connection.{Connection}
@@ -17,7 +18,7 @@ use Rattle.profile_scan.specs.WrongSteps.{IsStepWithoutLabels}
 use Rattle.profile_scan.proofs.Ends.{nothing_follows}
 use Rattle.profile_scan.proofs.Outdone.{all_carried}
 use Rattle.profile_scan.proofs.StepLemmas.{one_index_down}
-use Rattle.profile_scan.proofs.Refutations.{at_two, one_hop_legal, one_hop_within, none_in, one_in, takes_none, takes_from_nothing, covers_itself, nothing, at_zero}
+use Rattle.profile_scan.proofs.Refutations.{at_two, one_hop_legal, one_hop_within, one_in, takes_none, takes_from_nothing, covers_itself, nothing, at_zero}
 
 abbrev first_hop : Connection
 first_hop = connection_at two_hops 0
@@ -116,7 +117,7 @@ module _ {V : Type 0} (rules : Rules V) (laws : Laws rules) where
       by_way : (way : Leaving V) → MayLeave two_hops (over_one_hop 1000) 1 [] way → Covers rules (label ∷ []) 0 (leaving_value rules two_hops 1 way)
       by_way ends may = covers_itself rules laws (label ∷ []) label (zero, omega arith, refl) (laws.arrive_admits 300 (omega arith))
       by_way (ends_after f) may = absurd (may.3 refl)
-      by_way (changes p) may = absurd (none_in p may.0)
+      by_way (changes p) may = absurd (not_in_nil p may.0)
 
   kept_after_the_second : MatchesFrom rules two_hops (over_one_hop 1000) spoken 1 seated
   kept_after_the_second =
@@ -145,14 +146,14 @@ module _ {V : Type 0} (rules : Rules V) (laws : Laws rules) where
         kept_then = spoken_stays;
         leaves = takes_none rules laws (leavings rules two_hops q turn 0 []) (λ way may. let nobody = may.0 in cc);
         other_trips = λ trip other. sym (other_trips trip other);
-        boards = λ stop in_stops. takes_none rules laws (boardings rules two_hops turn 0 stop []) (λ way may. none_in way.label may.is_label);
-        sets_out = takes_none rules laws (settings_out rules two_hops q turn 0 []) (λ way may. none_in way.label may.is_label);
+        boards = λ stop in_stops. takes_none rules laws (boardings rules two_hops turn 0 stop []) (λ way may. not_in_nil way.label may.is_label);
+        sets_out = takes_none rules laws (settings_out rules two_hops q turn 0 []) (λ way may. not_in_nil way.label may.is_label);
       }) in
       let is_seated : IsLabelled two_hops q 0 0 0 stays_seated = record {
         departed = refl;
         aboard = record { later = omega arith; in_range = omega arith; on_trip = refl; alights = refl; is_walk = tt; walks = λ some. absurd (some refl); leads = refl; arrives = omega arith };
       } in
       elim ((matched.in_trips 0 (omega arith)).complete 0 stays_seated is_seated) [
-        | inl covered ↦ none_in covered.0 covered.1
-        | inr outdone ↦ none_in outdone.by outdone.is_found
+        | inl covered ↦ not_in_nil covered.0 covered.1
+        | inr outdone ↦ not_in_nil outdone.by outdone.is_found
       ]

@@ -1,5 +1,5 @@
 -- The log of a scan.
-use Rattle.std.proofs.Common.{◌≡◌, inl, inr, length, ℕ, zero, suc, ◌+◌, ◌-◌, ◌≤◌, List, [], ◌∷◌, ◌++◌, take, arith, refl, sym, ◌∙◌, ap, add-zero, append_assoc, append-nil, Result, Ok, Err, OnErr}
+use Rattle.std.proofs.Common.{◌≡◌, inl, inr, length, ℕ, zero, suc, ◌+◌, ◌-◌, ◌≤◌, List, [], ◌∷◌, ◌++◌, take, arith, refl, sym, ◌∙◌, ap, add-zero, append_assoc, append-nil}
 use Rattle.std.proofs.Math.Seq.{take-length}
 use Rattle.std.proofs.lemmas.Bool.{cases_lt}
 use Rattle.timetable.specs.TimetableValue.{TimetableValue}
@@ -33,10 +33,6 @@ pub log_front : (log : List ℕ) (lo i hi : ℕ) → lo ≤ i → i ≤ hi → l
 log_front log lo i hi low high =
     let e : i ≡ lo + (hi - lo) - (hi - i) = omega arith in
     ap (λ ks. log ++ ks) (ap (λ k. falling k (hi - i)) e ∙ sym (falling_take lo (hi - lo) (hi - i) (omega arith)))
-
-pub on_err : {T E : Type 0} (r : Result T E) (P : Type 0) → P → OnErr r P
-on_err (Ok x) P h = tt
-on_err (Err e) P h = h
 
 -- at the end of the window nothing was read
 pub log_none : (log : List ℕ) (end : ℕ) → log ≡ log ++ falling end (end - end)

@@ -1,5 +1,5 @@
 -- Nodes keep what they spell while further ones come.
-use Rattle.std.proofs.Common.{◌≡◌, ◌⊎◌, ℕ, zero, suc, ◌+◌, ◌<◌, ◌≤◌, take, drop, slice_get, List, [], ◌∷◌, ◌++◌, length, Some, None, refl, sym, ◌∙◌, ap, inl, inr, arith, append_assoc, append-nil, length-append}
+use Rattle.std.proofs.Common.{◌≡◌, ◌⊎◌, ℕ, zero, suc, ◌+◌, ◌<◌, ◌≤◌, take, drop, slice_get, List, [], ◌∷◌, ◌++◌, length, Some, None, refl, sym, ◌∙◌, ap, inl, inr, arith, append_assoc, length-append}
 use Rattle.std.proofs.lemmas.Bool.{cases_lt}
 use Rattle.std.proofs.lemmas.List.{get_or_append_left, get_or_past, length-take-le}
 use Rattle.std.proofs.lemmas.Option.{slice_get_within, same_Some}
@@ -9,15 +9,6 @@ use Rattle.profile_scan.specs.Matching.{Spelling, Keeps, from_to}
 use Rattle.profile_scan.specs.Nodes.{Spelled, nothing, at_number, changed_at, boarded_after, set_out_by, spells, spelled_on, spelled, spelling, Extends, IsSpelled}
 use Rattle.profile_scan.specs.declared.nodes.Node.{Node}
 use Rattle.profile_scan.specs.declared.nodes.Node.TheVariants.{Ends, Changes, Boards, SetsOut}
-
-pub extends_none : (nodes : List Node) → Extends nodes nodes
-extends_none nodes = ([], sym (append-nil nodes))
-
-pub extends_on : (a b c : List Node) → Extends a b → Extends b c → Extends a c
-extends_on a b c ab bc = (ab.0 ++ bc.0, bc.1 ∙ ap (λ xs. xs ++ bc.0) ab.1 ∙ append_assoc a ab.0 bc.0)
-
-pub extends_one : (nodes now : List Node) (node : Node) → now ≡ nodes ++ node ∷ [] → Extends nodes now
-extends_one nodes now node e = (node ∷ [], e)
 
 spelled_on-append : (done : List Spelled) (a b : List Node) → spelled_on done (a ++ b) ≡ spelled_on (spelled_on done a) b
 unfolding spelled_on

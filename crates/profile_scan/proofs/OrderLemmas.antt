@@ -2,11 +2,11 @@
 use Rattle.std.proofs.Common.{◌≡◌, ◌≢◌, ◌⊎◌, ◌↔◌, ℕ, ◌-◌, ◌<◌, ◌≤◌, Bool, true, false, List, [], length, Contains, AllPairs, slice_get, Option, Some, get_or, refl, sym, ◌∙◌, ap, subst, inl, inr, arith, nat_le, nat_lt, ◌||◌, ◌&&◌, ◌==◌}
 use Rattle.std.specs.List.{insert}
 use Rattle.std.specs.Ordering.{ordering_reverse, is_lt}
-use Rattle.std.specs.declared.cmp.Ordering.{Ordering}
-use Rattle.std.specs.declared.cmp.Ordering.TheVariants.{Less, Equal, Greater}
 use Rattle.std.proofs.lemmas.Bool.{cases_order, cases_lt, and_from, le-leb, lt-ltb, ltb-true, eqb-true, eq-eqb, true≢false}
 use Rattle.std.proofs.lemmas.Option.{slice_get_within, get_or_from_slice_get, same_Some}
 use Rattle.std.proofs.lemmas.List.{get_or_default}
+use Rattle.reasoning.proofs.BoolLemmas.{or_and}
+use Rattle.reasoning.proofs.OrderLemmas.{which_ordering, is_lt-true, is_lt-false}
 use Rattle.criteria.specs.Laws.{Rules, Laws, Admits, NoWorse}
 use Rattle.bags.specs.Dominance.{Apart, IsBag}
 use Rattle.bags.specs.declared.point.Point.{Point}
@@ -15,12 +15,6 @@ use Rattle.timetable.proofs.LegalFacts.{Contains-At, At-Contains}
 use Rattle.profile_scan.specs.Points.{Before, is_before}
 use Rattle.profile_scan.specs.Matching.{Matches}
 use Rattle.profile_scan.proofs.Answer.{only_itself, not_before_itself}
-
--- which of the three an ordering is
-which : (o : Ordering) → (o ≡ Less) ⊎ ((o ≡ Equal) ⊎ (o ≡ Greater))
-which Less = inl refl
-which Equal = inr (inl refl)
-which Greater = inr (inr refl)
 
 module _ {V : Type 0} (rules : Rules V) (laws : Laws rules) where
   pub before_chains : (p q r : Point V) → Admits rules p.value → Admits rules q.value → Admits rules r.value → Before rules p q → Before rules q r → Before rules p r
@@ -32,7 +26,7 @@ module _ {V : Type 0} (rules : Rules V) (laws : Laws rules) where
   -- of two points, neither of which dominates the other, one is before the other
   pub apart_comparable : (p q : Point V) → Admits rules p.value → Admits rules q.value → Apart rules p q → Before rules q p ⊎ Before rules p q
   apart_comparable p q a b apart = elim (cases_order p.departure q.departure) [
-    | inl e ↦ elim (which (rules.list_order p.value q.value)) [
+    | inl e ↦ elim (which_ordering (rules.list_order p.value q.value)) [
       | inl less ↦ inr (inr (e, less))
       | inr (inl equal) ↦
           let worth = laws.order_exact p.value q.value a b equal in
@@ -80,34 +74,20 @@ module _ {V : Type 0} (rules : Rules V) (laws : Laws rules) where
         );
   }
 
-or_and : (a b c : Bool) → (a || (b && c)) ≡ true → (a ≡ true) ⊎ ((b ≡ true) × (c ≡ true))
-or_and true b c h = inl refl
-or_and false true true h = inr (refl, refl)
-or_and false true false h = absurd (true≢false (sym h))
-or_and false false c h = absurd (true≢false (sym h))
-
 or_and_not : (a b c : Bool) → (a || (b && c)) ≡ false → (a ≡ false) × (b ≡ true → c ≡ false)
 or_and_not true b c h = absurd (true≢false h)
 or_and_not false true c h = (refl, λ _. h)
 or_and_not false false c h = (refl, λ e. absurd (true≢false (sym e)))
 
-is_less : (o : Ordering) → is_lt o ≡ true → o ≡ Less
-is_less Less h = refl
-is_less Equal h = absurd (true≢false (sym h))
-is_less Greater h = absurd (true≢false (sym h))
-
-not_less : (o : Ordering) → is_lt o ≡ false → o ≡ Less → ⊥
-not_less o h e = true≢false (sym (ap is_lt e) ∙ h)
-
 pub told_before : {V : Type 0} (rules : Rules V) (p q : Point V) → is_before rules p q ≡ true → Before rules p q
 told_before rules p q h = elim (or_and (nat_lt p.departure q.departure) (p.departure == q.departure) (is_lt (rules.list_order p.value q.value)) h) [
   | inl lt ↦ inl (ltb-true p.departure q.departure lt)
-  | inr both ↦ inr (eqb-true p.departure q.departure both.0, is_less (rules.list_order p.value q.value) both.1)
+  | inr both ↦ inr (eqb-true p.departure q.departure both.0, is_lt-true (rules.list_order p.value q.value) both.1)
 ]
 
 pub told_not_before : {V : Type 0} (rules : Rules V) (p q : Point V) → is_before rules p q ≡ false → Before rules p q → ⊥
 told_not_before rules p q h (inl lt) = true≢false (sym (lt-ltb p.departure q.departure lt) ∙ (or_and_not (nat_lt p.departure q.departure) (p.departure == q.departure) (is_lt (rules.list_order p.value q.value)) h).0)
-told_not_before rules p q h (inr (e, less)) = not_less (rules.list_order p.value q.value) ((or_and_not (nat_lt p.departure q.departure) (p.departure == q.departure) (is_lt (rules.list_order p.value q.value)) h).1 (eq-eqb p.departure q.departure e)) less
+told_not_before rules p q h (inr (e, less)) = is_lt-false (rules.list_order p.value q.value) ((or_and_not (nat_lt p.departure q.departure) (p.departure == q.departure) (is_lt (rules.list_order p.value q.value)) h).1 (eq-eqb p.departure q.departure e)) less
 
 -- one place further down
 pub after_here : {V : Type 0} (rules : Rules V) (points : List (Point V)) (point last : Point V) (place : ℕ) → 0 < place → place ≤ length points → last ≡ get_or points (place - 1) last → Before rules point last → ((k : ℕ) (d : Point V) → place ≤ k → k < length points → Before rules point (get_or points k d))

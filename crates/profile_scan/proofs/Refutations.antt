@@ -1,6 +1,7 @@
 -- A timetable of one connection: the wrong steps are refuted on it, and the right one leads to its answer.
 use Rattle.std.proofs.Common.{◌≡◌, ◌≢◌, ◌⊎◌, ℕ, zero, suc, ◌+◌, ◌-◌, ◌<◌, ◌≤◌, List, [], ◌∷◌, Contains, Option, Some, None, arith, refl, sym, ◌∙◌, ap, subst, inl, inr, get_or, rules as std_rules}
 use Rattle.std.proofs.lemmas.Option.{same_Some}
+use Rattle.reasoning.proofs.ListLemmas.{not_in_nil}
 use Rattle.criteria.specs.Laws.{Rules, Laws, Admits}
 use Rattle.bags.specs.Dominance.{IsBag}
 use Rattle.bags.specs.declared.point.Point.{Point}
@@ -157,9 +158,6 @@ goes_on walk x e = ap (λ (z : Aboard). Some (let y : Onward = record { walk = w
 sets_out : (start : Option Footpath) (x : Aboard) → Some one_stop ≡ Some x → Some (let y : JourneyValue = record { start = start; rides = boarded 0 one_stop } in y) ≡ Some (record { start = start; rides = boarded 0 x })
 sets_out start x e = ap (λ (z : Aboard). Some (let y : JourneyValue = record { start = start; rides = boarded 0 z } in y)) (the_label x e)
 
-pub none_in : {X : Type 0} (x : X) → Contains [] x → ⊥
-none_in x is = omega (arith, is.1)
-
 pub one_in : {X : Type 0} (x y : X) → Contains (x ∷ []) y → x ≡ y
 one_in x y (zero, lt, is) = is
 one_in x y (suc k, lt, is) = absurd (omega arith)
@@ -218,7 +216,7 @@ module _ {V : Type 0} (rules : Rules V) (laws : Laws rules) where
   takes_none offer none = record { only = λ p is. inl is; kept = λ d v a c. c; covered = λ way open_way. absurd (none way open_way) }
 
   pub takes_from_nothing : {A : Type 0} (offer : Offer A V) (points : List (Point V)) → ((p : Point V) → Contains points p → IsOffered offer p) → ((way : A) → offer.is_open way → Covers rules points (offer.departure way) (offer.value way)) → TakesIn rules offer [] points
-  takes_from_nothing offer points offered covered = record { only = λ p is. inr (offered p is); kept = λ d v a c. absurd (none_in c.0 c.1); covered = covered }
+  takes_from_nothing offer points offered covered = record { only = λ p is. inr (offered p is); kept = λ d v a c. absurd (not_in_nil c.0 c.1); covered = covered }
 
   leaves_by_end : (until : ℕ) → TakesIn rules (leavings rules one_hop (over_one_hop until) turn 0 []) [] (label ∷ [])
   leaves_by_end until = takes_from_nothing (leavings rules one_hop (over_one_hop until) turn 0 []) (label ∷ [])
@@ -228,7 +226,7 @@ module _ {V : Type 0} (rules : Rules V) (laws : Laws rules) where
       by_way : (way : Leaving V) → MayLeave one_hop (over_one_hop until) 0 [] way → Covers rules (label ∷ []) 0 (leaving_value rules one_hop 0 way)
       by_way ends may = covers_itself (label ∷ []) label (zero, omega arith, refl) arrive_admitted
       by_way (ends_after f) may = absurd (may.3 refl)
-      by_way (changes p) may = absurd (none_in p may.0)
+      by_way (changes p) may = absurd (not_in_nil p may.0)
 
   other_trips : (trip : ℕ) → trip ≢ 0 → at_zero (label ∷ []) trip ≡ []
   other_trips zero other = absurd (other refl)
@@ -269,8 +267,8 @@ module _ {V : Type 0} (rules : Rules V) (laws : Laws rules) where
         arrives = omega arith;
       } in
       elim ((matched.at_stops 0 (omega arith)).complete 40 onward is_onward) [
-        | inl covered ↦ none_in covered.0 covered.1
-        | inr outdone ↦ none_in outdone.by outdone.is_found
+        | inl covered ↦ not_in_nil covered.0 covered.1
+        | inr outdone ↦ not_in_nil outdone.by outdone.is_found
       ]
     where
       by_start : (start : Option Footpath) → IsStart one_hop 0 start → start_end 0 start ≡ 0 → 100 - start_secs start ≤ 30 → ⊥

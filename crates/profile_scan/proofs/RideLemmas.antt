@@ -2,6 +2,7 @@
 use Rattle.std.proofs.Common.{◌≡◌, true, false, ℕ, ◌+◌, ◌-◌, ◌<◌, ◌≤◌, List, [], ◌∷◌, ◌++◌, length, set, Contains, slice_get, slice_index, Some, get_or-set_same, get_or-set_other, sym, ◌∙◌, ap, subst, inl, inr, arith}
 use Rattle.std.proofs.lemmas.Bool.{cases_eq, true≢false}
 use Rattle.std.proofs.lemmas.List.Elements.{Contains-push, Contains-push_cases, Contains-append_left}
+use Rattle.reasoning.proofs.ListLemmas.{not_in_nil}
 use Rattle.criteria.specs.Laws.{Rules, Laws, Admits}
 use Rattle.bags.specs.declared.point.Point.{Point}
 use Rattle.timetable.specs.declared.network.Footpath.{Footpath}
@@ -24,9 +25,6 @@ use Rattle.profile_scan.proofs.StoryLemmas.{stays, step_told}
 pub record RiddenBefore {V : Type 0} (rules : Rules V) (values : List V) (labels : List (Point V)) (n : ℕ) (ridden : List (Ridden V)) : Type 0 where
   pub of_label : (r : Ridden V) → Contains ridden r → (l : Point V) × Contains (carried rules values labels) l × (r.value ≡ rules.ride l.value) × (r.label ≡ l.tag)
   pub each : (l : Point V) → StandsBefore labels n l → is_bettered rules values (rules.ride l.value) ≡ false → (r : Ridden V) × Contains ridden r × (r.value ≡ rules.ride l.value)
-
-not_in_nil : {X : Type 0} (x : X) → Contains {X = X} [] x → ⊥
-not_in_nil x h = omega (arith, h.1)
 
 module _ {V : Type 0} (rules : Rules V) (values : List V) where
   -- one label

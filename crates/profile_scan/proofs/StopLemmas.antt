@@ -1,12 +1,7 @@
 -- The lists of stops, one of them replaced.
-use Rattle.std.proofs.Common.{◌≡◌, ℕ, zero, suc, ◌<◌, ◌≤◌, List, length, set, replicate, slice_index, get_or-set_same, get_or-set_other, length-set, inl, inr, refl, ◌∙◌, ap, arith}
+use Rattle.std.proofs.Common.{ℕ, ◌<◌, ◌≤◌, List, length, set, slice_index, get_or-set_same, get_or-set_other, length-set, inl, inr, ◌∙◌, ap, arith}
 use Rattle.std.proofs.lemmas.Bool.{cases_eq, cases_lt}
 use Rattle.std.proofs.lemmas.List.{get_or_past}
-
-pub no_head : (n k : ℕ) → slice_index (replicate n 0) k ≡ 0
-no_head zero k = refl
-no_head (suc n) zero = refl
-no_head (suc n) (suc k) = no_head n k
 
 -- each head is below a bound that grows
 pub heads_within : (heads : List ℕ) (stop head old new : ℕ) → ((k : ℕ) → slice_index heads k < old) → old ≤ new → head < new → (k : ℕ) → slice_index (set heads stop head) k < new

@@ -2,11 +2,12 @@
 use Rattle.std.proofs.Common.{◌≡◌, ℕ, zero, suc, ◌≤◌, List, [], ◌∷◌, ◌++◌, length, slice_get, Option, Some, None, refl, ◌∙◌, ap, arith}
 use Rattle.std.proofs.lemmas.List.{length_push}
 use Rattle.std.proofs.lemmas.Option.{slice_get_within}
+use Rattle.reasoning.proofs.ListLemmas.{extends_none, extends_on, slice_get-middle}
 use Rattle.timetable.specs.declared.network.Footpath.{Footpath}
 use Rattle.timetable.specs.JourneyValue.{JourneyValue}
 use Rattle.fronts.specs.declared.entry.Step.{Step}
 use Rattle.fronts.specs.Front.{Extends}
-use Rattle.fronts.proofs.Growth.{extends_none, extends_on, extends_long, same_at, at_new}
+use Rattle.fronts.proofs.Growth.{extends_long, same_at}
 use Rattle.profile_scan.specs.Continuations.{Onward, Aboard}
 use Rattle.profile_scan.specs.Matching.{Keeps, from_to}
 use Rattle.profile_scan.specs.Steps.{boarded}
@@ -101,13 +102,13 @@ exit_told walks before was now all (Ends last walk) ext_before ext pushed ext_al
     let n = length was.exits in
     let long = ap length pushed ∙ length_push was.exits (Ends last walk) in
     let grows = extends_long now.exits all.exits ext_all.exits in
-    let at = ap (λ (es : List Exit). slice_get es n) pushed ∙ at_new was.exits (Ends last walk) [] in
+    let at = ap (λ (es : List Exit). slice_get es n) pushed ∙ slice_get-middle was.exits (Ends last walk) [] in
     label_more walks now all ext_all (suc n) (length all.exits) (omega arith) n _ (tells_next walks now n n (Ends last walk) at)
 exit_told walks before was now all (Changes last step) ext_before ext pushed ext_all = λ x e.
     let n = length was.exits in
     let long = ap length pushed ∙ length_push was.exits (Changes last step) in
     let grows = extends_long now.exits all.exits ext_all.exits in
-    let at = ap (λ (es : List Exit). slice_get es n) pushed ∙ at_new was.exits (Changes last step) [] in
+    let at = ap (λ (es : List Exit). slice_get es n) pushed ∙ slice_get-middle was.exits (Changes last step) [] in
     let on = grows_on before was now ext_before ext in
     let fewer = extends_long before.exits was.exits ext_before.exits in
     let here = step_more walks (label_tells walks before (length before.exits)) (label_tells walks now n) (label_more walks before now on (length before.exits) n fewer) (slice_get before.steps step) (slice_get now.steps step) (stays before.steps now.steps on.steps step) x e in
@@ -134,7 +135,7 @@ pub set_out_next : (walks : List Footpath) (exits : List Exit) (steps : List Ste
     → (x : Aboard) → (told walks before).aboard s.label ≡ Some x → (told walks all).journey (length old) ≡ Some (record { start = s.start; rides = boarded s.first x })
 set_out_next walks exits steps old new before all s pushed ext_before ext =
     let on = grows_on before (story exits steps old) all ext_before (grows_on (story exits steps old) (story exits steps new) all (set_outs_grow exits steps old new (s ∷ [], pushed)) ext) in
-    set_out_told walks before all (length old) s on (stays new all.set_outs ext.set_outs (length old) s (ap (λ (ss : List SetOut). slice_get ss (length old)) pushed ∙ at_new old s []))
+    set_out_told walks before all (length old) s on (stays new all.set_outs ext.set_outs (length old) s (ap (λ (ss : List SetOut). slice_get ss (length old)) pushed ∙ slice_get-middle old s []))
 
 pub exit_next : (walks : List Footpath) (old new : List Exit) (steps : List Step) (set_outs : List SetOut) (before all : Story) (exit : Exit) → new ≡ old ++ exit ∷ [] → Grows before (story old steps set_outs) → Grows (story new steps set_outs) all
     → IsExit (from_to (told walks before) (told walks all)) exit (length old)

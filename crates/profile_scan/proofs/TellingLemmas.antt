@@ -3,11 +3,11 @@ use Rattle.std.proofs.Common.{◌≡◌, ℕ, zero, suc, ◌+◌, ◌-◌, ◌<�
 use Rattle.std.proofs.lemmas.Option.{same_Some, slice_get_within}
 use Rattle.std.proofs.lemmas.List.{map-append, take_more}
 use Rattle.std.proofs.lemmas.List.Elements.{Contains-push_cases}
+use Rattle.reasoning.proofs.ListLemmas.{extends_none}
 use Rattle.bags.specs.declared.point.Point.{Point}
 use Rattle.timetable.specs.declared.network.Footpath.{Footpath}
 use Rattle.timetable.specs.JourneyValue.{JourneyValue}
 use Rattle.fronts.specs.declared.entry.Step.{Step}
-use Rattle.fronts.proofs.Growth.{extends_none}
 use Rattle.profile_scan.specs.Continuations.{Aboard}
 use Rattle.profile_scan.specs.Steps.{boarded}
 use Rattle.profile_scan.specs.Nodes.{Extends, walk_of, changed_at, set_out_by}

@@ -2,6 +2,8 @@
 use Rattle.std.proofs.Common.{◌≡◌, ◌≢◌, ℕ, zero, suc, ◌+◌, ◌<◌, ◌≤◌, List, ◌∷◌, Contains, length, Option, Some, None, get_or, set, replicate, get_or-set_same, get_or-set_other, length-set, inl, inr, map, refl, sym, ◌∙◌, ap, subst, arith}
 use Rattle.std.proofs.lemmas.Bool.{cases_eq, le-leb}
 use Rattle.std.proofs.lemmas.List.{length-replicate, map-set}
+use Rattle.std.proofs.lemmas.Option.{same_Some}
+use Rattle.reasoning.proofs.OptionLemmas.{some-none}
 use Rattle.timetable.specs.declared.network.Footpath.{Footpath}
 use Rattle.timetable.specs.TimetableValue.{TimetableValue}
 use Rattle.timetable.specs.Legal.{At}
@@ -16,12 +18,6 @@ pub record AreFound (t : TimetableValue) (target begin end : ℕ) (ways : List (
   pub there : (stop secs : ℕ) → get_or ways stop None ≡ Some secs → Contains t.footpaths (record { from = stop; to = target; secs = secs })
   pub all : (f : Footpath) → StandsBetween t.footpaths begin end f → get_or ways f.from None ≢ None
 
-some_is : (a b : ℕ) → Some a ≡ Some b → a ≡ b
-some_is a b e = cc
-
-some_not : (a : ℕ) → Some a ≡ None → ⊥
-some_not a e = cc
-
 no_way : (n stop : ℕ) → get_or (replicate {A = Option ℕ} n None) stop None ≡ None
 no_way zero stop = refl
 no_way (suc n) zero = refl
@@ -30,7 +26,7 @@ no_way (suc n) (suc stop) = no_way n stop
 pub none_found : (t : TimetableValue) (target begin n : ℕ) (ways : List (Option ℕ)) → n ≡ t.stops → ways ≡ replicate n None → AreFound t target begin begin ways
 none_found t target begin n ways long e = subst (AreFound t target begin begin) (sym e) (record {
   long = length-replicate n None ∙ long;
-  there = λ stop secs is. absurd (some_not secs (sym is ∙ no_way n stop));
+  there = λ stop secs is. absurd (some-none secs (sym is ∙ no_way n stop));
   all = λ f s none. omega (arith, s.1, s.2);
 })
 
@@ -43,7 +39,7 @@ one_found t target begin place ways f at to from_in found =
       long = length-set ways f.from (Some f.secs) ∙ found.long;
       there = λ stop secs e. elim (cases_eq stop f.from) [
         | inl same ↦
-            let secs_is : f.secs ≡ secs = some_is f.secs secs (sym here ∙ ap (λ (n : ℕ). get_or (set ways f.from (Some f.secs)) n None) (sym same) ∙ e) in
+            let secs_is : f.secs ≡ secs = same_Some f.secs secs (sym here ∙ ap (λ (n : ℕ). get_or (set ways f.from (Some f.secs)) n None) (sym same) ∙ e) in
             let p : Contains t.footpaths (record { from = f.from; to = f.to; secs = f.secs }) = Contains-At t.footpaths place f at in
             let p1 : Contains t.footpaths (record { from = stop; to = f.to; secs = f.secs }) = subst (λ (n : ℕ). Contains t.footpaths (record { from = n; to = f.to; secs = f.secs })) (sym same) p in
             let p2 : Contains t.footpaths (record { from = stop; to = target; secs = f.secs }) = subst (λ (n : ℕ). Contains t.footpaths (record { from = stop; to = n; secs = f.secs })) to p1 in
@@ -51,7 +47,7 @@ one_found t target begin place ways f at to from_in found =
         | inr other ↦ found.there stop secs (sym (get_or-set_other ways f.from stop (Some f.secs) None other) ∙ e)
       ];
       all = λ y s none. elim (cases_eq y.from f.from) [
-        | inl same ↦ some_not f.secs (sym here ∙ ap (λ (n : ℕ). get_or (set ways f.from (Some f.secs)) n None) (sym same) ∙ none)
+        | inl same ↦ some-none f.secs (sym here ∙ ap (λ (n : ℕ). get_or (set ways f.from (Some f.secs)) n None) (sym same) ∙ none)
         | inr other ↦ elim (between_split t.footpaths begin place f y at s) [
           | inl was ↦ found.all y was (sym (get_or-set_other ways f.from y.from (Some f.secs) None other) ∙ none)
           | inr is ↦ other (ap (λ (x : Footpath). x.from) is)

@@ -1,5 +1,6 @@
 -- What nodes spell, each by what the earlier nodes spell.
 use Rattle.std.specs.Prelude.{◌≡◌, ℕ, List, [], ◌∷◌, ◌++◌, Option, Some, None, slice_index_or}
+pub use Rattle.reasoning.specs.Lists.{Extends}
 use Rattle.timetable.specs.declared.network.Footpath.{Footpath}
 use Rattle.timetable.specs.JourneyValue.{JourneyValue}
 use Rattle.profile_scan.specs.Continuations.{Onward, Aboard}
@@ -57,10 +58,6 @@ spelled nodes k = at_number (spelled_on [] nodes) k
 -- the numbers of nodes as tags
 abbrev pub spelling : List Node → Spelling
 spelling nodes = record { onward = λ k. (spelled nodes k).onward; aboard = λ k. (spelled nodes k).aboard; journey = λ k. (spelled nodes k).journey }
-
--- nodes, and further ones after them
-abbrev pub Extends : List Node → List Node → Type 0
-Extends nodes all = (more : List Node) × (all ≡ nodes ++ more)
 
 -- a tag spells what a node says, by what earlier tags spelled
 abbrev pub IsSpelled : Spellings → Node → ℕ → Type 0

@@ -1,10 +1,6 @@
 -- Tests put together.
-use Rattle.std.proofs.Common.{◌≡◌, ◌⊎◌, Bool, true, false, not, ◌&&◌, ◌||◌, MatchBool, inl, inr, refl}
+use Rattle.std.proofs.Common.{◌≡◌, ◌⊎◌, Bool, true, false, ◌&&◌, ◌||◌, MatchBool, inl, inr, refl}
 use Rattle.std.proofs.lemmas.Bool.{true≢false, false≢true}
-
-pub not-true : (b : Bool) → not b ≡ true → b ≡ false
-not-true true e = absurd (false≢true e)
-not-true false e = refl
 
 pub and-left : (x y : Bool) → (x && y) ≡ true → x ≡ true
 and-left true y e = refl
@@ -13,22 +9,6 @@ and-left false y e = absurd (false≢true e)
 pub and-right : (x y : Bool) → (x && y) ≡ true → y ≡ true
 and-right true y e = e
 and-right false y e = absurd (false≢true e)
-
-pub and-both : (x y : Bool) → x ≡ true → y ≡ true → (x && y) ≡ true
-and-both true y e f = f
-and-both false y e f = absurd (false≢true e)
-
-pub or-false : (x y : Bool) → x ≡ false → y ≡ false → (x || y) ≡ false
-or-false true y e f = absurd (true≢false e)
-or-false false y e f = f
-
-pub or-true-left : (x y : Bool) → x ≡ true → (x || y) ≡ true
-or-true-left true y e = refl
-or-true-left false y e = absurd (false≢true e)
-
-pub or-true-right : (x y : Bool) → y ≡ true → (x || y) ≡ true
-or-true-right true y e = refl
-or-true-right false y e = e
 
 -- one test, or else two
 pub or_and : (x y z : Bool) → (x || (y && z)) ≡ true → (x ≡ true) ⊎ ((y ≡ true) × (z ≡ true))

@@ -1,9 +1,8 @@
 -- First and last places, a step on and at the end.
 use Rattle.std.proofs.Common.{◌≡◌, ℕ, zero, suc, ◌+◌, ◌-◌, ◌<◌, ◌≤◌, Bool, true, false, cond, Option, Some, None, refl, sym, ap, ◌∙◌, arith, inl, inr}
-use Rattle.std.proofs.lemmas.Bool.{cases_eq, cases_Bool, or_parts, or_cases}
+use Rattle.std.proofs.lemmas.Bool.{cases_eq, cases_Bool, or_parts, or_cases, or_from, or_left, or_right}
 use Rattle.std.proofs.lemmas.Option.{same_Some}
 use Rattle.std.specs.Option.{option_or}
-use Rattle.reasoning.proofs.BoolLemmas.{or-false, or-true-left, or-true-right}
 use Rattle.reasoning.specs.First.{first_below, last_below, any_below, any_between, first_between}
 
 pub option_or-none : {X : Type 0} (x y : Option X) → x ≡ None → option_or x y ≡ y
@@ -79,15 +78,15 @@ pub any_below-more : (p : ℕ → Bool) (i : ℕ) → any_below p i ≡ false �
 unfolding any_below
 any_below-more p i before here =
     let k : i + 1 ≡ suc i = omega arith in
-    rw k (or-false (any_below p i) (p i) before here)
+    rw k (or_from (any_below p i) (p i) before here)
 
 pub any_below-found : (p : ℕ → Bool) (n i : ℕ) → i < n → p i ≡ true → any_below p n ≡ true
 unfolding any_below
 any_below-found p zero i lt e = absurd (omega arith)
 any_below-found p (suc n) i lt e =
     elim (cases_eq i n) [
-      | inl same ↦ or-true-right (any_below p n) (p n) (rw same at e)
-      | inr other ↦ or-true-left (any_below p n) (p n) (any_below-found p n i (omega arith) e)
+      | inl same ↦ or_right (any_below p n) (p n) (rw same at e)
+      | inr other ↦ or_left (any_below p n) (p n) (any_below-found p n i (omega arith) e)
     ]
 
 pub any_between-empty : (p : ℕ → Bool) (a b : ℕ) → b ≤ a → any_between p a b ≡ false
@@ -216,7 +215,7 @@ first_between-all f a b h = first_below-all (λ k. f (a + k)) (b - a) (λ k lt. 
 any_below-all : (p : ℕ → Bool) (n : ℕ) → ((i : ℕ) → i < n → p i ≡ false) → any_below p n ≡ false
 unfolding any_below
 any_below-all p zero h = refl
-any_below-all p (suc n) h = or-false (any_below p n) (p n) (any_below-all p n (λ i lt. h i (omega arith))) (h n (omega arith))
+any_below-all p (suc n) h = or_from (any_below p n) (p n) (any_below-all p n (λ i lt. h i (omega arith))) (h n (omega arith))
 
 pub any_between-all : (p : ℕ → Bool) (a b : ℕ) → ((i : ℕ) → a ≤ i → i < b → p i ≡ false) → any_between p a b ≡ false
 unfolding any_between

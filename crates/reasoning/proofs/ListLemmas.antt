@@ -1,10 +1,11 @@
 -- What stands in a list, at its places, behind a filter and after a write.
 use Rattle.std.proofs.Common.{◌≡◌, ◌≢◌, ◌⊎◌, ℕ, zero, suc, ◌<◌, Bool, true, false, cond, List, [], ◌∷◌, ◌++◌, length, set, replicate, slice_get}
-use Rattle.std.proofs.Common.{slice_index, filter, Contains, Some, inl, inr, refl, sym, ap, ◌∙◌, subst, arith}
+use Rattle.std.proofs.Common.{slice_index, filter, Contains, Some, inl, inr, refl, sym, ap, ◌∙◌, subst, arith, append-nil, append_assoc}
 use Rattle.std.specs.List.{list_any, AllZip}
 use Rattle.std.proofs.lemmas.List.Elements.{All-contains, All-filter, All-contains_itself, filter_passes}
 use Rattle.std.proofs.lemmas.List.Folds.{Any-from_list_any}
 use Rattle.std.proofs.lemmas.Option.{slice_get-get_or, get_or_from_slice_get, slice_get_within, same_Some}
+use Rattle.reasoning.specs.Lists.{Extends}
 
 pub not_in_nil : {X : Type 0} (x : X) → Contains {X = X} [] x → ⊥
 not_in_nil x is = omega (arith, is.1)
@@ -106,3 +107,29 @@ slice_get-set_other (x ∷ xs) zero zero y other = absurd (other refl)
 slice_get-set_other (x ∷ xs) zero (suc j) y other = refl
 slice_get-set_other (x ∷ xs) (suc i) zero y other = refl
 slice_get-set_other (x ∷ xs) (suc i) (suc j) y other = slice_get-set_other xs i j y (λ e. other (ap (λ n. suc n) e))
+
+-- at each place of a list something stands
+pub at_below : {X : Type 0} (xs : List X) (i : ℕ) → i < length xs → (x : X) × (slice_get xs i ≡ Some x)
+at_below [] i below = absurd (omega (arith, below))
+at_below (x ∷ xs) zero below = (x, refl)
+at_below (x ∷ xs) (suc i) below = at_below xs i (omega (arith, below))
+
+-- lists that further elements follow
+pub extends_none : {X : Type 0} (xs : List X) → Extends xs xs
+extends_none xs = ([], sym (append-nil xs))
+
+pub extends_on : {X : Type 0} (a b c : List X) → Extends a b → Extends b c → Extends a c
+extends_on a b c ab bc = (ab.0 ++ bc.0, bc.1 ∙ ap (λ xs. xs ++ bc.0) ab.1 ∙ append_assoc a ab.0 bc.0)
+
+pub extends_one : {X : Type 0} (old new : List X) (x : X) → new ≡ old ++ x ∷ [] → Extends old new
+extends_one old new x e = (x ∷ [], e)
+
+-- in a list of one element stands no other
+pub contains_only : {X : Type 0} (x y : X) → Contains (x ∷ []) y → y ≡ x
+contains_only x y (zero, below, is) = sym is
+contains_only x y (suc k, below, is) = absurd (omega (arith, below))
+
+-- the element behind a list and before another
+pub slice_get-middle : {X : Type 0} (xs : List X) (y : X) (ys : List X) → slice_get (xs ++ y ∷ ys) (length xs) ≡ Some y
+slice_get-middle [] y ys = refl
+slice_get-middle (x ∷ xs) y ys = slice_get-middle xs y ys

@@ -1,2 +1,4 @@
 pub mod First
+pub mod Lists
 pub mod NodeItems
+pub mod Options

@@ -1,4 +1,4 @@
-// The services of a day, each asked for once.
+//! The services of a day, each asked for once.
 
 ghost use Rattle.std.specs.Prelude.{◌≡◌, List, IfOk, OnOk};
 ghost use Rattle.gtfs_rows.specs.declared.rows.CalendarDateRow.{CalendarDateRow};

@@ -1,4 +1,4 @@
-// The start of a day.
+//! The start of a day, twelve hours before its noon in the zone, and the day after a day.
 
 ghost use Rattle.std.specs.Prelude.{◌≡◌, IfSome, IfNone, IfOk, IfErr, false, true};
 ghost use Rattle.gtfs_rows.specs.Values.{is_civil};

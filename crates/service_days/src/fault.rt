@@ -1,4 +1,4 @@
-// What can be wrong with a zone or with a day.
+//! What can be wrong with a zone or with a day.
 
 ghost use Rattle.std.specs.Prelude.{◌≡◌};
 ghost use Rattle.service_days.specs.Faults.{name_of, number_of};

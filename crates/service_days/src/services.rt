@@ -1,4 +1,4 @@
-// On which days a service runs.
+//! On which days a service runs: its weekly calendar within its dates, and the days that are added and taken out.
 
 ghost use Rattle.std.specs.Prelude.{◌≡◌, ◌<◌, ℕ, List, [], IfOk};
 ghost use Rattle.std.specs.List.{list_any};

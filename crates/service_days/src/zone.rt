@@ -1,4 +1,4 @@
-// Time zones.
+//! Time zones by their names.
 
 ghost use Rattle.std.specs.Prelude.{◌≡◌, ◌≢◌, ◌↔◌, IsOk, IsSome, IfOk, IfErr, IsErrOf, false};
 ghost use Rattle.std.specs.Result.{is_ok};

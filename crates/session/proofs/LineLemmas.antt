@@ -1,7 +1,7 @@
 -- What a session has read, done and written so far, and how it ends.
-use Rattle.std.proofs.Common.{◌≡◌, ◌⊎◌, ◌<◌, ◌≤◌, ◌+◌, ◌-◌, ◌^◌, ℕ, suc, List, [], ◌∷◌, ◌++◌, Bool, true, false}
-use Rattle.std.proofs.Common.{MatchBool, length, take, Option, Ok, Err, refl, sym, ap, ◌∙◌, subst, append-nil, length-append, arith, inl, inr}
-use Rattle.std.proofs.lemmas.List.{take-append-le, take_all}
+use Rattle.std.proofs.Common.{◌≡◌, ◌⊎◌, ◌<◌, ◌≤◌, ◌+◌, ◌-◌, ◌^◌, ℕ, suc, List, [], ◌∷◌, ◌++◌}
+use Rattle.std.proofs.Common.{length, take, Option, Ok, Err, refl, sym, ap, ◌∙◌, subst, append-nil, length-append, arith, inl, inr}
+use Rattle.std.proofs.lemmas.List.{take-append-le, take_all, length_push}
 use Rattle.std.specs.Io.KnownBytes.{Appends, Consumes, IsAtEnd}
 use Rattle.std.proofs.KnownBytes.{Appends-nil, Appends-trans}
 use Rattle.epochs.specs.Seats.{SeatValue}
@@ -43,9 +43,6 @@ more_lines turns t line is = lines_in-more turns t ∙ ap (λ (l : List ℕ). li
 lines_many : (turns : List Turn) → length (lines_in turns) ≡ length turns
 lines_many [] = refl
 lines_many (t ∷ turns) = ap suc (lines_many turns)
-
-one_turn_more : (turns : List Turn) (t : Turn) → length (turns ++ t ∷ []) ≡ length turns + 1
-one_turn_more turns t = length-append turns (t ∷ [])
 
 short_turn : (t : Turn) (line : List ℕ) → t.line ≡ line → length line ≤ 16_777_216 → length t.line ≤ 16_777_216
 short_turn t line is short = subst (λ (l : List ℕ). length l ≤ 16_777_216) (sym is) short
@@ -117,7 +114,7 @@ ends_with_rest number to_read known later unread bytes contents wrote writes a b
       reads = more.consumed;
       writes = subst (λ (xs : List ℕ). Appends contents writes xs) text (Appends-trans contents wrote writes (text_of so_far.turns) t.reply so_far.writes written);
       does = AreTurns-more number a b after asked between asked_then so_far.turns t so_far.does turn;
-      few = omega (arith, so_far.many, few, one_turn_more so_far.turns t);
+      few = omega (arith, so_far.many, few, length_push so_far.turns t);
       short = AreShort-more so_far.turns t so_far.short (short_turn t (unread ++ bytes) line_is gives.short);
       ends = (gives.end, no_read, no_write, lines, refl);
     }
@@ -138,7 +135,7 @@ cut_short number to_read later read rest line contents wrote writes a b after as
       reads = consumed;
       writes = Appends-trans contents wrote writes (text_of turns) (take n t.reply) before written;
       does = AreTurns-more number a b after asked between asked_then turns t does turn;
-      few = omega (arith, few, one_turn_more turns t);
+      few = omega (arith, few, length_push turns t);
       short = AreShort-more turns t short (short_turn t line line_is short_line);
       ends = (failed, no_read, (length (lines_in (turns ++ t ∷ [])), first_of (lines_in (turns ++ t ∷ [])) rest (lines_of read) lines), cut);
     }
@@ -213,13 +210,6 @@ why_failed first before now long below same (inr too_long) = inr too_long.1
 -- the seat's number stays
 pub TurnsTo-number : (n number : ℕ) (b after : SeatValue) (between asked_then : List OrderValue) (t : Turn) → n ≡ number → TurnsTo n b between t after asked_then → TurnsTo number b between t after asked_then
 TurnsTo-number n number b after between asked_then t same turn = subst (λ (k : ℕ). TurnsTo k b between t after asked_then) same turn
-
--- a byte is there, or none is
-pub is_there : (some : Bool) (yes_type no_type : Type 0) → some ≡ true → MatchBool some yes_type no_type → yes_type
-is_there some yes_type no_type is told = subst (λ (b : Bool). MatchBool b yes_type no_type) is told
-
-pub is_not_there : (some : Bool) (yes_type no_type : Type 0) → some ≡ false → MatchBool some yes_type no_type → no_type
-is_not_there some yes_type no_type is told = subst (λ (b : Bool). MatchBool b yes_type no_type) is told
 
 pub some_bytes : (new bytes : List ℕ) → new ≡ bytes → 0 < length new → 0 < length bytes
 some_bytes new bytes same some = subst (λ (xs : List ℕ). 0 < length xs) same some

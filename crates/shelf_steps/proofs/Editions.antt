@@ -1,22 +1,18 @@
 -- Editions side by side.
+use Rattle.reasoning.proofs.ListLemmas.{slice_get-append, slice_get-last, slice_get-middle}
 use Rattle.image_layout.specs.Image.{ImageValue}
 use Rattle.std.proofs.Common.{◌≡◌, ℕ, ◌+◌, ◌-◌, ◌*◌, List, [], ◌∷◌, ◌++◌, length, Some, slice_get, refl, ap, sym, ◌∙◌, arith, append_assoc}
 use Rattle.std.specs.Arc.{arc_value}
 use mathlib.Core.Logic.{dite}
 use native.Mathlib.Decide.{ℕ_discrete}
-use Rattle.version_core.proofs.Lists.{slice_get-append, slice_get-last}
 use Rattle.shelf_steps.specs.declared.edition.Edition.{Edition}
 use Rattle.shelf_steps.specs.Plays.{AllHave}
 use Rattle.shelf_steps.specs.Blocks.{laid, EachHas}
 
-at_front : (new rest : List Edition) (e : Edition) → slice_get (new ++ e ∷ rest) (length new) ≡ Some e
-at_front [] rest e = refl
-at_front (x ∷ xs) rest e = at_front xs rest e
-
 pub laid_at : (items new rest : List Edition) (e : Edition) (first n : ℕ) → new ++ e ∷ rest ≡ items → length new ≡ n → laid items first (first + n) ≡ Some e
 laid_at items new rest e first n is long =
     let z : first + n - first ≡ n = omega arith in
-    ap (λ m. slice_get items m) (z ∙ sym long) ∙ (ap (λ (l : List Edition). slice_get l (length new)) (sym is) ∙ at_front new rest e)
+    ap (λ m. slice_get items m) (z ∙ sym long) ∙ (ap (λ (l : List Edition). slice_get l (length new)) (sym is) ∙ slice_get-middle new e rest)
 
 pub one_popped : (items old new rest : List Edition) (e : Edition) → old ++ rest ≡ items → old ≡ new ++ e ∷ [] → new ++ e ∷ rest ≡ items
 one_popped items old new rest e all is = sym (append_assoc new (e ∷ []) rest) ∙ (ap (λ (l : List Edition). l ++ rest) (sym is) ∙ all)

@@ -1,4 +1,5 @@
 -- A load, and a try at a closing shelf, step after step.
+use Rattle.reasoning.proofs.ListLemmas.{slice_get-set_same, slice_get-set_other}
 use Rattle.image_layout.specs.Image.{ImageValue}
 use Rattle.std.proofs.Common.{◌≡◌, ◌≢◌, ℕ, ◌+◌, ◌*◌, ◌<◌, ◌≤◌, ◌%◌, ◌==◌, Bool, true, false, List, [], ◌∷◌, ◌++◌, length, set, Option, Some, None, slice_get, refl, ap, sym, ◌∙◌, subst, arith}
 use Rattle.std.proofs.lemmas.Option.{slice_get_within}
@@ -6,7 +7,6 @@ use Rattle.std.specs.Arc.{arc_value}
 use Rattle.version_core.specs.declared.event.Event.{Event}
 use Rattle.version_core.specs.declared.event.Reply.{Reply}
 use Rattle.version_core.specs.declared.state.Shelf.{Shelf}
-use Rattle.version_core.proofs.Lists.{slice_get-set_same, slice_get-set_other}
 use Rattle.shelf_steps.specs.declared.edition.Edition.{Edition}
 use Rattle.shelf_steps.specs.declared.views.Known.{Known}
 use Rattle.shelf_steps.specs.declared.views.LoaderView.{LoaderView}

@@ -1,5 +1,5 @@
 -- Tries, one after another.
-use Rattle.std.proofs.Common.{◌≡◌, ℕ, ◌+◌, ◌*◌, ◌/◌, ◌%◌, ◌<◌, Bool, true, false, List, [], ◌∷◌, Option, Some, Result, Ok, Err, IfOk, IfErr, refl, ap, sym, ◌∙◌, subst, arith}
+use Rattle.std.proofs.Common.{◌≡◌, ℕ, ◌+◌, ◌*◌, ◌/◌, ◌%◌, ◌<◌, Bool, true, false, List, [], ◌∷◌, Option, Some, refl, ap, sym, ◌∙◌, subst, arith}
 use Rattle.version_core.specs.declared.state.Worker.{Worker}
 use Rattle.shelf_steps.specs.declared.edition.Edition.{Edition}
 use Rattle.shelf_steps.specs.declared.views.WorkerView.{WorkerView}
@@ -104,11 +104,3 @@ pinned_fourth number u v x y i j k h w a b d t = (t.0, (i ∷ j ∷ k ∷ [], om
 
 pub moved : (u v x y z : View) (i j k n : ℕ) → Late u i v → Late v j x → Late x k y → Late y n z → Moves u n z
 moved u v x y z i j k n a b d e = (i, j, k, (v, a, (x, b, (y, d, (z, e, refl)))), late_late u v x i j a b, late_late v x y j k b d, late_late x y z k n d e)
-
-pub if_ok_so : {A B : Type 0} (r : Result A B) (P Q : A → Type 0) → ((a : A) → P a → Q a) → IfOk r P → IfOk r Q
-if_ok_so (Ok a) P Q f h = f a h
-if_ok_so (Err e) P Q f h = h
-
-pub if_err_so : {A B : Type 0} (r : Result A B) (P Q : B → Type 0) → ((b : B) → P b → Q b) → IfErr r P → IfErr r Q
-if_err_so (Ok a) P Q f h = h
-if_err_so (Err e) P Q f h = f e h

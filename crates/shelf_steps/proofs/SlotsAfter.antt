@@ -1,4 +1,5 @@
 -- Where the slots are after a step.
+use Rattle.reasoning.proofs.ListLemmas.{slice_get-set_other}
 use Rattle.image_layout.specs.Image.{ImageValue}
 use Rattle.std.proofs.Common.{◌≡◌, ◌≢◌, ℕ, ◌+◌, ◌*◌, ◌<◌, ◌≤◌, ◌⊎◌, List, length, set, Option, Some, slice_get, ap, sym, ◌∙◌, subst, arith, inl, inr, lt_of_not-le}
 use mathlib.Core.Logic.{dite}
@@ -9,7 +10,6 @@ use lib.ListN.{get_elem?}
 use Rattle.atomic_table.proofs.Lists.{set_here, set_else}
 use Rattle.version_core.specs.declared.state.Shelf.{Shelf}
 use Rattle.version_core.specs.declared.state.Worker.{Worker}
-use Rattle.version_core.proofs.Lists.{slice_get-set_other}
 use Rattle.shelf_steps.specs.declared.edition.Edition.{Edition}
 use Rattle.shelf_steps.specs.Slots.{Slot, IsFilled, IsSpare, SlotFits, SlotsFit}
 use Rattle.shelf_steps.proofs.Courses.{edition_later, prefix_same}

@@ -1,11 +1,12 @@
 -- Words, and what they show.
-use Rattle.std.proofs.Common.{◌≡◌, ◌≢◌, ℕ, zero, suc, ◌+◌, ◌-◌, ◌*◌, ◌/◌, ◌%◌, ◌<◌, ◌≤◌, ◌==◌, Bool, true, false, MatchBool, List, [], ◌∷◌, ◌++◌, length, set, get_or, Some, slice_get, refl, ap, sym, ◌∙◌, subst, arith, length-set, get_or-set_same, get_or-set_other, ◌⊎◌, inl, inr}
+use Rattle.std.proofs.Common.{◌≡◌, ◌≢◌, ℕ, ◌+◌, ◌-◌, ◌*◌, ◌/◌, ◌%◌, ◌<◌, ◌≤◌, ◌==◌, Bool, true, false, MatchBool, List, [], ◌∷◌, ◌++◌, set, get_or, Some, slice_get, refl, ap, sym, ◌∙◌, subst, arith, length-set, get_or-set_same, get_or-set_other, ◌⊎◌, inl, inr}
 use Rattle.std.proofs.lemmas.List.{set-get_or}
 use Rattle.std.proofs.lemmas.List.Sums.{count_by-le-length}
 use Rattle.std.proofs.lemmas.Option.{slice_get_within}
 use Rattle.std.proofs.lemmas.Bool.Decides.{nat_tests}
 use mathlib.Core.Logic.{dite}
 use native.Mathlib.Decide.{ℕ_discrete}
+use Rattle.reasoning.proofs.ListLemmas.{at_below}
 use Rattle.version_core.specs.declared.event.Event.{Event}
 use Rattle.version_core.specs.declared.state.Shelf.{Shelf}
 use Rattle.version_core.specs.State.{State}
@@ -52,11 +53,6 @@ word_small Shelf.Free count small bound = omega arith
 word_small (Shelf.Open v) count small bound = let b = bound v (inl refl) in omega arith
 word_small (Shelf.Closing v) count small bound = let b = bound v (inr refl) in omega arith
 
-shelf_at : (xs : List Shelf) (k : ℕ) → k < length xs → (x : Shelf) × (slice_get xs k ≡ Some x)
-shelf_at [] k h = absurd (omega arith)
-shelf_at (x ∷ xs) zero h = (x, refl)
-shelf_at (x ∷ xs) (suc k) h = shelf_at xs k (omega arith)
-
 pub few_counted : (s : State) (k : ℕ) → Kept s → k < 8 → get_or s.counts k 0 ≤ 16
 few_counted s k kept small = let c = kept.counts.each k small in let l = kept.workers.sixteen in omega (arith, count_by-le-length (is_at k) s.workers)
 
@@ -68,7 +64,7 @@ version_bound s k x kept at v is = let r = kept.room in
 -- a shelf with its word, to which one may be added
 pub found_shelf : (words : List ℕ) (s : State) (k : ℕ) → Kept s → WordsShow words s → k < 8 → (x : Shelf) × (slice_get s.shelves k ≡ Some x) × (get_or words (k + 1) 0 ≡ shelf_word x (get_or s.counts k 0)) × (get_or words (k + 1) 0 + 1 < 18446744073709551616)
 found_shelf words s k kept w small =
-    let l = kept.shelves.eight in let x = shelf_at s.shelves k (omega arith) in let few = few_counted s k kept small in
+    let l = kept.shelves.eight in let x = at_below s.shelves k (omega arith) in let few = few_counted s k kept small in
     let is = w.each k x.0 x.1 in let top = word_small x.0 (get_or s.counts k 0) (omega arith) (version_bound s k x.0 kept x.1) in
     (x.0, x.1, is, (omega arith))
 

@@ -1,3 +1,5 @@
+//! An edition: a version with its verified image.
+
 use image_verifier::Verified;
 use std::alloc::Global;
 use std::sync::Arc;

@@ -1,13 +1,15 @@
 -- What a legal timetable within the limits gives to those who read it by place.
-use Rattle.std.proofs.Common.{◌≡◌, ℕ, zero, suc, ◌+◌, ◌<◌, ◌≤◌, length, Contains, Some, slice_get, refl, sym, ap, subst, ◌∙◌, arith, inl, inr}
-use Rattle.std.proofs.lemmas.Bool.{cases_eq}
-use Rattle.std.proofs.lemmas.Option.{slice_get-get_or, get_or_from_slice_get, same_Some}
+use Rattle.std.proofs.Common.{◌≡◌, ℕ, zero, suc, ◌+◌, ◌<◌, ◌≤◌, length, Contains, Some, slice_get, refl, sym, ap, subst, ◌∙◌, arith, inl, inr, List}
+use Rattle.std.proofs.lemmas.Bool.{cases_eq, cases_order}
+use Rattle.std.proofs.lemmas.Option.{slice_get-get_or, get_or_from_slice_get, same_Some, slice_get_within}
+use Rattle.std.proofs.Common.{[], ◌∷◌, ◌++◌, length-append}
 pub use Rattle.reasoning.proofs.ListLemmas.{contains_at as Contains-At, at_contains as At-Contains}
+use Rattle.reasoning.proofs.ListLemmas.{slice_get-front, slice_get-last}
 use Rattle.timetable.specs.declared.network.Connection.{Connection}
 use Rattle.timetable.specs.declared.network.Footpath.{Footpath}
 use Rattle.timetable.specs.declared.limits.TheConstants.{MAX_WALK_SECS, TIME_END}
 use Rattle.timetable.specs.TimetableValue.{TimetableValue}
-use Rattle.timetable.specs.Legal.{At, HasFootpath, IsLegal}
+use Rattle.timetable.specs.Legal.{At, HasFootpath, IsLegal, AreInOrder, IsOrderedBefore}
 use Rattle.timetable.specs.LegalProp.{same_place}
 use Rattle.timetable.specs.Limits.{IsWithinLimits}
 use Rattle.timetable.specs.Journeys.{connection_at, no_connection}
@@ -70,3 +72,20 @@ pub walk_limit : (t : TimetableValue) → IsWithinLimits t → (f : Footpath) �
 walk_limit t limits f in_f =
     let at_f = At-Contains t.footpaths f in_f in
     limits.walks at_f.0 f at_f.1
+
+-- a footpath behind all others
+pub in_order_push : (paths : List Footpath) (f : Footpath) → AreInOrder paths → ((e : Footpath) → Contains paths e → IsOrderedBefore e f)
+    → AreInOrder (paths ++ f ∷ [])
+in_order_push paths f in_order after i d e at_d at_e =
+    let size : length (paths ++ f ∷ []) ≡ length paths + 1 = length-append paths (f ∷ []) in
+    let inside : i + 1 < length paths + 1 = omega (arith, size, slice_get_within (paths ++ f ∷ []) (i + 1) e at_e) in
+    let d_inside : i < length paths = omega (arith, inside) in
+    let was_d : At paths i d = sym (slice_get-front paths (f ∷ []) i d_inside) ∙ at_d in
+    elim (cases_order (i + 1) (length paths)) [
+      | inl same ↦
+          let at_end : At (paths ++ f ∷ []) (length paths) e = subst (λ (n : ℕ). At (paths ++ f ∷ []) n e) same at_e in
+          let equal : f ≡ e = same_Some f e (sym (slice_get-last paths f) ∙ at_end) in
+          subst (λ (g : Footpath). IsOrderedBefore d g) equal (after d (Contains-At paths i d was_d))
+      | inr (inl below) ↦ in_order i d e was_d (sym (slice_get-front paths (f ∷ []) (i + 1) below) ∙ at_e)
+      | inr (inr above) ↦ absurd (omega (arith, inside, above))
+    ]

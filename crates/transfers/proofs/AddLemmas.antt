@@ -2,12 +2,9 @@
 use Rattle.std.proofs.Common.{◌≡◌, ◌↔◌, ℕ, ◌+◌, ◌<◌, ◌⊎◌, inl, inr, List, [], ◌∷◌, ◌++◌, length, take, get_or, Contains, sym, subst, arith}
 use Rattle.std.proofs.lemmas.List.{take_more, take_all}
 use Rattle.std.proofs.lemmas.List.Elements.{Contains-push, Contains-push_cases, Contains-append_left}
+use Rattle.reasoning.proofs.ListLemmas.{not_in_nil}
 use Rattle.transfers.specs.declared.claims.Claim.{Claim}
 use Rattle.transfers.specs.Claims.{Adds, ForOneOf}
-
--- an empty list has no element
-pub contains_nothing : {X : Type 0} (x : X) → Contains [] x → ⊥
-contains_nothing x (k, below, is) = omega (arith, below)
 
 -- nothing is added
 pub adds_nothing : (claims : List Claim) (made : Claim → Type 0) → ((c : Claim) → ¬ made c) → Adds claims claims made
@@ -44,7 +41,7 @@ adds_then old mid new P Q R first second either before step = record {
 module _ {X : Type 0} (xs : List X) (made : X → Claim → Type 0) where
   -- none of no elements
   pub adds_none : (claims : List Claim) → Adds claims claims (ForOneOf (take 0 xs) made)
-  adds_none claims = adds_nothing claims (ForOneOf (take 0 xs) made) (λ c m. contains_nothing m.0 m.1)
+  adds_none claims = adds_nothing claims (ForOneOf (take 0 xs) made) (λ c m. not_in_nil m.0 m.1)
 
   -- one element more
   pub adds_more : (i : ℕ) (d : X) (old mid new : List Claim) → i < length xs → Adds old mid (ForOneOf (take i xs) made) → Adds mid new (made (get_or xs i d))

@@ -3,6 +3,8 @@ use Rattle.std.proofs.Common.{◌≡◌, ◌==◌, ℕ, ◌<◌, ◌⊎◌, inl,
 use Rattle.std.specs.List.{slice_get}
 use Rattle.std.proofs.lemmas.Bool.{eqb-true, eq-eqb, false≢true}
 use Rattle.std.proofs.lemmas.Option.{same_Some, none-some, slice_get_within}
+use Rattle.reasoning.proofs.ListLemmas.{contains_at, at_contains, same_at, at_below}
+use Rattle.reasoning.proofs.OrderLemmas.{own_equal}
 use Rattle.timetable.specs.Legal.{At}
 use Rattle.gtfs_tables.specs.declared.tables.Stop.{Stop}
 use Rattle.gtfs_tables.specs.declared.tables.Transfer.{Transfer}
@@ -19,7 +21,7 @@ use Rattle.transfers.specs.Lookup.{stop_named, station_named}
 use Rattle.transfers.specs.Claims.{Adds, ForOneOf, IsPairClaim, IsRowInto, IsNumberedClaim, IsClaimBy, IsSiblingPair, IsSiblingInto, IsSiblingClaim, IsRowClaim}
 use Rattle.transfers.specs.Claims.{IsLoopClaim, IsLoopOf, IsStationClaim, IsStopClaim, IsClaimInto, AreStoodFor, AreChildren}
 use Rattle.transfers.proofs.AddLemmas.{adds_one, adds_same, adds_then, adds_nothing}
-use Rattle.transfers.proofs.ListLemmas.{at_contains, contains_at, same_at, at_map, from_map, at_below}
+use Rattle.transfers.proofs.ListLemmas.{at_map, from_map}
 
 -- a station is the one that it is
 pub station_is : (o : Option ℕ) (station : ℕ) → is_station o station ≡ true → o ≡ Some station
@@ -272,15 +274,12 @@ module _ (all : List Stop) (rows : List Transfer) (to : ℕ) where
     word_is = h.word_is;
   }))
 
-  own_stands : (n : ℕ) → (n == n) ≡ true
-  own_stands n = eq-eqb n n refl
-
   -- all that is claimed of the ways into a stop of the feed
   pub adds_ways : (stop : Stop) (old mid new : List Claim) → At all to stop → Adds old mid (IsClaimBy all rows (TheStop to) to)
       → Adds mid new (IsStopClaim all rows stop.station to) → Adds old new (IsClaimInto all rows to)
   adds_ways stop old mid new at first second = adds_then old mid new (IsClaimBy all rows (TheStop to) to) (IsStopClaim all rows stop.station to)
       (IsClaimInto all rows to)
-      (λ c h. by_there (TheStop to) c (own_stands to) h)
+      (λ c h. by_there (TheStop to) c (own_equal to) h)
       (λ c h. stop_there stop at stop.station refl c h)
       (λ c h. stop_cases stop at stop.station refl c h)
       first second
@@ -289,7 +288,7 @@ module _ (all : List Stop) (rows : List Transfer) (to : ℕ) where
   pub adds_no_stop : (old new : List Claim) → slice_get all to ≡ None → Adds old new (IsClaimBy all rows (TheStop to) to)
       → Adds old new (IsClaimInto all rows to)
   adds_no_stop old new none h = adds_same old new (IsClaimBy all rows (TheStop to) to) (IsClaimInto all rows to)
-      (λ c h. by_there (TheStop to) c (own_stands to) h)
+      (λ c h. by_there (TheStop to) c (own_equal to) h)
       back h
     where
       no_station : (c : Claim) → c.to ≡ to → station_of all c.to ≡ None

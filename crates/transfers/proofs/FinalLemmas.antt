@@ -7,14 +7,13 @@ use Rattle.timetable.specs.declared.network.Footpath.{Footpath}
 use Rattle.timetable.specs.Legal.{At, HasFootpath, AreInOrder}
 use Rattle.std.specs.List.Sorted.{IsPermutation}
 use Rattle.std.proofs.lemmas.List.Sorted.{Contains-permutation, IsPermutation-sym}
+use Rattle.reasoning.proofs.ListLemmas.{not_in_nil, contains_at, at_contains, same_at}
 use Rattle.gtfs_tables.specs.declared.tables.Feed.{Feed}
 use Rattle.transfers.specs.declared.claims.Word.{Word}
 use Rattle.transfers.specs.declared.claims.Word.TheVariants.{Takes}
 use Rattle.transfers.specs.declared.claims.Claim.{Claim}
 use Rattle.transfers.specs.Listed.{AreListed, word_between, secs_of, listed_secs}
 use Rattle.transfers.specs.Claims.{Adds, AreSorted, ComesBefore, IsClaimInto, IsFirstAt, ArePathsBelow, IsHeardBefore, source_number}
-use Rattle.transfers.proofs.AddLemmas.{contains_nothing}
-use Rattle.transfers.proofs.ListLemmas.{contains_at, at_contains, same_at}
 use Rattle.transfers.proofs.PathLemmas.{first_strict, footpath_of}
 use Rattle.transfers.proofs.RangeLemmas.{secs_given}
 use Rattle.transfers.proofs.WordLemmas.{IsHeardFirst, word_of_first, claim_between, heard_refl}
@@ -103,7 +102,7 @@ pub moved_claims : (none before claims : List Claim) (made : Claim → Type 0) �
     → (c : Claim) → Contains claims c ↔ made c
 moved_claims none before claims made empty h moved c = (
   λ is_in. elim (h.only c (Contains-permutation claims before c (IsPermutation-sym before claims moved) is_in)) [
-    | inl was ↦ absurd (contains_nothing c (subst (λ (xs : List Claim). Contains xs c) empty was))
+    | inl was ↦ absurd (not_in_nil c (subst (λ (xs : List Claim). Contains xs c) empty was))
     | inr is ↦ is
   ],
   λ is. Contains-permutation before claims c moved (h.added c is),

@@ -4,13 +4,13 @@ use Rattle.std.proofs.Common.{sym, ap, subst, ◌∙◌, arith, length-append}
 use Rattle.std.proofs.lemmas.Option.{same_Some, none-some, slice_get_within}
 use Rattle.std.proofs.lemmas.Bool.{cases_eq}
 use Rattle.std.proofs.lemmas.List.Elements.{All-weaker, All-contains_itself}
+use Rattle.reasoning.proofs.ListLemmas.{at_contains, slice_get-append}
 use Rattle.timetable.specs.declared.network.Footpath.{Footpath}
 use Rattle.timetable.specs.Legal.{At, HasFootpath, IsOrderedBefore, AreInOrder}
 use Rattle.gtfs_tables.specs.declared.tables.Feed.{Feed}
 use Rattle.transfers.specs.Listed.{NamesStops, AreListed, LeadBelow, ListsMore, ListsMoreBelow, listed_secs}
 use Rattle.transfers.specs.Lookup.{EndsBelow}
-use Rattle.transfers.proofs.ListLemmas.{at_contains}
-use Rattle.transfers.proofs.PathLemmas.{get_left, footpath_of}
+use Rattle.transfers.proofs.PathLemmas.{footpath_of}
 use Rattle.transfers.proofs.RangeLemmas.{listed_below, loop_listed}
 
 -- what stands at a place of two lists stands in the one or in the other
@@ -21,9 +21,6 @@ split_at (x ∷ xs) ys (suc i) f at = elim (split_at xs ys i f at) [
   | inl (below, here) ↦ inl (omega (arith, below), here)
   | inr (k, is, there) ↦ inr (k, omega (arith, is), there)
 ]
-
-at_left : (xs ys : List Footpath) (i : ℕ) (f : Footpath) → At xs i f → At (xs ++ ys) i f
-at_left xs ys i f at = get_left xs ys i (slice_get_within xs i f at) ∙ at
 
 at_right : (xs ys : List Footpath) (k : ℕ) (f : Footpath) → At ys k f → (i : ℕ) × At (xs ++ ys) i f
 at_right [] ys k f at = (k, at)
@@ -63,7 +60,7 @@ module _ (feed : Feed) where
         | inr (k, e, there) ↦ let (meant, is) = rear.has from to secs (k, there) in (right from to meant, is)
       ];
       each = λ from to secs meant is. elim (either from to meant) [
-        | inl p ↦ let (i, at) = front.each from to secs p is in (i, at_left xs ys i (footpath_of from to secs) at)
+        | inl p ↦ let (i, at) = front.each from to secs p is in (i, slice_get-append xs ys i (footpath_of from to secs) at)
         | inr q ↦ let (k, at) = rear.each from to secs q is in at_right xs ys k (footpath_of from to secs) at
       ];
     }

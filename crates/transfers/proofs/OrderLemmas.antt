@@ -1,13 +1,13 @@
 -- The order of claims.
-use Rattle.std.proofs.Common.{◌≡◌, ℕ, ◌<◌, ◌≤◌, inl, inr, List, false, get_or, refl, sym, ap, ◌∙◌, arith}
+use Rattle.std.proofs.Common.{◌≡◌, ℕ, ◌≤◌, inl, inr, List, false, get_or, refl, sym, ap, ◌∙◌, arith}
 use Rattle.std.specs.declared.cmp.Ordering.{Ordering}
 use Rattle.std.specs.declared.cmp.Ordering.TheVariants.{Less, Equal, Greater}
 use Rattle.std.specs.Ordering.{is_lt, nat_cmp, ordering_then}
 use Rattle.std.specs.List.Sorted.{IsSorted}
 use Rattle.std.proofs.lemmas.Bool.{cases_lt, false≢true}
-use Rattle.std.proofs.lemmas.Bool.Decides.{nat_tests}
 use Rattle.std.proofs.lemmas.Option.{slice_get_within, get_or_from_slice_get}
 use Rattle.std.proofs.lemmas.List.Sorted.{sorted_far, ranks_by}
+use Rattle.reasoning.proofs.OrderLemmas.{nat_less, nat_equal}
 use Rattle.transfers.specs.declared.claims.Source.{Source}
 use Rattle.transfers.specs.declared.claims.Source.TheVariants.{Stops, Station, Default}
 use Rattle.transfers.specs.declared.claims.Word.{Word}
@@ -73,16 +73,10 @@ first_part m n o h = elim (cases_lt m n) [
       absurd (false≢true (sym h ∙ ap (λ (x : Ordering). is_lt (ordering_then x o)) e))
   | inr more ↦ more
 ]
-  where
-    nat_less : (m n : ℕ) → m < n → nat_cmp m n ≡ Less
-    nat_less m n less = grind (arith, nat_tests)
 
 -- and where that is the same, not in the others
 next_part : (m n : ℕ) (o : Ordering) → m ≡ n → is_lt (ordering_then (nat_cmp m n) o) ≡ false → is_lt o ≡ false
 next_part m n o same h = sym (ap (λ (x : Ordering). is_lt (ordering_then x o)) (nat_equal m n same)) ∙ h
-  where
-    nat_equal : (m n : ℕ) → m ≡ n → nat_cmp m n ≡ Equal
-    nat_equal m n same = grind (arith, nat_tests)
 
 word_part : (w v : Word) → is_lt (word_cmp v w) ≡ false → IsHeardBefore w v
 word_part Never v h = tt

@@ -1,17 +1,17 @@
 -- The footpaths of the first claims on their pairs.
-use Rattle.std.proofs.Common.{◌≡◌, ℕ, zero, suc, ◌+◌, ◌-◌, ◌<◌, ◌≤◌, inl, inr, List, [], ◌∷◌, ◌++◌, length, Some, Contains, get_or, refl, sym, ap, subst, ◌∙◌}
-use Rattle.std.proofs.Common.{arith, append-nil, length-append}
-use Rattle.std.specs.List.{slice_get}
-use Rattle.std.proofs.lemmas.Option.{same_Some, slice_get-get_or, slice_get_within}
-use Rattle.std.proofs.lemmas.Bool.{cases_eq, cases_lt, cases_order}
+use Rattle.std.proofs.Common.{◌≡◌, ℕ, suc, ◌+◌, ◌-◌, ◌<◌, ◌≤◌, inl, inr, List, [], ◌∷◌, ◌++◌, Contains, get_or, refl, sym, ap, subst, ◌∙◌}
+use Rattle.std.proofs.Common.{arith, append-nil}
+use Rattle.std.proofs.lemmas.Option.{slice_get-get_or, slice_get_within}
+use Rattle.std.proofs.lemmas.Bool.{cases_eq, cases_lt}
 use Rattle.std.proofs.lemmas.List.Elements.{Contains-push, Contains-push_cases, Contains-append_left}
+use Rattle.reasoning.proofs.ListLemmas.{same_at}
 use Rattle.timetable.specs.declared.network.Footpath.{Footpath}
-use Rattle.timetable.specs.Legal.{At, IsOrderedBefore, AreInOrder}
+use Rattle.timetable.specs.Legal.{At, AreInOrder}
 use Rattle.transfers.specs.declared.claims.Word.{Word}
 use Rattle.transfers.specs.declared.claims.Word.TheVariants.{Never, Takes}
 use Rattle.transfers.specs.declared.claims.Claim.{Claim}
 use Rattle.transfers.specs.Claims.{ComesBefore, AreSorted, IsFirstAt, IsPathAt, ArePathsBelow, path_of}
-use Rattle.transfers.proofs.ListLemmas.{contains_at, same_at}
+use Rattle.timetable.proofs.LegalFacts.{in_order_push}
 
 abbrev pub secs_in : Word → ℕ
 secs_in Never = 0
@@ -29,32 +29,6 @@ footpath_of from to secs = record { from = from; to = to; secs = secs }
 same_path : (from to secs : ℕ) (f : Footpath) → from ≡ f.from → to ≡ f.to → secs ≡ f.secs → footpath_of from to secs ≡ f
 same_path from to secs f e_from e_to e_secs =
     ap (λ (n : ℕ). footpath_of n to secs) e_from ∙ ap (λ (n : ℕ). footpath_of f.from n secs) e_to ∙ ap (λ (n : ℕ). footpath_of f.from f.to n) e_secs
-
-pub get_left : (xs ys : List Footpath) (i : ℕ) → i < length xs → slice_get (xs ++ ys) i ≡ slice_get xs i
-get_left [] ys i below = absurd (omega (arith, below))
-get_left (x ∷ xs) ys zero below = refl
-get_left (x ∷ xs) ys (suc i) below = get_left xs ys i (omega (arith, below))
-
-get_end : (xs : List Footpath) (f : Footpath) → slice_get (xs ++ f ∷ []) (length xs) ≡ Some f
-get_end [] f = refl
-get_end (x ∷ xs) f = get_end xs f
-
--- a footpath behind all others
-in_order_push : (paths : List Footpath) (f : Footpath) → AreInOrder paths → ((e : Footpath) → Contains paths e → IsOrderedBefore e f)
-    → AreInOrder (paths ++ f ∷ [])
-in_order_push paths f in_order after i d e at_d at_e =
-    let size : length (paths ++ f ∷ []) ≡ length paths + 1 = length-append paths (f ∷ []) in
-    let inside : i + 1 < length paths + 1 = omega (arith, size, slice_get_within (paths ++ f ∷ []) (i + 1) e at_e) in
-    let d_inside : i < length paths = omega (arith, inside) in
-    let was_d : At paths i d = sym (get_left paths (f ∷ []) i d_inside) ∙ at_d in
-    elim (cases_order (i + 1) (length paths)) [
-      | inl same ↦
-          let at_end : At (paths ++ f ∷ []) (length paths) e = subst (λ (n : ℕ). At (paths ++ f ∷ []) n e) same at_e in
-          let equal : f ≡ e = same_Some f e (sym (get_end paths f) ∙ at_end) in
-          subst (λ (g : Footpath). IsOrderedBefore d g) equal (after d (contains_at paths i d was_d))
-      | inr (inl below) ↦ in_order i d e was_d (sym (get_left paths (f ∷ []) (i + 1) below) ∙ at_e)
-      | inr (inr above) ↦ absurd (omega (arith, inside, above))
-    ]
 
 -- before the first claim on a pair none stands on it
 pub first_strict : (claims : List Claim) → AreSorted claims → (k place : ℕ) (e c : Claim) → k < place → At claims k e → At claims place c

@@ -1,8 +1,9 @@
 -- What is said of a pair of stops, and the first claim on it.
-use Rattle.std.proofs.Common.{◌≡◌, ◌==◌, ◌&&◌, ℕ, zero, suc, ◌≤◌, ◌⊎◌, inl, inr, nat_lt, List, [], ◌∷◌, length, if◌then◌else◌, Bool, true, false, Option, Some}
+use Rattle.std.proofs.Common.{◌≡◌, ◌==◌, ◌&&◌, ℕ, suc, ◌≤◌, ◌⊎◌, inl, inr, nat_lt, List, [], ◌∷◌, length, if◌then◌else◌, Bool, true, false, Option, Some}
 use Rattle.std.proofs.Common.{None, Contains, refl, sym, ap, subst, ◌∙◌, arith}
 use Rattle.std.proofs.lemmas.Option.{same_Some, none-some}
-use Rattle.std.proofs.lemmas.Bool.{false≢true, cases_lt, and_parts, ne_eqb, eq-eqb, lt-ltb, ltb-true, eqb-true, eqb-false}
+use Rattle.std.proofs.lemmas.Bool.{false≢true, cases_lt, and_parts, ne_eqb, eq-eqb, lt-ltb, ltb-true, eqb-true, eqb-false, and_from}
+use Rattle.reasoning.proofs.ListLemmas.{not_in_nil, contains_first, contains_rest, contains_cases}
 use Rattle.timetable.specs.First.{or_else}
 use Rattle.transfers.specs.declared.claims.Source.{Source}
 use Rattle.transfers.specs.declared.claims.Source.TheVariants.{Stops, Station, Default}
@@ -17,7 +18,6 @@ use Rattle.gtfs_tables.specs.declared.tables.Place.TheVariants.{Stop as TheStop,
 use Rattle.transfers.specs.Listed.{word_for, least_word, heard, said_by, is_source, source_of, source_by, stands_for, word_of, default_word, is_of, station_of}
 use Rattle.transfers.specs.Listed.{word_between}
 use Rattle.transfers.specs.Claims.{IsHeardBefore, IsRowClaim, IsClaim, source_number}
-use Rattle.transfers.proofs.AddLemmas.{contains_nothing}
 use Rattle.transfers.proofs.ClaimLemmas.{claim_of}
 
 -- words are heard in one order
@@ -54,17 +54,6 @@ least_one (Takes m) (Takes n) = elim (cases_lt m n) [
   | inl below ↦ inl (ap (λ (x : ℕ). Takes x) (omega (arith, below)))
   | inr above ↦ inr (ap (λ (x : ℕ). Takes x) (omega (arith, above)))
 ]
-
--- an element of a list is the first, or one of the rest
-pub contains_cases : {X : Type 0} (x y : X) (ys : List X) → Contains (y ∷ ys) x → (y ≡ x) ⊎ Contains ys x
-contains_cases x y ys (zero, below, is) = inl is
-contains_cases x y ys (suc k, below, is) = inr (k, omega (arith, below), is)
-
-pub contains_first : {X : Type 0} (x : X) (ys : List X) → Contains (x ∷ ys) x
-contains_first x ys = (0, omega arith, refl)
-
-pub contains_rest : {X : Type 0} (x y : X) (ys : List X) → Contains ys x → Contains (y ∷ ys) x
-contains_rest x y ys (k, below, is) = (suc k, omega (arith, below), is)
 
 -- a row says it
 abbrev pub IsSaid : List Stop → Source → ℕ → ℕ → List Transfer → Word → Type 0
@@ -119,15 +108,11 @@ module _ (stops : List Stop) (source : Source) (from to : ℕ) where
   -- what the transfers say is the first of it
   pub first_said : (rows : List Transfer) → IsFirstSaid stops source from to rows (said_by stops source from to rows)
   first_said [] = record {
-    nothing = λ none w (x, is_in, is). contains_nothing x is_in;
+    nothing = λ none w (x, is_in, is). not_in_nil x is_in;
     something = λ w is. absurd (none-some w is);
     first = λ w v is said. absurd (none-some w is);
   }
   first_said (row ∷ rows) = step row rows (word_for stops source from to row) refl (said_by stops source from to rows) (first_said rows)
-
-and_both : (a b : Bool) → a ≡ true → b ≡ true → (a && b) ≡ true
-and_both true b h k = k
-and_both false b h k = h
 
 if_some : (b : Bool) (x : Option Word) (w : Word) → (if b then x else None) ≡ Some w → (b ≡ true) × (x ≡ Some w)
 if_some true x w e = (refl, e)
@@ -163,8 +148,8 @@ pub word_of_claim : (stops : List Stop) (row : Transfer) (c : Claim) → IsRowCl
 word_of_claim stops row c h =
     let same : is_source (source_of row) c.source ≡ true = subst (λ (s : Source). is_source s c.source ≡ true) h.source_is (is_source_same c.source) in
     let all : (is_source (source_of row) c.source && stands_for stops row.from c.from && stands_for stops row.to c.to) ≡ true =
-    and_both (is_source (source_of row) c.source && stands_for stops row.from c.from) (stands_for stops row.to c.to)
-    (and_both (is_source (source_of row) c.source) (stands_for stops row.from c.from) same h.from_stands) h.to_stands in
+    and_from (is_source (source_of row) c.source && stands_for stops row.from c.from) (stands_for stops row.to c.to)
+    (and_from (is_source (source_of row) c.source) (stands_for stops row.from c.from) same h.from_stands) h.to_stands in
     ap (λ (b : Bool). if b then word_of row (c.from == c.to) else None) all ∙ h.word_is
 
 -- no row speaks by default

@@ -1,6 +1,7 @@
 -- The footpaths that a feed lists. (GTFS Schedule Reference, stops.txt and transfers.txt; the times where none is given are our own.)
-use Rattle.std.specs.Prelude.{◌≡◌, ◌==◌, ◌&&◌, ◌<◌, ◌≤◌, ◌↔◌, ℕ, min, nat_lt, Bool, true, false, if◌then◌else◌, List, [], ◌∷◌, All, length, slice_get, Option}
+use Rattle.std.specs.Prelude.{◌≡◌, ◌==◌, ◌&&◌, ◌<◌, ◌≤◌, ◌↔◌, ℕ, min, nat_lt, Bool, true, false, if◌then◌else◌, List, [], ◌∷◌, length, slice_get, Option}
 use Rattle.std.specs.Prelude.{Some, None}
+pub use Rattle.reasoning.specs.Options.{is_that_number as is_station}
 use Rattle.timetable.specs.First.{or_else}
 use Rattle.timetable.specs.Legal.{HasFootpath, AreInOrder}
 use Rattle.timetable.specs.declared.network.Footpath.{Footpath}
@@ -15,15 +16,7 @@ use Rattle.transfers.specs.declared.claims.Source.{Source}
 use Rattle.transfers.specs.declared.claims.Source.TheVariants.{Stops, Station, Default}
 use Rattle.transfers.specs.declared.claims.Word.{Word}
 use Rattle.transfers.specs.declared.claims.Word.TheVariants.{Never, Takes}
-
--- a stop that the place names is one of so many
-abbrev pub NamesBelow : ℕ → Place → Type 0
-NamesBelow stops (TheStop stop) = stop < stops
-NamesBelow stops (TheStation station) = Unit {0}
-
--- each stop that a transfer names is one of the feed's
-abbrev pub NamesStops : Feed → Type 0
-NamesStops feed = All (λ row. NamesBelow (length feed.stops.items) row.from × NamesBelow (length feed.stops.items) row.to) feed.transfers.items
+pub use Rattle.gtfs_tables.specs.Joined.{NamesBelow, NamesItsStops as NamesStops}
 
 -- the station of a stop
 abbrev pub station_in : Option Stop → Option ℕ
@@ -32,11 +25,6 @@ station_in (Some stop) = stop.station
 
 abbrev pub station_of : List Stop → ℕ → Option ℕ
 station_of stops stop = station_in (slice_get stops stop)
-
--- whether a station is that one
-abbrev pub is_station : Option ℕ → ℕ → Bool
-is_station None station = false
-is_station (Some other) station = other == station
 
 -- whether a stop is one of the station's
 abbrev pub is_child : List Stop → ℕ → ℕ → Bool

@@ -1,4 +1,4 @@
-// What is said of a way on foot from a stop to a stop, and who says it.
+//! What is said of a way on foot from a stop to a stop, and who says it.
 
 ghost use Rattle.std.specs.Prelude.{◌≡◌, OnOk};
 ghost use Rattle.transfers.specs.declared.claims.Claim.{Claim};

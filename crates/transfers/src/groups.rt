@@ -1,4 +1,4 @@
-// The places of a list in groups, by their keys.
+//! The places of a list in groups, by their keys.
 
 ghost use Rattle.std.specs.Prelude.{◌≡◌, ◌≤◌, ◌++◌, List, Option, ℕ, length, map, slice_range, IfOk, OnOk};
 ghost use Rattle.std.specs.List.Sorted.{IsNonDecreasing};

@@ -1,4 +1,4 @@
-// The footpaths that a feed lists.
+//! The footpaths that a feed lists: for each pair of stops the time of the first claim that is heard, in the order of a timetable.
 
 ghost use Rattle.std.specs.Prelude.{◌≡◌, ◌<◌, ◌≤◌, ◌↔◌, ◌++◌, ◌+◌, ◌^◌, ℕ, All, length, Some, IfOk, IfErr, OnOk, true, false};
 ghost use Rattle.timetable.specs.Legal.{HasFootpath, AreInOrder};

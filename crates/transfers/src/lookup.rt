@@ -1,4 +1,4 @@
-// Which stops the places of transfers stand for, and which transfers lead where.
+//! Which stops the places of transfers stand for, and which transfers lead where.
 
 ghost use Rattle.std.specs.Prelude.{◌≡◌, ◌<◌, ◌≤◌, ◌+◌, ◌^◌, List, length, map, IfOk};
 ghost use Rattle.gtfs_tables.specs.declared.tables.Stop.{Stop as TheStop};

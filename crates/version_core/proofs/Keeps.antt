@@ -1,8 +1,8 @@
 -- Each step keeps what holds in every state.
 use Rattle.std.proofs.Common.{◌≡◌, ◌≢◌, ℕ, ◌+◌, ◌<◌, ◌≤◌, ◌==◌, Bool, true, false, MatchBool, length, ◌++◌, ◌∷◌, [], get_or, Some, slice_get, refl, ap, sym}
 use Rattle.std.proofs.Common.{◌∙◌, subst, arith, rules, ◌⊎◌, inl, inr, length-append}
-use Rattle.std.proofs.lemmas.Bool.Decides.{nat_tests}
 use Rattle.std.proofs.lemmas.Option.{slice_get_within}
+use Rattle.reasoning.proofs.OrderLemmas.{own_equal}
 use Rattle.version_core.specs.declared.state.Shelf.{Shelf}
 use Rattle.version_core.specs.declared.state.Worker.{Worker}
 use Rattle.version_core.specs.declared.event.Event.{Event}
@@ -57,16 +57,13 @@ arrive_late_kept s w v k kept has gone =
     let never : v ≢ s.current = λ e. gone (ap (λ n. slice_get s.shelves n) (f.4 e) ∙ (kept.shelves.current_open ∙ ap (λ n. Some (Shelf.Open n)) (sym e))) in
     arrived_kept s w v k (Worker.Late k) kept has (λ i. refl) (f.1, (omega arith))
 
-at_itself : (k : ℕ) → (k == k) ≡ true
-at_itself k = grind (arith, nat_tests)
-
 -- what is known of a worker that is at a shelf
 pub stays_fits : (s : State) (w k : ℕ) → Kept s → StaysAt s w k → (w < 16) × (k < 8) × (1 ≤ get_or s.counts k 0)
 stays_fits s w k kept stays =
     let e = kept.workers.sixteen in
     elim stays [
-      | inl a ↦ (let l = slice_get_within s.workers w _ a in let f = kept.workers.each w (Worker.Late k) a in (omega arith, f.0, counted_at s.counts s.workers w k (Worker.Late k) kept.counts f.0 a (at_itself k)))
-      | inr b ↦ (let v = b.0 in let l = slice_get_within s.workers w _ b.1 in let f = kept.workers.each w (Worker.Holding k v) b.1 in (omega arith, f.0, counted_at s.counts s.workers w k (Worker.Holding k v) kept.counts f.0 b.1 (at_itself k)))
+      | inl a ↦ (let l = slice_get_within s.workers w _ a in let f = kept.workers.each w (Worker.Late k) a in (omega arith, f.0, counted_at s.counts s.workers w k (Worker.Late k) kept.counts f.0 a (own_equal k)))
+      | inr b ↦ (let v = b.0 in let l = slice_get_within s.workers w _ b.1 in let f = kept.workers.each w (Worker.Holding k v) b.1 in (omega arith, f.0, counted_at s.counts s.workers w k (Worker.Holding k v) kept.counts f.0 b.1 (own_equal k)))
     ]
 
 departed_kept : (s : State) (w k : ℕ) (was : Worker) → Kept s → k < 8 → slice_get s.workers w ≡ Some was → ((i : ℕ) → is_at i was ≡ (k == i)) → get_or s.seen w 0 ≤ s.current → Kept (departed s w k)

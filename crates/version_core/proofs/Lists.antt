@@ -1,21 +1,10 @@
 -- Lists after a write, by `slice_get`.
-use Rattle.std.proofs.Common.{◌≡◌, ◌≢◌, ℕ, zero, suc, ◌+◌, ◌<◌, ◌≤◌, Bool, true, false, cond, List, [], ◌∷◌, ◌++◌, length, set, Some, slice_get, count_by, get_or, subst, refl, ap, sym, ◌∙◌, arith, ◌⊎◌, inl, inr, get_or-set_same, get_or-set_other}
+use Rattle.std.proofs.Common.{◌≡◌, ◌≢◌, ℕ, ◌+◌, ◌<◌, ◌≤◌, Bool, true, false, cond, List, length, set, Some, slice_get, count_by, get_or, subst, refl, ap, sym, ◌∙◌, arith, ◌⊎◌, inl, inr, get_or-set_same, get_or-set_other}
 use Rattle.std.proofs.lemmas.List.Sums.{sum_by-set, get_or-le-sum_by}
 use Rattle.std.proofs.lemmas.Option.{get_or_from_slice_get, slice_get_within}
 use mathlib.Core.Logic.{dite}
 use native.Mathlib.Decide.{ℕ_discrete}
-
-pub slice_get-set_same : {X : Type 0} (xs : List X) (i : ℕ) (y : X) → i < length xs → slice_get (set xs i y) i ≡ Some y
-slice_get-set_same [] i y within = absurd (omega arith)
-slice_get-set_same (x ∷ xs) zero y within = refl
-slice_get-set_same (x ∷ xs) (suc i) y within = slice_get-set_same xs i y (omega arith)
-
-pub slice_get-set_other : {X : Type 0} (xs : List X) (i j : ℕ) (y : X) → j ≢ i → slice_get (set xs i y) j ≡ slice_get xs j
-slice_get-set_other [] i j y other = refl
-slice_get-set_other (x ∷ xs) zero zero y other = absurd (other refl)
-slice_get-set_other (x ∷ xs) zero (suc j) y other = refl
-slice_get-set_other (x ∷ xs) (suc i) zero y other = refl
-slice_get-set_other (x ∷ xs) (suc i) (suc j) y other = slice_get-set_other xs i j y (λ e. other (ap (λ n. suc n) e))
+use Rattle.reasoning.proofs.ListLemmas.{slice_get-set_same, slice_get-set_other}
 
 -- an element after a write is the one that was written, or was there before
 pub slice_get-set : {X : Type 0} (xs : List X) (i j : ℕ) (y z : X) → i < length xs → slice_get (set xs i y) j ≡ Some z → ((j ≡ i) × (z ≡ y)) ⊎ ((j ≢ i) × (slice_get xs j ≡ Some z))
@@ -44,12 +33,3 @@ is_counted {X} p xs i x is =
 pub no_one : (b : Bool) → cond b 1 0 ≤ 0 → b ≡ false
 no_one true h = absurd (omega arith)
 no_one false h = refl
-
-pub slice_get-append : {X : Type 0} (xs ys : List X) (i : ℕ) (x : X) → slice_get xs i ≡ Some x → slice_get (xs ++ ys) i ≡ Some x
-slice_get-append [] ys i x is = absurd (cc)
-slice_get-append (y ∷ zs) ys zero x is = is
-slice_get-append (y ∷ zs) ys (suc i) x is = slice_get-append zs ys i x is
-
-pub slice_get-last : {X : Type 0} (xs : List X) (x : X) → slice_get (xs ++ x ∷ []) (length xs) ≡ Some x
-slice_get-last [] x = refl
-slice_get-last (y ∷ ys) x = slice_get-last ys x

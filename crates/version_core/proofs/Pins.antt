@@ -1,6 +1,7 @@
 -- A look and a take with no event between, and a drop of what is held.
 use Rattle.std.proofs.Common.{◌≡◌, ℕ, Some, slice_get, refl, ap, sym, ◌∙◌, subst, inl, inr}
 use Rattle.std.proofs.lemmas.Option.{slice_get_within}
+use Rattle.reasoning.proofs.ListLemmas.{slice_get-set_same}
 use Rattle.version_core.specs.declared.state.Shelf.{Shelf}
 use Rattle.version_core.specs.declared.state.Worker.{Worker}
 use Rattle.version_core.specs.declared.event.Event.{Event}
@@ -8,7 +9,6 @@ use Rattle.version_core.specs.declared.event.Reply.{Reply}
 use Rattle.version_core.specs.State.{State, looked, arrived, departed}
 use Rattle.version_core.specs.Steps.{IsIdle, HasLooked, Holds, StaysAt, Step, LookStep, TakeStep, DropStep}
 use Rattle.version_core.specs.Kept.{Kept}
-use Rattle.version_core.proofs.Lists.{slice_get-set_same}
 
 look_is : (s t : State) (w : ℕ) (r : Reply) → IsIdle s w → LookStep s w r t → (r ≡ Reply.Looked s.current s.current_shelf) × (t ≡ looked s w)
 look_is s t w (Reply.Looked v k) idle h = (ap (λ n. Reply.Looked n k) h.1 ∙ ap (λ n. Reply.Looked s.current n) h.2, h.3)

@@ -1,8 +1,9 @@
 -- How the table comes to rest.
-use Rattle.std.proofs.Common.{◌≡◌, ◌≢◌, ℕ, zero, suc, replicate, ◌+◌, ◌<◌, [], ◌∷◌, ◌++◌, length, set, Some, slice_get, refl, ap, sym, ◌∙◌, subst, arith, inl, inr, length-append}
+use Rattle.std.proofs.Common.{◌≡◌, ◌≢◌, ℕ, zero, suc, ◌+◌, ◌<◌, [], ◌∷◌, ◌++◌, length, set, Some, slice_get, refl, ap, sym, ◌∙◌, subst, arith, inl, inr, length-append}
 use Rattle.std.proofs.lemmas.Option.{slice_get_within, slice_get-get_or}
 use mathlib.Core.Logic.{dite}
 use native.Mathlib.Decide.{ℕ_discrete}
+use Rattle.reasoning.proofs.ListLemmas.{slice_get-replicate-is, slice_get-set_same, slice_get-set_other}
 use Rattle.version_core.specs.declared.state.Shelf.{Shelf}
 use Rattle.version_core.specs.declared.event.Event.{Event}
 use Rattle.version_core.specs.declared.event.Reply.{Reply}
@@ -12,18 +13,13 @@ use Rattle.version_core.specs.Steps.{NoteStep, JoinStep}
 use Rattle.version_core.specs.Runs.{Run}
 use Rattle.version_core.specs.Kept.{Kept}
 use Rattle.version_core.specs.Rest.{IsAtRest, IsNoLoad, loaded}
-use Rattle.version_core.proofs.Lists.{slice_get-set, slice_get-set_same, slice_get-set_other}
+use Rattle.version_core.proofs.Lists.{slice_get-set}
 use Rattle.version_core.proofs.Shelves.{version_at}
 use Rattle.version_core.proofs.Keeps.{none_waits, open_kept}
 
-slice_get-replicate : {X : Type 0} (n k : ℕ) (x y : X) → slice_get (replicate n x) k ≡ Some y → y ≡ x
-slice_get-replicate zero k x y is = absurd (cc)
-slice_get-replicate (suc n) zero x y is = cc
-slice_get-replicate (suc n) (suc k) x y is = slice_get-replicate n k x y is
-
 first_open : (k v : ℕ) → IsOpen start k v → v ≡ 1
 first_open zero v is = cc
-first_open (suc k) v is = let free = slice_get-replicate 7 k Shelf.Free (Shelf.Open v) is in absurd (cc)
+first_open (suc k) v is = let free = slice_get-replicate-is 7 k Shelf.Free (Shelf.Open v) is in absurd (cc)
 
 pub start_rests : IsAtRest start
 start_rests = record { published = refl; one_open = first_open }

@@ -1,10 +1,11 @@
 -- What runs keep, and how they are put together.
 use Rattle.std.proofs.Common.{◌≡◌, ℕ, zero, suc, ◌+◌, ◌-◌, ◌<◌, ◌≤◌, max, List, [], ◌∷◌, ◌++◌, length, set, get_or, take, Some, slice_get, refl, ap, sym, ◌∙◌}
-use Rattle.std.proofs.Common.{subst, arith, append_assoc, length-append, inr, Result, Ok, Err, OnErr, get_or-set_same, get_or-set_other}
+use Rattle.std.proofs.Common.{subst, arith, append_assoc, length-append, inr, get_or-set_same, get_or-set_other}
 use Rattle.std.proofs.lemmas.List.{append-nil, take_more}
 use Rattle.std.proofs.lemmas.Option.{slice_get_within, slice_get-get_or}
 use mathlib.Core.Logic.{dite}
 use native.Mathlib.Decide.{ℕ_discrete}
+use Rattle.reasoning.proofs.ListLemmas.{slice_get-append, slice_get-last, slice_get-set_same}
 use Rattle.version_core.specs.declared.state.Shelf.{Shelf}
 use Rattle.version_core.specs.declared.state.Worker.{Worker}
 use Rattle.version_core.specs.declared.event.Event.{Event}
@@ -14,7 +15,6 @@ use Rattle.version_core.specs.Steps.{IsIdle, IsOpen, Holds, IsSettled, Grows, Op
 use Rattle.version_core.specs.Steps.{CloseStep, CollectStep, AskStep, NoteStep, JoinStep}
 use Rattle.version_core.specs.Runs.{Run, LeastRun, IsRun, IsReached, IsLater, IsStopped}
 use Rattle.version_core.specs.Kept.{Kept}
-use Rattle.version_core.proofs.Lists.{slice_get-append, slice_get-last, slice_get-set_same}
 use Rattle.version_core.proofs.Rising.{most_left, most_right}
 use Rattle.version_core.proofs.Keeps.{start_kept, step_kept, held_known, settled_small}
 use Rattle.version_core.proofs.Replies.{one_reply}
@@ -255,7 +255,3 @@ asked s w k v kept holds =
     let known = held_known s w k v kept holds in
     let place = place_of s v known.1 known.2 in
     (place.0, place.1, λ r t h. answered s w k v place.0 r t holds place.1 h)
-
-pub on_err : {X Y : Type 0} (r : Result X Y) (P : Type 0) → P → OnErr r P
-on_err (Ok x) P p = tt
-on_err (Err e) P p = p

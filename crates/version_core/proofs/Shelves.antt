@@ -4,9 +4,10 @@ use Rattle.std.specs.Option.{option_and_then}
 use Rattle.std.proofs.lemmas.Option.{slice_get_within}
 use mathlib.Core.Logic.{dite}
 use native.Mathlib.Decide.{ℕ_discrete}
+use Rattle.reasoning.proofs.ListLemmas.{slice_get-set_same, slice_get-set_other}
 use Rattle.version_core.specs.declared.state.Shelf.{Shelf}
 use Rattle.version_core.specs.Kept.{version_of, version_on, ShelvesFit, NewestIsOpen}
-use Rattle.version_core.proofs.Lists.{slice_get-set_same, slice_get-set_other, slice_get-set}
+use Rattle.version_core.proofs.Lists.{slice_get-set}
 
 -- the version of a shelf that is found
 pub version_at : (xs : List Shelf) (k : ℕ) (x : Shelf) → slice_get xs k ≡ Some x → version_on xs k ≡ version_of x

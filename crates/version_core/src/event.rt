@@ -1,3 +1,5 @@
+//! The events of the table of versions, and what they answer.
+
 /// What may happen to the table. Workers are numbered from 0 to 15, shelves from 0 to 7.
 #[derive(Clone, Copy, PartialEq, Eq, Debug)]
 pub enum Event {

@@ -1,3 +1,5 @@
+//! The table of versions, and what each event does to it.
+
 ghost use Rattle.std.specs.Prelude.{◌≡◌, ℕ, ◌<◌, ◌≤◌, max, IfOk, OnErr, MatchBool, MatchOption, slice_get, slice_index, Some};
 ghost use Rattle.version_core.specs.State.{start, edition_of, looked, arrived, departed, joined};
 ghost use Rattle.version_core.specs.Steps.{IsIdle, HasLooked, Holds, StaysAt, IsFree, IsOpen, IsClosing, IsUnpublished, IsOutdated, IsSettled, IsNoted};

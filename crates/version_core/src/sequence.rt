@@ -1,3 +1,5 @@
+//! Events taken one after another.
+
 ghost use Rattle.std.specs.Prelude.{IfOk, OnErr};
 ghost use Rattle.version_core.specs.Runs.{Run, LeastRun, IsStopped};
 

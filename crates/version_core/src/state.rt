@@ -1,3 +1,5 @@
+//! The parts of the table of versions: shelves, workers, and the greatest version.
+
 /// The greatest version.
 pub const MOST_VERSIONS: u64 = 1_000_000_000;
 

@@ -1,6 +1,6 @@
 use Rattle.std.proofs.Common.{inl, inr, refl}
-use Rattle.std.proofs.lemmas.Result.{err_from_is_err_and}
-use Rattle.feed_loader.proofs.LoadLemmas.{feed_refused, if_err, if_ok}
+use Rattle.std.proofs.lemmas.Result.{err_from_is_err_and, IfOk-weaker, IfErr-weaker}
+use Rattle.feed_loader.proofs.LoadLemmas.{feed_refused}
 use Rattle.feed_loader.proofs.loading.load.Goals as goal
 
 -- the tables are read, and don't join
@@ -17,8 +17,8 @@ returns-in_err-feed-clause-err g c = λ content tells.
 
 pub returns-clause-ok : goal.returns-clause-ok
 returns-clause-ok g c = λ content tells.
-    if_ok _ _ c.image_of.result (λ made is. record { feed = c.in_ok-feed.feed; read = record { t = c.in_ok-tables.tables; held = c.in_ok-tables.ensures.ok content tells; joined = c.in_ok-feed.ensures.ok }; made = is }) c.image_of.ensures.ok
+    IfOk-weaker c.image_of.result _ _ (λ made is. record { feed = c.in_ok-feed.feed; read = record { t = c.in_ok-tables.tables; held = c.in_ok-tables.ensures.ok content tells; joined = c.in_ok-feed.ensures.ok }; made = is }) c.image_of.ensures.ok
 
 pub returns-clause-err : goal.returns-clause-err
 returns-clause-err g c = λ content tells.
-    if_err _ _ c.image_of.result (λ fault wrong. feed_refused content c.args.plan.now c.in_ok-feed.feed fault (record { t = c.in_ok-tables.tables; held = c.in_ok-tables.ensures.ok content tells; joined = c.in_ok-feed.ensures.ok }) wrong) c.image_of.ensures.err
+    IfErr-weaker c.image_of.result _ _ (λ fault wrong. feed_refused content c.args.plan.now c.in_ok-feed.feed fault (record { t = c.in_ok-tables.tables; held = c.in_ok-tables.ensures.ok content tells; joined = c.in_ok-feed.ensures.ok }) wrong) c.image_of.ensures.err

@@ -1,8 +1,9 @@
 use Rattle.std.proofs.Common.{length, sym, subst, arith}
+use Rattle.reasoning.proofs.ListLemmas.{extends_on}
 use Rattle.fronts.specs.Front.{front, departure_of, points_from}
 use Rattle.fronts.specs.Putting.{IsLate, IsPath, DepartBefore, MayPut, IsUnion}
 use Rattle.fronts.specs.Walking.{AllWalked}
-use Rattle.fronts.proofs.Growth.{extends_on, extends_long}
+use Rattle.fronts.proofs.Growth.{extends_long}
 use Rattle.fronts.proofs.Inserted.{path_more, before_more, takes_none, takes_may, takes_covers, takes_all}
 use Rattle.fronts.proofs.insertion.insert.Goals as goal
 

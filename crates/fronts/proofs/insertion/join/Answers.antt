@@ -1,12 +1,13 @@
 use Rattle.std.proofs.Common.{◌≡◌, ◌⊎◌, ◌<◌, ◌≤◌, ◌++◌, ◌∷◌, [], ℕ, List, length, Contains, inl, inr, sym, subst, arith}
 use Rattle.std.proofs.lemmas.List.Elements.{Contains-append_left, Contains-push}
+use Rattle.reasoning.proofs.ListLemmas.{extends_none, extends_on}
 use Rattle.criteria.specs.Laws.{Rules}
 use Rattle.fronts.specs.declared.entry.Item.{Item}
 use Rattle.fronts.specs.declared.entry.Entry.{Entry}
 use Rattle.fronts.specs.Front.{next_of, departure_of, points_from, Extends}
 use Rattle.fronts.specs.Entries.{AreEntries}
 use Rattle.fronts.specs.Putting.{IsPath, DepartBefore}
-use Rattle.fronts.proofs.Growth.{extends_none, extends_on, extends_long, same_departure}
+use Rattle.fronts.proofs.Growth.{extends_long, same_departure}
 use Rattle.fronts.proofs.Paths.{path_pop}
 use Rattle.fronts.proofs.Joining.{joined_on, joined_here, covers_on}
 use Rattle.fronts.proofs.insertion.join.Goals as goal

@@ -1,7 +1,7 @@
 use Rattle.std.proofs.Common.{inl, inr, sym, ◌∙◌, subst, arith}
+use Rattle.reasoning.proofs.ListLemmas.{extends_none, extends_on}
 use Rattle.criteria.specs.Laws.{Admits}
 use Rattle.fronts.specs.Front.{front, Betters}
-use Rattle.fronts.proofs.Growth.{extends_none, extends_on}
 use Rattle.fronts.proofs.OnePut.{betters_some}
 use Rattle.fronts.proofs.Walks.{boardings_none, boardings_more, all_more}
 use Rattle.fronts.proofs.keeping.keep_walked.Goals as goal

@@ -1,10 +1,10 @@
 use Rattle.std.proofs.Common.{◌≡◌, ◌&&◌, nat_le, nat_lt, true, [], ◌∷◌, Contains, inl, inr, subst, arith}
 use Rattle.std.proofs.lemmas.Bool.{and_from, le-leb, lt-ltb}
 use Rattle.std.proofs.lemmas.List.Elements.{Contains-push_cases}
+use Rattle.reasoning.proofs.ListLemmas.{not_in_nil}
 use Rattle.criteria.specs.Laws.{time_limit}
 use Rattle.criteria.specs.declared.arrival_trips.TimeTrips.{TimeTrips}
 use Rattle.fronts.specs.declared.entry.Ridden.{Ridden}
-use Rattle.fronts.proofs.Filters.{not_in_nil}
 use Rattle.fronts.proofs.tests.take.Goals as goal
 
 of_one : (x r : Ridden TimeTrips) → Contains (x ∷ []) r → (nat_lt x.value.time time_limit && nat_le x.value.trips 65535) ≡ true → (nat_lt r.value.time time_limit && nat_le r.value.trips 65535) ≡ true

@@ -1,5 +1,5 @@
 use Rattle.std.proofs.Common.{◌<◌, ◌^◌, get_or, arith}
-use Rattle.gtfs_rows.proofs.ValueFacts.{few_digits}
+use Rattle.reasoning.proofs.DigitLemmas.{few_digits}
 use Rattle.gtfs_rows.proofs.values.decimal.Goals as goal
 
 pub overflow_mul-number : goal.overflow_mul-number

@@ -1,11 +1,11 @@
 use Rattle.std.proofs.Common.{arith, length, rules}
 use Rattle.std.specs.Option.{option_or}
+use Rattle.reasoning.proofs.FirstLemmas.{option_or-some}
 use Rattle.gtfs_rows.specs.declared.fault.Table.TheVariants as kinds
 use Rattle.gtfs_tables.specs.Feeds.{naming_fault, rows_by, trip_fault}
 use Rattle.gtfs_tables.specs.First.{first_below, first_fault_of}
 use Rattle.gtfs_tables.specs.Names.{stop_named, trip_named}
 use Rattle.gtfs_tables.specs.Rows.{transfer_fault}
-use Rattle.gtfs_tables.proofs.JoinFacts.{of_one}
 use Rattle.gtfs_tables.proofs.joining.join.Goals as goal
 
 pub overflow_cast-most : goal.overflow_cast-most
@@ -35,5 +35,5 @@ returns-in-Err-clause-err c = λ other.
     record {
       turns = wrong.turns;
       in_order = wrong.in_order;
-      first = of_one (naming_fault (stop_named c.args.tables.stops.items) (trip_named c.args.tables.trips.items) c.args.tables) (option_or (first_below (trip_fault c.args.strict wrong.turns (rows_by (stop_named c.args.tables.stops.items) (trip_named c.args.tables.trips.items) c.args.tables wrong.turns)) (length c.args.tables.trips.items)) (first_fault_of kinds.Transfers (transfer_fault (stop_named c.args.tables.stops.items)) c.args.tables.transfers.items)) c.in-Err.fault wrong.first;
+      first = option_or-some (naming_fault (stop_named c.args.tables.stops.items) (trip_named c.args.tables.trips.items) c.args.tables) (option_or (first_below (trip_fault c.args.strict wrong.turns (rows_by (stop_named c.args.tables.stops.items) (trip_named c.args.tables.trips.items) c.args.tables wrong.turns)) (length c.args.tables.trips.items)) (first_fault_of kinds.Transfers (transfer_fault (stop_named c.args.tables.stops.items)) c.args.tables.transfers.items)) c.in-Err.fault wrong.first;
     }

@@ -1,9 +1,9 @@
 use Rattle.std.proofs.Common.{◌<◌, ◌∙◌, ◌∷◌, [], ap, length, length-append, false, slice_index_or, refl, arith}
 use Rattle.std.proofs.lemmas.Grind.{common_steps}
+use Rattle.reasoning.proofs.FirstLemmas.{first_below-more, first_below-found, first_below-start}
 use Rattle.gtfs_tables.specs.Feeds.{trip_fault}
 use Rattle.gtfs_tables.specs.Order.{turns_by}
 use Rattle.gtfs_tables.proofs.FeedFacts.{feed_trips-more, trip_fault-at}
-use Rattle.gtfs_tables.proofs.FirstFacts.{first_below-found, first_below-more, first_below-start}
 use Rattle.gtfs_tables.proofs.OrderFacts.{first_turn-is}
 use Rattle.gtfs_tables.proofs.joining.timed_trips.Goals as goal
 

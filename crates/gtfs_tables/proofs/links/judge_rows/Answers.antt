@@ -1,8 +1,9 @@
 use Rattle.std.proofs.Common.{◌∙◌, sym, ap, arith, Some, slice_index_or}
+use Rattle.reasoning.proofs.FirstLemmas.{first_below-start}
 use Rattle.gtfs_rows.specs.declared.fault.Table.TheVariants.{StopTimes}
 use Rattle.gtfs_tables.specs.Order.{no_row}
 use Rattle.gtfs_tables.specs.Rows.{is_flex_id, linked_fault}
-use Rattle.gtfs_tables.proofs.FirstFacts.{copy_fine, copy_wrong, first_below-start}
+use Rattle.gtfs_tables.proofs.FirstFacts.{copy_fine, copy_wrong}
 use Rattle.gtfs_tables.proofs.RowFacts.{fault_same}
 use Rattle.gtfs_tables.proofs.links.judge_rows.Goals as goal
 

@@ -1,11 +1,12 @@
 use Rattle.std.proofs.Common.{◌≡◌, ◌∙◌, refl, None, Some, true, length-set, arith}
 use Rattle.std.specs.String.{string_bytes}
 use Rattle.std.proofs.lemmas.Grind.{common_steps}
+use Rattle.reasoning.proofs.FirstLemmas.{first_below-start}
 use Rattle.gtfs_rows.specs.declared.fault.Table.TheVariants.{Frequencies}
 use Rattle.gtfs_rows.specs.declared.fault.FaultKind.TheVariants.{UnknownId}
 use Rattle.gtfs_tables.specs.Names.{held_at}
 use Rattle.gtfs_tables.specs.Rows.{frequency_fault}
-use Rattle.gtfs_tables.proofs.FirstFacts.{first_below-start, row_fine, row_wrong}
+use Rattle.gtfs_tables.proofs.FirstFacts.{row_fine, row_wrong}
 use Rattle.gtfs_tables.proofs.RowFacts.{marked_more}
 use Rattle.gtfs_tables.proofs.links.repeating.Goals as goal
 

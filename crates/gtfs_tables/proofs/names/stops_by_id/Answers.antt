@@ -1,8 +1,8 @@
 use Rattle.std.proofs.Common.{◌∙◌, sym, arith, rules}
 use Rattle.std.proofs.lemmas.Grind.{common_steps}
 use Rattle.std.proofs.lemmas.List.Sums.{count_by_more_yes, count_by_more_no}
+use Rattle.reasoning.proofs.FirstLemmas.{first_below-start}
 use Rattle.gtfs_rows.specs.Tables.{is_stop}
-use Rattle.gtfs_tables.proofs.FirstFacts.{first_below-start}
 use Rattle.gtfs_tables.proofs.NameFacts.{held-none, stop_named-more}
 use Rattle.gtfs_tables.proofs.names.stops_by_id.Goals as goal
 use Rattle.gtfs_tables.proofs.names.stops_by_id.Goals.{then-eq, else-eq}

@@ -1,5 +1,5 @@
 use Rattle.std.proofs.Common.{◌∙◌, sym, arith}
-use Rattle.gtfs_tables.proofs.FirstFacts.{first_below-start}
+use Rattle.reasoning.proofs.FirstLemmas.{first_below-start}
 use Rattle.gtfs_tables.proofs.NameFacts.{held-none, trip_named-more}
 use Rattle.gtfs_tables.proofs.names.trips_by_id.Goals as goal
 

@@ -4,8 +4,9 @@ use Rattle.std.specs.List.{range_with_len}
 use Rattle.image_layout.specs.declared.header.Header.{Header}
 use Rattle.image_layout.specs.Places.{header_of}
 use Rattle.image_layout.specs.Shown.{name_of, trip_name_of}
-use Rattle.image_verifier.proofs.Unpacking.{next_one, label_is}
+use Rattle.image_verifier.proofs.Unpacking.{next_one}
 use Rattle.image_verifier.proofs.unpacked.unpack_trip_names.Goals as goal
+use Rattle.image_layout.proofs.BackNames.{label_is}
 
 pub loop-trip-preserved : goal.loop-trip-preserved
 loop-trip-preserved c =

@@ -1,5 +1,6 @@
-use Rattle.std.proofs.Common.{◌≡◌, ℕ, ◌<◌, ◌^◌, List, None, Some, sym, subst, ◌∙◌, inl, inr}
+use Rattle.std.proofs.Common.{◌≡◌, ℕ, ◌<◌, ◌^◌, List, None, sym, subst, ◌∙◌, inl, inr}
 use Rattle.std.specs.Prelude.{slice_index}
+use Rattle.reasoning.proofs.OptionLemmas.{some-none}
 use Rattle.image_verifier.specs.declared.fault.ImageFault.{ImageFault}
 use Rattle.image_verifier.specs.declared.fault.ImageFault.TheVariants.{OutOfMemory}
 use Rattle.image_verifier.specs.FirstFault.{first_fault, Tells}
@@ -13,10 +14,7 @@ returns-in-Ok-clause-shown c = IsImage-from c.args.words.items (subst (λ (w : L
 
 -- where nothing is first, what is told is want of memory
 tells_memory : (w : List ℕ) (f : ImageFault) → Tells w f → first_fault w ≡ None → f ≡ OutOfMemory
-tells_memory w f told none = elim told [ inl first ↦ absurd (some_none f (sym first ∙ none)) | inr memory ↦ memory.0 ]
-  where
-    some_none : (f : ImageFault) → Some f ≡ None → ⊥
-    some_none f e = absurd cc
+tells_memory w f told none = elim told [ inl first ↦ absurd (some-none f (sym first ∙ none)) | inr memory ↦ memory.0 ]
 
 pub returns-in-Err-clause-every_image : goal.returns-in-Err-clause-every_image
 returns-in-Err-clause-every_image c = λ p n is_image.

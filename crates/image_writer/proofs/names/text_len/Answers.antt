@@ -1,7 +1,8 @@
 use Rattle.std.proofs.Common.{ℕ, ◌+◌, length, sym, ap, ◌∙◌, arith}
 use Rattle.image_layout.specs.Spelling.{name_list}
-use Rattle.image_writer.proofs.NameCounts.{count_next, count_within}
+use Rattle.image_writer.proofs.NameCounts.{count_next}
 use Rattle.image_writer.proofs.names.text_len.Goals as goal
+use Rattle.image_layout.proofs.Whole.{count_within}
 
 pub overflow_add-bytes : goal.overflow_add-bytes
 overflow_add-bytes c =

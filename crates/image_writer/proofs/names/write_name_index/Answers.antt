@@ -1,8 +1,9 @@
 use Rattle.std.proofs.Common.{◌≡◌, ℕ, ◌+◌, ◌++◌, length, map, sym, ap, ◌∙◌, arith}
 use Rattle.std.specs.List.{range_with_len}
 use Rattle.image_layout.specs.Spelling.{name_list, byte_count_before}
-use Rattle.image_writer.proofs.NameCounts.{count_next, count_within, index_next}
+use Rattle.image_writer.proofs.NameCounts.{count_next, index_next}
 use Rattle.image_writer.proofs.names.write_name_index.Goals as goal
+use Rattle.image_layout.proofs.Whole.{count_within}
 
 pub overflow_cast-bytes : goal.overflow_cast-bytes
 overflow_cast-bytes c = omega (arith, c.requires, c.loop-i.invariant.0, count_within (name_list c.args.names.now) c.loop-i.i)

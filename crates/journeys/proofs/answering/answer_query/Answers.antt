@@ -1,7 +1,8 @@
 use Rattle.std.proofs.Common.{◌+◌, ◌≤◌, length, reverse, sym, ◌∙◌, subst, arith}
+use Rattle.reasoning.proofs.OptionLemmas.{on_err}
 use Rattle.profile_scan.specs.Found.{listed}
 use Rattle.profile_scan.specs.Window.{window}
-use Rattle.profile_scan.proofs.LogLemmas.{taken_all, on_err}
+use Rattle.profile_scan.proofs.LogLemmas.{taken_all}
 use Rattle.journeys.proofs.AnswerLemmas.{AreTold, none_told, one_more, all_told, window_count}
 use Rattle.journeys.proofs.answering.answer_query.Goals as goal
 

@@ -1,8 +1,8 @@
 use Rattle.std.proofs.Common.{subst, arith}
+use Rattle.reasoning.proofs.ListLemmas.{extends_none, extends_on}
 use Rattle.timetable.proofs.LegalFacts.{Contains-At}
 use Rattle.bags.specs.Bag.{points_of}
 use Rattle.fronts.specs.Lists.{lists_criterion, front_at, list_points}
-use Rattle.fronts.proofs.Growth.{extends_none, extends_on}
 use Rattle.fronts.proofs.Mapped.{list_admitted}
 use Rattle.profile_scan.specs.Matching.{from_to}
 use Rattle.profile_scan.specs.Story.{story, told}

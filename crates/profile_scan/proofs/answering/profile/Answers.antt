@@ -1,4 +1,5 @@
 use Rattle.std.proofs.Common.{◌≡◌, ◌++◌, ℕ, List, Contains, map, length, reverse, take, refl, sym, ◌∙◌, ap, subst}
+use Rattle.reasoning.proofs.OptionLemmas.{on_err}
 use Rattle.bags.specs.Bag.{points_of}
 use Rattle.bags.specs.declared.point.Point.{Point}
 use Rattle.timetable.specs.TimetableValue.{TimetableValue}
@@ -12,7 +13,7 @@ use Rattle.profile_scan.specs.Kept.{IsWay, story_of}
 use Rattle.profile_scan.specs.Telling.{IsJourneyTold, IsRetold}
 use Rattle.profile_scan.proofs.AnsweredLemmas.{answered, journeys_told}
 use Rattle.profile_scan.proofs.Offers.{bag_under}
-use Rattle.profile_scan.proofs.LogLemmas.{taken_all, on_err}
+use Rattle.profile_scan.proofs.LogLemmas.{taken_all}
 use Rattle.profile_scan.proofs.answering.profile.Goals as goal
 
 pub returns-in_err-scan-clause-err : goal.returns-in_err-scan-clause-err

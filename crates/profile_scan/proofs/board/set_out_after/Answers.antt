@@ -1,9 +1,9 @@
 use Rattle.std.proofs.Common.{sym, subst, arith}
+use Rattle.reasoning.proofs.ListLemmas.{extends_none, extends_on}
 use Rattle.timetable.proofs.LegalFacts.{Contains-At}
 use Rattle.criteria.specs.Laws.{Admits}
 use Rattle.bags.specs.Bag.{points_of}
 use Rattle.bags.specs.declared.point.Point.{Point}
-use Rattle.fronts.proofs.Growth.{extends_none, extends_on}
 use Rattle.profile_scan.specs.Values.{started}
 use Rattle.profile_scan.specs.Adding.{set_out_way}
 use Rattle.profile_scan.specs.Matching.{from_to}

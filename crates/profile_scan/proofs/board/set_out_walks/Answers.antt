@@ -1,6 +1,6 @@
 use Rattle.std.proofs.Common.{◌≡◌, ℕ, subst, arith}
+use Rattle.reasoning.proofs.ListLemmas.{extends_on}
 use Rattle.bags.specs.Bag.{points_of}
-use Rattle.fronts.proofs.Growth.{extends_on}
 use Rattle.profile_scan.specs.Matching.{from_to}
 use Rattle.profile_scan.specs.Story.{story, told}
 use Rattle.profile_scan.specs.Steps.{TakesIn}

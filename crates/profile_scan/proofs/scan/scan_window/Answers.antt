@@ -1,4 +1,5 @@
 use Rattle.std.proofs.Common.{◌≡◌, ◌+◌, ◌-◌, ◌<◌, ◌∷◌, [], ◌++◌, ℕ, length, arith, refl, sym, ◌∙◌, ap, subst}
+use Rattle.reasoning.proofs.OptionLemmas.{on_err}
 use Rattle.bags.specs.Bag.{points_of}
 use Rattle.timetable.specs.TimetableValue.{TimetableValue}
 use Rattle.profile_scan.specs.Values.{journey_value}
@@ -15,7 +16,7 @@ use Rattle.profile_scan.proofs.BoundLemmas.{no_bounds}
 use Rattle.profile_scan.proofs.Ends.{nothing_follows}
 use Rattle.profile_scan.proofs.StepLemmas.{one_index_down}
 use Rattle.profile_scan.proofs.StepFacts.{matches_alike}
-use Rattle.profile_scan.proofs.LogLemmas.{log_more, log_front, log_none, on_err}
+use Rattle.profile_scan.proofs.LogLemmas.{log_more, log_front, log_none}
 use Rattle.profile_scan.proofs.scan.scan_window.Goals as goal
 
 pub loop-place-init : goal.loop-place-init

@@ -1,5 +1,5 @@
 use Rattle.std.proofs.Common.{sym, subst}
-use Rattle.fronts.proofs.Growth.{extends_on}
+use Rattle.reasoning.proofs.ListLemmas.{extends_on}
 use Rattle.profile_scan.specs.Kept.{story_of}
 use Rattle.profile_scan.specs.Telling.{IsRoute, SaysLabel}
 use Rattle.profile_scan.proofs.TellingLemmas.{route_pop, route_told}

@@ -1,8 +1,8 @@
 use Rattle.std.proofs.Common.{List, ℕ, sym, subst}
 use Rattle.std.specs.Str.{IsUtf8}
 use Rattle.journeys.specs.Texts.{text_of}
-use Rattle.session.proofs.PlainLemmas.{plain_is_utf8}
 use Rattle.session.proofs.profiles.journey_string.Goals as goal
+use Rattle.journeys.proofs.PlainLemmas.{plain_is_utf8}
 
 pub unreachable-requires : goal.unreachable-requires
 unreachable-requires c =

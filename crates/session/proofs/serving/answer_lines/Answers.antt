@@ -1,6 +1,7 @@
 use Rattle.std.proofs.Common.{◌∙◌, refl, sym, arith, inl}
+use Rattle.reasoning.proofs.BoolLemmas.{where_true, where_false}
 use Rattle.lines.proofs.GivenLemmas.{Gives-ended, Gives-nothing, Gives-rest}
-use Rattle.session.proofs.LineLemmas.{is_not_there, is_there, nothing_is_one_line, some_bytes, SoFar-more, SoFar-start, TurnsTo-number, cut_short_at_line, cut_short_at_rest, ends_at_end, ends_with_rest, not_rose, read_fails, rose, too_many, why_failed}
+use Rattle.session.proofs.LineLemmas.{nothing_is_one_line, some_bytes, SoFar-more, SoFar-start, TurnsTo-number, cut_short_at_line, cut_short_at_rest, ends_at_end, ends_with_rest, not_rose, read_fails, rose, too_many, why_failed}
 use Rattle.session.proofs.serving.answer_lines.Goals as goal
 
 pub loop-init : goal.loop-init
@@ -65,13 +66,13 @@ returns-in-Err-answer_line-clause-session g c =
 pub returns-in-Ok-true-clause-session : goal.returns-in-Ok-true-clause-session
 returns-in-Ok-true-clause-session g c =
     let e = c.in-Ok-true.ensures in
-    too_many _ _ _ _ _ e.0 _ _ _ _ _ _ _ _ _ (omega (arith, c.loop-test.false, c.loop.auto.counter-end)) c.loop.invariant.so_far e.1 (some_bytes _ _ e.2 (is_there _ _ _ c.in-Ok-true.field-0-test e.3.0))
+    too_many _ _ _ _ _ e.0 _ _ _ _ _ _ _ _ _ (omega (arith, c.loop-test.false, c.loop.auto.counter-end)) c.loop.invariant.so_far e.1 (some_bytes _ _ e.2 (where_true _ _ _ c.in-Ok-true.field-0-test e.3.0))
     (not_rose _ _ (e.3.1 ∙ c.loop.invariant.reads)) (not_rose _ _ c.loop.invariant.writes)
 
 pub returns-in-Ok-false-clause-session : goal.returns-in-Ok-false-clause-session
 returns-in-Ok-false-clause-session g c =
     let e = c.in-Ok-false.ensures in
-    let none = is_not_there _ _ _ c.in-Ok-false.field-0-test e.3.0 in
+    let none = where_false _ _ _ c.in-Ok-false.field-0-test e.3.0 in
     ends_at_end _ _ _ _ _ e.0 _ _ _ _ _ _ _ _ _ _ (omega (arith, c.loop-test.false, c.loop.auto.counter-end))
     c.loop.invariant.so_far e.1 (sym e.2 ∙ none.0) none.1 (not_rose _ _ (e.3.1 ∙ c.loop.invariant.reads)) (not_rose _ _ c.loop.invariant.writes)
 

@@ -1,5 +1,6 @@
 use Rattle.std.proofs.Common.{arith}
-use Rattle.version_core.proofs.Runs.{on_err, run_take, least_take, stopped_at}
+use Rattle.reasoning.proofs.OptionLemmas.{on_err}
+use Rattle.version_core.proofs.Runs.{run_take, least_take, stopped_at}
 use Rattle.version_core.proofs.sequence.run.Goals as goal
 
 pub returns-in_err-reply-clause-stopped : goal.returns-in_err-reply-clause-stopped

@@ -1,13 +1,10 @@
-use Rattle.std.proofs.Common.{Result, Ok, Err, IfOk, map, ap}
+use Rattle.std.proofs.Common.{map, ap}
+use Rattle.std.proofs.lemmas.Result.{IfOk-weaker}
 use Rattle.fronts.specs.Front.{points_from}
 use Rattle.fronts.specs.Lists.{lists_criterion, entries_of, items_of, point_of}
 use Rattle.fronts.proofs.Growth.{extends_long, same_points}
 use Rattle.fronts.proofs.Mapped.{takes_points}
 use Rattle.fronts.proofs.front_lists.FrontLists.insert.Goals as goal
-
-if_ok_more : {T E : Type 0} (r : Result T E) (P Q : T → Type 0) → ((x : T) → P x → Q x) → IfOk r P → IfOk r Q
-if_ok_more (Ok x) P Q f h = f x h
-if_ok_more (Err e) P Q f h = h
 
 pub returns-clause-grows : goal.returns-clause-grows
 returns-clause-grows g c = extends_long (entries_of c.args.self.now) c.insert.new.entries.items c.insert.ensures.more_entries
@@ -20,6 +17,6 @@ returns-clause-same g c place lt =
 pub returns-clause-takes : goal.returns-clause-takes
 returns-clause-takes g c =
     let lists = c.args.self.now in
-    if_ok_more c.insert.result _ _
+    IfOk-weaker c.insert.result _ _
     (λ new takes. takes_points (g.C.Criterion.rules (lists_criterion lists)) c.insert.new.steps.items c.args.departure c.args.first c.args.walk c.args.secs c.args.ridden.now (points_from (entries_of lists) (items_of lists) c.args.head) (points_from c.insert.new.entries.items c.insert.new.items.items new) takes)
     c.insert.ensures.takes
