@@ -2,20 +2,16 @@
 use Rattle.std.proofs.Common.{◌≡◌, ℕ, zero, suc, ◌+◌, ◌*◌, ◌<◌, ◌≤◌, inl, inr, List, length, get_or, false, sym, ap, ◌∙◌, subst, arith, Bor, All, Contains}
 use Rattle.std.specs.Prelude.{IsPermutation}
 use Rattle.std.specs.declared.cmp.Ordering.{Ordering}
-use Rattle.std.specs.declared.cmp.Ordering.TheVariants.{Less}
 use Rattle.std.specs.Fn.{Called, ComputesKey}
 use Rattle.std.specs.List.Sorted.{IsSortedByKey}
 use Rattle.std.specs.Ordering.{is_lt, nat_cmp}
 use Rattle.std.proofs.lemmas.Bool.{cases_eq, cases_lt, false≢true}
-use Rattle.std.proofs.lemmas.Bool.Decides.{nat_tests}
 use Rattle.std.proofs.lemmas.List.Elements.{Contains-get_or}
 use Rattle.std.proofs.lemmas.List.Sorted.{Contains-permutation, IsPermutation-sym, answers_always}
 use denote.Param.Members.{Mut}
+use Rattle.reasoning.proofs.OrderLemmas.{nat_less}
 use Rattle.timetable.specs.declared.network.Connection.{Connection}
 use Rattle.connections.specs.Building.{AreSorted, HasDigits, IsNotAfter, order_of}
-
-nat_less : (m n : ℕ) → m < n → nat_cmp m n ≡ Less
-nat_less m n less = grind (arith, nat_tests)
 
 -- what isn't less is no less
 not_less : (m n : ℕ) → is_lt (nat_cmp m n) ≡ false → n ≤ m
