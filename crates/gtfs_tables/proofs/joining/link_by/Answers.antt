@@ -2,6 +2,7 @@ use Rattle.std.proofs.Common.{◌≡◌, ◌∙◌, List, None, Some, ap, arith,
 use Rattle.std.specs.Prelude.{IfErr, IfOk, ◌≢◌, filter}
 use Rattle.std.specs.List.{AllZip}
 use Rattle.std.specs.Option.{option_or}
+use Rattle.reasoning.proofs.FirstLemmas.{option_or-some}
 use Rattle.gtfs_rows.specs.declared.fault.FaultKind.TheVariants.{OutOfMemory}
 use Rattle.gtfs_rows.specs.declared.fault.Table.TheVariants as kinds
 use Rattle.gtfs_rows.specs.declared.rows.TransferRow.{TransferRow}
@@ -10,7 +11,7 @@ use Rattle.gtfs_tables.specs.First.{first_fault_of}
 use Rattle.gtfs_tables.specs.Names.{held_at}
 use Rattle.gtfs_tables.specs.Order.{turns_in}
 use Rattle.gtfs_tables.specs.Rows.{IsTransferOf, frequency_fault, frequency_of, is_kept, is_repeated, parent_fault, station_of, transfer_fault}
-use Rattle.gtfs_tables.proofs.JoinFacts.{frequencies_told, of_none, of_one, of_three, of_two, flex_told, order_told, stops_told, times_told}
+use Rattle.gtfs_tables.proofs.JoinFacts.{frequencies_told, of_none, of_three, of_two, flex_told, order_told, stops_told, times_told}
 use Rattle.gtfs_tables.proofs.joining.link_by.Goals as goal
 
 pub returns-in_default-clause-err : goal.returns-in_default-clause-err
@@ -25,7 +26,7 @@ returns-in-Err-clause-err c = λ other. record {
       c.args.tables.now.stop_times.rows.items;
   in_order = order_told (held_at c.args.places.now) c.args.tables.now c.deref.result.now c.deref-2.result.now c.in-Ok-order_of_rows.order
       c.deref.ensures.value (c.deref-2.ensures.value ∙ c.in-Ok.ensures) c.in-Ok-order_of_rows.ensures;
-  first = of_one (first_fault_of kinds.Stops (parent_fault (held_at c.args.names.now)) c.args.tables.now.stops.items)
+  first = option_or-some (first_fault_of kinds.Stops (parent_fault (held_at c.args.names.now)) c.args.tables.now.stops.items)
       (option_or (first_fault_of kinds.StopTimes (stop_time_fault (held_at c.args.names.now) (held_at c.args.places.now) c.args.tables.now)
       c.args.tables.now.stop_times.rows.items) (first_fault_of kinds.Frequencies (frequency_fault (held_at c.args.places.now))
       c.args.tables.now.frequencies.items)) c.in-Err.fault (stops_told (held_at c.args.names.now) c.deref-3.result.now c.args.tables.now.stops.items
