@@ -12,7 +12,7 @@ use Rattle.shelf_steps.specs.declared.views.View.{View}
 use Rattle.shelf_steps.specs.Course.{Happened, extended}
 use Rattle.shelf_steps.specs.Ruled.{Ruled}
 use Rattle.shelf_steps.specs.Plays.{OfWorker, Mine, Looks, Takes, Leaves, GivesBack, OpensOn, PublishesOn, ClosesOn, CollectsOn, GathersOn, PutsBackOn}
-use Rattle.shelf_steps.specs.Plays.{IsLate, IsSettled, with_seen}
+use Rattle.shelf_steps.specs.Plays.{IsLate, IsSettled, with_seen, with_note}
 use Rattle.shelf_steps.specs.Laws.{Shelved, IsLoader}
 
 -- what a seat knows of the past
@@ -69,7 +69,7 @@ LateTakesRise =
 
 -- the table once a notice was split from the loader's seat
 abbrev pub noting : Shelved → ℕ → LoaderView → Shelved
-noting table id l = record { words = table.words; homes = table.homes; views = slice_set table.views id (View.Loading l) ++ View.Noting l.current ∷ [] }
+noting table id l = record { words = table.words; homes = table.homes; views = slice_set table.views id (View.Loading (with_note l)) ++ View.Noting l.current ∷ [] }
 
 -- and once a worker's seat has taken one in
 abbrev pub joining : Shelved → ℕ → WorkerView → ℕ → ℕ → Shelved
