@@ -9,6 +9,7 @@ use Rattle.shelf_steps.specs.Pinning.{IsIdleAs, IsHoldingAs}
 use Rattle.epochs.specs.declared.faults.PinFault.{PinFault}
 use Rattle.epochs.specs.Seats.{SeatValue, PinStep, ReleaseStep, JoinStep}
 use Rattle.std.specs.Arc.{arc_value}
+use Rattle.image_layout.specs.Image.{ImageValue}
 use Rattle.epochs.specs.SeatLaws.{SeatStep, SeatSteps, GivesFrom, JoinedVersionsStay, PinsSo, SeatCall, SeatCalls, AnswersFrom, JoinedVersionsStayAtShelves}
 use Rattle.epochs.specs.ShelfSeats.{ShelfSeatValue, FitsSeat, seen_of}
 use Rattle.epochs.specs.ShelfLoads.{Rests, RestsHere}
@@ -149,11 +150,15 @@ calls_shown : (n : ℕ) (a b : ShelfSeatValue) → SeatCalls n a b → SeatSteps
 calls_shown zero a b h = ap (λ (x : ShelfSeatValue). x.shown) h
 calls_shown (suc n) a b h = (h.0.shown, call_shown a h.0 h.1, calls_shown n h.0 b h.2)
 
+abbrev version_in : Option (ℕ × ImageValue) → ℕ
+version_in None = 0
+version_in (Some held) = held.0
+
 answers_from : (c d : ShelfSeatValue) (v : ℕ) (r : Result (Unit {0}) PinFault) → PinsSo c r d → GivesFrom v r d.shown → AnswersFrom v c r d
 answers_from c d v (Ok u) h g =
     let steps = h.1.1 in
     let z : Some (g.0, g.1) ≡ Some (steps.1.version, arc_value steps.1.image) = sym g.2 ∙ steps.3 in
-    let same : g.0 ≡ steps.1.version = cc in
+    let same : g.0 ≡ steps.1.version = ap version_in z in
     (steps.0, steps.1, steps.2, steps.3, (let low = g.3 in omega arith))
 answers_from c d v (Err (PinFault.Moved newest)) h g = g
 answers_from c d v (Err PinFault.AlreadyPinned) h g = h.1.0
