@@ -87,7 +87,8 @@ still_rests current current_shelf shelves l r = record {
 
 loading_so : (current current_shelf : ℕ) (shelves : List Shelf) (u : View) → RestsHere current current_shelf shelves (u, []) → IsLoading u
     × (new_notice u ≡ View.Noting current) × RestsHere current current_shelf shelves (gives_notice u, [])
-loading_so current current_shelf shelves (View.Loading l) h = (tt, ap (λ n. View.Noting n) h.0.current_is, (still_rests current current_shelf shelves l h.0, refl))
+loading_so current current_shelf shelves (View.Loading l) h =
+    (tt, ap (λ n. View.Noting n) h.0.current_is, (still_rests current current_shelf shelves l h.0, refl))
 loading_so current current_shelf shelves (View.Working v) h = absurd h.0
 loading_so current current_shelf shelves (View.Noting n) h = absurd h.0
 loading_so current current_shelf shelves View.Spent h = absurd h.0

@@ -83,15 +83,19 @@ abbrev pub JoinsSo : ShelfSeatValue → ℕ → ShelfSeatValue → Type 0
 JoinsSo a version b = JoinStep a.shown version b.shown × JoinsByStep a version b
 
 abbrev pub SeatCall : ShelfSeatValue → ShelfSeatValue → Type 0
-SeatCall a b = ((r : Result (Unit {0}) PinFault) × PinsSo a r b) ⊎ (((r : Result (Unit {0}) PinFault) × ReleasesSo a r b) ⊎ ((version : ℕ) × JoinsSo a version b))
+SeatCall a b =
+    ((r : Result (Unit {0}) PinFault) × PinsSo a r b)
+    ⊎ (((r : Result (Unit {0}) PinFault) × ReleasesSo a r b) ⊎ ((version : ℕ) × JoinsSo a version b))
 
 abbrev pub SeatCalls : ℕ → ShelfSeatValue → ShelfSeatValue → Type 0
 SeatCalls zero a b = b ≡ a
 SeatCalls (suc n) a b = (mid : ShelfSeatValue) × SeatCall a mid × SeatCalls n mid b
 
--- the pin's last look found the version that is held, and it is this one or a newer one; or the pin moved, with a newer one; or the seat held one already. No other fault comes
+-- the pin's last look found the version that is held, and it is this one or a newer one; or the pin moved, with a newer one; or the seat held one
+-- already. No other fault comes
 abbrev pub AnswersFrom : ℕ → ShelfSeatValue → Result (Unit {0}) PinFault → ShelfSeatValue → Type 0
-AnswersFrom v a (Ok u) b = (shelf : ℕ) × (e : Edition) × Pins a.view e.version shelf e b.view × (b.shown.held ≡ Some (e.version, arc_value e.image)) × (v ≤ e.version)
+AnswersFrom v a (Ok u) b =
+    (shelf : ℕ) × (e : Edition) × Pins a.view e.version shelf e b.view × (b.shown.held ≡ Some (e.version, arc_value e.image)) × (v ≤ e.version)
 AnswersFrom v a (Err (PinFault.Moved newest)) b = v < newest
 AnswersFrom v a (Err PinFault.AlreadyPinned) b = a.shown.held ≢ None
 AnswersFrom v a (Err _) b = ⊥

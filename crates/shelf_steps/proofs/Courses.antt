@@ -1,7 +1,8 @@
 -- One event more.
 use Rattle.version_core.specs.Actors.{nobody, actor, NoneOf}
 use Rattle.image_layout.specs.Image.{ImageValue}
-use Rattle.std.proofs.Common.{◌≡◌, ◌≢◌, ℕ, zero, suc, ◌+◌, ◌≤◌, List, [], ◌∷◌, ◌++◌, length, Option, Some, slice_get, get_or, refl, ap, sym, ◌∙◌, subst, arith, append_assoc}
+use Rattle.std.proofs.Common.{◌≡◌, ◌≢◌, ℕ, zero, suc, ◌+◌, ◌≤◌, List, [], ◌∷◌, ◌++◌, length, Option, Some, slice_get, get_or, refl, ap, sym, ◌∙◌}
+use Rattle.std.proofs.Common.{subst, arith, append_assoc}
 use Rattle.std.proofs.lemmas.List.{append-nil}
 use mathlib.Core.List.{IsPrefix}
 use Rattle.version_core.specs.declared.event.Event.{Event}
@@ -15,7 +16,8 @@ use Rattle.version_core.proofs.Lists.{slice_get-append}
 use Rattle.shelf_steps.specs.declared.edition.Edition.{Edition}
 use Rattle.shelf_steps.specs.declared.views.Known.{Known}
 use Rattle.shelf_steps.specs.declared.views.WorkerView.{WorkerView}
-use Rattle.shelf_steps.specs.Course.{Course, Goes, extended, all_of, Begins, Happened, image_of, IsEdition, note_of, notes_in, join_of, joined_by, HasDoneNothing}
+use Rattle.shelf_steps.specs.Course.{Course, Goes, extended, all_of, Begins, Happened, image_of, IsEdition}
+use Rattle.shelf_steps.specs.Course.{note_of, notes_in, join_of, joined_by, HasDoneNothing}
 use Rattle.shelf_steps.specs.Seats.{HasEdition, WorkerFits}
 
 pub kept_of : (c : Course) → Goes c → Kept c.state
@@ -126,7 +128,8 @@ has_later images more (Worker.Late k) edition p h = h
 
 -- what another worker knows after a step that leaves it alone
 pub other_fits : (c d : Course) (u : WorkerView) → slice_get d.state.workers u.number ≡ slice_get c.state.workers u.number → get_or d.state.seen u.number 0 ≡ get_or c.state.seen u.number 0
-    → c.state.current ≤ d.state.current → IsPrefix c.images d.images → Begins u.known (Some u.number) d → joined_by u.number d.events ≡ joined_by u.number c.events → WorkerFits c u → WorkerFits d u
+    → c.state.current ≤ d.state.current → IsPrefix c.images d.images → Begins u.known (Some u.number) d
+    → joined_by u.number d.events ≡ joined_by u.number c.events → WorkerFits c u → WorkerFits d u
 other_fits c d u now seen up more known joined f = record {
   shows = record { now = now ∙ f.shows.now; seen = seen ∙ f.shows.seen };
   last = ((let q = f.last.0 in omega arith), f.last.1);

@@ -29,7 +29,8 @@ use Rattle.shelf_steps.specs.Seats.{WorkerFits, LoaderFits}
 use Rattle.shelf_steps.specs.Slots.{SlotsFit, SlotFits, down_from, nothings}
 use Rattle.shelf_steps.specs.Ruled.{Ruled}
 use Rattle.shelf_steps.specs.Plays.{Mine, newest_of, with_open, with_current, with_closing, with_free, with_hand, AllHave, Noted, Opens, Publishes, Closes, CollectsFound, Collects, Gathers, PutsBack, MayOpenOn, MayPublish, MayClose, MayCollect, MayGather, MayPutBack}
-use Rattle.shelf_steps.proofs.Courses.{kept_of, notes_same, joined_same, no_join, nothing_snoc, begins_longer, happened, goes_on, goes_same, begins_all, prefix_same, other_fits}
+use Rattle.shelf_steps.proofs.Courses.{kept_of, notes_same, joined_same, no_join, nothing_snoc}
+use Rattle.shelf_steps.proofs.Courses.{begins_longer, happened, goes_on, goes_same, begins_all, prefix_same, other_fits}
 use Rattle.shelf_steps.proofs.Frames.{loader_moves}
 use Rattle.shelf_steps.proofs.WordsAfter.{words_same, words_after, few_counted, version_bound, found_at}
 use Rattle.shelf_steps.proofs.NoteLists.{notices_loader}
@@ -66,7 +67,8 @@ module _ (table : Table (Option Edition) View) (r : Ruled table) (id : ℕ) (l l
   others : (u : WorkerView) → WorkerFits r.course u → WorkerFits (extended r.course e reply t images) u
   others u f =
       other_fits r.course (extended r.course e reply t images) u (ap (λ (x : List Worker). slice_get x u.number) workers) (ap (λ (x : List ℕ). get_or x u.number 0) seen) up more
-      (begins_longer r.course e reply t images u.known (Some u.number) (not_of u.number) more f.known) (joined_same u.number r.course.events e (no_join u.number e not_nobodys)) f
+      (begins_longer r.course e reply t images u.known (Some u.number) (not_of u.number) more f.known)
+      (joined_same u.number r.course.events e (no_join u.number e not_nobodys)) f
 
   loader_ruled : (words' : List ℕ) (homes' : List (Maybe (Option Edition))) → LoaderFits (extended r.course e reply t images) l' → WordsShow words' t → SlotsFit homes' t.shelves t.workers images l'.hand
       → Ruled record { words = words'; homes = homes'; views = set table.views id (View.Loading l') }
@@ -230,7 +232,17 @@ publishings_as slots id k version (View.Loading l) c small may table r full at f
     let is_step : Step s e reply t = (k, (stands, later), refl) in
     let d : Course = extended r.course e reply t r.course.images in
     let l' : LoaderView = with_current l version k (all_of d) in
-    let fits' : LoaderFits d l' = record { shows = record { current = refl; current_shelf = refl; shelves = knows.shows.shelves; newest_is = r.goes.as_many }; images = refl; known = begins_all d None; notes = knows.notes ∙ sym (notes_same r.course.events e refl) } in (
+    let fits' : LoaderFits d l' = record {
+      shows = record {
+        current = refl;
+        current_shelf = refl;
+        shelves = knows.shows.shelves;
+        newest_is = r.goes.as_many;
+      };
+      images = refl;
+      known = begins_all d None;
+      notes = knows.notes ∙ sym (notes_same r.course.events e refl);
+    } in (
       View.Loading l',
       keeps,
       tt,
@@ -263,7 +275,17 @@ closings_as slots id k (View.Loading l) c small may table r full at fits =
     let eight = kept.shelves.eight in
     let bound = version_bound s k (Shelf.Open version) kept stands version (inl refl) in
     let word = close_word n (get_or s.counts k 0) version (r.words.each k (Shelf.Open version) stands) (few_counted s k kept small) bound in
-    let fits' : LoaderFits d l' = record { shows = record { current = knows.shows.current; current_shelf = knows.shows.current_shelf; shelves = λ i. set (knows.shows.shelves i) k (Shelf.Closing version); newest_is = r.goes.as_many }; images = refl; known = begins_all d None; notes = knows.notes ∙ sym (notes_same r.course.events e refl) } in (
+    let fits' : LoaderFits d l' = record {
+      shows = record {
+        current = knows.shows.current;
+        current_shelf = knows.shows.current_shelf;
+        shelves = λ i. set (knows.shows.shelves i) k (Shelf.Closing version);
+        newest_is = r.goes.as_many;
+      };
+      images = refl;
+      known = begins_all d None;
+      notes = knows.notes ∙ sym (notes_same r.course.events e refl);
+    } in (
       View.Loading l',
       keeps,
       tt,
@@ -329,7 +351,17 @@ collects_found id k version l table r at many small shelf hand true found =
     let eight = kept.shelves.eight in
     let f : ℕ → Option Edition = λ j. value_at (get_elem? table.homes j) in
     let home : IsHome table.homes f (16 * k) 16 = all_home table.homes s.shelves s.counts s.workers r.course.images l.hand k version (no_one_at s.counts s.workers k kept.counts small nobody) closing (loader_slots table r id l at) in
-    let fits' : LoaderFits d l' = record { shows = record { current = knows.shows.current; current_shelf = knows.shows.current_shelf; shelves = λ i. set (knows.shows.shelves i) k Shelf.Free; newest_is = r.goes.as_many }; images = refl; known = begins_all d None; notes = knows.notes ∙ sym (notes_same r.course.events e refl) } in (
+    let fits' : LoaderFits d l' = record {
+      shows = record {
+        current = knows.shows.current;
+        current_shelf = knows.shows.current_shelf;
+        shelves = λ i. set (knows.shows.shelves i) k Shelf.Free;
+        newest_is = r.goes.as_many;
+      };
+      images = refl;
+      known = begins_all d None;
+      notes = knows.notes ∙ sym (notes_same r.course.events e refl);
+    } in (
       View.Loading l',
       take_block f (16 * k) 16,
       block_valid table.homes [] f (16 * k) 16 home,
@@ -362,7 +394,17 @@ collects_found id k version l table r at many small shelf hand false found =
     let is_step : Step s e reply s = (version, closing, count, some_one, refl) in
     let d : Course = extended r.course e reply s r.course.images in
     let l' : LoaderView = with_hand l None (all_of d) in
-    let fits' : LoaderFits d l' = record { shows = record { current = knows.shows.current; current_shelf = knows.shows.current_shelf; shelves = knows.shows.shelves; newest_is = r.goes.as_many }; images = refl; known = begins_all d None; notes = knows.notes ∙ sym (notes_same r.course.events e refl) } in (
+    let fits' : LoaderFits d l' = record {
+      shows = record {
+        current = knows.shows.current;
+        current_shelf = knows.shows.current_shelf;
+        shelves = knows.shows.shelves;
+        newest_is = r.goes.as_many;
+      };
+      images = refl;
+      known = begins_all d None;
+      notes = knows.notes ∙ sym (notes_same r.course.events e refl);
+    } in (
       View.Loading l',
       keeps,
       tt,
@@ -423,7 +465,17 @@ tries_free id k l c hand' a table r at small free slots false found =
     let is_step : Step s e reply s = ((λ v q. let z : Some Shelf.Free ≡ Some (Shelf.Closing v) = sym is_free ∙ q in cc), refl) in
     let d : Course = extended r.course e reply s r.course.images in
     let l' : LoaderView = with_hand l hand' (all_of d) in
-    let fits' : LoaderFits d l' = record { shows = record { current = knows.shows.current; current_shelf = knows.shows.current_shelf; shelves = knows.shows.shelves; newest_is = r.goes.as_many }; images = refl; known = begins_all d None; notes = knows.notes ∙ sym (notes_same r.course.events e refl) } in (
+    let fits' : LoaderFits d l' = record {
+      shows = record {
+        current = knows.shows.current;
+        current_shelf = knows.shows.current_shelf;
+        shelves = knows.shows.shelves;
+        newest_is = r.goes.as_many;
+      };
+      images = refl;
+      known = begins_all d None;
+      notes = knows.notes ∙ sym (notes_same r.course.events e refl);
+    } in (
       all_of d,
       noted_ruled table r id l l' at refl e reply s refl is_step refl refl refl refl (omega arith) (set table.words (k + 1) n)
           (homes_after table.homes c a) fits' (words_same table.words (k + 1) s s r.words refl refl refl refl) slots,

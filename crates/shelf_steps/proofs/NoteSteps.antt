@@ -1,5 +1,6 @@
 -- A notice that goes out, and one that is taken in, keep the rule, and each is one event.
-use Rattle.std.proofs.Common.{◌≡◌, ◌≢◌, ℕ, ◌+◌, ◌<◌, ◌≤◌, ◌==◌, true, false, max, List, [], ◌∷◌, ◌++◌, length, set, get_or, remove, Option, Some, None, slice_get, refl, ap, sym, ◌∙◌}
+use Rattle.std.proofs.Common.{◌≡◌, ◌≢◌, ℕ, ◌+◌, ◌<◌, ◌≤◌, ◌==◌, true, false}
+use Rattle.std.proofs.Common.{max, List, [], ◌∷◌, ◌++◌, length, set, get_or, remove, Option, Some, None, slice_get, refl, ap, sym, ◌∙◌}
 use Rattle.std.proofs.Common.{subst, arith, get_or-set_same, get_or-set_other, inl, inr, ⊎_elim}
 use Rattle.std.proofs.lemmas.Bool.Decides.{nat_tests}
 use Rattle.std.proofs.lemmas.Option.{slice_get_within}
@@ -27,7 +28,7 @@ use Rattle.shelf_steps.specs.Ruled.{Ruled, notices_of}
 use Rattle.shelf_steps.specs.Laws.{Shelved}
 use Rattle.shelf_steps.specs.Plays.{Mine, with_note, gives_notice, new_notice, with_seen, joins_notice, IsLoading, IsSettled, IsNotice}
 use Rattle.shelf_steps.specs.Events.{noting, joining, NotesAreEvents, JoinsAreEvents}
-use Rattle.shelf_steps.proofs.Courses.{kept_of, notes_snoc, notes_same, joined_snoc, joined_same, nothing_snoc, begins_longer, goes_same, prefix_same, other_fits}
+use Rattle.shelf_steps.proofs.Courses.{kept_of, notes_snoc, joined_snoc, joined_same, nothing_snoc, begins_longer, goes_same, prefix_same, other_fits}
 use Rattle.shelf_steps.proofs.Frames.{worker_moves, loader_moves}
 use Rattle.shelf_steps.proofs.NoteLists.{notices_worker, notices_loader, notices_more, notices_less}
 use Rattle.shelf_steps.proofs.Opens.{at_end}

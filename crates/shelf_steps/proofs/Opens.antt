@@ -73,7 +73,12 @@ opens_ruled image items f = record {
   seats = record {
     owner = λ n. 0;
     loader_seat = refl;
-    loads = record { shows = record { current = refl; current_shelf = refl; shelves = refl; newest_is = refl }; images = refl; known = begins_all (first_course image) None; notes = refl };
+    loads = record {
+      shows = record { current = refl; current_shelf = refl; shelves = refl; newest_is = refl };
+      images = refl;
+      known = begins_all (first_course image) None;
+      notes = refl;
+    };
     few = omega arith;
     each = first_seat image;
     every = λ w less. absurd (omega arith);

@@ -25,7 +25,8 @@ use Rattle.shelf_steps.specs.Seats.{WorkerFits, LoaderFits, SeatsFit, HasEdition
 use Rattle.shelf_steps.specs.Slots.{SlotsFit, SlotFits}
 use Rattle.shelf_steps.specs.Ruled.{Ruled}
 use Rattle.shelf_steps.specs.Plays.{Mine, looked_at, is_open, holding, come_late, gone, Looks, TakesFound, TakesAs, Takes, Leaves, GivesBack, IsIdle, HasLooked, IsLate, HoldsOut, ShowsIn}
-use Rattle.shelf_steps.proofs.Courses.{kept_of, notes_same, joined_same, no_note, no_join, nothing_snoc, begins_longer, happened, goes_same, begins_all, prefix_same, other_fits}
+use Rattle.shelf_steps.proofs.Courses.{kept_of, notes_same, joined_same, no_note, no_join, nothing_snoc}
+use Rattle.shelf_steps.proofs.Courses.{begins_longer, happened, goes_same, begins_all, prefix_same, other_fits}
 use Rattle.shelf_steps.proofs.Frames.{there, worker_moves}
 use Rattle.shelf_steps.proofs.WordsAfter.{current_word, words_same, words_after, word_rises, word_falls, word_tells, found_at}
 use Rattle.shelf_steps.proofs.NoteLists.{notices_worker}
@@ -48,11 +49,11 @@ module _ (table : Table (Option Edition) View) (r : Ruled table) (id : ℕ) (v v
   not_of : (u : ℕ) → u ≢ v.number → actor e ≢ Some u
   not_of u other q = let z : Some v.number ≡ Some u = sym whose ∙ q in other (cc)
 
-  small : v.number < 16
-  small = let a = (r.seats.each id (View.Working v) at).0 in let b = r.seats.few in omega arith
+  number_small : v.number < 16
+  number_small = let a = (r.seats.each id (View.Working v) at).0 in let b = r.seats.few in omega arith
 
   not_nobodys : actor e ≢ nobody
-  not_nobodys q = let z : Some v.number ≡ Some 16 = sym whose ∙ q in let same : v.number ≡ 16 = cc in let less = small in omega arith
+  not_nobodys q = let z : Some v.number ≡ Some 16 = sym whose ∙ q in let same : v.number ≡ 16 = cc in let less = number_small in omega arith
 
   loads : LoaderFits (extended r.course e reply t r.course.images) r.loader
   loads = let f = r.seats.loads in record {
@@ -70,7 +71,8 @@ module _ (table : Table (Option Edition) View) (r : Ruled table) (id : ℕ) (v v
   others : (u : WorkerView) → u.number ≢ v.number → WorkerFits r.course u → WorkerFits (extended r.course e reply t r.course.images) u
   others u other f = let z = rest u.number other in
       other_fits r.course (extended r.course e reply t r.course.images) u z.0 z.1 (omega arith) (prefix_same r.course.images)
-      (begins_longer r.course e reply t r.course.images u.known (Some u.number) (not_of u.number other) (prefix_same r.course.images) f.known) (joined_same u.number r.course.events e (no_join u.number e not_nobodys)) f
+      (begins_longer r.course e reply t r.course.images u.known (Some u.number) (not_of u.number other) (prefix_same r.course.images) f.known)
+      (joined_same u.number r.course.events e (no_join u.number e not_nobodys)) f
 
   pub next_seats : WorkerFits (extended r.course e reply t r.course.images) v' → SeatsFit (extended r.course e reply t r.course.images) (set table.views id (View.Working v')) r.loader
   next_seats fits = worker_moves r.course (extended r.course e reply t r.course.images) table.views r.loader r.seats id v v' at named others loads rest

@@ -91,8 +91,8 @@ pub record TableShows (table : Shelved) (l : LoaderView) (s : State) : Type 0 wh
   pub notices : notices_of table.views ≡ s.notices
   pub unseated : (w : ℕ) → l.handed ≤ w → w < 16 → (slice_get s.workers w ≡ Some Worker.Idle) × (slice_index s.seen w ≡ 0)
 
--- there is one course of events, of which each seat knows a beginning, behind which nothing of its own stands. It leads to the state that words and seats show. As many notices
--- went out in it as the loader's view tells, and each worker took in those that its view tells, and no other
+-- there is one course of events, of which each seat knows a beginning, behind which nothing of its own stands. It leads to the state that words
+-- and seats show. As many notices went out in it as the loader's view counts, and each worker took in those that its view lists, and no other
 abbrev pub OneHistory : Type 0
 OneHistory =
     (table : Shelved) → Ruled table

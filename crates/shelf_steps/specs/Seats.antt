@@ -43,4 +43,5 @@ pub record SeatsFit (c : Course) (views : List View) (loader : LoaderView) : Typ
   pub few : loader.handed ≤ 16
   pub each : (seat : ℕ) (u : View) → get_elem? views seat ≡ some u → SeatFits c loader owner seat u
   pub every : (w : ℕ) → w < loader.handed → (v : WorkerView) × (v.number ≡ w) × (get_elem? views (owner w) ≡ some (View.Working v))
-  pub unseated : (w : ℕ) → loader.handed ≤ w → w < 16 → (slice_get c.state.workers w ≡ Some Worker.Idle) × (slice_index c.state.seen w ≡ 0) × HasDoneNothing w c.events
+  pub unseated : (w : ℕ) → loader.handed ≤ w → w < 16
+      → (slice_get c.state.workers w ≡ Some Worker.Idle) × (slice_index c.state.seen w ≡ 0) × HasDoneNothing w c.events
