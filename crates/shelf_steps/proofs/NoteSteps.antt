@@ -1,6 +1,6 @@
 -- A notice that goes out, and one that is taken in, keep the rule, and each is one event.
-use Rattle.std.proofs.Common.{◌≡◌, ◌≢◌, ℕ, ◌+◌, ◌<◌, ◌≤◌, ◌==◌, true, false}
-use Rattle.std.proofs.Common.{max, List, [], ◌∷◌, ◌++◌, length, set, get_or, remove, Option, Some, None, slice_get, refl, ap, sym, ◌∙◌}
+use Rattle.std.proofs.Common.{◌≡◌, ◌≢◌, ℕ, ◌+◌, ◌<◌, ◌==◌, true, false}
+use Rattle.std.proofs.Common.{max, List, [], ◌∷◌, ◌++◌, length, set, get_or, remove, Some, None, slice_get, refl, ap, sym, ◌∙◌}
 use Rattle.std.proofs.Common.{subst, arith, get_or-set_same, get_or-set_other, inl, inr, ⊎_elim}
 use Rattle.std.proofs.lemmas.Bool.Decides.{nat_tests}
 use Rattle.std.proofs.lemmas.Option.{slice_get_within}
@@ -16,18 +16,16 @@ use Rattle.version_core.specs.State.{State, noted, joined}
 use Rattle.version_core.specs.Steps.{Step, IsSettled as IsSettledAt}
 use Rattle.version_core.specs.Kept.{Kept}
 use Rattle.version_core.proofs.Rising.{most_left}
-use Rattle.shelf_steps.specs.declared.views.Known.{Known}
 use Rattle.shelf_steps.specs.declared.views.WorkerView.{WorkerView}
 use Rattle.shelf_steps.specs.declared.views.LoaderView.{LoaderView}
 use Rattle.shelf_steps.specs.declared.views.View.{View}
-use Rattle.shelf_steps.specs.Course.{Course, Goes, extended, Begins, note_of, notes_in, join_of, joined_by, HasDoneNothing}
-use Rattle.version_core.specs.Shown.{WordsShow}
+use Rattle.shelf_steps.specs.Course.{Course, extended, Begins, note_of, join_of, joined_by, HasDoneNothing}
 use Rattle.shelf_steps.specs.Seats.{WorkerFits, LoaderFits, SeatFits, SeatsFit}
 use Rattle.shelf_steps.specs.Slots.{SlotsFit}
 use Rattle.shelf_steps.specs.Ruled.{Ruled, notices_of}
 use Rattle.shelf_steps.specs.Laws.{Shelved}
 use Rattle.shelf_steps.specs.Plays.{Mine, with_note, gives_notice, new_notice, with_seen, joins_notice, IsLoading, IsSettled, IsNotice}
-use Rattle.shelf_steps.specs.Events.{noting, joining, NotesAreEvents, JoinsAreEvents}
+use Rattle.shelf_steps.specs.Events.{NotesAreEvents, JoinsAreEvents}
 use Rattle.shelf_steps.proofs.Courses.{kept_of, notes_snoc, joined_snoc, joined_same, nothing_snoc, begins_longer, goes_same, prefix_same, other_fits}
 use Rattle.shelf_steps.proofs.Frames.{worker_moves, loader_moves}
 use Rattle.shelf_steps.proofs.NoteLists.{notices_worker, notices_loader, notices_more, notices_less}
