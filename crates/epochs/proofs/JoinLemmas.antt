@@ -2,14 +2,17 @@
 use Rattle.std.proofs.Common.{◌≡◌, ℕ, zero, suc, ◌+◌, ◌<◌, ◌≤◌, max, ◌⊎◌, [], Some, None, Option, Result, Ok, Err, refl, ap, sym, ◌∙◌, subst, arith, inl, inr}
 use Rattle.version_core.specs.declared.state.Worker.{Worker}
 use Rattle.shelf_steps.specs.declared.edition.Edition.{Edition}
+use Rattle.shelf_steps.specs.declared.views.LoaderView.{LoaderView}
 use Rattle.shelf_steps.specs.declared.views.View.{View}
-use Rattle.shelf_steps.specs.Plays.{OfWorker, Mine, IsSettled, IsLoading, joins_notice, new_notice}
+use Rattle.shelf_steps.specs.Plays.{OfWorker, Mine, IsSettled, IsLoading, joins_notice, with_note, gives_notice, new_notice}
 use Rattle.shelf_steps.specs.Pinning.{IsIdleAs, IsHoldingAs}
 use Rattle.epochs.specs.declared.faults.PinFault.{PinFault}
 use Rattle.epochs.specs.Seats.{SeatValue, PinStep, ReleaseStep, JoinStep}
-use Rattle.epochs.specs.SeatLaws.{SeatStep, SeatSteps, GivesFrom, JoinedVersionsStay}
-use Rattle.epochs.specs.ShelfSeats.{FitsSeat, seen_of}
-use Rattle.epochs.specs.ShelfLoads.{RestsHere}
+use Rattle.std.specs.Arc.{arc_value}
+use Rattle.image_layout.specs.Image.{ImageValue}
+use Rattle.epochs.specs.SeatLaws.{SeatStep, SeatSteps, GivesFrom, JoinedVersionsStay, PinsSo, SeatCall, SeatCalls, AnswersFrom, JoinedVersionsStayAtShelves}
+use Rattle.epochs.specs.ShelfSeats.{ShelfSeatValue, FitsSeat, seen_of}
+use Rattle.epochs.specs.ShelfLoads.{Rests, RestsHere}
 use Rattle.version_core.specs.declared.state.Shelf.{Shelf}
 use Rattle.std.proofs.Common.{List}
 
@@ -67,9 +70,25 @@ pub seat_has_seen : (n : ℕ) (m notice m' : Mine) → IsSettled m.0 → notice 
 seat_has_seen n m notice m' settled is e =
     ap (λ (x : Mine). seen_of x.0) (e ∙ ap (λ (x : Mine). (joins_notice m.0 x.0, m.1)) is) ∙ seen_so m.0 n settled
 
+still_rests : (current current_shelf : ℕ) (shelves : List Shelf) (l : LoaderView) → Rests current current_shelf shelves l
+    → Rests current current_shelf shelves (with_note l)
+still_rests current current_shelf shelves l r = record {
+  empty = r.empty;
+  newest = r.newest;
+  current_is = r.current_is;
+  current_shelf_is = r.current_shelf_is;
+  shelves_are = r.shelves_are;
+  few = r.few;
+  small = r.small;
+  stands = r.stands;
+  one_open = r.one_open;
+  closing = r.closing;
+}
+
 loading_so : (current current_shelf : ℕ) (shelves : List Shelf) (u : View) → RestsHere current current_shelf shelves (u, []) → IsLoading u
-    × (new_notice u ≡ View.Noting current)
-loading_so current current_shelf shelves (View.Loading l) h = (tt, ap (λ n. View.Noting n) h.0.current_is)
+    × (new_notice u ≡ View.Noting current) × RestsHere current current_shelf shelves (gives_notice u, [])
+loading_so current current_shelf shelves (View.Loading l) h =
+    (tt, ap (λ n. View.Noting n) h.0.current_is, (still_rests current current_shelf shelves l h.0, refl))
 loading_so current current_shelf shelves (View.Working v) h = absurd h.0
 loading_so current current_shelf shelves (View.Noting n) h = absurd h.0
 loading_so current current_shelf shelves View.Spent h = absurd h.0
@@ -77,7 +96,14 @@ loading_so current current_shelf shelves View.Spent h = absurd h.0
 -- what a loader gives out between two calls is a notice of its current version
 pub loader_notes : (current current_shelf : ℕ) (shelves : List Shelf) (m : Mine) → RestsHere current current_shelf shelves m → IsLoading m.0
     × (new_notice m.0 ≡ View.Noting current)
-loader_notes current current_shelf shelves m h = loading_so current current_shelf shelves m.0 (h.0, refl)
+loader_notes current current_shelf shelves m h = let l = loading_so current current_shelf shelves m.0 (h.0, refl) in (l.0, l.1)
+
+-- and the loader rests as it did
+pub loader_rests : (current current_shelf : ℕ) (shelves : List Shelf) (m m' : Mine) → RestsHere current current_shelf shelves m
+    → m' ≡ (gives_notice m.0, m.1) → RestsHere current current_shelf shelves m'
+loader_rests current current_shelf shelves m m' h is =
+    let l = loading_so current current_shelf shelves m.0 (h.0, refl) in
+    subst (λ (x : Mine). RestsHere current current_shelf shelves x) (sym is) (l.2.0, h.1)
 
 pin_rises : (a b : SeatValue) (r : Result (Unit {0}) PinFault) → PinStep a r b → a.seen ≤ b.seen
 pin_rises a b (Ok u) h = let is = ap (λ (s : SeatValue). s.seen) h.1.3 in let up = h.1.2 in omega arith
@@ -116,3 +142,31 @@ gives_from c d v (Err PinFault.NotPinned) low h = tt
 pub joined_stay : JoinedVersionsStay
 joined_stay a b c d v n r join steps pin =
     let first = (join_rises a b v join).1 in let later = steps_rise n b c steps in gives_from c d v r (omega arith) pin
+
+-- the calls of shelves without a lock, as what the seat shows
+call_shown : (a b : ShelfSeatValue) → SeatCall a b → SeatStep a.shown b.shown
+call_shown a b h = elim h [ inl p ↦ inl (p.0, p.1.0) | inr q ↦ elim q [ inl p ↦ inr (inl (p.0, p.1.0)) | inr p ↦ inr (inr (p.0, p.1.0)) ] ]
+
+calls_shown : (n : ℕ) (a b : ShelfSeatValue) → SeatCalls n a b → SeatSteps n a.shown b.shown
+calls_shown zero a b h = ap (λ (x : ShelfSeatValue). x.shown) h
+calls_shown (suc n) a b h = (h.0.shown, call_shown a h.0 h.1, calls_shown n h.0 b h.2)
+
+abbrev version_in : Option (ℕ × ImageValue) → ℕ
+version_in None = 0
+version_in (Some held) = held.0
+
+answers_from : (c d : ShelfSeatValue) (v : ℕ) (r : Result (Unit {0}) PinFault) → PinsSo c r d → GivesFrom v r d.shown → AnswersFrom v c r d
+answers_from c d v (Ok u) h g =
+    let steps = h.1.1 in
+    let z : Some (g.0, g.1) ≡ Some (steps.1.version, arc_value steps.1.image) = sym g.2 ∙ steps.3 in
+    let same : g.0 ≡ steps.1.version = ap version_in z in
+    (steps.0, steps.1, steps.2, steps.3, (let low = g.3 in omega arith))
+answers_from c d v (Err (PinFault.Moved newest)) h g = g
+answers_from c d v (Err PinFault.AlreadyPinned) h g = h.1.0
+answers_from c d v (Err PinFault.SeatLost) h g = absurd h.1
+answers_from c d v (Err PinFault.OutOfMemory) h g = absurd h.1
+answers_from c d v (Err PinFault.NotPinned) h g = absurd h.1
+
+pub joined_stay_at_shelves : JoinedVersionsStayAtShelves
+joined_stay_at_shelves a b c d v n r join calls pin =
+    answers_from c d v r pin (joined_stay a.shown b.shown c.shown d.shown v n r join.0 (calls_shown n b c calls) pin.0)

@@ -1,13 +1,17 @@
 -- Seats at one table. A seat that was handed out with the table, and is used there alone, fits for good, and holds what was published.
-use Rattle.std.specs.Prelude.{◌≡◌, ◌≢◌, ℕ, zero, suc, ◌<◌, ◌≤◌, ◌⊎◌, List, Some, Result, Ok, Err}
+use Rattle.std.specs.Prelude.{◌≡◌, ◌≢◌, ℕ, zero, suc, ◌<◌, ◌≤◌, ◌⊎◌, List, Some, None, Result, Ok, Err}
+use Rattle.std.specs.Arc.{arc_value}
 use Rattle.image_layout.specs.Image.{ImageValue}
 use Rattle.version_core.specs.State.{start}
+use Rattle.shelf_steps.specs.declared.edition.Edition.{Edition}
+use Rattle.shelf_steps.specs.Pinning.{Pins}
 use Rattle.epochs.specs.declared.collected.Collected.{Collected}
 use Rattle.epochs.specs.declared.faults.PinFault.{PinFault}
 use Rattle.epochs.specs.Seats.{SeatValue, WorkerSeatValue, PinStep, ReleaseStep, JoinStep, idle_seat}
 use Rattle.epochs.specs.History.{TableValue, image_of}
-use Rattle.epochs.specs.Pins.{SeatFits, Pins, Releases}
+use Rattle.epochs.specs.Pins.{SeatFits, Pins as LockedPins, Releases}
 use Rattle.epochs.specs.Publishing.{Publishes, Collects}
+use Rattle.epochs.specs.ShelfSeats.{ShelfSeatValue, PinsBySteps, ReleasesBySteps, JoinsByStep}
 
 -- a new seat fits a new table
 abbrev pub NewSeatsFit : Type 0
@@ -15,7 +19,7 @@ NewSeatsFit = (number : ℕ) → number < 16 → SeatFits start (idle_seat numbe
 
 -- what one seat does leaves the others fitting
 abbrev pub PinsLeaveOthers : Type 0
-PinsLeaveOthers = (a b : TableValue) (seat after other : WorkerSeatValue) → Pins a seat b after → other.number ≢ seat.number → SeatFits a.state other → SeatFits b.state other
+PinsLeaveOthers = (a b : TableValue) (seat after other : WorkerSeatValue) → LockedPins a seat b after → other.number ≢ seat.number → SeatFits a.state other → SeatFits b.state other
 
 abbrev pub ReleasesLeaveOthers : Type 0
 ReleasesLeaveOthers = (a b : TableValue) (seat after other : WorkerSeatValue) → Releases a seat b after → other.number ≢ seat.number → SeatFits a.state other → SeatFits b.state other
@@ -33,10 +37,10 @@ HoldsPublished images seat = (version : ℕ) (image : ImageValue) → seat.shown
 
 -- so it is after a pin, and from then on whatever is done
 abbrev pub PinsHoldPublished : Type 0
-PinsHoldPublished = (a b : TableValue) (seat after : WorkerSeatValue) → Pins a seat b after → HoldsPublished b.images after
+PinsHoldPublished = (a b : TableValue) (seat after : WorkerSeatValue) → LockedPins a seat b after → HoldsPublished b.images after
 
 abbrev pub PinsKeepPublished : Type 0
-PinsKeepPublished = (a b : TableValue) (seat after other : WorkerSeatValue) → Pins a seat b after → HoldsPublished a.images other → HoldsPublished b.images other
+PinsKeepPublished = (a b : TableValue) (seat after other : WorkerSeatValue) → LockedPins a seat b after → HoldsPublished a.images other → HoldsPublished b.images other
 
 abbrev pub ReleasesKeepPublished : Type 0
 ReleasesKeepPublished = (a b : TableValue) (seat after other : WorkerSeatValue) → Releases a seat b after → HoldsPublished a.images other → HoldsPublished b.images other
@@ -67,3 +71,36 @@ GivesFrom v (Err _) b = Unit {0}
 abbrev pub JoinedVersionsStay : Type 0
 JoinedVersionsStay =
     (a b c d : SeatValue) (v n : ℕ) (r : Result (Unit {0}) PinFault) → JoinStep a v b → SeatSteps n b c → PinStep c r d → GivesFrom v r d
+
+-- the calls of a seat at shelves without a lock, each as it tells of itself
+abbrev pub PinsSo : ShelfSeatValue → Result (Unit {0}) PinFault → ShelfSeatValue → Type 0
+PinsSo a r b = PinStep a.shown r b.shown × PinsBySteps a r b
+
+abbrev pub ReleasesSo : ShelfSeatValue → Result (Unit {0}) PinFault → ShelfSeatValue → Type 0
+ReleasesSo a r b = ReleaseStep a.shown r b.shown × ReleasesBySteps a r b
+
+abbrev pub JoinsSo : ShelfSeatValue → ℕ → ShelfSeatValue → Type 0
+JoinsSo a version b = JoinStep a.shown version b.shown × JoinsByStep a version b
+
+abbrev pub SeatCall : ShelfSeatValue → ShelfSeatValue → Type 0
+SeatCall a b =
+    ((r : Result (Unit {0}) PinFault) × PinsSo a r b)
+    ⊎ (((r : Result (Unit {0}) PinFault) × ReleasesSo a r b) ⊎ ((version : ℕ) × JoinsSo a version b))
+
+abbrev pub SeatCalls : ℕ → ShelfSeatValue → ShelfSeatValue → Type 0
+SeatCalls zero a b = b ≡ a
+SeatCalls (suc n) a b = (mid : ShelfSeatValue) × SeatCall a mid × SeatCalls n mid b
+
+-- the pin's last look found the version that is held, and it is this one or a newer one; or the pin moved, with a newer one; or the seat held one
+-- already. No other fault comes
+abbrev pub AnswersFrom : ℕ → ShelfSeatValue → Result (Unit {0}) PinFault → ShelfSeatValue → Type 0
+AnswersFrom v a (Ok u) b =
+    (shelf : ℕ) × (e : Edition) × Pins a.view e.version shelf e b.view × (b.shown.held ≡ Some (e.version, arc_value e.image)) × (v ≤ e.version)
+AnswersFrom v a (Err (PinFault.Moved newest)) b = v < newest
+AnswersFrom v a (Err PinFault.AlreadyPinned) b = a.shown.held ≢ None
+AnswersFrom v a (Err _) b = ⊥
+
+-- so answers each pin of a seat at shelves without a lock once a notice of a version was taken in, whatever the seat did between
+abbrev pub JoinedVersionsStayAtShelves : Type 0
+JoinedVersionsStayAtShelves =
+    (a b c d : ShelfSeatValue) (v n : ℕ) (r : Result (Unit {0}) PinFault) → JoinsSo a v b → SeatCalls n b c → PinsSo c r d → AnswersFrom v c r d

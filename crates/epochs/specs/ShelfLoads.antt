@@ -8,7 +8,7 @@ use Rattle.epochs.specs.declared.faults.PublishFault.{PublishFault}
 use Rattle.epochs.specs.declared.collected.Collected.{Collected}
 use Rattle.image_layout.specs.Image.{ImageValue}
 use Rattle.epochs.specs.declared.seats.LoaderAnswer.{LoaderAnswer}
-use Rattle.shelf_steps.specs.Plays.{OfLoader, Mine, newest_of}
+use Rattle.shelf_steps.specs.Plays.{OfLoader, Mine, newest_of, gives_notice}
 use Rattle.shelf_steps.specs.Loading.{Loads, Frees, FindsBusy}
 
 -- the shelves that the seat is at, what it knows, the current version, and what it was answered
@@ -68,6 +68,10 @@ MakesRoomBySteps u u' = (HasFree u × (u' ≡ u)) ⊎ ((¬ (HasFree u)) × ((fou
 -- the image is the next version, on the least free shelf
 abbrev pub PublishesBySteps : View → ImageValue → ℕ → View → Type 0
 PublishesBySteps u image version u' = (shelf before : ℕ) × IsLeastFree u shelf × Loads shelf version before image u u'
+
+-- and then one notice of it goes out, and no other
+abbrev pub PublishesWithNotice : View → ImageValue → ℕ → View → Type 0
+PublishesWithNotice u image version u' = (loaded : View) × PublishesBySteps u image version loaded × (u' ≡ gives_notice loaded)
 
 -- so many workers at each shelf but the current one
 abbrev pub AreFull : View → List ℕ → Type 0

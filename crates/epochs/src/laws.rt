@@ -2,7 +2,7 @@
 
 ghost use Rattle.epochs.specs.SeatLaws.{NewSeatsFit, PinsLeaveOthers, ReleasesLeaveOthers, PublishesLeaveSeats, CollectsLeaveSeats};
 ghost use Rattle.epochs.specs.SeatLaws.{PinsHoldPublished, PinsKeepPublished, ReleasesKeepPublished, PublishesKeepPublished, CollectsKeepPublished};
-ghost use Rattle.epochs.specs.SeatLaws.{JoinedVersionsStay};
+ghost use Rattle.epochs.specs.SeatLaws.{JoinedVersionsStay, JoinedVersionsStayAtShelves};
 
 /// A new seat fits a new table, and what others do leaves it so. After its own pins and releases it fits by their contracts.
 /// So a seat that is used at the table that it was handed out with, and nowhere else, is never lost.
@@ -27,4 +27,10 @@ pub fn held_images_stay_published()
 /// version or a newer one, or tells that it moved, with a newer one.
 pub fn joined_versions_stay()
     ensures { JoinedVersionsStay }
+{}
+
+/// The same of the calls of shelves without a lock, whatever their name: such a pin looks and takes, and what it holds is what
+/// its last look found; it is refused for no other reason.
+pub fn joined_versions_stay_at_shelves()
+    ensures { JoinedVersionsStayAtShelves }
 {}

@@ -18,14 +18,14 @@ mod versions;
 pub use collected::Collected;
 pub use faults::{PinFault, PublishFault};
 pub use locked::LockedShelves;
-pub use named::{Named, NamedLoader, NamedNotice, NamedSeat, NamedShelves};
+pub use named::{ManySeats, Named, NamedLoader, NamedNotice, NamedSeat, NamedShelves};
 pub use notice::Notice;
 pub use seats::{Answer, LoaderAnswer, LoaderSeat, WorkerSeat};
 pub use shelf_loader::ShelfLoader;
 pub use shelf_seats::ShelfSeat;
 pub use shelf_steps::Edition;
 pub use shelves::Shelves;
-pub use solo::SoloShelves;
+pub use solo::{OneSeat, SoloShelves};
 pub use table::VersionTable;
 pub use versions::{Loads, Versions};
 

@@ -6,7 +6,7 @@ ghost use Rattle.shelf_steps.specs.declared.views.View.{View};
 ghost use Rattle.epochs.specs.Pins.{HoldsInHistory};
 ghost use Rattle.epochs.specs.Seats.{PinStep, ReleaseStep, JoinStep, PublishStep, RefuseStep, CollectStep};
 ghost use Rattle.epochs.specs.ShelfSeats.{PinsBySteps, ReleasesBySteps, JoinsByStep};
-ghost use Rattle.epochs.specs.ShelfLoads.{CollectsBySteps, MakesRoomBySteps, PublishesBySteps, RefusesBySteps};
+ghost use Rattle.epochs.specs.ShelfLoads.{CollectsBySteps, MakesRoomBySteps, PublishesWithNotice, RefusesBySteps};
 ghost use Rattle.epochs.specs.declared.faults.PublishFault.{PublishFault};
 
 use crate::collected::Collected;
@@ -141,14 +141,19 @@ impl<B: Named> NamedNotice<B> {
     }
 }
 
-/// Shelves without a lock, under a name: seats, the loader's seat and notices of the name are of these shelves.
+/// That shelves are for as many workers as there are seats. No value of it is made.
+pub struct ManySeats;
+
+/// Shelves without a lock, under a name: seats, the loader's seat and notices of the name are of these shelves. `K` says for
+/// whom they are, `ManySeats` or `OneSeat`.
 #[derive(Drop)]
-pub struct NamedShelves<B: Named> {
+pub struct NamedShelves<B: Named, K = ManySeats> {
     shelves: Shelves,
     of: PhantomData<B>,
+    kind: PhantomData<K>,
 }
 
-impl<B: Named> Model for NamedShelves<B> {
+impl<B: Named, K> Model for NamedShelves<B, K> {
     ghost use Rattle.std.specs.Prelude.{◌≡◌};
     ghost use Rattle.atomic_table.specs.Seated.{TableId};
 
@@ -159,16 +164,27 @@ impl<B: Named> Model for NamedShelves<B> {
     ghost invariant = { λ s. s.shelves ≡ B.table };
 }
 
-impl<B: Named> NamedShelves<B> {
-    /// The shelves, under their name.
-    pub fn of(shelves: Shelves) -> NamedShelves<B>
+impl<B: Named, K> NamedShelves<B, K> {
+    // The shelves, under their name.
+    pub(crate) fn under(shelves: Shelves) -> NamedShelves<B, K>
         requires { shelves ≡ B.table }
         ensures { result ≡ shelves }
     {
         NamedShelves {
             shelves,
             of: PhantomData,
+            kind: PhantomData,
         }
+    }
+}
+
+impl<B: Named> NamedShelves<B> {
+    /// The shelves, under their name.
+    pub fn of(shelves: Shelves) -> NamedShelves<B>
+        requires { shelves ≡ B.table }
+        ensures { result ≡ shelves }
+    {
+        NamedShelves::under(shelves)
     }
 }
 
@@ -183,7 +199,7 @@ fn under_name<B: Named>(published: (u64, Option<Notice>)) -> (u64, Option<NamedN
     }
 }
 
-impl<B: Named> Versions for NamedShelves<B> {
+impl<B: Named, K> Versions for NamedShelves<B, K> {
     type Seat = NamedSeat<B>;
 
     type Notice = NamedNotice<B>;
@@ -230,7 +246,7 @@ impl<B: Named> Versions for NamedShelves<B> {
     }
 }
 
-impl<B: Named> Loads for NamedShelves<B> {
+impl<B: Named, K> Loads for NamedShelves<B, K> {
     type Loader = NamedLoader<B>;
 
     ghost loads = { λ shelves loader. Unit {0} };
@@ -246,7 +262,7 @@ impl<B: Named> Loads for NamedShelves<B> {
         ensures back { IfErr result (λ e. e.0 ≡ image) }
         ensures current { MatchResult result (λ r. loader.new.current ≡ r.0) (λ _. loader.new.current ≡ loader.old.current) }
         ensures loader { MatchResult result (λ r. PublishStep loader.old.answers (arc_value image) r.0 loader.new.answers) (λ e. RefuseStep loader.old.answers e.1 loader.new.answers) }
-        ensures steps { MatchResult result (λ r. (room : View) × MakesRoomBySteps loader.old.view room × PublishesBySteps room (arc_value image) r.0 loader.new.view) (λ e. RefusesBySteps loader.old.view e.1 loader.new.view) }
+        ensures steps { MatchResult result (λ r. (room : View) × MakesRoomBySteps loader.old.view room × PublishesWithNotice room (arc_value image) r.0 loader.new.view) (λ e. RefusesBySteps loader.old.view e.1 loader.new.view) }
         ensures notice { IfOk result (λ r. r.1 ≡ Some (record { table = self.now; version = r.0 })) }
     {
         let published = match self.shelves.publish(&mut loader.loader, image) {

@@ -6,6 +6,7 @@ ghost use Rattle.image_layout.specs.Image.{ImageValue};
 ghost use Rattle.version_core.specs.declared.state.Shelf.{Shelf};
 ghost use Rattle.shelf_steps.specs.Handed.{handed};
 ghost use Rattle.shelf_steps.specs.Loading.{Loads};
+ghost use Rattle.shelf_steps.specs.Plays.{gives_notice};
 ghost use Rattle.shelf_steps.specs.declared.views.View.{View};
 ghost use Rattle.epochs.specs.Seats.{PublishStep, RefuseStep, CollectStep};
 ghost use Rattle.epochs.specs.ShelfLoads.{CollectsBySteps, TriedShelf, shelf_of, IsFreeIn, HasFree, IsLeastFree, MakesRoomBySteps, PublishesBySteps, RefusesBySteps, IsUnspent};
@@ -81,10 +82,10 @@ impl ShelfLoader {
         self.answers.note(&answer);
     }
 
-    // A notice of the current version.
+    // One notice of the current version, and no other.
     pub(crate) fn note_at(&mut self, table: &ShelfTable) -> Notice
         requires { self.old.table ≡ table.now }
-        ensures same { self.new ≡ self.old }
+        ensures noted { self.new ≡ record self.old { view = gives_notice self.old.view } }
         ensures notice { (result.table ≡ self.old.table) × (result.version ≡ self.old.current) }
     {
         let _ = &self.current;

@@ -8,7 +8,7 @@ ghost use Rattle.shelf_steps.specs.declared.views.View.{View};
 ghost use Rattle.epochs.specs.Pins.{HoldsInHistory};
 ghost use Rattle.epochs.specs.Seats.{PinStep, ReleaseStep, JoinStep, PublishStep, RefuseStep, CollectStep};
 ghost use Rattle.epochs.specs.ShelfSeats.{PinsBySteps, ReleasesBySteps, JoinsByStep, SeatsHanded};
-ghost use Rattle.epochs.specs.ShelfLoads.{CollectsBySteps, MakesRoomBySteps, PublishesBySteps, RefusesBySteps};
+ghost use Rattle.epochs.specs.ShelfLoads.{CollectsBySteps, MakesRoomBySteps, PublishesWithNotice, RefusesBySteps};
 ghost use Rattle.epochs.specs.declared.faults.PublishFault.{PublishFault};
 
 use crate::collected::Collected;
@@ -100,7 +100,7 @@ impl Shelves {
         ensures back { IfErr result (λ e. e.0 ≡ image) }
         ensures current { MatchResult result (λ r. loader.new.current ≡ r.0) (λ _. loader.new.current ≡ loader.old.current) }
         ensures loader { MatchResult result (λ r. PublishStep loader.old.answers (arc_value image) r.0 loader.new.answers) (λ e. RefuseStep loader.old.answers e.1 loader.new.answers) }
-        ensures steps { MatchResult result (λ r. (room : View) × MakesRoomBySteps loader.old.view room × PublishesBySteps room (arc_value image) r.0 loader.new.view) (λ e. RefusesBySteps loader.old.view e.1 loader.new.view) }
+        ensures steps { MatchResult result (λ r. (room : View) × MakesRoomBySteps loader.old.view room × PublishesWithNotice room (arc_value image) r.0 loader.new.view) (λ e. RefusesBySteps loader.old.view e.1 loader.new.view) }
         ensures notice { IfOk result (λ r. r.1 ≡ Some (record { table = self.now; version = r.0 })) }
     {
         match loader.publish_at(&self.table, self.alloc, image) {

@@ -1,8 +1,8 @@
 -- One event more.
-use Rattle.reasoning.proofs.ListLemmas.{slice_get-append}
-use Rattle.version_core.specs.Actors.{NoneOf, actor}
+use Rattle.version_core.specs.Actors.{nobody, actor, NoneOf}
 use Rattle.image_layout.specs.Image.{ImageValue}
-use Rattle.std.proofs.Common.{◌≡◌, ◌≢◌, ℕ, zero, suc, ◌≤◌, List, [], ◌∷◌, ◌++◌, length, Option, Some, slice_get, get_or, refl, ap, sym, ◌∙◌, subst, arith, append_assoc}
+use Rattle.std.proofs.Common.{◌≡◌, ◌≢◌, ℕ, zero, suc, ◌+◌, ◌≤◌, List, [], ◌∷◌, ◌++◌, length, Option, Some, slice_get, get_or, refl, ap, sym, ◌∙◌}
+use Rattle.std.proofs.Common.{subst, arith, append_assoc}
 use Rattle.std.proofs.lemmas.List.{append-nil}
 use mathlib.Core.List.{IsPrefix}
 use Rattle.version_core.specs.declared.event.Event.{Event}
@@ -12,10 +12,12 @@ use Rattle.version_core.specs.State.{State, start, newest}
 use Rattle.version_core.specs.Steps.{Step}
 use Rattle.version_core.specs.Kept.{Kept}
 use Rattle.version_core.proofs.Runs.{reached_kept, list_grows_with_replies}
+use Rattle.version_core.proofs.Lists.{slice_get-append}
 use Rattle.shelf_steps.specs.declared.edition.Edition.{Edition}
 use Rattle.shelf_steps.specs.declared.views.Known.{Known}
 use Rattle.shelf_steps.specs.declared.views.WorkerView.{WorkerView}
 use Rattle.shelf_steps.specs.Course.{Course, Goes, extended, all_of, Begins, Happened, image_of, IsEdition}
+use Rattle.shelf_steps.specs.Course.{note_of, notes_in, join_of, joined_by, HasDoneNothing}
 use Rattle.shelf_steps.specs.Seats.{HasEdition, WorkerFits}
 
 pub kept_of : (c : Course) → Goes c → Kept c.state
@@ -24,6 +26,50 @@ kept_of c g = reached_kept c.state (c.events, record { replies = c.replies; run 
 pub none_snoc : (a : Option ℕ) (es : List Event) (e : Event) → actor e ≢ a → NoneOf a es → NoneOf a (es ++ e ∷ [])
 none_snoc a [] e n h = (n, tt)
 none_snoc a (x ∷ xs) e n h = (h.0, none_snoc a xs e n h.1)
+
+-- notices, after one event more
+pub notes_snoc : (es : List Event) (e : Event) → notes_in (es ++ e ∷ []) ≡ notes_in es + note_of e
+notes_snoc [] e = omega arith
+notes_snoc (x ∷ xs) e = let r = notes_snoc xs e in omega arith
+
+pub notes_same : (es : List Event) (e : Event) → note_of e ≡ 0 → notes_in (es ++ e ∷ []) ≡ notes_in es
+notes_same es e none = let r = notes_snoc es e in omega arith
+
+pub joined_snoc : (w : ℕ) (es : List Event) (e : Event) → joined_by w (es ++ e ∷ []) ≡ joined_by w es ++ join_of w e
+joined_snoc w [] e = append-nil (join_of w e)
+joined_snoc w (x ∷ xs) e =
+    ap (λ (l : List ℕ). join_of w x ++ l) (joined_snoc w xs e) ∙ sym (append_assoc (join_of w x) (joined_by w xs) (join_of w e))
+
+pub joined_same : (w : ℕ) (es : List Event) (e : Event) → join_of w e ≡ [] → joined_by w (es ++ e ∷ []) ≡ joined_by w es
+joined_same w es e none = joined_snoc w es e ∙ (ap (λ (l : List ℕ). joined_by w es ++ l) none ∙ append-nil (joined_by w es))
+
+-- an event that is somebody's is no notice's
+pub no_note : (e : Event) → actor e ≢ nobody → note_of e ≡ 0
+no_note (Event.Look w) other = refl
+no_note (Event.Take w) other = refl
+no_note (Event.Drop w) other = refl
+no_note (Event.Open i) other = refl
+no_note Event.Publish other = refl
+no_note (Event.Close k) other = refl
+no_note (Event.Collect k) other = refl
+no_note (Event.Ask w) other = refl
+no_note Event.Note other = absurd (other refl)
+no_note (Event.Join w v) other = absurd (other refl)
+
+pub no_join : (u : ℕ) (e : Event) → actor e ≢ nobody → join_of u e ≡ []
+no_join u (Event.Look w) other = refl
+no_join u (Event.Take w) other = refl
+no_join u (Event.Drop w) other = refl
+no_join u (Event.Open i) other = refl
+no_join u Event.Publish other = refl
+no_join u (Event.Close k) other = refl
+no_join u (Event.Collect k) other = refl
+no_join u (Event.Ask w) other = refl
+no_join u Event.Note other = absurd (other refl)
+no_join u (Event.Join w v) other = absurd (other refl)
+
+pub nothing_snoc : (w : ℕ) (es : List Event) (e : Event) → actor e ≢ Some w → join_of w e ≡ [] → HasDoneNothing w es → HasDoneNothing w (es ++ e ∷ [])
+nothing_snoc w es e n none h = (none_snoc (Some w) es e n h.0, joined_same w es e none ∙ h.1)
 
 module _ {A : Type 0} where
   pub prefix_same : (xs : List A) → IsPrefix xs xs
@@ -82,11 +128,13 @@ has_later images more (Worker.Late k) edition p h = h
 
 -- what another worker knows after a step that leaves it alone
 pub other_fits : (c d : Course) (u : WorkerView) → slice_get d.state.workers u.number ≡ slice_get c.state.workers u.number → get_or d.state.seen u.number 0 ≡ get_or c.state.seen u.number 0
-    → c.state.current ≤ d.state.current → IsPrefix c.images d.images → Begins u.known (Some u.number) d → WorkerFits c u → WorkerFits d u
-other_fits c d u now seen up more known f = record {
+    → c.state.current ≤ d.state.current → IsPrefix c.images d.images → Begins u.known (Some u.number) d
+    → joined_by u.number d.events ≡ joined_by u.number c.events → WorkerFits c u → WorkerFits d u
+other_fits c d u now seen up more known joined f = record {
   shows = record { now = now ∙ f.shows.now; seen = seen ∙ f.shows.seen };
   last = ((let q = f.last.0 in omega arith), f.last.1);
   passed = λ p. let q = f.passed p in omega arith;
   edition = has_later c.images d.images u.now u.edition more f.edition;
   known = known;
+  joined = f.joined ∙ sym joined;
 }

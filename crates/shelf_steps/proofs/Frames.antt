@@ -1,6 +1,5 @@
 -- What the seats know after a step of one of them.
-use Rattle.version_core.specs.Actors.{NoneOf}
-use Rattle.std.proofs.Common.{◌≡◌, ◌≢◌, ℕ, zero, suc, ◌<◌, List, [], ◌∷◌, length, set, get_or, Some, slice_get, refl, ap, sym, ◌∙◌, subst, arith, ⊎_elim}
+use Rattle.std.proofs.Common.{◌≡◌, ◌≢◌, ℕ, zero, suc, ◌<◌, List, [], ◌∷◌, length, set, get_or, slice_get, refl, ap, sym, ◌∙◌, subst, arith, ⊎_elim}
 use mathlib.Core.Logic.{dite}
 use mathlib.Core.Option.{some, some-ne-none}
 use native.Mathlib.Decide.{ℕ_discrete}
@@ -10,7 +9,7 @@ use Rattle.version_core.specs.declared.state.Worker.{Worker}
 use Rattle.shelf_steps.specs.declared.views.WorkerView.{WorkerView}
 use Rattle.shelf_steps.specs.declared.views.LoaderView.{LoaderView}
 use Rattle.shelf_steps.specs.declared.views.View.{View}
-use Rattle.shelf_steps.specs.Course.{Course}
+use Rattle.shelf_steps.specs.Course.{Course, HasDoneNothing}
 use Rattle.shelf_steps.specs.Seats.{WorkerFits, LoaderFits, SeatFits, SeatsFit}
 
 pub there : {A : Type 0} (l : List A) (i : ℕ) (a : A) → get_elem? l i ≡ some a → i < length l
@@ -33,7 +32,7 @@ module _ (c d : Course) (views : List View) (loader : LoaderView) (fit : SeatsFi
   other_seat seat (View.Working u) apart o = (o.0, o.1, others u (λ e. apart (sym o.1 ∙ (ap fit.owner e ∙ mine.1))) o.2)
 
   pub worker_moves : LoaderFits d loader → ((w : ℕ) → w ≢ v.number → (slice_get d.state.workers w ≡ slice_get c.state.workers w) × (get_or d.state.seen w 0 ≡ get_or c.state.seen w 0))
-      → ((w : ℕ) → w < 16 → w ≢ v.number → NoneOf (Some w) c.events → NoneOf (Some w) d.events) → WorkerFits d v'
+      → ((w : ℕ) → w < 16 → w ≢ v.number → HasDoneNothing w c.events → HasDoneNothing w d.events) → WorkerFits d v'
       → SeatsFit d (set views id (View.Working v')) loader
   worker_moves loads rest unmoved fits = record {
     owner = fit.owner;
@@ -66,8 +65,8 @@ module _ (c d : Course) (views : List View) (loader : LoaderView) (fit : SeatsFi
   seat_of_other seat View.Spent apart o = tt
   seat_of_other seat (View.Working u) apart o = ((let a = o.0 in let b = same_handed in omega arith), o.1, others u o.2)
 
-  pub loader_moves : LoaderFits d l' → d.state.workers ≡ c.state.workers → d.state.seen ≡ c.state.seen → ((w : ℕ) → w < 16 → NoneOf (Some w) c.events
-      → NoneOf (Some w) d.events) → SeatsFit d (set views id (View.Loading l')) l'
+  pub loader_moves : LoaderFits d l' → d.state.workers ≡ c.state.workers → d.state.seen ≡ c.state.seen → ((w : ℕ) → w < 16 → HasDoneNothing w c.events
+      → HasDoneNothing w d.events) → SeatsFit d (set views id (View.Loading l')) l'
   loader_moves loads workers seen unmoved = record {
     owner = fit.owner;
     loader_seat = ap (λ n. get_elem? (set views id (View.Loading l')) n) (sym loader_is.0) ∙ set_here views id (View.Loading l') (there views id (View.Loading l) at);

@@ -103,6 +103,7 @@ module _ (shelf version before : ℕ) (l : LoaderView) (image : ImageValue) (f :
             current = (refl, refl);
             shelves = ap (λ n. set (set l.shelves shelf (Shelf.Open version)) before (Shelf.Closing n)) (sym same);
             handed = refl;
+            notes = refl;
             hand = refl;
           },
           refl,
@@ -163,8 +164,20 @@ frees_then shelf version n (View.Loading l) c m1 m2 m3 may h is e p =
     let k = subst (λ (b : Bool). CollectsFound l shelf version n b m1) is h in
     let second : m2 ≡ (View.Loading (with_free l shelf k.1), down_from nothings (16 * shelf) 16 []) = e ∙ ap (λ (m : Mine). (m.0, down_from nothings (16 * shelf) 16 [])) k.2 in
     let q : PutsBackOn shelf (View.Loading (with_free l shelf k.1), down_from nothings (16 * shelf) 16 []) m3 = subst (λ (m : Mine). PutsBackOn shelf m m3) second p in
-    subst (λ (m : Mine). Frees shelf (View.Loading l) m.0 × (m.1 ≡ [])) (sym q.1)
-    (record { freed = k.1; collect = k.3.0; put_back = q.2.0; images = q.2.1 ∙ k.3.1; current = (refl, refl); shelves = refl; handed = refl; hand = refl }, refl)
+    subst (λ (m : Mine). Frees shelf (View.Loading l) m.0 × (m.1 ≡ [])) (sym q.1) (
+      record {
+        freed = k.1;
+        collect = k.3.0;
+        put_back = q.2.0;
+        images = q.2.1 ∙ k.3.1;
+        current = (refl, refl);
+        shelves = refl;
+        handed = refl;
+        notes = refl;
+        hand = refl;
+      },
+      refl,
+    )
 
 pub busy_then : (shelf version n : ℕ) (u : View) (c : List (ℕ × Option Edition)) (m1 : Mine) → CollectsOn shelf version n (u, c) m1 → (n == 512 + 65536 * version) ≡ false → FindsBusy shelf (n % 256) u m1.0 × (m1.1 ≡ [])
 busy_then shelf version n (View.Working v) c m1 h is = absurd h
@@ -173,4 +186,4 @@ busy_then shelf version n View.Spent c m1 h is = absurd h
 busy_then shelf version n (View.Loading l) c m1 h is =
     let k = subst (λ (b : Bool). CollectsFound l shelf version n b m1) is h in
     subst (λ (m : Mine). FindsBusy shelf (n % 256) (View.Loading l) m.0 × (m.1 ≡ [])) (sym k.1)
-    (record { collect = k.2.0; some_one = k.3; images = k.2.1; current = (refl, refl); shelves = refl; handed = refl; hand = refl }, refl)
+    (record { collect = k.2.0; some_one = k.3; images = k.2.1; current = (refl, refl); shelves = refl; handed = refl; notes = refl; hand = refl }, refl)

@@ -1,6 +1,5 @@
 -- Each step of the loader keeps the rule, and is one event.
-use Rattle.reasoning.proofs.ListLemmas.{slice_get-append, slice_get-last, slice_get-set_same, slice_get-set_other}
-use Rattle.version_core.specs.Actors.{actor}
+use Rattle.version_core.specs.Actors.{nobody, actor}
 use Rattle.image_layout.specs.Image.{ImageValue}
 use Rattle.std.proofs.Common.{◌≡◌, ◌≢◌, ℕ, zero, suc, ◌+◌, ◌-◌, ◌*◌, ◌%◌, ◌<◌, ◌≤◌, ◌==◌, ◌⊎◌, Bool, true, false, List, [], ◌∷◌, ◌++◌, length, set, get_or, Option, Some, None, slice_get, refl, ap, sym, ◌∙◌, subst, arith, get_or-set_same, get_or-set_other, length-set, length-append, inl, inr}
 use Rattle.std.proofs.lemmas.Bool.Decides.{nat_tests}
@@ -8,7 +7,6 @@ use mathlib.Core.Option.{Option as Maybe, none, some}
 use mathlib.Core.List.{IsPrefix}
 use prog.Atomic.{either}
 use lib.ListN.{get_elem?}
-use Rattle.reasoning.proofs.OrderLemmas.{own_equal}
 use Rattle.atomic_table.specs.Table.{State as Table, Act, step, keeps, stepped, Allows, Valid, homes_after, carried_after}
 use Rattle.version_core.specs.declared.event.Event.{Event}
 use Rattle.version_core.specs.declared.event.Reply.{Reply}
@@ -19,6 +17,7 @@ use Rattle.version_core.specs.Steps.{IsFree, IsOpen, IsClosing, IsOutdated, MayO
 use Rattle.version_core.specs.Kept.{Kept, is_at}
 use Rattle.version_core.proofs.Keeps.{none_waits}
 use Rattle.version_core.proofs.Counts.{no_one_at}
+use Rattle.version_core.proofs.Lists.{slice_get-set_same, slice_get-set_other, slice_get-last}
 use Rattle.shelf_steps.specs.declared.edition.Edition.{Edition}
 use Rattle.shelf_steps.specs.declared.views.Known.{Known}
 use Rattle.shelf_steps.specs.declared.views.WorkerView.{WorkerView}
@@ -30,7 +29,8 @@ use Rattle.shelf_steps.specs.Seats.{WorkerFits, LoaderFits}
 use Rattle.shelf_steps.specs.Slots.{SlotsFit, SlotFits, down_from, nothings}
 use Rattle.shelf_steps.specs.Ruled.{Ruled}
 use Rattle.shelf_steps.specs.Plays.{Mine, newest_of, with_open, with_current, with_closing, with_free, with_hand, AllHave, Noted, Opens, Publishes, Closes, CollectsFound, Collects, Gathers, PutsBack, MayOpenOn, MayPublish, MayClose, MayCollect, MayGather, MayPutBack}
-use Rattle.shelf_steps.proofs.Courses.{kept_of, none_snoc, begins_longer, happened, goes_on, goes_same, begins_all, prefix_same, other_fits}
+use Rattle.shelf_steps.proofs.Courses.{kept_of, notes_same, joined_same, no_join, nothing_snoc}
+use Rattle.shelf_steps.proofs.Courses.{begins_longer, happened, goes_on, goes_same, begins_all, prefix_same, other_fits}
 use Rattle.shelf_steps.proofs.Frames.{loader_moves}
 use Rattle.shelf_steps.proofs.WordsAfter.{words_same, words_after, few_counted, version_bound, found_at}
 use Rattle.shelf_steps.proofs.NoteLists.{notices_loader}
@@ -61,10 +61,14 @@ module _ (table : Table (Option Edition) View) (r : Ruled table) (id : ℕ) (l l
   not_of : (u : ℕ) → actor e ≢ Some u
   not_of u q = let z : None ≡ Some u = sym whose ∙ q in cc
 
+  not_nobodys : actor e ≢ nobody
+  not_nobodys q = let z : None ≡ Some 16 = sym whose ∙ q in cc
+
   others : (u : WorkerView) → WorkerFits r.course u → WorkerFits (extended r.course e reply t images) u
   others u f =
       other_fits r.course (extended r.course e reply t images) u (ap (λ (x : List Worker). slice_get x u.number) workers) (ap (λ (x : List ℕ). get_or x u.number 0) seen) up more
-      (begins_longer r.course e reply t images u.known (Some u.number) (not_of u.number) more f.known) f
+      (begins_longer r.course e reply t images u.known (Some u.number) (not_of u.number) more f.known)
+      (joined_same u.number r.course.events e (no_join u.number e not_nobodys)) f
 
   loader_ruled : (words' : List ℕ) (homes' : List (Maybe (Option Edition))) → LoaderFits (extended r.course e reply t images) l' → WordsShow words' t → SlotsFit homes' t.shelves t.workers images l'.hand
       → Ruled record { words = words'; homes = homes'; views = set table.views id (View.Loading l') }
@@ -74,7 +78,7 @@ module _ (table : Table (Option Edition) View) (r : Ruled table) (id : ℕ) (l l
     goes = goes;
     words = words;
     seats = loader_moves r.course (extended r.course e reply t images) table.views r.loader r.seats id l l' at as_many others fits workers seen (λ w small h.
-        none_snoc (Some w) r.course.events e (not_of w) h);
+        nothing_snoc w r.course.events e (not_of w) (no_join w e not_nobodys) h);
     notices = notices_loader table.views id l l' at ∙ (r.notices ∙ sym notices);
     slots = slots;
   }
@@ -104,7 +108,7 @@ got_snoc [] a b (suc i) e = absurd (cc)
 got_snoc (x ∷ xs) a b zero e = inl e
 got_snoc (x ∷ xs) a b (suc i) e = elim (got_snoc xs a b i e) [ inl q ↦ inl q | inr q ↦ inr (ap (λ n. suc n) q.0, q.1) ]
 
-pub image_last : (images : List ImageValue) (x : ImageValue) (v : ℕ) → v ≡ suc (length images) → image_of (images ++ x ∷ []) v ≡ Some x
+image_last : (images : List ImageValue) (x : ImageValue) (v : ℕ) → v ≡ suc (length images) → image_of (images ++ x ∷ []) v ≡ Some x
 image_last images x v e = subst (λ n. image_of (images ++ x ∷ []) n ≡ Some x) (sym e) (slice_get-last images x)
 
 open_word : (n count version : ℕ) → n ≡ count → count ≤ 16 → version ≤ 1000000000 → (n + (256 + 65536 * version)) % 18446744073709551616 ≡ count + 256 + 65536 * version
@@ -154,6 +158,7 @@ opens_as slots id k version l image f many small free hand current next few all 
       };
       images = refl;
       known = begins_all d None;
+      notes = knows.notes ∙ sym (notes_same r.course.events e refl);
     } in (
       View.Loading l',
       give_block 16,
@@ -227,7 +232,17 @@ publishings_as slots id k version (View.Loading l) c small may table r full at f
     let is_step : Step s e reply t = (k, (stands, later), refl) in
     let d : Course = extended r.course e reply t r.course.images in
     let l' : LoaderView = with_current l version k (all_of d) in
-    let fits' : LoaderFits d l' = record { shows = record { current = refl; current_shelf = refl; shelves = knows.shows.shelves; newest_is = r.goes.as_many }; images = refl; known = begins_all d None } in (
+    let fits' : LoaderFits d l' = record {
+      shows = record {
+        current = refl;
+        current_shelf = refl;
+        shelves = knows.shows.shelves;
+        newest_is = r.goes.as_many;
+      };
+      images = refl;
+      known = begins_all d None;
+      notes = knows.notes ∙ sym (notes_same r.course.events e refl);
+    } in (
       View.Loading l',
       keeps,
       tt,
@@ -260,7 +275,17 @@ closings_as slots id k (View.Loading l) c small may table r full at fits =
     let eight = kept.shelves.eight in
     let bound = version_bound s k (Shelf.Open version) kept stands version (inl refl) in
     let word = close_word n (get_or s.counts k 0) version (r.words.each k (Shelf.Open version) stands) (few_counted s k kept small) bound in
-    let fits' : LoaderFits d l' = record { shows = record { current = knows.shows.current; current_shelf = knows.shows.current_shelf; shelves = λ i. set (knows.shows.shelves i) k (Shelf.Closing version); newest_is = r.goes.as_many }; images = refl; known = begins_all d None } in (
+    let fits' : LoaderFits d l' = record {
+      shows = record {
+        current = knows.shows.current;
+        current_shelf = knows.shows.current_shelf;
+        shelves = λ i. set (knows.shows.shelves i) k (Shelf.Closing version);
+        newest_is = r.goes.as_many;
+      };
+      images = refl;
+      known = begins_all d None;
+      notes = knows.notes ∙ sym (notes_same r.course.events e refl);
+    } in (
       View.Loading l',
       keeps,
       tt,
@@ -282,6 +307,9 @@ value_at none = None
 value_at (some none) = None
 value_at (some (some x)) = x
 
+at_itself : (k : ℕ) → (k == k) ≡ true
+at_itself k = grind (arith, nat_tests)
+
 -- where nobody is at a shelf, its slots are at home
 all_home : (homes : List (Maybe (Option Edition))) (shelves : List Shelf) (counts : List ℕ) (workers : List Worker) (images : List ImageValue) (hand : Option ℕ) (k version : ℕ)
     → ((w : ℕ) (worker : Worker) → slice_get workers w ≡ Some worker → is_at k worker ≡ false) → slice_get shelves k ≡ Some (Shelf.Closing version)
@@ -291,7 +319,7 @@ all_home homes shelves counts workers images hand k version away closing fit j f
     subst (λ i. get_elem? homes i ≡ some (some (value_at (get_elem? homes i)))) e
     (elim (fit k (j - 16 * k) (Shelf.Closing version) closing (omega arith)) [
       | inl a ↦ a.1 ∙ ap (λ (x : Maybe (Maybe (Option Edition))). some (some (value_at x))) (sym a.1)
-      | inr b ↦ absurd (let q = away (j - 16 * k) (Worker.Holding k version) b.1 in let z : (k == k) ≡ false = q in let z' = own_equal k in cc)
+      | inr b ↦ absurd (let q = away (j - 16 * k) (Worker.Holding k version) b.1 in let z : (k == k) ≡ false = q in let z' = at_itself k in cc)
     ])
 
 -- an exchange either finds the word that it expects, or not
@@ -323,7 +351,17 @@ collects_found id k version l table r at many small shelf hand true found =
     let eight = kept.shelves.eight in
     let f : ℕ → Option Edition = λ j. value_at (get_elem? table.homes j) in
     let home : IsHome table.homes f (16 * k) 16 = all_home table.homes s.shelves s.counts s.workers r.course.images l.hand k version (no_one_at s.counts s.workers k kept.counts small nobody) closing (loader_slots table r id l at) in
-    let fits' : LoaderFits d l' = record { shows = record { current = knows.shows.current; current_shelf = knows.shows.current_shelf; shelves = λ i. set (knows.shows.shelves i) k Shelf.Free; newest_is = r.goes.as_many }; images = refl; known = begins_all d None } in (
+    let fits' : LoaderFits d l' = record {
+      shows = record {
+        current = knows.shows.current;
+        current_shelf = knows.shows.current_shelf;
+        shelves = λ i. set (knows.shows.shelves i) k Shelf.Free;
+        newest_is = r.goes.as_many;
+      };
+      images = refl;
+      known = begins_all d None;
+      notes = knows.notes ∙ sym (notes_same r.course.events e refl);
+    } in (
       View.Loading l',
       take_block f (16 * k) 16,
       block_valid table.homes [] f (16 * k) 16 home,
@@ -356,7 +394,17 @@ collects_found id k version l table r at many small shelf hand false found =
     let is_step : Step s e reply s = (version, closing, count, some_one, refl) in
     let d : Course = extended r.course e reply s r.course.images in
     let l' : LoaderView = with_hand l None (all_of d) in
-    let fits' : LoaderFits d l' = record { shows = record { current = knows.shows.current; current_shelf = knows.shows.current_shelf; shelves = knows.shows.shelves; newest_is = r.goes.as_many }; images = refl; known = begins_all d None } in (
+    let fits' : LoaderFits d l' = record {
+      shows = record {
+        current = knows.shows.current;
+        current_shelf = knows.shows.current_shelf;
+        shelves = knows.shows.shelves;
+        newest_is = r.goes.as_many;
+      };
+      images = refl;
+      known = begins_all d None;
+      notes = knows.notes ∙ sym (notes_same r.course.events e refl);
+    } in (
       View.Loading l',
       keeps,
       tt,
@@ -417,7 +465,17 @@ tries_free id k l c hand' a table r at small free slots false found =
     let is_step : Step s e reply s = ((λ v q. let z : Some Shelf.Free ≡ Some (Shelf.Closing v) = sym is_free ∙ q in cc), refl) in
     let d : Course = extended r.course e reply s r.course.images in
     let l' : LoaderView = with_hand l hand' (all_of d) in
-    let fits' : LoaderFits d l' = record { shows = record { current = knows.shows.current; current_shelf = knows.shows.current_shelf; shelves = knows.shows.shelves; newest_is = r.goes.as_many }; images = refl; known = begins_all d None } in (
+    let fits' : LoaderFits d l' = record {
+      shows = record {
+        current = knows.shows.current;
+        current_shelf = knows.shows.current_shelf;
+        shelves = knows.shows.shelves;
+        newest_is = r.goes.as_many;
+      };
+      images = refl;
+      known = begins_all d None;
+      notes = knows.notes ∙ sym (notes_same r.course.events e refl);
+    } in (
       all_of d,
       noted_ruled table r id l l' at refl e reply s refl is_step refl refl refl refl (omega arith) (set table.words (k + 1) n)
           (homes_after table.homes c a) fits' (words_same table.words (k + 1) s s r.words refl refl refl refl) slots,
@@ -475,8 +533,3 @@ puttings_as slots id k (View.Loading l) c many small may =
 
 pub puttings : (slots id k : ℕ) (me : Mine) → slots ≡ 128 → k < 8 → MayPutBack k me.0 me.1 → Allows Ruled slots id me (k + 1) (λ n. either (n == 512) 0 n) (PutsBack (step slots (k + 1) 512 0 none) me)
 puttings slots id k me many small may = puttings_as slots id k me.0 me.1 many small may
-
--- an image stays while others come
-pub image_of-append : (images more : List ImageValue) (v : ℕ) (image : ImageValue) → image_of images v ≡ Some image → image_of (images ++ more) v ≡ Some image
-image_of-append images more zero image is = absurd (cc)
-image_of-append images more (suc n) image is = slice_get-append images more n image is

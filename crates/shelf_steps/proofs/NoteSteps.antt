@@ -1,12 +1,14 @@
 -- A notice that goes out, and one that is taken in, keep the rule, and each is one event.
-use Rattle.std.proofs.Common.{◌≡◌, ◌≢◌, ℕ, ◌<◌, ◌≤◌, max, List, [], ◌∷◌, ◌++◌, length, set, get_or, remove, Option, Some, None, slice_get, refl, ap, sym, ◌∙◌}
+use Rattle.std.proofs.Common.{◌≡◌, ◌≢◌, ℕ, ◌+◌, ◌<◌, ◌==◌, true, false}
+use Rattle.std.proofs.Common.{max, List, [], ◌∷◌, ◌++◌, length, set, get_or, remove, Some, None, slice_get, refl, ap, sym, ◌∙◌}
 use Rattle.std.proofs.Common.{subst, arith, get_or-set_same, get_or-set_other, inl, inr, ⊎_elim}
+use Rattle.std.proofs.lemmas.Bool.Decides.{nat_tests}
 use Rattle.std.proofs.lemmas.Option.{slice_get_within}
 use mathlib.Core.Option.{some}
 use lib.ListN.{get_elem?}
 use Rattle.atomic_table.specs.Table.{Splits, Joins}
 use Rattle.atomic_table.proofs.Lists.{at_set, set_else, at_longer}
-use Rattle.version_core.specs.Actors.{nobody, actor, NoneOf}
+use Rattle.version_core.specs.Actors.{nobody, actor}
 use Rattle.version_core.specs.declared.event.Event.{Event}
 use Rattle.version_core.specs.declared.event.Reply.{Reply}
 use Rattle.version_core.specs.declared.state.Worker.{Worker}
@@ -14,19 +16,17 @@ use Rattle.version_core.specs.State.{State, noted, joined}
 use Rattle.version_core.specs.Steps.{Step, IsSettled as IsSettledAt}
 use Rattle.version_core.specs.Kept.{Kept}
 use Rattle.version_core.proofs.Rising.{most_left}
-use Rattle.shelf_steps.specs.declared.views.Known.{Known}
 use Rattle.shelf_steps.specs.declared.views.WorkerView.{WorkerView}
 use Rattle.shelf_steps.specs.declared.views.LoaderView.{LoaderView}
 use Rattle.shelf_steps.specs.declared.views.View.{View}
-use Rattle.shelf_steps.specs.Course.{Course, Goes, extended, Begins}
-use Rattle.version_core.specs.Shown.{WordsShow}
+use Rattle.shelf_steps.specs.Course.{Course, extended, Begins, note_of, join_of, joined_by, HasDoneNothing}
 use Rattle.shelf_steps.specs.Seats.{WorkerFits, LoaderFits, SeatFits, SeatsFit}
 use Rattle.shelf_steps.specs.Slots.{SlotsFit}
 use Rattle.shelf_steps.specs.Ruled.{Ruled, notices_of}
 use Rattle.shelf_steps.specs.Laws.{Shelved}
-use Rattle.shelf_steps.specs.Plays.{Mine, new_notice, with_seen, joins_notice, IsLoading, IsSettled, IsNotice}
-use Rattle.shelf_steps.specs.Events.{noting, joining, NotesAreEvents, JoinsAreEvents}
-use Rattle.shelf_steps.proofs.Courses.{kept_of, none_snoc, begins_longer, goes_same, prefix_same, other_fits}
+use Rattle.shelf_steps.specs.Plays.{Mine, with_note, gives_notice, new_notice, with_seen, joins_notice, IsLoading, IsSettled, IsNotice}
+use Rattle.shelf_steps.specs.Events.{NotesAreEvents, JoinsAreEvents}
+use Rattle.shelf_steps.proofs.Courses.{kept_of, notes_snoc, joined_snoc, joined_same, nothing_snoc, begins_longer, goes_same, prefix_same, other_fits}
 use Rattle.shelf_steps.proofs.Frames.{worker_moves, loader_moves}
 use Rattle.shelf_steps.proofs.NoteLists.{notices_worker, notices_loader, notices_more, notices_less}
 use Rattle.shelf_steps.proofs.Opens.{at_end}
@@ -49,8 +49,9 @@ module _ (table : Shelved) (r : Ruled table) (e : Event) (reply : Reply) (t : St
   known_on u f = begins_longer r.course e reply t r.course.images u.known (Some u.number) (not_of u.number (number_small u f))
       (prefix_same r.course.images) f.known
 
-  loader_on : (l : LoaderView) → LoaderFits r.course l → LoaderFits (extended r.course e reply t r.course.images) l
-  loader_on l f = record {
+  loader_on : (l : LoaderView) (count : ℕ) → count ≡ l.notes + note_of e → LoaderFits r.course l
+      → LoaderFits (extended r.course e reply t r.course.images) (record l { notes = count })
+  loader_on l count counted f = record {
     shows = record {
       current = f.shows.current ∙ sym current;
       current_shelf = f.shows.current_shelf ∙ sym current_shelf;
@@ -59,16 +60,17 @@ module _ (table : Shelved) (r : Ruled table) (e : Event) (reply : Reply) (t : St
     };
     images = f.images;
     known = begins_longer r.course e reply t r.course.images l.known None not_loaders (prefix_same r.course.images) f.known;
+    notes = let a = f.notes in let b = notes_snoc r.course.events e in omega arith;
   }
 
   worker_on : (u : WorkerView) → slice_get t.workers u.number ≡ slice_get r.course.state.workers u.number
-      → get_or t.seen u.number 0 ≡ get_or r.course.state.seen u.number 0 → WorkerFits r.course u
+      → get_or t.seen u.number 0 ≡ get_or r.course.state.seen u.number 0 → join_of u.number e ≡ [] → WorkerFits r.course u
       → WorkerFits (extended r.course e reply t r.course.images) u
-  worker_on u now seen f = other_fits r.course (extended r.course e reply t r.course.images) u now seen (omega arith) (prefix_same r.course.images)
-      (known_on u f) f
+  worker_on u now seen none f = other_fits r.course (extended r.course e reply t r.course.images) u now seen (omega arith) (prefix_same r.course.images)
+      (known_on u f) (joined_same u.number r.course.events e none) f
 
-  unmoved_on : (w : ℕ) → w < 16 → NoneOf (Some w) r.course.events → NoneOf (Some w) (extended r.course e reply t r.course.images).events
-  unmoved_on w small h = none_snoc (Some w) r.course.events e (not_of w small) h
+  unmoved_on : (w : ℕ) → w < 16 → join_of w e ≡ [] → HasDoneNothing w r.course.events → HasDoneNothing w (extended r.course e reply t r.course.images).events
+  unmoved_on w small none h = nothing_snoc w r.course.events e (not_of w small) none h
 
 -- a seat more, which is a notice's
 seat_more : (c : Course) (views : List View) (loader : LoaderView) (n : ℕ) → SeatsFit c views loader → SeatsFit c (views ++ View.Noting n ∷ []) loader
@@ -115,17 +117,19 @@ notes_events table id l r at =
     let e : Event = Event.Note in let reply : Reply = Reply.Noted l.current in let t : State = noted s in
     let is_step : Step s e reply t = (knows.shows.current, refl) in
     let d : Course = extended r.course e reply t r.course.images in
-    let views : List View = set table.views id (View.Loading l) in
-    let moved : SeatsFit d views l = loader_moves r.course d table.views r.loader r.seats id l l at refl (λ u f.
-    worker_on table r e reply t refl refl refl refl refl u refl refl f)
-    (loader_on table r e reply t refl refl refl refl refl l knows) refl refl (λ w small h. unmoved_on table r e reply t refl refl refl refl refl w small h) in (
+    let l' : LoaderView = with_note l in
+    let views : List View = set table.views id (View.Loading l') in
+    let moved : SeatsFit d views l' = loader_moves r.course d table.views r.loader r.seats id l l' at refl (λ u f.
+    worker_on table r e reply t refl refl refl refl refl u refl refl refl f)
+    (loader_on table r e reply t refl refl refl refl refl l (l.notes + 1) refl knows) refl refl (λ w small h.
+    unmoved_on table r e reply t refl refl refl refl refl w small refl h) in (
       record {
         course = d;
-        loader = l;
+        loader = l';
         goes = goes_same r.course e reply t r.goes is_step refl;
         words = record { nine = r.words.nine; cur = r.words.cur; each = r.words.each };
-        seats = seat_more d views l l.current moved;
-        notices = notices_more views (View.Noting l.current) ∙ (λ i. (notices_loader table.views id l l at ∙ r.notices) i ++ knows.shows.current i ∷ []);
+        seats = seat_more d views l' l.current moved;
+        notices = notices_more views (View.Noting l.current) ∙ (λ i. (notices_loader table.views id l l' at ∙ r.notices) i ++ knows.shows.current i ∷ []);
         slots = subst (λ (x : LoaderView). SlotsFit table.homes s.shelves s.workers r.course.images x.hand) (sym is) r.slots;
       },
       refl,
@@ -141,6 +145,13 @@ settled_so s v here settled = elim settled [
 other_than : (views : List View) (id other n : ℕ) (v : WorkerView) → get_elem? views id ≡ some (View.Working v)
     → get_elem? views other ≡ some (View.Noting n) → other ≢ id
 other_than views id other n v at at' e = let z : some (View.Noting n) ≡ some (View.Working v) = sym at' ∙ (ap (λ m. get_elem? views m) e ∙ at) in cc
+
+-- a join is told of its own worker alone
+own_join : (w n : ℕ) → join_of w (Event.Join w n) ≡ n ∷ []
+own_join w n = let t : (w == w) ≡ true = grind (arith, nat_tests) in rw t refl
+
+others_join : (w u n : ℕ) → u ≢ w → join_of u (Event.Join w n) ≡ []
+others_join w u n ne = let t : (w == u) ≡ false = grind (arith, nat_tests) in rw t refl
 
 pub joins_events : JoinsAreEvents
 joins_events table id other n v r at settled at' =
@@ -165,13 +176,14 @@ joins_events table id other n v r at settled at' =
       passed = f.passed;
       edition = f.edition;
       known = known_on table r e reply t refl refl refl refl refl v f;
+      joined = (λ i. f.joined i ++ n ∷ []) ∙ sym (joined_snoc w r.course.events e ∙ ap (λ (l : List ℕ). joined_by w r.course.events ++ l) (own_join w n));
     } in
     let rest : (j : ℕ) → j ≢ w → (slice_get t.workers j ≡ slice_get s.workers j)
     × (get_or t.seen j 0 ≡ get_or s.seen j 0) = λ j ne. (refl, get_or-set_other s.seen w j (max (get_or s.seen w 0) n) 0 ne) in
     let moved : SeatsFit d views r.loader = worker_moves r.course d table.views r.loader r.seats id v v' at refl
-    (λ u ne g. worker_on table r e reply t refl refl refl refl refl u refl (rest u.number ne).1 g)
-    (loader_on table r e reply t refl refl refl refl refl r.loader r.seats.loads) rest (λ j small ne h.
-    unmoved_on table r e reply t refl refl refl refl refl j small h) fits in (
+    (λ u ne g. worker_on table r e reply t refl refl refl refl refl u refl (rest u.number ne).1 (others_join w u.number n ne) g)
+    (loader_on table r e reply t refl refl refl refl refl r.loader r.loader.notes (omega arith) r.seats.loads) rest (λ j small ne h.
+    unmoved_on table r e reply t refl refl refl refl refl j small (others_join w j n ne) h) fits in (
       record {
         course = d;
         loader = r.loader;
@@ -184,13 +196,13 @@ joins_events table id other n v r at settled at' =
       (place, refl),
     )
 
-splits_as : (id : ℕ) (u : View) → IsLoading u → Splits Ruled id u u (new_notice u)
+splits_as : (id : ℕ) (u : View) → IsLoading u → Splits Ruled id u (gives_notice u) (new_notice u)
 splits_as id (View.Loading l) loads table r at = (notes_events table id l r at).0
 splits_as id (View.Working v) loads table r at = absurd loads
 splits_as id (View.Noting n) loads table r at = absurd loads
 splits_as id View.Spent loads table r at = absurd loads
 
-pub note_splits : (id : ℕ) (u : View) → IsLoading u → Splits Ruled id u u (new_notice u)
+pub note_splits : (id : ℕ) (u : View) → IsLoading u → Splits Ruled id u (gives_notice u) (new_notice u)
 note_splits = splits_as
 
 joins_as : (id other n : ℕ) (u : View) → IsSettled u → Joins Ruled id u other (View.Noting n) (joins_notice u (View.Noting n)) View.Spent

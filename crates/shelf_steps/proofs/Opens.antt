@@ -16,7 +16,7 @@ use Rattle.version_core.specs.Kept.{Kept}
 use Rattle.shelf_steps.specs.declared.edition.Edition.{Edition}
 use Rattle.shelf_steps.specs.declared.views.LoaderView.{LoaderView}
 use Rattle.shelf_steps.specs.declared.views.View.{View}
-use Rattle.shelf_steps.specs.Course.{Course, Goes}
+use Rattle.shelf_steps.specs.Course.{Course, Goes, HasDoneNothing}
 use Rattle.version_core.specs.Shown.{shelf_word}
 use Rattle.shelf_steps.specs.Seats.{WorkerFits, SeatsFit, SeatFits}
 use Rattle.shelf_steps.specs.Slots.{SlotsFit, SlotFits}
@@ -43,7 +43,7 @@ first_seat : (image : ImageValue) (seat : ℕ) (u : View) → get_elem? (View.Lo
 first_seat image zero u e = subst (λ (x : View). SeatFits (first_course image) (first_loader image) (λ n. 0) 0 x) (some-injective (View.Loading (first_loader image)) u e) (refl, refl)
 first_seat image (suc seat) u e = absurd (some-ne-none u (sym e))
 
-first_workers : (w : ℕ) → 0 ≤ w → w < 16 → (slice_get start.workers w ≡ Some Worker.Idle) × (get_or start.seen w 0 ≡ 0) × Unit {0}
+first_workers : (w : ℕ) → 0 ≤ w → w < 16 → (slice_get start.workers w ≡ Some Worker.Idle) × (get_or start.seen w 0 ≡ 0) × HasDoneNothing w []
 first_workers = search rules
 
 free_at : (n k : ℕ) (x : Shelf) → slice_get (replicate n Shelf.Free) k ≡ Some x → (Shelf.Free ≡ x) × (k < n)
@@ -73,7 +73,12 @@ opens_ruled image items f = record {
   seats = record {
     owner = λ n. 0;
     loader_seat = refl;
-    loads = record { shows = record { current = refl; current_shelf = refl; shelves = refl; newest_is = refl }; images = refl; known = begins_all (first_course image) None };
+    loads = record {
+      shows = record { current = refl; current_shelf = refl; shelves = refl; newest_is = refl };
+      images = refl;
+      known = begins_all (first_course image) None;
+      notes = refl;
+    };
     few = omega arith;
     each = first_seat image;
     every = λ w less. absurd (omega arith);
@@ -131,12 +136,13 @@ split_seats c views l fit id first at kept room =
       last = ((omega arith), (omega arith));
       passed = λ p. absurd (cc);
       edition = refl;
-      known = record { events = (c.events, refl, free.2); replies = (c.replies, refl); images = (c.images, refl) };
+      known = record { events = (c.events, refl, free.2.0); replies = (c.replies, refl); images = (c.images, refl) };
+      joined = sym free.2.1;
     } in
     record {
       owner = owner;
       loader_seat = at_longer (set views id (View.Loading (one_more l))) (View.Working (newcomer l.handed) ∷ []) 0 (View.Loading (one_more l)) (ap (λ n. get_elem? (set views id (View.Loading (one_more l))) n) (sym first) ∙ set_here views id (View.Loading (one_more l)) long);
-      loads = let f = fit.loads in record { shows = f.shows; images = f.images; known = f.known };
+      loads = let f = fit.loads in record { shows = f.shows; images = f.images; known = f.known; notes = f.notes };
       few = omega arith;
       each = λ seat u e. ⊎_elim
           (λ (old : get_elem? (set views id (View.Loading (one_more l))) seat ≡ some u). ⊎_elim

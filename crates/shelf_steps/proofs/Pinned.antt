@@ -33,7 +33,18 @@ well_so (View.Working a) c number n word m1 m2 idle empty look take stands =
       ap (λ (m : Mine). m.1) t.2 ∙ (λ i. (16 * (n % 8) + idle.1 i, Some e) ∷ empty i),
       ap (λ (x : Edition). x.version) is ∙ t.4.2,
       subst (λ (m : Mine). Well (View.Working a) (n / 8) (n % 8) e m.0) (sym t.2)
-          record { looked = look.0; look = record { from = look.3; above = look.4; happened = look.2 }; take = t.3; number = refl; now = refl; seen = refl; edition = refl; its = t.4; shows = t.5 },
+          record {
+            looked = look.0;
+            look = record { from = look.3; above = look.4; happened = look.2 };
+            take = t.3;
+            number = refl;
+            now = refl;
+            seen = refl;
+            joined = refl;
+            edition = refl;
+            its = t.4;
+            shows = t.5;
+          },
       subst (λ (m : Mine). OfWorker m.0 (λ b. (b.now ≡ Worker.Holding (n % 8) (n / 8)) × (b.number ≡ number) × (b.edition ≡ Some e))) (sym t.2) (refl, idle.1, refl),
     )
 
@@ -54,7 +65,20 @@ late_so (View.Working a) c number n word m1 m2 m3 idle empty look take shut leav
     let t = took a c n word m1 m2 false look take shut in
     let k : Leaves (View.Working (come_late (looked_at a n look.0) (n % 8) t.0), c) m3 = subst (λ (m : Mine). Leaves m m3) t.1 leave in
     subst (λ (m : Mine). Late (View.Working a) (n / 8) m.0 × IsIdleAs number m) (sym k.1) (
-      record { shelf = n % 8; looked = look.0; taken = t.0; look = record { from = look.3; above = look.4; happened = look.2 }; take = t.2; drop = k.2; number = refl; now = refl; seen = refl; last = (refl, refl); shows = k.3 },
+      record {
+        shelf = n % 8;
+        looked = look.0;
+        taken = t.0;
+        look = record { from = look.3; above = look.4; happened = look.2 };
+        take = t.2;
+        drop = k.2;
+        number = refl;
+        now = refl;
+        seen = refl;
+        last = (refl, refl);
+        joined = refl;
+        shows = k.3;
+      },
       ((refl, idle.1), empty),
     )
 

@@ -96,6 +96,6 @@ pub one_history : OneHistory
 one_history table r = (
   r.course,
   r.goes,
-  (λ i v at. (r.seats.each i (View.Working v) at).2.known),
-  (λ l at. let k = knows table l r at in (k.known, k.images, shown table l r at)),
+  (λ i v at. let f = (r.seats.each i (View.Working v) at).2 in (f.known, f.joined)),
+  (λ l at. let k = knows table l r at in (k.known, k.images, shown table l r at, k.notes)),
 )

@@ -1,5 +1,6 @@
 -- What steps leave to be remembered.
 use Rattle.std.proofs.Common.{get_or, ◌≡◌, ℕ, zero, suc, ◌+◌, ◌*◌, ◌/◌, ◌%◌, ◌<◌, ◌≤◌, Bool, true, false, List, [], ◌∷◌, length, set, Option, Some, slice_get, refl, ap, sym, ◌∙◌, subst, arith, length-set, length-append}
+use Rattle.std.proofs.Common.{inl, inr}
 use mathlib.Core.Logic.{dite}
 use native.Mathlib.Decide.{ℕ_discrete}
 use Rattle.std.specs.Option.{option_and_then}
@@ -11,10 +12,12 @@ use Rattle.version_core.specs.declared.state.Worker.{Worker}
 use Rattle.version_core.specs.Kept.{version_on, version_of}
 use Rattle.shelf_steps.specs.declared.edition.Edition.{Edition}
 use Rattle.shelf_steps.specs.declared.views.WorkerView.{WorkerView}
+use Rattle.shelf_steps.specs.declared.views.LoaderView.{LoaderView}
 use Rattle.shelf_steps.specs.declared.views.View.{View}
 use Rattle.shelf_steps.specs.Slots.{down_from, nothings}
 use Rattle.shelf_steps.specs.Loading.{Frees, FindsBusy}
 use Rattle.shelf_steps.specs.Plays.{OfWorker, OfLoader, Mine, Looks, Takes, TakesFound, Leaves, GivesBack, IsIdle, HasLooked, IsLate, HoldsOut, is_open, newest_of, with_open, with_current, with_closing, with_hand, IsBlock, AllHave, OpensOn, PublishesOn, ClosesOn, GathersOn, MayOpenOn, MayPublish, MayClose, MayCollect, MayGather}
+use Rattle.shelf_steps.specs.Plays.{IsSettled, IsNotice, IsLoading, joins_notice, with_note, gives_notice, new_notice}
 use Rattle.shelf_steps.specs.Stepping.{DoesSo, Remembers, RemembersSo}
 
 of_idle : (u : View) (c : List (ℕ × Option Edition)) → DoesSo Worker.Idle (u, c) → IsIdle u
@@ -273,3 +276,78 @@ got_at xs k d x eight small is = there xs k (omega arith) is
     there [] n less e = absurd (omega arith)
     there (y ∷ ys) zero less e = ap (λ (z : Shelf). Some z) e
     there (y ∷ ys) (suc n) less e = there ys n (omega arith) e
+
+-- a worker that is idle or holds a version may take in a notice, and does what it did
+idle_of : (u : View) (c : List (ℕ × Option Edition)) → DoesSo Worker.Idle (u, c) → IsSettled u
+idle_of (View.Working v) c h = inl h.0
+idle_of (View.Loading l) c h = absurd h
+idle_of (View.Noting x') c h = absurd h
+idle_of View.Spent c h = absurd h
+
+pub idle_settled : (m : Mine) → DoesSo Worker.Idle m → IsSettled m.0
+idle_settled m h = idle_of m.0 m.1 h
+
+held_of : (k version : ℕ) (u : View) (c : List (ℕ × Option Edition)) → DoesSo (Worker.Holding k version) (u, c) → IsSettled u
+held_of k version (View.Working v) c h = inr (k, version, h.0)
+held_of k version (View.Loading l) c h = absurd h
+held_of k version (View.Noting x') c h = absurd h
+held_of k version View.Spent c h = absurd h
+
+pub holding_settled : (k version : ℕ) (m : Mine) → DoesSo (Worker.Holding k version) m → IsSettled m.0
+holding_settled k version m h = held_of k version m.0 m.1 h
+
+join_idle : (n : ℕ) (u : View) (c : List (ℕ × Option Edition)) → DoesSo Worker.Idle (u, c) → DoesSo Worker.Idle (joins_notice u (View.Noting n), c)
+join_idle n (View.Working v) c h = h
+join_idle n (View.Loading l) c h = absurd h
+join_idle n (View.Noting x') c h = absurd h
+join_idle n View.Spent c h = absurd h
+
+pub idle_joined : (n : ℕ) (m notice m' : Mine) → DoesSo Worker.Idle m → IsNotice n notice → m' ≡ (joins_notice m.0 notice.0, m.1) → DoesSo Worker.Idle m'
+idle_joined n m notice m' h is e =
+    subst (λ (x : Mine). DoesSo Worker.Idle x) (sym (e ∙ ap (λ (x : Mine). (joins_notice m.0 x.0, m.1)) is)) (join_idle n m.0 m.1 h)
+
+join_holding : (n k version : ℕ) (u : View) (c : List (ℕ × Option Edition)) → DoesSo (Worker.Holding k version) (u, c)
+    → DoesSo (Worker.Holding k version) (joins_notice u (View.Noting n), c)
+join_holding n k version (View.Working v) c h = h
+join_holding n k version (View.Loading l) c h = absurd h
+join_holding n k version (View.Noting x') c h = absurd h
+join_holding n k version View.Spent c h = absurd h
+
+pub holding_joined : (n k version : ℕ) (m notice m' : Mine) → DoesSo (Worker.Holding k version) m → IsNotice n notice → m' ≡ (joins_notice m.0 notice.0, m.1)
+    → DoesSo (Worker.Holding k version) m'
+holding_joined n k version m notice m' h is e =
+    subst (λ (x : Mine). DoesSo (Worker.Holding k version) x) (sym (e ∙ ap (λ (x : Mine). (joins_notice m.0 x.0, m.1)) is)) (join_holding n k version m.0 m.1 h)
+
+-- the loader may give a notice of the current version, and remembers what it did
+still_so : (current newest : ℕ) (shelves : List Shelf) (l : LoaderView) → Remembers current newest shelves l → Remembers current newest shelves (with_note l)
+still_so current newest shelves l r = record {
+  empty = r.empty;
+  current_is = r.current_is;
+  newest_is = r.newest_is;
+  shelves_are = r.shelves_are;
+  eight = r.eight;
+  small = r.small;
+  known = r.known;
+}
+
+note_of : (current newest : ℕ) (shelves : List Shelf) (u : View) (c : List (ℕ × Option Edition)) → RemembersSo current newest shelves (u, c)
+    → IsLoading u × (new_notice u ≡ View.Noting current) × RemembersSo current newest shelves (gives_notice u, c)
+note_of current newest shelves (View.Working v) c h = absurd h.0
+note_of current newest shelves (View.Noting x') c h = absurd h.0
+note_of current newest shelves View.Spent c h = absurd h.0
+note_of current newest shelves (View.Loading l) c h = (
+  tt,
+  ap (λ n. View.Noting n) h.0.current_is,
+  (still_so current newest shelves l h.0, h.1),
+)
+
+pub may_note_so : (current newest : ℕ) (shelves : List Shelf) (m : Mine) → RemembersSo current newest shelves m → IsLoading m.0
+may_note_so current newest shelves m h = (note_of current newest shelves m.0 m.1 h).0
+
+pub notice_so : (current newest : ℕ) (shelves : List Shelf) (m notice : Mine) → RemembersSo current newest shelves m → notice ≡ (new_notice m.0, [])
+    → IsNotice current notice
+notice_so current newest shelves m notice h is = is ∙ ap (λ (u : View). (u, [])) (note_of current newest shelves m.0 m.1 h).1
+
+pub noted_so : (current newest : ℕ) (shelves : List Shelf) (m m' : Mine) → RemembersSo current newest shelves m → m' ≡ (gives_notice m.0, m.1)
+    → RemembersSo current newest shelves m'
+noted_so current newest shelves m m' h is = subst (λ (x : Mine). RemembersSo current newest shelves x) (sym is) (note_of current newest shelves m.0 m.1 h).2

@@ -1,6 +1,5 @@
 -- Each step of a worker keeps the rule, and is one event.
-use Rattle.reasoning.proofs.ListLemmas.{slice_get-set_same, slice_get-set_other}
-use Rattle.version_core.specs.Actors.{actor}
+use Rattle.version_core.specs.Actors.{nobody, actor}
 use Rattle.image_layout.specs.Image.{ImageValue}
 use Rattle.std.proofs.Common.{◌≡◌, ◌≢◌, ℕ, zero, suc, ◌+◌, ◌-◌, ◌*◌, ◌/◌, ◌%◌, ◌<◌, ◌≤◌, Bool, true, false, MatchBool, List, [], ◌∷◌, length, set, get_or, Option, Some, None, slice_get, refl, ap, sym, ◌∙◌, subst, arith, get_or-set_same, get_or-set_other, le_refl, inl, inr}
 use Rattle.std.proofs.lemmas.Option.{slice_get_within}
@@ -15,6 +14,7 @@ use Rattle.version_core.specs.State.{State, looked, arrived, departed}
 use Rattle.version_core.specs.Steps.{IsIdle as IsIdleAt, HasLooked as HasLookedAt, StaysAt, IsOpen, Step}
 use Rattle.version_core.specs.Kept.{Kept, version_of, version_on}
 use Rattle.version_core.proofs.Keeps.{looked_fits, stays_fits, held_known}
+use Rattle.version_core.proofs.Lists.{slice_get-set_same, slice_get-set_other}
 use Rattle.shelf_steps.specs.declared.edition.Edition.{Edition}
 use Rattle.shelf_steps.specs.declared.views.Known.{Known}
 use Rattle.shelf_steps.specs.declared.views.WorkerView.{WorkerView}
@@ -25,7 +25,8 @@ use Rattle.shelf_steps.specs.Seats.{WorkerFits, LoaderFits, SeatsFit, HasEdition
 use Rattle.shelf_steps.specs.Slots.{SlotsFit, SlotFits}
 use Rattle.shelf_steps.specs.Ruled.{Ruled}
 use Rattle.shelf_steps.specs.Plays.{Mine, looked_at, is_open, holding, come_late, gone, Looks, TakesFound, TakesAs, Takes, Leaves, GivesBack, IsIdle, HasLooked, IsLate, HoldsOut, ShowsIn}
-use Rattle.shelf_steps.proofs.Courses.{kept_of, none_snoc, begins_longer, happened, goes_same, begins_all, prefix_same, other_fits}
+use Rattle.shelf_steps.proofs.Courses.{kept_of, notes_same, joined_same, no_note, no_join, nothing_snoc}
+use Rattle.shelf_steps.proofs.Courses.{begins_longer, happened, goes_same, begins_all, prefix_same, other_fits}
 use Rattle.shelf_steps.proofs.Frames.{there, worker_moves}
 use Rattle.shelf_steps.proofs.WordsAfter.{current_word, words_same, words_after, word_rises, word_falls, word_tells, found_at}
 use Rattle.shelf_steps.proofs.NoteLists.{notices_worker}
@@ -48,6 +49,12 @@ module _ (table : Table (Option Edition) View) (r : Ruled table) (id : ℕ) (v v
   not_of : (u : ℕ) → u ≢ v.number → actor e ≢ Some u
   not_of u other q = let z : Some v.number ≡ Some u = sym whose ∙ q in other (cc)
 
+  number_small : v.number < 16
+  number_small = let a = (r.seats.each id (View.Working v) at).0 in let b = r.seats.few in omega arith
+
+  not_nobodys : actor e ≢ nobody
+  not_nobodys q = let z : Some v.number ≡ Some 16 = sym whose ∙ q in let same : v.number ≡ 16 = cc in let less = number_small in omega arith
+
   loads : LoaderFits (extended r.course e reply t r.course.images) r.loader
   loads = let f = r.seats.loads in record {
     shows = record {
@@ -58,16 +65,18 @@ module _ (table : Table (Option Edition) View) (r : Ruled table) (id : ℕ) (v v
     };
     images = f.images;
     known = begins_longer r.course e reply t r.course.images r.loader.known None not_loaders (prefix_same r.course.images) f.known;
+    notes = f.notes ∙ sym (notes_same r.course.events e (no_note e not_nobodys));
   }
 
   others : (u : WorkerView) → u.number ≢ v.number → WorkerFits r.course u → WorkerFits (extended r.course e reply t r.course.images) u
   others u other f = let z = rest u.number other in
       other_fits r.course (extended r.course e reply t r.course.images) u z.0 z.1 (omega arith) (prefix_same r.course.images)
-      (begins_longer r.course e reply t r.course.images u.known (Some u.number) (not_of u.number other) (prefix_same r.course.images) f.known) f
+      (begins_longer r.course e reply t r.course.images u.known (Some u.number) (not_of u.number other) (prefix_same r.course.images) f.known)
+      (joined_same u.number r.course.events e (no_join u.number e not_nobodys)) f
 
   pub next_seats : WorkerFits (extended r.course e reply t r.course.images) v' → SeatsFit (extended r.course e reply t r.course.images) (set table.views id (View.Working v')) r.loader
   next_seats fits = worker_moves r.course (extended r.course e reply t r.course.images) table.views r.loader r.seats id v v' at named others loads rest
-      (λ w small other h. none_snoc (Some w) r.course.events e (not_of w other) h) fits
+      (λ w low other h. nothing_snoc w r.course.events e (not_of w other) (no_join w e not_nobodys) h) fits
 
   pub next_happened : Happened v.known e reply (all_of (extended r.course e reply t r.course.images))
   next_happened = happened r.course e reply t r.course.images v.known
@@ -99,6 +108,7 @@ looks_as slots id (View.Working v) c idle table r full at small =
       passed = λ p. absurd (cc);
       edition = refl;
       known = begins_all d (Some w);
+      joined = f.joined ∙ sym (joined_same w r.course.events e refl);
     } in (
       View.Working v',
       keeps,
@@ -157,6 +167,7 @@ takes_found id k v version c table r at now true stands =
       passed = f.passed;
       edition = is_its;
       known = begins_all d (Some w);
+      joined = f.joined ∙ sym (joined_same w r.course.events e refl);
     } in (
       View.Working v',
       takes (16 * k + w) (Some edition),
@@ -202,6 +213,7 @@ takes_found id k v version c table r at now false shut =
       passed = λ p. let a = f.last.1 in let b = f.shows.seen in let q = after.1 in omega arith;
       edition = refl;
       known = begins_all d (Some w);
+      joined = f.joined ∙ sym (joined_same w r.course.events e refl);
     } in (
       View.Working v',
       keeps,
@@ -262,6 +274,7 @@ leaves_with id k v table r at stays c a small slots =
       passed = f.passed;
       edition = refl;
       known = begins_all d (Some w);
+      joined = f.joined ∙ sym (joined_same w r.course.events e refl);
     } in (
       all_of d,
       record {

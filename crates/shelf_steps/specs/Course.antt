@@ -1,5 +1,5 @@
 -- What happened so far: one list of events with their replies, the state that it leads to, and the image of each version.
-use Rattle.std.specs.Prelude.{◌≡◌, ℕ, zero, suc, List, [], ◌∷◌, ◌++◌, length, slice_get, slice_index, Option, Some, None}
+use Rattle.std.specs.Prelude.{◌≡◌, ℕ, zero, suc, ◌+◌, ◌==◌, cond, List, [], ◌∷◌, ◌++◌, length, slice_get, slice_index, Option, Some, None}
 use Rattle.std.specs.Arc.{arc_value}
 use mathlib.Core.List.{IsPrefix}
 use Rattle.image_layout.specs.Image.{ImageValue}
@@ -40,6 +40,28 @@ pub record Begins (k : Known) (a : Option ℕ) (c : Course) : Type 0 where
   pub events : (rest : List Event) × (k.events ++ rest ≡ c.events) × NoneOf a rest
   pub replies : IsPrefix k.replies c.replies
   pub images : IsPrefix k.images c.images
+
+-- how many notices went out
+abbrev pub note_of : Event → ℕ
+note_of Event.Note = 1
+note_of _ = 0
+
+abbrev pub notes_in : List Event → ℕ
+notes_in [] = 0
+notes_in (e ∷ es) = note_of e + notes_in es
+
+-- the versions of the notices that the worker took in, as they came
+abbrev pub join_of : ℕ → Event → List ℕ
+join_of w (Event.Join u v) = cond (u == w) (v ∷ []) []
+join_of w _ = []
+
+abbrev pub joined_by : ℕ → List Event → List ℕ
+joined_by w [] = []
+joined_by w (e ∷ es) = join_of w e ++ joined_by w es
+
+-- the worker has done nothing, and taken in no notice
+abbrev pub HasDoneNothing : ℕ → List Event → Type 0
+HasDoneNothing w events = NoneOf (Some w) events × (joined_by w events ≡ [])
 
 -- from one knowledge to the next: the event with this reply is the last that happened, and none of its actor stands between
 pub record Happened (before : Known) (e : Event) (r : Reply) (after : Known) : Type 0 where

@@ -12,7 +12,7 @@ use Rattle.shelf_steps.specs.declared.views.View.{View}
 use Rattle.shelf_steps.specs.Course.{Happened, extended}
 use Rattle.shelf_steps.specs.Ruled.{Ruled}
 use Rattle.shelf_steps.specs.Plays.{OfWorker, Mine, Looks, Takes, Leaves, GivesBack, OpensOn, PublishesOn, ClosesOn, CollectsOn, GathersOn, PutsBackOn}
-use Rattle.shelf_steps.specs.Plays.{IsLate, IsSettled, with_seen}
+use Rattle.shelf_steps.specs.Plays.{IsLate, IsSettled, with_seen, with_note}
 use Rattle.shelf_steps.specs.Laws.{Shelved, IsLoader}
 
 -- what a seat knows of the past
@@ -69,12 +69,11 @@ LateTakesRise =
 
 -- the table once a notice was split from the loader's seat
 abbrev pub noting : Shelved → ℕ → LoaderView → Shelved
-noting table id l = record { words = table.words; homes = table.homes; views = slice_set table.views id (View.Loading l) ++ View.Noting l.current ∷ [] }
+noting table id l = record table { views = slice_set table.views id (View.Loading (with_note l)) ++ View.Noting l.current ∷ [] }
 
 -- and once a worker's seat has taken one in
 abbrev pub joining : Shelved → ℕ → WorkerView → ℕ → ℕ → Shelved
-joining table id v other n =
-    record { words = table.words; homes = table.homes; views = slice_set (slice_set table.views id (View.Working (with_seen v n))) other View.Spent }
+joining table id v other n = record table { views = slice_set (slice_set table.views id (View.Working (with_seen v n))) other View.Spent }
 
 -- a notice that goes out is one event: what happened is longer by it, and by nothing else
 abbrev pub NotesAreEvents : Type 0

@@ -11,7 +11,7 @@ use Rattle.shelf_steps.specs.declared.edition.Edition.{Edition}
 use Rattle.shelf_steps.specs.declared.views.WorkerView.{WorkerView}
 use Rattle.shelf_steps.specs.declared.views.LoaderView.{LoaderView}
 use Rattle.shelf_steps.specs.declared.views.View.{View}
-use Rattle.shelf_steps.specs.Course.{Course, Goes, Begins, IsEdition}
+use Rattle.shelf_steps.specs.Course.{Course, Goes, Begins, IsEdition, notes_in, joined_by}
 use Rattle.version_core.specs.Shown.{WordsShow, WorkerShows, LoaderShows, shelf_word}
 use Rattle.shelf_steps.specs.Ruled.{Ruled, notices_of}
 
@@ -91,13 +91,14 @@ pub record TableShows (table : Shelved) (l : LoaderView) (s : State) : Type 0 wh
   pub notices : notices_of table.views ≡ s.notices
   pub unseated : (w : ℕ) → l.handed ≤ w → w < 16 → (slice_get s.workers w ≡ Some Worker.Idle) × (slice_index s.seen w ≡ 0)
 
--- there is one course of events, of which each seat knows a beginning, behind which nothing of its own stands. It leads to the state that words and seats show
+-- there is one course of events, of which each seat knows a beginning, behind which nothing of its own stands. It leads to the state that words
+-- and seats show. As many notices went out in it as the loader's view counts, and each worker took in those that its view lists, and no other
 abbrev pub OneHistory : Type 0
 OneHistory =
     (table : Shelved) → Ruled table
     → (c : Course) × Goes c
-    × ((i : ℕ) (v : WorkerView) → get_elem? table.views i ≡ some (View.Working v) → Begins v.known (Some v.number) c)
-    × ((l : LoaderView) → IsLoader table l → Begins l.known None c × (l.known.images ≡ c.images) × TableShows table l c.state)
+    × ((i : ℕ) (v : WorkerView) → get_elem? table.views i ≡ some (View.Working v) → Begins v.known (Some v.number) c × (v.joined ≡ joined_by v.number c.events))
+    × ((l : LoaderView) → IsLoader table l → Begins l.known None c × (l.known.images ≡ c.images) × TableShows table l c.state × (l.notes ≡ notes_in c.events))
 
 -- words and seats show one state that every law of the table of versions is true of, and no other
 abbrev pub OneStateIsShown : Type 0

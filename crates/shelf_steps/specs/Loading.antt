@@ -32,6 +32,7 @@ pub record Loaded (a : LoaderView) (image : ImageValue) (version shelf before : 
   pub current : (b.current ≡ version) × (b.current_shelf ≡ shelf)
   pub shelves : b.shelves ≡ slice_set (slice_set a.shelves shelf (Shelf.Open version)) before (Shelf.Closing a.current)
   pub handed : b.handed ≡ a.handed
+  pub notes : b.notes ≡ a.notes
   pub hand : b.hand ≡ None
 
 abbrev pub Loads : ℕ → ℕ → ℕ → ImageValue → View → View → Type 0
@@ -46,6 +47,7 @@ pub record Freed (a : LoaderView) (shelf : ℕ) (b : LoaderView) : Type 0 where
   pub current : (b.current ≡ a.current) × (b.current_shelf ≡ a.current_shelf)
   pub shelves : b.shelves ≡ slice_set a.shelves shelf Shelf.Free
   pub handed : b.handed ≡ a.handed
+  pub notes : b.notes ≡ a.notes
   pub hand : b.hand ≡ None
 
 pub record FoundBusy (a : LoaderView) (shelf count : ℕ) (b : LoaderView) : Type 0 where
@@ -55,6 +57,7 @@ pub record FoundBusy (a : LoaderView) (shelf count : ℕ) (b : LoaderView) : Typ
   pub current : (b.current ≡ a.current) × (b.current_shelf ≡ a.current_shelf)
   pub shelves : b.shelves ≡ a.shelves
   pub handed : b.handed ≡ a.handed
+  pub notes : b.notes ≡ a.notes
   pub hand : b.hand ≡ None
 
 abbrev pub Frees : ℕ → View → View → Type 0

@@ -28,6 +28,7 @@ pub record TriedLate (a : WorkerView) (n : ℕ) (b : WorkerView) : Type 0 where
   pub now : b.now ≡ Worker.Idle
   pub seen : b.seen ≡ n
   pub last : (b.last ≡ n) × (b.passed ≡ true)
+  pub joined : b.joined ≡ a.joined
   pub shows : ShowsIn b
 
 -- a look and a take that finds the version there: its edition is held, which is that version's in what the worker now knows
@@ -38,6 +39,7 @@ pub record TriedWell (a : WorkerView) (n shelf : ℕ) (e : Edition) (b : WorkerV
   pub number : b.number ≡ a.number
   pub now : b.now ≡ Worker.Holding shelf n
   pub seen : b.seen ≡ n
+  pub joined : b.joined ≡ a.joined
   pub edition : b.edition ≡ Some e
   pub its : IsEdition b.known.images n (Some e)
   pub shows : ShowsIn b
@@ -85,6 +87,7 @@ pub record LetGo (a b : WorkerView) : Type 0 where
   pub number : b.number ≡ a.number
   pub now : b.now ≡ Worker.Idle
   pub seen : b.seen ≡ a.seen
+  pub joined : b.joined ≡ a.joined
   pub shows : ShowsIn b
 
 abbrev pub Releases : View → View → Type 0

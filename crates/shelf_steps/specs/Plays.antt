@@ -35,20 +35,20 @@ pub record PlaceValue : Type 0 where
 
 -- after a look that found this word
 abbrev pub looked_at : WorkerView → ℕ → Known → WorkerView
-looked_at v n known = record { number = v.number; now = Worker.Looked (n / 8) (n % 8); seen = n / 8; last = n / 8; passed = false; edition = None; known = known }
+looked_at v n known = record v { now = Worker.Looked (n / 8) (n % 8); seen = n / 8; last = n / 8; passed = false; edition = None; known = known }
 
 -- the shelf's word says that it is open with the version
 abbrev pub is_open : ℕ → ℕ → Bool
 is_open n version = (n / 256 % 4 == 1) && (n / 65536 == version)
 
 abbrev pub holding : WorkerView → ℕ → ℕ → Edition → Known → WorkerView
-holding v k version e known = record { number = v.number; now = Worker.Holding k version; seen = v.seen; last = v.last; passed = v.passed; edition = Some e; known = known }
+holding v k version e known = record v { now = Worker.Holding k version; edition = Some e; known = known }
 
 abbrev pub come_late : WorkerView → ℕ → Known → WorkerView
-come_late v k known = record { number = v.number; now = Worker.Late k; seen = v.seen; last = v.last; passed = true; edition = None; known = known }
+come_late v k known = record v { now = Worker.Late k; passed = true; edition = None; known = known }
 
 abbrev pub gone : WorkerView → Known → WorkerView
-gone v known = record { number = v.number; now = Worker.Idle; seen = v.seen; last = v.last; passed = v.passed; edition = None; known = known }
+gone v known = record v { now = Worker.Idle; edition = None; known = known }
 
 -- in the history that is known, the worker is doing this, and has seen this
 abbrev pub ShowsIn : WorkerView → Type 0
@@ -109,19 +109,19 @@ abbrev pub newest_of : LoaderView → ℕ
 newest_of l = length l.known.images
 
 abbrev pub with_open : LoaderView → ℕ → ℕ → Known → LoaderView
-with_open l k version known = record { handed = l.handed; current = l.current; current_shelf = l.current_shelf; shelves = slice_set l.shelves k (Shelf.Open version); hand = None; known = known }
+with_open l k version known = record l { shelves = slice_set l.shelves k (Shelf.Open version); hand = None; known = known }
 
 abbrev pub with_current : LoaderView → ℕ → ℕ → Known → LoaderView
-with_current l version k known = record { handed = l.handed; current = version; current_shelf = k; shelves = l.shelves; hand = l.hand; known = known }
+with_current l version k known = record l { current = version; current_shelf = k; known = known }
 
 abbrev pub with_closing : LoaderView → ℕ → ℕ → Known → LoaderView
-with_closing l k version known = record { handed = l.handed; current = l.current; current_shelf = l.current_shelf; shelves = slice_set l.shelves k (Shelf.Closing version); hand = l.hand; known = known }
+with_closing l k version known = record l { shelves = slice_set l.shelves k (Shelf.Closing version); known = known }
 
 abbrev pub with_free : LoaderView → ℕ → Known → LoaderView
-with_free l k known = record { handed = l.handed; current = l.current; current_shelf = l.current_shelf; shelves = slice_set l.shelves k Shelf.Free; hand = Some k; known = known }
+with_free l k known = record l { shelves = slice_set l.shelves k Shelf.Free; hand = Some k; known = known }
 
 abbrev pub with_hand : LoaderView → Option ℕ → Known → LoaderView
-with_hand l hand known = record { handed = l.handed; current = l.current; current_shelf = l.current_shelf; shelves = l.shelves; hand = hand; known = known }
+with_hand l hand known = record l { hand = hand; known = known }
 
 -- the slot has this version with this image
 abbrev pub HasImage : ℕ → ImageValue → Option Edition → Type 0
@@ -213,10 +213,19 @@ MayPutBack k u c = OfLoader u (λ l. (slice_get l.shelves k ≡ Some Shelf.Free)
 
 -- a worker that has done nothing and knows nothing
 abbrev pub newcomer : ℕ → WorkerView
-newcomer w = record { number = w; now = Worker.Idle; seen = 0; last = 0; passed = false; edition = None; known = record { events = []; replies = []; images = [] } }
+newcomer w = record {
+  number = w;
+  now = Worker.Idle;
+  seen = 0;
+  last = 0;
+  passed = false;
+  edition = None;
+  joined = [];
+  known = record { events = []; replies = []; images = [] };
+}
 
 abbrev pub one_more : LoaderView → LoaderView
-one_more l = record { handed = l.handed + 1; current = l.current; current_shelf = l.current_shelf; shelves = l.shelves; hand = l.hand; known = l.known }
+one_more l = record l { handed = l.handed + 1 }
 
 abbrev pub keeps_loading : View → View
 keeps_loading (View.Loading l) = View.Loading (one_more l)
@@ -229,6 +238,14 @@ new_worker_view u = u
 abbrev pub MayHandOut : View → Type 0
 MayHandOut u = OfLoader u (λ l. l.handed < 16)
 
+-- one notice more went out
+abbrev pub with_note : LoaderView → LoaderView
+with_note l = record l { notes = l.notes + 1 }
+
+abbrev pub gives_notice : View → View
+gives_notice (View.Loading l) = View.Loading (with_note l)
+gives_notice u = u
+
 -- the notice that is split from the loader's view
 abbrev pub new_notice : View → View
 new_notice (View.Loading l) = View.Noting l.current
@@ -237,9 +254,9 @@ new_notice u = View.Spent
 abbrev pub IsLoading : View → Type 0
 IsLoading u = OfLoader u (λ l. Unit {0})
 
--- the worker has seen this version too
+-- the worker has seen this version too, by a notice
 abbrev pub with_seen : WorkerView → ℕ → WorkerView
-with_seen v n = record { number = v.number; now = v.now; seen = max v.seen n; last = v.last; passed = v.passed; edition = v.edition; known = v.known }
+with_seen v n = record v { seen = max v.seen n; joined = v.joined ++ n ∷ [] }
 
 -- what a worker knows once it has taken in a notice
 abbrev pub joins_notice : View → View → View

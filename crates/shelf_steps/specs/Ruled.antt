@@ -37,6 +37,7 @@ abbrev pub first_loader : ImageValue → LoaderView
 first_loader image =
     record {
       handed = 0;
+      notes = 0;
       current = 1;
       current_shelf = 0;
       shelves = Shelf.Open 1 ∷ replicate 7 Shelf.Free;

@@ -1,5 +1,4 @@
 -- When what the seats know fits what happened.
-use Rattle.version_core.specs.Actors.{NoneOf}
 use Rattle.image_layout.specs.Image.{ImageValue}
 use Rattle.std.specs.Prelude.{◌≡◌, ℕ, ◌<◌, ◌≤◌, true, List, Option, Some, None, length, slice_get, slice_index}
 use Rattle.version_core.specs.Shown.{WorkerShows, LoaderShows}
@@ -10,7 +9,7 @@ use Rattle.shelf_steps.specs.declared.edition.Edition.{Edition}
 use Rattle.shelf_steps.specs.declared.views.WorkerView.{WorkerView}
 use Rattle.shelf_steps.specs.declared.views.LoaderView.{LoaderView}
 use Rattle.shelf_steps.specs.declared.views.View.{View}
-use Rattle.shelf_steps.specs.Course.{Course, Begins, IsEdition}
+use Rattle.shelf_steps.specs.Course.{Course, Begins, IsEdition, notes_in, joined_by, HasDoneNothing}
 
 -- who holds a version has its edition, and nobody else has one
 abbrev pub HasEdition : List ImageValue → Worker → Option Edition → Type 0
@@ -23,11 +22,13 @@ pub record WorkerFits (c : Course) (v : WorkerView) : Type 0 where
   pub passed : v.passed ≡ true → v.last < c.state.current
   pub edition : HasEdition c.images v.now v.edition
   pub known : Begins v.known (Some v.number) c
+  pub joined : v.joined ≡ joined_by v.number c.events
 
 pub record LoaderFits (c : Course) (l : LoaderView) : Type 0 where
   pub shows : LoaderShows l.current l.current_shelf l.shelves (length l.known.images) c.state
   pub images : l.known.images ≡ c.images
   pub known : Begins l.known None c
+  pub notes : l.notes ≡ notes_in c.events
 
 -- the owner of a number is the seat of that worker, so that no number has two seats
 abbrev pub SeatFits : Course → LoaderView → (ℕ → ℕ) → ℕ → View → Type 0
@@ -42,4 +43,5 @@ pub record SeatsFit (c : Course) (views : List View) (loader : LoaderView) : Typ
   pub few : loader.handed ≤ 16
   pub each : (seat : ℕ) (u : View) → get_elem? views seat ≡ some u → SeatFits c loader owner seat u
   pub every : (w : ℕ) → w < loader.handed → (v : WorkerView) × (v.number ≡ w) × (get_elem? views (owner w) ≡ some (View.Working v))
-  pub unseated : (w : ℕ) → loader.handed ≤ w → w < 16 → (slice_get c.state.workers w ≡ Some Worker.Idle) × (slice_index c.state.seen w ≡ 0) × NoneOf (Some w) c.events
+  pub unseated : (w : ℕ) → loader.handed ≤ w → w < 16
+      → (slice_get c.state.workers w ≡ Some Worker.Idle) × (slice_index c.state.seen w ≡ 0) × HasDoneNothing w c.events

@@ -1,16 +1,16 @@
 //! Notices of versions: one is split from the loader's seat, and a worker's seat takes it in.
 ghost use Rattle.std.specs.Prelude.{◌≡◌, ℕ, []};
-ghost use Rattle.shelf_steps.specs.Plays.{new_notice, joins_notice, IsLoading, IsSettled, IsNotice};
+ghost use Rattle.shelf_steps.specs.Plays.{gives_notice, new_notice, joins_notice, IsLoading, IsSettled, IsNotice};
 
 use crate::places::{Place, ShelfTable};
 use crate::rule::{Joining, Noting};
 
-/// A split of the loader's seat: a notice of the current version. It takes no memory.
+/// A split of the loader's seat: one notice of the current version, and no other. It takes no memory.
 pub fn note(shelves: &ShelfTable, loader: &mut Place) -> Place
     requires table { loader.old.table ≡ shelves.now }
     requires loader { IsLoading loader.old.me.0 }
     ensures table { loader.new.table ≡ loader.old.table }
-    ensures loader { loader.new.me ≡ loader.old.me }
+    ensures loader { loader.new.me ≡ (gives_notice loader.old.me.0, loader.old.me.1) }
     ensures notice { (result.table ≡ loader.old.table) × (result.me ≡ (new_notice loader.old.me.0, [])) }
 {
     let seat = shelves.table.shared.split_seat::<Noting>(&mut loader.seat);

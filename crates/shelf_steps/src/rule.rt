@@ -113,9 +113,9 @@ impl Split<View> for HandingOut {
 pub struct Noting;
 
 impl Split<View> for Noting {
-    ghost use Rattle.shelf_steps.specs.Plays.{new_notice};
+    ghost use Rattle.shelf_steps.specs.Plays.{gives_notice, new_notice};
 
-    ghost left = { λ u. u };
+    ghost left = { gives_notice };
 
     ghost right = { new_notice };
 }

@@ -1,6 +1,7 @@
 mod stepping;
 
 ghost use Rattle.std.specs.Prelude.{◌≡◌, ◌<◌, ◌≤◌, IfOk};
+ghost use Rattle.std.specs.List.{All};
 
 use crate::laws::{new_shelves, new_worker};
 use crate::*;
@@ -10,7 +11,7 @@ use std::alloc::{AllocError, Global};
 use std::process::Abort;
 use std::sync::Arc;
 use std::test::*;
-use stepping::{LoaderSteps, WorkerSteps};
+use stepping::{LoaderSteps, NoticeSteps, WorkerSteps};
 use version_core::{Core, Reply, Shelf, Worker};
 
 /// The sample, begun at another second, so that images can be told apart.
@@ -86,6 +87,10 @@ struct Rare {
     late_at_open: u32,
     opened_over_late: u32,
     busy_with_two: u32,
+    joined_newer: u32,
+    joined_older: u32,
+    joined_while_holding: u32,
+    not_joined: u32,
 }
 
 impl Rare {
@@ -100,6 +105,19 @@ impl Rare {
             Some(Shelf::Closing { .. }) | None => {}
         }
     }
+
+    /// The worker, which had seen so much, takes in a notice of this version.
+    fn joins(&mut self, core: &Core, number: usize, seen: u64, version: u64) {
+        if version > seen {
+            self.joined_newer = self.joined_newer.wrapping_add(1);
+            if let Some(Worker::Holding { .. }) = core.worker(number) {
+                self.joined_while_holding = self.joined_while_holding.wrapping_add(1);
+            }
+        }
+        if version < seen {
+            self.joined_older = self.joined_older.wrapping_add(1);
+        }
+    }
 }
 
 /// One step of a worker, here and in the state machine: whether both tell the same.
@@ -108,21 +126,23 @@ fn worker_steps(
     worker: &mut WorkerSteps,
     core: &mut Core,
     rare: &mut Rare,
+    notices: &mut Vec<NoticeSteps>,
     number: usize,
     choice: u64,
-) -> bool
-    requires { worker.old ≡ table.now }
-    ensures { worker.new ≡ worker.old }
+) -> Result<bool, AllocError>
+    requires { (worker.old ≡ table.now) × All (λ notice. notice ≡ table.now) notices.old.items }
+    ensures worker { worker.new ≡ worker.old }
+    ensures notices { All (λ notice. notice ≡ table.now) notices.new.items }
 {
     match choice {
-        0 => match (worker.look(table), core.look(number)) {
+        0 => Ok(match (worker.look(table), core.look(number)) {
             (Some(word), Reply::Looked { version, shelf }) => {
                 word / 8 == version && (word % 8) as usize == shelf
             }
             (None, Reply::NotNow) => true,
             _ => false,
-        },
-        1 => match (worker.take(table), core.take(number)) {
+        }),
+        1 => Ok(match (worker.take(table), core.take(number)) {
             (Some(Some(held)), Reply::Holds { version }) => held == version,
             (Some(None), Reply::Late) => {
                 rare.came_late(core, number);
@@ -130,25 +150,29 @@ fn worker_steps(
             }
             (None, Reply::NotNow) => true,
             _ => false,
-        },
-        2 => worker.leave(table) == (core.leave(number) == Reply::Dropped),
-        _ => true,
+        }),
+        2 => Ok(worker.leave(table) == (core.leave(number) == Reply::Dropped)),
+        _ => join_steps(table, worker, core, rare, notices, number),
     }
 }
 
-/// One step of the loader, here and in the state machine, which opens the least free shelf and knows which one to publish.
+/// One step of the loader, here and in the state machine, which opens the least free shelf and knows which one to publish. A
+/// version that is published comes with a notice.
 fn loader_steps(
     table: &ShelfTable,
     loader: &mut LoaderSteps,
     core: &mut Core,
     rare: &mut Rare,
+    notices: &mut Vec<NoticeSteps>,
     alloc: Global,
     image: &Arc<Verified, Global>,
     shelf: usize,
     choice: u64,
 ) -> Result<bool, AllocError>
-    requires { (loader.old ≡ table.now) × (shelf < 8) }
-    ensures { loader.new ≡ loader.old }
+    requires loader { (loader.old ≡ table.now) × (shelf < 8) }
+    requires notices { All (λ notice. notice ≡ table.now) notices.old.items }
+    ensures loader { loader.new ≡ loader.old }
+    ensures notices { All (λ notice. notice ≡ table.now) notices.new.items }
 {
     match choice {
         0 => match core.free_shelf() {
@@ -162,14 +186,11 @@ fn loader_steps(
             }
             None => Ok(true),
         },
-        1 => {
-            let reply = core.publish();
-            let mut published = false;
-            for k in 0..8usize {
-                published = loader.publish(table, k) || published;
-            }
-            Ok(published == (reply != Reply::NotNow))
-        }
+        1 => match (publish_any(table, loader), core.publish()) {
+            (true, Reply::Published { .. }) => note_steps(table, loader, core, notices),
+            (false, Reply::NotNow) => Ok(true),
+            _ => Ok(false),
+        },
         2 => Ok(loader.close(table, shelf) == (core.close(shelf) == Reply::Closing)),
         _ => Ok(match (loader.collect(table, shelf), core.collect(shelf)) {
             (Some(found), Reply::Freed) => found == 0,
@@ -182,6 +203,68 @@ fn loader_steps(
             (None, Reply::NotNow) => true,
             _ => false,
         }),
+    }
+}
+
+/// Publishes the version that isn't yet: whether there was one.
+fn publish_any(table: &ShelfTable, loader: &mut LoaderSteps) -> bool
+    requires { loader.old ≡ table.now }
+    ensures { loader.new ≡ loader.old }
+{
+    let mut published = false;
+    for k in 0..8usize {
+        published = loader.publish(table, k) || published;
+    }
+    published
+}
+
+/// A notice goes out, here and in the state machine: whether both are of one version.
+fn note_steps(
+    table: &ShelfTable,
+    loader: &mut LoaderSteps,
+    core: &mut Core,
+    notices: &mut Vec<NoticeSteps>,
+) -> Result<bool, AllocError>
+    requires { (loader.old ≡ table.now) × All (λ notice. notice ≡ table.now) notices.old.items }
+    ensures loader { loader.new ≡ loader.old }
+    ensures notices { All (λ notice. notice ≡ table.now) notices.new.items }
+{
+    let notice = loader.note(table);
+    let version = notice.version();
+    notices.push(notice)?;
+    Ok(core.note()? == Reply::Noted { version })
+}
+
+/// A worker takes in the notice that went out last, here and in the state machine: whether both do.
+fn join_steps(
+    table: &ShelfTable,
+    worker: &mut WorkerSteps,
+    core: &mut Core,
+    rare: &mut Rare,
+    notices: &mut Vec<NoticeSteps>,
+    number: usize,
+) -> Result<bool, AllocError>
+    requires { (worker.old ≡ table.now) × All (λ notice. notice ≡ table.now) notices.old.items }
+    ensures worker { worker.new ≡ worker.old }
+    ensures notices { All (λ notice. notice ≡ table.now) notices.new.items }
+{
+    let Some(notice) = notices.pop() else {
+        return Ok(true);
+    };
+    let version = notice.version();
+    let before = core.seen(number);
+    match (worker.join(table, notice), core.join(number, version)) {
+        (None, Reply::Joined { seen }) => {
+            let before = before.unwrap_or(0);
+            rare.joins(core, number, before, version);
+            Ok(seen == before.max(version))
+        }
+        (Some(notice), Reply::NotNow) => {
+            rare.not_joined = rare.not_joined.wrapping_add(1);
+            notices.push(notice)?;
+            Ok(true)
+        }
+        _ => Ok(false),
     }
 }
 
@@ -219,7 +302,7 @@ fn words_agree(table: &ShelfTable, core: &Core) -> bool {
     agree
 }
 
-/// Two workers that leave seldom, and a loader that closes and collects the first four shelves.
+/// Two workers that leave seldom and take in notices, and a loader that closes and collects the first four shelves.
 #[test]
 fn random_steps_beside_the_state_machine(rt: HostRuntime) -> Result<(), Fail> {
     let alloc: Global = rt.alloc();
@@ -231,6 +314,7 @@ fn random_steps_beside_the_state_machine(rt: HostRuntime) -> Result<(), Fail> {
     let mut first = WorkerSteps::of(first);
     let mut second = WorkerSteps::of(second);
     let mut core = Core::new(alloc)?;
+    let mut notices = Vec::new(alloc);
     let mut rare = Rare::default();
     let mut random = 19u64;
     for _round in 0..2000u32 {
@@ -240,13 +324,30 @@ fn random_steps_beside_the_state_machine(rt: HostRuntime) -> Result<(), Fail> {
         let choice = random / 8589934592 % 4;
         let shelf = (random / 1099511627776 % 4) as usize;
         let same = match random / 281474976710656 % 8 {
-            0 => worker_steps(&table, &mut first, &mut core, &mut rare, 0, choice),
-            1 => worker_steps(&table, &mut second, &mut core, &mut rare, 1, choice),
+            0 => worker_steps(
+                &table,
+                &mut first,
+                &mut core,
+                &mut rare,
+                &mut notices,
+                0,
+                choice,
+            )?,
+            1 => worker_steps(
+                &table,
+                &mut second,
+                &mut core,
+                &mut rare,
+                &mut notices,
+                1,
+                choice,
+            )?,
             _ => loader_steps(
                 &table,
                 &mut loader,
                 &mut core,
                 &mut rare,
+                &mut notices,
                 alloc,
                 &image,
                 shelf,
@@ -260,5 +361,9 @@ fn random_steps_beside_the_state_machine(rt: HostRuntime) -> Result<(), Fail> {
     assert!(&rt; rare.late_at_open > 3);
     assert!(&rt; rare.opened_over_late > 3);
     assert!(&rt; rare.busy_with_two > 3);
+    assert!(&rt; rare.joined_newer > 3);
+    assert!(&rt; rare.joined_older > 3);
+    assert!(&rt; rare.joined_while_holding > 3);
+    assert!(&rt; rare.not_joined > 3);
     Ok(())
 }

@@ -24,6 +24,8 @@ pub struct WorkerView {
     pub passed: bool,
     /// The edition that is held.
     pub edition: Option<Edition>,
+    /// The versions of the notices that were taken in, as they came.
+    pub joined: LinkedList<u64>,
     pub known: Known,
 }
 
@@ -31,6 +33,8 @@ pub struct WorkerView {
 pub struct LoaderView {
     /// How many workers' seats were handed out.
     pub handed: u64,
+    /// How many notices went out.
+    pub notes: u64,
     pub current: u64,
     pub current_shelf: u64,
     pub shelves: LinkedList<Shelf>,

@@ -1,13 +1,13 @@
 //! Seats whose steps may be asked for at any time: a step that has no place is not made.
 
-ghost use Rattle.std.specs.Prelude.{◌≡◌, ℕ, ◌<◌, []};
+ghost use Rattle.std.specs.Prelude.{◌≡◌, ℕ, ◌<◌, [], IfSome};
 ghost use Rattle.image_layout.specs.Image.{ImageValue};
 ghost use Rattle.shelf_steps.specs.Plays.{newcomer, is_open};
 ghost use Rattle.shelf_steps.specs.Handed.{handed};
 ghost use Rattle.shelf_steps.specs.declared.views.View.{View};
 
 use crate::blocks::{editions_of, fill_block};
-use crate::laws::{close, gather, give_back, leave_late, look, open, publish, take};
+use crate::laws::{close, gather, give_back, join, leave_late, look, note, open, publish, take};
 use crate::loading::try_shelf;
 use crate::places::{Place, ShelfTable};
 use image_verifier::Verified;
@@ -105,6 +105,51 @@ impl WorkerSteps {
             Worker::Idle | Worker::Looked { .. } => false,
         }
     }
+
+    /// A worker that is idle or holds a version takes in the notice; else it comes back.
+    #[tactic(auto, using(crate::proofs::Stepping::idle_settled, crate::proofs::Stepping::holding_settled, crate::proofs::Stepping::idle_joined, crate::proofs::Stepping::holding_joined))]
+    pub(crate) fn join(&mut self, shelves: &ShelfTable, notice: NoticeSteps) -> Option<NoticeSteps>
+        requires { (self.old ≡ shelves.now) × (notice ≡ shelves.now) }
+        ensures worker { self.new ≡ self.old }
+        ensures back { IfSome result (λ back. back ≡ notice) }
+    {
+        match self.now {
+            Worker::Idle => {
+                join(shelves, &mut self.place, notice.place);
+                None
+            }
+            Worker::Holding { .. } => {
+                join(shelves, &mut self.place, notice.place);
+                None
+            }
+            Worker::Looked { .. } | Worker::Late { .. } => Some(notice),
+        }
+    }
+}
+
+/// A notice that is out. Contracts see the table.
+#[derive(Drop)]
+pub(crate) struct NoticeSteps {
+    place: Place,
+    version: u64,
+}
+
+impl Model for NoticeSteps {
+    ghost use Rattle.atomic_table.specs.Seated.{TableId};
+    ghost use Rattle.shelf_steps.specs.Plays.{IsNotice};
+
+    ghost Value = { TableId };
+
+    ghost view = { λ s. s.place.table };
+
+    ghost invariant = { λ s. IsNotice s.version s.place.me };
+}
+
+impl NoticeSteps {
+    /// The version that the notice is of.
+    pub(crate) fn version(&self) -> u64 {
+        self.version
+    }
 }
 
 fn says_open(word: u64, version: u64) -> bool
@@ -145,6 +190,19 @@ impl LoaderSteps {
             current: 1,
             newest: 1,
             shelves,
+        }
+    }
+
+    /// A notice of the current version.
+    #[tactic(auto, using(crate::proofs::Stepping::may_note_so, crate::proofs::Stepping::notice_so, crate::proofs::Stepping::noted_so))]
+    pub(crate) fn note(&mut self, table: &ShelfTable) -> NoticeSteps
+        requires { self.old ≡ table.now }
+        ensures { (self.new ≡ self.old) × (result ≡ table.now) }
+    {
+        let place = note(table, &mut self.place);
+        NoticeSteps {
+            place,
+            version: self.current,
         }
     }
 

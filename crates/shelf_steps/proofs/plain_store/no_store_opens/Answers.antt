@@ -1,4 +1,4 @@
-use Rattle.std.proofs.Common.{◌≡◌, ℕ, ◌≤◌, Bool, cond, arith, subst, ◌∙◌, sym, count_by}
+use Rattle.std.proofs.Common.{◌≡◌, ◌≤◌, Bool, cond, arith, subst, count_by}
 use Rattle.version_core.specs.Kept.{is_at}
 use Rattle.version_core.proofs.Lists.{is_counted}
 use Rattle.version_core.specs.declared.state.Shelf.{Shelf}
