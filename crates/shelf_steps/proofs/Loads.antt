@@ -1,4 +1,5 @@
 -- Each step of the loader keeps the rule, and is one event.
+use Rattle.reasoning.proofs.ListLemmas.{slice_get-append}
 use Rattle.version_core.specs.Actors.{nobody, actor}
 use Rattle.image_layout.specs.Image.{ImageValue}
 use Rattle.std.proofs.Common.{◌≡◌, ◌≢◌, ℕ, zero, suc, ◌+◌, ◌-◌, ◌*◌, ◌%◌, ◌<◌, ◌≤◌, ◌==◌, ◌⊎◌, Bool, true, false, List, [], ◌∷◌, ◌++◌, length, set, get_or, Option, Some, None, slice_get, refl, ap, sym, ◌∙◌, subst, arith, get_or-set_same, get_or-set_other, length-set, length-append, inl, inr}
@@ -7,6 +8,7 @@ use mathlib.Core.Option.{Option as Maybe, none, some}
 use mathlib.Core.List.{IsPrefix}
 use prog.Atomic.{either}
 use lib.ListN.{get_elem?}
+use Rattle.reasoning.proofs.OrderLemmas.{own_equal}
 use Rattle.atomic_table.specs.Table.{State as Table, Act, step, keeps, stepped, Allows, Valid, homes_after, carried_after}
 use Rattle.version_core.specs.declared.event.Event.{Event}
 use Rattle.version_core.specs.declared.event.Reply.{Reply}
@@ -307,9 +309,6 @@ value_at none = None
 value_at (some none) = None
 value_at (some (some x)) = x
 
-at_itself : (k : ℕ) → (k == k) ≡ true
-at_itself k = grind (arith, nat_tests)
-
 -- where nobody is at a shelf, its slots are at home
 all_home : (homes : List (Maybe (Option Edition))) (shelves : List Shelf) (counts : List ℕ) (workers : List Worker) (images : List ImageValue) (hand : Option ℕ) (k version : ℕ)
     → ((w : ℕ) (worker : Worker) → slice_get workers w ≡ Some worker → is_at k worker ≡ false) → slice_get shelves k ≡ Some (Shelf.Closing version)
@@ -319,7 +318,7 @@ all_home homes shelves counts workers images hand k version away closing fit j f
     subst (λ i. get_elem? homes i ≡ some (some (value_at (get_elem? homes i)))) e
     (elim (fit k (j - 16 * k) (Shelf.Closing version) closing (omega arith)) [
       | inl a ↦ a.1 ∙ ap (λ (x : Maybe (Maybe (Option Edition))). some (some (value_at x))) (sym a.1)
-      | inr b ↦ absurd (let q = away (j - 16 * k) (Worker.Holding k version) b.1 in let z : (k == k) ≡ false = q in let z' = at_itself k in cc)
+      | inr b ↦ absurd (let q = away (j - 16 * k) (Worker.Holding k version) b.1 in let z : (k == k) ≡ false = q in let z' = own_equal k in cc)
     ])
 
 -- an exchange either finds the word that it expects, or not
@@ -533,3 +532,8 @@ puttings_as slots id k (View.Loading l) c many small may =
 
 pub puttings : (slots id k : ℕ) (me : Mine) → slots ≡ 128 → k < 8 → MayPutBack k me.0 me.1 → Allows Ruled slots id me (k + 1) (λ n. either (n == 512) 0 n) (PutsBack (step slots (k + 1) 512 0 none) me)
 puttings slots id k me many small may = puttings_as slots id k me.0 me.1 many small may
+
+-- an image stays while others come
+pub image_of-append : (images more : List ImageValue) (v : ℕ) (image : ImageValue) → image_of images v ≡ Some image → image_of (images ++ more) v ≡ Some image
+image_of-append images more zero image is = absurd (cc)
+image_of-append images more (suc n) image is = slice_get-append images more n image is
