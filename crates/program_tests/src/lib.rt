@@ -1,15 +1,25 @@
-//! The program's commands as a user runs them: tests alone.
+//! The program's commands as a user runs them: tests alone, most of them transcripts.
 #![tactic(auto)]
 
 #[cfg(test)]
-mod build_tests;
+mod building;
 #[cfg(test)]
-mod feed_tests;
+mod checking;
 #[cfg(test)]
-mod profile_tests;
+mod command_lines;
 #[cfg(test)]
-mod serve_tests;
+mod hostile_images;
 #[cfg(test)]
-mod tests;
+mod profiles;
 #[cfg(test)]
-mod upgrade_tests;
+mod running;
+#[cfg(test)]
+mod serving;
+#[cfg(test)]
+mod tables;
+#[cfg(test)]
+mod town_journeys;
+#[cfg(test)]
+mod transcript;
+#[cfg(test)]
+mod upgrading;

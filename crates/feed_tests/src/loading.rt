@@ -1,0 +1,408 @@
+//! Feeds in memory and their images.
+
+ghost use Rattle.std.specs.Prelude.{◌≡◌};
+
+use feed_loader::{FailedNames, FeedFiles, FileFault, LoadFault, MemoryFiles, Plan, Report, load};
+use footpaths::FootFault;
+use gtfs_tables::{Day, FaultKind, IdHash, Table, TableFault};
+use image_layout::{sample_words, second_sample_words};
+use image_verifier::{Verified, verify};
+use image_writer::write;
+use service_days::{DayFault, Zone};
+use std::alloc::{AllocError, Global};
+use std::process::Abort;
+use std::test::*;
+
+/// The files of a small feed: three stops, a trip over all of them, and one from the second to the third.
+const FILES: [(&str, &[u8]); 5] = [
+    ("agency.txt", b"agency_timezone\nEtc/UTC\n"),
+    ("stops.txt", b"stop_id\nA\nB\nC\n"),
+    ("trips.txt", b"service_id,trip_id\nS,T1\nS,T2\n"),
+    (
+        "stop_times.txt",
+        b"trip_id,arrival_time,departure_time,stop_id,stop_sequence\nT1,08:00:00,08:00:00,A,1\nT1,08:10:00,08:10:00,B,2\nT1,08:30:00,08:30:00,C,3\nT2,08:12:00,08:12:00,B,1\nT2,08:20:00,08:20:00,C,2\n",
+    ),
+    (
+        "calendar.txt",
+        b"service_id,monday,tuesday,wednesday,thursday,friday,saturday,sunday,start_date,end_date\nS,1,1,1,1,1,1,1,20240115,20240115\n",
+    ),
+];
+
+fn one_day() -> Plan
+    ensures { result.days ≡ 1 }
+{
+    Plan {
+        first_day: Day {
+            year: 2024,
+            month: 1,
+            day: 15,
+        },
+        days: 1,
+        zone: Zone::fixed(0),
+        strict: false,
+    }
+}
+
+#[test]
+fn a_feed_makes_its_image(rt: HostRuntime) -> Result<(), Fail> {
+    let mut files = MemoryFiles { files: &FILES };
+    let Ok((image, report)) = load(rt.alloc(), &mut files, &one_day()) else {
+        panic!(rt; "the feed is refused");
+    };
+    assert!(rt; image.words() == second_sample_words().as_slice());
+    let counted = Report {
+        stops: 3,
+        runs: 2,
+        connections: 3,
+        footpaths: 3,
+        lifted: 0,
+        flex: 0,
+        frequencies: 0,
+        skipped: 0,
+    };
+    assert_eq!(rt; report, counted);
+    Ok(())
+}
+
+/// Files whose ids are looked up by this hash.
+#[derive(Drop)]
+struct Hashed<F> {
+    files: F,
+    hash: IdHash,
+}
+
+impl<F: FeedFiles> FeedFiles for Hashed<F> {
+    ghost failures = { λ hashed. F.failures hashed.files };
+
+    ghost failed = { λ hashed. F.failed hashed.files };
+
+    ghost holds = { λ hashed. F.holds hashed.files };
+
+    fn read(&mut self, alloc: Global, name: &str) -> Result<Option<Vec<u8>>, FileFault> {
+        self.files.read(alloc, name)
+    }
+
+    fn id_hash(&self) -> IdHash {
+        self.hash
+    }
+}
+
+/// Whatever the key of the hash, the image has the same words.
+#[test]
+fn an_image_has_no_trace_of_a_key(rt: HostRuntime) -> Result<(), Fail> {
+    for hash in [
+        IdHash::of_key(1),
+        IdHash::of_key(u64::MAX),
+        IdHash::random(&rt),
+    ] {
+        let mut files = Hashed {
+            files: MemoryFiles { files: &FILES },
+            hash,
+        };
+        let Ok((image, _report)) = load(rt.alloc(), &mut files, &one_day()) else {
+            panic!(rt; "the feed is refused");
+        };
+        assert!(rt; image.words() == second_sample_words().as_slice());
+    }
+    Ok(())
+}
+
+// The small feed with these rows of frequencies.txt.
+fn repeated(frequencies: &'static [u8]) -> [(&'static str, &'static [u8]); 6] {
+    let [agencies, stops, trips, times, calendar] = FILES;
+    [
+        agencies,
+        stops,
+        trips,
+        times,
+        calendar,
+        ("frequencies.txt", frequencies),
+    ]
+}
+
+/// The image, worked out by hand, in which the first trip leaves at 09:00:00, 09:20:00 and 09:40:00: its days are followed by the
+/// repeats 0, 1, 2 of these runs and 0 of the second trip's.
+const REPEATED: [u32; 80] = [
+    0x50415343, 2, 3, 4, 7, 3, 11, 1705276800, 0, 1, 2, 29520, 30000, 3, 3, 0, 1, 32400, 33000, 0,
+    3, 1, 2, 33000, 34200, 0, 3, 0, 1, 33600, 34200, 1, 3, 1, 2, 34200, 35400, 1, 3, 0, 1, 34800,
+    35400, 2, 3, 1, 2, 35400, 36600, 2, 3, 0, 1, 2, 3, 0, 0, 1, 0, 2, 0, 0, 1, 2, 3, 5, 7, 9, 11,
+    20240115, 20240115, 20240115, 20240115, 0, 1, 2, 0, 0x54434241, 0x54315431, 0x00325431,
+];
+
+/// A trip that repeats runs once for each of its starts, and the image has the runs' numbers.
+#[test]
+fn repeats_are_numbered(rt: HostRuntime) -> Result<(), Fail> {
+    let files = repeated(b"trip_id,start_time,end_time,headway_secs\nT1,09:00:00,10:00:00,1200\n");
+    let mut files = MemoryFiles { files: &files };
+    let Ok((image, report)) = load(rt.alloc(), &mut files, &one_day()) else {
+        panic!(rt; "the feed is refused");
+    };
+    assert_eq!(rt; report.runs, 4);
+    assert_eq!(rt; report.connections, 7);
+    assert_eq!(rt; report.frequencies, 1);
+    assert!(rt; image.words() == REPEATED.as_slice());
+    assert_eq!(rt; image.trips(), 4);
+    assert_eq!(rt; image.trip_repeat(1), 1);
+    assert_eq!(rt; image.trip_repeat(2), 2);
+    assert_eq!(rt; image.trip_repeat(3), 0);
+    Ok(())
+}
+
+// The image of what an image holds.
+fn written_anew(alloc: Global, image: &Verified) -> Result<Vec<u32>, AllocError> {
+    let (timetable, names) = image.to_timetable(alloc)?;
+    write(alloc, &timetable, &names)
+}
+
+/// Words that are judged, unpacked and written again are the same words; those of the first layout come out in the second.
+#[test]
+fn an_image_is_written_anew(rt: HostRuntime) -> Result<(), Fail> {
+    let first = sample_words();
+    let second = second_sample_words();
+    for (words, expected) in [
+        (first.as_slice(), second.as_slice()),
+        (second.as_slice(), second.as_slice()),
+        (REPEATED.as_slice(), REPEATED.as_slice()),
+    ] {
+        let Ok(image) = verify(rt.alloc(), words.to_vec(rt.alloc())?) else {
+            panic!(rt; "the words are refused");
+        };
+        assert!(rt; image.words() == words);
+        assert!(rt; written_anew(rt.alloc(), &image)?.as_slice() == expected);
+    }
+    Ok(())
+}
+
+/// The last start lies before the end time; a headway of 0 is refused.
+#[test]
+fn an_end_time_is_no_start(rt: HostRuntime) -> Result<(), Fail> {
+    let files = repeated(b"trip_id,start_time,end_time,headway_secs\nT1,09:00:00,09:40:00,1200\n");
+    let mut files = MemoryFiles { files: &files };
+    let Ok((_, report)) = load(rt.alloc(), &mut files, &one_day()) else {
+        panic!(rt; "the feed is refused");
+    };
+    assert_eq!(rt; report.runs, 3);
+    assert_eq!(rt; report.connections, 5);
+    let files = repeated(b"trip_id,start_time,end_time,headway_secs\nT1,09:00:00,10:00:00,0\n");
+    let mut files = MemoryFiles { files: &files };
+    let headway = TableFault {
+        table: Table::Frequencies,
+        row: 1,
+        kind: FaultKind::BadHeadway,
+    };
+    match load(rt.alloc(), &mut files, &one_day()) {
+        Ok(_) => panic!(rt; "a headway of 0 is taken"),
+        Err(fault) => {
+            assert_eq!(rt; fault, LoadFault::Table(headway));
+        }
+    }
+    Ok(())
+}
+
+/// On a day on which nothing runs there are no trips.
+#[test]
+fn a_day_without_runs_has_an_image(rt: HostRuntime) -> Result<(), Fail> {
+    let mut files = MemoryFiles { files: &FILES };
+    let next = Plan {
+        first_day: Day {
+            year: 2024,
+            month: 1,
+            day: 16,
+        },
+        ..one_day()
+    };
+    let Ok((image, report)) = load(rt.alloc(), &mut files, &next) else {
+        panic!(rt; "the feed is refused");
+    };
+    assert_eq!(rt; report.runs, 0);
+    assert_eq!(rt; image.trips(), 0);
+    assert_eq!(rt; image.stops(), 3);
+    assert_eq!(rt; image.base(), 1_705_363_200);
+    Ok(())
+}
+
+#[test]
+fn what_is_wrong_is_told(rt: HostRuntime) -> Result<(), Fail> {
+    let mut none = MemoryFiles { files: &[] };
+    let missing = TableFault {
+        table: Table::Agency,
+        row: 0,
+        kind: FaultKind::MissingFile,
+    };
+    match load(rt.alloc(), &mut none, &one_day()) {
+        Ok(_) => panic!(rt; "a feed without files is loaded"),
+        Err(fault) => {
+            assert_eq!(rt; fault, LoadFault::Table(missing));
+        }
+    }
+    Ok(())
+}
+
+/// A fault is told by its number, its name and its places.
+#[test]
+fn faults_are_told(rt: HostRuntime) -> Result<(), Fail> {
+    let twice = TableFault {
+        table: Table::Stops,
+        row: 3,
+        kind: FaultKind::IdTwice,
+    };
+    for (fault, text) in [
+        (LoadFault::Table(twice), "8 IdTwice stops.txt 3"),
+        (LoadFault::Day(DayFault::BadZone), "21 BadZone"),
+        (
+            LoadFault::Footpaths(FootFault::TooManyFootpaths),
+            "42 TooManyFootpaths",
+        ),
+        (
+            LoadFault::FileFailed(Table::StopTimes),
+            "101 FileFailed stop_times.txt",
+        ),
+    ] {
+        let told = format!(in rt.alloc(); "{fault}")?;
+        assert_eq!(rt; told.as_str(), text);
+    }
+    Ok(())
+}
+
+/// Files of which the read of one fails.
+#[derive(Drop)]
+struct Failing<'a> {
+    held: MemoryFiles<'a>,
+    name: &'a str,
+    failures: u64,
+    failed: FailedNames,
+}
+
+impl<'a> FeedFiles for Failing<'a> {
+    ghost use Rattle.std.specs.Prelude.{None};
+
+    ghost failures = { λ files. files.failures };
+
+    ghost failed = { λ files. files.failed };
+
+    ghost holds = { λ files name. None };
+
+    fn read(&mut self, alloc: Global, name: &str) -> Result<Option<Vec<u8>>, FileFault> {
+        if name == self.name {
+            self.failures = self.failures.saturating_add(1);
+            self.failed.note(name);
+            return Err(FileFault::Failed);
+        }
+        self.held.read(alloc, name)
+    }
+
+    fn id_hash(&self) -> IdHash {
+        self.held.id_hash()
+    }
+}
+
+/// Whichever read fails, that file is told, and nothing else.
+#[test]
+fn a_read_that_fails_is_told(rt: HostRuntime) -> Result<(), Fail> {
+    for table in [
+        Table::Agency,
+        Table::Stops,
+        Table::Trips,
+        Table::StopTimes,
+        Table::Calendar,
+        Table::CalendarDates,
+        Table::Transfers,
+        Table::Frequencies,
+    ] {
+        let mut files = Failing {
+            held: MemoryFiles { files: &FILES },
+            name: table.file_name(),
+            failures: 0,
+            failed: FailedNames::none(),
+        };
+        match load(rt.alloc(), &mut files, &one_day()) {
+            Ok(_) => panic!(rt; "a feed that can't be read is loaded"),
+            Err(fault) => {
+                assert_eq!(rt; fault, LoadFault::FileFailed(table));
+            }
+        }
+        assert_eq!(rt; files.failures, 1);
+    }
+    Ok(())
+}
+
+/// Memory was wanting, and that is told.
+fn wants_memory(rt: &impl Abort, fault: LoadFault) -> Result<(), Fail> {
+    if let LoadFault::Table(fault) = fault {
+        assert_eq!(rt; fault.kind, FaultKind::OutOfMemory);
+    } else {
+        assert!(rt; fault.is_want_of_memory());
+    }
+    Err(Fail::from(AllocError))
+}
+
+/// Whichever growth is refused, want of memory is told.
+#[test]
+fn refused_growth_is_told(rt: HostRuntime) -> Result<(), Fail> {
+    let mut files = MemoryFiles { files: &FILES };
+    match load(rt.alloc(), &mut files, &one_day()) {
+        Ok((image, _report)) => {
+            assert!(rt; image.words() == second_sample_words().as_slice());
+            Ok(())
+        }
+        Err(fault) => wants_memory(&rt, fault),
+    }
+}
+
+/// All files: a station with two stops, a quoted id, a blank row, a day that is taken out, a trip that repeats, and ways between a station's stops.
+const ALL_FILES: [(&str, &[u8]); 8] = [
+    ("agency.txt", b"agency_timezone\nEtc/UTC\n"),
+    (
+        "stops.txt",
+        b"stop_id,location_type,parent_station\nS,1,\n\"A\",0,S\nB,0,S\nC,0,\n",
+    ),
+    ("trips.txt", b"service_id,trip_id\nS,T1\nS,T2\n"),
+    (
+        "stop_times.txt",
+        b"trip_id,arrival_time,departure_time,stop_id,stop_sequence\nT1,08:00:00,08:00:00,A,1\nT1,,,B,2\n\
+            T1,08:30:00,08:30:00,C,3\nT2,08:12:00,08:12:00,B,1\nT2,08:20:00,08:20:00,C,2\n",
+    ),
+    (
+        "calendar.txt",
+        b"service_id,monday,tuesday,wednesday,thursday,friday,saturday,sunday,start_date,end_date\nS,1,1,1,1,1,1,1,20240115,20240116\n",
+    ),
+    (
+        "calendar_dates.txt",
+        b"service_id,date,exception_type\nS,20240116,2\n",
+    ),
+    (
+        "frequencies.txt",
+        b"trip_id,start_time,end_time,headway_secs\nT1,09:00:00,09:40:00,1200\n",
+    ),
+    (
+        "transfers.txt",
+        b"from_stop_id,to_stop_id,transfer_type,min_transfer_time\nS,S,2,180\n",
+    ),
+];
+
+/// So too over a feed with all files.
+#[test]
+fn refused_growth_over_all_files_is_told(rt: HostRuntime) -> Result<(), Fail> {
+    let mut files = MemoryFiles { files: &ALL_FILES };
+    let plan = Plan {
+        days: 2,
+        ..one_day()
+    };
+    match load(rt.alloc(), &mut files, &plan) {
+        Ok((_image, report)) => {
+            let counted = Report {
+                stops: 3,
+                runs: 3,
+                connections: 5,
+                footpaths: 5,
+                lifted: 0,
+                flex: 0,
+                frequencies: 1,
+                skipped: 0,
+            };
+            assert_eq!(rt; report, counted);
+            Ok(())
+        }
+        Err(fault) => wants_memory(&rt, fault),
+    }
+}

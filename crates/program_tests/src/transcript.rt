@@ -1,0 +1,285 @@
+//! Transcripts: what stands in files, what a user types, and what the program answers, line after line. The first word of a line says what it is.
+//!
+//! | line | meaning |
+//! |---|---|
+//! | `# TEXT`, or none | nothing: it tells what the lines below show |
+//! | `image WORD ..` | the input is an image of these words |
+//! | `sample` | the input is the sample image; `sample 2` in the layout that is written |
+//! | `set PLACE WORD` | the input's word at this place is another |
+//! | `cut BYTES` | of the input so many bytes alone |
+//! | `zeros WORDS` | the input is so many words of 0 |
+//! | `folder PATH`, `file PATH` | makes a folder, or an empty file |
+//! | `has TEXT`, `crlf TEXT` | the file has one more line, ended by LF, or by CR LF |
+//! | `remove PATH` | takes a file or a folder away, with all that is in it |
+//! | `run WORD ..` | the words of the next command behind the program's name; one in single quotes may have spaces |
+//! | `prints TEXT`, `tells TEXT` | one more line that it must print, or tell among its errors |
+//! | `ends STATUS` | runs it: it prints and tells these lines alone, and ends with this status |
+//! | `complains STATUS` | runs it: it prints nothing, tells something of its own, and ends with this status |
+//! | `helps` | runs it: it prints something of its own, tells nothing, and ends with status 0 |
+//! | `saves PATH` | puts the bytes of the input into a file |
+//! | `holds PATH` | the file has the bytes of the input |
+//! | `lacks PATH` | there is no such file |
+
+use crate::running::{Machine, Outcome, outcome_of};
+use image_layout::{Words, sample_words, second_sample_words};
+use std::alloc::{AllocError, Global};
+use std::fs;
+use std::net::{Net, TcpListener, TcpStream};
+use std::process::Abort;
+use std::test::Fail;
+
+/// What the next command finds, and what it is to print.
+#[derive(Drop)]
+struct Stage<'a> {
+    /// The words of the image on its input.
+    image: Vec<u32>,
+    /// How many bytes of them are there at most.
+    bytes: usize,
+    /// The file that is being written, and what it has.
+    path: &'a str,
+    text: String,
+    words: Vec<&'a str>,
+    printed: String,
+    told: String,
+}
+
+impl<'a> Stage<'a> {
+    fn empty(alloc: Global) -> Stage<'a> {
+        Stage {
+            image: Vec::new(alloc),
+            bytes: usize::MAX,
+            path: "",
+            text: String::new(alloc),
+            words: Vec::new(alloc),
+            printed: String::new(alloc),
+            told: String::new(alloc),
+        }
+    }
+
+    fn input(&self, alloc: Global) -> Result<Vec<u8>, AllocError> {
+        let mut bytes = Words::to_bytes(alloc, &self.image)?;
+        bytes.truncate(self.bytes);
+        Ok(bytes)
+    }
+
+    fn take_image(&mut self, image: Vec<u32>) {
+        self.image = image;
+        self.bytes = usize::MAX;
+    }
+}
+
+/// A number of a transcript.
+fn number(text: &str) -> Result<u32, Fail> {
+    match text.parse() {
+        Ok(number) => Ok(number),
+        Err(_) => Err(Fail::new("a number of a transcript")),
+    }
+}
+
+fn image_of(alloc: Global, text: &str) -> Result<Vec<u32>, Fail> {
+    let mut words = Vec::new(alloc);
+    for word in text.split(' ') {
+        words.push(number(word)?)?;
+    }
+    Ok(words)
+}
+
+fn zeros(alloc: Global, count: u32) -> Result<Vec<u32>, AllocError> {
+    Ok(vec![in alloc; 0u32; count as usize]?)
+}
+
+/// The sample in a layout.
+fn sample_of(alloc: Global, layout: &str) -> Result<Vec<u32>, AllocError> {
+    match layout {
+        "2" => second_sample_words().to_vec(alloc),
+        _ => sample_words().to_vec(alloc),
+    }
+}
+
+/// Puts a word at a place.
+fn set(image: &mut [u32], text: &str) -> Result<(), Fail> {
+    let Some((place, word)) = text.split_once(' ') else {
+        return Err(Fail::new("a place and a word"));
+    };
+    match image.get_mut(number(place)? as usize) {
+        Some(at) => {
+            *at = number(word)?;
+            Ok(())
+        }
+        None => Err(Fail::new("a place behind the image")),
+    }
+}
+
+/// Adds words of a command: those between spaces.
+fn add_plain<'a>(words: &mut Vec<&'a str>, text: &'a str) -> Result<(), AllocError> {
+    for word in text.split(' ') {
+        if !word.is_empty() {
+            words.push(word)?;
+        }
+    }
+    Ok(())
+}
+
+/// The words of a command: those between quotes, and the others between spaces.
+fn words_of<'a>(alloc: Global, text: &'a str) -> Result<Vec<&'a str>, AllocError> {
+    let mut words = vec![in alloc; "csa"]?;
+    let mut is_quoted = false;
+    for piece in text.split('\'') {
+        if is_quoted {
+            words.push(piece)?;
+        } else {
+            add_plain(&mut words, piece)?;
+        }
+        is_quoted = !is_quoted;
+    }
+    Ok(words)
+}
+
+fn add_line(text: &mut String, line: &str, end: &str) -> Result<(), AllocError> {
+    text.push_str(line)?;
+    text.push_str(end)
+}
+
+/// Takes a file or a folder away.
+fn remove<R: Machine>(rt: &R, path: &str) -> Result<(), Fail> {
+    match fs::remove_file(rt, path) {
+        Ok(()) => Ok(()),
+        Err(_) => Ok(fs::remove_dir_all(rt, path)?),
+    }
+}
+
+/// Makes an empty file, or adds a line to the one that was made last.
+fn write<'a, R: Machine>(
+    rt: &R,
+    stage: &mut Stage<'a>,
+    kind: &str,
+    rest: &'a str,
+) -> Result<(), Fail> {
+    if kind == "file" {
+        stage.path = rest;
+        stage.text.clear();
+    } else {
+        let end = if kind == "crlf" { "\r\n" } else { "\n" };
+        add_line(&mut stage.text, rest, end)?;
+    }
+    fs::write(rt, stage.path, stage.text.as_str())?;
+    Ok(())
+}
+
+/// Runs the command on the input.
+fn run_on_stage<R: Machine + Net<Listener = TcpListener, Stream = TcpStream>>(
+    rt: &R,
+    stage: &Stage<'_>,
+) -> Result<Outcome, AllocError> {
+    let input = stage.input(rt.alloc())?;
+    Ok(outcome_of(rt, &stage.words, &input))
+}
+
+/// The command prints and tells the lines that stand ready, and ends with a status.
+fn expect_lines<R: Machine + Net<Listener = TcpListener, Stream = TcpStream> + Abort>(
+    rt: &R,
+    stage: &mut Stage<'_>,
+    status: &str,
+) -> Result<(), Fail> {
+    let outcome = run_on_stage(rt, stage)?;
+    let words = &stage.words;
+    assert!(rt;
+        outcome.output.as_slice() == stage.printed.as_bytes(),
+        "the output of {words:?}"
+    );
+    assert!(rt;
+        outcome.errors.as_slice() == stage.told.as_bytes(),
+        "the errors of {words:?}"
+    );
+    assert_eq!(rt; u32::from(outcome.status), number(status)?, "{words:?}");
+    stage.printed.clear();
+    stage.told.clear();
+    Ok(())
+}
+
+/// The command prints something, or tells something, and not both, and ends with a status.
+fn expect_any<R: Machine + Net<Listener = TcpListener, Stream = TcpStream> + Abort>(
+    rt: &R,
+    stage: &Stage<'_>,
+    prints: bool,
+    status: u32,
+) -> Result<(), Fail> {
+    let outcome = run_on_stage(rt, stage)?;
+    let words = &stage.words;
+    assert!(rt;
+        outcome.output.is_empty() != prints,
+        "the output of {words:?}"
+    );
+    assert!(rt;
+        outcome.errors.is_empty() == prints,
+        "the errors of {words:?}"
+    );
+    assert_eq!(rt; u32::from(outcome.status), status, "{words:?}");
+    Ok(())
+}
+
+fn expect_held<R: Machine + Abort>(rt: &R, stage: &Stage<'_>, path: &str) -> Result<(), Fail> {
+    let held = fs::read(rt, path)?;
+    let input = stage.input(rt.alloc())?;
+    assert!(rt; held.as_slice() == input.as_slice(), "another file {path}");
+    Ok(())
+}
+
+/// Makes another input.
+fn take_input(alloc: Global, stage: &mut Stage<'_>, kind: &str, rest: &str) -> Result<(), Fail> {
+    match kind {
+        "image" => stage.take_image(image_of(alloc, rest)?),
+        "sample" => stage.take_image(sample_of(alloc, rest)?),
+        "zeros" => stage.take_image(zeros(alloc, number(rest)?)?),
+        "set" => set(&mut stage.image, rest)?,
+        _ => stage.bytes = number(rest)? as usize,
+    }
+    Ok(())
+}
+
+/// Does what a line says.
+fn follow<'a, R: Machine + Net<Listener = TcpListener, Stream = TcpStream> + Abort>(
+    rt: &R,
+    stage: &mut Stage<'a>,
+    line: &'a str,
+) -> Result<(), Fail> {
+    let (kind, rest) = line.split_once(' ').unwrap_or((line, ""));
+    match kind {
+        "" | "#" => Ok(()),
+        "image" | "sample" | "zeros" | "set" | "cut" => take_input(rt.alloc(), stage, kind, rest),
+        "folder" => Ok(fs::create_dir(rt, rest)?),
+        "file" | "has" | "crlf" => write(rt, stage, kind, rest),
+        "remove" => remove(rt, rest),
+        "run" => {
+            stage.words = words_of(rt.alloc(), rest)?;
+            Ok(())
+        }
+        "prints" => Ok(add_line(&mut stage.printed, rest, "\n")?),
+        "tells" => Ok(add_line(&mut stage.told, rest, "\n")?),
+        "ends" => expect_lines(rt, stage, rest),
+        "complains" => expect_any(rt, stage, false, number(rest)?),
+        "helps" => expect_any(rt, stage, true, 0),
+        "saves" => {
+            let input = stage.input(rt.alloc())?;
+            Ok(fs::write(rt, rest, input.as_slice())?)
+        }
+        "holds" => expect_held(rt, stage, rest),
+        "lacks" => {
+            assert!(rt; fs::read(rt, rest).is_err(), "there is a file {rest}");
+            Ok(())
+        }
+        _ => Err(Fail::new("no line of a transcript")),
+    }
+}
+
+/// Tries each line of a transcript in turn.
+pub(crate) fn try_lines<R: Machine + Net<Listener = TcpListener, Stream = TcpStream> + Abort>(
+    rt: &R,
+    transcript: &str,
+) -> Result<(), Fail> {
+    let mut stage = Stage::empty(rt.alloc());
+    for line in transcript.split('\n') {
+        follow(rt, &mut stage, line)?;
+    }
+    Ok(())
+}
