@@ -5,8 +5,8 @@ ghost use Rattle.std.specs.Prelude.{◌≡◌};
 
 use gtfs_tables::spread::spread;
 use gtfs_tables::{
-    FaultKind, FrequencyRow, IdHash, Location, StopRow, StopTimeRow, StopTimes, Tables, TransferKind,
-    TransferRow, TripRow, join,
+    FaultKind, FrequencyRow, IdHash, Location, StopRow, StopTimeRow, StopTimes, Tables,
+    TransferKind, TransferRow, TripRow, join,
 };
 use indexmap::IndexSet;
 use std::alloc::{AllocError, Global};

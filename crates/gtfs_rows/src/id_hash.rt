@@ -1,4 +1,4 @@
-// The hash by which ids are looked up.
+//! The hash by which ids are looked up.
 
 use std::hash::{BuildHasher, DefaultHasher, Hasher, RandomState};
 use std::random::RandomSource;
