@@ -1,4 +1,5 @@
 -- One event more.
+use Rattle.reasoning.proofs.ListLemmas.{slice_get-append}
 use Rattle.version_core.specs.Actors.{nobody, actor, NoneOf}
 use Rattle.image_layout.specs.Image.{ImageValue}
 use Rattle.std.proofs.Common.{◌≡◌, ◌≢◌, ℕ, zero, suc, ◌+◌, ◌≤◌, List, [], ◌∷◌, ◌++◌, length, Option, Some, slice_get, get_or, refl, ap, sym, ◌∙◌}
@@ -12,7 +13,6 @@ use Rattle.version_core.specs.State.{State, start, newest}
 use Rattle.version_core.specs.Steps.{Step}
 use Rattle.version_core.specs.Kept.{Kept}
 use Rattle.version_core.proofs.Runs.{reached_kept, list_grows_with_replies}
-use Rattle.version_core.proofs.Lists.{slice_get-append}
 use Rattle.shelf_steps.specs.declared.edition.Edition.{Edition}
 use Rattle.shelf_steps.specs.declared.views.Known.{Known}
 use Rattle.shelf_steps.specs.declared.views.WorkerView.{WorkerView}

@@ -1,5 +1,5 @@
 -- Each step of the loader keeps the rule, and is one event.
-use Rattle.reasoning.proofs.ListLemmas.{slice_get-append}
+use Rattle.reasoning.proofs.ListLemmas.{slice_get-append, slice_get-last, slice_get-set_same, slice_get-set_other}
 use Rattle.version_core.specs.Actors.{nobody, actor}
 use Rattle.image_layout.specs.Image.{ImageValue}
 use Rattle.std.proofs.Common.{◌≡◌, ◌≢◌, ℕ, zero, suc, ◌+◌, ◌-◌, ◌*◌, ◌%◌, ◌<◌, ◌≤◌, ◌==◌, ◌⊎◌, Bool, true, false, List, [], ◌∷◌, ◌++◌, length, set, get_or, Option, Some, None, slice_get, refl, ap, sym, ◌∙◌, subst, arith, get_or-set_same, get_or-set_other, length-set, length-append, inl, inr}
@@ -19,7 +19,6 @@ use Rattle.version_core.specs.Steps.{IsFree, IsOpen, IsClosing, IsOutdated, MayO
 use Rattle.version_core.specs.Kept.{Kept, is_at}
 use Rattle.version_core.proofs.Keeps.{none_waits}
 use Rattle.version_core.proofs.Counts.{no_one_at}
-use Rattle.version_core.proofs.Lists.{slice_get-set_same, slice_get-set_other, slice_get-last}
 use Rattle.shelf_steps.specs.declared.edition.Edition.{Edition}
 use Rattle.shelf_steps.specs.declared.views.Known.{Known}
 use Rattle.shelf_steps.specs.declared.views.WorkerView.{WorkerView}
@@ -110,7 +109,7 @@ got_snoc [] a b (suc i) e = absurd (cc)
 got_snoc (x ∷ xs) a b zero e = inl e
 got_snoc (x ∷ xs) a b (suc i) e = elim (got_snoc xs a b i e) [ inl q ↦ inl q | inr q ↦ inr (ap (λ n. suc n) q.0, q.1) ]
 
-image_last : (images : List ImageValue) (x : ImageValue) (v : ℕ) → v ≡ suc (length images) → image_of (images ++ x ∷ []) v ≡ Some x
+pub image_last : (images : List ImageValue) (x : ImageValue) (v : ℕ) → v ≡ suc (length images) → image_of (images ++ x ∷ []) v ≡ Some x
 image_last images x v e = subst (λ n. image_of (images ++ x ∷ []) n ≡ Some x) (sym e) (slice_get-last images x)
 
 open_word : (n count version : ℕ) → n ≡ count → count ≤ 16 → version ≤ 1000000000 → (n + (256 + 65536 * version)) % 18446744073709551616 ≡ count + 256 + 65536 * version

@@ -1,4 +1,5 @@
 -- Each step of a worker keeps the rule, and is one event.
+use Rattle.reasoning.proofs.ListLemmas.{slice_get-set_same, slice_get-set_other}
 use Rattle.version_core.specs.Actors.{nobody, actor}
 use Rattle.image_layout.specs.Image.{ImageValue}
 use Rattle.std.proofs.Common.{◌≡◌, ◌≢◌, ℕ, zero, suc, ◌+◌, ◌-◌, ◌*◌, ◌/◌, ◌%◌, ◌<◌, ◌≤◌, Bool, true, false, MatchBool, List, [], ◌∷◌, length, set, get_or, Option, Some, None, slice_get, refl, ap, sym, ◌∙◌, subst, arith, get_or-set_same, get_or-set_other, le_refl, inl, inr}
@@ -14,7 +15,6 @@ use Rattle.version_core.specs.State.{State, looked, arrived, departed}
 use Rattle.version_core.specs.Steps.{IsIdle as IsIdleAt, HasLooked as HasLookedAt, StaysAt, IsOpen, Step}
 use Rattle.version_core.specs.Kept.{Kept, version_of, version_on}
 use Rattle.version_core.proofs.Keeps.{looked_fits, stays_fits, held_known}
-use Rattle.version_core.proofs.Lists.{slice_get-set_same, slice_get-set_other}
 use Rattle.shelf_steps.specs.declared.edition.Edition.{Edition}
 use Rattle.shelf_steps.specs.declared.views.Known.{Known}
 use Rattle.shelf_steps.specs.declared.views.WorkerView.{WorkerView}
