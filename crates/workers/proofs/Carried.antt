@@ -1,5 +1,5 @@
 -- Orders that are carried out one after the other.
-use Rattle.std.proofs.Common.{◌≡◌, ◌∙◌, ◌++◌, ◌∷◌, ℕ, List, [], refl, sym, subst, ap, absurd}
+use Rattle.std.proofs.Common.{◌≡◌, ◌∙◌, ◌++◌, ◌∷◌, ℕ, List, [], refl, sym, subst, ap}
 use Rattle.std.proofs.lemmas.List.{append_assoc, append-nil}
 use Rattle.epochs.specs.declared.seats.LoaderAnswer.{LoaderAnswer}
 use Rattle.feed_loader.specs.declared.plan.Plan.{Plan}
@@ -34,18 +34,10 @@ module _ {N D : Type 0} (noted : N → ℕ) (are_files : ℕ → D → Type 0) (
       → CarriesOut noted are_files holds is_plan places a b before after
   carries_also a m taken b order before between after so_far took told_same taken_same also =
       let more = ap (λ items. items ++ order ∷ []) so_far.2 ∙ append_assoc a.taken so_far.0 (order ∷ []) in
-      let told_more = ap (λ items. items ++ also.0 ∷ []) (told_same ∙ so_far.3) ∙ append_assoc a.told so_far.1 (also.0 ∷ []) in
-      (
+      let told_more = ap (λ items. items ++ also.0 ∷ []) (told_same ∙ so_far.3) ∙ append_assoc a.told so_far.1 (also.0 ∷ []) in (
         so_far.0 ++ order ∷ [],
         so_far.1 ++ also.0 ∷ [],
         taken_same ∙ took ∙ more,
         also.1 ∙ told_more,
         carried_also so_far.0 so_far.1 order also.0 before between after so_far.4 also.2,
       )
-
-  -- no order more came
-  pub carries_on : (a m b : LoaderOrdersValue N) (before after : List LoaderAnswer)
-      → CarriesOut noted are_files holds is_plan places a m before after → b.taken ≡ m.taken → b.told ≡ m.told
-      → CarriesOut noted are_files holds is_plan places a b before after
-  carries_on a m b before after so_far taken_same told_same =
-      (so_far.0, so_far.1, taken_same ∙ so_far.2, told_same ∙ so_far.3, so_far.4)

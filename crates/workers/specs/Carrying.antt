@@ -16,7 +16,7 @@ module _ {N D : Type 0} (noted : N → ℕ) (are_files : ℕ → D → Type 0) (
   abbrev pub IsLoadOf : ℕ → LoadAnswer N → List LoaderAnswer → List LoaderAnswer → Type 0
   IsLoadOf feed answer before after =
       ((files : D) × (plan : Plan) × (outcome : Result (ℕ × Option N) LoadRefusal) × are_files feed files × is_plan plan
-          × IsOutcome noted (holds files) plan before outcome after × (answer ≡ load_answer outcome))
+      × IsOutcome noted (holds files) plan before outcome after × (answer ≡ load_answer outcome))
       ⊎ ((places ≤ feed) × (after ≡ before) × (answer ≡ LoadAnswer.Refused (order_fault_number OrderFault.UnknownFeed)))
 
   -- an order is carried out: its own feed is loaded, and its own way back is told what came of that

@@ -39,7 +39,14 @@ pub(crate) fn load_all<R: Wait, N: Drop, T: Versions<Notice = N> + Loads, F: Fee
             break;
         };
         load_feed(
-            rt, alloc, order, &mut orders, shelves, &mut loader, feeds, &mut errors,
+            rt,
+            alloc,
+            order,
+            &mut orders,
+            shelves,
+            &mut loader,
+            feeds,
+            &mut errors,
         );
     }
     (orders, loader, errors)
@@ -61,7 +68,7 @@ fn load_feed<R: Wait, N: Drop, T: Versions<Notice = N> + Loads, F: Feeds, E: Wri
     ensures taken { orders.new.taken ≡ orders.old.taken }
     ensures told { (told : AnsweredValue N) × (orders.new.told ≡ orders.old.told ++ told ∷ [])
         × IsCarriedOut T.Versions.noted (F.are_files feeds.now) F.Files.holds (F.is_plan feeds.now) (length (F.named feeds.now))
-            order told (T.Loads.answers loader.old) (T.Loads.answers loader.new) }
+        order told (T.Loads.answers loader.old) (T.Loads.answers loader.new) }
 {
     let answer = load_place(rt, alloc, order.feed, shelves, loader, feeds, errors);
     orders.answer(rt, order, answer);
