@@ -1,6 +1,7 @@
 //! Orders of feeds.
 
 ghost use Rattle.std.specs.Prelude.{◌≡◌, ◌++◌, ◌⊎◌, List, []};
+ghost use Rattle.epochs.specs.Seats.{JoinStep};
 ghost use Rattle.orders.specs.Ordering.{OrderValue};
 ghost use Rattle.session.specs.Lines.{memory_line, text_of_reply};
 ghost use Rattle.session.specs.Turns.{AgreeOnNotices, IsLoaded, OrderIsMet};
@@ -48,7 +49,7 @@ pub(crate) fn load_feed<R: Wait, N: Drop, T: Versions<Notice = N>, O: Orders<Not
 {
     match orders.order_wait(rt, feed) {
         Ok((version, notice)) => {
-            shelves.join(rt, seat, notice);
+            take_notice(rt, shelves, seat, notice);
             match loaded_line(alloc, feed, version) {
                 Ok(line) => Reply::made(line),
                 Err(_) => Reply::refusal(Refusal::OutOfMemory),
@@ -56,4 +57,19 @@ pub(crate) fn load_feed<R: Wait, N: Drop, T: Versions<Notice = N>, O: Orders<Not
         }
         Err(refused) => Reply::order_fault(refused),
     }
+}
+
+// The seat learns of the notice's version.
+fn take_notice<R: Wait, N: Drop, T: Versions<Notice = N>>(
+    rt: &R,
+    shelves: &T,
+    seat: &mut T::Seat,
+    notice: N,
+)
+    requires { T.fits shelves.now seat.old }
+    ensures fits { T.fits shelves.now seat.new }
+    ensures number { T.number seat.new ≡ T.number seat.old }
+    ensures joined { JoinStep (T.value seat.old) (T.noted notice) (T.value seat.new) }
+{
+    shelves.join(rt, seat, notice);
 }

@@ -3,7 +3,6 @@
 ghost use Rattle.std.specs.Prelude.{◌≡◌, ◌⊎◌, None, IfOk, map, string_bytes};
 ghost use Rattle.std.specs.Arc.{arc_value};
 ghost use Rattle.timetable.specs.Queries.{IsAskable};
-ghost use Rattle.journeys.specs.Texts.{text_of};
 ghost use Rattle.session_texts.specs.Requests.{ask_value, profile};
 ghost use Rattle.session_texts.specs.Telling.{points_of};
 ghost use Rattle.session.specs.Lines.{asks, memory_line, text_of_reply};
@@ -14,13 +13,13 @@ use crate::reply::Reply;
 use criteria::{Arrival, ArrivalTrips, ArrivalTripsWalk, CriterionName, Told};
 use epochs::{Edition, Versions};
 use image_verifier::Verified;
-use journeys::{Departure, Window, answer_query, journey_text, plain_texts, query_of};
+use journeys::{Departure, Window, answer_query, journey_string, query_of};
 use orders::Gate;
 use session_texts::{Ask, Points, Refusal};
 use sources::InPlace;
 use std::alloc::{AllocError, Global};
 use std::sync::Wait;
-use timetable::{Journey, Query};
+use timetable::Query;
 
 /// Answers from the version that the seat holds, or else from the current one, which is given back.
 pub(crate) fn answer_profile<R: Wait, T: Versions, G: Gate>(
@@ -145,16 +144,4 @@ fn points_told<C: Told>(
         )?;
     }
     Ok(points)
-}
-
-// A journey's text.
-fn journey_string(alloc: Global, journey: &Journey) -> Result<String, AllocError>
-    ensures { IfOk result (λ text. string_bytes text ≡ text_of journey.now) }
-{
-    plain_texts();
-    let text = journey_text(alloc, journey)?;
-    match String::from_utf8(text) {
-        Ok(text) => Ok(text),
-        Err(_) => unreachable!(),
-    }
 }

@@ -20,6 +20,7 @@ enum Asked {
     Wait(&'static str),
     NoJson,
     NoRequest,
+    Long,
 }
 
 const KINDS: [Asked; 12] = [
@@ -91,6 +92,7 @@ impl Shown {
             Asked::Wait(feed) => self.load(feed, true, replies),
             Asked::NoJson => refuse(111, "BadJson", replies),
             Asked::NoRequest => refuse(112, "BadRequest", replies),
+            Asked::Long => refuse(113, "LineTooLong", replies),
         }
     }
 
@@ -164,7 +166,16 @@ fn ask(asked: Asked, requests: &mut String) -> Result<(), AllocError> {
         ),
         Asked::NoJson => requests.push_str("{\"do\":\"pi\n"),
         Asked::NoRequest => requests.push_str("{\"do\":\"pie\"}\n"),
+        Asked::Long => add_long(requests),
     }
+}
+
+// A line of one byte more than may be read.
+fn add_long(requests: &mut String) -> Result<(), AllocError> {
+    for _ in 0..65_537 {
+        requests.push('x')?;
+    }
+    requests.push('\n')
 }
 
 // A session: its requests, and the replies that the model tells.
@@ -291,6 +302,23 @@ fn lines_may_be_cut_anywhere(rt: HostRuntime) -> Result<(), Fail> {
     let bytes = script.requests.as_bytes();
     for place in 0..bytes.len() {
         let (front, back) = bytes.split_at(place);
+        let (ended, taker) = told(&rt, rt.alloc(), Halves { front, back })?;
+        assert!(&rt; ended == Ok(Ended));
+        assert!(&rt; taker.taken.as_slice() == script.replies.as_bytes());
+    }
+    Ok(())
+}
+
+/// A line that is too long may be cut, too: before it, in it, where it becomes too long, and around its end.
+#[test]
+fn a_long_line_may_be_cut(rt: HostRuntime) -> Result<(), Fail> {
+    let mut script = Script::new(rt.alloc())?;
+    for asked in [Asked::Pin, Asked::Long, Asked::Pin] {
+        script.add(asked)?;
+    }
+    let bytes = script.requests.as_bytes();
+    for place in [13, 14, 65_548, 65_549, 65_550, 65_551] {
+        let (front, back) = bytes.split_at(bytes.len().min(place));
         let (ended, taker) = told(&rt, rt.alloc(), Halves { front, back })?;
         assert!(&rt; ended == Ok(Ended));
         assert!(&rt; taker.taken.as_slice() == script.replies.as_bytes());

@@ -1,6 +1,6 @@
 //! Sessions as clients see them.
 
-ghost use Rattle.std.specs.Prelude.{◌≡◌};
+ghost use Rattle.std.specs.Prelude.{◌≡◌, IfOk, Ok};
 
 use crate::{Counted, Ended, FeedImage, OpenGate, SessionFault, SoloOrders, serve};
 use epochs::{Named, ShelfLoader, ShelfSeat, Shelves, SoloShelves};
@@ -284,16 +284,18 @@ fn any_reads_give_the_same_replies(rt: HostRuntime) -> Result<(), Fail> {
     Ok(())
 }
 
+/// A writer that takes so many bytes and then fails, or takes no more.
 #[test]
 fn a_writer_that_fails_ends_the_session(rt: HostRuntime) -> Result<(), Fail> {
     let bytes = requests(rt.alloc())?;
-    for room in 0..REPLIES.len() {
+    for number in 0..2 * REPLIES.len() {
+        let room = number / 2;
         let reader = Pieces {
             rest: &bytes,
             most: 100_000,
             is_failing: false,
         };
-        let (ended, written) = served(&rt, rt.alloc(), reader, room, room % 2 == 1)?;
+        let (ended, written) = served(&rt, rt.alloc(), reader, room, number % 2 == 1)?;
         assert!(&rt; ended == Err(SessionFault::WriteFailed));
         assert!(&rt; REPLIES.as_bytes().starts_with(&written));
         assert_eq!(&rt; written.len(), room);
@@ -392,14 +394,15 @@ fn a_load_is_waited_for(rt: HostRuntime) -> Result<(), Fail> {
     Ok(())
 }
 
-// Orders of which each that is waited for is overtaken by two others before it is answered.
+// Orders of which each that is waited for is overtaken by two others before it is answered; its version may be kept back behind a fault.
 #[derive(Drop)]
 struct Overtaken<O> {
     orders: O,
+    fault: Option<OrderFault>,
     asked: Trace<Ordered>,
 }
 
-impl<N, O: Orders<Notice = N>> Orders for Overtaken<O> {
+impl<N: Drop, O: Orders<Notice = N>> Orders for Overtaken<O> {
     type Notice = N;
 
     ghost asked = { λ orders. orders.asked };
@@ -416,8 +419,22 @@ impl<N, O: Orders<Notice = N>> Orders for Overtaken<O> {
         let told = self.orders.order_wait(rt, feed);
         let _ = self.orders.order(rt, feed);
         let _ = self.orders.order(rt, feed);
+        let told = kept_back(told, self.fault);
         self.asked.note(&Ordered::waited(feed, &told));
         told
+    }
+}
+
+// What is told, or this fault.
+fn kept_back<N: Drop>(
+    told: Result<(u64, N), OrderFault>,
+    fault: Option<OrderFault>,
+) -> Result<(u64, N), OrderFault>
+    ensures { IfOk result (λ r. told ≡ Ok r) }
+{
+    match fault {
+        Some(fault) => Err(fault),
+        None => told,
     }
 }
 
@@ -428,6 +445,7 @@ fn overtaken_at<B: Named, R: Wait>(
     loader: ShelfLoader,
     seat: ShelfSeat,
     feeds: Vec<FeedImage>,
+    fault: Option<OrderFault>,
     requests: &[u8],
 ) -> Taker
     requires { (shelves ≡ B.table) × (loader.table ≡ B.table) × (seat.table ≡ B.table) }
@@ -435,6 +453,7 @@ fn overtaken_at<B: Named, R: Wait>(
     let (shelves, loader, mut seat) = SoloShelves::<B>::of(shelves, loader, seat);
     let mut orders = Overtaken {
         orders: SoloOrders::new(&shelves, loader, feeds),
+        fault,
         asked: Trace::new(),
     };
     let mut reader = Counted::new(requests);
@@ -452,12 +471,15 @@ fn overtaken_at<B: Named, R: Wait>(
     writer.into_inner()
 }
 
-/// A notice that two versions overtook is told all the same, and the newest version is pinned.
-#[test]
-fn an_overtaken_notice_is_joined(rt: HostRuntime) -> Result<(), Fail> {
-    let alloc: Global = rt.alloc();
+// Waits for a load of the feed, of which there are so many, and pins: what is replied.
+fn waited_and_pinned<R: Wait>(
+    rt: &R,
+    alloc: Global,
+    count: usize,
+    fault: Option<OrderFault>,
+) -> Result<Vec<u8>, Fail> {
     let mut feeds = Vec::new(alloc);
-    for _ in 0..3 {
+    for _ in 0..count {
         feeds.push(feed_of(alloc, "slow", image(alloc, 121)?)?)?;
     }
     let mut bytes = Vec::new(alloc);
@@ -469,10 +491,51 @@ fn an_overtaken_notice_is_joined(rt: HostRuntime) -> Result<(), Fail> {
     let Some(seat) = seats.pop() else {
         return Err("a seat".into());
     };
-    let taker = overtaken_at::<Brand, _>(&rt, alloc, shelves, loader, seat, feeds, &bytes);
+    let taker = overtaken_at::<Brand, _>(rt, alloc, shelves, loader, seat, feeds, fault, &bytes);
+    Ok(taker.taken)
+}
+
+/// A notice that two versions overtook is told all the same, and the newest version is pinned.
+#[test]
+fn an_overtaken_notice_is_joined(rt: HostRuntime) -> Result<(), Fail> {
+    let replies = waited_and_pinned(&rt, rt.alloc(), 3, None)?;
     assert_eq!(&rt;
-        str::from_utf8(&taker.taken).unwrap_or("?"),
+        str::from_utf8(&replies).unwrap_or("?"),
         "{\"feed\":\"slow\",\"ok\":\"load\",\"version\":2}\n{\"base\":1705276800,\"ok\":\"pin\",\"version\":4}\n"
     );
+    Ok(())
+}
+
+/// Why no version is told, each with its line. A version may have been published all the same, and is pinned then.
+#[test]
+fn faults_are_told_to_who_waits(rt: HostRuntime) -> Result<(), Fail> {
+    let faults = [
+        (
+            OrderFault::LoaderGone,
+            "{\"error\":121,\"name\":\"LoaderGone\"}",
+        ),
+        (
+            OrderFault::OutOfMemory,
+            "{\"error\":116,\"name\":\"OutOfMemory\"}",
+        ),
+        (
+            OrderFault::LoadRefused { refusal: 94 },
+            "{\"error\":120,\"name\":\"LoadRefused\",\"refusal\":94}",
+        ),
+        (
+            OrderFault::LoadRefused { refusal: 95 },
+            "{\"error\":120,\"name\":\"LoadRefused\",\"refusal\":95}",
+        ),
+        (
+            OrderFault::LoadRefused { refusal: 96 },
+            "{\"error\":120,\"name\":\"LoadRefused\",\"refusal\":96}",
+        ),
+    ];
+    for (fault, line) in faults {
+        let replies = waited_and_pinned(&rt, rt.alloc(), 1, Some(fault))?;
+        let told = str::from_utf8(&replies).unwrap_or("?");
+        assert!(&rt; told.starts_with(line));
+        assert!(&rt; told.ends_with("}\n{\"base\":1705276800,\"ok\":\"pin\",\"version\":2}\n"));
+    }
     Ok(())
 }
