@@ -1,6 +1,6 @@
 use Rattle.std.proofs.Common.{sym, ◌∙◌, ap}
 use Rattle.std.proofs.lemmas.Option.{slice_get-map, slice_get-get_or}
-use Rattle.std.specs.Prelude.{Option, option_map, Some}
+use Rattle.std.specs.Prelude.{option_map, Some}
 use Rattle.profile_scan.proofs.LabelLemmas.{as_point}
 use Rattle.profile_scan.proofs.board.label_at.Goals as goal
 

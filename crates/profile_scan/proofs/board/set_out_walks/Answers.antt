@@ -5,7 +5,6 @@ use Rattle.profile_scan.specs.Matching.{from_to}
 use Rattle.profile_scan.specs.Story.{story, told}
 use Rattle.profile_scan.specs.Steps.{TakesIn}
 use Rattle.profile_scan.specs.Adding.{label_points, each_of, IsTried, settings_out_by}
-use Rattle.profile_scan.proofs.Offers.{bag_under}
 use Rattle.profile_scan.proofs.StoryLemmas.{grows_on, set_outs_grow}
 use Rattle.profile_scan.proofs.BoardLemmas.{starts_first, starts_next}
 use Rattle.profile_scan.proofs.board.set_out_walks.Goals as goal

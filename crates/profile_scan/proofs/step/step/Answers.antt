@@ -1,4 +1,4 @@
-use Rattle.std.proofs.Common.{◌≡◌, ◌<◌, ◌+◌, ◌∙◌, ℕ, List, Contains, slice_index, arith, ap, sym, subst}
+use Rattle.std.proofs.Common.{◌<◌, ◌+◌, ◌∙◌, ℕ, List, Contains, slice_index, arith, ap, sym, subst}
 use Rattle.criteria.specs.Laws.{Admits}
 use Rattle.timetable.specs.declared.network.Connection.{Connection}
 use Rattle.timetable.specs.Journeys.{connection_at}
@@ -156,3 +156,6 @@ returns-clause-step g c =
           (taken.4 stop mid now (grows_none mid) (grows_none now)));
       sets_out = subst (λ (x : Connection). TakesIn rules (settings_out rules t q second i (new x.trip)) old_found new_found) at sets_out;
     }
+
+pub renew-requires-clause-values : goal.renew-requires-clause-values
+renew-requires-clause-values g c = c.requires.bound.admitted
