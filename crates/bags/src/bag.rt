@@ -18,7 +18,7 @@ pub struct Bag<C: Criterion> {
     // by falling departure, and of equal departures by the criterion's order
     entries: Vec<Entry<C::V>>,
     pub ghost kept: { IsBag (C.rules criterion) (points_in entries.items) },
-    ghost listed: { AreListed (C.rules criterion) (points_in entries.items) },
+    pub ghost listed: { AreListed (C.rules criterion) (points_in entries.items) },
     ghost linked: { AreLinked (C.rules criterion) entries.items (length entries.items) },
 }
 

@@ -1,5 +1,5 @@
 -- An insertion as a whole.
-use Rattle.std.proofs.Common.{◌≡◌, ◌⊎◌, ℕ, ◌<◌, ◌≤◌, List, [], ◌∷◌, length, get_or, Contains, inl, inr, sym, ap, subst, arith}
+use Rattle.std.proofs.Common.{◌≡◌, ◌⊎◌, ℕ, ◌<◌, ◌≤◌, List, [], ◌∷◌, length, get_or, Contains, inl, inr, sym, subst, arith}
 use Rattle.std.proofs.lemmas.List.Elements.{Contains-append_cases, Contains-push_cases}
 use Rattle.reasoning.proofs.ListLemmas.{not_in_nil}
 use Rattle.criteria.specs.Laws.{Rules, Laws, Admits, IsSecs}
@@ -12,7 +12,7 @@ use Rattle.fronts.specs.Entries.{AreEntries}
 use Rattle.fronts.specs.Putting.{IsLate, IsPath, DepartBefore, CoversAll, MayPut, IsUnion}
 use Rattle.fronts.specs.Walking.{AreBoardings, AllWalked, TakesBoardings}
 use Rattle.fronts.proofs.Growth.{extends_long, same_points, same_departure, same_next}
-use Rattle.fronts.proofs.Points.{of_front, points_admitted}
+use Rattle.fronts.proofs.Points.{of_front}
 
 path_within : {V : Type 0} (entries : List (Entry V)) (head : ℕ) (bs : List ℕ) (m b : ℕ) → IsPath entries head bs m → Contains bs b → b < length entries
 path_within entries head [] m b path h = absurd (not_in_nil b h)

@@ -1,9 +1,9 @@
 -- Two lists joined.
-use Rattle.std.proofs.Common.{◌≡◌, ◌⊎◌, ℕ, ◌<◌, ◌≤◌, true, false, not, List, length, Contains, inl, inr, sym, ◌∙◌, ap, subst, arith}
+use Rattle.std.proofs.Common.{◌≡◌, ◌⊎◌, ℕ, ◌<◌, true, false, not, List, length, Contains, inl, inr, sym, ◌∙◌, ap, subst, arith}
 use Rattle.std.proofs.lemmas.Bool.{cases_Bool, true≢false, not-true}
 use Rattle.std.proofs.lemmas.List.Folds.{list_any-from_Any}
 use Rattle.reasoning.proofs.ListLemmas.{from_filter, into_filter}
-use Rattle.criteria.specs.Laws.{Rules, Laws, Admits, NoWorse}
+use Rattle.criteria.specs.Laws.{Rules, Laws, Admits}
 use Rattle.fronts.specs.declared.entry.Item.{Item}
 use Rattle.fronts.specs.declared.entry.Entry.{Entry}
 use Rattle.fronts.specs.Front.{front, next_of, departure_of, points_from, Betters, Covers, Extends}

@@ -8,3 +8,4 @@ pub mod Joining
 pub mod Walks
 pub mod Inserted
 pub mod Mapped
+pub mod Runs

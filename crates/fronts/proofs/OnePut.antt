@@ -4,7 +4,7 @@ use Rattle.std.proofs.lemmas.Bool.{cases_Bool}
 use Rattle.std.proofs.lemmas.List.{length_push, drop_at, take_all}
 use Rattle.std.proofs.lemmas.List.Elements.{Contains-append_left, Contains-append_right, Contains-append_cases}
 use Rattle.reasoning.proofs.ListLemmas.{from_filter, into_filter, one_passes, slice_get-middle}
-use Rattle.criteria.specs.Laws.{Rules, Laws, Admits, NoWorse}
+use Rattle.criteria.specs.Laws.{Rules, Laws, Admits}
 use Rattle.fronts.specs.declared.entry.Item.{Item}
 use Rattle.fronts.specs.declared.entry.Entry.{Entry}
 use Rattle.fronts.specs.Front.{own, front, next_in, next_of, departure_in, departure_of, points_from, Betters, Extends}

@@ -1,6 +1,6 @@
 -- Ridden values kept after a footpath, and what an insertion makes of a list.
 use Rattle.std.specs.Prelude.{◌≡◌, ◌⊎◌, ℕ, ◌<◌, List, [], ◌∷◌, ◌++◌, Contains, slice_get, slice_index_or, Some, length}
-use Rattle.criteria.specs.Laws.{Rules, Admits}
+use Rattle.criteria.specs.Laws.{Rules}
 use Rattle.fronts.specs.declared.entry.Item.{Item}
 use Rattle.fronts.specs.declared.entry.Ridden.{Ridden}
 use Rattle.fronts.specs.declared.entry.Step.{Step}

@@ -7,11 +7,13 @@ pub mod entry;
 pub mod front_lists;
 mod insertion;
 mod keeping;
+pub mod labels;
 mod putting;
 mod search;
 
 pub use entry::{Entry, Item, Ridden, Step};
 pub use front_lists::FrontLists;
+pub use labels::{Label, Labels, offer_label};
 
 #[cfg(test)]
 mod tests;

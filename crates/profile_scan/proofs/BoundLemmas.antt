@@ -1,17 +1,21 @@
 -- What a bound leaves of points, and that the rest is outdone.
-use Rattle.std.proofs.Common.{◌≡◌, ◌⊎◌, ℕ, ◌+◌, ◌<◌, ◌≤◌, Bool, true, false, not, List, [], Contains, length, inl, inr, sym, ◌∙◌, ap, subst, arith}
+use Rattle.std.proofs.Common.{◌≡◌, ◌⊎◌, ℕ, ◌+◌, ◌<◌, ◌≤◌, Bool, true, false, not, List, [], ◌∷◌, ◌++◌, filter, Contains, slice_get, slice_index_or, Some, length, inl, inr, sym, ◌∙◌, ap, subst, arith}
 use Rattle.std.specs.List.{list_any}
-use Rattle.std.proofs.lemmas.Bool.{cases_Bool, true≢false, not-true, not_from_false}
+use Rattle.std.proofs.lemmas.Bool.{cases_Bool, cases_lt, true≢false, not-true, not_from_false}
+use Rattle.std.proofs.lemmas.Option.{same_Some, slice_get-get_or, slice_get_within}
+use Rattle.std.proofs.lemmas.List.Elements.{Contains-append_left, Contains-push, Contains-push_cases}
 use Rattle.std.proofs.lemmas.List.Folds.{list_any_at}
 use Rattle.reasoning.proofs.ListLemmas.{from_filter, into_filter, one_passes}
 use Rattle.criteria.specs.Laws.{Rules, Laws, Admits, NoWorse, RidingWorsens}
 use Rattle.bags.specs.declared.point.Point.{Point}
+use Rattle.bags.specs.Arrangement.{AreListed}
+use Rattle.bags.proofs.Order.{before_falls}
 use Rattle.timetable.specs.TimetableValue.{TimetableValue}
 use Rattle.timetable.specs.Legal.{IsLegal}
 use Rattle.timetable.specs.Journeys.{connection_at}
-use Rattle.timetable.proofs.LegalFacts.{departures_rise}
+use Rattle.timetable.proofs.LegalFacts.{departures_rise, Contains-At}
 use Rattle.profile_scan.specs.Steps.{AreCarried}
-use Rattle.profile_scan.specs.Bound.{is_bettered, carried, AreBounds, IsLateValue}
+use Rattle.profile_scan.specs.Bound.{is_bettered, carried, AreBounds, IsLateValue, TakesPoints, TakesValue}
 use Rattle.profile_scan.proofs.Admitted.{AreAdmitted}
 use Rattle.profile_scan.proofs.Outdone.{KeepsCovers, outdone_worse, outdone_on}
 
@@ -83,18 +87,89 @@ bounds_renewed {V} rules laws t legal found found_admitted i time in_i is_time o
   ];
 }
 
--- values of late points, one of them taken
-pub late_none : {V : Type 0} (rules : Rules V) (found : List (Point V)) (time : ℕ) (values : List V) → values ≡ [] → (b : V) → Contains values b → IsLateValue rules found time b
-late_none {V} rules found time values e b h = let none = subst (λ (xs : List V). Contains xs b) e h in absurd (omega (arith, none.1))
+-- values that are taken
+module _ {V : Type 0} (rules : Rules V) where
+  some_bettered : (values : List V) (b v : V) → Contains values b → NoWorse rules b v → is_bettered rules values v ≡ true
+  some_bettered values b v is h = list_any_at (λ c. rules.no_worse c v) values is.0 b is.1 (ap (λ c. rules.no_worse c v) is.2 ∙ h)
 
-pub late_more : {V : Type 0} (rules : Rules V) → RidingWorsens rules → (found : List (Point V)) (time : ℕ) (p : Point V) → Contains found p → (old new : List V) → ((b : V) → Contains old b → IsLateValue rules found time b) → ((b : V) → Contains new b → Contains old b ⊎ ((time ≤ p.departure) × (p.value ≡ b))) → (b : V) → Contains new b → IsLateValue rules found time b
-late_more rules worsens found time p in_found old new were taken b h = elim (taken b h) [
-  | inl was ↦ were b was
-  | inr (late, worth) ↦ record { worsens = worsens; of = p; is_found = in_found; late = late; worth = worth }
+  pub value_stays : (value : V) (values : List V) → is_bettered rules values value ≡ true → TakesValue rules value values values
+  value_stays value values bettered = record { only = λ b h. inl h; kept = λ v a h. h; taken = bettered }
+
+  pub value_comes : (laws : Laws rules) (value : V) (old new : List V) → ((b : V) → Contains old b → Admits rules b) → Admits rules value → new ≡ filter (λ b. not (rules.no_worse value b)) old ++ value ∷ [] → TakesValue rules value old new
+  value_comes laws value old new admitted fits e =
+      let stay = filter (λ b. not (rules.no_worse value b)) old in
+      let into_new : (b : V) → Contains (stay ++ value ∷ []) b → Contains new b = λ b h. subst (λ (xs : List V). Contains xs b) (sym e) h in
+      record {
+        only = λ b h. elim (Contains-push_cases stay value b (subst (λ (xs : List V). Contains xs b) e h)) [
+          | inl was ↦ inl (from_filter (λ c. not (rules.no_worse value c)) old b was).0
+          | inr is ↦ inr is
+        ];
+        kept = λ v a h.
+            let by = some_betters rules old v h in
+            elim (cases_Bool (rules.no_worse value by.0)) [
+              | inl better ↦ some_bettered new value v (into_new value (Contains-push stay value)) (laws.transitive value by.0 v fits (admitted by.0 by.1) a better by.2)
+              | inr free ↦ some_bettered new by.0 v (into_new by.0 (Contains-append_left stay (value ∷ []) by.0 (into_filter (λ c. not (rules.no_worse value c)) old by.0 by.1 (not_from_false (rules.no_worse value by.0) free)))) by.2
+            ];
+        taken = some_bettered new value value (into_new value (Contains-push stay value)) (laws.reflexive value fits);
+      }
+
+  pub points_none : (points : List (Point V)) (from : ℕ) (values : List V) → TakesPoints rules points from from values values
+  points_none points from values = record {
+    only = λ b h. inl h;
+    kept = λ v a h. h;
+    each = λ k p low high at. absurd (omega arith);
+  }
+
+  pub points_more : (points : List (Point V)) (from place : ℕ) (p : Point V) (old mid new : List V) → AreAdmitted rules points → slice_get points place ≡ Some p → from ≤ place → TakesPoints rules points from place old mid → TakesValue rules p.value mid new → TakesPoints rules points from (place + 1) old new
+  points_more points from place p old mid new admitted at low before one = record {
+    only = λ b h. elim (one.only b h) [
+      | inl was ↦ elim (before.only b was) [
+        | inl first ↦ inl first
+        | inr (k, q, lower, higher, there, worth) ↦ inr (k, q, lower, omega arith, there, worth)
+      ]
+      | inr is ↦ inr (place, p, low, omega arith, at, is)
+    ];
+    kept = λ v a h. one.kept v a (before.kept v a h);
+    each = λ k q lower higher there. elim (cases_lt k place) [
+      | inl lt ↦ one.kept q.value (admitted q (Contains-At points k q there)) (before.each k q lower lt there)
+      | inr ge ↦
+          let same : k ≡ place = omega arith in
+          let is : p ≡ q = same_Some p q (sym at ∙ ap (λ (n : ℕ). slice_get points n) (sym same) ∙ there) in
+          subst (λ (x : Point V). is_bettered rules new x.value ≡ true) is one.taken
+    ];
+  }
+
+  -- those that are late enough
+  pub late_taken : RidingWorsens rules → (points : List (Point V)) (from until time : ℕ) (old new : List V) → ((k : ℕ) (p : Point V) → from ≤ k → k < until → slice_get points k ≡ Some p → time ≤ p.departure) → TakesPoints rules points from until old new → (b : V) → Contains new b → Contains old b ⊎ IsLateValue rules points time b
+  late_taken worsens points from until time old new late takes b h = elim (takes.only b h) [
+    | inl was ↦ inl was
+    | inr (k, p, low, high, at, worth) ↦ inr (record { worsens = worsens; of = p; is_found = Contains-At points k p at; late = late k p low high at; worth = worth })
+  ]
+
+  pub late_each : (points : List (Point V)) (from until time : ℕ) (old new : List V) → ((k : ℕ) (p : Point V) → until ≤ k → slice_get points k ≡ Some p → p.departure < time) → TakesPoints rules points from until old new → (k : ℕ) (p : Point V) → from ≤ k → slice_get points k ≡ Some p → time ≤ p.departure → is_bettered rules new p.value ≡ true
+  late_each points from until time old new rest takes k p low at late = elim (cases_lt k until) [
+    | inl lt ↦ takes.each k p low lt at
+    | inr ge ↦ (let early = rest k p (omega arith) at in absurd (omega arith))
+  ]
+
+-- a bag's points stand by falling departure
+pub falls : {V : Type 0} (rules : Rules V) (points : List (Point V)) → AreListed rules points → (i j : ℕ) (p q : Point V) → i ≤ j → slice_get points i ≡ Some p → slice_get points j ≡ Some q → q.departure ≤ p.departure
+falls rules points listed i j p q le at_i at_j = elim (cases_lt i j) [
+  | inl lt ↦
+      let within = slice_get_within points j q at_j in
+      let p_is : slice_index_or points i p ≡ p = same_Some (slice_index_or points i p) p (sym (slice_get-get_or points i p (omega arith)) ∙ at_i) in
+      let q_is : slice_index_or points j p ≡ q = same_Some (slice_index_or points j p) q (sym (slice_get-get_or points j p within) ∙ at_j) in
+      let falling = before_falls rules (slice_index_or points i p) (slice_index_or points j p) (listed i j p lt within) in
+      subst (λ (x : Point _). x.departure ≤ p.departure) q_is (subst (λ (x : Point _). (slice_index_or points j p).departure ≤ x.departure) p_is falling)
+  | inr ge ↦
+      let same : i ≡ j = omega arith in
+      let is : p ≡ q = same_Some p q (sym at_i ∙ ap (λ (n : ℕ). slice_get points n) same ∙ at_j) in
+      subst (λ (x : Point _). x.departure ≤ p.departure) is (omega arith)
 ]
 
-pub late_admitted : {V : Type 0} (rules : Rules V) (found : List (Point V)) → AreAdmitted rules found → (time : ℕ) (b : V) → IsLateValue rules found time b → Admits rules b
-late_admitted rules found admitted time b late = subst (Admits rules) late.worth (admitted late.of late.is_found)
+-- where a point departs before a time, so do all from it on
+pub rest_early : {V : Type 0} (rules : Rules V) (points : List (Point V)) → AreListed rules points → (place time : ℕ) (x : Point V) → slice_get points place ≡ Some x → x.departure < time → (k : ℕ) (p : Point V) → place ≤ k → slice_get points k ≡ Some p → p.departure < time
+rest_early rules points listed place time x at early k p le there = let falling = falls rules points listed place k x p le at there in omega arith
 
 pub no_bounds : {V : Type 0} (rules : Rules V) (t : TimetableValue) (found : List (Point V)) (n : ℕ) (values : List V) → values ≡ [] → AreBounds rules t found n values
 no_bounds {V} rules t found n values e = subst (AreBounds rules t found n) (sym e) (record {

@@ -4,7 +4,7 @@ pub mod StoryLemmas
 pub mod BoundLemmas
 pub mod ChangeLemmas
 pub mod EndLemmas
-pub mod KeptLemmas
+pub mod LabelLemmas
 pub mod StopLemmas
 pub mod RideLemmas
 pub mod TellingLemmas

@@ -1,8 +1,6 @@
--- What the vectors keep after a connection is a step from what they kept before.
-use Rattle.std.proofs.Common.{◌≡◌, ◌≢◌, ℕ, ◌+◌, ◌<◌, List, [], length, Contains, Option, None, get_or, set, slice_index, refl, sym, ◌∙◌, ap, subst, arith}
+-- What is kept alike matches alike, and where nothing is offered all stays.
+use Rattle.std.proofs.Common.{◌≡◌, ◌≢◌, ℕ, List, [], length, Contains, Option, None, refl, sym, ap, subst, arith}
 use Rattle.criteria.specs.Laws.{Rules}
-use Rattle.bags.specs.Bag.{points_of}
-use Rattle.bags.specs.declared.bag.Bag.{Bag}
 use Rattle.bags.specs.declared.point.Point.{Point}
 use Rattle.timetable.specs.declared.network.Connection.{Connection}
 use Rattle.timetable.specs.TimetableValue.{TimetableValue}
@@ -11,43 +9,12 @@ use Rattle.timetable.specs.declared.query.Query.{Query}
 use Rattle.profile_scan.specs.Values.{journey_value}
 use Rattle.profile_scan.specs.Continuations.{IsOnward, CountsFrom, onward_value, aboard_value}
 use Rattle.profile_scan.specs.Plain.{IsPlainOnward, IsPlainAboard, IsPlain}
-use Rattle.profile_scan.specs.Matching.{Spelling, Spellings, Keeps, from_to, ScanValue, Matches, MatchesBut, MatchesFrom, IsLabelled, IsOutdone}
-use Rattle.profile_scan.specs.Steps.{TakesIn, Leaving, ends, ends_after, changes, MayLeave, leavings, boardings, settings_out, AreCarried, IsIdle, IsStep}
-use Rattle.profile_scan.specs.Kept.{labels_at, ArePlaced, IsWay}
+use Rattle.profile_scan.specs.Matching.{Spelling, from_to, ScanValue, Matches, MatchesBut, MatchesFrom, IsLabelled, IsOutdone}
+use Rattle.profile_scan.specs.Steps.{Leaving, ends, ends_after, changes, MayLeave, leavings, boardings, settings_out, IsIdle, IsStep}
+use Rattle.profile_scan.specs.Kept.{IsWay}
 use Rattle.profile_scan.proofs.Offers.{takes_none}
 use Rattle.profile_scan.proofs.Outdone.{all_carried}
 use Rattle.profile_scan.proofs.StepLemmas.{keeps_none}
-use Rattle.profile_scan.proofs.KeptLemmas.{labels_read, labels_set, labels_set_other}
-
-module _ {V : Type 0} (rules : Rules V) (t : TimetableValue) (q : Query) (tags : Spellings) (i : ℕ) where
-  pub step_holds : {K : Type 0} {c : _} (bag new_bag : ℕ → List (Point V)) (slots mid_slots : List ℕ) (bags mid_bags : List (Bag K V c)) (found new_found : List (Point V)) (old new : Bag K V c) (place : ℕ) (changing boarding : List (Point V)) (between : Spelling) → Keeps tags.earlier between → Keeps between tags.later
-      → ((k : ℕ) → labels_at mid_slots mid_bags k ≡ labels_at slots bags k) → ArePlaced mid_slots (length mid_bags) → slice_index mid_slots (connection_at t i).trip ≡ place + 1 → old ≡ get_or mid_bags place old
-      → AreCarried rules t found i (bag (connection_at t i).to) changing → AreCarried rules t new_found i (points_of new) boarding
-      → TakesIn rules (leavings rules t q (from_to tags.earlier between) i changing) (points_of old) (points_of new)
-      → ((stop : ℕ) → TakesIn rules (boardings rules t (from_to between tags.later) i stop boarding) (bag stop) (new_bag stop))
-      → TakesIn rules (settings_out rules t q (from_to between tags.later) i (points_of new)) found new_found
-      → IsStep rules t q tags i (record { bag = bag; labels = labels_at slots bags; found = found }) (record { bag = new_bag; labels = labels_at mid_slots (set mid_bags place new); found = new_found })
-  step_holds bag new_bag slots mid_slots bags mid_bags found new_found old new place changing boarding between kept_first kept_then same placed slot read changing_are boarding_are leaves boards sets_out =
-      let trip = (connection_at t i).trip in
-      let in_slots = placed.within trip in
-      let within : place < length mid_bags = omega arith in
-      let old_is : points_of old ≡ labels_at slots bags trip = ap points_of read ∙ sym (labels_read mid_slots mid_bags trip place old slot within) ∙ same trip in
-      let new_is : points_of new ≡ labels_at mid_slots (set mid_bags place new) trip = sym (labels_set mid_slots mid_bags trip place new slot within) in
-      record {
-        between = between;
-        kept_first = kept_first;
-        kept_then = kept_then;
-        changing = changing;
-        changing_are = changing_are;
-        boarding = boarding;
-        boarding_are = subst (λ (points : List (Point V)). AreCarried rules t new_found i points boarding) new_is boarding_are;
-        leaves =
-            subst (λ (points : List (Point V)). TakesIn rules (leavings rules t q (from_to tags.earlier between) i changing) points (labels_at mid_slots (set mid_bags place new) trip)) old_is
-            (subst (λ (points : List (Point V)). TakesIn rules (leavings rules t q (from_to tags.earlier between) i changing) (points_of old) points) new_is leaves);
-        other_trips = λ k other. labels_set_other mid_slots mid_bags trip k place new placed slot other ∙ same k;
-        boards = λ stop lt. boards stop;
-        sets_out = subst (λ (points : List (Point V)). TakesIn rules (settings_out rules t q (from_to between tags.later) i points) found new_found) new_is sets_out;
-      }
 
 -- what is kept alike matches alike
 module _ {V : Type 0} (rules : Rules V) (t : TimetableValue) (q : Query) (tags : Spelling) (i : ℕ) where

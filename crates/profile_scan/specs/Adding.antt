@@ -1,5 +1,5 @@
 -- Offers put together from smaller ones, and taken in under nodes to which further ones may come.
-use Rattle.std.specs.Prelude.{◌≡◌, ◌≢◌, ◌⊎◌, ℕ, ◌+◌, ◌-◌, ◌<◌, ◌≤◌, List, [], ◌∷◌, Contains, slice_get, Option, Some, None}
+use Rattle.std.specs.Prelude.{◌≡◌, ◌≢◌, ◌⊎◌, ℕ, ◌+◌, ◌-◌, ◌<◌, ◌≤◌, List, [], ◌∷◌, length, map, Contains, slice_get, Option, Some, None}
 use Rattle.std.proofs.Common.{inl, inr}
 use Rattle.criteria.specs.Laws.{Rules}
 use Rattle.bags.specs.declared.point.Point.{Point}
@@ -15,6 +15,9 @@ use Rattle.profile_scan.specs.Nodes.{walk_of}
 use Rattle.profile_scan.specs.Story.{Story, Grows, told}
 use Rattle.profile_scan.specs.declared.story.SetOut.{SetOut}
 use Rattle.fronts.specs.declared.entry.Ridden.{Ridden}
+use Rattle.fronts.specs.declared.labels.Label.{Label}
+use Rattle.fronts.specs.declared.labels.Labels.{Labels}
+use Rattle.fronts.specs.Labels.{AreLabels, labels_at, runs_of}
 
 -- one way, which is open
 abbrev pub one_way : {V : Type 0} → ℕ → V → (ℕ → Type 0) → Offer (Unit {0}) V
@@ -32,6 +35,20 @@ each_of There offer = record {
   value = λ way. (offer way.0).value way.1;
   fits_tag = λ way. (offer way.0).fits_tag way.1;
 }
+
+-- labels as points: who sits in a trip has departed
+abbrev pub label_points : {V : Type 0} → List (Label V) → List (Point V)
+label_points labels = map (λ label. record { departure = 0; value = label.value; tag = label.tag }) labels
+
+-- the labels of a trip as points
+abbrev pub trip_points : {V : Type 0} → Labels V → ℕ → List (Point V)
+trip_points labels trip = label_points (labels_at labels trip)
+
+-- no labels but those of one trip are others
+pub record IsRelabelled {V : Type 0} (rules : Rules V) (trip : ℕ) (old new : Labels V) : Type 0 where
+  pub labels : AreLabels rules new
+  pub long : length (runs_of new) ≡ length (runs_of old)
+  pub same : (k : ℕ) → (k ≡ trip → ⊥) → labels_at new k ≡ labels_at old k
 
 -- a list takes an offer in while a story is written on: whichever beginning of it one asks, and whatever is still to come
 abbrev pub Takes : {A V : Type 0} → Rules V → List Footpath → Story → Story → (Spellings → Offer A V) → List (Point V) → List (Point V) → Type 0

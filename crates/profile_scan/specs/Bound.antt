@@ -1,5 +1,5 @@
 -- What a scan leaves out by a bound: values of points found, none of which departs earlier than the connections that are still to come.
-use Rattle.std.specs.Prelude.{◌≡◌, ◌⊎◌, ℕ, ◌≤◌, Bool, false, not, List, filter, Contains}
+use Rattle.std.specs.Prelude.{◌≡◌, ◌⊎◌, ℕ, ◌<◌, ◌≤◌, Bool, true, false, not, List, filter, Contains, slice_get, Some}
 use Rattle.std.specs.List.{list_any}
 use Rattle.criteria.specs.Laws.{Rules, Admits, RidingWorsens}
 use Rattle.bags.specs.declared.point.Point.{Point}
@@ -27,6 +27,18 @@ pub record IsLateValue {V : Type 0} (rules : Rules V) (found : List (Point V)) (
   pub is_found : Contains found of
   pub late : time ≤ of.departure
   pub worth : of.value ≡ b
+
+-- a value comes among others: there is no further one, what they better stays bettered, and it is bettered too
+pub record TakesValue {V : Type 0} (rules : Rules V) (value : V) (old new : List V) : Type 0 where
+  pub only : (b : V) → Contains new b → Contains old b ⊎ (value ≡ b)
+  pub kept : (v : V) → Admits rules v → is_bettered rules old v ≡ true → is_bettered rules new v ≡ true
+  pub taken : is_bettered rules new value ≡ true
+
+-- the same of the values of the points from one place up to before another
+pub record TakesPoints {V : Type 0} (rules : Rules V) (points : List (Point V)) (from until : ℕ) (old new : List V) : Type 0 where
+  pub only : (b : V) → Contains new b → Contains old b ⊎ ((k : ℕ) × (p : Point V) × (from ≤ k) × (k < until) × (slice_get points k ≡ Some p) × (p.value ≡ b))
+  pub kept : (v : V) → Admits rules v → is_bettered rules old v ≡ true → is_bettered rules new v ≡ true
+  pub each : (k : ℕ) (p : Point V) → from ≤ k → k < until → slice_get points k ≡ Some p → is_bettered rules new p.value ≡ true
 
 -- a label comes after the ride, unless it is bettered then
 pub record RidesLabel {V : Type 0} (rules : Rules V) (values : List V) (label : Point V) (old new : List (Ridden V)) : Type 0 where

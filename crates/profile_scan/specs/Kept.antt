@@ -1,12 +1,13 @@
 -- What the vectors of a scan keep for each stop and each trip.
-use Rattle.std.specs.Prelude.{◌≡◌, ◌≢◌, ℕ, zero, suc, ◌+◌, ◌<◌, ◌≤◌, min, List, [], ◌∷◌, length, vec_len, All, Contains, slice_index, slice_index_or, Option, Some, None, Bool, true, false, nat_le, map}
+use Rattle.std.specs.Prelude.{◌≡◌, ℕ, ◌<◌, List, length, vec_len, Contains, slice_index, slice_index_or, Option, Some, None, Bool, true, false, nat_le, map}
 use Rattle.bags.specs.Bag.{criterion_of, points_of}
-use Rattle.bags.specs.declared.bag.Bag.{Bag}
 use Rattle.bags.specs.declared.point.Point.{Point}
 use Rattle.timetable.specs.declared.network.Footpath.{Footpath}
 use Rattle.timetable.specs.TimetableValue.{TimetableValue}
 use Rattle.criteria.specs.Laws.{Rules}
 use Rattle.fronts.specs.Lists.{IsSound, lists_criterion, entries_of, steps_of, list_points}
+use Rattle.fronts.specs.Labels.{AreLabels, runs_of}
+use Rattle.profile_scan.specs.Adding.{trip_points}
 use Rattle.profile_scan.specs.Matching.{ScanValue}
 use Rattle.profile_scan.specs.Story.{Story, story}
 use Rattle.profile_scan.specs.declared.stops.Stops.{Stops}
@@ -23,32 +24,6 @@ pub record AreStops {K V : Type 0} (rules_of : K → Rules V) (criterion : K) (c
   pub sound : IsSound rules_of stops.lists
   pub long : vec_len stops.heads ≡ count
   pub within : (stop : ℕ) → slice_index stops.heads.items stop < length (entries_of stops.lists)
-
--- the points of the bag at a place, none past the last
-unfoldable pub bag_points : {K V : Type 0} {c : _} → List (Bag K V c) → ℕ → List (Point V)
-bag_points [] k = []
-bag_points (bag ∷ bags) zero = points_of bag
-bag_points (bag ∷ bags) (suc k) = bag_points bags k
-
--- the labels of a trip, by the number of its slot: none at 0, else the bag one place below it
-abbrev pub labels_in : {K V : Type 0} {c : _} → List (Bag K V c) → ℕ → List (Point V)
-labels_in bags zero = []
-labels_in bags (suc k) = bag_points bags k
-
-abbrev pub labels_at : {K V : Type 0} {c : _} → List ℕ → List (Bag K V c) → ℕ → List (Point V)
-labels_at slots bags trip = labels_in bags (slice_index slots trip)
-
--- how many slots are used
-unfoldable pub used : List ℕ → ℕ
-used [] = 0
-used (slot ∷ slots) = min slot 1 + used slots
-
--- so many bags, each in the slot of one trip
-pub record ArePlaced (slots : List ℕ) (count : ℕ) : Type 0 where
-  pub few : length slots ≤ 4294967295
-  pub counted : count ≡ used slots
-  pub within : (trip : ℕ) → slice_index slots trip ≤ count
-  pub apart : (a b : ℕ) → slice_index slots a ≡ slice_index slots b → slice_index slots a ≢ 0 → a ≡ b
 
 -- the seconds of the footpath from a stop to the target, if there is one
 abbrev pub IsWay : TimetableValue → ℕ → ℕ → Option ℕ → Type 0
@@ -74,7 +49,7 @@ pub record AreWays (t : TimetableValue) (target : ℕ) (ways : List (Option ℕ)
 
 -- what a scan keeps, as its parts have it
 abbrev pub kept_by : {K V : Type 0} {c : _} → Scan K V c → ScanValue V
-kept_by scan = record { bag = points_at scan.stops; labels = labels_at scan.labels.slots.items scan.labels.bags.items; found = points_of scan.found }
+kept_by scan = record { bag = points_at scan.stops; labels = trip_points scan.labels; found = points_of scan.found }
 
 -- what it has written down
 abbrev pub story_of : {K V : Type 0} {c : _} → Scan K V c → Story
@@ -83,7 +58,6 @@ story_of scan = story scan.exits.items (steps_of scan.stops.lists) scan.set_outs
 -- a scan over so many stops and trips, under a criterion
 pub record IsScan {K V : Type 0} {c : _} (rules_of : K → Rules V) (criterion : K) (stops trips : ℕ) (scan : Scan K V c) : Type 0 where
   pub at_stops : AreStops rules_of criterion stops scan.stops
-  pub long : length scan.labels.slots.items ≡ trips
-  pub placed : ArePlaced scan.labels.slots.items (length scan.labels.bags.items)
-  pub labels : All (λ bag. criterion_of bag ≡ criterion) scan.labels.bags.items
+  pub long : length (runs_of scan.labels) ≡ trips
+  pub labels : AreLabels (rules_of criterion) scan.labels
   pub found : criterion_of scan.found ≡ criterion

@@ -1,37 +1,41 @@
 //! Points taken into a bag, each with what tells how one goes on from it.
 
-ghost use Rattle.std.specs.Prelude.{◌≡◌, List, OnOk, IfOk};
+ghost use Rattle.std.specs.Prelude.{◌≡◌, ◌<◌, List, OnOk, IfOk, length};
 ghost use Rattle.criteria.specs.Laws.{Admits};
 ghost use Rattle.bags.specs.Bag.{criterion_of, points_of};
 ghost use Rattle.timetable.specs.declared.network.Footpath.{Footpath};
 ghost use Rattle.fronts.specs.declared.entry.Step.{Step};
 ghost use Rattle.fronts.specs.Front.{Extends};
+ghost use Rattle.fronts.specs.Labels.{AreLabels, runs_of};
 ghost use Rattle.profile_scan.specs.Story.{story, IsExit};
-ghost use Rattle.profile_scan.specs.Adding.{Takes, one_way, set_out_way};
+ghost use Rattle.profile_scan.specs.Adding.{Takes, IsRelabelled, one_way, set_out_way, trip_points};
 ghost use Rattle.profile_scan.specs.declared.story.Exit.{Exit};
 ghost use Rattle.profile_scan.specs.declared.story.SetOut.{SetOut};
 
 use crate::story::{Exit, SetOut};
 use bags::Bag;
 use criteria::Criterion;
+use fronts::{Labels, offer_label};
 use std::alloc::AllocError;
 
-/// Offers labels one value. Its tag is the number of its exit, which is kept where the point stands.
+/// Offers the labels of a trip one value. Its tag is the number of its exit, which is kept where the label stands.
 pub fn add_label<C: Criterion>(
     criterion: &C,
-    labels: &mut Bag<C>,
+    labels: &mut Labels<C::V>,
+    trip: u32,
     exits: &mut Vec<Exit>,
     value: C::V,
     exit: Exit,
 ) -> Result<(), AllocError>
-    requires same { criterion_of labels.old ≡ criterion.now }
+    requires trip { trip < length (runs_of labels.old) }
+    requires labels { AreLabels (C.rules criterion.now) labels.old }
     requires admitted { Admits (C.rules criterion.now) value }
-    ensures same { criterion_of labels.new ≡ criterion.now }
+    ensures labels { OnOk result (IsRelabelled (C.rules criterion.now) trip labels.old labels.new) }
     ensures exits { Extends exits.old.items exits.new.items }
-    ensures takes { OnOk result ((walks : List Footpath) (steps : List Step) (set_outs : List SetOut) → Takes (C.rules criterion.now) walks (story exits.old.items steps set_outs) (story exits.new.items steps set_outs) (λ tags. one_way 0 value (IsExit tags exit)) (points_of labels.old) (points_of labels.new)) }
+    ensures takes { OnOk result ((walks : List Footpath) (steps : List Step) (set_outs : List SetOut) → Takes (C.rules criterion.now) walks (story exits.old.items steps set_outs) (story exits.new.items steps set_outs) (λ tags. one_way 0 value (IsExit tags exit)) (trip_points labels.old trip) (trip_points labels.new trip)) }
 {
     let tag = exits.len();
-    let stands = labels.insert(0, value, tag)?;
+    let stands = offer_label(criterion, labels, trip, value, tag)?;
     if stands {
         exits.push(exit)?;
     }

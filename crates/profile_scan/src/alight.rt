@@ -4,41 +4,43 @@ ghost use Rattle.std.specs.Prelude.{◌≡◌, ◌+◌, ◌<◌, ◌≤◌, true
 ghost use Rattle.criteria.specs.Laws.{Admits, IsTime, IsSecs};
 ghost use Rattle.timetable.specs.declared.network.Footpath.{Footpath};
 ghost use Rattle.timetable.specs.Journeys.{start_secs};
-ghost use Rattle.bags.specs.Bag.{criterion_of, points_of};
 ghost use Rattle.profile_scan.specs.Values.{started};
 ghost use Rattle.fronts.specs.declared.entry.Step.{Step};
 ghost use Rattle.fronts.specs.Front.{Extends};
+ghost use Rattle.fronts.specs.Labels.{AreLabels, runs_of};
 ghost use Rattle.fronts.specs.Lists.{IsSound, lists_criterion, entries_of, list_points};
 ghost use Rattle.profile_scan.specs.Bound.{is_bettered, carried};
 ghost use Rattle.profile_scan.specs.Story.{story, IsExit};
 ghost use Rattle.profile_scan.specs.declared.story.SetOut.{SetOut};
 ghost use Rattle.profile_scan.specs.declared.story.Exit.TheVariants.{Changes};
-ghost use Rattle.profile_scan.specs.Adding.{Takes, only_if, one_way, changes_from, endings, endings_and_changes, IsEnding};
+ghost use Rattle.profile_scan.specs.Adding.{Takes, IsRelabelled, trip_points, only_if, one_way, changes_from, endings, endings_and_changes, IsEnding};
 
 use crate::adding::add_label;
 use crate::bound::is_bettered;
 use crate::story::Exit;
-use bags::{Bag, Point};
+use bags::Point;
 use criteria::Criterion;
-use fronts::FrontLists;
+use fronts::{FrontLists, Labels};
 use std::alloc::AllocError;
 use timetable::{Connection, Footpath, Query};
 
-// Offers labels one point of a list, unless it is bettered after the ride.
+// Offers the labels of a trip one point of a list, unless it is bettered after the ride.
 fn change_by<C: Criterion>(
     criterion: &C,
     bound: &[C::V],
-    labels: &mut Bag<C>,
+    labels: &mut Labels<C::V>,
+    trip: u32,
     exits: &mut Vec<Exit>,
     point: &Point<C::V>,
     last: u32,
 ) -> Result<(), AllocError>
-    requires labels { criterion_of labels.old ≡ criterion.now }
+    requires trip { trip < length (runs_of labels.old) }
+    requires labels { AreLabels (C.rules criterion.now) labels.old }
     requires bound { (b : _) → Contains bound.now b → Admits (C.rules criterion.now) b }
     requires point { Admits (C.rules criterion.now) point.now.value }
-    ensures same { criterion_of labels.new ≡ criterion.now }
+    ensures labels { OnOk result (IsRelabelled (C.rules criterion.now) trip labels.old labels.new) }
     ensures exits { Extends exits.old.items exits.new.items }
-    ensures takes { OnOk result ((walks : List Footpath) (steps : List Step) (set_outs : List SetOut) → Takes (C.rules criterion.now) walks (story exits.old.items steps set_outs) (story exits.new.items steps set_outs) (λ tags. only_if (is_bettered (C.rules criterion.now) bound.now ((C.rules criterion.now).ride point.now.value) ≡ false) (one_way 0 point.now.value (IsExit tags (Changes last point.now.tag)))) (points_of labels.old) (points_of labels.new)) }
+    ensures takes { OnOk result ((walks : List Footpath) (steps : List Step) (set_outs : List SetOut) → Takes (C.rules criterion.now) walks (story exits.old.items steps set_outs) (story exits.new.items steps set_outs) (λ tags. only_if (is_bettered (C.rules criterion.now) bound.now ((C.rules criterion.now).ride point.now.value) ≡ false) (one_way 0 point.now.value (IsExit tags (Changes last point.now.tag)))) (trip_points labels.old trip) (trip_points labels.new trip)) }
 {
     if is_bettered(criterion, bound, &criterion.ride(&point.value)) {
         return Ok(());
@@ -47,34 +49,36 @@ fn change_by<C: Criterion>(
         last,
         step: point.tag,
     };
-    add_label(criterion, labels, exits, point.value, exit)
+    add_label(criterion, labels, trip, exits, point.value, exit)
 }
 
-/// Offers labels each point of a list that departs at a time or later and isn't bettered after the ride. The front from that time on
+/// Offers the labels of a trip each point of a list that departs at a time or later and isn't bettered after the ride. The front from that time on
 /// is enough.
 pub fn change<C: Criterion>(
     criterion: &C,
     bound: &[C::V],
-    labels: &mut Bag<C>,
+    labels: &mut Labels<C::V>,
+    trip: u32,
     exits: &mut Vec<Exit>,
     lists: &FrontLists<C>,
     head: u32,
     time: u32,
     last: u32,
 ) -> Result<(), AllocError>
-    requires labels { criterion_of labels.old ≡ criterion.now }
+    requires trip { trip < length (runs_of labels.old) }
+    requires labels { AreLabels (C.rules criterion.now) labels.old }
     requires bound { (b : _) → Contains bound.now b → Admits (C.rules criterion.now) b }
     requires under { lists_criterion lists.now ≡ criterion.now }
     requires sound { IsSound C.rules lists.now }
     requires head { head < length (entries_of lists.now) }
-    ensures same { criterion_of labels.new ≡ criterion.now }
+    ensures labels { OnOk result (IsRelabelled (C.rules criterion.now) trip labels.old labels.new) }
     ensures exits { Extends exits.old.items exits.new.items }
-    ensures takes { OnOk result ((walks : List Footpath) (steps : List Step) (set_outs : List SetOut) → Takes (C.rules criterion.now) walks (story exits.old.items steps set_outs) (story exits.new.items steps set_outs) (λ tags. changes_from tags last time (carried (C.rules criterion.now) bound.now (list_points lists.now head))) (points_of labels.old) (points_of labels.new)) }
+    ensures takes { OnOk result ((walks : List Footpath) (steps : List Step) (set_outs : List SetOut) → Takes (C.rules criterion.now) walks (story exits.old.items steps set_outs) (story exits.new.items steps set_outs) (λ tags. changes_from tags last time (carried (C.rules criterion.now) bound.now (list_points lists.now head))) (trip_points labels.old trip) (trip_points labels.new trip)) }
 {
     let place = lists.front_from(head, time);
     for k in 0..lists.front_len(place) {
         let point = lists.front_point(place, k);
-        change_by(criterion, bound, labels, exits, &point, last)?;
+        change_by(criterion, bound, labels, trip, exits, &point, last)?;
     }
     Ok(())
 }
@@ -133,23 +137,25 @@ fn value_at_end<C: Criterion>(criterion: &C, walk: Option<Footpath>, time: u32) 
     }
 }
 
-/// Offers labels the way to end where a connection ends, if there is one.
+/// Offers the labels of a trip the way to end where a connection ends, if there is one.
 pub fn end<C: Criterion>(
     criterion: &C,
     query: &Query,
     way: Option<u32>,
     connection: &Connection,
     last: u32,
-    labels: &mut Bag<C>,
+    labels: &mut Labels<C::V>,
+    trip: u32,
     exits: &mut Vec<Exit>,
 ) -> Result<(), AllocError>
     requires arrival { IsTime connection.now.arr }
     requires by { IsTime query.now.by }
     requires secs { IfSome way (λ secs. IsSecs secs) }
-    requires labels { criterion_of labels.old ≡ criterion.now }
-    ensures same { criterion_of labels.new ≡ criterion.now }
+    requires trip { trip < length (runs_of labels.old) }
+    requires labels { AreLabels (C.rules criterion.now) labels.old }
+    ensures labels { OnOk result (IsRelabelled (C.rules criterion.now) trip labels.old labels.new) }
     ensures exits { Extends exits.old.items exits.new.items }
-    ensures takes { OnOk result ((walks : List Footpath) (steps : List Step) (set_outs : List SetOut) → Takes (C.rules criterion.now) walks (story exits.old.items steps set_outs) (story exits.new.items steps set_outs) (λ tags. endings (C.rules criterion.now) tags last connection.now query.now way) (points_of labels.old) (points_of labels.new)) }
+    ensures takes { OnOk result ((walks : List Footpath) (steps : List Step) (set_outs : List SetOut) → Takes (C.rules criterion.now) walks (story exits.old.items steps set_outs) (story exits.new.items steps set_outs) (λ tags. endings (C.rules criterion.now) tags last connection.now query.now way) (trip_points labels.old trip) (trip_points labels.new trip)) }
 {
     match end_of(connection, query, way) {
         None => Ok(()),
@@ -159,7 +165,7 @@ pub fn end<C: Criterion>(
                 last,
                 walk: end.walk,
             };
-            add_label(criterion, labels, exits, value, exit)
+            add_label(criterion, labels, trip, exits, value, exit)
         }
     }
 }
@@ -173,7 +179,8 @@ pub fn alight<C: Criterion>(
     connection: &Connection,
     last: u32,
     bound: &[C::V],
-    labels: &mut Bag<C>,
+    labels: &mut Labels<C::V>,
+    trip: u32,
     exits: &mut Vec<Exit>,
     lists: &FrontLists<C>,
     head: u32,
@@ -182,22 +189,24 @@ pub fn alight<C: Criterion>(
     requires by { IsTime query.now.by }
     requires secs { IfSome way (λ secs. IsSecs secs) }
     requires bound { (b : _) → Contains bound.now b → Admits (C.rules criterion.now) b }
-    requires labels { criterion_of labels.old ≡ criterion.now }
+    requires trip { trip < length (runs_of labels.old) }
+    requires labels { AreLabels (C.rules criterion.now) labels.old }
     requires under { lists_criterion lists.now ≡ criterion.now }
     requires sound { IsSound C.rules lists.now }
     requires head { head < length (entries_of lists.now) }
-    ensures same { criterion_of labels.new ≡ criterion.now }
+    ensures labels { OnOk result (IsRelabelled (C.rules criterion.now) trip labels.old labels.new) }
     ensures exits { Extends exits.old.items exits.new.items }
-    ensures takes { OnOk result ((walks : List Footpath) (steps : List Step) (set_outs : List SetOut) → Takes (C.rules criterion.now) walks (story exits.old.items steps set_outs) (story exits.new.items steps set_outs) (λ tags. only_if (connection.now.alight ≡ true) (endings_and_changes (C.rules criterion.now) tags last connection.now query.now way (carried (C.rules criterion.now) bound.now (list_points lists.now head)))) (points_of labels.old) (points_of labels.new)) }
+    ensures takes { OnOk result ((walks : List Footpath) (steps : List Step) (set_outs : List SetOut) → Takes (C.rules criterion.now) walks (story exits.old.items steps set_outs) (story exits.new.items steps set_outs) (λ tags. only_if (connection.now.alight ≡ true) (endings_and_changes (C.rules criterion.now) tags last connection.now query.now way (carried (C.rules criterion.now) bound.now (list_points lists.now head)))) (trip_points labels.old trip) (trip_points labels.new trip)) }
 {
     if !connection.alight {
         return Ok(());
     }
-    end(criterion, query, way, connection, last, labels, exits)?;
+    end(criterion, query, way, connection, last, labels, trip, exits)?;
     change(
         criterion,
         bound,
         labels,
+        trip,
         exits,
         lists,
         head,

@@ -13,7 +13,7 @@ ghost use Rattle.fronts.specs.Lists.{steps_of};
 ghost use Rattle.profile_scan.specs.Story.{Grows, story};
 ghost use Rattle.profile_scan.specs.declared.story.Exit.{Exit};
 ghost use Rattle.profile_scan.specs.declared.story.SetOut.{SetOut};
-ghost use Rattle.profile_scan.specs.Adding.{Takes, only_if, each_of, boardings_after, settings_out_after, MayStart, StandsBetween, IsTried, boardings_by, settings_out_by, AreRidden};
+ghost use Rattle.profile_scan.specs.Adding.{Takes, label_points, only_if, each_of, boardings_after, settings_out_after, MayStart, StandsBetween, IsTried, boardings_by, settings_out_by, AreRidden};
 ghost use Rattle.profile_scan.specs.Steps.{boardings, settings_out};
 ghost use Rattle.profile_scan.specs.Bound.{carried, RidesLabel};
 ghost use Rattle.bags.specs.declared.point.Point.{Point};
@@ -25,7 +25,7 @@ use crate::stops::Stops;
 use crate::story::SetOut;
 use bags::{Bag, Point};
 use criteria::Criterion;
-use fronts::Ridden;
+use fronts::{Label, Ridden};
 use sources::ConnSource;
 use std::alloc::AllocError;
 use timetable::{Connection, Footpath, Query};
@@ -38,6 +38,26 @@ fn number_of(tag: usize) -> Result<u32, AllocError>
         return Err(AllocError);
     }
     Ok(tag as u32)
+}
+
+// A label's point.
+fn label_point<V>(value: V, tag: u32) -> Point<V>
+    ensures { result ≡ record { departure = 0; value = value; tag = tag } }
+{
+    Point {
+        departure: 0,
+        value,
+        tag: tag as usize,
+    }
+}
+
+// The label at a place, as a point.
+fn label_at<V: Copy>(labels: &[Label<V>], place: usize) -> Point<V>
+    requires { place < length labels.now }
+    ensures { slice_get (label_points labels.now) place ≡ Some result }
+{
+    let label = labels[place];
+    label_point(label.value, label.tag)
 }
 
 // Puts a label's value after the ride into a list, unless it is bettered.
@@ -67,16 +87,16 @@ fn ride_label<C: Criterion>(
 pub fn ride_labels<C: Criterion>(
     criterion: &C,
     bound: &[C::V],
-    labels: &Bag<C>,
+    labels: &[Label<C::V>],
     ridden: &mut Vec<Ridden<C::V>>,
 ) -> Result<(), AllocError>
     requires bound { (b : _) → Contains bound.now b → Admits (C.rules criterion.now) b }
-    requires labels { criterion_of labels.now ≡ criterion.now }
-    ensures { OnOk result (AreRidden (C.rules criterion.now) (carried (C.rules criterion.now) bound.now (points_of labels.now)) ridden.new.items) }
+    requires labels { (l : Point _) → Contains (label_points labels.now) l → Admits (C.rules criterion.now) l.value }
+    ensures { OnOk result (AreRidden (C.rules criterion.now) (carried (C.rules criterion.now) bound.now (label_points labels.now)) ridden.new.items) }
 {
     ridden.clear();
     for place in 0..labels.len() {
-        let label = labels.point(place);
+        let label = label_at(labels, place);
         ride_label(criterion, bound, &label, ridden)?;
     }
     Ok(())
@@ -87,20 +107,20 @@ pub fn set_out_after<C: Criterion>(
     criterion: &C,
     found: &mut Bag<C>,
     set_outs: &mut Vec<SetOut>,
-    labels: &Bag<C>,
+    labels: &[Label<C::V>],
     start: Option<Footpath>,
     first: u32,
     departure: u32,
 ) -> Result<(), AllocError>
     requires secs { IfSome start (λ walk. IsSecs walk.secs) }
     requires found { criterion_of found.old ≡ criterion.now }
-    requires labels { criterion_of labels.now ≡ criterion.now }
+    requires labels { (l : Point _) → Contains (label_points labels.now) l → Admits (C.rules criterion.now) l.value }
     ensures same { criterion_of found.new ≡ criterion.now }
     ensures set_outs { Extends set_outs.old.items set_outs.new.items }
-    ensures takes { OnOk result ((walks : List Footpath) (exits : List Exit) (steps : List Step) → Takes (C.rules criterion.now) walks (story exits steps set_outs.old.items) (story exits steps set_outs.new.items) (λ tags. settings_out_after (C.rules criterion.now) tags first departure start (points_of labels.now)) (points_of found.old) (points_of found.new)) }
+    ensures takes { OnOk result ((walks : List Footpath) (exits : List Exit) (steps : List Step) → Takes (C.rules criterion.now) walks (story exits steps set_outs.old.items) (story exits steps set_outs.new.items) (λ tags. settings_out_after (C.rules criterion.now) tags first departure start (label_points labels.now)) (points_of found.old) (points_of found.new)) }
 {
     for place in 0..labels.len() {
-        let label = labels.point(place);
+        let label = label_at(labels, place);
         let value = value_after(criterion, start, &label.value);
         let set_out = SetOut {
             start,
@@ -155,14 +175,14 @@ fn set_out_in_window<C: Criterion>(
     start: Option<Footpath>,
     found: &mut Bag<C>,
     set_outs: &mut Vec<SetOut>,
-    labels: &Bag<C>,
+    labels: &[Label<C::V>],
 ) -> Result<(), AllocError>
     requires secs { IfSome start (λ walk. IsSecs walk.secs) }
     requires found { criterion_of found.old ≡ criterion.now }
-    requires labels { criterion_of labels.now ≡ criterion.now }
+    requires labels { (l : Point _) → Contains (label_points labels.now) l → Admits (C.rules criterion.now) l.value }
     ensures same { criterion_of found.new ≡ criterion.now }
     ensures set_outs { Extends set_outs.old.items set_outs.new.items }
-    ensures takes { OnOk result ((walks : List Footpath) (exits : List Exit) (steps : List Step) → Takes (C.rules criterion.now) walks (story exits steps set_outs.old.items) (story exits steps set_outs.new.items) (λ tags. only_if (MayStart query.now connection.now start) (settings_out_after (C.rules criterion.now) tags first (connection.now.dep - start_secs start) start (points_of labels.now))) (points_of found.old) (points_of found.new)) }
+    ensures takes { OnOk result ((walks : List Footpath) (exits : List Exit) (steps : List Step) → Takes (C.rules criterion.now) walks (story exits steps set_outs.old.items) (story exits steps set_outs.new.items) (λ tags. only_if (MayStart query.now connection.now start) (settings_out_after (C.rules criterion.now) tags first (connection.now.dep - start_secs start) start (label_points labels.now))) (points_of found.old) (points_of found.new)) }
 {
     match departure_by(query, connection, start) {
         None => Ok(()),
@@ -181,14 +201,14 @@ pub fn set_out<C: Criterion>(
     start: Option<Footpath>,
     found: &mut Bag<C>,
     set_outs: &mut Vec<SetOut>,
-    labels: &Bag<C>,
+    labels: &[Label<C::V>],
 ) -> Result<(), AllocError>
     requires secs { IfSome start (λ walk. IsSecs walk.secs) }
     requires found { criterion_of found.old ≡ criterion.now }
-    requires labels { criterion_of labels.now ≡ criterion.now }
+    requires labels { (l : Point _) → Contains (label_points labels.now) l → Admits (C.rules criterion.now) l.value }
     ensures same { criterion_of found.new ≡ criterion.now }
     ensures set_outs { Extends set_outs.old.items set_outs.new.items }
-    ensures takes { OnOk result ((walks : List Footpath) (exits : List Exit) (steps : List Step) → Takes (C.rules criterion.now) walks (story exits steps set_outs.old.items) (story exits steps set_outs.new.items) (λ tags. only_if (MayStart query.now connection.now start) (settings_out_after (C.rules criterion.now) tags first (connection.now.dep - start_secs start) start (points_of labels.now))) (points_of found.old) (points_of found.new)) }
+    ensures takes { OnOk result ((walks : List Footpath) (exits : List Exit) (steps : List Step) → Takes (C.rules criterion.now) walks (story exits steps set_outs.old.items) (story exits steps set_outs.new.items) (λ tags. only_if (MayStart query.now connection.now start) (settings_out_after (C.rules criterion.now) tags first (connection.now.dep - start_secs start) start (label_points labels.now))) (points_of found.old) (points_of found.new)) }
 {
     match start {
         None => {
@@ -252,7 +272,7 @@ fn set_out_walks<S: ConnSource, C: Criterion>(
     first: u32,
     found: &mut Bag<C>,
     set_outs: &mut Vec<SetOut>,
-    labels: &Bag<C>,
+    labels: &[Label<C::V>],
     begin: usize,
     end: usize,
 ) -> Result<(), AllocError>
@@ -261,10 +281,10 @@ fn set_out_walks<S: ConnSource, C: Criterion>(
     requires within { end ≤ length (S.timetable source.now).footpaths }
     requires order { begin ≤ end }
     requires found { criterion_of found.old ≡ criterion.now }
-    requires labels { criterion_of labels.now ≡ criterion.now }
+    requires labels { (l : Point _) → Contains (label_points labels.now) l → Admits (C.rules criterion.now) l.value }
     ensures found { OnOk result (criterion_of found.new ≡ criterion.now) }
     ensures set_outs { OnOk result (Extends set_outs.old.items set_outs.new.items) }
-    ensures takes { OnOk result ((exits : List Exit) (steps : List Step) → Takes (C.rules criterion.now) (S.timetable source.now).footpaths (story exits steps set_outs.old.items) (story exits steps set_outs.new.items) (λ tags. each_of (IsTried (S.timetable source.now).footpaths begin end) (settings_out_by (C.rules criterion.now) tags first connection.now query.now (points_of labels.now))) (points_of found.old) (points_of found.new)) }
+    ensures takes { OnOk result ((exits : List Exit) (steps : List Step) → Takes (C.rules criterion.now) (S.timetable source.now).footpaths (story exits steps set_outs.old.items) (story exits steps set_outs.new.items) (λ tags. each_of (IsTried (S.timetable source.now).footpaths begin end) (settings_out_by (C.rules criterion.now) tags first connection.now query.now (label_points labels.now))) (points_of found.old) (points_of found.new)) }
 {
     set_out(
         criterion, query, connection, first, None, found, set_outs, labels,
@@ -325,7 +345,7 @@ pub fn board<S: ConnSource, C: Criterion>(
     stops: &mut Stops<C>,
     found: &mut Bag<C>,
     set_outs: &mut Vec<SetOut>,
-    labels: &Bag<C>,
+    labels: &[Label<C::V>],
     ridden: &mut Vec<Ridden<C::V>>,
 ) -> Result<(), AllocError>
     requires place { first < length (S.timetable source.now).connections }
@@ -333,12 +353,12 @@ pub fn board<S: ConnSource, C: Criterion>(
     requires bound { (b : _) → Contains bound.now b → Admits (C.rules criterion.now) b }
     requires stops { AreStops C.rules criterion.now (S.timetable source.now).stops stops.old }
     requires found { criterion_of found.old ≡ criterion.now }
-    requires labels { criterion_of labels.now ≡ criterion.now }
+    requires labels { (l : Point _) → Contains (label_points labels.now) l → Admits (C.rules criterion.now) l.value }
     ensures stops { OnOk result (AreStops C.rules criterion.now (S.timetable source.now).stops stops.new) }
     ensures found { OnOk result (criterion_of found.new ≡ criterion.now) }
     ensures grows { OnOk result ((exits : List Exit) → Grows (story exits (steps_of stops.old.lists) set_outs.old.items) (story exits (steps_of stops.new.lists) set_outs.new.items)) }
-    ensures boards { OnOk result ((exits : List Exit) (stop : ℕ) → Takes (C.rules criterion.now) (S.timetable source.now).footpaths (story exits (steps_of stops.old.lists) set_outs.old.items) (story exits (steps_of stops.new.lists) set_outs.new.items) (λ tags. boardings (C.rules criterion.now) (S.timetable source.now) tags first stop (carried (C.rules criterion.now) bound.now (points_of labels.now))) (points_at stops.old stop) (points_at stops.new stop)) }
-    ensures sets_out { OnOk result ((exits : List Exit) → Takes (C.rules criterion.now) (S.timetable source.now).footpaths (story exits (steps_of stops.old.lists) set_outs.old.items) (story exits (steps_of stops.new.lists) set_outs.new.items) (λ tags. settings_out (C.rules criterion.now) (S.timetable source.now) query.now tags first (points_of labels.now)) (points_of found.old) (points_of found.new)) }
+    ensures boards { OnOk result ((exits : List Exit) (stop : ℕ) → Takes (C.rules criterion.now) (S.timetable source.now).footpaths (story exits (steps_of stops.old.lists) set_outs.old.items) (story exits (steps_of stops.new.lists) set_outs.new.items) (λ tags. boardings (C.rules criterion.now) (S.timetable source.now) tags first stop (carried (C.rules criterion.now) bound.now (label_points labels.now))) (points_at stops.old stop) (points_at stops.new stop)) }
+    ensures sets_out { OnOk result ((exits : List Exit) → Takes (C.rules criterion.now) (S.timetable source.now).footpaths (story exits (steps_of stops.old.lists) set_outs.old.items) (story exits (steps_of stops.new.lists) set_outs.new.items) (λ tags. settings_out (C.rules criterion.now) (S.timetable source.now) query.now tags first (label_points labels.now)) (points_of found.old) (points_of found.new)) }
 {
     if !connection.board {
         return Ok(());

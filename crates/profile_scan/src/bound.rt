@@ -1,11 +1,11 @@
 //! Values that the points found already better: what is no better than one of them, once ridden, isn't carried on.
 
-ghost use Rattle.std.specs.Prelude.{◌≡◌, ◌⊎◌, ◌≤◌, OnOk, Contains};
+ghost use Rattle.std.specs.Prelude.{◌≡◌, ◌⊎◌, ◌<◌, ◌≤◌, ℕ, true, not, filter, length, slice_get, Some, OnOk, Contains};
 ghost use Rattle.criteria.specs.Laws.{Admits, RidingWorsens};
 ghost use Rattle.bags.specs.Bag.{criterion_of, points_of};
-ghost use Rattle.profile_scan.specs.Bound.{IsLateValue, is_bettered};
+ghost use Rattle.profile_scan.specs.Bound.{IsLateValue, TakesPoints, TakesValue, is_bettered};
 
-use bags::{Bag, Point};
+use bags::Bag;
 use criteria::Criterion;
 use std::alloc::{AllocError, Global};
 
@@ -13,8 +13,11 @@ use std::alloc::{AllocError, Global};
 #[derive(Drop)]
 pub struct Bound<V> {
     pub values: Vec<V>,
-    // how many points were found when the values were read, and the latest departure of one that wasn't late enough then
+    // how many points were found when some were read last
     count: usize,
+    // the place of the first that may have to be read: those before it depart later than any that is still to be found
+    place: usize,
+    // the departure of the first that wasn't late enough
     next: u32,
 }
 
@@ -28,6 +31,7 @@ impl<V> Bound<V> {
         Bound {
             values: Vec::new(alloc),
             count: 0,
+            place: 0,
             next: 0,
         }
     }
@@ -46,59 +50,117 @@ pub fn is_bettered<C: Criterion>(criterion: &C, values: &[C::V], value: &C::V) -
     any
 }
 
-// Takes the value of a point that departs at a time or later, unless it is bettered.
-fn take_late<C: Criterion>(
+// Whether a value stays when another comes.
+fn stays<C: Criterion>(criterion: &C, value: &C::V, other: &C::V) -> bool
+    requires value { Admits (C.rules criterion.now) value.now }
+    requires other { Admits (C.rules criterion.now) other.now }
+    ensures { result ≡ not ((C.rules criterion.now).no_worse value.now other.now) }
+{
+    !criterion.no_worse(value, other)
+}
+
+// Drops the values that a value is no worse than.
+fn drop_bettered<C: Criterion>(criterion: &C, values: &mut Vec<C::V>, value: &C::V)
+    requires values { (b : _) → Contains values.old.items b → Admits (C.rules criterion.now) b }
+    requires value { Admits (C.rules criterion.now) value.now }
+    ensures { values.new.items ≡ filter (λ b. not ((C.rules criterion.now).no_worse value.now b)) values.old.items }
+{
+    let mut kept = 0;
+    for i in 0..values.len() {
+        let other = values[i];
+        if stays(criterion, value, &other) {
+            values[kept] = other;
+            kept += 1;
+        }
+    }
+    values.truncate(kept);
+}
+
+// Takes a value, unless it is bettered, in the place of those that it betters.
+fn take_value<C: Criterion>(
     criterion: &C,
-    point: &Point<C::V>,
-    time: u32,
+    value: C::V,
     values: &mut Vec<C::V>,
 ) -> Result<(), AllocError>
     requires values { (b : _) → Contains values.old.items b → Admits (C.rules criterion.now) b }
-    requires point { Admits (C.rules criterion.now) point.now.value }
-    ensures { OnOk result ((b : _) → Contains values.new.items b → Contains values.old.items b ⊎ ((time ≤ point.now.departure) × (point.now.value ≡ b))) }
+    requires value { Admits (C.rules criterion.now) value }
+    ensures { OnOk result (TakesValue (C.rules criterion.now) value values.old.items values.new.items) }
 {
-    if point.departure < time || is_bettered(criterion, values, &point.value) {
+    if is_bettered(criterion, values, &value) {
         return Ok(());
     }
-    values.push(point.value)?;
+    drop_bettered(criterion, values, &value);
+    values.push(value)?;
     Ok(())
 }
 
-// Reads the values of the points that depart at a time or later, but for those that are bettered.
+// The first place, from another on, from which on all points depart before a time. A bag's points stand by falling departure.
+fn late_until<C: Criterion>(found: &Bag<C>, from: usize, time: u32) -> usize
+    requires { from ≤ length (points_of found.now) }
+    ensures from { from ≤ result }
+    ensures within { result ≤ length (points_of found.now) }
+    ensures late { (k : ℕ) (p : _) → from ≤ k → k < result → slice_get (points_of found.now) k ≡ Some p → time ≤ p.departure }
+    ensures rest { (k : ℕ) (p : _) → result ≤ k → slice_get (points_of found.now) k ≡ Some p → p.departure < time }
+{
+    for place in from..found.len() {
+        if found.point(place).departure < time {
+            return place;
+        }
+    }
+    found.len()
+}
+
+// Takes the values of the points from one place up to before another.
+fn take_points<C: Criterion>(
+    criterion: &C,
+    found: &Bag<C>,
+    from: usize,
+    until: usize,
+    values: &mut Vec<C::V>,
+) -> Result<(), AllocError>
+    requires found { criterion_of found.now ≡ criterion.now }
+    requires order { from ≤ until }
+    requires until { until ≤ length (points_of found.now) }
+    requires values { (b : _) → Contains values.old.items b → Admits (C.rules criterion.now) b }
+    ensures { OnOk result (TakesPoints (C.rules criterion.now) (points_of found.now) from until values.old.items values.new.items) }
+{
+    for place in from..until {
+        let point = found.point(place);
+        take_value(criterion, point.value, values)?;
+    }
+    Ok(())
+}
+
+// Takes the values of the points from a place on that depart at a time or later, and tells where they end.
 fn read_late<C: Criterion>(
     criterion: &C,
     found: &Bag<C>,
+    from: usize,
     time: u32,
     values: &mut Vec<C::V>,
-) -> Result<(), AllocError>
+) -> Result<usize, AllocError>
     requires worsens { RidingWorsens (C.rules criterion.now) }
     requires found { criterion_of found.now ≡ criterion.now }
-    ensures { OnOk result ((b : _) → Contains values.new.items b → IsLateValue (C.rules criterion.now) (points_of found.now) time b) }
+    requires from { from ≤ length (points_of found.now) }
+    requires values { (b : _) → Contains values.old.items b → Admits (C.rules criterion.now) b }
+    ensures only { OnOk result ((b : _) → Contains values.new.items b → Contains values.old.items b ⊎ IsLateValue (C.rules criterion.now) (points_of found.now) time b) }
+    ensures each { OnOk result ((k : ℕ) (p : _) → from ≤ k → slice_get (points_of found.now) k ≡ Some p → time ≤ p.departure → is_bettered (C.rules criterion.now) values.new.items p.value ≡ true) }
 {
-    values.clear();
-    let count = found.len();
-    for k in 0..count {
-        let point = found.point(count - 1 - k);
-        take_late(criterion, &point, time, values)?;
-    }
-    Ok(())
+    let until = late_until(found, from, time);
+    take_points(criterion, found, from, until, values)?;
+    Ok(until)
 }
 
-// The latest departure before a time, for a bag by falling departure. It is of use to speed alone.
-fn latest_before<C: Criterion>(found: &Bag<C>, time: u32) -> u32 {
-    let mut latest = 0;
-    let count = found.len();
-    for k in 0..count {
-        let departure = found.point(count - 1 - k).departure;
-        if departure >= time {
-            return latest;
-        }
-        latest = departure;
+// The departure of the point at a place, or 0 past the last.
+fn departure_at<C: Criterion>(found: &Bag<C>, place: usize) -> u32 {
+    if place >= found.len() {
+        return 0;
     }
-    latest
+    found.point(place).departure
 }
 
-/// Reads the values anew, if some point was found or comes to be late enough. `count` tells whether points were found.
+/// Reads values of points that come to be late enough: those that were found since, and those that departed too early. `count` tells
+/// whether points were found. What was read isn't read again, but for points that depart at that time: others may still come among them.
 pub fn renew<C: Criterion>(
     criterion: &C,
     found: &Bag<C>,
@@ -107,6 +169,7 @@ pub fn renew<C: Criterion>(
     bound: &mut Bound<C::V>,
 ) -> Result<(), AllocError>
     requires found { criterion_of found.now ≡ criterion.now }
+    requires values { (b : _) → Contains bound.old.values.items b → Admits (C.rules criterion.now) b }
     ensures { OnOk result ((b : _) → Contains bound.new.values.items b → Contains bound.old.values.items b ⊎ IsLateValue (C.rules criterion.now) (points_of found.now) time b) }
 {
     if !criterion.riding_worsens() {
@@ -115,8 +178,10 @@ pub fn renew<C: Criterion>(
     if count == bound.count && bound.next < time {
         return Ok(());
     }
-    read_late(criterion, found, time, &mut bound.values)?;
-    bound.next = latest_before(found, time);
+    let from = bound.place.min(found.len());
+    let until = read_late(criterion, found, from, time, &mut bound.values)?;
+    bound.place = late_until(found, from, time.saturating_add(1));
+    bound.next = departure_at(found, until);
     bound.count = count;
     Ok(())
 }

@@ -24,7 +24,6 @@ mod story;
 mod telling;
 #[cfg(test)]
 mod tests;
-mod trips;
 mod ways;
 #[cfg(test)]
 mod wrong_steps;

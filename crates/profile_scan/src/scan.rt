@@ -17,11 +17,10 @@ use crate::bound::Bound;
 use crate::step::step;
 use crate::stops::{Stops, no_stops};
 use crate::story::{Exit, SetOut};
-use crate::trips::{TripLabels, no_labels};
 use crate::ways::Ways;
 use bags::Bag;
 use criteria::Criterion;
-use fronts::Ridden;
+use fronts::{Labels, Ridden};
 use sources::ConnSource;
 use std::alloc::{AllocError, Global};
 use timetable::Query;
@@ -31,7 +30,7 @@ use timetable::Query;
 #[derive(Drop)]
 pub struct Scan<C: Criterion> {
     pub stops: Stops<C>,
-    pub labels: TripLabels<C>,
+    pub labels: Labels<C::V>,
     pub exits: Vec<Exit>,
     pub found: Bag<C>,
     pub set_outs: Vec<SetOut>,
@@ -54,7 +53,7 @@ fn nothing_read<C: Criterion>(
     ensures bound { IfOk result (λ scan. scan.bound.values.items ≡ []) }
 {
     let stops = no_stops(alloc, criterion, stops)?;
-    let labels = no_labels(alloc, trips)?;
+    let labels = Labels::new(alloc, trips)?;
     let found = Bag::new(alloc, *criterion);
     Ok(Scan {
         stops,
@@ -93,7 +92,6 @@ pub fn scan_window<S: ConnSource, C: Criterion>(
         place -= 1;
         let connection = source.connection(place);
         step(
-            alloc,
             source,
             criterion,
             query,

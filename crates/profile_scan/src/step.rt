@@ -1,15 +1,16 @@
 //! One connection: first the labels of its trip, then by them every bag and the points found.
 
 ghost use Rattle.std.specs.Prelude.{◌≡◌, ◌≢◌, ◌<◌, ◌+◌, ℕ, true, List, None, OnOk, Contains, length, vec_len};
-ghost use Rattle.criteria.specs.Laws.{Admits, IsTime};
+ghost use Rattle.criteria.specs.Laws.{Rules, Admits, IsTime};
 ghost use Rattle.timetable.specs.Journeys.{connection_at};
 ghost use Rattle.bags.specs.Bag.{criterion_of, points_of};
 ghost use Rattle.fronts.specs.Lists.{IsSound, steps_of};
+ghost use Rattle.fronts.specs.Labels.{AreLabels, runs_of};
 ghost use Rattle.profile_scan.specs.Steps.{leavings, boardings, settings_out, IsIdle, IsStep};
 ghost use Rattle.profile_scan.specs.Bound.{AreBounds, carried};
 ghost use Rattle.profile_scan.specs.Story.{Grows, story, told};
 ghost use Rattle.profile_scan.specs.Matching.{from_to};
-ghost use Rattle.profile_scan.specs.Adding.{Takes};
+ghost use Rattle.profile_scan.specs.Adding.{Takes, IsRelabelled, trip_points};
 ghost use Rattle.profile_scan.specs.Kept.{AreStops, AreWays, IsScan, IsWay, kept_by, points_at, story_of, ways_of};
 ghost use Rattle.profile_scan.specs.declared.story.Exit.{Exit};
 
@@ -19,13 +20,12 @@ use crate::bound::renew;
 use crate::scan::Scan;
 use crate::stops::Stops;
 use crate::story::{Exit, SetOut};
-use crate::trips::place_of;
 use crate::ways::Ways;
 use bags::Bag;
 use criteria::Criterion;
-use fronts::Ridden;
+use fronts::{Labels, Ridden};
 use sources::ConnSource;
-use std::alloc::{AllocError, Global};
+use std::alloc::AllocError;
 use timetable::{Connection, Query};
 
 // Leaves the connection's trip where it ends, and boards the connection, the labels of its trip being given.
@@ -38,7 +38,7 @@ fn step_in<S: ConnSource, C: Criterion>(
     place: u32,
     bound: &[C::V],
     stops: &mut Stops<C>,
-    labels: &mut Bag<C>,
+    labels: &mut Labels<C::V>,
     exits: &mut Vec<Exit>,
     found: &mut Bag<C>,
     set_outs: &mut Vec<SetOut>,
@@ -50,17 +50,18 @@ fn step_in<S: ConnSource, C: Criterion>(
     requires way { IsWay (S.timetable source.now) query.now.target connection.now.to way }
     requires bound { (b : _) → Contains bound.now b → Admits (C.rules criterion.now) b }
     requires stops { AreStops C.rules criterion.now (S.timetable source.now).stops stops.old }
-    requires labels { criterion_of labels.old ≡ criterion.now }
+    requires trip { connection.now.trip < length (runs_of labels.old) }
+    requires labels { AreLabels (C.rules criterion.now) labels.old }
     requires found { criterion_of found.old ≡ criterion.now }
     ensures stops { OnOk result (AreStops C.rules criterion.now (S.timetable source.now).stops stops.new) }
-    ensures labels { OnOk result (criterion_of labels.new ≡ criterion.now) }
+    ensures labels { OnOk result (IsRelabelled (C.rules criterion.now) connection.now.trip labels.old labels.new) }
     ensures found { OnOk result (criterion_of found.new ≡ criterion.now) }
     ensures takes { OnOk result ((mid : List Exit)
         × Grows (story exits.old.items (steps_of stops.old.lists) set_outs.old.items) (story mid (steps_of stops.old.lists) set_outs.old.items)
         × Grows (story mid (steps_of stops.old.lists) set_outs.old.items) (story exits.new.items (steps_of stops.new.lists) set_outs.new.items)
-        × Takes (C.rules criterion.now) (S.timetable source.now).footpaths (story exits.old.items (steps_of stops.old.lists) set_outs.old.items) (story mid (steps_of stops.old.lists) set_outs.old.items) (λ tags. leavings (C.rules criterion.now) (S.timetable source.now) query.now tags place (carried (C.rules criterion.now) bound.now (points_at stops.old (connection_at (S.timetable source.now) place).to))) (points_of labels.old) (points_of labels.new)
-        × ((stop : ℕ) → Takes (C.rules criterion.now) (S.timetable source.now).footpaths (story mid (steps_of stops.old.lists) set_outs.old.items) (story exits.new.items (steps_of stops.new.lists) set_outs.new.items) (λ tags. boardings (C.rules criterion.now) (S.timetable source.now) tags place stop (carried (C.rules criterion.now) bound.now (points_of labels.new))) (points_at stops.old stop) (points_at stops.new stop))
-        × Takes (C.rules criterion.now) (S.timetable source.now).footpaths (story mid (steps_of stops.old.lists) set_outs.old.items) (story exits.new.items (steps_of stops.new.lists) set_outs.new.items) (λ tags. settings_out (C.rules criterion.now) (S.timetable source.now) query.now tags place (points_of labels.new)) (points_of found.old) (points_of found.new)) }
+        × Takes (C.rules criterion.now) (S.timetable source.now).footpaths (story exits.old.items (steps_of stops.old.lists) set_outs.old.items) (story mid (steps_of stops.old.lists) set_outs.old.items) (λ tags. leavings (C.rules criterion.now) (S.timetable source.now) query.now tags place (carried (C.rules criterion.now) bound.now (points_at stops.old (connection_at (S.timetable source.now) place).to))) (trip_points labels.old connection.now.trip) (trip_points labels.new connection.now.trip)
+        × ((stop : ℕ) → Takes (C.rules criterion.now) (S.timetable source.now).footpaths (story mid (steps_of stops.old.lists) set_outs.old.items) (story exits.new.items (steps_of stops.new.lists) set_outs.new.items) (λ tags. boardings (C.rules criterion.now) (S.timetable source.now) tags place stop (carried (C.rules criterion.now) bound.now (trip_points labels.new connection.now.trip))) (points_at stops.old stop) (points_at stops.new stop))
+        × Takes (C.rules criterion.now) (S.timetable source.now).footpaths (story mid (steps_of stops.old.lists) set_outs.old.items) (story exits.new.items (steps_of stops.new.lists) set_outs.new.items) (λ tags. settings_out (C.rules criterion.now) (S.timetable source.now) query.now tags place (trip_points labels.new connection.now.trip)) (points_of found.old) (points_of found.new)) }
 {
     let head = stops.heads[connection.to as usize];
     alight(
@@ -71,28 +72,30 @@ fn step_in<S: ConnSource, C: Criterion>(
         place,
         bound,
         labels,
+        connection.trip,
         exits,
         &stops.lists,
         head,
     )?;
+    let here = labels.of(connection.trip);
     board(
-        source, criterion, query, connection, place, bound, stops, found, set_outs, labels, ridden,
+        source, criterion, query, connection, place, bound, stops, found, set_outs, here, ridden,
     )?;
     Ok(())
 }
 
-// Whether nothing is offered at a connection, by the slot of its trip and the head of the list of the stop where it ends.
+// Whether nothing is offered at a connection, by how many labels its trip has and the head of the list of the stop where it ends.
 fn offers_nothing(
-    slot: u32,
+    labels: u32,
     head: u32,
     alight: bool,
     to: u32,
     target: u32,
     way: Option<u32>,
 ) -> bool
-    ensures { result ≡ true → (slot ≡ 0) × (alight ≡ true → (to ≢ target) × (way ≡ None) × (head ≡ 0)) }
+    ensures { result ≡ true → (labels ≡ 0) × (alight ≡ true → (to ≢ target) × (way ≡ None) × (head ≡ 0)) }
 {
-    if slot > 0 {
+    if labels > 0 {
         return false;
     }
     if !alight {
@@ -114,15 +117,16 @@ fn is_idle<C: Criterion>(
     way: Option<u32>,
     connection: &Connection,
 ) -> bool
-    requires trip { connection.now.trip < length scan.now.labels.slots.items }
+    requires trip { connection.now.trip < length (runs_of scan.now.labels) }
+    requires labels { (rules : Rules _) × AreLabels rules scan.now.labels }
     requires stop { connection.now.to < vec_len scan.now.stops.heads }
     requires sound { IsSound C.rules scan.now.stops.lists }
     ensures { result ≡ true → IsIdle query.now connection.now way ((kept_by scan.now).labels connection.now.trip) ((kept_by scan.now).bag connection.now.to) }
 {
-    let slot = scan.labels.slots[connection.trip as usize];
+    let labels = scan.labels.count(connection.trip);
     let head = scan.stops.heads[connection.to as usize];
     offers_nothing(
-        slot,
+        labels,
         head,
         connection.alight,
         connection.to,
@@ -133,7 +137,6 @@ fn is_idle<C: Criterion>(
 
 /// Takes one connection in.
 pub fn step<S: ConnSource, C: Criterion>(
-    alloc: Global,
     source: &S,
     criterion: &C,
     query: &Query,
@@ -163,8 +166,6 @@ pub fn step<S: ConnSource, C: Criterion>(
         connection.dep,
         &mut scan.bound,
     )?;
-    let slot = place_of(alloc, criterion, &mut scan.labels, connection.trip)?;
-    let labels = &mut scan.labels.bags[slot];
     step_in(
         source,
         criterion,
@@ -174,7 +175,7 @@ pub fn step<S: ConnSource, C: Criterion>(
         place,
         &scan.bound.values,
         &mut scan.stops,
-        labels,
+        &mut scan.labels,
         &mut scan.exits,
         &mut scan.found,
         &mut scan.set_outs,

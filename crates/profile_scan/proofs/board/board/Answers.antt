@@ -9,10 +9,10 @@ use Rattle.timetable.proofs.LegalFacts.{connection_at-stands}
 use Rattle.profile_scan.specs.Matching.{from_to}
 use Rattle.profile_scan.specs.Story.{story, told}
 use Rattle.profile_scan.specs.Steps.{boardings}
-use Rattle.profile_scan.specs.Adding.{AreRidden}
+use Rattle.profile_scan.specs.Adding.{label_points, AreRidden}
 use Rattle.profile_scan.specs.Bound.{carried}
 use Rattle.profile_scan.specs.Kept.{points_at}
-use Rattle.profile_scan.proofs.Offers.{bag_under, takes_none}
+use Rattle.profile_scan.proofs.Offers.{takes_none}
 use Rattle.profile_scan.proofs.StoryLemmas.{grows_on, steps_grow, set_outs_grow}
 use Rattle.profile_scan.proofs.BoundLemmas.{from_carried}
 use Rattle.profile_scan.proofs.RideLemmas.{ridden_admitted, no_ridden}
@@ -38,8 +38,8 @@ pub board_walks-requires-clause-ridden : goal.board_walks-requires-clause-ridden
 board_walks-requires-clause-ridden g c =
     let rules = g.C.Criterion.rules c.args.criterion.now in
     let laws = g.met.C.Criterion.laws c.args.criterion.now in
-    let labels = points_of c.args.labels.now in
-    let admitted = (bag_under g.C.Criterion.rules c.args.labels.now.criterion c.args.criterion.now (points_of c.args.labels.now) c.requires.labels c.args.labels.now.kept).admitted in
+    let labels = label_points c.args.labels.now in
+    let admitted = c.requires.labels in
     subst (λ (rs : List (Ridden g.row.C-V.Denot)). (r : Ridden g.row.C-V.Denot) → Contains rs r → Admits rules r.value) (sym c.deref.ensures.value)
     (ridden_admitted rules (carried rules c.args.bound.now labels) laws (λ p h. admitted p (from_carried rules c.args.bound.now labels p h).0) c.ride_labels.new.ridden.items c.in_ok-ride_labels.ensures)
 
@@ -54,8 +54,8 @@ pub returns-clause-boards : goal.returns-clause-boards
 returns-clause-boards g c exits stop before all ext_before ext =
     let rules = g.C.Criterion.rules c.args.criterion.now in
     let t = g.S.ConnSource.timetable c.args.source.now in
-    let all_labels = points_of c.args.labels.now in
-    let admitted = (bag_under g.C.Criterion.rules c.args.labels.now.criterion c.args.criterion.now (points_of c.args.labels.now) c.requires.labels c.args.labels.now.kept).admitted in
+    let all_labels = label_points c.args.labels.now in
+    let admitted = c.requires.labels in
     let labels = carried rules c.args.bound.now all_labels in
     let are = subst (AreRidden rules labels) (sym c.deref.ensures.value) c.in_ok-ride_labels.ensures in
     let steps = steps_of c.args.stops.now.lists in
@@ -72,22 +72,25 @@ returns-clause-sets_out g c exits before all ext_before ext =
     let outs = c.set_out_walks.new.set_outs.items in
     let steps = steps_of c.args.stops.now.lists in
     let now_steps = steps_of c.board_walks.new.stops.lists in
-    settings_out_taken (g.C.Criterion.rules c.args.criterion.now) t (from_to (told t.footpaths before) (told t.footpaths all)) c.args.first c.args.connection.now c.requires.connection c.if-not-connection.false c.walks_into-begin.result.0 c.walks_into-begin.result.1 c.walks_into-begin.ensures.exact (points_of c.args.labels.now)
+    settings_out_taken (g.C.Criterion.rules c.args.criterion.now) t (from_to (told t.footpaths before) (told t.footpaths all)) c.args.first c.args.connection.now c.requires.connection c.if-not-connection.false c.walks_into-begin.result.0 c.walks_into-begin.result.1 c.walks_into-begin.ensures.exact (label_points c.args.labels.now)
     c.args.query.now (points_of c.args.found.now) (points_of c.set_out_walks.new.found)
     (c.in_ok-set_out_walks.ensures.takes exits steps before all ext_before (grows_on (story exits steps outs) (story exits now_steps outs) all (steps_grow exits steps now_steps outs c.in_ok-board_walks.ensures.steps) ext))
 
 -- all labels are bettered
-pub returns-then-len-eq0-2-clause-boards : goal.returns-then-len-eq0-2-clause-boards
-returns-then-len-eq0-2-clause-boards g c exits stop before all ext_before ext =
+pub returns-then-len-eq0-clause-boards : goal.returns-then-len-eq0-clause-boards
+returns-then-len-eq0-clause-boards g c exits stop before all ext_before ext =
     let rules = g.C.Criterion.rules c.args.criterion.now in
     let t = g.S.ConnSource.timetable c.args.source.now in
-    let labels = carried rules c.args.bound.now (points_of c.args.labels.now) in
+    let labels = carried rules c.args.bound.now (label_points c.args.labels.now) in
     takes_none rules (boardings rules t (from_to (told t.footpaths before) (told t.footpaths all)) c.args.first stop labels) (points_at c.args.stops.now stop)
     (λ way may. no_ridden rules labels c.ride_labels.new.ridden.items c.in_ok-ride_labels.ensures (omega arith) way.label may.is_label)
 
-pub returns-then-len-eq0-2-clause-sets_out : goal.returns-then-len-eq0-2-clause-sets_out
-returns-then-len-eq0-2-clause-sets_out g c exits before all ext_before ext =
+pub returns-then-len-eq0-clause-sets_out : goal.returns-then-len-eq0-clause-sets_out
+returns-then-len-eq0-clause-sets_out g c exits before all ext_before ext =
     let t = g.S.ConnSource.timetable c.args.source.now in
-    settings_out_taken (g.C.Criterion.rules c.args.criterion.now) t (from_to (told t.footpaths before) (told t.footpaths all)) c.args.first c.args.connection.now c.requires.connection c.if-not-connection.false c.walks_into-begin.result.0 c.walks_into-begin.result.1 c.walks_into-begin.ensures.exact (points_of c.args.labels.now)
+    settings_out_taken (g.C.Criterion.rules c.args.criterion.now) t (from_to (told t.footpaths before) (told t.footpaths all)) c.args.first c.args.connection.now c.requires.connection c.if-not-connection.false c.walks_into-begin.result.0 c.walks_into-begin.result.1 c.walks_into-begin.ensures.exact (label_points c.args.labels.now)
     c.args.query.now (points_of c.args.found.now) (points_of c.set_out_walks.new.found)
     (c.in_ok-set_out_walks.ensures.takes exits (steps_of c.args.stops.now.lists) before all ext_before ext)
+
+pub returns-then-len-eq0-clause-grows : goal.returns-then-len-eq0-clause-grows
+returns-then-len-eq0-clause-grows g c exits = set_outs_grow exits (steps_of c.args.stops.now.lists) c.args.set_outs.now.items c.set_out_walks.new.set_outs.items c.in_ok-set_out_walks.ensures.set_outs

@@ -5,7 +5,7 @@ use Rattle.timetable.specs.Journeys.{start_secs}
 use Rattle.fronts.specs.declared.entry.Step.{Step}
 use Rattle.profile_scan.specs.Story.{story}
 use Rattle.profile_scan.specs.declared.story.Exit.{Exit}
-use Rattle.profile_scan.specs.Adding.{Takes, only_if, MayStart, settings_out_after}
+use Rattle.profile_scan.specs.Adding.{label_points, Takes, only_if, MayStart, settings_out_after}
 use Rattle.profile_scan.proofs.board.set_out.Goals as goal
 
 pub returns-else-walk-query-clause-takes : goal.returns-else-walk-query-clause-takes
@@ -16,6 +16,6 @@ returns-else-walk-query-clause-takes g c =
     subst (λ (start : Option Footpath). OnOk c.set_out_in_window-in-Some.result
     ((walks : List Footpath) (exits : List Exit) (steps : List Step) → Takes rules walks (story exits steps old_outs) (story exits steps new_outs)
     (λ tags. only_if (MayStart c.args.query.now c.args.connection.now start)
-    (settings_out_after rules tags c.args.first (c.args.connection.now.dep - start_secs start) start (points_of c.args.labels.now)))
+    (settings_out_after rules tags c.args.first (c.args.connection.now.dep - start_secs start) start (label_points c.args.labels.now)))
     (points_of c.args.found.now) (points_of c.set_out_in_window-in-Some.new.found)))
     (sym c.in-Some.is) c.set_out_in_window-in-Some.ensures.takes

@@ -1,15 +1,16 @@
-use Rattle.std.proofs.Common.{sym, subst, arith}
+use Rattle.std.proofs.Common.{◌≡◌, length, sym, subst, arith}
+use Rattle.std.proofs.lemmas.List.{length-map}
 use Rattle.reasoning.proofs.ListLemmas.{extends_none, extends_on}
 use Rattle.timetable.proofs.LegalFacts.{Contains-At}
 use Rattle.criteria.specs.Laws.{Admits}
 use Rattle.bags.specs.Bag.{points_of}
 use Rattle.bags.specs.declared.point.Point.{Point}
 use Rattle.profile_scan.specs.Values.{started}
-use Rattle.profile_scan.specs.Adding.{set_out_way}
+use Rattle.profile_scan.specs.Adding.{label_points, set_out_way}
 use Rattle.profile_scan.specs.Matching.{from_to}
 use Rattle.profile_scan.specs.Story.{story, told}
 use Rattle.profile_scan.specs.declared.story.SetOut.{SetOut}
-use Rattle.profile_scan.proofs.Offers.{bag_under, start_admits, takes_first, takes_next, takes_worth, takes_all}
+use Rattle.profile_scan.proofs.Offers.{start_admits, takes_first, takes_next, takes_worth, takes_all}
 use Rattle.profile_scan.proofs.StoryLemmas.{set_outs_grow, grows_on}
 use Rattle.profile_scan.proofs.board.set_out_after.Goals as goal
 
@@ -17,24 +18,22 @@ pub loop-place-init : goal.loop-place-init
 loop-place-init g c = record {
   same = c.requires.found;
   set_outs = extends_none c.args.set_outs.now.items;
-  takes = λ walks exits steps before all ext_before ext. takes_first (g.C.Criterion.rules c.args.criterion.now) (points_of c.args.labels.now) _ (points_of c.args.found.now);
+  takes = λ walks exits steps before all ext_before ext. takes_first (g.C.Criterion.rules c.args.criterion.now) (label_points c.args.labels.now) _ (points_of c.args.found.now);
 }
 
 pub add_found-requires-clause-admitted : goal.add_found-requires-clause-admitted
 add_found-requires-clause-admitted g c =
     let rules = g.C.Criterion.rules c.args.criterion.now in
     let laws = g.met.C.Criterion.laws c.args.criterion.now in
-    let labels = bag_under g.C.Criterion.rules c.args.labels.now.criterion c.args.criterion.now (points_of c.args.labels.now) c.requires.labels c.args.labels.now.kept in
-    let x = c.point-label.result in
+    let x = c.label_at-label.result in
     subst (Admits rules) (sym (c.value_after-value.ensures))
-    (start_admits rules laws c.args.start (rules.ride x.value) c.requires.secs (laws.ride_admits x.value (labels.admitted x (Contains-At (points_of c.args.labels.now) c.loop-place.place x c.point-label.ensures))))
+    (start_admits rules laws c.args.start (rules.ride x.value) c.requires.secs (laws.ride_admits x.value (c.requires.labels x (Contains-At (label_points c.args.labels.now) c.loop-place.place x c.label_at-label.ensures))))
 
 pub loop-place-preserved : goal.loop-place-preserved
 loop-place-preserved g c =
     let rules = g.C.Criterion.rules c.args.criterion.now in
     let laws = g.met.C.Criterion.laws c.args.criterion.now in
-    let labels = bag_under g.C.Criterion.rules c.args.labels.now.criterion c.args.criterion.now (points_of c.args.labels.now) c.requires.labels c.args.labels.now.kept in
-    let x = c.point-label.result in
+    let x = c.label_at-label.result in
     let worth = c.value_after-value.ensures in
     record {
       same = c.in_ok-add_found.ensures.same;
@@ -45,10 +44,10 @@ loop-place-preserved g c =
           let now = story exits steps c.add_found.new.set_outs.items in
           let tags = from_to (told walks before) (told walks all) in
           let set_out : SetOut = record { start = c.args.start; first = c.args.first; label = x.tag } in
-          takes_next rules (points_of c.args.labels.now)
+          takes_next rules (label_points c.args.labels.now)
           (λ (label : Point g.row.C-V.Denot). set_out_way tags c.args.departure (started rules c.args.start (rules.ride label.value)) (record { start = c.args.start; first = c.args.first; label = label.tag }))
-          c.loop-place.place x (points_of c.args.found.now) (points_of c.loop-place.found) (points_of c.add_found.new.found) c.point-label.ensures
-          (λ y way is opened. start_admits rules laws c.args.start (rules.ride y.value) c.requires.secs (laws.ride_admits y.value (labels.admitted y is)))
+          c.loop-place.place x (points_of c.args.found.now) (points_of c.loop-place.found) (points_of c.add_found.new.found) c.label_at-label.ensures
+          (λ y way is opened. start_admits rules laws c.args.start (rules.ride y.value) c.requires.secs (laws.ride_admits y.value (c.requires.labels y is)))
           (c.loop-place.invariant.takes walks exits steps before all ext_before (grows_on mid now all (set_outs_grow exits steps c.loop-place.set_outs.items c.add_found.new.set_outs.items c.in_ok-add_found.ensures.set_outs) ext))
           (takes_worth rules c.args.departure c.value_after-value.result (started rules c.args.start (rules.ride x.value)) ((set_out_way tags c.args.departure x.value set_out).fits_tag tt) (points_of c.loop-place.found) (points_of c.add_found.new.found) worth
           (c.in_ok-add_found.ensures.takes walks exits steps before all (grows_on before was mid ext_before (set_outs_grow exits steps c.args.set_outs.now.items c.loop-place.set_outs.items c.loop-place.invariant.set_outs)) ext));
@@ -58,6 +57,9 @@ pub returns-clause-takes : goal.returns-clause-takes
 returns-clause-takes g c walks exits steps before all ext_before ext =
     let rules = g.C.Criterion.rules c.args.criterion.now in
     let tags = from_to (told walks before) (told walks all) in
-    takes_all rules (points_of c.args.labels.now) c.args.departure (λ label. started rules c.args.start (rules.ride label.value)) (λ label. (set_out_way tags c.args.departure label.value (record { start = c.args.start; first = c.args.first; label = label.tag })).fits_tag tt) _ c.loop-place.place (points_of c.args.found.now) (points_of c.loop-place.found) (omega arith)
+    let labels = c.args.labels.now in
+    let long : length (label_points labels) ≡ length labels = length-map labels _ in
+    let over = c.loop-place-test.false in
+    takes_all rules (label_points c.args.labels.now) c.args.departure (λ label. started rules c.args.start (rules.ride label.value)) (λ label. (set_out_way tags c.args.departure label.value (record { start = c.args.start; first = c.args.first; label = label.tag })).fits_tag tt) _ c.loop-place.place (points_of c.args.found.now) (points_of c.loop-place.found) (omega arith)
     (λ label tag h. h)
     (c.loop-place.invariant.takes walks exits steps before all ext_before ext)

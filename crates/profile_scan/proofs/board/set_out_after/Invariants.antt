@@ -5,7 +5,7 @@ use Rattle.timetable.specs.declared.network.Footpath.{Footpath}
 use Rattle.fronts.specs.declared.entry.Step.{Step}
 use Rattle.fronts.specs.Front.{Extends}
 use Rattle.profile_scan.specs.Story.{story}
-use Rattle.profile_scan.specs.Adding.{Takes, set_out_way, each_of, StandsBefore}
+use Rattle.profile_scan.specs.Adding.{label_points, Takes, set_out_way, each_of, StandsBefore}
 use Rattle.profile_scan.specs.declared.story.Exit.{Exit}
 use Rattle.profile_scan.proofs.board.set_out_after.Given as goal
 
@@ -15,5 +15,5 @@ invariant-loop-place g l =
     record {
       same : criterion_of l.found ≡ l.criterion;
       set_outs : Extends l.fn.set_outs.items l.set_outs.items;
-      takes : (walks : List Footpath) (exits : List Exit) (steps : List Step) → Takes rules walks (story exits steps l.fn.set_outs.items) (story exits steps l.set_outs.items) (λ tags. each_of (StandsBefore (points_of l.labels) l.place) (λ label. set_out_way tags l.departure (started rules l.start (rules.ride label.value)) (record { start = l.start; first = l.first; label = label.tag }))) (points_of l.fn.found) (points_of l.found);
+      takes : (walks : List Footpath) (exits : List Exit) (steps : List Step) → Takes rules walks (story exits steps l.fn.set_outs.items) (story exits steps l.set_outs.items) (λ tags. each_of (StandsBefore (label_points l.labels) l.place) (λ label. set_out_way tags l.departure (started rules l.start (rules.ride label.value)) (record { start = l.start; first = l.first; label = label.tag }))) (points_of l.fn.found) (points_of l.found);
     }

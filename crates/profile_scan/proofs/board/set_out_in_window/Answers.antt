@@ -4,7 +4,7 @@ use Rattle.timetable.specs.Journeys.{start_secs}
 use Rattle.profile_scan.specs.Steps.{TakesIn}
 use Rattle.profile_scan.specs.Matching.{from_to}
 use Rattle.profile_scan.specs.Story.{told}
-use Rattle.profile_scan.specs.Adding.{MayStart, settings_out_after}
+use Rattle.profile_scan.specs.Adding.{label_points, MayStart, settings_out_after}
 use Rattle.profile_scan.proofs.Offers.{on_ok_more, takes_if}
 use Rattle.profile_scan.proofs.board.set_out_in_window.Goals as goal
 
@@ -16,6 +16,6 @@ returns-in-Some-clause-takes g c =
     let new = points_of c.set_out_after.new.found in
     on_ok_more c.set_out_after.result _ _
     (λ takes walks exits steps before all ext_before ext. takes_if rules (MayStart c.args.query.now c.args.connection.now c.args.start)
-    (settings_out_after rules (from_to (told walks before) (told walks all)) c.args.first (c.args.connection.now.dep - start_secs c.args.start) c.args.start (points_of c.args.labels.now)) old new is.0
-    (subst (λ (n : ℕ). TakesIn rules (settings_out_after rules (from_to (told walks before) (told walks all)) c.args.first n c.args.start (points_of c.args.labels.now)) old new) is.1 (takes walks exits steps before all ext_before ext)))
+    (settings_out_after rules (from_to (told walks before) (told walks all)) c.args.first (c.args.connection.now.dep - start_secs c.args.start) c.args.start (label_points c.args.labels.now)) old new is.0
+    (subst (λ (n : ℕ). TakesIn rules (settings_out_after rules (from_to (told walks before) (told walks all)) c.args.first n c.args.start (label_points c.args.labels.now)) old new) is.1 (takes walks exits steps before all ext_before ext)))
     c.set_out_after.ensures.takes

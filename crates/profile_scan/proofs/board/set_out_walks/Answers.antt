@@ -4,8 +4,7 @@ use Rattle.bags.specs.Bag.{points_of}
 use Rattle.profile_scan.specs.Matching.{from_to}
 use Rattle.profile_scan.specs.Story.{story, told}
 use Rattle.profile_scan.specs.Steps.{TakesIn}
-use Rattle.profile_scan.specs.Adding.{each_of, IsTried, settings_out_by}
-use Rattle.profile_scan.proofs.Offers.{bag_under}
+use Rattle.profile_scan.specs.Adding.{label_points, each_of, IsTried, settings_out_by}
 use Rattle.profile_scan.proofs.StoryLemmas.{grows_on, set_outs_grow}
 use Rattle.profile_scan.proofs.BoardLemmas.{starts_first, starts_next}
 use Rattle.profile_scan.proofs.board.set_out_walks.Goals as goal
@@ -16,8 +15,8 @@ loop-place-init g c =
     let laws = g.met.C.Criterion.laws c.args.criterion.now in
     let t = g.S.ConnSource.timetable c.args.source.now in
     let limits = g.met.S.ConnSource.limits c.args.source.now in
-    let labels = points_of c.args.labels.now in
-    let admitted = (bag_under g.C.Criterion.rules c.args.labels.now.criterion c.args.criterion.now (points_of c.args.labels.now) c.requires.labels c.args.labels.now.kept).admitted in
+    let labels = label_points c.args.labels.now in
+    let admitted = c.requires.labels in
     record {
       found = c.in_ok-set_out.ensures.same;
       set_outs = c.in_ok-set_out.ensures.set_outs;
@@ -30,8 +29,8 @@ loop-place-preserved g c =
     let laws = g.met.C.Criterion.laws c.args.criterion.now in
     let t = g.S.ConnSource.timetable c.args.source.now in
     let limits = g.met.S.ConnSource.limits c.args.source.now in
-    let labels = points_of c.args.labels.now in
-    let admitted = (bag_under g.C.Criterion.rules c.args.labels.now.criterion c.args.criterion.now (points_of c.args.labels.now) c.requires.labels c.args.labels.now.kept).admitted in
+    let labels = label_points c.args.labels.now in
+    let admitted = c.requires.labels in
     let inv = c.loop-place.invariant in
     let walk = c.footpath_into-walk.result in
     let old_outs = c.args.set_outs.now.items in
@@ -57,5 +56,5 @@ returns-clause-takes g c exits steps before all ext_before ext =
     let over = c.loop-place-test.false in
     let within = c.loop-place.auto.place-end c.requires.order in
     let at_end : c.loop-place.place ≡ c.args.end = omega arith in
-    subst (λ (n : ℕ). TakesIn rules (each_of (IsTried t.footpaths c.args.begin n) (settings_out_by rules (from_to (told t.footpaths before) (told t.footpaths all)) c.args.first c.args.connection.now c.args.query.now (points_of c.args.labels.now))) (points_of c.args.found.now) (points_of c.loop-place.found)) at_end
+    subst (λ (n : ℕ). TakesIn rules (each_of (IsTried t.footpaths c.args.begin n) (settings_out_by rules (from_to (told t.footpaths before) (told t.footpaths all)) c.args.first c.args.connection.now c.args.query.now (label_points c.args.labels.now))) (points_of c.args.found.now) (points_of c.loop-place.found)) at_end
     (c.loop-place.invariant.takes exits steps before all ext_before ext)

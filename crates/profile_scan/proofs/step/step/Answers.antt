@@ -1,29 +1,24 @@
-use Rattle.std.proofs.Common.{◌≡◌, ◌<◌, ◌+◌, ◌∙◌, ℕ, List, Contains, length-set, slice_index, arith, ap, sym, subst}
+use Rattle.std.proofs.Common.{◌<◌, ◌+◌, ◌∙◌, ℕ, List, Contains, slice_index, arith, ap, sym, subst}
 use Rattle.criteria.specs.Laws.{Admits}
-use Rattle.std.proofs.lemmas.List.Elements.{All-set}
 use Rattle.timetable.specs.declared.network.Connection.{Connection}
 use Rattle.timetable.specs.Journeys.{connection_at}
 use Rattle.timetable.proofs.LegalFacts.{connection_at-stands}
 use Rattle.profile_scan.specs.Matching.{from_to}
-use Rattle.bags.specs.Bag.{criterion_of, points_of}
+use Rattle.bags.specs.Bag.{points_of}
 use Rattle.fronts.specs.Lists.{entries_of, items_of, lists_criterion, steps_of}
 use Rattle.fronts.proofs.Mapped.{list_admitted}
 use Rattle.profile_scan.specs.Bound.{carried}
-use Rattle.profile_scan.specs.Steps.{TakesIn, leavings, boardings}
+use Rattle.profile_scan.specs.Steps.{TakesIn, leavings, boardings, settings_out}
+use Rattle.profile_scan.specs.Adding.{label_points, trip_points}
 use Rattle.profile_scan.specs.Story.{story, told}
-use Rattle.profile_scan.specs.Kept.{ArePlaced, IsWay, kept_by, points_at, story_of}
+use Rattle.profile_scan.specs.Kept.{IsWay, kept_by, points_at, story_of}
 use Rattle.profile_scan.proofs.Admitted.{AreAdmitted}
 use Rattle.profile_scan.proofs.Offers.{bag_under}
 use Rattle.profile_scan.proofs.BoundLemmas.{bounds_renewed, bounds_on, carried_by_bounds}
 use Rattle.profile_scan.proofs.StoryLemmas.{grows_none, grows_keeps}
-use Rattle.profile_scan.proofs.StepFacts.{step_holds, step_idle_at}
+use Rattle.profile_scan.proofs.StepFacts.{step_idle_at}
+use Rattle.profile_scan.proofs.LabelLemmas.{trip_admitted}
 use Rattle.profile_scan.proofs.step.step.Goals as goal
-
-pub place_of-requires-clause-trip : goal.place_of-requires-clause-trip
-place_of-requires-clause-trip g c =
-    let t = g.S.ConnSource.timetable c.args.source.now in
-    let in_trips = (g.met.S.ConnSource.legal c.args.source.now).trips_in_range c.args.place (connection_at t c.args.place) (connection_at-stands t c.args.place c.requires.place) in
-    subst (λ (n : ℕ). c.args.connection.now.trip < n) (sym c.requires.scan.long) (subst (λ (x : Connection). x.trip < t.trips) (sym c.requires.connection) in_trips)
 
 pub secs_from-way-requires : goal.secs_from-way-requires
 secs_from-way-requires g c =
@@ -63,9 +58,8 @@ returns-then-is_idle-clause-step g c =
 pub returns-clause-scan : goal.returns-clause-scan
 returns-clause-scan g c = record {
   at_stops = c.in_ok-step_in.ensures.stops;
-  long = c.in_ok-slot.ensures.long ∙ c.requires.scan.long;
-  placed = subst (λ (n : ℕ). ArePlaced c.place_of.new.labels.slots.items n) (sym (length-set c.place_of.new.labels.bags.items c.in_ok-slot.slot c.step_in.new.labels)) c.in_ok-slot.ensures.placed;
-  labels = All-set (λ b. criterion_of b ≡ c.args.criterion.now) c.place_of.new.labels.bags.items c.in_ok-slot.slot c.step_in.new.labels c.in_ok-step_in.ensures.labels c.in_ok-slot.ensures.bags;
+  long = c.in_ok-step_in.ensures.labels.long ∙ c.requires.scan.long;
+  labels = c.in_ok-step_in.ensures.labels.labels;
   found = c.in_ok-step_in.ensures.found;
 }
 
@@ -104,11 +98,23 @@ returns-then-is_idle-clause-bound g c =
     let scan = c.args.scan.now in
     bounds_on rules laws t (points_of scan.found) (points_of scan.found) (c.args.place + 1) c.args.place scan.bound.values.items (omega arith) (λ d v a covers. covers) c.requires.bound
 
+pub is_idle-requires-clause-labels : goal.is_idle-requires-clause-labels
+is_idle-requires-clause-labels g c = (g.C.Criterion.rules c.args.criterion.now, c.requires.scan.labels)
+
+pub step_in-requires-clause-trip : goal.step_in-requires-clause-trip
+step_in-requires-clause-trip g c =
+    let t = g.S.ConnSource.timetable c.args.source.now in
+    let in_trips = (g.met.S.ConnSource.legal c.args.source.now).trips_in_range c.args.place (connection_at t c.args.place) (connection_at-stands t c.args.place c.requires.place) in
+    subst (λ (n : ℕ). c.args.connection.now.trip < n) (sym c.requires.scan.long) (subst (λ (x : Connection). x.trip < t.trips) (sym c.requires.connection) in_trips)
+
 pub returns-clause-step : goal.returns-clause-step
 returns-clause-step g c =
     let rules = g.C.Criterion.rules c.args.criterion.now in
     let laws = g.met.C.Criterion.laws c.args.criterion.now in
     let t = g.S.ConnSource.timetable c.args.source.now in
+    let q = c.args.query.now in
+    let i = c.args.place in
+    let at = c.requires.connection in
     let legal = g.met.S.ConnSource.legal c.args.source.now in
     let scan = c.args.scan.now in
     let was = story_of scan in
@@ -117,25 +123,39 @@ returns-clause-step g c =
     let mid = story taken.0 (steps_of scan.stops.lists) scan.set_outs.items in
     let values = c.renew.new.bound.values.items in
     let values_is = c.deref.ensures.value in
+    let first = from_to (told t.footpaths was) (told t.footpaths mid) in
+    let second = from_to (told t.footpaths mid) (told t.footpaths now) in
+    let old_found = points_of scan.found in
+    let new_found = points_of c.step_in.new.found in
     let sets_out = taken.5 mid now (grows_none mid) (grows_none now) in
-    let found = bag_under g.C.Criterion.rules scan.found.criterion c.args.criterion.now (points_of scan.found) c.requires.scan.found scan.found.kept in
-    let new_found = bag_under g.C.Criterion.rules c.step_in.new.found.criterion c.args.criterion.now (points_of c.step_in.new.found) c.in_ok-step_in.ensures.found c.step_in.new.found.kept in
-    let labels = bag_under g.C.Criterion.rules c.step_in.new.labels.criterion c.args.criterion.now (points_of c.step_in.new.labels) c.in_ok-step_in.ensures.labels c.step_in.new.labels.kept in
-    let bounds = bounds_renewed rules laws t legal (points_of scan.found) found.admitted c.args.place c.args.connection.now.dep c.requires.place (ap (λ (x : Connection). x.dep) c.requires.connection) scan.bound.values.items values c.requires.bound c.in_ok-renew.ensures in
-    let new_bounds = bounds_on rules laws t (points_of scan.found) (points_of c.step_in.new.found) (c.args.place + 1) (c.args.place + 1) values (omega arith) sets_out.kept bounds in
-    let bag = points_at scan.stops (connection_at t c.args.place).to in
-    let bag_admitted = subst (λ k. AreAdmitted (g.C.Criterion.rules k) bag) c.requires.scan.at_stops.under (list_admitted (g.C.Criterion.rules (lists_criterion scan.stops.lists)) (entries_of scan.stops.lists) (items_of scan.stops.lists) c.requires.scan.at_stops.sound (slice_index scan.stops.heads.items (connection_at t c.args.place).to)) in
-    step_holds rules t c.args.query.now (from_to (told t.footpaths was) (told t.footpaths now)) c.args.place
-    (points_at scan.stops) (points_at c.step_in.new.stops) scan.labels.slots.items c.place_of.new.labels.slots.items scan.labels.bags.items c.place_of.new.labels.bags.items (points_of scan.found) (points_of c.step_in.new.found) c.index_mut-labels.result.now c.step_in.new.labels c.in_ok-slot.slot
-    (carried rules values bag) (carried rules values (points_of c.step_in.new.labels))
-    (told t.footpaths mid) (grows_keeps t.footpaths was mid taken.1) (grows_keeps t.footpaths mid now taken.2)
-    c.in_ok-slot.ensures.same c.in_ok-slot.ensures.placed
-    (subst (λ (x : Connection). slice_index c.place_of.new.labels.slots.items x.trip ≡ c.in_ok-slot.slot + 1) c.requires.connection c.in_ok-slot.ensures.place)
-    c.index_mut-labels.ensures.value
-    (carried_by_bounds rules laws t (points_of scan.found) found.admitted c.args.place values bounds bag bag_admitted)
-    (carried_by_bounds rules laws t (points_of c.step_in.new.found) new_found.admitted c.args.place values new_bounds (points_of c.step_in.new.labels) labels.admitted)
-    (subst (λ (vs : List g.row.C-V.Denot). TakesIn rules (leavings rules t c.args.query.now (from_to (told t.footpaths was) (told t.footpaths mid)) c.args.place (carried rules vs bag)) (points_of c.index_mut-labels.result.now) (points_of c.step_in.new.labels)) values_is
-    (taken.3 was mid (grows_none was) (grows_none mid)))
-    (λ stop. subst (λ (vs : List g.row.C-V.Denot). TakesIn rules (boardings rules t (from_to (told t.footpaths mid) (told t.footpaths now)) c.args.place stop (carried rules vs (points_of c.step_in.new.labels))) (points_at scan.stops stop) (points_at c.step_in.new.stops stop)) values_is
-    (taken.4 stop mid now (grows_none mid) (grows_none now)))
-    sets_out
+    let found = bag_under g.C.Criterion.rules scan.found.criterion c.args.criterion.now old_found c.requires.scan.found scan.found.kept in
+    let found_now = bag_under g.C.Criterion.rules c.step_in.new.found.criterion c.args.criterion.now new_found c.in_ok-step_in.ensures.found c.step_in.new.found.kept in
+    let bounds = bounds_renewed rules laws t legal old_found found.admitted i c.args.connection.now.dep c.requires.place (ap (λ (x : Connection). x.dep) at) scan.bound.values.items values c.requires.bound c.in_ok-renew.ensures in
+    let new_bounds = bounds_on rules laws t old_found new_found (i + 1) (i + 1) values (omega arith) sets_out.kept bounds in
+    let bag = points_at scan.stops (connection_at t i).to in
+    let bag_admitted = subst (λ k. AreAdmitted (g.C.Criterion.rules k) bag) c.requires.scan.at_stops.under (list_admitted (g.C.Criterion.rules (lists_criterion scan.stops.lists)) (entries_of scan.stops.lists) (items_of scan.stops.lists) c.requires.scan.at_stops.sound (slice_index scan.stops.heads.items (connection_at t i).to)) in
+    let old = trip_points scan.labels in
+    let new = trip_points c.step_in.new.labels in
+    let trip = (connection_at t i).trip in
+    record {
+      between = told t.footpaths mid;
+      kept_first = grows_keeps t.footpaths was mid taken.1;
+      kept_then = grows_keeps t.footpaths mid now taken.2;
+      changing = carried rules values bag;
+      changing_are = carried_by_bounds rules laws t old_found found.admitted i values bounds bag bag_admitted;
+      boarding = carried rules values (new trip);
+      boarding_are = carried_by_bounds rules laws t new_found found_now.admitted i values new_bounds (new trip) (trip_admitted rules c.step_in.new.labels c.in_ok-step_in.ensures.labels.labels trip);
+      leaves =
+          subst (λ (x : Connection). TakesIn rules (leavings rules t q first i (carried rules values bag)) (old x.trip) (new x.trip)) at
+          (subst (λ (vs : List g.row.C-V.Denot). TakesIn rules (leavings rules t q first i (carried rules vs bag)) (old c.args.connection.now.trip) (new c.args.connection.now.trip)) values_is
+          (taken.3 was mid (grows_none was) (grows_none mid)));
+      other_trips = λ k other. ap label_points (c.in_ok-step_in.ensures.labels.same k (λ e. other (e ∙ ap (λ (x : Connection). x.trip) at)));
+      boards = λ stop lt.
+          subst (λ (x : Connection). TakesIn rules (boardings rules t second i stop (carried rules values (new x.trip))) (points_at scan.stops stop) (points_at c.step_in.new.stops stop)) at
+          (subst (λ (vs : List g.row.C-V.Denot). TakesIn rules (boardings rules t second i stop (carried rules vs (new c.args.connection.now.trip))) (points_at scan.stops stop) (points_at c.step_in.new.stops stop)) values_is
+          (taken.4 stop mid now (grows_none mid) (grows_none now)));
+      sets_out = subst (λ (x : Connection). TakesIn rules (settings_out rules t q second i (new x.trip)) old_found new_found) at sets_out;
+    }
+
+pub renew-requires-clause-values : goal.renew-requires-clause-values
+renew-requires-clause-values g c = c.requires.bound.admitted

@@ -1,4 +1,4 @@
-use Rattle.std.proofs.Common.{ap, ◌∙◌}
+use Rattle.std.proofs.Common.{ap}
 use Rattle.fronts.specs.Lists.{point_of}
 use Rattle.std.proofs.Common.{map}
 use Rattle.fronts.proofs.Points.{none_at_end}

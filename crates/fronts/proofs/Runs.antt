@@ -1,0 +1,126 @@
+-- Labels put where a run has room, or at the end.
+use Rattle.std.proofs.Common.{◌≡◌, ℕ, ◌+◌, ◌-◌, ◌<◌, ◌≤◌, not, List, [], ◌∷◌, ◌++◌, length, take, drop, set, Contains, inl, inr, refl, sym, ◌∙◌, ap, subst, arith, append_assoc, length-append, length-drop, get_or-set_same, get_or-set_other}
+use Rattle.std.proofs.lemmas.Bool.{cases_eq}
+use Rattle.std.proofs.lemmas.List.{take-append-drop, take_at, drop_at, length-take-le}
+use Rattle.std.proofs.lemmas.Slice.{drop-append-drop}
+use Rattle.std.proofs.lemmas.List.Elements.{Contains-append_cases, Contains-append_left, Contains-append_right, Contains-push_cases}
+use Rattle.reasoning.proofs.ListLemmas.{from_filter}
+use Rattle.criteria.specs.Laws.{Rules, Admits}
+use Rattle.fronts.specs.declared.labels.Label.{Label}
+use Rattle.fronts.specs.declared.labels.Run.{Run}
+use Rattle.fronts.specs.Labels.{AreApart, AreRuns, ArePut, labels_in, no_run, others, run_at}
+use Rattle.fronts.proofs.Growth.{same_part}
+
+-- what is in a part is in the whole
+pub in_part : {X : Type 0} (xs : List X) (r c : ℕ) (x : X) → Contains (take c (drop r xs)) x → Contains xs x
+in_part {X} xs r c x h =
+    let behind = subst (λ (ys : List X). Contains ys x) (take-append-drop c (drop r xs)) (Contains-append_left (take c (drop r xs)) (drop c (drop r xs)) x h) in
+    subst (λ (ys : List X). Contains ys x) (take-append-drop r xs) (Contains-append_right (take r xs) (drop r xs) x behind)
+
+in_front : {X : Type 0} (xs : List X) (n : ℕ) (x : X) → Contains (take n xs) x → Contains xs x
+in_front {X} xs n x h = subst (λ (ys : List X). Contains ys x) (take-append-drop n xs) (Contains-append_left (take n xs) (drop n xs) x h)
+
+in_rest : {X : Type 0} (xs : List X) (n : ℕ) (x : X) → Contains (drop n xs) x → Contains xs x
+in_rest {X} xs n x h = subst (λ (ys : List X). Contains ys x) (take-append-drop n xs) (Contains-append_right (take n xs) (drop n xs) x h)
+
+module _ {V : Type 0} where
+  -- over what stood in the run
+  pub over_puts : (old : List (Label V)) (run : Run) (new now : List (Label V)) (count : ℕ) → count ≡ length new → count ≤ run.room → run.first + run.room ≤ length old → now ≡ take run.first old ++ (new ++ drop (run.first + length new) old)
+      → ArePut old run new (record { first = run.first; count = count; room = run.room }) now
+  over_puts old run new now count long fits within e =
+      let f = run.first in
+      let rest = drop (run.first + length new) old in
+      let front_long : length (take run.first old) ≡ run.first = length-take-le run.first old (omega arith) in
+      let all_long : length now ≡ length old =
+      let a = length-append (take f old) (new ++ rest) in
+      let b = length-append new rest in
+      let c = length-drop (f + length new) old in
+      let d = ap length e in
+      omega arith in
+      let front_new : length (take run.first old ++ new) ≡ run.first + length new = length-append (take f old) new ∙ ap (λ (n : ℕ). n + length new) front_long in
+      record {
+        counted = fits;
+        within = omega arith;
+        longer = omega arith;
+        here = ap (λ (xs : List (Label V)). take count (drop f xs)) e ∙ ap (take count) (drop_at (take f old) (new ++ rest) f front_long) ∙ take_at new rest count (sym long);
+        others = λ other counted in_old apart. elim apart [
+          | inl before ↦
+              ap (λ (xs : List (Label V)). labels_in xs other) e
+              ∙ same_part (take f old) (take f old ++ (new ++ rest)) (new ++ rest, refl) other.first other.count (omega arith)
+              ∙ sym (same_part (take f old) old (drop f old, sym (take-append-drop f old)) other.first other.count (omega arith))
+          | inr after ↦
+              ap (λ (xs : List (Label V)). labels_in xs other) (e ∙ sym (append_assoc (take f old) new rest))
+              ∙ ap (take other.count) (drop-append-drop (f + length new) old (take f old ++ new) other.first (omega arith) front_new)
+        ];
+        apart = λ other in_old apart. apart;
+        only = λ l h. elim (Contains-append_cases (take f old) (new ++ rest) l (subst (λ (xs : List (Label V)). Contains xs l) e h)) [
+          | inl front ↦ inl (in_front old f l front)
+          | inr more ↦ elim (Contains-append_cases new rest l more) [ inl is ↦ inr is | inr behind ↦ inl (in_rest old (f + length new) l behind) ]
+        ];
+      }
+
+  -- at the end, with room behind
+  pub end_puts : (old : List (Label V)) (run : Run) (new mid now : List (Label V)) (first count room : ℕ) → first ≡ length old → count ≡ length new → room ≡ length now - first → mid ≡ old ++ new → now ≡ mid ++ drop 1 new
+      → ArePut old run new (record { first = first; count = count; room = room }) now
+  end_puts old run new mid now first count room at long roomy e_mid e_now =
+      let rest = drop 1 new in
+      let e : now ≡ old ++ (new ++ rest) = e_now ∙ ap (λ (xs : List (Label V)). xs ++ rest) e_mid ∙ append_assoc old new rest in
+      let all_long : length now ≡ length old + length new + length rest =
+      let a = ap length e in
+      let b = length-append old (new ++ rest) in
+      let c = length-append new rest in
+      omega arith in
+      record {
+        counted = omega arith;
+        within = omega arith;
+        longer = omega arith;
+        here = ap (λ (xs : List (Label V)). take count (drop first xs)) e ∙ ap (take count) (drop_at old (new ++ rest) first (sym at)) ∙ take_at new rest count (sym long);
+        others = λ other counted in_old apart. same_part old now (new ++ rest, e) other.first other.count (omega arith);
+        apart = λ other in_old apart. inl (omega arith);
+        only = λ l h. elim (Contains-append_cases old (new ++ rest) l (subst (λ (xs : List (Label V)). Contains xs l) e h)) [
+          | inl was ↦ inl was
+          | inr more ↦ elim (Contains-append_cases new rest l more) [ inl is ↦ inr is | inr behind ↦ inr (in_rest new 1 l behind) ]
+        ];
+      }
+
+swap : (a b : Run) → AreApart a b → AreApart b a
+swap a b apart = elim apart [ inl before ↦ inr before | inr after ↦ inl after ]
+
+-- one run replaced
+module _ (runs : List Run) (trip : ℕ) (placed : Run) (in_runs : trip < length runs) where
+  pub run_here : (k : ℕ) → k ≡ trip → run_at (set runs trip placed) k ≡ placed
+  run_here k e = ap (run_at (set runs trip placed)) e ∙ get_or-set_same runs trip placed no_run in_runs
+
+  pub run_there : (k : ℕ) → (k ≡ trip → ⊥) → run_at (set runs trip placed) k ≡ run_at runs k
+  run_there k other = get_or-set_other runs trip k placed no_run other
+
+  pub runs_put : (places now : ℕ) → AreRuns runs places → placed.count ≤ placed.room → placed.first + placed.room ≤ now → places ≤ now → ((other : Run) → other.first + other.room ≤ places → AreApart other (run_at runs trip) → AreApart other placed) → AreRuns (set runs trip placed) now
+  runs_put places now are counted within longer keeps = record {
+    counted = λ k. elim (cases_eq k trip) [
+      | inl e ↦ subst (λ (r : Run). r.count ≤ r.room) (sym (run_here k e)) counted
+      | inr other ↦ subst (λ (r : Run). r.count ≤ r.room) (sym (run_there k other)) (are.counted k)
+    ];
+    within = λ k. elim (cases_eq k trip) [
+      | inl e ↦ subst (λ (r : Run). r.first + r.room ≤ now) (sym (run_here k e)) within
+      | inr other ↦ (let was = are.within k in subst (λ (r : Run). r.first + r.room ≤ now) (sym (run_there k other)) (omega arith))
+    ];
+    apart = λ a b differ. elim (cases_eq a trip) [
+      | inl ea ↦ elim (cases_eq b trip) [
+        | inl eb ↦ absurd (differ (ea ∙ sym eb))
+        | inr ob ↦
+            subst (λ (r : Run). AreApart r (run_at (set runs trip placed) b)) (sym (run_here a ea))
+            (subst (λ (r : Run). AreApart placed r) (sym (run_there b ob)) (swap (run_at runs b) placed (keeps (run_at runs b) (are.within b) (are.apart b trip ob))))
+      ]
+      | inr oa ↦ subst (λ (r : Run). AreApart r (run_at (set runs trip placed) b)) (sym (run_there a oa)) (elim (cases_eq b trip) [
+        | inl eb ↦ subst (λ (r : Run). AreApart (run_at runs a) r) (sym (run_here b eb)) (keeps (run_at runs a) (are.within a) (are.apart a trip oa))
+        | inr ob ↦ subst (λ (r : Run). AreApart (run_at runs a) r) (sym (run_there b ob)) (are.apart a b differ)
+      ])
+    ];
+  }
+
+-- a value that comes, and the labels that stay
+pub with_admitted : {V : Type 0} (rules : Rules V) (labels : List (Label V)) (run : Run) (v : V) (label : Label V) → ((l : Label V) → Contains labels l → Admits rules l.value) → Admits rules label.value → (l : Label V) → Contains (others rules v (labels_in labels run) ++ label ∷ []) l → Admits rules l.value
+with_admitted rules labels run v label admitted fits l h = elim (Contains-push_cases (others rules v (labels_in labels run)) label l h) [
+  | inl stays ↦ admitted l (in_part labels run.first run.count l (from_filter (λ x. not (rules.no_worse v x.value)) (labels_in labels run) l stays).0)
+  | inr e ↦ subst (λ (x : Label _). Admits rules x.value) e fits
+]
