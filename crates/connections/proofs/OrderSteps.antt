@@ -53,7 +53,8 @@ pub sorted_by : {F : Type 0} {g : Mut F (Bor Connection × Unit {0}) ℕ} {f : F
     → ((f : F) (a : Bor Connection × Unit {0}) (r : ℕ) (f' : F) → Called g f a r f' → r ≡ order_of a.0.now) → AreSorted xs
 sorted_by {g = g} {f = f} cs xs digits moved up calls i j d lt within =
     let sorted = up order_of (answers_always g (λ a r. r ≡ order_of a.0.now) f calls) in
-    let numbers = rising xs (λ k e less. not_less (order_of (get_or xs (k + 1) e)) (order_of (get_or xs k e)) (sorted k e (omega arith) less)) i j d lt within in
+    let numbers = rising xs
+    (λ k e less. not_less (order_of (get_or xs (k + 1) e)) (order_of (get_or xs k e)) (sorted k e (omega arith) less)) i j d lt within in
     let of : (k : ℕ) → k < length xs → HasDigits (get_or xs k d) =
     λ k less. let at = Contains-permutation xs cs (get_or xs k d) (IsPermutation-sym cs xs moved) (Contains-get_or xs k d less) in
     subst HasDigits at.2 (digits at.0 (get_or xs k d) at.1) in

@@ -12,7 +12,8 @@ loop-row-init c = record {
   place = refl;
   left = let e = ap length c.into_iter-row-iterator.ensures.into_iter_gives.0 in omega (arith, e);
   within = omega arith;
-  first = first_turn-is (turns_by c.args.order.now c.args.rows.now) 0 0 c.requires.rising (omega arith) (λ k d low lt. absurd (omega arith)) (λ d lt. omega arith);
+  first = first_turn-is (turns_by c.args.order.now c.args.rows.now) 0 0 c.requires.rising (omega arith)
+      (λ k d low lt. absurd (omega arith)) (λ d lt. omega arith);
   before = λ k d low lt. absurd (omega arith);
   fine = first_below-start _;
   timed = c.in-Ok.ensures.items;
@@ -26,8 +27,10 @@ loop-row-preserved c = record {
   first = c.end_of_trip-end.ensures.end;
   before = c.end_of_trip-end.ensures.before;
   fine = first_below-more (trip_fault c.args.strict (turns_by c.args.order.now c.args.rows.now) c.args.rows.now) c.loop-row.place c.loop-row.invariant.fine
-      (trip_fault-at c.args.strict (turns_by c.args.order.now c.args.rows.now) c.args.rows.now c.loop-row.place c.loop-row.first c.end_of_trip-end.result c.loop-row.invariant.first c.end_of_trip-end.ensures.end ∙ c.in-Ok-judge_trip.ensures.ok);
-  timed = c.in-Ok-push.ensures.items ∙ feed_trips-more (turns_by c.args.order.now c.args.rows.now) c.args.rows.now (λ t. slice_index_or c.args.repeats.now t false) c.loop-row.place c.loop-row.yielded c.in-Some.row c.loop-row.timed.items
+      (trip_fault-at c.args.strict (turns_by c.args.order.now c.args.rows.now) c.args.rows.now c.loop-row.place c.loop-row.first
+      c.end_of_trip-end.result c.loop-row.invariant.first c.end_of_trip-end.ensures.end ∙ c.in-Ok-judge_trip.ensures.ok);
+  timed = c.in-Ok-push.ensures.items ∙ feed_trips-more (turns_by c.args.order.now c.args.rows.now) c.args.rows.now
+      (λ t. slice_index_or c.args.repeats.now t false) c.loop-row.place c.loop-row.yielded c.in-Some.row c.loop-row.timed.items
       c.loop-row.first c.end_of_trip-end.result c.flex_at.result c.is_flex.result c.loop-row.invariant.place c.loop-row.invariant.timed c.loop-row.invariant.first c.end_of_trip-end.ensures.end c.flex_at.ensures c.is_flex.ensures;
 }
 
@@ -35,5 +38,7 @@ pub returns-in-Err-clause-err : goal.returns-in-Err-clause-err
 returns-in-Err-clause-err c = λ other.
     let step = ap length c.in-Some.ensures.steps.0 in
     let lt : c.loop-row.place < length c.args.trips.items = omega (arith, step, c.loop-row.invariant.left, c.loop-row.invariant.place) in
-    first_below-found (trip_fault c.args.strict (turns_by c.args.order.now c.args.rows.now) c.args.rows.now) (length c.args.trips.items) c.loop-row.place c.in-Err.fault lt c.loop-row.invariant.fine
-    (trip_fault-at c.args.strict (turns_by c.args.order.now c.args.rows.now) c.args.rows.now c.loop-row.place c.loop-row.first c.end_of_trip-end.result c.loop-row.invariant.first c.end_of_trip-end.ensures.end ∙ c.in-Err.ensures.err other)
+    first_below-found (trip_fault c.args.strict (turns_by c.args.order.now c.args.rows.now) c.args.rows.now) (length c.args.trips.items)
+    c.loop-row.place c.in-Err.fault lt c.loop-row.invariant.fine
+    (trip_fault-at c.args.strict (turns_by c.args.order.now c.args.rows.now) c.args.rows.now c.loop-row.place c.loop-row.first
+    c.end_of_trip-end.result c.loop-row.invariant.first c.end_of_trip-end.ensures.end ∙ c.in-Err.ensures.err other)

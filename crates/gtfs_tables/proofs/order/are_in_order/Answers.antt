@@ -18,5 +18,7 @@ loop-at-preserved c =
 pub returns : goal.returns
 returns c holds =
     let some : 0 < length c.args.rows.now = search rules in
-    let end : length c.args.rows.now ≡ c.loop-at.at = (let over = c.loop-at-test.false in let under = c.loop-at.auto.at-end in omega (arith, over, under, some)) in
+    let over = c.loop-at-test.false in
+    let under = c.loop-at.auto.at-end in
+    let end : length c.args.rows.now ≡ c.loop-at.at = omega (arith, over, under, some) in
     rising_all c.args.trips.now c.args.rows.now c.loop-at.at c.loop-at.last end c.loop-at.invariant
