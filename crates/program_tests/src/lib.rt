@@ -8,6 +8,8 @@ mod checking;
 #[cfg(test)]
 mod command_lines;
 #[cfg(test)]
+mod hostile_images;
+#[cfg(test)]
 mod profiles;
 #[cfg(test)]
 mod running;
@@ -15,6 +17,8 @@ mod running;
 mod serving;
 #[cfg(test)]
 mod tables;
+#[cfg(test)]
+mod town_journeys;
 #[cfg(test)]
 mod transcript;
 #[cfg(test)]
