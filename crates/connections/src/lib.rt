@@ -21,6 +21,3 @@ pub use listing::runs_of;
 pub use report::Report;
 pub use runs::Run;
 pub use times::{RowTimes, TripTimes, trip_times};
-
-#[cfg(test)]
-mod tests;

@@ -15,6 +15,3 @@ pub use feed_files::{FailedNames, FeedFiles, FileFault, FolderFiles, MemoryFiles
 pub use loading::load;
 pub use made::image_of;
 pub use plan::Plan;
-
-#[cfg(test)]
-mod tests;

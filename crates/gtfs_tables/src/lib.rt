@@ -22,8 +22,3 @@ pub use gtfs_rows::{
 };
 pub use joining::join;
 pub use tables::{Feed, Frequency, Place, Stop, Tables, Transfer, Trip};
-
-#[cfg(test)]
-mod memory_tests;
-#[cfg(test)]
-mod tests;

@@ -16,6 +16,3 @@ pub use day::{day_after, day_start};
 pub use fault::DayFault;
 pub use services::{Services, active};
 pub use zone::Zone;
-
-#[cfg(test)]
-mod tests;

@@ -9,6 +9,3 @@ mod lookup;
 
 pub use fault::ListingFault;
 pub use listing::{listed, listed_within};
-
-#[cfg(test)]
-mod tests;

@@ -1,6 +1,6 @@
 // Small feeds joined: what each row becomes, and the first fault of each kind.
 
-use crate::{
+use gtfs_tables::{
     FaultKind, Feed, Frequency, Place, Table, TableFault, Tables, join, read_agency, read_calendar,
     read_calendar_dates, read_frequencies, read_stop_times, read_stops, read_transfers, read_trips,
 };

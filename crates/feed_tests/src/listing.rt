@@ -1,4 +1,3 @@
-use super::*;
 use gtfs_tables::{
     Feed, Place, Stop, Tables, Transfer, TransferKind, join, read_agency, read_calendar_dates,
     read_stop_times, read_stops, read_transfers, read_trips,
@@ -6,6 +5,7 @@ use gtfs_tables::{
 use std::alloc::{AllocError, Global};
 use std::test::Fail;
 use timetable::Footpath;
+use transfers::{ListingFault, listed, listed_within};
 
 fn path(from: u32, to: u32, secs: u32) -> Footpath {
     Footpath { from, to, secs }

@@ -2,12 +2,8 @@
 
 ghost use Rattle.std.specs.Prelude.{◌≡◌};
 
-use crate::asked::DayServices;
-use crate::day::{day_after, day_start};
-use crate::fault::DayFault;
-use crate::services::{Services, active};
-use crate::zone::Zone;
 use gtfs_rows::{CalendarDateRow, CalendarRow, Day, Exception};
+use service_days::{DayFault, DayServices, Services, Zone, active, day_after, day_start};
 use std::alloc::{AllocError, Global};
 use std::test::Fail;
 

@@ -3,8 +3,8 @@
 
 ghost use Rattle.std.specs.Prelude.{◌≡◌};
 
-use crate::spread::spread;
-use crate::{
+use gtfs_tables::spread::spread;
+use gtfs_tables::{
     FaultKind, FrequencyRow, Location, StopRow, StopTimeRow, StopTimes, Tables, TransferKind,
     TransferRow, TripRow, join,
 };

@@ -2,7 +2,7 @@
 
 ghost use Rattle.std.specs.Prelude.{◌≡◌};
 
-use super::*;
+use feed_loader::{FailedNames, FeedFiles, FileFault, LoadFault, MemoryFiles, Plan, Report, load};
 use footpaths::FootFault;
 use gtfs_tables::{Day, FaultKind, Table, TableFault};
 use image_layout::{sample_words, second_sample_words};

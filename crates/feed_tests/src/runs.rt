@@ -1,9 +1,10 @@
 //! Small feeds and what they make.
 
-ghost use Rattle.std.specs.Prelude.{◌≤◌, IfOk};
+ghost use Rattle.std.specs.Prelude.{◌≡◌, ◌≤◌, IfOk};
+ghost use Rattle.connections.specs.Faults.{too_many_of};
 ghost use Rattle.gtfs_tables.specs.Joined.{IsRunnable};
 
-use super::*;
+use connections::{MAX_DAYS, Report, Run, RunsFault, runs_of};
 use gtfs_tables::laws::joined_is_runnable;
 use gtfs_tables::{
     Day, FaultKind, Feed, Table, TableFault, Tables, join, read_agency, read_calendar_dates,
@@ -276,14 +277,14 @@ fn days_without_a_start_are_refused(rt: HostRuntime) -> Result<(), Fail> {
     Ok(())
 }
 
+/// Where there are too many runs, trips.txt is named, and none of its records.
+fn too_many_runs()
+    ensures { too_many_of Table.Trips ≡ RunsFault.Table (record { table = Table.Trips; row = 0; kind = FaultKind.TooMany }) }
+{}
+
 #[test]
 fn faults_name_their_tables(rt: HostRuntime) {
-    let fault = TableFault {
-        table: Table::Trips,
-        row: 0,
-        kind: FaultKind::TooMany,
-    };
-    assert!(rt; crate::fault::too_many(Table::Trips) == RunsFault::Table(fault));
+    too_many_runs();
     assert!(rt; MAX_DAYS == 14);
 }
 

@@ -1,0 +1,15 @@
+//! From a feed's files to its image: tests alone, of the crates that no other test stands in, so that these are proved once.
+#![tactic(auto)]
+
+#[cfg(test)]
+mod days;
+#[cfg(test)]
+mod joining;
+#[cfg(test)]
+mod joining_memory;
+#[cfg(test)]
+mod listing;
+#[cfg(test)]
+mod loading;
+#[cfg(test)]
+mod runs;
