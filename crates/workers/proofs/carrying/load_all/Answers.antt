@@ -10,8 +10,8 @@ loop-init g c =
       next = tt;
       finite = tt;
       loads = c.requires;
-      carried = carries_nothing g.T.Versions.noted (g.F.Feeds.are_files feeds) g.F.Files.FeedFiles.holds (g.F.Feeds.is_plan feeds) (length (g.F.Feeds.named feeds))
-          c.args.orders (g.T.Loads.answers c.args.loader);
+      carried = carries_nothing g.T.Versions.noted (g.F.Feeds.are_files feeds) g.F.Files.FeedFiles.holds (g.F.Feeds.is_plan feeds)
+          (length (g.F.Feeds.named feeds)) c.args.orders (g.T.Loads.answers c.args.loader);
     }
 
 -- an order more was taken and carried out
