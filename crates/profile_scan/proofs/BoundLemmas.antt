@@ -95,7 +95,8 @@ module _ {V : Type 0} (rules : Rules V) where
   pub value_stays : (value : V) (values : List V) → is_bettered rules values value ≡ true → TakesValue rules value values values
   value_stays value values bettered = record { only = λ b h. inl h; kept = λ v a h. h; taken = bettered }
 
-  pub value_comes : (laws : Laws rules) (value : V) (old new : List V) → ((b : V) → Contains old b → Admits rules b) → Admits rules value → new ≡ filter (λ b. not (rules.no_worse value b)) old ++ value ∷ [] → TakesValue rules value old new
+  pub value_comes : (laws : Laws rules) (value : V) (old new : List V) → ((b : V) → Contains old b → Admits rules b) → Admits rules value
+      → new ≡ filter (λ b. not (rules.no_worse value b)) old ++ value ∷ [] → TakesValue rules value old new
   value_comes laws value old new admitted fits e =
       let stay = filter (λ b. not (rules.no_worse value b)) old in
       let into_new : (b : V) → Contains (stay ++ value ∷ []) b → Contains new b = λ b h. subst (λ (xs : List V). Contains xs b) (sym e) h in
@@ -120,7 +121,9 @@ module _ {V : Type 0} (rules : Rules V) where
     each = λ k p low high at. absurd (omega arith);
   }
 
-  pub points_more : (points : List (Point V)) (from place : ℕ) (p : Point V) (old mid new : List V) → AreAdmitted rules points → slice_get points place ≡ Some p → from ≤ place → TakesPoints rules points from place old mid → TakesValue rules p.value mid new → TakesPoints rules points from (place + 1) old new
+  pub points_more : (points : List (Point V)) (from place : ℕ) (p : Point V) (old mid new : List V) → AreAdmitted rules points
+      → slice_get points place ≡ Some p → from ≤ place → TakesPoints rules points from place old mid → TakesValue rules p.value mid new
+      → TakesPoints rules points from (place + 1) old new
   points_more points from place p old mid new admitted at low before one = record {
     only = λ b h. elim (one.only b h) [
       | inl was ↦ elim (before.only b was) [
@@ -140,20 +143,25 @@ module _ {V : Type 0} (rules : Rules V) where
   }
 
   -- those that are late enough
-  pub late_taken : RidingWorsens rules → (points : List (Point V)) (from until time : ℕ) (old new : List V) → ((k : ℕ) (p : Point V) → from ≤ k → k < until → slice_get points k ≡ Some p → time ≤ p.departure) → TakesPoints rules points from until old new → (b : V) → Contains new b → Contains old b ⊎ IsLateValue rules points time b
+  pub late_taken : RidingWorsens rules → (points : List (Point V)) (from until time : ℕ) (old new : List V)
+      → ((k : ℕ) (p : Point V) → from ≤ k → k < until → slice_get points k ≡ Some p → time ≤ p.departure) → TakesPoints rules points from until old new
+      → (b : V) → Contains new b → Contains old b ⊎ IsLateValue rules points time b
   late_taken worsens points from until time old new late takes b h = elim (takes.only b h) [
     | inl was ↦ inl was
     | inr (k, p, low, high, at, worth) ↦ inr (record { worsens = worsens; of = p; is_found = Contains-At points k p at; late = late k p low high at; worth = worth })
   ]
 
-  pub late_each : (points : List (Point V)) (from until time : ℕ) (old new : List V) → ((k : ℕ) (p : Point V) → until ≤ k → slice_get points k ≡ Some p → p.departure < time) → TakesPoints rules points from until old new → (k : ℕ) (p : Point V) → from ≤ k → slice_get points k ≡ Some p → time ≤ p.departure → is_bettered rules new p.value ≡ true
+  pub late_each : (points : List (Point V)) (from until time : ℕ) (old new : List V)
+      → ((k : ℕ) (p : Point V) → until ≤ k → slice_get points k ≡ Some p → p.departure < time) → TakesPoints rules points from until old new
+      → (k : ℕ) (p : Point V) → from ≤ k → slice_get points k ≡ Some p → time ≤ p.departure → is_bettered rules new p.value ≡ true
   late_each points from until time old new rest takes k p low at late = elim (cases_lt k until) [
     | inl lt ↦ takes.each k p low lt at
     | inr ge ↦ (let early = rest k p (omega arith) at in absurd (omega arith))
   ]
 
 -- a bag's points stand by falling departure
-pub falls : {V : Type 0} (rules : Rules V) (points : List (Point V)) → AreListed rules points → (i j : ℕ) (p q : Point V) → i ≤ j → slice_get points i ≡ Some p → slice_get points j ≡ Some q → q.departure ≤ p.departure
+pub falls : {V : Type 0} (rules : Rules V) (points : List (Point V)) → AreListed rules points → (i j : ℕ) (p q : Point V)
+    → i ≤ j → slice_get points i ≡ Some p → slice_get points j ≡ Some q → q.departure ≤ p.departure
 falls rules points listed i j p q le at_i at_j = elim (cases_lt i j) [
   | inl lt ↦
       let within = slice_get_within points j q at_j in
@@ -168,7 +176,8 @@ falls rules points listed i j p q le at_i at_j = elim (cases_lt i j) [
 ]
 
 -- where a point departs before a time, so do all from it on
-pub rest_early : {V : Type 0} (rules : Rules V) (points : List (Point V)) → AreListed rules points → (place time : ℕ) (x : Point V) → slice_get points place ≡ Some x → x.departure < time → (k : ℕ) (p : Point V) → place ≤ k → slice_get points k ≡ Some p → p.departure < time
+pub rest_early : {V : Type 0} (rules : Rules V) (points : List (Point V)) → AreListed rules points → (place time : ℕ) (x : Point V)
+    → slice_get points place ≡ Some x → x.departure < time → (k : ℕ) (p : Point V) → place ≤ k → slice_get points k ≡ Some p → p.departure < time
 rest_early rules points listed place time x at early k p le there = let falling = falls rules points listed place k x p le at there in omega arith
 
 pub no_bounds : {V : Type 0} (rules : Rules V) (t : TimetableValue) (found : List (Point V)) (n : ℕ) (values : List V) → values ≡ [] → AreBounds rules t found n values

@@ -36,7 +36,8 @@ abbrev pub as_point : {V : Type 0} → Label V → Point V
 as_point label = record { departure = 0; value = label.value; tag = label.tag }
 
 -- labels of a trip are of values that the laws speak of
-pub trip_admitted : {V : Type 0} (rules : Rules V) (labels : Labels V) → AreLabels rules labels → (trip : ℕ) (p : Point V) → Contains (trip_points labels trip) p → Admits rules p.value
+pub trip_admitted : {V : Type 0} (rules : Rules V) (labels : Labels V) → AreLabels rules labels → (trip : ℕ) (p : Point V)
+    → Contains (trip_points labels trip) p → Admits rules p.value
 trip_admitted rules labels are trip p h =
     let run = run_at labels.runs.items trip in
     let l = from_map as_point (labels_at labels trip) p h in
@@ -46,7 +47,8 @@ trip_admitted rules labels are trip p h =
 pub relabelled_none : {V : Type 0} (rules : Rules V) (trip : ℕ) (labels : Labels V) → AreLabels rules labels → IsRelabelled rules trip labels labels
 relabelled_none rules trip labels are = record { labels = are; long = refl; same = λ k other. refl }
 
-pub relabelled_on : {V : Type 0} (rules : Rules V) (trip : ℕ) (a b c : Labels V) → IsRelabelled rules trip a b → IsRelabelled rules trip b c → IsRelabelled rules trip a c
+pub relabelled_on : {V : Type 0} (rules : Rules V) (trip : ℕ) (a b c : Labels V) → IsRelabelled rules trip a b → IsRelabelled rules trip b c
+    → IsRelabelled rules trip a c
 relabelled_on rules trip a b c ab bc = record {
   labels = bc.labels;
   long = bc.long ∙ ab.long;
@@ -62,7 +64,8 @@ module _ {V : Type 0} (rules : Rules V) (laws : Laws rules) (old new : List (Lab
   abbrev this : Label V
   this = record { value = v; tag = tag }
 
-  stands_takes : ((p : Point V) → Contains (label_points old) p → Admits rules p.value) → Admits rules v → new ≡ others rules v old ++ this ∷ [] → fits tag → TakesIn rules (one_way 0 v fits) (label_points old) (label_points new)
+  stands_takes : ((p : Point V) → Contains (label_points old) p → Admits rules p.value) → Admits rules v → new ≡ others rules v old ++ this ∷ [] → fits tag
+      → TakesIn rules (one_way 0 v fits) (label_points old) (label_points new)
   stands_takes admitted fit taken named =
       let into_new : (l : Label V) → Contains (others rules v old ++ this ∷ []) l → Contains (label_points new) (as_point l) = λ l h. into_map as_point new l (subst (λ (xs : List (Label V)). Contains xs l) (sym taken) h) in
       let here = into_new this (Contains-push (others rules v old) this) in
@@ -101,6 +104,8 @@ module _ {V : Type 0} (rules : Rules V) (laws : Laws rules) (old new : List (Lab
         (as_point l.0, subst (λ (xs : List (Label V)). Contains (label_points xs) (as_point l.0)) (sym same) (into_map as_point old l.0 l.1), omega arith, l.2);
   }
 
-  pub offered_takes : (stands : Bool) → ((p : Point V) → Contains (label_points old) p → Admits rules p.value) → Admits rules v → stands ≡ not (is_beaten rules old v) → new ≡ cond stands (others rules v old ++ this ∷ []) old → (stands ≡ true → fits tag) → TakesIn rules (one_way 0 v fits) (label_points old) (label_points new)
+  pub offered_takes : (stands : Bool) → ((p : Point V) → Contains (label_points old) p → Admits rules p.value) → Admits rules v
+      → stands ≡ not (is_beaten rules old v) → new ≡ cond stands (others rules v old ++ this ∷ []) old → (stands ≡ true → fits tag)
+      → TakesIn rules (one_way 0 v fits) (label_points old) (label_points new)
   offered_takes true admitted fit is taken named = stands_takes admitted fit taken (named refl)
   offered_takes false admitted fit is taken named = falls_takes (beaten (is_beaten rules old v) is) taken

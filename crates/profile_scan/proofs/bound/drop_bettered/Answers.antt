@@ -10,6 +10,8 @@ stays-requires-clause-other g c = c.requires.values c.index.result.now (is_left 
 pub loop-i-preserved : goal.loop-i-preserved
 loop-i-preserved g c =
     elim c.if-stays.branch [
-      | then-stays w ↦ rw (w.values-is, w.kept-is) (FiltersInPlace-more_set c.loop-i.invariant (omega arith) (sym c.stays.ensures ∙ w.if-stays.true) c.index.ensures)
-      | else-stays w ↦ rw (w.values-is, w.kept-is) (FiltersInPlace-more_no c.loop-i.invariant (omega arith) (sym c.stays.ensures ∙ w.if-stays.false) c.index.ensures)
+      | then-stays w ↦ rw (w.values-is, w.kept-is)
+          (FiltersInPlace-more_set c.loop-i.invariant (omega arith) (sym c.stays.ensures ∙ w.if-stays.true) c.index.ensures)
+      | else-stays w ↦ rw (w.values-is, w.kept-is)
+          (FiltersInPlace-more_no c.loop-i.invariant (omega arith) (sym c.stays.ensures ∙ w.if-stays.false) c.index.ensures)
     ]

@@ -13,7 +13,8 @@ loop-place-init g c = points_none (g.C.Criterion.rules c.args.criterion.now) (po
 pub take_value-requires-clause-values : goal.take_value-requires-clause-values
 take_value-requires-clause-values g c b h =
     let rules = g.C.Criterion.rules c.args.criterion.now in
-    let found = bag_under g.C.Criterion.rules c.args.found.now.criterion c.args.criterion.now (points_of c.args.found.now) c.requires.found c.args.found.now.kept in
+    let bag = c.args.found.now in
+    let found = bag_under g.C.Criterion.rules bag.criterion c.args.criterion.now (points_of bag) c.requires.found bag.kept in
     elim (c.loop-place.invariant.only b h) [
       | inl was ↦ c.requires.values b was
       | inr (k, p, low, high, at, worth) ↦ subst (Admits rules) worth (found.admitted p (Contains-At (points_of c.args.found.now) k p at))
@@ -21,13 +22,16 @@ take_value-requires-clause-values g c b h =
 
 pub take_value-requires-clause-value : goal.take_value-requires-clause-value
 take_value-requires-clause-value g c =
-    let found = bag_under g.C.Criterion.rules c.args.found.now.criterion c.args.criterion.now (points_of c.args.found.now) c.requires.found c.args.found.now.kept in
+    let bag = c.args.found.now in
+    let found = bag_under g.C.Criterion.rules bag.criterion c.args.criterion.now (points_of bag) c.requires.found bag.kept in
     found.admitted c.point-point.result (Contains-At (points_of c.args.found.now) c.loop-place.place c.point-point.result c.point-point.ensures)
 
 pub loop-place-preserved : goal.loop-place-preserved
 loop-place-preserved g c =
-    let found = bag_under g.C.Criterion.rules c.args.found.now.criterion c.args.criterion.now (points_of c.args.found.now) c.requires.found c.args.found.now.kept in
-    points_more (g.C.Criterion.rules c.args.criterion.now) (points_of c.args.found.now) c.args.from c.loop-place.place c.point-point.result c.args.values.now.items c.loop-place.values.items c.take_value.new.values.items
+    let bag = c.args.found.now in
+    let found = bag_under g.C.Criterion.rules bag.criterion c.args.criterion.now (points_of bag) c.requires.found bag.kept in
+    points_more (g.C.Criterion.rules c.args.criterion.now) (points_of bag) c.args.from c.loop-place.place c.point-point.result
+    c.args.values.now.items c.loop-place.values.items c.take_value.new.values.items
     found.admitted c.point-point.ensures (omega arith) c.loop-place.invariant c.in_ok-take_value.ensures
 
 pub returns : goal.returns
@@ -35,4 +39,6 @@ returns g c =
     let over = c.loop-place-test.false in
     let within = c.loop-place.auto.place-end c.requires.order in
     let at_end : c.loop-place.place ≡ c.args.until = omega arith in
-    subst (λ (n : ℕ). TakesPoints (g.C.Criterion.rules c.args.criterion.now) (points_of c.args.found.now) c.args.from n c.args.values.now.items c.loop-place.values.items) at_end c.loop-place.invariant
+    let rules = g.C.Criterion.rules c.args.criterion.now in
+    let points = points_of c.args.found.now in
+    subst (λ (n : ℕ). TakesPoints rules points c.args.from n c.args.values.now.items c.loop-place.values.items) at_end c.loop-place.invariant
