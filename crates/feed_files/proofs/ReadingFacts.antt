@@ -9,14 +9,15 @@ use Rattle.gtfs_rows.specs.declared.fault.Table.TheVariants as tables
 use Rattle.feed_files.specs.declared.reading.ReadFault.{ReadFault}
 use Rattle.feed_files.specs.declared.reading.ReadFault.TheVariants as faults
 use Rattle.gtfs_rows.specs.Faults.{IsFaultOf}
-use Rattle.gtfs_rows.specs.Tables.{HoldsAgencies, HoldsCalendar, HoldsCalendarDates, HoldsStopTimes, calendar_shape}
+use Rattle.gtfs_rows.specs.Tables.{HoldsAgencies, HoldsCalendar, HoldsCalendarDates, HoldsStopTimes, HoldsStopsWithin, HoldsTripsWithin, calendar_shape}
+use Rattle.gtfs_rows.specs.declared.read.TheConstants.{MAX_STOPS, MAX_TRIPS}
 use Rattle.gtfs_rows.specs.declared.rows.AgencyRow.{AgencyRow}
 use Rattle.gtfs_rows.specs.declared.rows.CalendarDateRow.{CalendarDateRow}
 use Rattle.gtfs_rows.specs.declared.rows.CalendarRow.{CalendarRow}
 use Rattle.gtfs_rows.specs.declared.rows.StopRow.{StopRow}
 use Rattle.gtfs_rows.specs.declared.rows.TripRow.{TripRow}
 use Rattle.gtfs_rows.specs.declared.stop_times.StopTimes.{StopTimes}
-use Rattle.feed_files.specs.Reading.{AreFine, CalendarFault, Content, FaultIn, FineBefore, HasRows, HoldsCalendars, HoldsRequired, HoldsStopsInLimit, HoldsTripsInLimit, IsFine, IsFirstFault, IsHeld, NoRows, NoTables, Optional, OptionalFault, Required, Tells, earlier}
+use Rattle.feed_files.specs.Reading.{AreFine, CalendarFault, Content, FaultIn, FineBefore, HasRows, HoldsCalendars, HoldsRequired, IsFine, IsFirstFault, IsHeld, NoRows, NoTables, Optional, OptionalFault, Required, Tells, earlier}
 
 -- what stops the reading of one file stops that of the feed
 pub no_tables : (content : Content) (table : Table) (IsFault : ℕ → FaultKind → Type 0) (fault : ReadFault)
@@ -80,9 +81,9 @@ pub required_fine : (content : Content) (agencies : List AgencyRow) (stops : Lis
 required_fine content agencies stops trips stop_times h = (
   required_rows (λ rows. rows) HoldsAgencies (content tables.Agency) agencies h.agency_txt,
   (
-    required_rows (λ rows. rows) HoldsStopsInLimit (content tables.Stops) stops h.stops_txt,
+    required_rows (λ rows. rows) (HoldsStopsWithin MAX_STOPS) (content tables.Stops) stops h.stops_txt,
     (
-      required_rows (λ rows. rows) HoldsTripsInLimit (content tables.Trips) trips h.trips_txt,
+      required_rows (λ rows. rows) (HoldsTripsWithin MAX_TRIPS) (content tables.Trips) trips h.trips_txt,
       (required_rows (λ rows. rows) HoldsStopTimes (content tables.StopTimes) stop_times h.stop_times_txt, tt),
     ),
   ),

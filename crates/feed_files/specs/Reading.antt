@@ -1,8 +1,8 @@
 -- The tables of a feed's files, and the first thing that is wrong with them.
-use Rattle.std.specs.Prelude.{◌≡◌, ◌≢◌, ◌∷◌, ◌≤◌, ℕ, List, [], length, count_by, Option, Some, None, ⊤, Vec}
+use Rattle.std.specs.Prelude.{◌≡◌, ◌≢◌, ◌∷◌, ℕ, List, [], Option, Some, None, ⊤, Vec}
 use Rattle.std.specs.declared.alloc.Global.{Global}
 use Rattle.gtfs_rows.specs.Faults.{IsFaultOf}
-use Rattle.gtfs_rows.specs.Tables.{HoldsAgencies, HoldsCalendar, HoldsCalendarDates, HoldsFrequencies, HoldsStopTimes, HoldsStops, HoldsTransfers, HoldsTrips, IsStopsFault, IsTripsFault, agency_shape, is_stop, calendar_dates_shape, calendar_shape, frequencies_shape, stop_times_shape, transfers_shape}
+use Rattle.gtfs_rows.specs.Tables.{HoldsAgencies, HoldsCalendar, HoldsCalendarDates, HoldsFrequencies, HoldsStopTimes, HoldsStopsWithin, HoldsTransfers, HoldsTripsWithin, IsStopsFault, IsTripsFault, agency_shape, calendar_dates_shape, calendar_shape, frequencies_shape, stop_times_shape, transfers_shape}
 use Rattle.feed_files.specs.Outcome.{RefusedOrFailed}
 use Rattle.feed_files.specs.declared.reading.ReadFault.{ReadFault}
 use Rattle.gtfs_rows.specs.Told.{file_name}
@@ -48,18 +48,11 @@ abbrev pub Optional : Type 0 → (List ℕ → Type 0) → Option (List ℕ) →
 Optional missing Is None = missing
 Optional missing Is (Some bytes) = Is bytes
 
--- the stops and the trips, no more than there may be
-abbrev pub HoldsStopsInLimit : List ℕ → List StopRow → Type 0
-HoldsStopsInLimit bytes rows = HoldsStops bytes rows × (count_by is_stop rows ≤ MAX_STOPS)
-
-abbrev pub HoldsTripsInLimit : List ℕ → List TripRow → Type 0
-HoldsTripsInLimit bytes rows = HoldsTrips bytes rows × (length rows ≤ MAX_TRIPS)
-
 -- the rows of the files that must be there
 pub record HoldsRequired (content : Content) (agencies : List AgencyRow) (stops : List StopRow) (trips : List TripRow) (stop_times : StopTimes) : Type 0 where
   pub agency_txt : Required (λ bytes. HoldsAgencies bytes agencies) (content tables.Agency)
-  pub stops_txt : Required (λ bytes. HoldsStopsInLimit bytes stops) (content tables.Stops)
-  pub trips_txt : Required (λ bytes. HoldsTripsInLimit bytes trips) (content tables.Trips)
+  pub stops_txt : Required (λ bytes. HoldsStopsWithin MAX_STOPS bytes stops) (content tables.Stops)
+  pub trips_txt : Required (λ bytes. HoldsTripsWithin MAX_TRIPS bytes trips) (content tables.Trips)
   pub stop_times_txt : Required (λ bytes. HoldsStopTimes bytes stop_times) (content tables.StopTimes)
 
 -- the rows of the two calendars, of which one is there
@@ -111,8 +104,8 @@ HasRows {R} Holds bytes = (rows : R) × Holds bytes rows
 -- nothing is wrong with a table's file; with calendar_dates.txt nothing is where one of the two calendars is there
 abbrev pub IsFine : Content → Table → Type 0
 IsFine content tables.Agency = Required (HasRows HoldsAgencies) (content tables.Agency)
-IsFine content tables.Stops = Required (HasRows HoldsStopsInLimit) (content tables.Stops)
-IsFine content tables.Trips = Required (HasRows HoldsTripsInLimit) (content tables.Trips)
+IsFine content tables.Stops = Required (HasRows (HoldsStopsWithin MAX_STOPS)) (content tables.Stops)
+IsFine content tables.Trips = Required (HasRows (HoldsTripsWithin MAX_TRIPS)) (content tables.Trips)
 IsFine content tables.StopTimes = Required (HasRows HoldsStopTimes) (content tables.StopTimes)
 IsFine content tables.Calendar = Optional ⊤ (HasRows HoldsCalendar) (content tables.Calendar)
 IsFine content tables.CalendarDates = Optional (content tables.Calendar ≢ None) (HasRows HoldsCalendarDates) (content tables.CalendarDates)

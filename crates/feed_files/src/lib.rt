@@ -7,7 +7,6 @@ pub mod folder;
 pub mod laws;
 pub mod memory;
 pub mod reading;
-mod tables;
 
 pub use failed::FailedNames;
 pub use files::{FeedFiles, FileFault, LONGEST_FILE};

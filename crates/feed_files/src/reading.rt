@@ -1,16 +1,15 @@
 //! The tables of a feed's files, read one after another.
 
-ghost use Rattle.std.specs.Prelude.{◌≡◌, ◌≢◌, ◌+◌, ◌-◌, ◌^◌, ◌<◌, ℕ, List, Option, None, Some, IfOk, IfErr, option_map};
+ghost use Rattle.std.specs.Prelude.{◌≡◌, ◌≢◌, ◌+◌, ◌-◌, ◌^◌, ◌<◌, ℕ, List, [], Option, None, Some, IfOk, IfErr, option_map};
 ghost use Rattle.gtfs_rows.specs.declared.fault.Table.TheVariants as tables;
 ghost use Rattle.gtfs_rows.specs.Told.{file_name};
 ghost use Rattle.feed_files.specs.Outcome.{failed_by, failed_in};
 ghost use Rattle.feed_files.specs.Reading.{Content, FineBefore, HoldsCalendars, HoldsRequired, HoldsTables, IsHeld, NoRows, NoTables, Optional, OptionalFault, Required, RequiredFault, Tells};
 
 use crate::files::{FeedFiles, FileFault};
-use crate::tables::{FileRows, OptionalRows};
 use gtfs_tables::{
     AgencyRow, CalendarDateRow, CalendarRow, FaultKind, FrequencyRow, IdHash, StopRow, StopTimes,
-    Table, TableFault, Tables, TransferRow, TripRow,
+    Table, TableFault, TableFile, Tables, TransferRow, TripRow,
 };
 use std::alloc::Global;
 use thiserror::Error;
@@ -27,22 +26,21 @@ pub enum ReadFault {
 }
 
 // The bytes of the file of these rows, if there is such a file.
-fn bytes_of<F: FeedFiles, T: FileRows>(
+fn bytes_of<F: FeedFiles, T: TableFile>(
     alloc: Global,
     files: &mut F,
 ) -> Result<Option<Vec<u8>>, ReadFault>
     ensures same { F.holds files.new ≡ F.holds files.old }
     ensures failures { F.failures files.old < 2 ^ 64 - 1 → F.failures files.new ≡ F.failures files.old + failed_in result }
     ensures failed { F.failed files.new ≡ failed_by (F.failed files.old) result }
-    ensures ok { (bytes : Option (List ℕ)) → F.holds files.old (file_name T.table) ≡ Some bytes → IfOk result (λ file. option_map (λ read. read.items) file ≡ bytes) }
-    ensures err { (bytes : Option (List ℕ)) → F.holds files.old (file_name T.table) ≡ Some bytes → IfErr result (NoRows T.table (OptionalFault T.tells bytes)) }
+    ensures ok { (bytes : Option (List ℕ)) → F.holds files.old (file_name T.TABLE) ≡ Some bytes → IfOk result (λ file. option_map (λ read. read.items) file ≡ bytes) }
+    ensures err { (bytes : Option (List ℕ)) → F.holds files.old (file_name T.TABLE) ≡ Some bytes → IfErr result (NoRows T.TABLE (OptionalFault T.tells bytes)) }
 {
-    let table = T::table();
-    match files.read(alloc, table.file_name()) {
+    match files.read(alloc, T::TABLE.file_name()) {
         Ok(bytes) => Ok(bytes),
-        Err(FileFault::Failed) => Err(ReadFault::FileFailed(table)),
+        Err(FileFault::Failed) => Err(ReadFault::FileFailed(T::TABLE)),
         Err(FileFault::OutOfMemory) => Err(ReadFault::Table(TableFault {
-            table,
+            table: T::TABLE,
             row: 0,
             kind: FaultKind::OutOfMemory,
         })),
@@ -50,24 +48,24 @@ fn bytes_of<F: FeedFiles, T: FileRows>(
 }
 
 // The rows of bytes, as a part of reading the feed.
-fn rows_of<T: FileRows>(alloc: Global, hash: IdHash, bytes: &[u8]) -> Result<Option<T>, ReadFault>
+fn rows_of<T: TableFile>(alloc: Global, hash: IdHash, bytes: &[u8]) -> Result<Option<T>, ReadFault>
     ensures ok { IfOk result (λ rows. IsHeld T.holds (Some bytes.now) rows) }
     ensures failures { failed_in result ≡ 0 }
-    ensures err { IfErr result (NoRows T.table (OptionalFault T.tells (Some bytes.now))) }
+    ensures err { IfErr result (NoRows T.TABLE (OptionalFault T.tells (Some bytes.now))) }
 {
-    match T::rows_of(alloc, hash, bytes) {
+    match T::read(alloc, hash, bytes) {
         Ok(rows) => Ok(Some(rows)),
         Err(fault) => Err(ReadFault::Table(fault)),
     }
 }
 
 // The rows of a file that may be missing.
-fn optional<F: FeedFiles, T: FileRows>(alloc: Global, files: &mut F) -> Result<Option<T>, ReadFault>
+fn optional<F: FeedFiles, T: TableFile>(alloc: Global, files: &mut F) -> Result<Option<T>, ReadFault>
     ensures same { F.holds files.new ≡ F.holds files.old }
     ensures failures { F.failures files.old < 2 ^ 64 - 1 → F.failures files.new ≡ F.failures files.old + failed_in result }
     ensures failed { F.failed files.new ≡ failed_by (F.failed files.old) result }
-    ensures ok { (bytes : Option (List ℕ)) → F.holds files.old (file_name T.table) ≡ Some bytes → IfOk result (λ rows. IsHeld T.holds bytes rows) }
-    ensures err { (bytes : Option (List ℕ)) → F.holds files.old (file_name T.table) ≡ Some bytes → IfErr result (NoRows T.table (OptionalFault T.tells bytes)) }
+    ensures ok { (bytes : Option (List ℕ)) → F.holds files.old (file_name T.TABLE) ≡ Some bytes → IfOk result (λ rows. IsHeld T.holds bytes rows) }
+    ensures err { (bytes : Option (List ℕ)) → F.holds files.old (file_name T.TABLE) ≡ Some bytes → IfErr result (NoRows T.TABLE (OptionalFault T.tells bytes)) }
 {
     match bytes_of::<F, T>(alloc, files) {
         Ok(Some(bytes)) => rows_of(alloc, files.id_hash(), &bytes),
@@ -77,31 +75,33 @@ fn optional<F: FeedFiles, T: FileRows>(alloc: Global, files: &mut F) -> Result<O
 }
 
 // The rows of a file that must be there.
-fn required<F: FeedFiles, T: FileRows>(alloc: Global, files: &mut F) -> Result<T, ReadFault>
+fn required<F: FeedFiles, T: TableFile>(alloc: Global, files: &mut F) -> Result<T, ReadFault>
     ensures same { F.holds files.new ≡ F.holds files.old }
     ensures failures { F.failures files.old < 2 ^ 64 - 1 → F.failures files.new ≡ F.failures files.old + failed_in result }
     ensures failed { F.failed files.new ≡ failed_by (F.failed files.old) result }
-    ensures ok { (bytes : Option (List ℕ)) → F.holds files.old (file_name T.table) ≡ Some bytes → IfOk result (λ rows. Required (λ held. T.holds held rows) bytes) }
-    ensures err { (bytes : Option (List ℕ)) → F.holds files.old (file_name T.table) ≡ Some bytes → IfErr result (NoRows T.table (RequiredFault T.tells bytes)) }
+    ensures ok { (bytes : Option (List ℕ)) → F.holds files.old (file_name T.TABLE) ≡ Some bytes → IfOk result (λ rows. Required (λ held. T.holds held rows) bytes) }
+    ensures err { (bytes : Option (List ℕ)) → F.holds files.old (file_name T.TABLE) ≡ Some bytes → IfErr result (NoRows T.TABLE (RequiredFault T.tells bytes)) }
 {
     match optional::<F, T>(alloc, files) {
         Ok(Some(rows)) => Ok(rows),
-        Ok(None) => Err(ReadFault::Table(T::table().missing())),
+        Ok(None) => Err(ReadFault::Table(T::TABLE.missing())),
         Err(fault) => Err(fault),
     }
 }
 
 // The rows of a file that may be missing, none where it is.
-fn rows_or_none<F: FeedFiles, T: OptionalRows>(alloc: Global, files: &mut F) -> Result<T, ReadFault>
+fn rows_or_none<F: FeedFiles, R: Drop>(alloc: Global, files: &mut F) -> Result<Vec<R>, ReadFault>
+where
+    Vec<R>: TableFile,
     ensures same { F.holds files.new ≡ F.holds files.old }
     ensures failures { F.failures files.old < 2 ^ 64 - 1 → F.failures files.new ≡ F.failures files.old + failed_in result }
     ensures failed { F.failed files.new ≡ failed_by (F.failed files.old) result }
-    ensures ok { (bytes : Option (List ℕ)) → F.holds files.old (file_name T.table) ≡ Some bytes → IfOk result (λ rows. Optional (T.are_none rows) (λ held. T.holds held rows) bytes) }
-    ensures err { (bytes : Option (List ℕ)) → F.holds files.old (file_name T.table) ≡ Some bytes → IfErr result (NoRows T.table (OptionalFault T.tells bytes)) }
+    ensures ok { (bytes : Option (List ℕ)) → F.holds files.old (file_name ⟦<Vec<R> as TableFile>⟧.TABLE) ≡ Some bytes → IfOk result (λ rows. Optional (rows.items ≡ []) (λ held. ⟦<Vec<R> as TableFile>⟧.holds held rows) bytes) }
+    ensures err { (bytes : Option (List ℕ)) → F.holds files.old (file_name ⟦<Vec<R> as TableFile>⟧.TABLE) ≡ Some bytes → IfErr result (NoRows ⟦<Vec<R> as TableFile>⟧.TABLE (OptionalFault ⟦<Vec<R> as TableFile>⟧.tells bytes)) }
 {
-    match optional::<F, T>(alloc, files) {
+    match optional::<F, Vec<R>>(alloc, files) {
         Ok(Some(rows)) => Ok(rows),
-        Ok(None) => Ok(T::none(alloc)),
+        Ok(None) => Ok(Vec::new(alloc)),
         Err(fault) => Err(fault),
     }
 }

@@ -1,6 +1,5 @@
 -- A service_id and a date are told from their key.
-use Rattle.std.proofs.Common.{◌≡◌, ◌+◌, ◌++◌, ◌∷◌, [], ℕ, List, length, take, Option, Some, None, refl, sym, ap, ◌∙◌, length-append, arith}
-use Rattle.std.proofs.lemmas.List.{take-append-le, drop-append-le}
+use Rattle.std.proofs.Common.{◌≡◌, ◌++◌, ◌∷◌, [], ℕ, List, length, Some, refl, sym, ap, ◌∙◌, length-append, arith}
 use Rattle.gtfs_rows.specs.Values.{day_of}
 use Rattle.gtfs_rows.specs.declared.values.Day.{Day}
 

@@ -1,5 +1,5 @@
 -- The eight files of a feed, each with its columns, and what their bytes hold.
-use Rattle.std.specs.Prelude.{◌≡◌, ◌<◌, ◌⊎◌, List, [], ◌∷◌, ℕ, Bool, true, false, codes, length, count_by}
+use Rattle.std.specs.Prelude.{◌≡◌, ◌<◌, ◌≤◌, ◌⊎◌, List, [], ◌∷◌, ℕ, Bool, true, false, codes, length, count_by}
 use Rattle.gtfs_rows.specs.Faults.{HoldsFile, HoldsRows, IsFaultOf, Shape, values_then_key}
 use Rattle.gtfs_rows.specs.Rows.{AreStopTimes, SpellsAgency, SpellsCalendar, SpellsCalendarDate, SpellsFrequency, SpellsStop, SpellsTransfer, SpellsTrip, calendar_date_fault, calendar_fault, frequency_row_fault, judge_agency, no_fault, no_key, service_day_key, no_key, service_key, stop_key, stop_time_fault, trip_key}
 use Rattle.gtfs_rows.specs.declared.fault.FaultKind.{FaultKind}
@@ -106,6 +106,13 @@ is_stop_at _ = false
 -- a row of stops.txt that stands for a stop
 abbrev pub is_stop : StopRow → Bool
 is_stop row = is_stop_at row.location
+
+-- the stops and the trips, no more than there may be
+abbrev pub HoldsStopsWithin : ℕ → List ℕ → List StopRow → Type 0
+HoldsStopsWithin limit bytes rows = HoldsStops bytes rows × (count_by is_stop rows ≤ limit)
+
+abbrev pub HoldsTripsWithin : ℕ → List ℕ → List TripRow → Type 0
+HoldsTripsWithin limit bytes rows = HoldsTrips bytes rows × (length rows ≤ limit)
 
 -- too many stops, or trips, are told of the file once its records are without fault
 abbrev pub IsStopsFault : ℕ → List ℕ → ℕ → FaultKind → Type 0

@@ -2,19 +2,24 @@
 
 ghost use Rattle.std.specs.Prelude.{◌≡◌, []};
 ghost use Rattle.std.specs.List.{AllZip};
+ghost use Rattle.gtfs_rows.specs.Faults.{IsFaultOf};
 ghost use Rattle.gtfs_rows.specs.Rows.{SpellsAgency, is_first_zone, judge_agency};
+ghost use Rattle.gtfs_rows.specs.Tables.{HoldsAgencies, agency_shape};
+ghost use Rattle.gtfs_rows.specs.declared.fault.Table.TheVariants as files;
 
 use crate::cells::{cell, text_in};
-use crate::fault::FaultKind;
-use crate::reader::TableRows;
+use crate::fault::{FaultKind, Table, TableFault};
+use crate::id_hash::IdHash;
+use crate::reader::{TableRows, read_table};
 use crate::rows::AgencyRow;
+use crate::table_file::TableFile;
 use csv::ByteRecord;
 use std::alloc::Global;
 
 // The agencies so far.
 #[derive(Drop)]
-pub(crate) struct Agencies {
-    pub(crate) rows: Vec<AgencyRow>,
+struct Agencies {
+    rows: Vec<AgencyRow>,
 }
 
 // Whether the zone is that of the first agency, if there is one.
@@ -50,5 +55,26 @@ impl TableRows for Agencies {
             return Err(FaultKind::OutOfMemory);
         }
         Ok(())
+    }
+}
+
+impl TableFile for Vec<AgencyRow> {
+    ghost TABLE = { files.Agency };
+
+    ghost holds = { λ bytes rows. HoldsAgencies bytes rows.items };
+
+    ghost tells = { IsFaultOf agency_shape };
+
+    const TABLE: Table = Table::Agency;
+
+    fn read(alloc: Global, _hash: IdHash, bytes: &[u8]) -> Result<Vec<AgencyRow>, TableFault> {
+        let agencies = Agencies {
+            rows: Vec::new(alloc),
+        };
+        let names = ["agency_timezone"];
+        match read_table(agencies, alloc, Table::Agency, bytes, &names, 1) {
+            Ok(agencies) => Ok(agencies.rows),
+            Err(fault) => Err(fault),
+        }
     }
 }

@@ -3,14 +3,18 @@
 ghost use Rattle.std.specs.Prelude.{◌≡◌, ◌<◌, length, None, Some, IfOk, IfErr};
 ghost use Rattle.csv.specs.Records.{fields_of};
 ghost use Rattle.gtfs_rows.specs.Cells.{cell as cell_of};
-ghost use Rattle.gtfs_rows.specs.Faults.{fault_unless};
+ghost use Rattle.gtfs_rows.specs.Faults.{IsFaultOf, fault_unless};
 ghost use Rattle.gtfs_rows.specs.Rows.{SpellsFrequency, SpellsTransfer, frequency_row_fault, headway_fault, no_fault, no_key, transfer_of, typed_transfer};
+ghost use Rattle.gtfs_rows.specs.Tables.{HoldsFrequencies, HoldsTransfers, frequencies_shape, transfers_shape};
 ghost use Rattle.gtfs_rows.specs.Values.{number_of, time_of};
+ghost use Rattle.gtfs_rows.specs.declared.fault.Table.TheVariants as files;
 
 use crate::cells::{cell, text_in};
-use crate::fault::FaultKind;
-use crate::keyed::Row;
+use crate::fault::{FaultKind, Table, TableFault};
+use crate::id_hash::IdHash;
+use crate::keyed::{Row, read_rows};
 use crate::rows::{FrequencyRow, TransferKind, TransferRow};
+use crate::table_file::TableFile;
 use crate::values::{Time, number};
 use csv::ByteRecord;
 use std::alloc::{AllocError, Global};
@@ -84,6 +88,30 @@ impl Row for TransferRow {
     }
 }
 
+impl TableFile for Vec<TransferRow> {
+    ghost TABLE = { files.Transfers };
+
+    ghost holds = { λ bytes rows. HoldsTransfers bytes rows.items };
+
+    ghost tells = { IsFaultOf transfers_shape };
+
+    const TABLE: Table = Table::Transfers;
+
+    fn read(alloc: Global, hash: IdHash, bytes: &[u8]) -> Result<Vec<TransferRow>, TableFault> {
+        let names = [
+            "from_stop_id",
+            "to_stop_id",
+            "transfer_type",
+            "min_transfer_time",
+            "from_route_id",
+            "to_route_id",
+            "from_trip_id",
+            "to_trip_id",
+        ];
+        read_rows(alloc, hash, Table::Transfers, bytes, &names, 2)
+    }
+}
+
 // The time in a column, which isn't blank.
 fn clock_in(fields: &ByteRecord, place: Option<usize>) -> Result<u32, FaultKind>
     ensures ok { IfOk result (λ t. time_of (cell_of place (fields_of fields.now)) ≡ Some t) }
@@ -139,5 +167,20 @@ impl Row for FrequencyRow {
         _fields: &ByteRecord,
     ) -> Result<Option<String>, AllocError> {
         Ok(None)
+    }
+}
+
+impl TableFile for Vec<FrequencyRow> {
+    ghost TABLE = { files.Frequencies };
+
+    ghost holds = { λ bytes rows. HoldsFrequencies bytes rows.items };
+
+    ghost tells = { IsFaultOf frequencies_shape };
+
+    const TABLE: Table = Table::Frequencies;
+
+    fn read(alloc: Global, hash: IdHash, bytes: &[u8]) -> Result<Vec<FrequencyRow>, TableFault> {
+        let names = ["trip_id", "start_time", "end_time", "headway_secs"];
+        read_rows(alloc, hash, Table::Frequencies, bytes, &names, 4)
     }
 }

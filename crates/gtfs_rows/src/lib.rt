@@ -18,20 +18,21 @@ mod services;
 mod source;
 mod stop_times;
 mod stops;
+pub mod table_file;
 pub mod values;
 
 pub use fault::{FaultKind, Table, TableFault};
 pub use id_hash::IdHash;
 pub use read::{
-    MAX_STOPS, MAX_TRIPS, read_agency, read_calendar, read_calendar_by, read_calendar_dates,
-    read_calendar_dates_by, read_frequencies, read_stop_times, read_stop_times_by, read_stops,
-    read_stops_by, read_transfers, read_trips, read_trips_by,
+    MAX_STOPS, MAX_TRIPS, read_agency, read_calendar, read_calendar_dates, read_frequencies,
+    read_stop_times, read_stops, read_transfers, read_trips,
 };
 pub use rows::{
     AgencyRow, CalendarDateRow, CalendarRow, Exception, FrequencyRow, Location, StopRow,
     StopTimeRow, TransferKind, TransferRow, TripRow,
 };
 pub use stop_times::StopTimes;
+pub use table_file::TableFile;
 pub use values::{DateFault, Day, Time, TimeFault};
 
 #[cfg(test)]

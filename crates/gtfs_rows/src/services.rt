@@ -3,14 +3,18 @@
 ghost use Rattle.std.specs.Prelude.{◌≡◌, ◌+◌, ◌<◌, length, None, Some, IfOk, IfErr};
 ghost use Rattle.csv.specs.Records.{fields_of};
 ghost use Rattle.gtfs_rows.specs.Cells.{cell as cell_of};
-ghost use Rattle.gtfs_rows.specs.Faults.{fault_unless};
+ghost use Rattle.gtfs_rows.specs.Faults.{IsFaultOf, fault_unless};
 ghost use Rattle.gtfs_rows.specs.Rows.{SpellsCalendar, SpellsCalendarDate, calendar_date_fault, calendar_fault, exception_of, flag_of, service_day_key, service_key, weekday as weekday_of, weekdays_of};
+ghost use Rattle.gtfs_rows.specs.Tables.{HoldsCalendar, HoldsCalendarDates, calendar_dates_shape, calendar_shape};
 ghost use Rattle.gtfs_rows.specs.Values.{day_of, number_of};
+ghost use Rattle.gtfs_rows.specs.declared.fault.Table.TheVariants as files;
 
 use crate::cells::{cell, text_in};
-use crate::fault::FaultKind;
-use crate::keyed::Row;
+use crate::fault::{FaultKind, Table, TableFault};
+use crate::id_hash::IdHash;
+use crate::keyed::{Row, read_rows};
 use crate::rows::{CalendarDateRow, CalendarRow, Exception};
+use crate::table_file::TableFile;
 use crate::values::{Day, number};
 use csv::ByteRecord;
 use std::alloc::{AllocError, Global};
@@ -101,6 +105,32 @@ impl Row for CalendarRow {
     }
 }
 
+impl TableFile for Vec<CalendarRow> {
+    ghost TABLE = { files.Calendar };
+
+    ghost holds = { λ bytes rows. HoldsCalendar bytes rows.items };
+
+    ghost tells = { IsFaultOf calendar_shape };
+
+    const TABLE: Table = Table::Calendar;
+
+    fn read(alloc: Global, hash: IdHash, bytes: &[u8]) -> Result<Vec<CalendarRow>, TableFault> {
+        let names = [
+            "service_id",
+            "monday",
+            "tuesday",
+            "wednesday",
+            "thursday",
+            "friday",
+            "saturday",
+            "sunday",
+            "start_date",
+            "end_date",
+        ];
+        read_rows(alloc, hash, Table::Calendar, bytes, &names, 10)
+    }
+}
+
 impl Row for CalendarDateRow {
     ghost columns = { 3 };
 
@@ -138,5 +168,20 @@ impl Row for CalendarDateRow {
         let date = text_in(alloc, fields, places[1])?;
         key.push_str(date.as_str())?;
         Ok(Some(key))
+    }
+}
+
+impl TableFile for Vec<CalendarDateRow> {
+    ghost TABLE = { files.CalendarDates };
+
+    ghost holds = { λ bytes rows. HoldsCalendarDates bytes rows.items };
+
+    ghost tells = { IsFaultOf calendar_dates_shape };
+
+    const TABLE: Table = Table::CalendarDates;
+
+    fn read(alloc: Global, hash: IdHash, bytes: &[u8]) -> Result<Vec<CalendarDateRow>, TableFault> {
+        let names = ["service_id", "date", "exception_type"];
+        read_rows(alloc, hash, Table::CalendarDates, bytes, &names, 3)
     }
 }

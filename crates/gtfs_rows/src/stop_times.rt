@@ -4,18 +4,21 @@ ghost use Rattle.std.specs.Prelude.{◌≡◌, ◌≢◌, ◌<◌, ◌++◌, ◌
 ghost use Rattle.std.specs.String.{string_bytes};
 ghost use Rattle.csv.specs.Records.{AllText, fields_of};
 ghost use Rattle.gtfs_rows.specs.Cells.{cell as cell_of};
-ghost use Rattle.gtfs_rows.specs.Faults.{fault_unless};
+ghost use Rattle.gtfs_rows.specs.Faults.{IsFaultOf, fault_unless};
 ghost use Rattle.gtfs_rows.specs.Ids.{given_also};
 ghost use Rattle.gtfs_rows.specs.Source.{Record};
 ghost use Rattle.gtfs_rows.specs.Rows.{AreStopTimes, IsStopId, given_time, is_available, stop_time_fault, time_fault, value};
+ghost use Rattle.gtfs_rows.specs.Tables.{HoldsStopTimes, stop_times_shape};
 ghost use Rattle.gtfs_rows.specs.Values.{number_of};
+ghost use Rattle.gtfs_rows.specs.declared.fault.Table.TheVariants as files;
 
 use crate::cells::cell;
-use crate::fault::FaultKind;
+use crate::fault::{FaultKind, Table, TableFault};
 use crate::id_hash::IdHash;
 use crate::ids::place_of;
-use crate::reader::TableRows;
+use crate::reader::{TableRows, read_table};
 use crate::rows::StopTimeRow;
+use crate::table_file::TableFile;
 use crate::values::{Time, number};
 use csv::ByteRecord;
 use indexmap::IndexSet;
@@ -124,12 +127,12 @@ fn add_stop_time(
 // The stop times read so far, with a guess at each row's stop: trips of a line stand together, so a stop is likely
 // followed by the one that followed it last.
 #[derive(Drop)]
-pub(crate) struct StopTimesRead {
-    pub(crate) times: StopTimes,
+struct StopTimesRead {
+    times: StopTimes,
     // the place of the last row's stop_id
-    pub(crate) last: u32,
+    last: u32,
     // for the place of each stop_id the place of the one that followed it last
-    pub(crate) followers: Vec<u32>,
+    followers: Vec<u32>,
 }
 
 // What followed a place last, if anything.
@@ -171,5 +174,40 @@ impl TableRows for StopTimesRead {
         }
         self.last = stop;
         Ok(())
+    }
+}
+
+impl TableFile for StopTimes {
+    ghost TABLE = { files.StopTimes };
+
+    ghost holds = { HoldsStopTimes };
+
+    ghost tells = { IsFaultOf stop_times_shape };
+
+    const TABLE: Table = Table::StopTimes;
+
+    fn read(alloc: Global, hash: IdHash, bytes: &[u8]) -> Result<StopTimes, TableFault> {
+        let read = StopTimesRead {
+            times: StopTimes {
+                trips: IndexSet::with_hasher(alloc, hash),
+                stops: IndexSet::with_hasher(alloc, hash),
+                rows: Vec::new(alloc),
+            },
+            last: 0,
+            followers: Vec::new(alloc),
+        };
+        let names = [
+            "trip_id",
+            "arrival_time",
+            "departure_time",
+            "stop_id",
+            "stop_sequence",
+            "pickup_type",
+            "drop_off_type",
+        ];
+        match read_table(read, alloc, Table::StopTimes, bytes, &names, 5) {
+            Ok(read) => Ok(read.times),
+            Err(fault) => Err(fault),
+        }
     }
 }

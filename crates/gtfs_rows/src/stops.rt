@@ -1,13 +1,19 @@
 //! stops.txt and trips.txt, whose records have ids.
 
-ghost use Rattle.std.specs.Prelude.{◌≡◌, None, Some};
+ghost use Rattle.std.specs.Prelude.{◌≡◌, ◌≢◌, None, Some, IfOk, IfErr, count_by};
 ghost use Rattle.gtfs_rows.specs.Rows.{SpellsStop, SpellsTrip, location_of, no_fault, stop_key, trip_key};
+ghost use Rattle.gtfs_rows.specs.Tables.{HoldsStopsWithin, HoldsTripsWithin, IsStopsFault, IsTripsFault, is_stop};
 ghost use Rattle.gtfs_rows.specs.Values.{number_of};
+ghost use Rattle.gtfs_rows.specs.declared.fault.Table.TheVariants as files;
+ghost use Rattle.gtfs_rows.specs.declared.read.TheConstants.{MAX_STOPS, MAX_TRIPS};
 
 use crate::cells::{cell, text_in};
-use crate::fault::FaultKind;
-use crate::keyed::Row;
+use crate::fault::{FaultKind, Table, TableFault};
+use crate::id_hash::IdHash;
+use crate::keyed::{Row, read_rows};
+use crate::read::{MAX_STOPS, MAX_TRIPS};
 use crate::rows::{Location, StopRow, TripRow};
+use crate::table_file::TableFile;
 use crate::values::number;
 use csv::ByteRecord;
 use std::alloc::{AllocError, Global};
@@ -62,6 +68,48 @@ impl Row for StopRow {
     }
 }
 
+// How many rows stand for stops.
+fn count_stops(rows: &[StopRow]) -> usize
+    ensures { result ≡ count_by is_stop rows.now }
+{
+    rows.iter()
+        .filter(|row| row.location == Location::Stop)
+        .count()
+}
+
+// The rows of `stops.txt`, of which at most so many are stops.
+pub(crate) fn stops_up_to(
+    limit: usize,
+    alloc: Global,
+    hash: IdHash,
+    bytes: &[u8],
+) -> Result<Vec<StopRow>, TableFault>
+    ensures ok { IfOk result (λ rows. HoldsStopsWithin limit bytes.now rows.items) }
+    ensures file { IfErr result (λ fault. fault.table ≡ Table.Stops) }
+    ensures err { IfErr result (λ fault. fault.kind ≢ FaultKind.OutOfMemory → IsStopsFault limit bytes.now fault.row fault.kind) }
+{
+    let names = ["stop_id", "location_type", "parent_station"];
+    match read_rows(alloc, hash, Table::Stops, bytes, &names, 1) {
+        Ok(rows) if count_stops(&rows) > limit => Err(Table::Stops.fault(0, FaultKind::TooMany)),
+        Ok(rows) => Ok(rows),
+        Err(fault) => Err(fault),
+    }
+}
+
+impl TableFile for Vec<StopRow> {
+    ghost TABLE = { files.Stops };
+
+    ghost holds = { λ bytes rows. HoldsStopsWithin MAX_STOPS bytes rows.items };
+
+    ghost tells = { IsStopsFault MAX_STOPS };
+
+    const TABLE: Table = Table::Stops;
+
+    fn read(alloc: Global, hash: IdHash, bytes: &[u8]) -> Result<Vec<StopRow>, TableFault> {
+        stops_up_to(MAX_STOPS, alloc, hash, bytes)
+    }
+}
+
 impl Row for TripRow {
     ghost columns = { 2 };
 
@@ -91,5 +139,38 @@ impl Row for TripRow {
         fields: &ByteRecord,
     ) -> Result<Option<String>, AllocError> {
         Ok(Some(text_in(alloc, fields, places[1])?))
+    }
+}
+
+// The rows of `trips.txt`, at most so many.
+pub(crate) fn trips_up_to(
+    limit: usize,
+    alloc: Global,
+    hash: IdHash,
+    bytes: &[u8],
+) -> Result<Vec<TripRow>, TableFault>
+    ensures ok { IfOk result (λ rows. HoldsTripsWithin limit bytes.now rows.items) }
+    ensures file { IfErr result (λ fault. fault.table ≡ Table.Trips) }
+    ensures err { IfErr result (λ fault. fault.kind ≢ FaultKind.OutOfMemory → IsTripsFault limit bytes.now fault.row fault.kind) }
+{
+    let names = ["service_id", "trip_id"];
+    match read_rows(alloc, hash, Table::Trips, bytes, &names, 2) {
+        Ok(rows) if rows.len() > limit => Err(Table::Trips.fault(0, FaultKind::TooMany)),
+        Ok(rows) => Ok(rows),
+        Err(fault) => Err(fault),
+    }
+}
+
+impl TableFile for Vec<TripRow> {
+    ghost TABLE = { files.Trips };
+
+    ghost holds = { λ bytes rows. HoldsTripsWithin MAX_TRIPS bytes rows.items };
+
+    ghost tells = { IsTripsFault MAX_TRIPS };
+
+    const TABLE: Table = Table::Trips;
+
+    fn read(alloc: Global, hash: IdHash, bytes: &[u8]) -> Result<Vec<TripRow>, TableFault> {
+        trips_up_to(MAX_TRIPS, alloc, hash, bytes)
     }
 }

@@ -17,10 +17,8 @@ mod times;
 pub use gtfs_rows::{
     AgencyRow, CalendarDateRow, CalendarRow, DateFault, Day, Exception, FaultKind, FrequencyRow,
     IdHash, Location, MAX_STOPS, MAX_TRIPS, StopRow, StopTimeRow, StopTimes, Table, TableFault,
-    Time, TimeFault, TransferKind, TransferRow, TripRow, read_agency, read_calendar,
-    read_calendar_by, read_calendar_dates, read_calendar_dates_by, read_frequencies,
-    read_stop_times, read_stop_times_by, read_stops, read_stops_by, read_transfers, read_trips,
-    read_trips_by,
+    TableFile, Time, TimeFault, TransferKind, TransferRow, TripRow, read_agency, read_calendar,
+    read_calendar_dates, read_frequencies, read_stop_times, read_stops, read_transfers, read_trips,
 };
 pub use joining::join;
 pub use tables::{Feed, Frequency, Place, Stop, Tables, Transfer, Trip};

@@ -1,8 +1,5 @@
-use Rattle.std.proofs.Common.{List, ℕ}
 use Rattle.std.specs.List.{AllZip}
 use Rattle.gtfs_rows.specs.Rows.{AreStopTimes, SpellsAgency, SpellsCalendar, SpellsCalendarDate, SpellsFrequency, SpellsStop, SpellsTransfer, SpellsTrip}
-use Rattle.gtfs_rows.specs.Source.{Record}
-use Rattle.gtfs_rows.specs.Cells.{Places}
 use Rattle.gtfs_rows.specs.Tables.{agency_shape, calendar_dates_shape, calendar_shape, frequencies_shape, stop_times_shape, stops_shape, transfers_shape, trips_shape}
 use Rattle.gtfs_rows.proofs.OneFault.{no_fault}
 use Rattle.gtfs_rows.proofs.laws.held_without_fault.Goals as goal
