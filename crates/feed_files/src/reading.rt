@@ -60,7 +60,10 @@ fn rows_of<T: TableFile>(alloc: Global, hash: IdHash, bytes: &[u8]) -> Result<Op
 }
 
 // The rows of a file that may be missing.
-fn optional<F: FeedFiles, T: TableFile>(alloc: Global, files: &mut F) -> Result<Option<T>, ReadFault>
+fn optional<F: FeedFiles, T: TableFile>(
+    alloc: Global,
+    files: &mut F,
+) -> Result<Option<T>, ReadFault>
     ensures same { F.holds files.new ≡ F.holds files.old }
     ensures failures { F.failures files.old < 2 ^ 64 - 1 → F.failures files.new ≡ F.failures files.old + failed_in result }
     ensures failed { F.failed files.new ≡ failed_by (F.failed files.old) result }
