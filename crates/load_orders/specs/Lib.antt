@@ -1,4 +1,2 @@
-pub mod Ways
 pub mod Queue
 pub mod Asking
-pub mod Telling

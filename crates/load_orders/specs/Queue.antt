@@ -1,5 +1,5 @@
 -- The queue of orders.
-use Rattle.std.specs.Prelude.{◌≡◌, ◌≤◌, ◌++◌, ◌∷◌, List, [], length}
+use Rattle.std.specs.Prelude.{◌≡◌, ◌≤◌, ◌++◌, ◌∷◌, ℕ, List, [], length}
 use Rattle.atomic_table.specs.Seated.{TableId}
 use Rattle.load_orders.specs.declared.queue.Order.{Order}
 use Rattle.load_orders.specs.declared.queue.Known.{Known}
@@ -9,18 +9,18 @@ abbrev pub AtMostFour : {N : Type 0} → List (Order N) → Type 0
 AtMostFour items = length items ≤ 4
 
 -- an end that has put and taken nothing
-abbrev pub nothing : {N : Type 0} → Known N
+abbrev pub nothing : Known
 nothing = record { orders = [] }
 
 -- an end puts an order, or takes one
-abbrev pub IsOneMore : {N : Type 0} → Known N → Order N → Known N → Type 0
-IsOneMore before order after = after ≡ record { orders = before.orders ++ order ∷ [] }
+abbrev pub IsOneMore : {N : Type 0} → Known → Order N → Known → Type 0
+IsOneMore before order after = after ≡ record { orders = before.orders ++ order.feed ∷ [] }
 
 -- which queue, of all that there are
 abbrev pub QueueId : Type 0
 QueueId = TableId
 
 -- an end of a queue, at which orders of feeds are put, or are taken
-pub record EndValue (N : Type 0) : Type 0 where
+pub record EndValue : Type 0 where
   pub queue : QueueId
-  pub orders : List (Order N)  -- that were put or taken here, in order
+  pub feeds : List ℕ  -- of the orders that were put or taken here, in order

@@ -4,12 +4,10 @@
 mod names;
 mod queue;
 mod taking;
-mod ways;
 
 pub use orders::{OrderFault, Orders};
-pub use queue::{MOST_WAITING, Order};
+pub use queue::{LoadAnswer, MOST_WAITING, Order};
 pub use taking::{LoaderOrders, OrderEnd, WorkerOrders, order_queue};
-pub use ways::{LoadAnswer, WayBack};
 
 #[cfg(test)]
 mod tests;

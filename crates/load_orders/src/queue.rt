@@ -1,30 +1,40 @@
 //! The queue under its rule.
 
-use crate::ways::WayBack;
 use crossbeam_channel::protocol::{Lesson, Outcome, Protocol, Split};
-use crossbeam_channel::{RuledReceiver, RuledSender};
+use crossbeam_channel::{RuledReceiver, RuledSender, Sender};
 use std::alloc::Global;
 use std::collections::LinkedList;
 
 /// How many orders may wait.
 pub const MOST_WAITING: usize = 4;
 
-/// An order to load a feed: its place in the list of feeds, and the way back to whoever waits for what comes of it, if somebody does.
+/// What came of a load, as it is told to whoever waits for it.
+#[derive(Drop)]
+pub enum LoadAnswer<N> {
+    /// A version was published, of which this is a notice.
+    Published { notice: N },
+    /// A version was published, and there was no memory for a notice of it.
+    Unnoticed,
+    /// The load or its publish was refused, with this number.
+    Refused { refusal: u8 },
+}
+
+/// An order to load a feed: its place in the list of feeds, and where what comes of it is told, if somebody waits for that.
 #[derive(Drop)]
 pub struct Order<N: Drop> {
     pub feed: usize,
-    pub way_back: Option<WayBack<N>>,
+    pub answer: Option<Sender<LoadAnswer<N>>>,
 }
 
-/// What an end of the queue knows: the orders that it put or took, in order. No value of it is made.
-pub struct Known<N: Drop> {
-    pub orders: LinkedList<Order<N>>,
+/// What an end of the queue knows: the feeds of the orders that it put or took, in order. No value of it is made.
+pub struct Known {
+    pub orders: LinkedList<u64>,
 }
 
 /// The rule: the queue holds at most four orders.
 pub struct Waiting;
 
-impl<N: Drop> Protocol<Order<N>, Known<N>> for Waiting {
+impl<N: Drop> Protocol<Order<N>, Known> for Waiting {
     ghost use Rattle.load_orders.specs.Queue.{AtMostFour, nothing};
 
     ghost holds = { λ items views. AtMostFour items };
@@ -35,13 +45,13 @@ impl<N: Drop> Protocol<Order<N>, Known<N>> for Waiting {
 /// An order joins the queue, or leaves it.
 pub struct Moves;
 
-impl<N: Drop> Outcome<Order<N>, Known<N>> for Moves {
+impl<N: Drop> Outcome<Order<N>, Known> for Moves {
     ghost use Rattle.load_orders.specs.Queue.{IsOneMore};
 
     ghost then = { IsOneMore };
 }
 
-impl<N: Drop> Lesson<Order<N>, Known<N>> for Moves {
+impl<N: Drop> Lesson<Order<N>, Known> for Moves {
     ghost use Rattle.load_orders.specs.Queue.{AtMostFour};
 
     ghost fact = { λ view items. AtMostFour items };
@@ -50,7 +60,7 @@ impl<N: Drop> Lesson<Order<N>, Known<N>> for Moves {
 /// One end more, which has put and taken nothing.
 pub struct Another;
 
-impl<N: Drop> Split<Known<N>> for Another {
+impl Split<Known> for Another {
     ghost use Rattle.load_orders.specs.Queue.{nothing};
 
     ghost left = { λ view. view };
@@ -58,6 +68,6 @@ impl<N: Drop> Split<Known<N>> for Another {
     ghost right = { λ view. nothing };
 }
 
-pub type OrderSender<N> = RuledSender<Order<N>, Known<N>, Waiting, Global>;
+pub type OrderSender<N> = RuledSender<Order<N>, Known, Waiting, Global>;
 
-pub type OrderReceiver<N> = RuledReceiver<Order<N>, Known<N>, Waiting, Global>;
+pub type OrderReceiver<N> = RuledReceiver<Order<N>, Known, Waiting, Global>;

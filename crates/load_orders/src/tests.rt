@@ -130,11 +130,10 @@ fn answer_next<R: Wait>(
     answer: Option<LoadAnswer<u64>>,
 ) -> Option<usize> {
     let order = loader.next(rt)?;
-    let feed = order.feed;
-    if let Some(answer) = answer {
-        loader.answer(rt, order, answer);
+    if let (Some(to), Some(answer)) = (order.answer, answer) {
+        drop(to.send(rt, answer));
     }
-    Some(feed)
+    Some(order.feed)
 }
 
 /// What whoever waits for the feed `fast` is told, where the loader answers so; and which feed the loader was told.

@@ -1,4 +1,3 @@
 pub mod Ends
 pub mod Sessions
 pub mod Loading
-pub mod Carrying
