@@ -309,13 +309,32 @@ pub(crate) fn runs_on(
     let Ok(groups) = rows_by_trip(alloc, &feed.frequencies, feed.trips.len()) else {
         return Err(out_of_memory());
     };
-    let Ok(count) = count_runs(alloc, &services, days, &feed.trips, &groups) else {
+    runs_by(alloc, feed, &services, &groups, days)
+}
+
+// The runs of the days, by the feed's services and by the rows that repeat each of its trips.
+fn runs_by(
+    alloc: Global,
+    feed: &Feed,
+    services: &Services,
+    groups: &[Vec<Frequency>],
+    days: &[ServiceDay],
+) -> Result<Vec<Run>, RunsFault>
+    requires rising { All (λ trip. trip.first ≤ trip.end) feed.now.trips.items }
+    requires grouped { AreGrouped feed.now.frequencies.items (length feed.now.trips.items) groups.now }
+    requires services { HoldsServices feed.now.calendar.items feed.now.calendar_dates.items services.now }
+    ensures ok { IfOk result (λ runs. runs.items ≡ runs_of_days feed.now (map (λ d. d.day) days.now)) }
+    ensures few { IfOk result (λ runs. length runs.items ≤ MAX_TRIPS) }
+    ensures err { IfErr result (λ fault. IsWantOfMemory fault
+        ⊎ ((fault ≡ too_many_of Table.Trips) × (MAX_TRIPS < length (runs_of_days feed.now (map (λ d. d.day) days.now))))) }
+{
+    let Ok(count) = count_runs(alloc, services, days, &feed.trips, groups) else {
         return Err(out_of_memory());
     };
     if count > MAX_TRIPS as usize {
         return Err(too_many(Table::Trips));
     }
-    match list_runs(alloc, &services, days, &feed.trips, &groups, count) {
+    match list_runs(alloc, services, days, &feed.trips, groups, count) {
         Ok(runs) => Ok(runs),
         Err(_) => Err(out_of_memory()),
     }
