@@ -3,73 +3,47 @@
 ghost use Rattle.std.specs.Prelude.{◌≡◌};
 ghost use Rattle.gtfs_rows.specs.Told.{fault_name, fault_number, file_name as name_of_file};
 
-use thiserror::Error;
+use std::error::Error;
+use std::fmt;
 
 /// The files of a feed that are read, in the order of reading.
-#[derive(Clone, Copy, Debug, PartialEq, Eq, Error)]
+#[derive(Clone, Copy, Debug, PartialEq, Eq)]
 pub enum Table {
-    #[error("agency.txt")]
     Agency,
-    #[error("stops.txt")]
     Stops,
-    #[error("trips.txt")]
     Trips,
-    #[error("stop_times.txt")]
     StopTimes,
-    #[error("calendar.txt")]
     Calendar,
-    #[error("calendar_dates.txt")]
     CalendarDates,
-    #[error("transfers.txt")]
     Transfers,
-    #[error("frequencies.txt")]
     Frequencies,
 }
 
 /// What is wrong with a table.
-#[derive(Clone, Copy, Debug, PartialEq, Eq, Error)]
+#[derive(Clone, Copy, Debug, PartialEq, Eq)]
 pub enum FaultKind {
-    #[error("the file is missing")]
     MissingFile,
-    #[error("a required column is missing")]
     MissingColumn,
-    #[error("the file is not UTF-8")]
     BadUtf8,
-    #[error("the record has another number of fields than the header")]
     RowLength,
-    #[error("a field is no time")]
     BadTime,
-    #[error("a field is no date")]
     BadDate,
-    #[error("a field is no number, or none that is allowed")]
     BadNumber,
-    #[error("an earlier record has the id")]
     IdTwice,
-    #[error("no record has the id")]
     UnknownId,
-    #[error("the time zone differs from that of the first agency")]
     ZonesDiffer,
-    #[error("the trip has the stop_sequence twice")]
     SequenceTwice,
-    #[error("the trip begins or ends without a time")]
     EndWithoutTime,
-    #[error("the times of the trip go back")]
     TimeGoesBack,
-    #[error("an arrival is not after the departure before it")]
     HopWithoutDuration,
-    #[error("the place is no stop")]
     NotAStop,
-    #[error("there are too many")]
     TooMany,
-    #[error("out of memory")]
     OutOfMemory,
-    #[error("the headway is 0")]
     BadHeadway,
 }
 
 /// A fault of a feed: the file, the record's number (from 1 after the header; 0 is the file) and what is wrong.
-#[derive(Clone, Copy, Debug, PartialEq, Eq, Error)]
-#[error("{table}, record {row}: {kind}")]
+#[derive(Clone, Copy, Debug, PartialEq, Eq)]
 pub struct TableFault {
     pub table: Table,
     pub row: u64,
@@ -128,7 +102,39 @@ impl FaultKind {
             FaultKind::BadHeadway => "BadHeadway",
         }
     }
+
+    // What is wrong, in words.
+    fn message(self) -> &'static str {
+        match self {
+            FaultKind::MissingFile => "the file is missing",
+            FaultKind::MissingColumn => "a required column is missing",
+            FaultKind::BadUtf8 => "the file is not UTF-8",
+            FaultKind::RowLength => "the record has another number of fields than the header",
+            FaultKind::BadTime => "a field is no time",
+            FaultKind::BadDate => "a field is no date",
+            FaultKind::BadNumber => "a field is no number, or none that is allowed",
+            FaultKind::IdTwice => "an earlier record has the id",
+            FaultKind::UnknownId => "no record has the id",
+            FaultKind::ZonesDiffer => "the time zone differs from that of the first agency",
+            FaultKind::SequenceTwice => "the trip has the stop_sequence twice",
+            FaultKind::EndWithoutTime => "the trip begins or ends without a time",
+            FaultKind::TimeGoesBack => "the times of the trip go back",
+            FaultKind::HopWithoutDuration => "an arrival is not after the departure before it",
+            FaultKind::NotAStop => "the place is no stop",
+            FaultKind::TooMany => "there are too many",
+            FaultKind::OutOfMemory => "out of memory",
+            FaultKind::BadHeadway => "the headway is 0",
+        }
+    }
 }
+
+impl fmt::Display for FaultKind {
+    fn fmt<W: fmt::Write>(&self, f: &mut fmt::Formatter<W>) -> fmt::Result {
+        f.write_str(self.message())
+    }
+}
+
+impl Error for FaultKind {}
 
 impl Table {
     /// The name of the table's file, as `agency.txt`.
@@ -177,3 +183,19 @@ impl Table {
         self.fault(0, FaultKind::OutOfMemory)
     }
 }
+
+impl fmt::Display for Table {
+    fn fmt<W: fmt::Write>(&self, f: &mut fmt::Formatter<W>) -> fmt::Result {
+        f.write_str(self.file_name())
+    }
+}
+
+impl Error for Table {}
+
+impl fmt::Display for TableFault {
+    fn fmt<W: fmt::Write>(&self, f: &mut fmt::Formatter<W>) -> fmt::Result {
+        write!(f, "{}, record {}: {}", self.table, self.row, self.kind)
+    }
+}
+
+impl Error for TableFault {}

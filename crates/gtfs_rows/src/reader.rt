@@ -4,7 +4,7 @@ ghost use Rattle.std.specs.Prelude.{◌≡◌, ◌≢◌, ◌≤◌, ◌+◌, �
 ghost use Rattle.csv.specs.Records.{AllText, fields_of};
 ghost use Rattle.gtfs_rows.specs.Source.{AllRecordsText, IsTableReader, Record, left_of};
 ghost use Rattle.gtfs_rows.specs.Cells.{Places};
-ghost use Rattle.gtfs_rows.specs.Faults.{HoldsFile, IsFaultOf, IsFaultless, IsFirstFault, Judge, Shape, length_first};
+ghost use Rattle.gtfs_rows.specs.Faults.{HoldsFile, HoldsUnder, IsFaultOf, IsFaultUnder, IsFaultless, IsFirstFault, Judge, Shape, length_first};
 
 use crate::cells::{has_required, is_text, places};
 use crate::fault::{FaultKind, Table, TableFault};
@@ -113,15 +113,37 @@ pub(crate) fn read_table<T: TableRows>(
     let mut reader = open_table(alloc, bytes);
     let mut header = ByteRecord::new(alloc);
     match take_record(&mut reader, &mut header) {
-        Err(_) => return Err(table.out_of_memory()),
-        Ok(false) => return Err(table.fault(0, FaultKind::MissingColumn)),
-        Ok(true) => {}
+        Err(_) => Err(table.out_of_memory()),
+        Ok(false) => Err(table.fault(0, FaultKind::MissingColumn)),
+        Ok(true) => read_under(rows, alloc, table, &mut reader, &header, names, required),
     }
-    let Ok(places) = places(alloc, &header, names) else {
+}
+
+// The rows of the records that a reader has left under a header, which must have the required columns.
+fn read_under<T: TableRows>(
+    rows: T,
+    alloc: Global,
+    table: Table,
+    reader: &mut Reader<&[u8]>,
+    header: &ByteRecord,
+    names: &[&str],
+    required: usize,
+) -> Result<T, TableFault>
+    requires wide { length names.now ≡ T.columns }
+    requires required { required ≤ length names.now }
+    requires starts { (places : Places) → T.holds places [] rows }
+    requires sound { IsTableReader reader.old }
+    requires text { AllRecordsText (left_of reader.old) }
+    ensures ok { IfOk result (λ t. HoldsUnder (record { names = map (λ name. name.now) names.now; required = required; judge = T.judge }) T.holds (fields_of header.now) (left_of reader.old) t) }
+    ensures file { IfErr result (λ fault. fault.table ≡ table) }
+    ensures err { IfErr result (λ fault. fault.kind ≢ FaultKind.OutOfMemory
+        → IsFaultUnder (record { names = map (λ name. name.now) names.now; required = required; judge = T.judge }) (fields_of header.now) (left_of reader.old) fault.row fault.kind) }
+{
+    let Ok(places) = places(alloc, header, names) else {
         return Err(table.out_of_memory());
     };
     if !has_required(&places, required) {
         return Err(table.fault(0, FaultKind::MissingColumn));
     }
-    add_records(rows, alloc, table, &mut reader, &places, header.len())
+    add_records(rows, alloc, table, reader, &places, header.len())
 }
