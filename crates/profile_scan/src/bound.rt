@@ -131,28 +131,11 @@ fn take_points<C: Criterion>(
     Ok(())
 }
 
-// Takes the values of the points from a place on that depart at a time or later, and tells where they end.
-fn read_late<C: Criterion>(
-    criterion: &C,
-    found: &Bag<C>,
-    from: usize,
-    time: u32,
-    values: &mut Vec<C::V>,
-) -> Result<usize, AllocError>
-    requires worsens { RidingWorsens (C.rules criterion.now) }
-    requires found { criterion_of found.now ≡ criterion.now }
-    requires from { from ≤ length (points_of found.now) }
-    requires values { (b : _) → Contains values.old.items b → Admits (C.rules criterion.now) b }
-    ensures only { OnOk result ((b : _) → Contains values.new.items b → Contains values.old.items b ⊎ IsLateValue (C.rules criterion.now) (points_of found.now) time b) }
-    ensures each { OnOk result ((k : ℕ) (p : _) → from ≤ k → slice_get (points_of found.now) k ≡ Some p → time ≤ p.departure → is_bettered (C.rules criterion.now) values.new.items p.value ≡ true) }
-{
-    let until = late_until(found, from, time);
-    take_points(criterion, found, from, until, values)?;
-    Ok(until)
-}
-
 // The departure of the point at a place, or 0 past the last.
-fn departure_at<C: Criterion>(found: &Bag<C>, place: usize) -> u32 {
+fn departure_at<C: Criterion>(found: &Bag<C>, place: usize) -> u32
+    ensures there { (p : _) → slice_get (points_of found.now) place ≡ Some p → result ≡ p.departure }
+    ensures past { length (points_of found.now) ≤ place → result ≡ 0 }
+{
     if place >= found.len() {
         return 0;
     }
@@ -161,6 +144,7 @@ fn departure_at<C: Criterion>(found: &Bag<C>, place: usize) -> u32 {
 
 /// Reads values of points that come to be late enough: those that were found since, and those that departed too early. `count` tells
 /// whether points were found. What was read isn't read again, but for points that depart at that time: others may still come among them.
+/// What the values bettered they still better.
 pub fn renew<C: Criterion>(
     criterion: &C,
     found: &Bag<C>,
@@ -170,7 +154,8 @@ pub fn renew<C: Criterion>(
 ) -> Result<(), AllocError>
     requires found { criterion_of found.now ≡ criterion.now }
     requires values { (b : _) → Contains bound.old.values.items b → Admits (C.rules criterion.now) b }
-    ensures { OnOk result ((b : _) → Contains bound.new.values.items b → Contains bound.old.values.items b ⊎ IsLateValue (C.rules criterion.now) (points_of found.now) time b) }
+    ensures only { OnOk result ((b : _) → Contains bound.new.values.items b → Contains bound.old.values.items b ⊎ IsLateValue (C.rules criterion.now) (points_of found.now) time b) }
+    ensures kept { OnOk result ((v : _) → Admits (C.rules criterion.now) v → is_bettered (C.rules criterion.now) bound.old.values.items v ≡ true → is_bettered (C.rules criterion.now) bound.new.values.items v ≡ true) }
 {
     if !criterion.riding_worsens() {
         return Ok(());
@@ -179,7 +164,8 @@ pub fn renew<C: Criterion>(
         return Ok(());
     }
     let from = bound.place.min(found.len());
-    let until = read_late(criterion, found, from, time, &mut bound.values)?;
+    let until = late_until(found, from, time);
+    take_points(criterion, found, from, until, &mut bound.values)?;
     bound.place = late_until(found, from, time.saturating_add(1));
     bound.next = departure_at(found, until);
     bound.count = count;

@@ -1,6 +1,6 @@
 //! One connection: first the labels of its trip, then by them every bag and the points found.
 
-ghost use Rattle.std.specs.Prelude.{◌≡◌, ◌≢◌, ◌<◌, ◌+◌, ℕ, true, List, None, OnOk, Contains, length, vec_len};
+ghost use Rattle.std.specs.Prelude.{◌≡◌, ◌≢◌, ◌↔◌, ◌<◌, ◌+◌, ℕ, true, List, None, OnOk, Contains, length, vec_len};
 ghost use Rattle.criteria.specs.Laws.{Rules, Admits, IsTime};
 ghost use Rattle.timetable.specs.Journeys.{connection_at};
 ghost use Rattle.bags.specs.Bag.{criterion_of, points_of};
@@ -93,7 +93,7 @@ fn offers_nothing(
     target: u32,
     way: Option<u32>,
 ) -> bool
-    ensures { result ≡ true → (labels ≡ 0) × (alight ≡ true → (to ≢ target) × (way ≡ None) × (head ≡ 0)) }
+    ensures { (result ≡ true) ↔ ((labels ≡ 0) × (alight ≡ true → (to ≢ target) × (way ≡ None) × (head ≡ 0))) }
 {
     if labels > 0 {
         return false;
@@ -121,7 +121,7 @@ fn is_idle<C: Criterion>(
     requires labels { (rules : Rules _) × AreLabels rules scan.now.labels }
     requires stop { connection.now.to < vec_len scan.now.stops.heads }
     requires sound { IsSound C.rules scan.now.stops.lists }
-    ensures { result ≡ true → IsIdle query.now connection.now way ((kept_by scan.now).labels connection.now.trip) ((kept_by scan.now).bag connection.now.to) }
+    ensures { (result ≡ true) ↔ IsIdle query.now connection.now way ((kept_by scan.now).labels connection.now.trip) ((kept_by scan.now).bag connection.now.to) }
 {
     let labels = scan.labels.count(connection.trip);
     let head = scan.stops.heads[connection.to as usize];

@@ -1,0 +1,219 @@
+// Bags of points, against what a long history of points leaves.
+
+ghost use Rattle.std.specs.Prelude.{◌<◌, ◌≤◌};
+
+use bags::{Bag, Point};
+use criteria::{Arrival, ArrivalTrips, TimeTrips};
+use std::alloc::{AllocError, Global};
+use std::process::Abort;
+use std::test::Fail;
+
+// A number below a limit, from a generator that goes on from its last number.
+fn draw(state: &mut u32, limit: u32) -> u32
+    requires { 0 < limit }
+    ensures { result < limit }
+{
+    *state = state.wrapping_mul(1_664_525).wrapping_add(1_013_904_223);
+    (*state >> 16) % limit
+}
+
+// A point of few departures, times and numbers of trips, so that many tie.
+fn draw_point(state: &mut u32, tag: usize) -> Point<TimeTrips>
+    ensures time { result.value.time < 12 }
+    ensures trips { result.value.trips < 4 }
+{
+    let departure = draw(state, 16);
+    let time = draw(state, 12);
+    let trips = draw(state, 4) as u16;
+    Point {
+        departure,
+        value: TimeTrips { time, trips },
+        tag,
+    }
+}
+
+// Whether a point departs no earlier, arrives no later and takes no more trips.
+fn covers(point: &Point<TimeTrips>, other: &Point<TimeTrips>) -> bool {
+    point.departure >= other.departure
+        && point.value.time <= other.value.time
+        && point.value.trips <= other.value.trips
+}
+
+// Whether the last point of a history stands at its end: no other covers it.
+fn stands(history: &[Point<TimeTrips>], point: &Point<TimeTrips>) -> bool {
+    history.iter().all(|other| {
+        !covers(other, point) || (covers(point, other) && other.tag >= point.tag)
+    })
+}
+
+fn same(point: &Point<TimeTrips>, other: &Point<TimeTrips>) -> bool {
+    point.departure == other.departure && point.value == other.value && point.tag == other.tag
+}
+
+// How often a bag lists a point.
+fn count(bag: &Bag<ArrivalTrips>, point: &Point<TimeTrips>) -> usize {
+    let mut count = 0usize;
+    for place in 0..bag.len() {
+        if same(&bag.point(place), point) {
+            count = count.saturating_add(1);
+        }
+    }
+    count
+}
+
+// A bag lists what stands of a history, each once, and nothing else.
+fn assert_stands(rt: &impl Abort, bag: &Bag<ArrivalTrips>, history: &[Point<TimeTrips>]) {
+    let mut standing = 0usize;
+    for point in history {
+        let expected = if stands(history, point) { 1 } else { 0 };
+        assert_eq!(rt;
+            count(bag, point),
+            expected,
+            "after {} points",
+            history.len()
+        );
+        standing = standing.saturating_add(expected);
+    }
+    assert_eq!(rt; bag.len(), standing, "after {} points", history.len());
+}
+
+// Whether the point at a place departs at a time or later, and no such point of the bag is better.
+fn is_best(bag: &Bag<ArrivalTrips>, place: usize, time: u32) -> bool {
+    if place >= bag.len() {
+        return false;
+    }
+    let value = bag.point(place).value;
+    for i in 0..bag.len() {
+        let other = bag.point(i);
+        if other.departure >= time
+            && other.value != value
+            && other.value.time <= value.time
+            && other.value.trips <= value.trips
+        {
+            return false;
+        }
+    }
+    bag.point(place).departure >= time
+}
+
+// A bag gives the places of its best points, rising, each once.
+fn assert_best(rt: &impl Abort, bag: &Bag<ArrivalTrips>, time: u32) {
+    let mut next = 0usize;
+    for place in bag.best_from(time) {
+        for skipped in next..place {
+            assert!(rt; !is_best(bag, skipped, time), "missed {skipped} at {time}");
+        }
+        assert!(rt;
+            place >= next && is_best(bag, place, time),
+            "gave {place} at {time}"
+        );
+        next = place.saturating_add(1);
+    }
+    for skipped in next..bag.len() {
+        assert!(rt; !is_best(bag, skipped, time), "missed {skipped} at {time}");
+    }
+}
+
+// A bag's points stand by falling departure, and of equal departures by arrival and number of trips.
+fn assert_order(rt: &impl Abort, bag: &Bag<ArrivalTrips>) {
+    for place in 1..bag.len() {
+        let before = bag.point(place - 1);
+        let point = bag.point(place);
+        let falls = before.departure > point.departure;
+        let together = before.departure == point.departure;
+        let rises = before.value.time < point.value.time
+            || (before.value.time == point.value.time && before.value.trips < point.value.trips);
+        assert!(rt; falls || (together && rises), "at {place}");
+    }
+}
+
+fn check_run(rt: &impl Abort, alloc: Global, seed: u32) -> Result<(), AllocError> {
+    let mut state = seed;
+    let mut history = Vec::new(alloc);
+    let mut bag = Bag::new(alloc, ArrivalTrips);
+    for tag in 0..120 {
+        let point = draw_point(&mut state, tag);
+        history.push(point)?;
+        match bag.insert(point.departure, point.value, point.tag) {
+            Ok(newly) => assert_eq!(rt; newly, stands(&history, &point), "point {tag}"),
+            Err(AllocError) => {
+                history.pop();
+                assert_stands(rt, &bag, &history);
+                return Err(AllocError);
+            }
+        }
+        assert_stands(rt, &bag, &history);
+        assert_order(rt, &bag);
+        for time in 0..18 {
+            assert_best(rt, &bag, time);
+        }
+    }
+    Ok(())
+}
+
+#[test]
+fn a_long_run_keeps_what_stands(rt: HostRuntime) -> Result<(), Fail> {
+    for seed in 1..9 {
+        check_run(&rt, rt.alloc(), seed)?;
+    }
+    Ok(())
+}
+
+#[test]
+fn a_refused_growth_keeps_the_bag(rt: HostRuntime) -> Result<(), Fail> {
+    check_run(&rt, rt.alloc(), 9)?;
+    Ok(())
+}
+
+#[test]
+fn of_two_equal_points_the_first_keeps_its_tag(rt: HostRuntime) -> Result<(), Fail> {
+    let mut bag = Bag::new(rt.alloc(), Arrival);
+    assert!(rt; bag.insert(28_800, 30_000, 1)?);
+    assert!(rt; !bag.insert(28_800, 30_000, 2)?);
+    assert_eq!(rt; bag.len(), 1);
+    assert_eq!(rt; bag.point(0).tag, 1);
+    Ok(())
+}
+
+#[test]
+fn of_points_that_depart_later_the_best_are_told(rt: HostRuntime) -> Result<(), Fail> {
+    let mut bag = Bag::new(rt.alloc(), ArrivalTrips);
+    for tag in 0..40 {
+        let departure = 36_000 - tag as u32 * 60;
+        let direct = TimeTrips {
+            time: departure + 3_000,
+            trips: 1,
+        };
+        let fast = TimeTrips {
+            time: departure + 600,
+            trips: 2,
+        };
+        assert!(rt; bag.insert(departure, direct, tag)?);
+        assert!(rt; bag.insert(departure, fast, tag)?);
+        assert!(rt; !bag.insert(departure, direct, 99)?);
+    }
+    assert_eq!(rt; bag.len(), 80);
+    assert_order(&rt, &bag);
+    let mut best = bag.best_from(34_000);
+    assert_eq!(rt; best.next(), Some(66));
+    assert_eq!(rt; best.next(), Some(67));
+    assert_eq!(rt; best.next(), None);
+    assert_eq!(rt; bag.best_from(33_660).next(), Some(78));
+    assert_eq!(rt; bag.best_from(36_001).next(), None);
+    assert_best(&rt, &bag, 34_000);
+    Ok(())
+}
+
+#[test]
+fn a_later_departure_with_an_earlier_arrival_drops_the_rest(rt: HostRuntime) -> Result<(), Fail> {
+    let mut bag = Bag::new(rt.alloc(), Arrival);
+    assert!(rt; bag.insert(28_800, 30_000, 1)?);
+    assert!(rt; bag.insert(29_400, 30_600, 2)?);
+    assert!(rt; bag.best_from(28_800).next().is_some());
+    assert!(rt; bag.best_from(29_400).next().is_some());
+    assert!(rt; bag.best_from(29_401).next().is_none());
+    assert!(rt; bag.insert(29_400, 29_900, 3)?);
+    assert_eq!(rt; bag.len(), 1);
+    assert_eq!(rt; bag.point(0).tag, 3);
+    Ok(())
+}

@@ -1,0 +1,76 @@
+// Lists of points and their fronts.
+
+ghost use Rattle.std.specs.Prelude.{◌<◌, ◌≤◌, IfOk, length};
+ghost use Rattle.criteria.specs.Laws.{IsTime};
+ghost use Rattle.fronts.specs.Lists.{IsSound, entries_of};
+
+use criteria::{ArrivalTrips, Criterion, TimeTrips};
+use fronts::{FrontLists, Ridden};
+use std::alloc::{AllocError, Global};
+
+// Takes one value in, after no walk.
+fn take(
+    lists: &mut FrontLists<ArrivalTrips>,
+    head: u32,
+    departure: u32,
+    label: u32,
+    time: u32,
+    trips: u16,
+) -> Result<u32, AllocError>
+    requires sound { IsSound ⟦<ArrivalTrips as Criterion>⟧.rules lists.old }
+    requires head { head < length (entries_of lists.old) }
+    requires time { IsTime time }
+    ensures sound { IsSound ⟦<ArrivalTrips as Criterion>⟧.rules lists.new }
+    ensures grows { length (entries_of lists.old) ≤ length (entries_of lists.new) }
+    ensures within { IfOk result (λ new. new < length (entries_of lists.new)) }
+{
+    let ridden = [Ridden {
+        value: TimeTrips { time, trips },
+        label,
+    }];
+    lists.insert(head, departure, 7, 0, 0, &ridden)
+}
+
+// How many points the front from a time on has.
+fn count(lists: &FrontLists<ArrivalTrips>, head: u32, time: u32) -> usize
+    requires sound { IsSound ⟦<ArrivalTrips as Criterion>⟧.rules lists.now }
+    requires head { head < length (entries_of lists.now) }
+{
+    lists.front_len(lists.front_from(head, time))
+}
+
+#[test]
+fn a_list_stays_when_another_is_made_of_it(rt: HostRuntime) -> Result<(), AllocError> {
+    let mut lists = FrontLists::new(rt.alloc(), ArrivalTrips)?;
+    let late = take(&mut lists, 0, 36_000, 1, 40_000, 1)?;
+    let both = take(&mut lists, late, 35_000, 2, 39_000, 2)?;
+    let same = take(&mut lists, both, 35_000, 3, 41_000, 0)?;
+    let earlier = take(&mut lists, same, 34_000, 4, 42_000, 3)?;
+    let all = take(&mut lists, earlier, 37_000, 5, 38_000, 2)?;
+    assert_eq!(rt; count(&lists, same, 36_001), 0);
+    assert_eq!(rt; count(&lists, same, 36_000), 1);
+    assert_eq!(rt; count(&lists, same, 35_000), 3);
+    assert_eq!(rt; count(&lists, all, 37_000), 1);
+    assert_eq!(rt; count(&lists, all, 36_000), 2);
+    assert_eq!(rt; count(&lists, all, 35_000), 3);
+    assert_eq!(rt; count(&lists, all, 34_000), 3);
+    Ok(())
+}
+
+// A list of one point, boarded by label 5.
+#[test]
+fn a_point_tells_its_step(rt: HostRuntime) -> Result<(), AllocError> {
+    let mut lists = FrontLists::new(rt.alloc(), ArrivalTrips)?;
+    let one = take(&mut lists, 0, 36_000, 5, 40_000, 1)?;
+    let front = lists.front_from(one, 36_000);
+    assert!(rt; lists.front_len(front) == 1);
+    let point = lists.front_point(front, 0);
+    assert_eq!(rt; point.departure, 36_000);
+    assert_eq!(rt; point.value.time, 40_000);
+    let Some(step) = lists.step(point.tag) else {
+        return Err(AllocError);
+    };
+    assert_eq!(rt; step.first, 7);
+    assert_eq!(rt; step.label, 5);
+    Ok(())
+}

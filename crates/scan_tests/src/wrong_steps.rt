@@ -1,0 +1,33 @@
+// The laws are false of the definitions that are close to the right ones, and the right ones lead to an answer.
+
+ghost use Rattle.std.specs.Prelude.{[], ◌∷◌};
+ghost use Rattle.timetable.specs.Journeys.{Counts};
+ghost use Rattle.profile_scan.specs.Points.{IsAnswer};
+ghost use Rattle.scan_tests.specs.WrongSteps.{CountsLegByLeg, IsStepWithBagCut, IsStepWithLoopStart, IsStepWithoutChange, IsStepWithoutLabels};
+ghost use Rattle.profile_scan.specs.LawStatements.{CutIsTheSources, OneIndexDown};
+ghost use Rattle.scan_tests.specs.Examples.{one_hop, over_one_hop};
+
+use criteria::{Arrival, Criterion};
+
+fn no_wrong_step_goes_down<C: Criterion>(_criterion: &C)
+    ensures bag_cut { OneIndexDown (C.rules _criterion.now) (IsStepWithBagCut (C.rules _criterion.now)) → ⊥ }
+    ensures loop_start { OneIndexDown (C.rules _criterion.now) (IsStepWithLoopStart (C.rules _criterion.now)) → ⊥ }
+    ensures labels_forgotten { OneIndexDown (C.rules _criterion.now) (IsStepWithoutLabels (C.rules _criterion.now)) → ⊥ }
+    ensures no_change { OneIndexDown (C.rules _criterion.now) (IsStepWithoutChange (C.rules _criterion.now)) → ⊥ }
+{}
+
+fn no_leg_is_cut()
+    ensures { CutIsTheSources CountsLegByLeg → ⊥ }
+{}
+
+// one connection, from 100 to 200
+fn one_connection_is_answered<C: Criterion>(_criterion: &C)
+    ensures { IsAnswer (C.rules _criterion.now) one_hop (over_one_hop 1000) (record { departure = 100; value = (C.rules _criterion.now).ride ((C.rules _criterion.now).arrive 200); tag = 0 } ∷ []) }
+{}
+
+#[test]
+fn laws_tell_right_from_wrong() {
+    no_wrong_step_goes_down(&Arrival);
+    no_leg_is_cut();
+    one_connection_is_answered(&Arrival);
+}
