@@ -1,6 +1,6 @@
 //! Values that the points found already better: what is no better than one of them, once ridden, isn't carried on.
 
-ghost use Rattle.std.specs.Prelude.{◌≡◌, ◌⊎◌, ◌<◌, ◌≤◌, ℕ, true, not, filter, length, slice_get, Some, OnOk, Contains};
+ghost use Rattle.std.specs.Prelude.{◌≡◌, ◌⊎◌, ◌<◌, ◌≤◌, ℕ, true, not, filter, length, slice_get, Some, IfOk, OnOk, Contains};
 ghost use Rattle.criteria.specs.Laws.{Admits, RidingWorsens};
 ghost use Rattle.bags.specs.Bag.{criterion_of, points_of};
 ghost use Rattle.profile_scan.specs.Bound.{IsLateValue, TakesPoints, TakesValue, is_bettered};
@@ -131,6 +131,29 @@ fn take_points<C: Criterion>(
     Ok(())
 }
 
+// Takes the values of the points from a place on that depart at a time or later, and tells where they end.
+fn read_late<C: Criterion>(
+    criterion: &C,
+    found: &Bag<C>,
+    from: usize,
+    time: u32,
+    values: &mut Vec<C::V>,
+) -> Result<usize, AllocError>
+    requires worsens { RidingWorsens (C.rules criterion.now) }
+    requires found { criterion_of found.now ≡ criterion.now }
+    requires from { from ≤ length (points_of found.now) }
+    requires values { (b : _) → Contains values.old.items b → Admits (C.rules criterion.now) b }
+    ensures only { OnOk result ((b : _) → Contains values.new.items b → Contains values.old.items b ⊎ IsLateValue (C.rules criterion.now) (points_of found.now) time b) }
+    ensures each { OnOk result ((k : ℕ) (p : _) → from ≤ k → slice_get (points_of found.now) k ≡ Some p → time ≤ p.departure → is_bettered (C.rules criterion.now) values.new.items p.value ≡ true) }
+    ensures kept { OnOk result ((v : _) → Admits (C.rules criterion.now) v → is_bettered (C.rules criterion.now) values.old.items v ≡ true → is_bettered (C.rules criterion.now) values.new.items v ≡ true) }
+    ensures late { IfOk result (λ until. (k : ℕ) (p : _) → from ≤ k → k < until → slice_get (points_of found.now) k ≡ Some p → time ≤ p.departure) }
+    ensures rest { IfOk result (λ until. (k : ℕ) (p : _) → until ≤ k → slice_get (points_of found.now) k ≡ Some p → p.departure < time) }
+{
+    let until = late_until(found, from, time);
+    take_points(criterion, found, from, until, values)?;
+    Ok(until)
+}
+
 // The departure of the point at a place, or 0 past the last.
 fn departure_at<C: Criterion>(found: &Bag<C>, place: usize) -> u32
     ensures there { (p : _) → slice_get (points_of found.now) place ≡ Some p → result ≡ p.departure }
@@ -164,8 +187,7 @@ pub fn renew<C: Criterion>(
         return Ok(());
     }
     let from = bound.place.min(found.len());
-    let until = late_until(found, from, time);
-    take_points(criterion, found, from, until, &mut bound.values)?;
+    let until = read_late(criterion, found, from, time, &mut bound.values)?;
     bound.place = late_until(found, from, time.saturating_add(1));
     bound.next = departure_at(found, until);
     bound.count = count;

@@ -121,7 +121,7 @@ fn is_idle<C: Criterion>(
     requires labels { (rules : Rules _) × AreLabels rules scan.now.labels }
     requires stop { connection.now.to < vec_len scan.now.stops.heads }
     requires sound { IsSound C.rules scan.now.stops.lists }
-    ensures { (result ≡ true) ↔ IsIdle query.now connection.now way ((kept_by scan.now).labels connection.now.trip) ((kept_by scan.now).bag connection.now.to) }
+    ensures { result ≡ true → IsIdle query.now connection.now way ((kept_by scan.now).labels connection.now.trip) ((kept_by scan.now).bag connection.now.to) }
 {
     let labels = scan.labels.count(connection.trip);
     let head = scan.stops.heads[connection.to as usize];

@@ -1,18 +1,21 @@
 // Worked queries from stop 0 to stop 2, over images read in place and decoded: points and journeys were worked out by hand, and each
 // journey is judged again.
 
+ghost use Rattle.std.specs.Prelude.{◌<◌, length};
+ghost use Rattle.profile_scan.specs.Found.{listed};
+
 use crate::images::{REPEATED, image};
-use criteria::{Arrival, ArrivalTrips, Told};
+use criteria::{Arrival, ArrivalTrips, Criterion, Told, ToldValue};
 use image_layout::{sample_words, second_sample_words};
-use image_verifier::{Verified, verify};
-use journeys::{Window, answer_query, check, extract, journey_text, query_of};
+use image_verifier::Verified;
+use journeys::{Answer, Window, answer_query, check, extract, journey_text, query_of};
 use profile_scan::{Found, laws, profile};
 use sources::{ConnSource, Decoded, InPlace};
-use std::alloc::{AllocError, Global};
+use std::alloc::Global;
 use std::process::Abort;
 use std::test::*;
-use timetable::Query;
 use timetable::query::QueryFault;
+use timetable::{Journey, Query, Times};
 
 /// From 07:00:00 until 09:00:00, by 10:00:00.
 const ASKED: Query = Query {
@@ -53,6 +56,53 @@ const WITH_DIRECT_TRIP: [u32; 56] = [
 /// By a change at stop 1.
 const CHANGE: &str = "ride 0 0 walk 1 1 0 ride 2 2";
 
+/// The journey of the point at a place.
+fn journey_at<C: Criterion>(alloc: Global, found: &Found<C>, place: usize) -> Result<Journey, Fail>
+    requires { place < length (listed found.now) }
+{
+    Ok(extract(alloc, found, place)?)
+}
+
+/// When a journey departs and is over, which counts for a query.
+fn times_of(image: &Verified, query: &Query, journey: &Journey) -> Result<Times, Fail> {
+    let times = check(image, query, journey)
+        .ok()
+        .ok_or("the journey counts")?;
+    Ok(times)
+}
+
+/// When a point departs, and what is told of its value.
+fn told_at<C: Told>(criterion: &C, found: &Found<C>, place: usize) -> (u32, ToldValue)
+    requires { place < length (listed found.now) }
+{
+    let point = found.point(place);
+    (point.departure, criterion.tell(&point.value))
+}
+
+/// What is told of a journey's value: its arrival, and the number of its rides where trips are counted.
+fn assert_told(rt: &impl Abort, told: ToldValue, arrival: u32, rides: usize) {
+    assert_eq!(rt; told.arrival, arrival);
+    if let Some(trips) = told.trips {
+        assert_eq!(rt; trips as usize, rides);
+    }
+}
+
+/// A journey departs and is over so, and has this text.
+fn assert_journey(
+    rt: &impl Abort,
+    alloc: Global,
+    journey: &Journey,
+    times: Times,
+    expected: (u32, u32, &str),
+) -> Result<(), Fail> {
+    let (departure, arrival, text) = expected;
+    assert_eq!(rt; times.dep, departure);
+    assert_eq!(rt; times.arr, arrival);
+    let told = journey_text(alloc, journey)?;
+    assert_eq!(rt; told.as_slice(), text.as_bytes());
+    Ok(())
+}
+
 /// The point at a place departs and arrives so, and its journey, which counts for the query and is worth as much, has this text.
 fn assert_point<C: Told>(
     rt: &impl Abort,
@@ -63,24 +113,15 @@ fn assert_point<C: Told>(
     found: &Found<C>,
     place: usize,
     expected: (u32, u32, &str),
-) -> Result<(), Fail> {
-    let (departure, arrival, text) = expected;
-    assert!(rt; place < found.len());
-    let point = found.point(place);
-    let told = criterion.tell(&point.value);
-    assert_eq!(rt; point.departure, departure, "{text}");
-    assert_eq!(rt; told.arrival, arrival, "{text}");
-    let journey = extract(alloc, found, place)?;
-    let times = check(image, query, &journey)
-        .ok()
-        .ok_or("the journey counts")?;
-    assert_eq!(rt; times.dep, departure, "{text}");
-    assert_eq!(rt; times.arr, arrival, "{text}");
-    if let Some(trips) = told.trips {
-        assert_eq!(rt; trips as usize, journey.rides.len(), "{text}");
-    }
-    assert_eq!(rt; journey_text(alloc, &journey)?.as_slice(), text.as_bytes());
-    Ok(())
+) -> Result<(), Fail>
+    requires { place < length (listed found.now) }
+{
+    let (departure, told) = told_at(criterion, found, place);
+    let journey = journey_at(alloc, found, place)?;
+    let times = times_of(image, query, &journey)?;
+    assert_eq!(rt; times.dep, departure);
+    assert_told(rt, told, times.arr, journey.rides.len());
+    assert_journey(rt, alloc, &journey, times, expected)
 }
 
 /// A query has these points: of each its departure, its arrival and its journey.
@@ -264,14 +305,22 @@ fn both_sources_give_one_answer(rt: HostRuntime) -> Result<(), Fail> {
     Ok(())
 }
 
+/// The answer at one call.
+fn answered<C: Criterion>(
+    alloc: Global,
+    image: &Verified,
+    criterion: &C,
+) -> Result<Answer<C>, Fail> {
+    let mut source = InPlace::new(image);
+    let stops = source.stops();
+    ASKED.check(stops).ok().ok_or("the query can be asked")?;
+    Ok(answer_query(alloc, &mut source, criterion, &ASKED)?)
+}
+
 /// The seconds of the footpath from the source to the target, as an answer has it.
 fn walk_beside(alloc: Global, words: &[u32]) -> Result<Option<u32>, Fail> {
     let image = image(alloc, words)?;
-    let mut source = InPlace::new(&image);
-    let stops = source.stops();
-    ASKED.check(stops).ok().ok_or("the query can be asked")?;
-    let answer = answer_query(alloc, &mut source, &Arrival, &ASKED)?;
-    Ok(answer.walk)
+    Ok(answered(alloc, &image, &Arrival)?.walk)
 }
 
 #[test]
@@ -307,11 +356,8 @@ fn by_names(rt: HostRuntime) -> Result<(), Fail> {
 #[test]
 fn refused_growth_is_told(rt: HostRuntime) -> Result<(), Fail> {
     let alloc = rt.alloc();
-    let image = verify(alloc, sample_words().to_vec(alloc)?).map_err(|_refused| AllocError)?;
-    let mut source = InPlace::new(&image);
-    let stops = source.stops();
-    ASKED.check(stops).ok().ok_or("the query can be asked")?;
-    let answer = answer_query(alloc, &mut source, &ArrivalTrips, &ASKED)?;
+    let image = image(alloc, &sample_words())?;
+    let answer = answered(alloc, &image, &ArrivalTrips)?;
     assert_eq!(rt; answer.read, 3);
     assert_eq!(rt; answer.departures.len(), 2);
     let direct = &answer.departures[1];

@@ -1,15 +1,11 @@
 // Images that several tests read.
 
 use image_verifier::{Verified, verify};
-use std::alloc::Global;
-use std::test::Fail;
+use std::alloc::{AllocError, Global};
 
-/// Words that are an image.
-pub fn image(alloc: Global, words: &[u32]) -> Result<Verified, Fail> {
-    let image = verify(alloc, words.to_vec(alloc)?)
-        .ok()
-        .ok_or("the words are an image")?;
-    Ok(image)
+/// Words that are an image: a refusal is told as want of memory, for no other can come.
+pub fn image(alloc: Global, words: &[u32]) -> Result<Verified, AllocError> {
+    verify(alloc, words.to_vec(alloc)?).map_err(|_refused| AllocError)
 }
 
 /// The sample in the second layout, its first trip three times: at 09:00:00, 09:20:00 and 09:40:00, repeats 0, 1 and 2.

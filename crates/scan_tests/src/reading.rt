@@ -4,9 +4,8 @@ ghost use Rattle.std.specs.Prelude.{◌<◌};
 
 use crate::images::image;
 use image_layout::sample_words;
-use image_verifier::{Departures, ImageFault, Verified, first_departure, verify};
+use image_verifier::{Departures, Verified, first_departure};
 use sources::{ConnSource, Decoded, InPlace};
-use std::alloc::AllocError;
 use std::mem::size_of;
 use std::process::Abort;
 use std::test::*;
@@ -112,13 +111,7 @@ fn footpaths_and_departures(rt: HostRuntime) -> Result<(), Fail> {
 /// `AllocError`.
 #[test]
 fn refused_growth_is_told(rt: HostRuntime) -> Result<(), Fail> {
-    let image = match verify(rt.alloc(), EARLY.to_vec(rt.alloc())?) {
-        Ok(image) => image,
-        Err((_, fault)) => {
-            assert_eq!(rt; fault, ImageFault::OutOfMemory);
-            return Err(AllocError.into());
-        }
-    };
+    let image = image(rt.alloc(), &EARLY)?;
     let mut source = Decoded::of(rt.alloc(), &image)?;
     assert_eq!(rt; source.len(), 3);
     assert_eq!(rt; last_departure(&mut source), Some(40));
