@@ -32,6 +32,8 @@ impl<C: Criterion> FrontLists<C> {
         ensures criterion { IfOk result (λ lists. lists_criterion lists ≡ criterion) }
         ensures sound { IfOk result (λ lists. IsSound C.rules lists) }
         ensures empty { IfOk result (λ lists. list_points lists 0 ≡ []) }
+        ensures alone { IfOk result (λ lists. length (entries_of lists) ≡ 1) }
+        ensures no_steps { IfOk result (λ lists. steps_of lists ≡ []) }
     {
         let mut entries = Vec::new(alloc);
         entries.push(Entry {

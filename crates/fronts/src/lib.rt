@@ -14,6 +14,3 @@ mod search;
 pub use entry::{Entry, Item, Ridden, Step};
 pub use front_lists::FrontLists;
 pub use labels::{Label, Labels, offer_label};
-
-#[cfg(test)]
-mod tests;

@@ -22,8 +22,3 @@ pub use fault::JourneyFault;
 pub use question::{Window, query_of};
 pub use text::{journey_parse, journey_string, journey_text, one_text, plain_texts};
 pub use text_fault::TextFault;
-
-#[cfg(test)]
-mod extraction_tests;
-#[cfg(test)]
-mod tests;

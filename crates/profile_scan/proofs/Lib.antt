@@ -25,6 +25,3 @@ pub mod Ends
 pub mod Answer
 pub mod AnsweredLemmas
 pub mod Windows
-pub mod Refutations
-pub mod LabelsForgotten
-pub mod ExampleAnswers

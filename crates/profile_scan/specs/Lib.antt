@@ -14,5 +14,3 @@ pub mod Kept
 pub mod Telling
 pub mod Answered
 pub mod Found
-pub mod WrongSteps
-pub mod Examples

@@ -1,6 +1,6 @@
 //! Values that the points found already better: what is no better than one of them, once ridden, isn't carried on.
 
-ghost use Rattle.std.specs.Prelude.{◌≡◌, ◌⊎◌, ◌<◌, ◌≤◌, ℕ, true, not, filter, length, slice_get, Some, OnOk, Contains};
+ghost use Rattle.std.specs.Prelude.{◌≡◌, ◌⊎◌, ◌<◌, ◌≤◌, ℕ, true, not, filter, length, slice_get, Some, IfOk, OnOk, Contains};
 ghost use Rattle.criteria.specs.Laws.{Admits, RidingWorsens};
 ghost use Rattle.bags.specs.Bag.{criterion_of, points_of};
 ghost use Rattle.profile_scan.specs.Bound.{IsLateValue, TakesPoints, TakesValue, is_bettered};
@@ -145,6 +145,9 @@ fn read_late<C: Criterion>(
     requires values { (b : _) → Contains values.old.items b → Admits (C.rules criterion.now) b }
     ensures only { OnOk result ((b : _) → Contains values.new.items b → Contains values.old.items b ⊎ IsLateValue (C.rules criterion.now) (points_of found.now) time b) }
     ensures each { OnOk result ((k : ℕ) (p : _) → from ≤ k → slice_get (points_of found.now) k ≡ Some p → time ≤ p.departure → is_bettered (C.rules criterion.now) values.new.items p.value ≡ true) }
+    ensures kept { OnOk result ((v : _) → Admits (C.rules criterion.now) v → is_bettered (C.rules criterion.now) values.old.items v ≡ true → is_bettered (C.rules criterion.now) values.new.items v ≡ true) }
+    ensures late { IfOk result (λ until. (k : ℕ) (p : _) → from ≤ k → k < until → slice_get (points_of found.now) k ≡ Some p → time ≤ p.departure) }
+    ensures rest { IfOk result (λ until. (k : ℕ) (p : _) → until ≤ k → slice_get (points_of found.now) k ≡ Some p → p.departure < time) }
 {
     let until = late_until(found, from, time);
     take_points(criterion, found, from, until, values)?;
@@ -152,7 +155,10 @@ fn read_late<C: Criterion>(
 }
 
 // The departure of the point at a place, or 0 past the last.
-fn departure_at<C: Criterion>(found: &Bag<C>, place: usize) -> u32 {
+fn departure_at<C: Criterion>(found: &Bag<C>, place: usize) -> u32
+    ensures there { (p : _) → slice_get (points_of found.now) place ≡ Some p → result ≡ p.departure }
+    ensures past { length (points_of found.now) ≤ place → result ≡ 0 }
+{
     if place >= found.len() {
         return 0;
     }
@@ -161,6 +167,7 @@ fn departure_at<C: Criterion>(found: &Bag<C>, place: usize) -> u32 {
 
 /// Reads values of points that come to be late enough: those that were found since, and those that departed too early. `count` tells
 /// whether points were found. What was read isn't read again, but for points that depart at that time: others may still come among them.
+/// What the values bettered they still better.
 pub fn renew<C: Criterion>(
     criterion: &C,
     found: &Bag<C>,
@@ -170,7 +177,8 @@ pub fn renew<C: Criterion>(
 ) -> Result<(), AllocError>
     requires found { criterion_of found.now ≡ criterion.now }
     requires values { (b : _) → Contains bound.old.values.items b → Admits (C.rules criterion.now) b }
-    ensures { OnOk result ((b : _) → Contains bound.new.values.items b → Contains bound.old.values.items b ⊎ IsLateValue (C.rules criterion.now) (points_of found.now) time b) }
+    ensures only { OnOk result ((b : _) → Contains bound.new.values.items b → Contains bound.old.values.items b ⊎ IsLateValue (C.rules criterion.now) (points_of found.now) time b) }
+    ensures kept { OnOk result ((v : _) → Admits (C.rules criterion.now) v → is_bettered (C.rules criterion.now) bound.old.values.items v ≡ true → is_bettered (C.rules criterion.now) bound.new.values.items v ≡ true) }
 {
     if !criterion.riding_worsens() {
         return Ok(());

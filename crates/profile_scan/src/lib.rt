@@ -12,8 +12,6 @@ mod alight;
 mod answering;
 mod board;
 mod bound;
-#[cfg(test)]
-mod examples;
 mod found;
 pub mod laws;
 mod nodes;
@@ -22,11 +20,7 @@ mod step;
 mod stops;
 mod story;
 mod telling;
-#[cfg(test)]
-mod tests;
 mod ways;
-#[cfg(test)]
-mod wrong_steps;
 
 pub use answering::profile;
 pub use found::Found;

@@ -1,6 +1,6 @@
 //! One connection: first the labels of its trip, then by them every bag and the points found.
 
-ghost use Rattle.std.specs.Prelude.{◌≡◌, ◌≢◌, ◌<◌, ◌+◌, ℕ, true, List, None, OnOk, Contains, length, vec_len};
+ghost use Rattle.std.specs.Prelude.{◌≡◌, ◌≢◌, ◌↔◌, ◌<◌, ◌+◌, ℕ, true, List, None, OnOk, Contains, length, vec_len};
 ghost use Rattle.criteria.specs.Laws.{Rules, Admits, IsTime};
 ghost use Rattle.timetable.specs.Journeys.{connection_at};
 ghost use Rattle.bags.specs.Bag.{criterion_of, points_of};
@@ -93,7 +93,7 @@ fn offers_nothing(
     target: u32,
     way: Option<u32>,
 ) -> bool
-    ensures { result ≡ true → (labels ≡ 0) × (alight ≡ true → (to ≢ target) × (way ≡ None) × (head ≡ 0)) }
+    ensures { (result ≡ true) ↔ ((labels ≡ 0) × (alight ≡ true → (to ≢ target) × (way ≡ None) × (head ≡ 0))) }
 {
     if labels > 0 {
         return false;

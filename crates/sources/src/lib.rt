@@ -9,6 +9,3 @@ pub use decoded::Decoded;
 pub use image_verifier::{Departures, first_departure};
 pub use in_place::InPlace;
 pub use source::ConnSource;
-
-#[cfg(test)]
-mod tests;

@@ -72,7 +72,7 @@ step_in-requires-clause-bound g c =
     let legal = g.met.S.ConnSource.legal c.args.source.now in
     let scan = c.args.scan.now in
     let found = bag_under g.C.Criterion.rules scan.found.criterion c.args.criterion.now (points_of scan.found) c.requires.scan.found scan.found.kept in
-    let bounds = bounds_renewed rules laws t legal (points_of scan.found) found.admitted c.args.place c.args.connection.now.dep c.requires.place (ap (λ (x : Connection). x.dep) c.requires.connection) scan.bound.values.items c.renew.new.bound.values.items c.requires.bound c.in_ok-renew.ensures in
+    let bounds = bounds_renewed rules laws t legal (points_of scan.found) found.admitted c.args.place c.args.connection.now.dep c.requires.place (ap (λ (x : Connection). x.dep) c.requires.connection) scan.bound.values.items c.renew.new.bound.values.items c.requires.bound c.in_ok-renew.ensures.only in
     subst (λ (values : List g.row.C-V.Denot). (b : g.row.C-V.Denot) → Contains values b → Admits rules b) (sym c.deref.ensures.value) bounds.admitted
 
 pub returns-clause-bound : goal.returns-clause-bound
@@ -83,7 +83,7 @@ returns-clause-bound g c =
     let legal = g.met.S.ConnSource.legal c.args.source.now in
     let scan = c.args.scan.now in
     let found = bag_under g.C.Criterion.rules scan.found.criterion c.args.criterion.now (points_of scan.found) c.requires.scan.found scan.found.kept in
-    let bounds = bounds_renewed rules laws t legal (points_of scan.found) found.admitted c.args.place c.args.connection.now.dep c.requires.place (ap (λ (x : Connection). x.dep) c.requires.connection) scan.bound.values.items c.renew.new.bound.values.items c.requires.bound c.in_ok-renew.ensures in
+    let bounds = bounds_renewed rules laws t legal (points_of scan.found) found.admitted c.args.place c.args.connection.now.dep c.requires.place (ap (λ (x : Connection). x.dep) c.requires.connection) scan.bound.values.items c.renew.new.bound.values.items c.requires.bound c.in_ok-renew.ensures.only in
     let now = story c.step_in.new.exits.items (steps_of c.step_in.new.stops.lists) c.step_in.new.set_outs.items in
     let taken = c.in_ok-step_in.ensures.takes in
     let mid = story taken.0 (steps_of scan.stops.lists) scan.set_outs.items in
@@ -130,7 +130,7 @@ returns-clause-step g c =
     let sets_out = taken.5 mid now (grows_none mid) (grows_none now) in
     let found = bag_under g.C.Criterion.rules scan.found.criterion c.args.criterion.now old_found c.requires.scan.found scan.found.kept in
     let found_now = bag_under g.C.Criterion.rules c.step_in.new.found.criterion c.args.criterion.now new_found c.in_ok-step_in.ensures.found c.step_in.new.found.kept in
-    let bounds = bounds_renewed rules laws t legal old_found found.admitted i c.args.connection.now.dep c.requires.place (ap (λ (x : Connection). x.dep) at) scan.bound.values.items values c.requires.bound c.in_ok-renew.ensures in
+    let bounds = bounds_renewed rules laws t legal old_found found.admitted i c.args.connection.now.dep c.requires.place (ap (λ (x : Connection). x.dep) at) scan.bound.values.items values c.requires.bound c.in_ok-renew.ensures.only in
     let new_bounds = bounds_on rules laws t old_found new_found (i + 1) (i + 1) values (omega arith) sets_out.kept bounds in
     let bag = points_at scan.stops (connection_at t i).to in
     let bag_admitted = subst (λ k. AreAdmitted (g.C.Criterion.rules k) bag) c.requires.scan.at_stops.under (list_admitted (g.C.Criterion.rules (lists_criterion scan.stops.lists)) (entries_of scan.stops.lists) (items_of scan.stops.lists) c.requires.scan.at_stops.sound (slice_index scan.stops.heads.items (connection_at t i).to)) in

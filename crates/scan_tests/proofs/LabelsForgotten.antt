@@ -13,12 +13,12 @@ use Rattle.profile_scan.specs.Continuations.{Aboard}
 use Rattle.profile_scan.specs.Matching.{Spelling, Spellings, Keeps, from_to, ScanValue, MatchesFrom, IsLabelled}
 use Rattle.profile_scan.specs.Steps.{TakesIn, IsOffered, Leaving, ends, ends_after, changes, MayLeave, leaving_value, leavings, boardings, settings_out}
 use Rattle.profile_scan.specs.LawStatements.{CanScan, OneIndexDown}
-use Rattle.profile_scan.specs.Examples.{two_hops, over_one_hop}
-use Rattle.profile_scan.specs.WrongSteps.{IsStepWithoutLabels}
+use Rattle.scan_tests.specs.Examples.{two_hops, over_one_hop}
+use Rattle.scan_tests.specs.WrongSteps.{IsStepWithoutLabels}
 use Rattle.profile_scan.proofs.Ends.{nothing_follows}
 use Rattle.profile_scan.proofs.Outdone.{all_carried}
 use Rattle.profile_scan.proofs.StepLemmas.{one_index_down}
-use Rattle.profile_scan.proofs.Refutations.{at_two, one_hop_legal, one_hop_within, one_in, takes_none, takes_from_nothing, covers_itself, nothing, at_zero}
+use Rattle.scan_tests.proofs.Refutations.{at_two, one_hop_legal, one_hop_within, one_in, takes_none, takes_from_nothing, covers_itself, nothing, at_zero}
 
 abbrev first_hop : Connection
 first_hop = connection_at two_hops 0

@@ -20,8 +20,8 @@ use Rattle.profile_scan.specs.Continuations.{Onward, Aboard, IsOnward}
 use Rattle.profile_scan.specs.Matching.{Spelling, Spellings, Keeps, from_to, ScanValue, MatchesFrom}
 use Rattle.profile_scan.specs.Steps.{Offer, TakesIn, IsOffered, Leaving, ends, ends_after, changes, MayLeave, leaving_value, leavings, boarded, Boarding, MayBoard, boardings, SettingOut, settings_out, IsStep}
 use Rattle.profile_scan.specs.LawStatements.{CanScan, OneIndexDown, CutIsTheSources}
-use Rattle.profile_scan.specs.Examples.{one_hop, over_one_hop, with_loops, asked, by_change, ride, footpath}
-use Rattle.profile_scan.specs.WrongSteps.{cut_boardings, IsStepWithBagCut, loop_starts, LeavesSource, MayBoardAtOnce, at_once_departure, at_once_value, IsStepWithLoopStart, Unchanged, on_foot, at_once, at_once_boardings, IsStepWithoutChange, CountsLegByLeg}
+use Rattle.scan_tests.specs.Examples.{one_hop, over_one_hop, with_loops, asked, by_change, ride, footpath}
+use Rattle.scan_tests.specs.WrongSteps.{cut_boardings, IsStepWithBagCut, loop_starts, LeavesSource, MayBoardAtOnce, at_once_departure, at_once_value, IsStepWithLoopStart, Unchanged, on_foot, at_once, at_once_boardings, IsStepWithoutChange, CountsLegByLeg}
 use Rattle.profile_scan.proofs.Ends.{nothing_follows}
 use Rattle.profile_scan.proofs.StepLemmas.{one_index_down}
 use Rattle.profile_scan.proofs.Outdone.{all_carried}

@@ -1,19 +1,12 @@
-//! Journeys as texts, judged against a town's image. More of them are judged by transcripts of the whole program.
+// Journeys as texts, judged against images. More of them are judged by transcripts of the whole program.
 
-use super::JourneyFault::*;
-use super::*;
-use image_verifier::{Verified, verify};
+use crate::images::{REPEATED, image};
+use image_verifier::Verified;
+use journeys::JourneyFault::*;
+use journeys::{JourneyFault, TextFault, check, journey_parse, journey_text};
 use std::alloc::Global;
 use std::test::*;
 use timetable::{Journey, Query, Times};
-
-/// Words that are an image.
-fn image(alloc: Global, words: &[u32]) -> Result<Verified, Fail> {
-    let image = verify(alloc, Vec::from_slice(alloc, words)?)
-        .ok()
-        .ok_or("the words are an image")?;
-    Ok(image)
-}
 
 fn asked([source, target, from, until, by]: [u32; 5]) -> Query {
     Query {
@@ -56,6 +49,22 @@ fn windows_that_end_before_they_begin(rt: HostRuntime) -> Result<(), Fail> {
         let told = judged(rt.alloc(), &image, *query, text.as_bytes())?;
         assert_eq!(rt; told.err(), Some(*expected), "{text}");
     }
+    Ok(())
+}
+
+/// A leg stays within one repeat; from one to the next is a change.
+#[test]
+fn from_repeat_to_repeat(rt: HostRuntime) -> Result<(), Fail> {
+    let image = image(rt.alloc(), &REPEATED)?;
+    let query = [0, 2, 32400, 36000, 39600];
+    let through = judged(rt.alloc(), &image, query, b"ride 1 4")?;
+    assert_eq!(rt; through, Err(TwoTrips(0)));
+    let change = b"ride 1 1 walk 1 1 0 ride 4 4";
+    let times = Times {
+        dep: 32400,
+        arr: 35400,
+    };
+    assert_eq!(rt; judged(rt.alloc(), &image, query, change)?, Ok(times));
     Ok(())
 }
 

@@ -1,6 +1,8 @@
+// Bags of points, against what a long history of points leaves.
+
 ghost use Rattle.std.specs.Prelude.{◌<◌, ◌≤◌};
 
-use crate::{Bag, Point};
+use bags::{Bag, Point};
 use criteria::{Arrival, ArrivalTrips, TimeTrips};
 use std::alloc::{AllocError, Global};
 use std::process::Abort;

@@ -8,7 +8,7 @@ use Rattle.timetable.specs.JourneyValue.{RideValue, JourneyValue}
 use Rattle.timetable.specs.Journeys.{connection_at, IsWalk, walk_end, Leads, final_time, time_after, stop_after, IsStart, start_end, start_secs, Counts, arrival}
 use Rattle.profile_scan.specs.Values.{walked, ridden, started}
 use Rattle.profile_scan.specs.Points.{IsPoint, IsUndominated, IsAnswer}
-use Rattle.profile_scan.specs.Examples.{with_loops, asked, by_change, footpath}
+use Rattle.scan_tests.specs.Examples.{with_loops, asked, by_change, footpath}
 
 -- with loops alone every footpath is one
 is_loop : (at_a at_b : ℕ) (f : Footpath) → Contains (with_loops at_a at_b).footpaths f → f.to ≡ f.from

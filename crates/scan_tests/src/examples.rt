@@ -1,4 +1,4 @@
-//! The definitions at worked examples.
+// The definitions of `profile_scan` at worked examples.
 
 ghost use Rattle.std.specs.Prelude.{◌≡◌, ℕ, [], ◌∷◌, None, Some, reverse};
 ghost use Rattle.bags.specs.Dominance.{Apart, Dominates};
@@ -9,7 +9,7 @@ ghost use Rattle.profile_scan.specs.Window.{window, falling};
 ghost use Rattle.profile_scan.specs.Plain.{IsPlain};
 ghost use Rattle.profile_scan.specs.Nodes.{spelling};
 ghost use Rattle.profile_scan.specs.declared.nodes.Node.TheVariants.{Ends, Changes, Boards, SetsOut};
-ghost use Rattle.profile_scan.specs.Examples.{asked, by_change, direct, footpath, from_start, on_foot, ride, with_chain, with_loops, with_walk};
+ghost use Rattle.scan_tests.specs.Examples.{asked, by_change, direct, footpath, from_start, on_foot, ride, with_chain, with_loops, with_walk};
 
 use criteria::{Arrival, ArrivalTrips, ArrivalTripsWalk, Criterion};
 

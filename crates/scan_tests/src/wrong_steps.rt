@@ -1,11 +1,11 @@
-//! The laws are false of the definitions that are close to the right ones, and the right ones lead to an answer.
+// The laws are false of the definitions that are close to the right ones, and the right ones lead to an answer.
 
 ghost use Rattle.std.specs.Prelude.{[], ◌∷◌};
 ghost use Rattle.timetable.specs.Journeys.{Counts};
 ghost use Rattle.profile_scan.specs.Points.{IsAnswer};
-ghost use Rattle.profile_scan.specs.WrongSteps.{CountsLegByLeg, IsStepWithBagCut, IsStepWithLoopStart, IsStepWithoutChange, IsStepWithoutLabels};
+ghost use Rattle.scan_tests.specs.WrongSteps.{CountsLegByLeg, IsStepWithBagCut, IsStepWithLoopStart, IsStepWithoutChange, IsStepWithoutLabels};
 ghost use Rattle.profile_scan.specs.LawStatements.{CutIsTheSources, OneIndexDown};
-ghost use Rattle.profile_scan.specs.Examples.{one_hop, over_one_hop};
+ghost use Rattle.scan_tests.specs.Examples.{one_hop, over_one_hop};
 
 use criteria::{Arrival, Criterion};
 

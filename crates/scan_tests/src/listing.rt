@@ -1,9 +1,11 @@
+// Lists of points and their fronts.
+
 ghost use Rattle.std.specs.Prelude.{◌<◌, ◌≤◌, IfOk, length};
 ghost use Rattle.criteria.specs.Laws.{IsTime};
 ghost use Rattle.fronts.specs.Lists.{IsSound, entries_of};
 
-use crate::{FrontLists, Ridden};
 use criteria::{ArrivalTrips, Criterion, TimeTrips};
+use fronts::{FrontLists, Ridden};
 use std::alloc::{AllocError, Global};
 
 // Takes one value in, after no walk.

@@ -1,0 +1,3 @@
+mod Refutations
+mod LabelsForgotten
+mod ExampleAnswers

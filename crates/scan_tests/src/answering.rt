@@ -1,0 +1,370 @@
+// Worked queries from stop 0 to stop 2, over images read in place and decoded: points and journeys were worked out by hand, and each
+// journey is judged again.
+
+ghost use Rattle.std.specs.Prelude.{◌<◌, length};
+ghost use Rattle.profile_scan.specs.Found.{listed};
+
+use crate::images::{REPEATED, image};
+use criteria::{Arrival, ArrivalTrips, Criterion, Told, ToldValue};
+use image_layout::{sample_words, second_sample_words};
+use image_verifier::Verified;
+use journeys::{Answer, Window, answer_query, check, extract, journey_text, query_of};
+use profile_scan::{Found, laws, profile};
+use sources::{ConnSource, Decoded, InPlace};
+use std::alloc::Global;
+use std::process::Abort;
+use std::test::*;
+use timetable::query::QueryFault;
+use timetable::{Journey, Query, Times};
+
+/// From 07:00:00 until 09:00:00, by 10:00:00.
+const ASKED: Query = Query {
+    source: 0,
+    target: 2,
+    from: 25200,
+    until: 32400,
+    by: 36000,
+};
+
+/// The stops and loops of the sample, and no trips.
+const NO_TRIPS: [u32; 24] = [
+    0x50415343, 1, 3, 0, 0, 3, 3, 1705276800, 0, 0, 1, 2, 3, 0, 0, 1, 0, 2, 0, 0, 1, 2, 3,
+    0x00434241,
+];
+
+/// The sample with a footpath of two minutes from stop 0 to stop 1.
+const WITH_WALK: [u32; 49] = [
+    0x50415343, 1, 3, 2, 3, 4, 7, 1705276800, 0, 0, 1, 28800, 29400, 0, 3, 1, 2, 29400, 30600, 0,
+    3, 1, 2, 29520, 30000, 1, 3, 0, 1, 3, 4, 0, 0, 0, 120, 1, 0, 2, 0, 0, 1, 2, 3, 5, 7, 20240115,
+    20240115, 0x54434241, 0x00325431,
+];
+
+/// The sample with footpaths of a minute from stop 0 to stop 1 and from there to stop 2, and of two minutes from stop 0 to stop 2.
+const WITH_CHAIN: [u32; 53] = [
+    0x50415343, 1, 3, 2, 3, 6, 7, 1705276800, 0, 0, 1, 28800, 29400, 0, 3, 1, 2, 29400, 30600, 0,
+    3, 1, 2, 29520, 30000, 1, 3, 0, 1, 3, 6, 0, 0, 0, 60, 1, 0, 0, 120, 1, 60, 2, 0, 0, 1, 2, 3, 5,
+    7, 20240115, 20240115, 0x54434241, 0x00325431,
+];
+
+/// The sample with a third trip from stop 0 to stop 2, as fast as the change.
+const WITH_DIRECT_TRIP: [u32; 56] = [
+    0x50415343, 1, 3, 3, 4, 3, 9, 1705276800, 0, 0, 1, 28800, 29400, 0, 3, 0, 2, 28800, 30000, 2,
+    3, 1, 2, 29400, 30600, 0, 3, 1, 2, 29520, 30000, 1, 3, 0, 1, 2, 3, 0, 0, 1, 0, 2, 0, 0, 1, 2,
+    3, 5, 7, 9, 20240115, 20240115, 20240115, 0x54434241, 0x54325431, 0x00000033,
+];
+
+/// By a change at stop 1.
+const CHANGE: &str = "ride 0 0 walk 1 1 0 ride 2 2";
+
+/// The journey of the point at a place.
+fn journey_at<C: Criterion>(alloc: Global, found: &Found<C>, place: usize) -> Result<Journey, Fail>
+    requires { place < length (listed found.now) }
+{
+    Ok(extract(alloc, found, place)?)
+}
+
+/// When a journey departs and is over, which counts for a query.
+fn times_of(image: &Verified, query: &Query, journey: &Journey) -> Result<Times, Fail> {
+    let times = check(image, query, journey)
+        .ok()
+        .ok_or("the journey counts")?;
+    Ok(times)
+}
+
+/// When a point departs, and what is told of its value.
+fn told_at<C: Told>(criterion: &C, found: &Found<C>, place: usize) -> (u32, ToldValue)
+    requires { place < length (listed found.now) }
+{
+    let point = found.point(place);
+    (point.departure, criterion.tell(&point.value))
+}
+
+/// What is told of a journey's value: its arrival, and the number of its rides where trips are counted.
+fn assert_told(rt: &impl Abort, told: ToldValue, arrival: u32, rides: usize) {
+    assert_eq!(rt; told.arrival, arrival);
+    if let Some(trips) = told.trips {
+        assert_eq!(rt; trips as usize, rides);
+    }
+}
+
+/// A journey departs and is over so, and has this text.
+fn assert_journey(
+    rt: &impl Abort,
+    alloc: Global,
+    journey: &Journey,
+    times: Times,
+    expected: (u32, u32, &str),
+) -> Result<(), Fail> {
+    let (departure, arrival, text) = expected;
+    assert_eq!(rt; times.dep, departure);
+    assert_eq!(rt; times.arr, arrival);
+    let told = journey_text(alloc, journey)?;
+    assert_eq!(rt; told.as_slice(), text.as_bytes());
+    Ok(())
+}
+
+/// The point at a place departs and arrives so, and its journey, which counts for the query and is worth as much, has this text.
+fn assert_point<C: Told>(
+    rt: &impl Abort,
+    alloc: Global,
+    image: &Verified,
+    query: &Query,
+    criterion: &C,
+    found: &Found<C>,
+    place: usize,
+    expected: (u32, u32, &str),
+) -> Result<(), Fail>
+    requires { place < length (listed found.now) }
+{
+    let (departure, told) = told_at(criterion, found, place);
+    let journey = journey_at(alloc, found, place)?;
+    let times = times_of(image, query, &journey)?;
+    assert_eq!(rt; times.dep, departure);
+    assert_told(rt, told, times.arr, journey.rides.len());
+    assert_journey(rt, alloc, &journey, times, expected)
+}
+
+/// A query has these points: of each its departure, its arrival and its journey.
+fn assert_answer<S: ConnSource, C: Told>(
+    rt: &impl Abort,
+    alloc: Global,
+    image: &Verified,
+    source: &mut S,
+    criterion: &C,
+    query: &Query,
+    expected: &[(u32, u32, &str)],
+) -> Result<(), Fail> {
+    let stops = source.stops();
+    query.check(stops).ok().ok_or("the query can be asked")?;
+    let found = profile(alloc, source, criterion, query)?;
+    assert_eq!(rt; found.len(), expected.len());
+    for (place, point) in expected.iter().enumerate() {
+        assert_point(rt, alloc, image, query, criterion, &found, place, *point)?;
+    }
+    Ok(())
+}
+
+/// Over an image in place, and over its lists decoded.
+fn assert_answers<C: Told>(
+    rt: &impl Abort,
+    alloc: Global,
+    words: &[u32],
+    criterion: &C,
+    query: &Query,
+    expected: &[(u32, u32, &str)],
+) -> Result<(), Fail> {
+    let image = image(alloc, words)?;
+    let mut in_place = InPlace::new(&image);
+    assert_answer(rt, alloc, &image, &mut in_place, criterion, query, expected)?;
+    let mut decoded = Decoded::of(alloc, &image)?;
+    assert_answer(rt, alloc, &image, &mut decoded, criterion, query, expected)
+}
+
+/// The same of the earliest arrival alone.
+fn assert_arrivals(
+    rt: &impl Abort,
+    alloc: Global,
+    words: &[u32],
+    query: &Query,
+    expected: &[(u32, u32, &str)],
+) -> Result<(), Fail> {
+    assert_answers(rt, alloc, words, &Arrival, query, expected)
+}
+
+/// The same of arrival and trips.
+fn assert_trips(
+    rt: &impl Abort,
+    alloc: Global,
+    words: &[u32],
+    query: &Query,
+    expected: &[(u32, u32, &str)],
+) -> Result<(), Fail> {
+    assert_answers(rt, alloc, words, &ArrivalTrips, query, expected)
+}
+
+fn until(until: u32) -> Query {
+    Query { until, ..ASKED }
+}
+
+fn by(by: u32) -> Query {
+    Query { by, ..ASKED }
+}
+
+/// A change is faster, and takes more trips. An image of the second layout is asked as one of the first is.
+#[test]
+fn by_a_change(rt: HostRuntime) -> Result<(), Fail> {
+    let alloc = rt.alloc();
+    let first = sample_words();
+    let second = second_sample_words();
+    let both = [(28800, 30000, CHANGE), (28800, 30600, "ride 0 1")];
+    assert_arrivals(&rt, alloc, &first, &ASKED, &[(28800, 30000, CHANGE)])?;
+    assert_trips(&rt, alloc, &first, &ASKED, &both)?;
+    assert_trips(&rt, alloc, &second, &ASKED, &both)
+}
+
+/// Each repeat is a trip of its own: from 09:00:00 until 10:00:00 one leaves three times, and none but the last where one leaves
+/// after the second.
+#[test]
+fn by_repeats(rt: HostRuntime) -> Result<(), Fail> {
+    let alloc = rt.alloc();
+    let asked = Query {
+        from: 32400,
+        until: 36000,
+        by: 39600,
+        ..ASKED
+    };
+    let legs = [
+        (32400, 34200, "ride 1 2"),
+        (33600, 35400, "ride 3 4"),
+        (34800, 36600, "ride 5 6"),
+    ];
+    assert_trips(&rt, alloc, &REPEATED, &asked, &legs)?;
+    let later = Query {
+        from: 33601,
+        ..asked
+    };
+    assert_trips(&rt, alloc, &REPEATED, &later, &[(34800, 36600, "ride 5 6")])
+}
+
+/// Two minutes are just enough for the change.
+#[test]
+fn by_a_slow_change(rt: HostRuntime) -> Result<(), Fail> {
+    let alloc = rt.alloc();
+    let slow = "ride 0 0 walk 1 1 120 ride 2 2";
+    let mut words = sample_words();
+    words[34] = 120;
+    assert_arrivals(&rt, alloc, &words, &ASKED, &[(28800, 30000, slow)])?;
+    words[34] = 121;
+    assert_arrivals(&rt, alloc, &words, &ASKED, &[(28800, 30600, "ride 0 1")])
+}
+
+/// The latest departure and the latest arrival belong to the window. A loop is no start.
+#[test]
+fn at_the_ends_of_the_window(rt: HostRuntime) -> Result<(), Fail> {
+    let alloc = rt.alloc();
+    let mut words = sample_words();
+    let change = [(28800, 30000, CHANGE)];
+    assert_arrivals(&rt, alloc, &words, &until(28799), &[])?;
+    assert_arrivals(&rt, alloc, &words, &until(28800), &change)?;
+    assert_arrivals(&rt, alloc, &words, &by(30000), &change)?;
+    assert_arrivals(&rt, alloc, &words, &by(29999), &[])?;
+    words[32] = 60;
+    assert_arrivals(&rt, alloc, &words, &until(28799), &[])
+}
+
+#[test]
+fn by_one_trip(rt: HostRuntime) -> Result<(), Fail> {
+    let direct = [(28800, 30000, "ride 1 1")];
+    assert_trips(&rt, rt.alloc(), &WITH_DIRECT_TRIP, &ASKED, &direct)
+}
+
+#[test]
+fn by_no_trip_at_all(rt: HostRuntime) -> Result<(), Fail> {
+    assert_arrivals(&rt, rt.alloc(), &NO_TRIPS, &ASKED, &[])
+}
+
+#[test]
+fn on_foot_to_the_first_trip(rt: HostRuntime) -> Result<(), Fail> {
+    let alloc = rt.alloc();
+    let late = [(29400, 30000, "walk 0 1 120 ride 2 2")];
+    let early = [
+        (28800, 30000, CHANGE),
+        (29280, 30600, "walk 0 1 120 ride 1 1"),
+    ];
+    assert_arrivals(&rt, alloc, &WITH_WALK, &ASKED, &late)?;
+    assert_arrivals(&rt, alloc, &WITH_WALK, &until(29399), &early)
+}
+
+#[test]
+fn on_foot_from_the_last_trip(rt: HostRuntime) -> Result<(), Fail> {
+    let walks = [
+        (28800, 29460, "ride 0 0 walk 1 2 60"),
+        (29460, 30000, "walk 0 1 60 ride 2 2"),
+    ];
+    assert_arrivals(&rt, rt.alloc(), &WITH_CHAIN, &ASKED, &walks)
+}
+
+/// The image in place and its lists decoded: as many points, each with the same departure.
+#[test]
+fn both_sources_give_one_answer(rt: HostRuntime) -> Result<(), Fail> {
+    let alloc = rt.alloc();
+    for words in [sample_words().as_slice(), WITH_CHAIN.as_slice()] {
+        let image = image(alloc, words)?;
+        ASKED
+            .check(image.stops())
+            .ok()
+            .ok_or("the query can be asked")?;
+        let (in_place, decoded) = laws::both_sources(alloc, &image, &ArrivalTrips, &ASKED)?;
+        laws::found_answers(&in_place);
+        assert_eq!(rt; in_place.len(), 2);
+        assert_eq!(rt; decoded.len(), 2);
+        for i in 0..2 {
+            assert_eq!(rt; in_place.point(i).departure, decoded.point(i).departure);
+        }
+    }
+    Ok(())
+}
+
+/// The answer at one call.
+fn answered<C: Criterion>(
+    alloc: Global,
+    image: &Verified,
+    criterion: &C,
+) -> Result<Answer<C>, Fail> {
+    let mut source = InPlace::new(image);
+    let stops = source.stops();
+    ASKED.check(stops).ok().ok_or("the query can be asked")?;
+    Ok(answer_query(alloc, &mut source, criterion, &ASKED)?)
+}
+
+/// The seconds of the footpath from the source to the target, as an answer has it.
+fn walk_beside(alloc: Global, words: &[u32]) -> Result<Option<u32>, Fail> {
+    let image = image(alloc, words)?;
+    Ok(answered(alloc, &image, &Arrival)?.walk)
+}
+
+#[test]
+fn a_walk_stands_beside(rt: HostRuntime) -> Result<(), Fail> {
+    assert_eq!(rt; walk_beside(rt.alloc(), &sample_words())?, None);
+    assert_eq!(rt; walk_beside(rt.alloc(), &WITH_CHAIN)?, Some(120));
+    Ok(())
+}
+
+/// A query by the names of stops.
+#[test]
+fn by_names(rt: HostRuntime) -> Result<(), Fail> {
+    let image = image(rt.alloc(), &sample_words())?;
+    let window = Window {
+        from: 25200,
+        until: 32400,
+        by: 36000,
+    };
+    assert_eq!(rt;
+        query_of(&image, b"A", b"D", window),
+        Err(QueryFault::UnknownStop)
+    );
+    assert_eq!(rt;
+        query_of(&image, b"A", b"A", window),
+        Err(QueryFault::SameStop)
+    );
+    assert_eq!(rt; query_of(&image, b"A", b"C", window), Ok(ASKED));
+    Ok(())
+}
+
+/// The answer at one call: each departure with its value and its journey, and how many connections were read. Whichever growth is
+/// refused, want of memory is told: then the test ends with `AllocError`.
+#[test]
+fn refused_growth_is_told(rt: HostRuntime) -> Result<(), Fail> {
+    let alloc = rt.alloc();
+    let image = image(alloc, &sample_words())?;
+    let answer = answered(alloc, &image, &ArrivalTrips)?;
+    assert_eq!(rt; answer.read, 3);
+    assert_eq!(rt; answer.departures.len(), 2);
+    let direct = &answer.departures[1];
+    assert_eq!(rt; direct.time, 28800);
+    assert_eq!(rt; direct.value.time, 30600);
+    assert_eq!(rt; direct.value.trips, 1);
+    let text = journey_text(alloc, &direct.journey)?;
+    assert!(rt; text.as_slice() == b"ride 0 1".as_slice());
+    Ok(())
+}
