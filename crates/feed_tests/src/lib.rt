@@ -2,7 +2,11 @@
 #![tactic(auto)]
 
 #[cfg(test)]
+mod closing;
+#[cfg(test)]
 mod days;
+#[cfg(test)]
+mod files;
 #[cfg(test)]
 mod joining;
 #[cfg(test)]
@@ -11,5 +15,11 @@ mod joining_memory;
 mod listing;
 #[cfg(test)]
 mod loading;
+#[cfg(test)]
+mod row_faults;
+#[cfg(test)]
+mod rows;
+#[cfg(test)]
+mod rows_memory;
 #[cfg(test)]
 mod runs;

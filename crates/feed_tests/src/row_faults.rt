@@ -1,13 +1,10 @@
 // Each kind of fault in small files, what comes first where there are two, and the forms that a file may have.
 
-use crate::fault::{FaultKind, Table};
-use crate::id_hash::IdHash;
-use crate::read::{
-    read_agency, read_calendar, read_calendar_dates, read_frequencies, read_stop_times, read_stops,
-    read_transfers, read_trips,
+use crate::rows::tells;
+use gtfs_rows::{
+    FaultKind, IdHash, Table, read_agency, read_calendar, read_calendar_dates, read_frequencies,
+    read_stop_times, read_stops, read_transfers, read_trips, stops_up_to, trips_up_to,
 };
-use crate::stops::{stops_up_to, trips_up_to};
-use crate::tests::tells;
 use std::test::Fail;
 
 #[test]

@@ -1,10 +1,9 @@
 // Where a growth is refused, each call answers with the want of memory, whichever growth it is. A refused growth ends the
 // test with `AllocError`.
 
-use crate::fault::{FaultKind, Table, TableFault};
-use crate::read::{
-    read_agency, read_calendar, read_calendar_dates, read_frequencies, read_stop_times, read_stops,
-    read_transfers, read_trips,
+use gtfs_rows::{
+    FaultKind, Table, TableFault, read_agency, read_calendar, read_calendar_dates,
+    read_frequencies, read_stop_times, read_stops, read_transfers, read_trips,
 };
 use std::alloc::AllocError;
 use std::process::Abort;

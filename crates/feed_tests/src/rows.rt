@@ -1,13 +1,10 @@
 // The files of a small feed, and what each fault looks like.
 
-use crate::fault::{FaultKind, Table, TableFault};
-use crate::id_hash::IdHash;
-use crate::read::{
-    read_agency, read_calendar, read_calendar_dates, read_frequencies, read_stop_times, read_stops,
+use gtfs_rows::{
+    Day, Exception, FaultKind, IdHash, Location, Table, TableFault, TransferKind, read_agency,
+    read_calendar, read_calendar_dates, read_frequencies, read_stop_times, read_stops,
     read_transfers, read_trips,
 };
-use crate::rows::{Exception, Location, TransferKind};
-use crate::values::Day;
 use std::hash::BuildHasher;
 use std::test::Fail;
 
