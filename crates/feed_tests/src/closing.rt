@@ -1,3 +1,5 @@
+//! Small lists of footpaths and their closures.
+
 ghost use Rattle.std.specs.Prelude.{◌≡◌, ℕ, true};
 ghost use Rattle.timetable.specs.Legal.{HasFootpath};
 ghost use Rattle.footpaths.specs.Closure.{AreInRange, HasLoops};

@@ -1,4 +1,8 @@
 //! From a feed's files to its image: tests alone, of the crates that no other test stands in, so that these are proved once.
+//!
+//! Of `gtfs_rows` are `rows`, `row_faults` and `rows_memory`, of `gtfs_tables` `joining` and `joining_memory`, of `feed_files`
+//! `files`, of `service_days` `days`, of `transfers` `listing`, of `connections` `runs`, of `footpaths` `closing`, and of
+//! `feed_loader` `loading`.
 #![tactic(auto)]
 
 #[cfg(test)]

@@ -1,3 +1,5 @@
+//! Small feeds and the footpaths that they list.
+
 use gtfs_tables::{
     Feed, IdHash, Place, Stop, Tables, Transfer, TransferKind, join, read_agency,
     read_calendar_dates, read_stop_times, read_stops, read_transfers, read_trips,

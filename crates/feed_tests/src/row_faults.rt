@@ -1,4 +1,4 @@
-// Each kind of fault in small files, what comes first where there are two, and the forms that a file may have.
+//! Each kind of fault in small files, what comes first where there are two, and the forms that a file may have.
 
 use crate::rows::{are_stop_times, tells};
 use gtfs_rows::{

@@ -1,4 +1,4 @@
-// The files of a small feed, and what each fault looks like.
+//! The files of a small feed, and what each fault looks like.
 
 use gtfs_rows::{
     CalendarDateRow, CalendarRow, Day, Exception, FaultKind, FrequencyRow, IdHash, Location,
