@@ -74,8 +74,12 @@ fn bytes_up_to<F: OpenFile + Read + Drop>(
     }
 }
 
-// The bytes of a file of a folder, at most so many. There is no such file where the folder isn't there, or is no folder.
-pub(crate) fn file_up_to<H: Files>(
+/// The bytes of a file of a folder, at most so many. There is no such file where the folder isn't there, or is no folder.
+///
+/// # Errors
+///
+/// `Failed` where the file is longer or can't be read, `OutOfMemory` where memory was wanting.
+pub fn file_up_to<H: Files>(
     limit: u32,
     rt: &H,
     alloc: Global,

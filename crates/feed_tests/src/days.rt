@@ -1,4 +1,4 @@
-// Day starts by other calendars, and what is refused.
+//! Day starts by other calendars, and what is refused.
 
 ghost use Rattle.std.specs.Prelude.{◌≡◌};
 

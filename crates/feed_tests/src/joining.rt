@@ -1,4 +1,4 @@
-// Small feeds joined: what each row becomes, and the first fault of each kind.
+//! Small feeds joined: what each row becomes, and the first fault of each kind.
 
 use gtfs_tables::{
     FaultKind, Feed, Frequency, Place, Table, TableFault, Tables, join, read_agency, read_calendar,

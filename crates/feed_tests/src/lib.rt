@@ -1,8 +1,16 @@
 //! From a feed's files to its image: tests alone, of the crates that no other test stands in, so that these are proved once.
+//!
+//! Of `gtfs_rows` are `rows`, `row_faults` and `rows_memory`, of `gtfs_tables` `joining` and `joining_memory`, of `feed_files`
+//! `files`, of `service_days` `days`, of `transfers` `listing`, of `connections` `runs`, of `footpaths` `closing`, and of
+//! `feed_loader` `loading`.
 #![tactic(auto)]
 
 #[cfg(test)]
+mod closing;
+#[cfg(test)]
 mod days;
+#[cfg(test)]
+mod files;
 #[cfg(test)]
 mod joining;
 #[cfg(test)]
@@ -11,5 +19,11 @@ mod joining_memory;
 mod listing;
 #[cfg(test)]
 mod loading;
+#[cfg(test)]
+mod row_faults;
+#[cfg(test)]
+mod rows;
+#[cfg(test)]
+mod rows_memory;
 #[cfg(test)]
 mod runs;

@@ -1,3 +1,5 @@
+//! Small feeds and the footpaths that they list.
+
 use gtfs_tables::{
     Feed, IdHash, Place, Stop, Tables, Transfer, TransferKind, join, read_agency,
     read_calendar_dates, read_stop_times, read_stops, read_transfers, read_trips,
@@ -5,7 +7,7 @@ use gtfs_tables::{
 use std::alloc::{AllocError, Global};
 use std::test::Fail;
 use timetable::Footpath;
-use transfers::{ListingFault, listed, listed_within};
+use transfers::{ListingFault, listed, listed_in_room, listed_within};
 
 fn path(from: u32, to: u32, secs: u32) -> Footpath {
     Footpath { from, to, secs }
@@ -237,6 +239,39 @@ fn no_more_than_allowed(rt: HostRuntime) -> Result<(), Fail> {
     assert_eq!(rt; count_within(rt.alloc(), 4)?, None);
     assert_eq!(rt; count_within(rt.alloc(), 0)?, None);
     Ok(())
+}
+
+// How many footpaths the feed with these transfers lists within limits, or why they aren't listed.
+fn count_in_room(
+    alloc: Global,
+    transfers: &[Transfer],
+    most: usize,
+    room: usize,
+) -> Result<usize, ListingFault> {
+    let feed = feed_of(alloc, transfers)?;
+    let paths = listed_in_room(alloc, &feed, most, room)?;
+    Ok(paths.len())
+}
+
+// A station that is kept apart from itself lists no footpath within it, and takes room all the same: for the first stop its loop;
+// for each of the two others the transfer, two stops left, two of the station, and a loop.
+#[test]
+fn claims_take_room(rt: HostRuntime) {
+    let station = Place::Station(5);
+    let apart = [row(station, station, TransferKind::Impossible, None)];
+    let cases = [
+        (3, 14, Ok(3)),
+        (3, 13, Ok(3)),
+        (3, 12, Err(ListingFault::OutOfMemory)),
+        (2, 13, Err(ListingFault::TooMany)),
+        (1, 7, Err(ListingFault::TooMany)),
+        (1, 6, Err(ListingFault::OutOfMemory)),
+        (0, 1, Err(ListingFault::TooMany)),
+        (0, 0, Err(ListingFault::OutOfMemory)),
+    ];
+    for (most, room, wanted) in cases {
+        assert!(rt; count_in_room(rt.alloc(), &apart, most, room) == wanted);
+    }
 }
 
 // Whichever growth is refused, want of memory is told. A refused growth ends the test with `AllocError`.

@@ -122,8 +122,13 @@ fn has_longer(closed: &[Footpath], longest: u32) -> bool
     false
 }
 
-// The closure within limits: so many footpaths at most, and none longer than so many seconds.
-pub(crate) fn close_within(
+/// The closure of listed footpaths, as [`close`] gives it, within limits: so many footpaths at most, and none that takes longer
+/// than so many seconds.
+///
+/// # Errors
+///
+/// `TooManyFootpaths` where the closure has more, else `WalkTooLong` where one of them takes longer.
+pub fn close_within(
     alloc: Global,
     stops: u32,
     listed: &[Footpath],

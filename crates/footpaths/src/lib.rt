@@ -7,8 +7,5 @@ mod index;
 pub mod laws;
 mod search;
 
-pub use closure::close;
+pub use closure::{close, close_within};
 pub use fault::FootFault;
-
-#[cfg(test)]
-mod tests;

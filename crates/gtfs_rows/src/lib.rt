@@ -32,12 +32,6 @@ pub use rows::{
     StopTimeRow, TransferKind, TransferRow, TripRow,
 };
 pub use stop_times::StopTimes;
+pub use stops::{stops_up_to, trips_up_to};
 pub use table_file::TableFile;
 pub use values::{DateFault, Day, Time, TimeFault};
-
-#[cfg(test)]
-mod fault_tests;
-#[cfg(test)]
-mod memory_tests;
-#[cfg(test)]
-mod tests;

@@ -77,8 +77,12 @@ fn count_stops(rows: &[StopRow]) -> usize
         .count()
 }
 
-// The rows of `stops.txt`, of which at most so many are stops.
-pub(crate) fn stops_up_to(
+/// The stops and other places of the bytes of `stops.txt`, of which at most so many are stops. Ids are looked up by the hash.
+///
+/// # Errors
+///
+/// The first fault of the file, else `TooMany`, told of the file, where more of its rows are stops.
+pub fn stops_up_to(
     limit: usize,
     alloc: Global,
     hash: IdHash,
@@ -142,8 +146,12 @@ impl Row for TripRow {
     }
 }
 
-// The rows of `trips.txt`, at most so many.
-pub(crate) fn trips_up_to(
+/// The trips of the bytes of `trips.txt`, at most so many. Ids are looked up by the hash.
+///
+/// # Errors
+///
+/// The first fault of the file, else `TooMany`, told of the file, where it has more rows.
+pub fn trips_up_to(
     limit: usize,
     alloc: Global,
     hash: IdHash,

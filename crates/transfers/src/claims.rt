@@ -1,6 +1,6 @@
 //! What is said of a way on foot from a stop to a stop, and who says it.
 
-ghost use Rattle.std.specs.Prelude.{◌≡◌, OnOk};
+ghost use Rattle.std.specs.Prelude.{◌≡◌, ◌≤◌, ◌+◌, ◌↔◌, length, IsOk, OnOk};
 ghost use Rattle.transfers.specs.declared.claims.Claim.{Claim};
 ghost use Rattle.transfers.specs.Listed.{source_of, given_or, word_of};
 ghost use Rattle.transfers.specs.Claims.{Adds, ForOneOf, IsPairClaim, IsNumberedClaim, IsSiblingPair, IsStationClaim, IsLoopOf, IsStopClaim, IsClaimInto};
@@ -81,9 +81,22 @@ fn word_of(row: &Transfer, is_loop: bool) -> Option<Word>
     }
 }
 
+// Takes so much of the room for claims.
+fn take_room(room: &mut usize, count: usize) -> Result<(), AllocError>
+    ensures fits { IsOk result ↔ (count ≤ room.old) }
+    ensures left { OnOk result (room.new + count ≡ room.old) }
+{
+    if count > *room {
+        return Err(AllocError);
+    }
+    *room -= count;
+    Ok(())
+}
+
 // Adds what a transfer says of a pair of stops.
 fn claim_pair(claims: &mut Vec<Claim>, row: &Transfer, from: u32, to: u32) -> Result<(), AllocError>
-    ensures { OnOk result (Adds claims.old.items claims.new.items (IsPairClaim row.now from to)) }
+    ensures one { OnOk result (length claims.new.items ≤ length claims.old.items + 1) }
+    ensures adds { OnOk result (Adds claims.old.items claims.new.items (IsPairClaim row.now from to)) }
 {
     if let Some(word) = word_of(row, from == to) {
         let source = source_of(row);
@@ -104,7 +117,8 @@ fn claim_into(
     froms: &[u32],
     to: u32,
 ) -> Result<(), AllocError>
-    ensures { OnOk result (Adds claims.old.items claims.new.items (ForOneOf froms.now (λ from. IsPairClaim row.now from to))) }
+    ensures few { OnOk result (length claims.new.items ≤ length claims.old.items + length froms.now) }
+    ensures adds { OnOk result (Adds claims.old.items claims.new.items (ForOneOf froms.now (λ from. IsPairClaim row.now from to))) }
 {
     for from in froms {
         claim_pair(claims, row, *from, to)?;
@@ -119,12 +133,18 @@ fn claim_row(
     lookup: &Lookup,
     number: u32,
     to: u32,
+    room: &mut usize,
 ) -> Result<(), AllocError>
     requires { IsLookup feed.now.stops.items feed.now.transfers.items lookup.now }
-    ensures { OnOk result (Adds claims.old.items claims.new.items (IsNumberedClaim feed.now.stops.items feed.now.transfers.items to number)) }
+    ensures room { OnOk result (length claims.new.items + room.new ≤ length claims.old.items + room.old) }
+    ensures adds { OnOk result (Adds claims.old.items claims.new.items (IsNumberedClaim feed.now.stops.items feed.now.transfers.items to number)) }
 {
     match feed.transfers.get(number as usize) {
-        Some(row) => claim_into(claims, row, lookup.stood_for(&row.from), to),
+        Some(row) => {
+            let froms = lookup.stood_for(&row.from);
+            take_room(room, froms.len())?;
+            claim_into(claims, row, froms, to)
+        }
         None => Ok(()),
     }
 }
@@ -136,19 +156,23 @@ fn claim_rows(
     lookup: &Lookup,
     numbers: &[u32],
     to: u32,
+    room: &mut usize,
 ) -> Result<(), AllocError>
     requires { IsLookup feed.now.stops.items feed.now.transfers.items lookup.now }
-    ensures { OnOk result (Adds claims.old.items claims.new.items (ForOneOf numbers.now (IsNumberedClaim feed.now.stops.items feed.now.transfers.items to))) }
+    ensures room { OnOk result (length claims.new.items + room.new ≤ length claims.old.items + room.old) }
+    ensures adds { OnOk result (Adds claims.old.items claims.new.items (ForOneOf numbers.now (IsNumberedClaim feed.now.stops.items feed.now.transfers.items to))) }
 {
+    take_room(room, numbers.len())?;
     for number in numbers {
-        claim_row(claims, feed, lookup, *number, to)?;
+        claim_row(claims, feed, lookup, *number, to, room)?;
     }
     Ok(())
 }
 
 // Adds what holds of a way from a stop to one of the same station, where no transfer counts.
 fn claim_sibling(claims: &mut Vec<Claim>, from: u32, to: u32) -> Result<(), AllocError>
-    ensures { OnOk result (Adds claims.old.items claims.new.items (IsSiblingPair from to)) }
+    ensures one { OnOk result (length claims.new.items ≤ length claims.old.items + 1) }
+    ensures adds { OnOk result (Adds claims.old.items claims.new.items (IsSiblingPair from to)) }
 {
     if from != to {
         claims.push(Claim {
@@ -163,7 +187,8 @@ fn claim_sibling(claims: &mut Vec<Claim>, from: u32, to: u32) -> Result<(), Allo
 
 // Adds what holds of the ways to a stop from those of the same station, where no transfer counts.
 fn claim_siblings_of(claims: &mut Vec<Claim>, children: &[u32], to: u32) -> Result<(), AllocError>
-    ensures { OnOk result (Adds claims.old.items claims.new.items (ForOneOf children.now (λ from. IsSiblingPair from to))) }
+    ensures few { OnOk result (length claims.new.items ≤ length claims.old.items + length children.now) }
+    ensures adds { OnOk result (Adds claims.old.items claims.new.items (ForOneOf children.now (λ from. IsSiblingPair from to))) }
 {
     for from in children {
         claim_sibling(claims, *from, to)?;
@@ -178,9 +203,11 @@ fn claim_station(
     lookup: &Lookup,
     station: u32,
     to: u32,
+    room: &mut usize,
 ) -> Result<(), AllocError>
     requires { IsLookup feed.now.stops.items feed.now.transfers.items lookup.now }
-    ensures { OnOk result (Adds claims.old.items claims.new.items (IsStationClaim feed.now.stops.items feed.now.transfers.items station to)) }
+    ensures room { OnOk result (length claims.new.items + room.new ≤ length claims.old.items + room.old) }
+    ensures adds { OnOk result (Adds claims.old.items claims.new.items (IsStationClaim feed.now.stops.items feed.now.transfers.items station to)) }
 {
     claim_rows(
         claims,
@@ -188,14 +215,19 @@ fn claim_station(
         lookup,
         lookup.into_stations.group(station),
         to,
+        room,
     )?;
-    claim_siblings_of(claims, lookup.children_of(station), to)
+    let siblings = lookup.children_of(station);
+    take_room(room, siblings.len())?;
+    claim_siblings_of(claims, siblings, to)
 }
 
 // Adds what holds of the loop of a stop, where no transfer counts.
-fn claim_loop(claims: &mut Vec<Claim>, stop: u32) -> Result<(), AllocError>
-    ensures { OnOk result (Adds claims.old.items claims.new.items (IsLoopOf stop)) }
+fn claim_loop(claims: &mut Vec<Claim>, stop: u32, room: &mut usize) -> Result<(), AllocError>
+    ensures room { OnOk result (length claims.new.items + room.new ≤ length claims.old.items + room.old) }
+    ensures adds { OnOk result (Adds claims.old.items claims.new.items (IsLoopOf stop)) }
 {
+    take_room(room, 1)?;
     claims.push(Claim {
         to: stop,
         from: stop,
@@ -212,32 +244,37 @@ fn claim_stop(
     lookup: &Lookup,
     station: Option<u32>,
     to: u32,
+    room: &mut usize,
 ) -> Result<(), AllocError>
     requires { IsLookup feed.now.stops.items feed.now.transfers.items lookup.now }
-    ensures { OnOk result (Adds claims.old.items claims.new.items (IsStopClaim feed.now.stops.items feed.now.transfers.items station to)) }
+    ensures room { OnOk result (length claims.new.items + room.new ≤ length claims.old.items + room.old) }
+    ensures adds { OnOk result (Adds claims.old.items claims.new.items (IsStopClaim feed.now.stops.items feed.now.transfers.items station to)) }
 {
     match station {
         Some(station) => {
-            claim_station(claims, feed, lookup, station, to)?;
-            claim_loop(claims, to)
+            claim_station(claims, feed, lookup, station, to, room)?;
+            claim_loop(claims, to, room)
         }
-        None => claim_loop(claims, to),
+        None => claim_loop(claims, to, room),
     }
 }
 
-/// Adds all that is said of the ways into a stop.
+/// Adds all that is said of the ways into a stop, where there is room: each transfer that leads there and each stop that it leaves
+/// takes room for a claim, and so do each stop of the same station and the stop's loop. Room is taken before the claims are made.
 pub(crate) fn claim_ways(
     claims: &mut Vec<Claim>,
     feed: &Feed,
     lookup: &Lookup,
     to: u32,
+    room: &mut usize,
 ) -> Result<(), AllocError>
     requires { IsLookup feed.now.stops.items feed.now.transfers.items lookup.now }
-    ensures { OnOk result (Adds claims.old.items claims.new.items (IsClaimInto feed.now.stops.items feed.now.transfers.items to)) }
+    ensures room { OnOk result (length claims.new.items + room.new ≤ length claims.old.items + room.old) }
+    ensures adds { OnOk result (Adds claims.old.items claims.new.items (IsClaimInto feed.now.stops.items feed.now.transfers.items to)) }
 {
-    claim_rows(claims, feed, lookup, lookup.into_stops.group(to), to)?;
+    claim_rows(claims, feed, lookup, lookup.into_stops.group(to), to, room)?;
     match feed.stops.get(to as usize) {
-        Some(stop) => claim_stop(claims, feed, lookup, stop.station, to),
+        Some(stop) => claim_stop(claims, feed, lookup, stop.station, to, room),
         None => Ok(()),
     }
 }

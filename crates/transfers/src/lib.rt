@@ -8,4 +8,4 @@ mod listing;
 mod lookup;
 
 pub use fault::ListingFault;
-pub use listing::{listed, listed_within};
+pub use listing::{MAX_CLAIMS, listed, listed_in_room, listed_within};

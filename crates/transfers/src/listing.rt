@@ -48,6 +48,7 @@ fn add_first(paths: &mut Vec<Footpath>, claims: &[Claim], place: usize) -> Resul
     ensures paths { ArePathsBelow claims.now place paths.old.items → OnOk result (ArePathsBelow claims.now (place + 1) paths.new.items) }
     ensures order { AreSorted claims.now → ArePathsBelow claims.now place paths.old.items → AreInOrder paths.old.items
         → OnOk result (AreInOrder paths.new.items) }
+    ensures one { OnOk result (length paths.new.items ≤ length paths.old.items + 1) }
 {
     if is_first(claims, place) {
         add_path(paths, &claims[place])?;
@@ -60,6 +61,7 @@ fn paths_of(alloc: Global, claims: &[Claim]) -> Result<Vec<Footpath>, AllocError
     requires { AreSorted claims.now }
     ensures paths { IfOk result (λ v. ArePathsBelow claims.now (length claims.now) v.items) }
     ensures order { IfOk result (λ v. AreInOrder v.items) }
+    ensures few { IfOk result (λ v. length v.items ≤ length claims.now) }
 {
     let mut paths = Vec::new(alloc);
     for place in 0..claims.len() {
@@ -68,19 +70,21 @@ fn paths_of(alloc: Global, claims: &[Claim]) -> Result<Vec<Footpath>, AllocError
     Ok(paths)
 }
 
-// Adds the footpaths into a stop, behind those into the stops before it.
+// Adds the footpaths into a stop, behind those into the stops before it, where there is room for all that is claimed of them.
 fn add_ways(
     alloc: Global,
     paths: &mut Vec<Footpath>,
     feed: &Feed,
     lookup: &Lookup,
     to: u32,
+    room: &mut usize,
 ) -> Result<(), AllocError>
     requires { IsLookup feed.now.stops.items feed.now.transfers.items lookup.now }
-    ensures { AreListed feed.now (LeadBelow to) paths.old.items → OnOk result (AreListed feed.now (LeadBelow (to + 1)) paths.new.items) }
+    ensures room { OnOk result (length paths.new.items + room.new ≤ length paths.old.items + room.old) }
+    ensures listed { AreListed feed.now (LeadBelow to) paths.old.items → OnOk result (AreListed feed.now (LeadBelow (to + 1)) paths.new.items) }
 {
     let mut claims = Vec::new(alloc);
-    claim_ways(&mut claims, feed, lookup, to)?;
+    claim_ways(&mut claims, feed, lookup, to, room)?;
     claims.sort()?;
     let ways = paths_of(alloc, &claims)?;
     paths.extend_from_slice(&ways)
@@ -94,14 +98,16 @@ fn add_within(
     lookup: &Lookup,
     to: u32,
     most: usize,
+    room: &mut usize,
 ) -> Result<(), ListingFault>
     requires lookup { IsLookup feed.now.stops.items feed.now.transfers.items lookup.now }
     requires before { AreListed feed.now (LeadBelow to) paths.old.items }
     ensures listed { OnOk result (AreListed feed.now (LeadBelow (to + 1)) paths.new.items) }
     ensures few { OnOk result (length paths.new.items ≤ most) }
+    ensures room { OnOk result (length paths.new.items + room.new ≤ length paths.old.items + room.old) }
     ensures many { IfErr result (λ fault. fault ≡ TooMany → AreListed feed.now (LeadBelow (to + 1)) paths.new.items × (most < length paths.new.items)) }
 {
-    add_ways(alloc, paths, feed, lookup, to)?;
+    add_ways(alloc, paths, feed, lookup, to, room)?;
     if paths.len() > most {
         return Err(ListingFault::TooMany);
     }
@@ -115,21 +121,30 @@ fn paths_below(
     lookup: &Lookup,
     end: usize,
     most: usize,
+    room: usize,
 ) -> Result<Vec<Footpath>, ListingFault>
     requires lookup { IsLookup feed.now.stops.items feed.now.transfers.items lookup.now }
     requires small { end ≤ 2 ^ 32 }
     ensures listed { IfOk result (λ v. AreListed feed.now (LeadBelow end) v.items) }
     ensures few { IfOk result (λ v. length v.items ≤ most) }
+    ensures room { IfOk result (λ v. length v.items ≤ room) }
     ensures many { IfErr result (λ fault. fault ≡ TooMany → ListsMoreBelow feed.now end most) }
 {
     let mut paths = Vec::new(alloc);
+    let mut left = room;
     for to in 0..end {
-        if let Err(fault) = add_within(alloc, &mut paths, feed, lookup, to as u32, most) {
+        if let Err(fault) = add_within(
+            alloc, &mut paths, feed, lookup, to as u32, most, &mut left,
+        ) {
             return Err(fault);
         }
     }
     Ok(paths)
 }
+
+/// How many claims [`listed_within`] has room for, in all: what transfers, and stations, say of pairs of stops. A feed that makes more
+/// counts as want of memory.
+pub const MAX_CLAIMS: usize = 100_000_000;
 
 /// The footpaths that a feed lists, with their times in seconds, by the stop led into, then by the stop left, as the GTFS
 /// Schedule Reference has them, where they are that many at most.
@@ -149,7 +164,7 @@ fn paths_below(
 ///
 /// `TooMany` where the feed lists more footpaths than that. It is told as soon as more are found, stop by stop: never is there
 /// room for more than those and the footpaths into one stop. `OutOfMemory` where memory was wanting; more stops than a `u32` can
-/// number count as that.
+/// number count as that, and so do more claims than [`MAX_CLAIMS`].
 pub fn listed_within(alloc: Global, feed: &Feed, most: usize) -> Result<Vec<Footpath>, ListingFault>
     ensures times { IfOk result (λ v. (from to secs : ℕ) → HasFootpath v.items from to secs ↔ (listed_secs feed.now from to ≡ Some secs)) }
     ensures order { IfOk result (λ v. AreInOrder v.items) }
@@ -159,15 +174,43 @@ pub fn listed_within(alloc: Global, feed: &Feed, most: usize) -> Result<Vec<Foot
     ensures few { IfOk result (λ v. length v.items ≤ most) }
     ensures many { IfErr result (λ fault. fault ≡ TooMany → ListsMore feed.now most) }
 {
+    listed_in_room(alloc, feed, most, MAX_CLAIMS)
+}
+
+/// The footpaths that a feed lists, as [`listed_within`] gives them, with room for so many claims in all.
+///
+/// For each stop, in order, these count as claims: each transfer that leads there, be it to its station, and each stop that such a
+/// transfer leaves; each stop of the same station; and the stop's loop. They are counted before they are made.
+///
+/// # Errors
+///
+/// `TooMany` as there, of the stops for which there is room. `OutOfMemory` where memory was wanting, or room: a stop whose claims
+/// go beyond it isn't looked at, nor is any behind it.
+pub fn listed_in_room(
+    alloc: Global,
+    feed: &Feed,
+    most: usize,
+    room: usize,
+) -> Result<Vec<Footpath>, ListingFault>
+    ensures times { IfOk result (λ v. (from to secs : ℕ) → HasFootpath v.items from to secs ↔ (listed_secs feed.now from to ≡ Some secs)) }
+    ensures order { IfOk result (λ v. AreInOrder v.items) }
+    ensures in_range { NamesStops feed.now
+        → IfOk result (λ v. All (λ f. (f.from < length feed.now.stops.items) × (f.to < length feed.now.stops.items)) v.items) }
+    ensures loops { IfOk result (λ v. (stop : ℕ) → stop < length feed.now.stops.items → (secs : ℕ) × HasFootpath v.items stop stop secs) }
+    ensures few { IfOk result (λ v. length v.items ≤ most) }
+    ensures room { IfOk result (λ v. length v.items ≤ room) }
+    ensures many { IfErr result (λ fault. fault ≡ TooMany → ListsMore feed.now most) }
+{
     if feed.stops.len() > u32::MAX as usize {
         return Err(ListingFault::OutOfMemory);
     }
     let lookup = Lookup::new(alloc, feed)?;
     let end = end_of_stops(feed);
-    paths_below(alloc, feed, &lookup, end, most)
+    paths_below(alloc, feed, &lookup, end, most, room)
 }
 
-/// The footpaths that a feed lists, as `listed_within` gives them, however many they are. Want of memory is the only error.
+/// The footpaths that a feed lists, as [`listed_within`] gives them, however many they are. Want of memory is the only error; more
+/// claims than [`MAX_CLAIMS`] count as that.
 pub fn listed(alloc: Global, feed: &Feed) -> Result<Vec<Footpath>, AllocError>
     ensures times { IfOk result (λ v. (from to secs : ℕ) → HasFootpath v.items from to secs ↔ (listed_secs feed.now from to ≡ Some secs)) }
     ensures order { IfOk result (λ v. AreInOrder v.items) }

@@ -4,11 +4,13 @@ use Rattle.transfers.proofs.AddLemmas.{adds_more, adds_end}
 use Rattle.transfers.proofs.claims.claim_siblings_of.Goals as goal
 
 pub loop-from-preserved : goal.loop-from-preserved
-loop-from-preserved c =
-    adds_more c.args.children.now (λ from. IsSiblingPair from c.args.to) c.loop-from.from-index 0 c.args.claims.now.items c.loop-from.claims.items
-    c.claim_sibling.new.claims.items (omega arith) c.loop-from.invariant c.in_ok-claim_sibling.ensures
+loop-from-preserved c = record {
+  few = omega (arith, c.loop-from.invariant.few, c.in_ok-claim_sibling.ensures.one);
+  adds = adds_more c.args.children.now (λ from. IsSiblingPair from c.args.to) c.loop-from.from-index 0 c.args.claims.now.items c.loop-from.claims.items
+      c.claim_sibling.new.claims.items (omega arith) c.loop-from.invariant.adds c.in_ok-claim_sibling.ensures.adds;
+}
 
-pub returns : goal.returns
-returns c =
+pub returns-clause-adds : goal.returns-clause-adds
+returns-clause-adds c =
     adds_end c.args.children.now (λ from. IsSiblingPair from c.args.to) c.loop-from.from-index c.args.claims.now.items c.loop-from.claims.items
-    (omega arith) c.loop-from.invariant
+    (omega arith) c.loop-from.invariant.adds

@@ -14,8 +14,8 @@ pub paths_of-requires : goal.paths_of-requires
 paths_of-requires c =
     subst (λ (claims : List Claim). AreSorted claims) (sym c.deref.ensures.value) (sorted_claims c.sort.new.self.items c.in_ok-sort.ensures.sorted)
 
-pub returns : goal.returns
-returns c = λ before.
+pub returns-clause-listed : goal.returns-clause-listed
+returns-clause-listed c = λ before.
     let stops = c.args.feed.now.stops.items in
     let rows = c.args.feed.now.transfers.items in
     let claims = c.deref.result.now in
@@ -24,7 +24,7 @@ returns c = λ before.
     let all : (x : Claim) → Contains claims x ↔ IsClaimInto stops rows c.args.to x = λ x. subst
     (λ (xs : List Claim). Contains xs x ↔ IsClaimInto stops rows c.args.to x) (sym c.deref.ensures.value)
     (moved_claims c.new-claims.result.items c.claim_ways.new.claims.items c.sort.new.self.items
-    (IsClaimInto stops rows c.args.to) c.new-claims.ensures.items c.in_ok-claim_ways.ensures c.in_ok-sort.ensures.permutation x) in
+    (IsClaimInto stops rows c.args.to) c.new-claims.ensures.items c.in_ok-claim_ways.ensures.adds c.in_ok-sort.ensures.permutation x) in
     let ways : AreListed c.args.feed.now (λ a b. b ≡ c.args.to) c.in_ok-ways.ways.items =
     ways_listed c.args.feed.now c.args.to claims c.in_ok-ways.ways.items sorted all c.in_ok-ways.ensures.paths c.in_ok-ways.ensures.order in
     let next : AreListed c.args.feed.now (LeadBelow (c.args.to + 1))

@@ -1,9 +1,10 @@
+//! Small lists of footpaths and their closures.
+
 ghost use Rattle.std.specs.Prelude.{◌≡◌, ℕ, true};
 ghost use Rattle.timetable.specs.Legal.{HasFootpath};
 ghost use Rattle.footpaths.specs.Closure.{AreInRange, HasLoops};
 
-use super::*;
-use crate::closure::close_within;
+use footpaths::{FootFault, close, close_within};
 use std::alloc::{AllocError, Global};
 use std::process::Abort;
 use std::test::Fail;

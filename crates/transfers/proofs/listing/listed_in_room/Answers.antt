@@ -5,7 +5,7 @@ use Rattle.timetable.specs.declared.network.Footpath.{Footpath}
 use Rattle.transfers.specs.Listed.{AreListed, LeadBelow, ListsMore, ListsMoreBelow, listed_secs}
 use Rattle.transfers.specs.declared.fault.ListingFault.TheVariants.{TooMany}
 use Rattle.transfers.proofs.ListedLemmas.{all_times, has_loops, in_range, lists_more}
-use Rattle.transfers.proofs.listing.listed_within.Goals as goal
+use Rattle.transfers.proofs.listing.listed_in_room.Goals as goal
 
 times : (c : goal.After-drop-lookup-6) → IfOk c.paths_below.result (λ v. (from to secs : ℕ)
     → HasFootpath v.items from to secs ↔ (listed_secs c.args.feed.now from to ≡ Some secs))

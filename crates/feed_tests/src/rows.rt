@@ -1,13 +1,10 @@
-// The files of a small feed, and what each fault looks like.
+//! The files of a small feed, and what each fault looks like.
 
-use crate::fault::{FaultKind, Table, TableFault};
-use crate::id_hash::IdHash;
-use crate::read::{
-    read_agency, read_calendar, read_calendar_dates, read_frequencies, read_stop_times, read_stops,
-    read_transfers, read_trips,
+use gtfs_rows::{
+    CalendarDateRow, CalendarRow, Day, Exception, FaultKind, FrequencyRow, IdHash, Location,
+    StopTimeRow, StopTimes, Table, TableFault, TransferKind, read_agency, read_calendar,
+    read_calendar_dates, read_frequencies, read_stop_times, read_stops, read_transfers, read_trips,
 };
-use crate::rows::{Exception, Location, TransferKind};
-use crate::values::Day;
 use std::hash::BuildHasher;
 use std::test::Fail;
 
@@ -42,6 +39,12 @@ fn agencies(rt: HostRuntime) -> Result<(), Fail> {
     )?;
     assert_eq!(rt; rows.len(), 1);
     assert_eq!(rt; rows[0].zone.as_str(), "Etc/UTC");
+    Ok(())
+}
+
+#[test]
+fn agencies_at_fault(rt: HostRuntime) {
+    let alloc = rt.alloc();
     let bad: [(&[u8], u64, FaultKind); 8] = [
         (b"", 0, FaultKind::MissingColumn),
         (b"\xEF\xBB\xBF\n\n", 0, FaultKind::MissingColumn),
@@ -59,7 +62,6 @@ fn agencies(rt: HostRuntime) -> Result<(), Fail> {
     for (bytes, row, kind) in bad {
         assert!(rt; tells(read_agency(alloc, bytes), Table::Agency, row, kind));
     }
-    Ok(())
 }
 
 #[test]
@@ -116,24 +118,62 @@ fn trips(rt: HostRuntime) -> Result<(), Fail> {
     Ok(())
 }
 
+// Whether a file is read as these rows, of so many trips and stops.
+pub(crate) fn are_stop_times(
+    answer: Result<StopTimes, TableFault>,
+    rows: &[StopTimeRow],
+    trips: usize,
+    stops: usize,
+) -> bool {
+    match answer {
+        Ok(table) => {
+            table.rows.as_slice() == rows
+                && table.trips.len() == trips
+                && table.stops.len() == stops
+        }
+        Err(_) => false,
+    }
+}
+
 #[test]
-fn stop_times(rt: HostRuntime) -> Result<(), Fail> {
+fn stop_times(rt: HostRuntime) {
+    let rows = [
+        StopTimeRow {
+            trip: 0,
+            arrival: Some(28_800),
+            departure: None,
+            stop: Some(0),
+            sequence: 1,
+            board: false,
+            alight: true,
+        },
+        StopTimeRow {
+            trip: 0,
+            arrival: None,
+            departure: None,
+            stop: None,
+            sequence: 2,
+            board: true,
+            alight: true,
+        },
+        StopTimeRow {
+            trip: 1,
+            arrival: Some(29_400),
+            departure: Some(29_460),
+            stop: Some(0),
+            sequence: 3,
+            board: true,
+            alight: false,
+        },
+    ];
+    let bytes =
+        b"trip_id,arrival_time,departure_time,stop_id,stop_sequence,pickup_type,drop_off_type\nT1,08:00:00,,A,1.0,1,0\nT1,,,,2,3,9\nT2,8:10:00,08:11:00,A,03,,1.0\n";
+    assert!(rt; are_stop_times(read_stop_times(rt.alloc(), bytes), &rows, 2, 1));
+}
+
+#[test]
+fn stop_times_at_fault(rt: HostRuntime) {
     let alloc = rt.alloc();
-    let table = read_stop_times(
-        alloc,
-        b"trip_id,arrival_time,departure_time,stop_id,stop_sequence,pickup_type,drop_off_type\nT1,08:00:00,,A,1.0,1,0\nT1,,,,2,3,9\nT2,8:10:00,08:11:00,A,03,,1.0\n",
-    )?;
-    assert_eq!(rt; table.rows.len(), 3);
-    let [first, second, third] = [table.rows[0], table.rows[1], table.rows[2]];
-    assert!(rt; first.arrival == Some(28_800) && first.departure == None);
-    assert!(rt; first.stop == Some(0) && second.stop == None && third.stop == Some(0));
-    assert!(rt; first.trip == 0 && second.trip == 0 && third.trip == 1);
-    assert!(rt; first.sequence == 1 && second.sequence == 2 && third.sequence == 3);
-    assert!(rt; !first.board && second.board && third.board);
-    assert!(rt; first.alight && second.alight && !third.alight);
-    assert!(rt; third.arrival == Some(29_400) && third.departure == Some(29_460));
-    assert_eq!(rt; table.trips.len(), 2);
-    assert_eq!(rt; table.stops.len(), 1);
     let bad: [(&[u8], u64, FaultKind); 8] = [
         (
             b"trip_id,arrival_time,departure_time,stop_id\n",
@@ -179,34 +219,45 @@ fn stop_times(rt: HostRuntime) -> Result<(), Fail> {
     for (bytes, row, kind) in bad {
         assert!(rt; tells(read_stop_times(alloc, bytes), Table::StopTimes, row, kind));
     }
-    Ok(())
+}
+
+// Whether a file is read as one service that runs on these weekdays, from the start to the end.
+fn is_service(
+    answer: Result<Vec<CalendarRow>, TableFault>,
+    weekdays: [bool; 7],
+    start: Day,
+    end: Day,
+) -> bool {
+    let Ok(rows) = answer else {
+        return false;
+    };
+    match rows.as_slice() {
+        [row] => row.weekdays == weekdays && row.start == start && row.end == end,
+        _ => false,
+    }
+}
+
+// A day of January 2024.
+fn january(day: u8) -> Day {
+    Day {
+        year: 2024,
+        month: 1,
+        day,
+    }
 }
 
 #[test]
-fn services(rt: HostRuntime) -> Result<(), Fail> {
+fn services(rt: HostRuntime) {
+    let bytes =
+        b"service_id,monday,tuesday,wednesday,thursday,friday,saturday,sunday,start_date,end_date\nS,1,0,1.0,0,1,0,01,20240115,20240116\n";
+    let weekdays = [true, false, true, false, true, false, true];
+    let answer = read_calendar(rt.alloc(), bytes);
+    assert!(rt; is_service(answer, weekdays, january(15), january(16)));
+}
+
+#[test]
+fn services_at_fault(rt: HostRuntime) {
     let alloc = rt.alloc();
-    let rows = read_calendar(
-        alloc,
-        b"service_id,monday,tuesday,wednesday,thursday,friday,saturday,sunday,start_date,end_date\nS,1,0,1.0,0,1,0,01,20240115,20240116\n",
-    )?;
-    assert_eq!(rt; rows.len(), 1);
-    assert!(rt; rows[0].weekdays == [true, false, true, false, true, false, true]);
-    let (start, end) = (rows[0].start, rows[0].end);
-    assert!(rt;
-        start
-            == Day {
-                year: 2024,
-                month: 1,
-                day: 15
-            }
-    );
-    assert!(rt;
-        end == Day {
-            year: 2024,
-            month: 1,
-            day: 16
-        }
-    );
     let bad: [(&[u8], u64, FaultKind); 4] = [
         (
             b"service_id,monday,tuesday,wednesday,thursday,friday,saturday,sunday,start_date,end_date\nS,1,1,1,1,1,1,2,x,x\n",
@@ -232,12 +283,30 @@ fn services(rt: HostRuntime) -> Result<(), Fail> {
     for (bytes, row, kind) in bad {
         assert!(rt; tells(read_calendar(alloc, bytes), Table::Calendar, row, kind));
     }
-    let rows = read_calendar_dates(
-        alloc,
-        b"service_id,date,exception_type\nX,20240115,1\nX,20240116,2\n",
-    )?;
-    assert_eq!(rt; rows.len(), 2);
-    assert!(rt; rows[0].exception == Exception::Added && rows[1].exception == Exception::Removed);
+}
+
+// Whether a file is read as a day that is added, and one that is removed.
+fn are_added_and_removed(answer: Result<Vec<CalendarDateRow>, TableFault>) -> bool {
+    let Ok(rows) = answer else {
+        return false;
+    };
+    match rows.as_slice() {
+        [first, second] => {
+            first.exception == Exception::Added && second.exception == Exception::Removed
+        }
+        _ => false,
+    }
+}
+
+#[test]
+fn days_of_services(rt: HostRuntime) {
+    let bytes = b"service_id,date,exception_type\nX,20240115,1\nX,20240116,2\n";
+    assert!(rt; are_added_and_removed(read_calendar_dates(rt.alloc(), bytes)));
+}
+
+#[test]
+fn days_of_services_at_fault(rt: HostRuntime) {
+    let alloc = rt.alloc();
     let bad: [(&[u8], u64, FaultKind); 3] = [
         (
             b"service_id,date,exception_type\nX,00000101,1\n",
@@ -265,7 +334,6 @@ fn services(rt: HostRuntime) -> Result<(), Fail> {
             )
         );
     }
-    Ok(())
 }
 
 #[test]
@@ -302,19 +370,38 @@ fn transfers(rt: HostRuntime) -> Result<(), Fail> {
     Ok(())
 }
 
+// Whether a file is read as two rows, the second with these times and this headway.
+fn ends_in_start(
+    answer: Result<Vec<FrequencyRow>, TableFault>,
+    start: u32,
+    end: u32,
+    headway: u32,
+) -> bool {
+    let Ok(rows) = answer else {
+        return false;
+    };
+    match rows.as_slice() {
+        [_, row] => {
+            row.trip.as_str() == "T2"
+                && row.start == start
+                && row.end == end
+                && row.headway == headway
+        }
+        _ => false,
+    }
+}
+
 // Whether the starts are exact isn't read.
 #[test]
-fn frequencies(rt: HostRuntime) -> Result<(), Fail> {
+fn frequencies(rt: HostRuntime) {
+    let bytes =
+        b"exact_times,headway_secs,end_time,start_time,trip_id\n1,60,9:00:00,10:00:00,T1\nx,1200.0,25:00:01,24:00:00,T2\n";
+    assert!(rt; ends_in_start(read_frequencies(rt.alloc(), bytes), 86_400, 90_001, 1200));
+}
+
+#[test]
+fn frequencies_at_fault(rt: HostRuntime) {
     let alloc = rt.alloc();
-    let rows = read_frequencies(
-        alloc,
-        b"exact_times,headway_secs,end_time,start_time,trip_id\n1,60,9:00:00,10:00:00,T1\nx,1200.0,25:00:01,24:00:00,T2\n",
-    )?;
-    assert_eq!(rt; rows.len(), 2);
-    assert_eq!(rt; rows[1].trip.as_str(), "T2");
-    assert_eq!(rt; rows[1].start, 86_400);
-    assert_eq!(rt; rows[1].end, 90_001);
-    assert_eq!(rt; rows[1].headway, 1200);
     let wrong: [(&[u8], u64, FaultKind); 7] = [
         (b"trip_id\nT\n", 0, FaultKind::MissingColumn),
         (
@@ -358,5 +445,4 @@ fn frequencies(rt: HostRuntime) -> Result<(), Fail> {
             )
         );
     }
-    Ok(())
 }

@@ -1,10 +1,9 @@
-// Where a growth is refused, each call answers with the want of memory, whichever growth it is. A refused growth ends the
-// test with `AllocError`.
+//! Where a growth is refused, each call answers with the want of memory, whichever growth it is. A refused growth ends the
+//! test with `AllocError`.
 
-use crate::fault::{FaultKind, Table, TableFault};
-use crate::read::{
-    read_agency, read_calendar, read_calendar_dates, read_frequencies, read_stop_times, read_stops,
-    read_transfers, read_trips,
+use gtfs_rows::{
+    FaultKind, StopTimes, Table, TableFault, read_agency, read_calendar, read_calendar_dates,
+    read_frequencies, read_stop_times, read_stops, read_transfers, read_trips,
 };
 use std::alloc::AllocError;
 use std::process::Abort;
@@ -49,16 +48,17 @@ fn refused_growth_of_trips(rt: HostRuntime) -> Result<(), Fail> {
     Ok(())
 }
 
+// Whether a row of one trip and one stop was read.
+fn is_one(read: &StopTimes) -> bool {
+    read.rows.len() == 1 && read.trips.len() == 1 && read.stops.len() == 1
+}
+
 #[test]
 fn refused_growth_of_stop_times(rt: HostRuntime) -> Result<(), Fail> {
-    let answer = read_stop_times(
-        rt.alloc(),
-        b"trip_id,arrival_time,departure_time,stop_id,stop_sequence\nT,,,A,1\n",
-    );
+    let bytes = b"trip_id,arrival_time,departure_time,stop_id,stop_sequence\nT,,,A,1\n";
+    let answer = read_stop_times(rt.alloc(), bytes);
     let read = read_or_refused(&rt, Table::StopTimes, answer)?;
-    assert_eq!(rt; read.rows.len(), 1);
-    assert_eq!(rt; read.trips.len(), 1);
-    assert_eq!(rt; read.stops.len(), 1);
+    assert!(rt; is_one(&read));
     Ok(())
 }
 

@@ -1,14 +1,12 @@
-// Each kind of fault in small files, what comes first where there are two, and the forms that a file may have.
+//! Each kind of fault in small files, what comes first where there are two, and the forms that a file may have.
 
-use crate::fault::{FaultKind, Table};
-use crate::id_hash::IdHash;
-use crate::read::{
-    read_agency, read_calendar, read_calendar_dates, read_frequencies, read_stop_times, read_stops,
-    read_transfers, read_trips,
+use crate::rows::{are_stop_times, tells};
+use gtfs_rows::{
+    FaultKind, IdHash, StopTimeRow, StopTimes, Table, TableFault, read_agency, read_calendar,
+    read_calendar_dates, read_frequencies, read_stop_times, read_stops, read_transfers, read_trips,
+    stops_up_to, trips_up_to,
 };
-use crate::stops::{stops_up_to, trips_up_to};
-use crate::tests::tells;
-use std::test::Fail;
+use indexmap::IndexSet;
 
 #[test]
 fn missing_files(rt: HostRuntime) {
@@ -88,28 +86,29 @@ fn without_a_header(rt: HostRuntime) {
     }
 }
 
+// Whether a file is read, and has no rows.
+fn has_none<T: Drop>(answer: Result<Vec<T>, TableFault>) -> bool {
+    match answer {
+        Ok(rows) => rows.is_empty(),
+        Err(_) => false,
+    }
+}
+
 #[test]
-fn a_header_alone(rt: HostRuntime) -> Result<(), Fail> {
+fn a_header_alone(rt: HostRuntime) {
     let alloc = rt.alloc();
-    assert!(rt; read_agency(alloc, b"agency_timezone")?.is_empty());
-    assert!(rt; read_stops(alloc, b"stop_id\r\n")?.is_empty());
-    assert!(rt; read_trips(alloc, b"trip_id,service_id\r")?.is_empty());
-    let times = read_stop_times(
-        alloc,
-        b"trip_id,arrival_time,departure_time,stop_id,stop_sequence\n",
-    )?;
-    assert!(rt; times.rows.is_empty() && times.trips.is_empty() && times.stops.is_empty());
-    let calendar = read_calendar(
-        alloc,
-        b"service_id,monday,tuesday,wednesday,thursday,friday,saturday,sunday,start_date,end_date\n",
-    )?;
-    assert!(rt; calendar.is_empty());
-    assert!(rt; read_calendar_dates(alloc, b"date,service_id,exception_type\n")?.is_empty());
-    assert!(rt; read_transfers(alloc, b"to_stop_id,from_stop_id\n\n\n")?.is_empty());
-    assert!(rt;
-        read_frequencies(alloc, b"\"trip_id\",start_time,end_time,headway_secs\n")?.is_empty()
-    );
-    Ok(())
+    assert!(rt; has_none(read_agency(alloc, b"agency_timezone")));
+    assert!(rt; has_none(read_stops(alloc, b"stop_id\r\n")));
+    assert!(rt; has_none(read_trips(alloc, b"trip_id,service_id\r")));
+    let times: &[u8] = b"trip_id,arrival_time,departure_time,stop_id,stop_sequence\n";
+    assert!(rt; are_stop_times(read_stop_times(alloc, times), &[], 0, 0));
+    let calendar: &[u8] =
+        b"service_id,monday,tuesday,wednesday,thursday,friday,saturday,sunday,start_date,end_date\n";
+    assert!(rt; has_none(read_calendar(alloc, calendar)));
+    assert!(rt; has_none(read_calendar_dates(alloc, b"date,service_id,exception_type\n")));
+    assert!(rt; has_none(read_transfers(alloc, b"to_stop_id,from_stop_id\n\n\n")));
+    let frequencies: &[u8] = b"\"trip_id\",start_time,end_time,headway_secs\n";
+    assert!(rt; has_none(read_frequencies(alloc, frequencies)));
 }
 
 #[test]
@@ -164,18 +163,30 @@ fn lengths(rt: HostRuntime) {
     }
 }
 
+// A row of the first trip at the first stop, seventh in its order.
+fn seventh(arrival: u32, departure: u32) -> StopTimeRow {
+    StopTimeRow {
+        trip: 0,
+        arrival: Some(arrival),
+        departure: Some(departure),
+        stop: Some(0),
+        sequence: 7,
+        board: true,
+        alight: true,
+    }
+}
+
 #[test]
-fn times_and_numbers(rt: HostRuntime) -> Result<(), Fail> {
+fn times_and_numbers(rt: HostRuntime) {
+    let rows = [seventh(0, 359_999), seventh(86_400, 32_400)];
+    let bytes =
+        b"trip_id,arrival_time,departure_time,stop_id,stop_sequence\nT,0:00:00,99:59:59,A,007\nT,24:00:00, 9:00:00 ,A,7.000\n";
+    assert!(rt; are_stop_times(read_stop_times(rt.alloc(), bytes), &rows, 1, 1));
+}
+
+#[test]
+fn times_and_numbers_at_fault(rt: HostRuntime) {
     let alloc = rt.alloc();
-    let table = read_stop_times(
-        alloc,
-        b"trip_id,arrival_time,departure_time,stop_id,stop_sequence\nT,0:00:00,99:59:59,A,007\nT,24:00:00, 9:00:00 ,A,7.000\n",
-    )?;
-    assert_eq!(rt; table.rows.len(), 2);
-    let [first, second] = [table.rows[0], table.rows[1]];
-    assert!(rt; first.arrival == Some(0) && first.departure == Some(359_999));
-    assert!(rt; second.arrival == Some(86_400) && second.departure == Some(32_400));
-    assert!(rt; first.sequence == 7 && second.sequence == 7);
     let bad: [(&[u8], FaultKind); 6] = [
         (
             b"arrival_time,departure_time,stop_sequence,stop_id,trip_id\n,,1,,\n100:00:00,,1,,\n",
@@ -205,30 +216,49 @@ fn times_and_numbers(rt: HostRuntime) -> Result<(), Fail> {
     for (bytes, kind) in bad {
         assert!(rt; tells(read_stop_times(alloc, bytes), Table::StopTimes, 2, kind));
     }
-    Ok(())
+}
+
+// Whether the ids are these, in order.
+fn are_ids(ids: &IndexSet<String, IdHash>, texts: &[&str]) -> bool {
+    for (id, text) in ids.iter().zip(texts) {
+        if id.as_str() != *text {
+            return false;
+        }
+    }
+    ids.len() == texts.len()
+}
+
+// Whether a file is read as rows of these trips and stops, with ids in this order.
+fn have_ids(
+    answer: Result<StopTimes, TableFault>,
+    trips: &[&str],
+    stops: &[&str],
+    places: &[(u32, Option<u32>)],
+) -> bool {
+    let Ok(table) = answer else {
+        return false;
+    };
+    for (row, place) in table.rows.iter().zip(places) {
+        if row.trip != place.0 || row.stop != place.1 {
+            return false;
+        }
+    }
+    table.rows.len() == places.len() && are_ids(&table.trips, trips) && are_ids(&table.stops, stops)
 }
 
 #[test]
-fn ids_in_the_order_of_the_records(rt: HostRuntime) -> Result<(), Fail> {
-    let alloc = rt.alloc();
-    let table = read_stop_times(
-        alloc,
-        b"trip_id,arrival_time,departure_time,stop_id,stop_sequence\nT,,,B,1\nU,,,A,1\nT,,, ,2\n T ,,,B,3\n,,,C,1\n",
-    )?;
-    assert_eq!(rt; table.trips.len(), 3);
-    assert_eq!(rt; table.stops.len(), 3);
-    let trips: [u32; 5] = [0, 1, 0, 0, 2];
-    let stops: [Option<u32>; 5] = [Some(0), Some(1), None, Some(0), Some(2)];
-    for (row, (trip, stop)) in table.rows.iter().zip(trips.into_iter().zip(stops)) {
-        assert!(rt; row.trip == trip && row.stop == stop);
-    }
-    for (id, text) in table.trips.iter().zip(["T", "U", ""]) {
-        assert!(rt; id.as_str() == text);
-    }
-    for (id, text) in table.stops.iter().zip(["B", "A", "C"]) {
-        assert!(rt; id.as_str() == text);
-    }
-    Ok(())
+fn ids_in_the_order_of_the_records(rt: HostRuntime) {
+    let bytes =
+        b"trip_id,arrival_time,departure_time,stop_id,stop_sequence\nT,,,B,1\nU,,,A,1\nT,,, ,2\n T ,,,B,3\n,,,C,1\n";
+    let places = [
+        (0, Some(0)),
+        (1, Some(1)),
+        (0, None),
+        (0, Some(0)),
+        (2, Some(2)),
+    ];
+    let answer = read_stop_times(rt.alloc(), bytes);
+    assert!(rt; have_ids(answer, &["T", "U", ""], &["B", "A", "C"], &places));
 }
 
 #[test]
@@ -268,55 +298,52 @@ fn dates(rt: HostRuntime) {
     }
 }
 
+// How many rows a file is read as.
+fn count<T: Drop>(answer: Result<Vec<T>, TableFault>) -> Option<usize> {
+    match answer {
+        Ok(rows) => Some(rows.len()),
+        Err(_) => None,
+    }
+}
+
 #[test]
-fn limits(rt: HostRuntime) -> Result<(), Fail> {
+fn limits_of_stops(rt: HostRuntime) {
     let alloc = rt.alloc();
-    let kind = FaultKind::TooMany;
+    let hash = IdHash::of_key(7);
+    let many = FaultKind::TooMany;
     let stops: &[u8] = b"stop_id,location_type\nA,0\nS,1\nB,\n";
-    assert_eq!(rt; stops_up_to(2, alloc, IdHash::of_key(7), stops)?.len(), 3);
-    assert!(rt;
-        tells(
-            stops_up_to(1, alloc, IdHash::of_key(7), stops),
-            Table::Stops,
-            0,
-            kind
-        )
-    );
-    assert!(rt;
-        tells(
-            stops_up_to(0, alloc, IdHash::of_key(7), stops),
-            Table::Stops,
-            0,
-            kind
-        )
-    );
+    assert!(rt; count(stops_up_to(2, alloc, hash, stops)) == Some(3));
+    for limit in [1, 0] {
+        assert!(rt;
+            tells(
+                stops_up_to(limit, alloc, hash, stops),
+                Table::Stops,
+                0,
+                many
+            )
+        );
+    }
     let twice: &[u8] = b"stop_id,location_type\nA,0\nB,0\nA,0\n";
-    assert!(rt;
-        tells(
-            stops_up_to(0, alloc, IdHash::of_key(7), twice),
-            Table::Stops,
-            3,
-            FaultKind::IdTwice
-        )
-    );
+    let answer = stops_up_to(0, alloc, hash, twice);
+    assert!(rt; tells(answer, Table::Stops, 3, FaultKind::IdTwice));
+}
+
+#[test]
+fn limits_of_trips(rt: HostRuntime) {
+    let alloc = rt.alloc();
+    let hash = IdHash::of_key(7);
+    let many = FaultKind::TooMany;
     let trips: &[u8] = b"trip_id,service_id\nT,S\nU,S\n";
-    assert_eq!(rt; trips_up_to(2, alloc, IdHash::of_key(7), trips)?.len(), 2);
-    assert!(rt;
-        tells(
-            trips_up_to(1, alloc, IdHash::of_key(7), trips),
-            Table::Trips,
-            0,
-            kind
-        )
-    );
-    assert!(rt;
-        tells(
-            trips_up_to(0, alloc, IdHash::of_key(7), trips),
-            Table::Trips,
-            0,
-            kind
-        )
-    );
-    assert!(rt; trips_up_to(0, alloc, IdHash::of_key(7), b"trip_id,service_id\n")?.is_empty());
-    Ok(())
+    assert!(rt; count(trips_up_to(2, alloc, hash, trips)) == Some(2));
+    for limit in [1, 0] {
+        assert!(rt;
+            tells(
+                trips_up_to(limit, alloc, hash, trips),
+                Table::Trips,
+                0,
+                many
+            )
+        );
+    }
+    assert!(rt; count(trips_up_to(0, alloc, hash, b"trip_id,service_id\n")) == Some(0));
 }

@@ -1,10 +1,8 @@
 //! A small feed in memory and in a folder, and what stops its reading.
 
-use crate::failed::FailedNames;
-use crate::files::{FeedFiles, FileFault};
-use crate::folder::{FolderFiles, file_up_to};
-use crate::memory::MemoryFiles;
-use crate::reading::{ReadFault, read_tables};
+use feed_files::{
+    FailedNames, FeedFiles, FileFault, FolderFiles, MemoryFiles, ReadFault, file_up_to, read_tables,
+};
 use gtfs_tables::{FaultKind, IdHash, Table, TableFault, Tables};
 use std::alloc::{AllocError, Global};
 use std::fs;
