@@ -16,6 +16,3 @@ pub use drawing::picture;
 pub use lines::{JourneyLine, Stretch, Way};
 pub use naming::{connection_at, stop_name, trip_name};
 pub use telling::{journey_line, journeys_title};
-
-#[cfg(test)]
-mod tests;

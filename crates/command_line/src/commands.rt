@@ -25,6 +25,8 @@ const BUILD_EXAMPLE: &str =
 const SERVE_EXAMPLE: &str =
     "Example: csa serve --image examples/base.csa --port 7077 --workers 2 --sessions 0 --first 20240115 --days 1 --zone fixed:0 \
 slow=examples/slow\n\
+The image is version 1. The days and the zone are those of the feeds that are loaded; where clocks of these count from elsewhere than \
+those of the image, it is told on standard error.\n\
 A session is lines of JSON over TCP: {\"do\":\"pin\"}, {\"do\":\"release\"}, {\"do\":\"load\",\"feed\":\"slow\"} (with \"wait\":true \
 it replies once the new version stands, or why it doesn't) and {\"do\":\"profile\",\"from\":\"A\",\"to\":\"C\",\"after\":\"07:00:00\",\"until\":\"09:00:00\",\"by\":\"10:00:00\",\
 \"criterion\":\"arrival\"}";

@@ -1,14 +1,8 @@
-//! What the words of a command line ask for, and the help.
+//! The words of a command line, read as a request, or what is said of them; the help.
 #![tactic(auto)]
 
 mod commands;
 mod reading;
-mod requests;
 mod values;
 
-pub use reading::read;
-pub use requests::{
-    AnswerForm, BuildRequest, JourneyRequest, MOST_WORKERS, NamedFolder, PlanText, ProfileRequest,
-    Question, Request, ServeRequest, StopsRequest, Unread, UpgradeRequest, WRONG_PLAN_FORM,
-    ZoneText,
-};
+pub use reading::{Unread, read};

@@ -3,19 +3,33 @@
 ghost use Rattle.std.specs.Prelude.{◌≤◌, IfSome};
 
 use crate::commands::program;
-use crate::requests::{
-    AnswerForm, BuildRequest, JourneyRequest, MOST_WORKERS, NamedFolder, PlanText, ProfileRequest,
-    Question, Request, ServeRequest, StopsRequest, Unread, UpgradeRequest, WRONG_PLAN_FORM,
-};
 use crate::values::{clock, count, day, named_folder, number, port, zone};
 use clap::error::ErrorKind;
 use clap::{ArgMatches, Error};
+use command_requests::{
+    AnswerForm, BuildRequest, JourneyRequest, NamedFolder, PlanText, ProfileRequest, Question,
+    Request, ServeRequest, StopsRequest, UpgradeRequest, days_of, workers_of,
+};
 use criteria::CriterionName;
 use std::alloc::Global;
 use std::convert::AsStr;
 
+/// Why the words ask for no command.
+#[derive(Drop)]
+pub enum Unread {
+    /// They ask for a text of help.
+    Help(String),
+    /// They are wrong, as the text says.
+    Mistake(String),
+    OutOfMemory,
+}
+
 const WRONG_FORM: &str =
     "error: a clock is HH:MM:SS: hours of one to six digits, minutes and seconds below 60\n";
+
+/// What is said where a day, a number of days or a zone has a wrong form.
+const WRONG_PLAN_FORM: &str =
+    "error: a day is YYYYMMDD, the number of days 1 to 14, a zone fixed:SECS with at most 86399 seconds either way, posix:TEXT or file:PATH\n";
 
 /// What is said where other words of `serve` have a wrong form.
 const WRONG_SERVE_FORM: &str =
@@ -133,7 +147,7 @@ fn build_request<'a>(matches: &ArgMatches<'a>) -> Option<BuildRequest<'a>> {
 fn plan<'a>(matches: &ArgMatches<'a>, strict: bool) -> Option<PlanText<'a>> {
     Some(PlanText {
         first_day: day(matches.get_str("first")?)?,
-        days: number(matches.get_str("days")?)?,
+        days: days_of(number(matches.get_str("days")?)?)?,
         zone: zone(matches.get_str("zone")?)?,
         strict,
     })
@@ -164,11 +178,7 @@ fn serve_request<'a>(alloc: Global, matches: &ArgMatches<'a>) -> Result<Request<
 fn workers(matches: &ArgMatches<'_>) -> Option<usize>
     ensures { IfSome result (λ workers. (1 ≤ workers) × (workers ≤ 16)) }
 {
-    let workers = number(matches.get_str("workers")?)?;
-    if workers < 1 || workers > MOST_WORKERS {
-        return None;
-    }
-    Some(workers as usize)
+    workers_of(number(matches.get_str("workers")?)?)
 }
 
 fn named_folders<'a>(

@@ -1,6 +1,6 @@
 //! What one word says: numbers, clocks, days and zones.
 
-use crate::requests::{NamedFolder, ZoneText};
+use command_requests::{Ahead, NamedFolder, ZoneText};
 use gtfs_rows::Day;
 use timetable::clocks::clock_parse;
 
@@ -43,7 +43,7 @@ pub(crate) fn day(text: &str) -> Option<Day> {
 /// `fixed:SECS`, `posix:TEXT` or `file:PATH`.
 pub(crate) fn zone(text: &str) -> Option<ZoneText<'_>> {
     match text.split_once(':')? {
-        ("fixed", seconds) => Some(ZoneText::Fixed(offset(seconds)?)),
+        ("fixed", seconds) => Some(ZoneText::Fixed(Ahead::of(offset(seconds)?)?)),
         ("posix", rule) => Some(ZoneText::Posix(rule)),
         ("file", path) => Some(ZoneText::File(path)),
         _ => None,

@@ -5,7 +5,7 @@ use crate::progress::load_told;
 use crate::refusal::refuse_feed;
 use crate::status;
 use crate::writing::put_image;
-use command_line::{BuildRequest, WRONG_PLAN_FORM};
+use command_requests::BuildRequest;
 use feed_files::FolderFiles;
 use feed_loader::{LoadFault, Report};
 use std::alloc::{AllocError, Global};
@@ -16,8 +16,6 @@ use std::rt::Files;
 
 /// Why no image is written.
 enum Failure<'a> {
-    /// A word of the command line has a wrong form.
-    WrongForm,
     /// The feed isn't loaded, or the zone is none.
     Refused(LoadFault),
     /// The file at the path can't be read.
@@ -36,7 +34,6 @@ impl<'a> From<LoadFault> for Failure<'a> {
 impl<'a> From<PlanFailure<'a>> for Failure<'a> {
     fn from(failure: PlanFailure<'a>) -> Failure<'a> {
         match failure {
-            PlanFailure::WrongForm => Failure::WrongForm,
             PlanFailure::Refused(fault) => Failure::Refused(fault),
             PlanFailure::Unreadable(path) => Failure::Unreadable(path),
             PlanFailure::OutOfMemory => Failure::OutOfMemory,
@@ -61,7 +58,6 @@ pub fn run<H: Files + RandomSource + AllocGlobal, O: Write, E: Write>(
     };
     match build(rt, request, log) {
         Ok(report) => status::line_written(output, counts(alloc, &report), status::ACCEPTED),
-        Err(Failure::WrongForm) => status::written(errors, WRONG_PLAN_FORM, status::COMMAND_LINE),
         Err(Failure::Refused(fault)) => refuse_feed(alloc, output, fault),
         Err(Failure::Unreadable(path)) => status::unreadable(alloc, errors, path),
         Err(Failure::Unwritable(path)) => status::unwritable(alloc, errors, path),
@@ -74,7 +70,7 @@ fn build<'a, H: Files + RandomSource + AllocGlobal, E: Write>(
     request: BuildRequest<'a>,
     log: Option<&mut E>,
 ) -> Result<Report, Failure<'a>> {
-    let plan = plan_of(rt, request.plan)?;
+    let plan = plan_of(rt, &request.plan)?;
     let files = FolderFiles::new(rt, request.folder);
     let (image, report) = load_told(rt.alloc(), files, &plan, request.out, log)?;
     match put_image(rt, request.out, image.words()) {

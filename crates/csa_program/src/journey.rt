@@ -1,12 +1,12 @@
 //! `csa journey IMAGE TEXT QUERY`.
 
 use crate::opening::open_image;
-use crate::question::window_of;
+use crate::question::query_asked;
 use crate::refusal::Refusal;
 use crate::status;
-use command_line::JourneyRequest;
+use command_requests::JourneyRequest;
 use image_verifier::Verified;
-use journeys::{TextFault, check, journey_parse, query_of};
+use journeys::{TextFault, check, journey_parse};
 use std::alloc::Global;
 use std::io::{Read, Write};
 use std::rt::Files;
@@ -43,9 +43,7 @@ pub fn run<H: Files + AllocGlobal, I: Read, O: Write, E: Write>(
 }
 
 fn judge(alloc: Global, image: &Verified, request: JourneyRequest<'_>) -> Result<Times, Failure> {
-    let question = request.question;
-    let (from, to) = (question.from.as_bytes(), question.to.as_bytes());
-    let query = match query_of(image, from, to, window_of(&question)) {
+    let query = match query_asked(image, &request.question) {
         Ok(query) => query,
         Err(fault) => return Err(Failure::Refused(Refusal::Query(fault))),
     };

@@ -1,8 +1,8 @@
 //! The body of the program `csa`: words, a reader and two writers in, an exit status out.
 #![tactic(auto)]
 
+mod bases;
 mod build;
-mod disk;
 mod journey;
 mod naming;
 mod opening;
@@ -12,7 +12,6 @@ mod profile;
 mod progress;
 mod question;
 mod refusal;
-mod replying;
 mod serve;
 mod sockets;
 mod status;
@@ -22,8 +21,9 @@ mod upgrade;
 mod verify;
 mod writing;
 
-pub use crate::disk::Disk;
-use command_line::{Request, Unread, read};
+use command_line::{Unread, read};
+use command_requests::Request;
+pub use feed_files::Disk;
 use std::convert::AsStr;
 use std::io::{Read, Write};
 use std::net::{Net, TcpListener, TcpStream};

@@ -1,10 +1,9 @@
 //! What is made of feeds: the service days and the zone that a command line tells.
 
-ghost use Rattle.std.specs.Prelude.{◌≤◌, IfOk};
+ghost use Rattle.std.specs.Prelude.{◌≡◌, ◌≤◌, IfOk};
 ghost use Rattle.connections.specs.declared.days.TheConstants.{MAX_DAYS};
 
-use command_line::{PlanText, ZoneText};
-use connections::MAX_DAYS;
+use command_requests::{PlanText, ZoneText};
 use feed_loader::{LoadFault, Plan};
 use service_days::{DayFault, Zone};
 use std::fs;
@@ -14,8 +13,6 @@ use std::rt::Files;
 /// Why there is no plan.
 #[derive(Drop)]
 pub enum PlanFailure<'a> {
-    /// A word of the command line has a wrong form.
-    WrongForm,
     /// The zone is none.
     Refused(LoadFault),
     /// The file at the path can't be read.
@@ -29,21 +26,18 @@ impl<'a> From<DayFault> for PlanFailure<'a> {
     }
 }
 
-/// Seconds ahead of UTC, at most.
-const MOST_AHEAD: i32 = 86_399;
-
-/// The plan that is told, for 1 to 14 days.
+/// The plan that is told: its days, in the zone, as strictly.
 pub fn plan_of<'a, H: Files + AllocGlobal>(
     rt: &H,
-    text: PlanText<'a>,
+    text: &PlanText<'a>,
 ) -> Result<Plan, PlanFailure<'a>>
+    ensures first { IfOk result (λ plan. plan.first_day ≡ text.now.first_day) }
+    ensures days { IfOk result (λ plan. plan.days ≡ text.now.days) }
     ensures some { IfOk result (λ plan. 1 ≤ plan.days) }
     ensures few { IfOk result (λ plan. plan.days ≤ MAX_DAYS) }
+    ensures strict { IfOk result (λ plan. plan.strict ≡ text.now.strict) }
 {
-    if text.days < 1 || text.days > MAX_DAYS {
-        return Err(PlanFailure::WrongForm);
-    }
-    match zone_of(rt, text.zone) {
+    match zone_of(rt, &text.zone) {
         Ok(zone) => Ok(Plan {
             first_day: text.first_day,
             days: text.days,
@@ -56,15 +50,10 @@ pub fn plan_of<'a, H: Files + AllocGlobal>(
 
 fn zone_of<'a, H: Files + AllocGlobal>(
     rt: &H,
-    text: ZoneText<'a>,
+    text: &ZoneText<'a>,
 ) -> Result<Zone, PlanFailure<'a>> {
     match text {
-        ZoneText::Fixed(seconds) => {
-            if seconds < -MOST_AHEAD || seconds > MOST_AHEAD {
-                return Err(PlanFailure::WrongForm);
-            }
-            Ok(Zone::fixed(seconds))
-        }
+        ZoneText::Fixed(ahead) => Ok(Zone::fixed(ahead.seconds)),
         ZoneText::Posix(rule) => Ok(Zone::posix(rule)?),
         ZoneText::File(path) => match fs::read(rt, path) {
             Ok(bytes) => Ok(Zone::file_bytes(rt.alloc(), &bytes)?),

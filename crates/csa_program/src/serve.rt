@@ -2,16 +2,17 @@
 
 ghost use Rattle.std.specs.Prelude.{◌≡◌, ◌≤◌, All, length, IfOk};
 ghost use Rattle.connections.specs.declared.days.TheConstants.{MAX_DAYS};
-ghost use Rattle.csa_program.specs.Serving.{sessions_in, status_of_ends};
+ghost use Rattle.csa_program.specs.Serving.{status_of_server};
 
-use crate::disk::{Disk, DiskFolder};
+use crate::bases::tell_bases;
 use crate::opening::open_image;
 use crate::planning::{PlanFailure, plan_of};
 use crate::refusal::refuse_feed;
 use crate::sockets::Door;
 use crate::status;
-use command_line::{NamedFolder, ServeRequest, WRONG_PLAN_FORM};
+use command_requests::{NamedFolder, ServeRequest};
 use epochs::{ShelfLoader, ShelfSeat, Shelves};
+use feed_files::{Disk, FolderFiles};
 use feed_loader::Plan;
 use image_verifier::Verified;
 use orders::OpenGate;
@@ -22,7 +23,7 @@ use std::net::{Ipv4Addr, Net, TcpListener, TcpStream};
 use std::rt::Files;
 use std::sync::{Arc, Wait};
 use std::thread::Threads;
-use workers::{Feeds, Served, run_shelves};
+use workers::{End, Feeds, Served, run_shelves};
 
 /// The folders of the feeds that may be loaded.
 #[derive(Drop)]
@@ -37,7 +38,7 @@ struct Folders<'a, H> {
 }
 
 impl<'a, H: Disk + Sync> Feeds for Folders<'a, H> {
-    type Files = DiskFolder<'a, H>;
+    type Files = FolderFiles<'a, H>;
 
     ghost named = { λ folders. folders.names.items };
 
@@ -49,9 +50,9 @@ impl<'a, H: Disk + Sync> Feeds for Folders<'a, H> {
         &self.plan
     }
 
-    fn files(&self, place: usize) -> Option<DiskFolder<'a, H>> {
+    fn files(&self, place: usize) -> Option<FolderFiles<'a, H>> {
         match self.feeds.get(place) {
-            Some(feed) => Some(DiskFolder::new(self.disk, feed.folder)),
+            Some(feed) => Some(FolderFiles::new(self.disk, feed.folder)),
             None => None,
         }
     }
@@ -71,11 +72,8 @@ pub fn run<
     E: Write + Send,
 >(rt: &H, request: ServeRequest<'_>, input: &mut I, output: &mut O, errors: &mut E) -> u8 {
     let alloc = rt.alloc();
-    let plan = match plan_of(rt, request.plan) {
+    let plan = match plan_of(rt, &request.plan) {
         Ok(plan) => plan,
-        Err(PlanFailure::WrongForm) => {
-            return status::written(errors, WRONG_PLAN_FORM, status::COMMAND_LINE);
-        }
         Err(PlanFailure::Refused(fault)) => return refuse_feed(alloc, output, fault),
         Err(PlanFailure::Unreadable(path)) => return status::unreadable(alloc, errors, path),
         Err(PlanFailure::OutOfMemory) => return status::OUT_OF_MEMORY,
@@ -84,6 +82,9 @@ pub fn run<
         Ok(image) => image,
         Err(status) => return status,
     };
+    if !request.feeds.is_empty() {
+        tell_bases(alloc, &image, &plan, errors);
+    }
     let Ok(names) = names_of(alloc, &request.feeds) else {
         return status::OUT_OF_MEMORY;
     };
@@ -178,30 +179,21 @@ fn unheard<E: Write>(alloc: Global, errors: &mut E, port: u16) -> u8 {
 
 // Tells how many sessions there were.
 fn tell_served<O: Write>(alloc: Global, served: &Served, is_deaf: bool, output: &mut O) -> u8 {
-    let sessions = sessions_of(served);
-    let status = status_of(served, is_deaf);
+    let sessions = served.sessions();
+    let status = status_of(is_deaf, served.worst());
     status::line_written(output, format!(in alloc; "served {sessions}\n"), status)
 }
 
-// How many sessions there were.
-fn sessions_of(served: &Served) -> u64
-    ensures { result ≡ sessions_in served.now }
+// The status of a server which may have failed to accept a client, and whose worst session ended so.
+fn status_of(is_deaf: bool, worst: End) -> u8
+    ensures { result ≡ status_of_server is_deaf worst }
 {
-    served
-        .ended()
-        .saturating_add(served.failed())
-        .saturating_add(served.spent())
-}
-
-// The status of a server whose sessions ended so, and which may have failed to accept one.
-fn status_of(served: &Served, is_deaf: bool) -> u8
-    ensures { result ≡ status_of_ends is_deaf served.now }
-{
-    if is_deaf || served.failed() > 0 {
-        status::INPUT_OUTPUT
-    } else if served.spent() > 0 {
-        status::REFUSED
-    } else {
-        status::ACCEPTED
+    if is_deaf {
+        return status::INPUT_OUTPUT;
+    }
+    match worst {
+        End::Failed => status::INPUT_OUTPUT,
+        End::Spent => status::REFUSED,
+        End::Ended => status::ACCEPTED,
     }
 }

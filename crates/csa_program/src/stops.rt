@@ -3,7 +3,7 @@
 use crate::opening::open_image;
 use crate::status;
 use answer_pictures::stop_name;
-use command_line::StopsRequest;
+use command_requests::StopsRequest;
 use image_verifier::Verified;
 use std::alloc::{AllocError, Global};
 use std::fmt::Write as _;

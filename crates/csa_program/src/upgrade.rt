@@ -9,7 +9,7 @@ use crate::opening::open_image;
 use crate::status;
 use crate::verify::counts;
 use crate::writing::put_image;
-use command_line::UpgradeRequest;
+use command_requests::UpgradeRequest;
 use image_verifier::Verified;
 use image_writer::write;
 use std::alloc::{AllocError, Global};

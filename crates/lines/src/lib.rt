@@ -10,6 +10,3 @@ mod text;
 pub use counted::{Counted, ReadFailed, WriteFailed};
 pub use reader::{Given, LONGEST_LINE, LineReader};
 pub use text::{LINE_BYTES, Line};
-
-#[cfg(test)]
-mod tests;

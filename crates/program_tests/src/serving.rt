@@ -44,8 +44,8 @@ fn what_cannot_be_served_is_told(rt: HostRuntime) -> Result<(), Fail> {
     try_lines(&rt, WRONG_WORDS)
 }
 
-/// The sample, from the standard input, to one session.
-fn words_at<'a>(port: &'a str) -> [&'a str; 16] {
+/// The sample, from the standard input, to one session, beside a feed whose days begin so.
+fn words_at<'a>(port: &'a str, first: &'a str) -> [&'a str; 17] {
     [
         "csa",
         "serve",
@@ -58,23 +58,34 @@ fn words_at<'a>(port: &'a str) -> [&'a str; 16] {
         "--sessions",
         "1",
         "--first",
-        "20240115",
+        first,
         "--days",
         "1",
         "--zone",
         "fixed:0",
+        "slow=slow_feed",
     ]
 }
 
+/// A port that is taken is told, and before it that clocks of a feed would count from another base than the image's.
 #[test]
 fn a_port_that_is_taken(rt: HostRuntime) -> Result<(), Fail> {
     let alloc: Global = rt.alloc();
     let listener = TcpListener::bind(&rt, (Ipv4Addr::LOCALHOST, 0))?;
     let port = format!(in alloc; "{}", listener.local_addr()?.port())?;
     let image = Words::to_bytes(alloc, &sample_words())?;
-    let outcome = outcome_of(&rt, &words_at(port.as_str()), &image);
-    assert_eq!(&rt; outcome.status, 3);
-    assert!(&rt; outcome.output.is_empty());
-    assert!(&rt; !outcome.errors.is_empty());
+    for (first, told) in [
+        ("20240115", ""),
+        (
+            "20240116",
+            "csa: the image's clocks count from 1705276800, those of a feed that is loaded from 1705363200\n",
+        ),
+    ] {
+        let outcome = outcome_of(&rt, &words_at(port.as_str(), first), &image);
+        let taken = format!(in alloc; "{told}csa: port {port} can't be listened at\n")?;
+        assert_eq!(&rt; outcome.status, 3);
+        assert!(&rt; outcome.output.is_empty());
+        assert!(&rt; outcome.errors.as_slice() == taken.as_bytes());
+    }
     Ok(())
 }

@@ -87,7 +87,7 @@ has trip_id,arrival_time,departure_time,stop_id,stop_sequence
 has T1,08:00:00,08:00:00,A,1
 has T1,08:10:00,08:10:00,B,2
 has T1,08:30:00,08:30:00,C,3
-has T3,08:12:00,08:12:00,B,1
+has N1,08:12:00,08:12:00,B,1
 has T2,08:20:00,08:20:00,C,2
 prints refused 9 UnknownId stop_times.txt 4
 ends 2

@@ -19,6 +19,8 @@
 //! | `saves PATH` | puts the bytes of the input into a file |
 //! | `holds PATH` | the file has the bytes of the input |
 //! | `lacks PATH` | there is no such file |
+//!
+//! Each `run` is tried before the next one and before the end, and so is each `prints` and `tells`: one that nothing ran is refused.
 
 use crate::running::{Machine, Outcome, outcome_of};
 use image_layout::{Words, sample_words, second_sample_words};
@@ -39,6 +41,8 @@ struct Stage<'a> {
     path: &'a str,
     text: String,
     words: Vec<&'a str>,
+    /// Whether the words were tried.
+    is_tried: bool,
     printed: String,
     told: String,
 }
@@ -51,6 +55,7 @@ impl<'a> Stage<'a> {
             path: "",
             text: String::new(alloc),
             words: Vec::new(alloc),
+            is_tried: true,
             printed: String::new(alloc),
             told: String::new(alloc),
         }
@@ -60,6 +65,31 @@ impl<'a> Stage<'a> {
         let mut bytes = Words::to_bytes(alloc, &self.image)?;
         bytes.truncate(self.bytes);
         Ok(bytes)
+    }
+
+    /// Takes the words of the next command, once those before it were tried.
+    fn take_words(&mut self, words: Vec<&'a str>) -> Result<(), Fail> {
+        self.ended()?;
+        self.words = words;
+        self.is_tried = false;
+        Ok(())
+    }
+
+    /// Nothing waits to be tried.
+    fn ended(&self) -> Result<(), Fail> {
+        if !self.is_tried {
+            return Err(Fail::new("a command that was never tried"));
+        }
+        self.all_compared()
+    }
+
+    /// No line stands ready.
+    fn all_compared(&self) -> Result<(), Fail> {
+        if self.printed.is_empty() && self.told.is_empty() {
+            Ok(())
+        } else {
+            Err(Fail::new("lines that were never compared"))
+        }
     }
 
     fn take_image(&mut self, image: Vec<u32>) {
@@ -169,9 +199,10 @@ fn write<'a, R: Machine>(
 /// Runs the command on the input.
 fn run_on_stage<R: Machine + Net<Listener = TcpListener, Stream = TcpStream>>(
     rt: &R,
-    stage: &Stage<'_>,
+    stage: &mut Stage<'_>,
 ) -> Result<Outcome, AllocError> {
     let input = stage.input(rt.alloc())?;
+    stage.is_tried = true;
     Ok(outcome_of(rt, &stage.words, &input))
 }
 
@@ -200,10 +231,11 @@ fn expect_lines<R: Machine + Net<Listener = TcpListener, Stream = TcpStream> + A
 /// The command prints something, or tells something, and not both, and ends with a status.
 fn expect_any<R: Machine + Net<Listener = TcpListener, Stream = TcpStream> + Abort>(
     rt: &R,
-    stage: &Stage<'_>,
+    stage: &mut Stage<'_>,
     prints: bool,
     status: u32,
 ) -> Result<(), Fail> {
+    stage.all_compared()?;
     let outcome = run_on_stage(rt, stage)?;
     let words = &stage.words;
     assert!(rt;
@@ -250,10 +282,7 @@ fn follow<'a, R: Machine + Net<Listener = TcpListener, Stream = TcpStream> + Abo
         "folder" => Ok(fs::create_dir(rt, rest)?),
         "file" | "has" | "crlf" => write(rt, stage, kind, rest),
         "remove" => remove(rt, rest),
-        "run" => {
-            stage.words = words_of(rt.alloc(), rest)?;
-            Ok(())
-        }
+        "run" => stage.take_words(words_of(rt.alloc(), rest)?),
         "prints" => Ok(add_line(&mut stage.printed, rest, "\n")?),
         "tells" => Ok(add_line(&mut stage.told, rest, "\n")?),
         "ends" => expect_lines(rt, stage, rest),
@@ -281,5 +310,5 @@ pub(crate) fn try_lines<R: Machine + Net<Listener = TcpListener, Stream = TcpStr
     for line in transcript.split('\n') {
         follow(rt, &mut stage, line)?;
     }
-    Ok(())
+    stage.ended()
 }

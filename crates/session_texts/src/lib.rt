@@ -11,6 +11,3 @@ pub use judging::{LineFault, read_line};
 pub use refusals::{Refusal, load_refused_line, moved_line};
 pub use replies::{Points, load_line, loaded_line, pin_line, release_line};
 pub use requests::{Ask, Request, request_of};
-
-#[cfg(test)]
-mod tests;

@@ -2,11 +2,12 @@
 
 ghost use Rattle.std.specs.Prelude.{◌≡◌, IfOk, Ok};
 
-use crate::{Counted, Ended, FeedImage, OpenGate, SessionFault, SoloOrders, serve};
+use crate::streams::{Endless, Pieces, Taker, taker_of};
 use epochs::{Named, ShelfLoader, ShelfSeat, Shelves, SoloShelves};
 use image_layout::sample_words;
 use image_verifier::{Verified, verify};
 use orders::{Gate, OrderFault, Ordered, Orders};
+use session::{Counted, Ended, FeedImage, OpenGate, SessionFault, SoloOrders, serve};
 use std::alloc::{AllocError, Global};
 use std::io;
 use std::io::{Read, Write};
@@ -14,67 +15,6 @@ use std::marker::Brand;
 use std::sync::{Arc, Wait};
 use std::test::Fail;
 use timetable::Trace;
-
-// A reader that gives so many bytes at once at most, and behind the last of them fails or is at its end.
-#[derive(Drop)]
-pub(crate) struct Pieces<'a> {
-    pub(crate) rest: &'a [u8],
-    pub(crate) most: usize,
-    pub(crate) is_failing: bool,
-}
-
-impl Read for Pieces<'_> {
-    fn read(&mut self, room: &mut [u8]) -> io::Result<usize> {
-        if self.rest.is_empty() && self.is_failing {
-            return Err(io::Error::from(io::ErrorKind::Interrupted));
-        }
-        let count = room.len().min(self.most).min(self.rest.len());
-        let (piece, rest) = self.rest.split_at(count);
-        room[..count].copy_from_slice(piece);
-        self.rest = rest;
-        Ok(count)
-    }
-}
-
-// A writer that takes so many bytes in all, and then fails or takes none.
-#[derive(Drop)]
-pub(crate) struct Taker {
-    pub(crate) taken: Vec<u8>,
-    room: usize,
-    is_failing: bool,
-}
-
-impl Write for Taker {
-    fn write(&mut self, piece: &[u8]) -> io::Result<usize> {
-        let count = piece.len().min(self.room);
-        if count == 0 && self.is_failing {
-            return Err(io::Error::from(io::ErrorKind::BrokenPipe));
-        }
-        match self.taken.extend_from_slice(&piece[..count]) {
-            Ok(()) => {}
-            Err(_) => return Err(io::Error::from(io::ErrorKind::OutOfMemory)),
-        }
-        self.room -= count;
-        Ok(count)
-    }
-
-    fn flush(&mut self) -> io::Result<()> {
-        Ok(())
-    }
-}
-
-// A reader of one byte, over and over.
-#[derive(Drop)]
-struct Endless {
-    byte: u8,
-}
-
-impl Read for Endless {
-    fn read(&mut self, room: &mut [u8]) -> io::Result<usize> {
-        room.fill(self.byte);
-        Ok(room.len())
-    }
-}
 
 // A writer that counts bytes.
 #[derive(Drop)]
@@ -197,14 +137,6 @@ fn served_from<R: Wait>(
     let taker = taker_of(alloc, room, is_failing);
     let (ended, taker) = talked(rt, alloc, first, feeds, reader, taker, &OpenGate)?;
     Ok((ended, taker.taken))
-}
-
-pub(crate) fn taker_of(alloc: Global, room: usize, is_failing: bool) -> Taker {
-    Taker {
-        taken: Vec::new(alloc),
-        room,
-        is_failing,
-    }
 }
 
 pub(crate) fn feed_of(
@@ -330,7 +262,7 @@ fn tallied<R: Wait>(
         alloc,
         image(alloc, 0)?,
         Vec::new(alloc),
-        Endless { byte },
+        Endless { byte, given: 0 },
         Tally { bytes: 0 },
         &OpenGate,
     )?;

@@ -1,6 +1,6 @@
 //! Small pictures, part by part.
 
-use crate::{Axis, JourneyLine, Stretch, Way, journey_line, journeys_title, picture};
+use answer_pictures::{Axis, JourneyLine, Stretch, Way, journey_line, journeys_title, picture};
 use criteria::ToldValue;
 use image_layout::sample_words;
 use image_verifier::verify;

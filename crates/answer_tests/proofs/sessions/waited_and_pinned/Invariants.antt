@@ -1,4 +1,4 @@
-use Rattle.session.proofs.tests.waited_and_pinned.Given as goal
+use Rattle.answer_tests.proofs.sessions.waited_and_pinned.Given as goal
 
 -- the shelves that were just made
 abbrev pub ghosts-overtaken_at : goal.ghosts-overtaken_at

@@ -1,8 +1,9 @@
 //! Sessions whose replies a plain model tells.
 
-use crate::tests::{Pieces, Taker, feed_of, image, taker_of, talked};
-use crate::{Ended, FeedImage, OpenGate, SessionFault};
+use crate::sessions::{feed_of, image, talked};
+use crate::streams::{Pieces, Taker, taker_of};
 use orders::Gate;
+use session::{Ended, FeedImage, OpenGate, SessionFault};
 use std::alloc::{AllocError, Global};
 use std::io;
 use std::io::{Read, Write};

@@ -1,9 +1,10 @@
 //! What a command line asks for.
 
 ghost use Rattle.std.specs.Prelude.{◌≤◌};
+ghost use Rattle.command_requests.specs.declared.plans.TheConstants.{MOST_WORKERS};
 
+use crate::plans::PlanText;
 use criteria::CriterionName;
-use gtfs_rows::Day;
 
 /// A command with its arguments.
 #[derive(Drop)]
@@ -24,16 +25,6 @@ pub enum Request<'a> {
     Upgrade(UpgradeRequest<'a>),
     /// To serve sessions.
     Serve(ServeRequest<'a>),
-}
-
-/// Why the words ask for no command.
-#[derive(Drop)]
-pub enum Unread {
-    /// They ask for a text of help.
-    Help(String),
-    /// They are wrong, as the text says.
-    Mistake(String),
-    OutOfMemory,
 }
 
 /// Where from and where to, by the names of stops, and when: seconds after the image's base.
@@ -93,28 +84,8 @@ pub struct UpgradeRequest<'a> {
     pub out: &'a str,
 }
 
-/// How a time zone is told.
-#[derive(Clone, Copy, Drop)]
-pub enum ZoneText<'a> {
-    /// Seconds ahead of UTC.
-    Fixed(i32),
-    /// A POSIX rule.
-    Posix(&'a str),
-    /// The path of a time zone file (TZif).
-    File(&'a str),
-}
-
-/// What is to be made of a feed.
-#[derive(Clone, Copy, Drop)]
-pub struct PlanText<'a> {
-    pub first_day: Day,
-    pub days: u32,
-    pub zone: ZoneText<'a>,
-    pub strict: bool,
-}
-
 /// Where a feed is, where its image goes, and what is made of it.
-#[derive(Clone, Copy, Drop)]
+#[derive(Drop)]
 pub struct BuildRequest<'a> {
     pub folder: &'a str,
     pub out: &'a str,
@@ -122,9 +93,6 @@ pub struct BuildRequest<'a> {
     /// Whether it is told what is done.
     pub progress: bool,
 }
-
-/// How many sessions may be served at once.
-pub const MOST_WORKERS: u32 = 16;
 
 /// A feed that may be loaded by its name.
 #[derive(Clone, Copy, Drop)]
@@ -140,13 +108,9 @@ pub struct ServeRequest<'a> {
     pub port: u16,
     pub workers: usize,
     ghost some: { 1 ≤ workers },
-    ghost few: { workers ≤ 16 },
+    ghost few: { workers ≤ MOST_WORKERS },
     /// How many sessions are served in all, 0 for no end.
     pub sessions: u64,
     pub plan: PlanText<'a>,
     pub feeds: Vec<NamedFolder<'a>>,
 }
-
-/// What is said where a day, a number of days or a zone has a wrong form.
-pub const WRONG_PLAN_FORM: &str =
-    "error: a day is YYYYMMDD, the number of days 1 to 14, a zone fixed:SECS with at most 86399 seconds either way, posix:TEXT or file:PATH\n";

@@ -1,4 +1,4 @@
-use Rattle.session.proofs.tests.talked.Given as goal
+use Rattle.answer_tests.proofs.sessions.talked.Given as goal
 
 -- the shelves that were just made
 abbrev pub ghosts-talked_at : goal.ghosts-talked_at

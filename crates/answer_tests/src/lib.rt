@@ -1,0 +1,15 @@
+//! What clients and users are answered: lines, replies, whole sessions and pictures. Tests alone.
+#![tactic(auto)]
+
+#[cfg(test)]
+mod pictures;
+#[cfg(test)]
+mod reading;
+#[cfg(test)]
+mod scripted;
+#[cfg(test)]
+mod sessions;
+#[cfg(test)]
+mod streams;
+#[cfg(test)]
+mod texts;

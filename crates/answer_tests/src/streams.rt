@@ -1,0 +1,79 @@
+//! Readers and writers of which a test says how much they give and take, and where they fail.
+
+use std::alloc::Global;
+use std::io;
+use std::io::{Read, Write};
+
+/// A reader that gives so many bytes at once at most, and behind the last of them fails or is at its end.
+#[derive(Drop)]
+pub(crate) struct Pieces<'a> {
+    pub(crate) rest: &'a [u8],
+    pub(crate) most: usize,
+    pub(crate) is_failing: bool,
+}
+
+impl Read for Pieces<'_> {
+    fn read(&mut self, room: &mut [u8]) -> io::Result<usize> {
+        if self.rest.is_empty() && self.is_failing {
+            return Err(io::Error::from(io::ErrorKind::Interrupted));
+        }
+        let count = room.len().min(self.most).min(self.rest.len());
+        let (piece, rest) = self.rest.split_at(count);
+        room[..count].copy_from_slice(piece);
+        self.rest = rest;
+        Ok(count)
+    }
+}
+
+/// A reader of one byte, over and over; it counts the bytes that it gave.
+#[derive(Drop)]
+pub(crate) struct Endless {
+    pub(crate) byte: u8,
+    pub(crate) given: u64,
+}
+
+impl Read for Endless {
+    fn read(&mut self, room: &mut [u8]) -> io::Result<usize> {
+        room.fill(self.byte);
+        self.given = self.given.saturating_add(room.len() as u64);
+        Ok(room.len())
+    }
+}
+
+/// A writer that takes so many bytes at once at most, and so many in all; it fails behind them, or takes none.
+#[derive(Drop)]
+pub(crate) struct Taker {
+    pub(crate) taken: Vec<u8>,
+    pub(crate) most: usize,
+    pub(crate) room: usize,
+    pub(crate) is_failing: bool,
+}
+
+impl Write for Taker {
+    fn write(&mut self, piece: &[u8]) -> io::Result<usize> {
+        let count = piece.len().min(self.most).min(self.room);
+        if count == 0 && self.is_failing {
+            return Err(io::Error::from(io::ErrorKind::BrokenPipe));
+        }
+        match self.taken.extend_from_slice(&piece[..count]) {
+            Ok(()) => {}
+            Err(_) => return Err(io::Error::from(io::ErrorKind::OutOfMemory)),
+        }
+        self.room -= count;
+        Ok(count)
+    }
+
+    fn flush(&mut self) -> io::Result<()> {
+        Ok(())
+    }
+}
+
+/// A writer that takes so many bytes in all, and then fails or takes none.
+pub(crate) fn taker_of(alloc: Global, room: usize, is_failing: bool) -> Taker {
+    Taker {
+        taken: Vec::new(alloc),
+        most: usize::MAX,
+        room,
+        is_failing,
+    }
+}

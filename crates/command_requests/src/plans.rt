@@ -1,0 +1,79 @@
+//! What is to be made of a feed, and how many sessions are served at once: numbers within their limits.
+
+ghost use Rattle.std.specs.Prelude.{◌≡◌, ◌≤◌, MatchOption};
+ghost use Rattle.std.specs.Option.{SomeIff};
+ghost use Rattle.jiff_core.specs.Calendar.{IsWithin};
+ghost use Rattle.command_requests.specs.declared.plans.TheConstants.{MOST_DAYS, MOST_WORKERS};
+
+use gtfs_rows::Day;
+
+/// How many sessions may be served at once.
+pub const MOST_WORKERS: u32 = 16;
+
+/// How many service days may be asked for.
+pub const MOST_DAYS: u32 = 14;
+
+/// How many seconds a zone may be ahead of UTC, or behind it.
+pub const MOST_AHEAD: i32 = 86_399;
+
+/// How many sessions are served at once, 1 to 16; none of another number.
+pub fn workers_of(number: u32) -> Option<usize>
+    ensures { SomeIff result ((1 ≤ number) × (number ≤ MOST_WORKERS)) number }
+{
+    if number < 1 || number > MOST_WORKERS {
+        return None;
+    }
+    Some(number as usize)
+}
+
+/// How many service days there are, 1 to 14; none of another number.
+pub fn days_of(number: u32) -> Option<u32>
+    ensures { SomeIff result ((1 ≤ number) × (number ≤ MOST_DAYS)) number }
+{
+    if number < 1 || number > MOST_DAYS {
+        return None;
+    }
+    Some(number)
+}
+
+/// How far the clocks of a zone are ahead of UTC, always: at most 86,399 seconds either way.
+#[derive(Drop)]
+pub struct Ahead {
+    pub seconds: i32,
+    ghost within: { IsWithin 86_399 seconds },
+}
+
+impl Ahead {
+    /// So many seconds; none beyond the limit.
+    pub fn of(seconds: i32) -> Option<Ahead>
+        ensures { MatchOption result (¬ (IsWithin 86_399 seconds)) (λ ahead. ahead.seconds ≡ seconds) }
+    {
+        if seconds < -MOST_AHEAD || seconds > MOST_AHEAD {
+            return None;
+        }
+        Some(Ahead { seconds })
+    }
+}
+
+/// How a time zone is told.
+#[derive(Drop)]
+pub enum ZoneText<'a> {
+    Fixed(Ahead),
+    /// A POSIX rule.
+    Posix(&'a str),
+    /// The path of a time zone file (TZif).
+    File(&'a str),
+}
+
+/// What is to be made of a feed.
+#[derive(Drop)]
+pub struct PlanText<'a> {
+    /// The first service day.
+    pub first_day: Day,
+    pub days: u32,
+    ghost some: { 1 ≤ days },
+    ghost few: { days ≤ MOST_DAYS },
+    pub zone: ZoneText<'a>,
+    /// Whether an arrival that isn't after the departure before it is refused.
+    pub strict: bool,
+}
