@@ -1,3 +1,4 @@
 mod Drawn
 mod Joined
 mod Widths
+mod Named

@@ -4,3 +4,4 @@ pub mod Style
 pub mod Width
 pub mod Pictures
 pub mod Told
+pub mod Naming

@@ -1,6 +1,8 @@
 -- What is drawn of a journey over a timetable.
 use Rattle.std.specs.Prelude.{◌+◌, ◌++◌, ◌∷◌, [], ℕ, List, Option, Some, None, min, slice_get}
 use Rattle.std.specs.List.{flat_map}
+use Rattle.timetable.specs.Clocks.{clock_bytes}
+use Rattle.timetable.specs.NamesValue.{NamesValue}
 use Rattle.timetable.specs.TimetableValue.{TimetableValue}
 use Rattle.timetable.specs.JourneyValue.{RideValue, JourneyValue}
 use Rattle.timetable.specs.declared.network.Connection.{Connection}
@@ -8,6 +10,7 @@ use Rattle.timetable.specs.declared.network.Footpath.{Footpath}
 use Rattle.answer_pictures.specs.declared.lines.Way.{Way}
 use Rattle.answer_pictures.specs.declared.lines.Way.TheVariants.{Ride, Walk}
 use Rattle.answer_pictures.specs.LineValue.{StretchValue}
+use Rattle.answer_pictures.specs.Naming.{stop_bytes}
 
 -- how one gets on, from when to when
 pub record Part : Type 0 where
@@ -46,3 +49,11 @@ start_parts time (Some footpath) = part Walk time (later time footpath.secs) ∷
 -- a journey that departs at a time
 abbrev pub journey_parts : TimetableValue → ℕ → JourneyValue → List Part
 journey_parts t time journey = start_parts time journey.start ++ flat_map (ride_parts t) journey.rides
+
+-- from which stop to which: their names with an arrow between them
+abbrev pub title_bytes : NamesValue → ℕ → ℕ → List ℕ
+title_bytes names source target = stop_bytes names source ++ (32 ∷ 226 ∷ 134 ∷ 146 ∷ 32 ∷ []) ++ stop_bytes names target
+
+-- when one departs and arrives, with a dash between
+abbrev pub label_bytes : ℕ → ℕ → List ℕ
+label_bytes departure arrival = clock_bytes departure ++ (32 ∷ 226 ∷ 128 ∷ 147 ∷ 32 ∷ []) ++ clock_bytes arrival

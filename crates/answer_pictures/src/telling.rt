@@ -1,17 +1,18 @@
 //! Journeys over an image as lines of a picture.
 
-ghost use Rattle.std.specs.Prelude.{◌≡◌, ◌++◌, ◌∷◌, [], map, IfOk, OnOk};
+ghost use Rattle.std.specs.Prelude.{◌≡◌, ◌++◌, ◌∷◌, [], map, string_bytes, IfOk, OnOk};
 ghost use Rattle.std.specs.List.{flat_map};
 ghost use Rattle.answer_pictures.specs.declared.lines.Way.TheVariants.{Walk};
-ghost use Rattle.answer_pictures.specs.Told.{journey_parts, later, part, part_of, ride_parts, walk_parts};
+ghost use Rattle.answer_pictures.specs.Told.{journey_parts, label_bytes, later, part, part_of, ride_parts, title_bytes, walk_parts};
 
 use crate::lines::{JourneyLine, Stretch, Way};
 use crate::naming::{connection_at, stop_name, trip_name};
+use crate::putting::put_text;
 use criteria::ToldValue;
 use image_verifier::Verified;
 use std::alloc::{AllocError, Global};
 use std::fmt::Write as _;
-use timetable::clocks::Clock;
+use timetable::clocks::{Clock, clock_text};
 use timetable::{Connection, Footpath, Journey, Ride};
 
 /// The title of a picture: from which stop to which.
@@ -20,10 +21,14 @@ pub fn journeys_title(
     image: &Verified,
     source: u32,
     target: u32,
-) -> Result<String, AllocError> {
-    let from = stop_name(alloc, image, source)?;
+) -> Result<String, AllocError>
+    ensures { IfOk result (λ title. string_bytes title ≡ title_bytes image.now.names source target) }
+{
+    let mut title = stop_name(alloc, image, source)?;
     let to = stop_name(alloc, image, target)?;
-    format!(in alloc; "{from} \u{2192} {to}")
+    put_text(&mut title, " \u{2192} ")?;
+    put_text(&mut title, &to)?;
+    Ok(title)
 }
 
 /// A journey over an image that departs at a time, as a line of a picture: its times before it, its rides and walks, and below them its
@@ -35,7 +40,8 @@ pub fn journey_line(
     told: ToldValue,
     journey: &Journey,
 ) -> Result<JourneyLine, AllocError>
-    ensures { IfOk result (λ line. map part_of line.stretches ≡ journey_parts image.now.timetable departure journey.now) }
+    ensures label { IfOk result (λ line. line.label ≡ label_bytes departure told.arrival) }
+    ensures stretches { IfOk result (λ line. map part_of line.stretches ≡ journey_parts image.now.timetable departure journey.now) }
 {
     let label = label_of(alloc, departure, told)?;
     let note = note_of(alloc, image, told, journey)?;
@@ -48,9 +54,14 @@ pub fn journey_line(
 }
 
 /// When one departs and arrives.
-fn label_of(alloc: Global, departure: u32, told: ToldValue) -> Result<String, AllocError> {
-    let (dep, arr) = (Clock(departure), Clock(told.arrival));
-    format!(in alloc; "{dep} \u{2013} {arr}")
+fn label_of(alloc: Global, departure: u32, told: ToldValue) -> Result<String, AllocError>
+    ensures { IfOk result (λ label. string_bytes label ≡ label_bytes departure told.arrival) }
+{
+    let mut label = clock_text(alloc, departure)?;
+    let arrival = clock_text(alloc, told.arrival)?;
+    put_text(&mut label, " \u{2013} ")?;
+    put_text(&mut label, &arrival)?;
+    Ok(label)
 }
 
 /// What one does: how many trips and how much on foot where that counts, each trip with where it is left, and each walk to another stop.

@@ -1,6 +1,6 @@
 //! Words that were found to be an image.
 
-ghost use Rattle.std.specs.Prelude.{◌≡◌, ◌<◌, ◌≤◌, ◌+◌, length, slice_get, Some, ℕ, ◌↔◌, List, IfOk, IfErr, IfSome, IfNone};
+ghost use Rattle.std.specs.Prelude.{◌≡◌, ◌<◌, ◌≤◌, ◌+◌, length, slice_get, string_bytes, Some, ℕ, ◌↔◌, List, IfOk, IfErr, IfSome, IfNone};
 ghost use Rattle.std.specs.Option.{option_map};
 ghost use Rattle.timetable.specs.TimetableValue.{TimetableValue};
 ghost use Rattle.timetable.specs.Legal.{At};
@@ -21,7 +21,7 @@ use crate::fault::ImageFault;
 use crate::find::{name_len_at, stop_named};
 use crate::judge::judge;
 use crate::search::first_departure;
-use crate::unpacked::{unpack_names, unpack_timetable};
+use crate::unpacked::{unpack_name, unpack_names, unpack_timetable};
 use image_layout::{
     Header, base_at, connection_at, day_at, foot_from_at, foot_index_at, foot_secs_at,
     name_byte_at, repeat_at,
@@ -228,6 +228,14 @@ impl Verified {
         ensures { (name : List ℕ) → At (name_list self.now.names) i name → At name j result }
     {
         name_byte_at(&self.words, i, j)
+    }
+
+    /// A name as a text of its own.
+    pub fn name(&self, alloc: Global, i: usize) -> Result<String, AllocError>
+        requires { i < self.now.timetable.stops + self.now.timetable.trips }
+        ensures { (name : List ℕ) → At (name_list self.now.names) i name → IfOk result (λ text. string_bytes text ≡ name) }
+    {
+        unpack_name(alloc, &self.words, i)
     }
 
     /// The service day of a trip, as the number YYYYMMDD.

@@ -1,0 +1,24 @@
+//! The laws are false of rules that are close to right ones. The functions do nothing.
+
+ghost use Rattle.criteria.specs.Laws.{Laws};
+ghost use Rattle.criteria.specs.WrongRules.{discounted, hurried, listed_by_time, strict};
+
+use crate::{Arrival, ArrivalTrips, Criterion};
+
+// Over time and trips.
+fn no_wrong_rule_of_trips(criterion: &ArrivalTrips)
+    ensures discounted { Laws (discounted (⟦<ArrivalTrips as Criterion>⟧.rules criterion.now)) → ⊥ }
+    ensures strict { Laws (strict (⟦<ArrivalTrips as Criterion>⟧.rules criterion.now)) → ⊥ }
+    ensures listed_by_time { Laws (listed_by_time (⟦<ArrivalTrips as Criterion>⟧.rules criterion.now)) → ⊥ }
+{}
+
+// Over the time alone.
+fn no_wrong_rule_of_time(criterion: &Arrival)
+    ensures hurried { Laws (hurried (⟦<Arrival as Criterion>⟧.rules criterion.now)) → ⊥ }
+{}
+
+#[test]
+fn laws_tell_right_rules_from_wrong() {
+    no_wrong_rule_of_trips(&ArrivalTrips);
+    no_wrong_rule_of_time(&Arrival);
+}
