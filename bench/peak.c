@@ -1,0 +1,34 @@
+// Runs a command, and writes how it ended, as waitpid tells it, its processor seconds and the peak of its memory in KB to the open file whose number
+// comes first. It is there as it is small: a command that Python starts has Python's own memory in its peak, since that counts what stood before the
+// command was loaded.
+#include <stdio.h>
+#include <stdlib.h>
+#include <sys/resource.h>
+#include <sys/wait.h>
+#include <unistd.h>
+
+static double seconds(struct timeval time)
+{
+    return (double)time.tv_sec + (double)time.tv_usec / 1e6;
+}
+
+int main(int count, char **words)
+{
+    if (count < 3) {
+        return 64;
+    }
+    int out = atoi(words[1]);
+    pid_t child = fork();
+    if (child == 0) {
+        close(out);
+        execv(words[2], words + 2);
+        _exit(127);
+    }
+    int status = 0;
+    struct rusage used;
+    if (child < 0 || wait4(child, &status, 0, &used) != child) {
+        return 70;
+    }
+    dprintf(out, "%d %.6f %ld\n", status, seconds(used.ru_utime) + seconds(used.ru_stime), used.ru_maxrss);
+    return 0;
+}
