@@ -1,3 +1,4 @@
 pub mod Ends
 pub mod Sessions
 pub mod Loading
+pub mod Carrying

@@ -1,8 +1,8 @@
 -- What comes of an order to load a feed.
-use Rattle.std.specs.Prelude.{◌≡◌, ◌⊎◌, ℕ, List, Option, Some, None, Result, Ok, Err}
+use Rattle.std.specs.Prelude.{◌≡◌, ◌⊎◌, ℕ, List, Option, Some, None, Result, Ok, Err, IfSome}
 use Rattle.image_layout.specs.Image.{ImageValue}
 use Rattle.connections.specs.declared.report.Report.{Report}
-use Rattle.feed_files.specs.Reading.{Content}
+use Rattle.feed_files.specs.Reading.{Content, Tells}
 use Rattle.feed_loader.specs.Faults.{fault_number}
 use Rattle.feed_loader.specs.Refused.{IsLoadRefusal, IsLoaded, IsWantOfMemory}
 use Rattle.feed_loader.specs.declared.fault.LoadFault.{LoadFault}
@@ -40,6 +40,19 @@ pub record IsPublished (before : List LoaderAnswer) (image : ImageValue) (versio
 abbrev pub IsNotPublished : List LoaderAnswer → LoadRefusal → List LoaderAnswer → Type 0
 IsNotPublished before (LoadRefusal.Load fault) after = after ≡ before
 IsNotPublished before (LoadRefusal.Publish fault) after = ((after ≡ before) × (fault ≡ PublishFault.OutOfMemory)) ⊎ RefuseStep before fault after
+
+-- what files are known to hold, by their names
+abbrev pub Holds : Type 0
+Holds = List ℕ → Option (Option (List ℕ))
+
+-- what comes of files that hold this: their image is published as the version that is told, and a notice is of that version; or nothing is
+-- published, and the first refusal is told
+abbrev pub IsOutcome : {N : Type 0} → (N → ℕ) → Holds → Plan → List LoaderAnswer → Result (ℕ × Option N) LoadRefusal → List LoaderAnswer → Type 0
+IsOutcome noted holds plan before (Ok loaded) after =
+    (image : ImageValue) × ((content : Content) → Tells holds content → IsImageOf content plan image)
+    × IsPublished before image loaded.0 after × IfSome loaded.1 (λ notice. noted notice ≡ loaded.0)
+IsOutcome noted holds plan before (Err refusal) after =
+    ((content : Content) → Tells holds content → MayRefuse content plan refusal) × IsNotPublished before refusal after
 
 -- the number by which a refusal is told
 abbrev pub refusal_number : LoadRefusal → ℕ

@@ -1,6 +1,7 @@
 //! Workers that serve sessions at once, each at a seat of its own, and the one loader beside them.
 #![tactic(auto)]
 
+mod carrying;
 mod clients;
 mod feeds;
 mod loading;

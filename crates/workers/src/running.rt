@@ -3,9 +3,9 @@
 ghost use denote.Param.Send.{IsSend, IsSync};
 ghost use Rattle.std.specs.Prelude.{◌≤◌, All, length, IfOk};
 
+use crate::carrying::load_all;
 use crate::clients::{Client, Clients};
 use crate::feeds::Feeds;
-use crate::loading::load_all;
 use crate::served::Served;
 use crate::serving::work;
 use crossbeam_channel::Sender;

@@ -1,0 +1,32 @@
+-- Orders that are carried out.
+use Rattle.std.specs.Prelude.{◌≡◌, ◌≤◌, ◌⊎◌, ◌++◌, ◌∷◌, ℕ, List, [], Option, Result}
+use Rattle.epochs.specs.declared.seats.LoaderAnswer.{LoaderAnswer}
+use Rattle.feed_loader.specs.declared.plan.Plan.{Plan}
+use Rattle.load_orders.specs.Queue.{EndValue}
+use Rattle.load_orders.specs.declared.queue.LoadAnswer.{LoadAnswer}
+use Rattle.orders.specs.Ordering.{order_fault_number}
+use Rattle.orders.specs.declared.fault.OrderFault.{OrderFault}
+use Rattle.workers.specs.Loading.{Holds, IsOutcome, load_answer}
+use Rattle.workers.specs.declared.refusal.LoadRefusal.{LoadRefusal}
+
+-- over notices of these versions, and feeds at so many places with these files and plans
+module _ {N D : Type 0} (noted : N → ℕ) (are_files : ℕ → D → Type 0) (holds : D → Holds) (is_plan : Plan → Type 0) (places : ℕ) where
+  -- the files of the feed at this place are loaded, and the answer is what came of that; or there is no such feed
+  abbrev pub IsLoadOf : ℕ → LoadAnswer N → List LoaderAnswer → List LoaderAnswer → Type 0
+  IsLoadOf feed answer before after =
+      ((files : D) × (plan : Plan) × (outcome : Result (ℕ × Option N) LoadRefusal) × are_files feed files × is_plan plan
+      × IsOutcome noted (holds files) plan before outcome after × (answer ≡ load_answer outcome))
+      ⊎ ((places ≤ feed) × (after ≡ before) × (answer ≡ LoadAnswer.Refused (order_fault_number OrderFault.UnknownFeed)))
+
+  -- an order of the feed at this place is carried out
+  abbrev pub IsCarriedOut : ℕ → List LoaderAnswer → List LoaderAnswer → Type 0
+  IsCarriedOut feed before after = (answer : LoadAnswer N) × IsLoadOf feed answer before after
+
+  -- orders are carried out in turn, each once
+  abbrev pub AreCarriedOut : List ℕ → List LoaderAnswer → List LoaderAnswer → Type 0
+  AreCarriedOut [] before after = after ≡ before
+  AreCarriedOut (feed ∷ feeds) before after = (between : List LoaderAnswer) × IsCarriedOut feed before between × AreCarriedOut feeds between after
+
+  -- all orders that were taken from the one to the other are
+  abbrev pub CarriesOut : EndValue → EndValue → List LoaderAnswer → List LoaderAnswer → Type 0
+  CarriesOut a b before after = (feeds : List ℕ) × (b.feeds ≡ a.feeds ++ feeds) × AreCarriedOut feeds before after

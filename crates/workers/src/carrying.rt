@@ -1,0 +1,156 @@
+//! The loader: order after order.
+
+ghost use Rattle.std.specs.Prelude.{◌≡◌, ◌≤◌, ℕ, Option, Result, length};
+ghost use Rattle.connections.specs.declared.days.TheConstants.{MAX_DAYS};
+ghost use Rattle.workers.specs.Carrying.{CarriesOut, IsCarriedOut, IsLoadOf};
+ghost use Rattle.workers.specs.Loading.{IsOutcome, load_answer};
+ghost use Rattle.workers.specs.declared.refusal.LoadRefusal.{LoadRefusal};
+
+use crate::feeds::Feeds;
+use crate::loading::load_one;
+use crate::refusal::LoadRefusal;
+use epochs::{Loads, Versions};
+use feed_loader::{FeedFiles, Plan};
+use load_orders::{LoadAnswer, LoaderOrders, Order, OrderFault};
+use std::alloc::Global;
+use std::io;
+use std::io::Write;
+use std::sync::Wait;
+
+/// Carries out orders until no more come: the feed of each is loaded once, in turn, and whoever waits for it is told what came of
+/// that. The orders' end and the loader's seat come back.
+pub(crate) fn load_all<R: Wait, N: Drop, T: Versions<Notice = N> + Loads, F: Feeds, E: Write>(
+    rt: &R,
+    alloc: Global,
+    mut orders: LoaderOrders<N>,
+    shelves: &T,
+    mut loader: T::Loader,
+    feeds: &F,
+    mut errors: E,
+) -> (LoaderOrders<N>, T::Loader, E)
+    requires { T.Loads.loads shelves.now loader }
+    ensures loads { T.Loads.loads shelves.now result.1 }
+    ensures carried { CarriesOut T.Versions.noted (F.are_files feeds.now) F.Files.holds (F.is_plan feeds.now) (length (F.named feeds.now))
+        orders result.0 (T.Loads.answers loader) (T.Loads.answers result.1) }
+{
+    for _ in rt.forever() {
+        let Some(order) = orders.next(rt) else {
+            break;
+        };
+        load_feed(rt, alloc, order, shelves, &mut loader, feeds, &mut errors);
+    }
+    (orders, loader, errors)
+}
+
+// Loads the feed that is ordered, and tells what came of it, also whoever waits for that.
+fn load_feed<R: Wait, N: Drop, T: Versions<Notice = N> + Loads, F: Feeds, E: Write>(
+    rt: &R,
+    alloc: Global,
+    order: Order<N>,
+    shelves: &T,
+    loader: &mut T::Loader,
+    feeds: &F,
+    errors: &mut E,
+)
+    requires { T.Loads.loads shelves.now loader.old }
+    ensures loads { T.Loads.loads shelves.now loader.new }
+    ensures carried { IsCarriedOut T.Versions.noted (F.are_files feeds.now) F.Files.holds (F.is_plan feeds.now) (length (F.named feeds.now))
+        order.feed (T.Loads.answers loader.old) (T.Loads.answers loader.new) }
+{
+    let Order {
+        feed,
+        answer: waiting,
+    } = order;
+    let answer = load_place(rt, alloc, feed, shelves, loader, feeds, errors);
+    if let Some(waiting) = waiting {
+        // It doesn't matter that nobody waits any more.
+        drop(waiting.send(rt, answer));
+    }
+}
+
+// Loads the feed at the place: what came of it. Where there is none, it is refused as an unknown feed.
+fn load_place<R: Wait, N, T: Versions<Notice = N> + Loads, F: Feeds, E: Write>(
+    rt: &R,
+    alloc: Global,
+    place: usize,
+    shelves: &T,
+    loader: &mut T::Loader,
+    feeds: &F,
+    errors: &mut E,
+) -> LoadAnswer<N>
+    requires { T.Loads.loads shelves.now loader.old }
+    ensures loads { T.Loads.loads shelves.now loader.new }
+    ensures load { IsLoadOf T.Versions.noted (F.are_files feeds.now) F.Files.holds (F.is_plan feeds.now) (length (F.named feeds.now))
+        place result (T.Loads.answers loader.old) (T.Loads.answers loader.new) }
+{
+    match (feeds.names().get(place), feeds.files(place)) {
+        (Some(name), Some(files)) => load_files(
+            rt,
+            alloc,
+            name.as_str(),
+            files,
+            feeds.plan(),
+            shelves,
+            loader,
+            errors,
+        ),
+        _ => LoadAnswer::Refused {
+            refusal: OrderFault::UnknownFeed.number(),
+        },
+    }
+}
+
+// Loads these files of the feed of this name, and tells what came of it.
+fn load_files<R: Wait, N, T: Versions<Notice = N> + Loads, D: FeedFiles + Drop, E: Write>(
+    rt: &R,
+    alloc: Global,
+    name: &str,
+    mut files: D,
+    plan: &Plan,
+    shelves: &T,
+    loader: &mut T::Loader,
+    errors: &mut E,
+) -> LoadAnswer<N>
+    requires loads { T.Loads.loads shelves.now loader.old }
+    requires failures { D.failures files ≡ 0 }
+    requires some { 1 ≤ plan.now.days }
+    requires few { plan.now.days ≤ MAX_DAYS }
+    ensures loads { T.Loads.loads shelves.now loader.new }
+    ensures outcome { (outcome : Result (ℕ × Option N) LoadRefusal)
+        × IsOutcome T.Versions.noted (D.holds files) plan.now (T.Loads.answers loader.old) outcome (T.Loads.answers loader.new) × (result ≡ load_answer outcome) }
+{
+    let outcome = load_one(rt, alloc, &mut files, plan, shelves, loader);
+    // The loader goes on where its line can't be written.
+    let _ = tell(errors, name, version_or_refusal(&outcome));
+    answer_of(outcome)
+}
+
+fn version_or_refusal<N>(
+    outcome: &Result<(u64, Option<N>), LoadRefusal>,
+) -> Result<u64, LoadRefusal> {
+    match outcome {
+        Ok((version, _)) => Ok(*version),
+        Err(refusal) => Err(*refusal),
+    }
+}
+
+// What whoever waits for a load is told of it: its version's notice, that there was no memory for one, or the refusal's number.
+fn answer_of<N>(outcome: Result<(u64, Option<N>), LoadRefusal>) -> LoadAnswer<N>
+    ensures { result ≡ load_answer outcome }
+{
+    match outcome {
+        Ok((_, Some(notice))) => LoadAnswer::Published { notice },
+        Ok((_, None)) => LoadAnswer::Unnoticed,
+        Err(refusal) => LoadAnswer::Refused {
+            refusal: refusal.number(),
+        },
+    }
+}
+
+// Tells what came of an order. It takes no memory.
+fn tell<E: Write>(errors: &mut E, name: &str, outcome: Result<u64, LoadRefusal>) -> io::Result<()> {
+    match outcome {
+        Ok(version) => write!(errors, "loaded {name} version {version}\n"),
+        Err(refusal) => write!(errors, "load {name} refused {refusal}\n"),
+    }
+}
