@@ -1,8 +1,22 @@
-use Rattle.std.proofs.Common.{rules, ◌≡◌, ◌+◌, ◌++◌, ◌∷◌, [], ℕ, List, arith, ap, sym, ◌∙◌, subst}
+use Rattle.std.proofs.Common.{rules, ◌≡◌, ◌+◌, ◌++◌, ◌∷◌, [], ℕ, List, arith, ap, sym, ◌∙◌, subst, length}
 use Rattle.std.proofs.lemmas.List.{length-append}
 use Rattle.sources.specs.FootStarts.{IsStartPlace, AreStarts, HoldsBelow}
-use Rattle.sources.proofs.StartLemmas.{starts_more, all_held}
+use Rattle.sources.proofs.StartLemmas.{AreStartsBelow, starts_more, all_held}
 use Rattle.sources.proofs.decoded.decode_footpaths.Goals as goal
+
+pub loop-stop-preserved : goal.loop-stop-preserved
+loop-stop-preserved c =
+    let t = c.args.image.now.timetable in
+    let stop = c.loop-stop.stop in
+    let items = c.loop-stop.starts.items in
+    let place = c.len.result in
+    let start : IsStartPlace t stop place = subst (λ (x : ℕ). IsStartPlace t stop x) (search rules) c.loop-stop.invariant.holds.start in
+    record {
+      holds = c.in_ok-decode_walks_into.ensures;
+      long = ap length c.in_ok-push.ensures.items ∙ length-append items (place ∷ []) ∙ ap (λ n. n + 1) c.loop-stop.invariant.long;
+      starts = subst (λ (places : List ℕ). AreStartsBelow t (stop + 1) places) (sym c.in_ok-push.ensures.items)
+          (starts_more t stop place items c.loop-stop.invariant.long c.loop-stop.invariant.starts start);
+    }
 
 pub returns-clause-footpaths : goal.returns-clause-footpaths
 returns-clause-footpaths c =
