@@ -10,7 +10,7 @@ pub mod reading;
 
 pub use failed::FailedNames;
 pub use files::{FeedFiles, FileFault, LONGEST_FILE};
-pub use folder::{Disk, FolderFiles};
+pub use folder::FolderFiles;
 pub use memory::MemoryFiles;
 pub use reading::{ReadFault, read_tables};
 
