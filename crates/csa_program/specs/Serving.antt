@@ -1,13 +1,12 @@
 -- What a server tells at its end.
-use Rattle.std.specs.Prelude.{if◌then◌else◌, ℕ, Bool}
+use Rattle.std.specs.Prelude.{◌+◌, ◌-◌, ◌^◌, ◌||◌, if◌then◌else◌, ℕ, nat_lt, min, Bool, List}
+use Rattle.workers.specs.Ends.{ended_in, failed_in, spent_in}
 use Rattle.workers.specs.declared.served.End.{End}
 
--- the status of a server whose worst session ended so
-abbrev pub status_of_end : End → ℕ
-status_of_end End.Failed = 3
-status_of_end End.Spent = 2
-status_of_end End.Ended = 0
+-- 3 where it went deaf or a session failed, else 2 where a session had too many requests, else 0
+abbrev pub status_of_ends : Bool → List End → ℕ
+status_of_ends is_deaf ends = if is_deaf || nat_lt 0 (failed_in ends) then 3 else (if nat_lt 0 (spent_in ends) then 2 else 0)
 
--- 3 too where it went deaf
-abbrev pub status_of_server : Bool → End → ℕ
-status_of_server is_deaf worst = if is_deaf then 3 else status_of_end worst
+-- how many sessions there were; it stays at the greatest value
+abbrev pub sessions_in : List End → ℕ
+sessions_in ends = min (min (ended_in ends + failed_in ends) (2 ^ 64 - 1) + spent_in ends) (2 ^ 64 - 1)

@@ -3,6 +3,7 @@
 
 mod bases;
 mod build;
+mod disk;
 mod journey;
 mod naming;
 mod opening;
@@ -12,6 +13,7 @@ mod profile;
 mod progress;
 mod question;
 mod refusal;
+mod replying;
 mod serve;
 mod sockets;
 mod status;
@@ -21,9 +23,9 @@ mod upgrade;
 mod verify;
 mod writing;
 
+pub use crate::disk::Disk;
 use command_line::{Unread, read};
 use command_requests::Request;
-pub use feed_files::Disk;
 use std::convert::AsStr;
 use std::io::{Read, Write};
 use std::net::{Net, TcpListener, TcpStream};

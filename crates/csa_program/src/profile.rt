@@ -7,22 +7,19 @@ use crate::opening::open_image;
 use crate::pictured::{PictureFailure, draw};
 use crate::question::query_asked;
 use crate::refusal::Refusal;
+use crate::replying::reply_line;
 use crate::status;
 use command_requests::{AnswerForm, ProfileRequest};
 use criteria::{Arrival, ArrivalTrips, ArrivalTripsWalk, CriterionName, Told};
 use image_verifier::Verified;
 use journeys::{Answer, Departure, answer_query, journey_string};
 use profile_scan::InPlace;
-use session::profile_reply;
 use std::alloc::{AllocError, Global};
 use std::fmt::Write as _;
 use std::io::{Read, Write};
 use std::rt::Files;
 use timetable::clocks::Clock;
 use timetable::{Journey, Query};
-
-/// The version that an image is which a server has just opened.
-const FIRST_VERSION: u64 = 1;
 
 /// Prints each best departure with a journey, and then how many there are, how many connections were read, and the direct footpath;
 /// or else what a session replies. A picture that is asked for is written before.
@@ -71,7 +68,7 @@ fn answered<'a, H: Files + AllocGlobal, C: Told>(
     let text = match request.form {
         AnswerForm::Numbers => answer_lines(rt.alloc(), criterion, &answer, None)?,
         AnswerForm::Names => answer_lines(rt.alloc(), criterion, &answer, Some(image))?,
-        AnswerForm::Json => profile_reply(rt.alloc(), criterion, &answer, FIRST_VERSION)?,
+        AnswerForm::Json => reply_line(rt.alloc(), criterion, &answer)?,
     };
     Ok(text)
 }

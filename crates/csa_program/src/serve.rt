@@ -2,9 +2,10 @@
 
 ghost use Rattle.std.specs.Prelude.{◌≡◌, ◌≤◌, All, length, IfOk};
 ghost use Rattle.connections.specs.declared.days.TheConstants.{MAX_DAYS};
-ghost use Rattle.csa_program.specs.Serving.{status_of_server};
+ghost use Rattle.csa_program.specs.Serving.{sessions_in, status_of_ends};
 
 use crate::bases::tell_bases;
+use crate::disk::{Disk, DiskFolder};
 use crate::opening::open_image;
 use crate::planning::{PlanFailure, plan_of};
 use crate::refusal::refuse_feed;
@@ -12,7 +13,6 @@ use crate::sockets::Door;
 use crate::status;
 use command_requests::{NamedFolder, ServeRequest};
 use epochs::{ShelfLoader, ShelfSeat, Shelves};
-use feed_files::{Disk, FolderFiles};
 use feed_loader::Plan;
 use image_verifier::Verified;
 use orders::OpenGate;
@@ -23,7 +23,7 @@ use std::net::{Ipv4Addr, Net, TcpListener, TcpStream};
 use std::rt::Files;
 use std::sync::{Arc, Wait};
 use std::thread::Threads;
-use workers::{End, Feeds, Served, run_shelves};
+use workers::{Feeds, Served, run_shelves};
 
 /// The folders of the feeds that may be loaded.
 #[derive(Drop)]
@@ -38,7 +38,7 @@ struct Folders<'a, H> {
 }
 
 impl<'a, H: Disk + Sync> Feeds for Folders<'a, H> {
-    type Files = FolderFiles<'a, H>;
+    type Files = DiskFolder<'a, H>;
 
     ghost named = { λ folders. folders.names.items };
 
@@ -50,9 +50,9 @@ impl<'a, H: Disk + Sync> Feeds for Folders<'a, H> {
         &self.plan
     }
 
-    fn files(&self, place: usize) -> Option<FolderFiles<'a, H>> {
+    fn files(&self, place: usize) -> Option<DiskFolder<'a, H>> {
         match self.feeds.get(place) {
-            Some(feed) => Some(FolderFiles::new(self.disk, feed.folder)),
+            Some(feed) => Some(DiskFolder::new(self.disk, feed.folder)),
             None => None,
         }
     }
@@ -179,21 +179,30 @@ fn unheard<E: Write>(alloc: Global, errors: &mut E, port: u16) -> u8 {
 
 // Tells how many sessions there were.
 fn tell_served<O: Write>(alloc: Global, served: &Served, is_deaf: bool, output: &mut O) -> u8 {
-    let sessions = served.sessions();
-    let status = status_of(is_deaf, served.worst());
+    let sessions = sessions_of(served);
+    let status = status_of(served, is_deaf);
     status::line_written(output, format!(in alloc; "served {sessions}\n"), status)
 }
 
-// The status of a server which may have failed to accept a client, and whose worst session ended so.
-fn status_of(is_deaf: bool, worst: End) -> u8
-    ensures { result ≡ status_of_server is_deaf worst }
+// How many sessions there were.
+fn sessions_of(served: &Served) -> u64
+    ensures { result ≡ sessions_in served.now }
 {
-    if is_deaf {
-        return status::INPUT_OUTPUT;
-    }
-    match worst {
-        End::Failed => status::INPUT_OUTPUT,
-        End::Spent => status::REFUSED,
-        End::Ended => status::ACCEPTED,
+    served
+        .ended()
+        .saturating_add(served.failed())
+        .saturating_add(served.spent())
+}
+
+// The status of a server whose sessions ended so, and which may have failed to accept one.
+fn status_of(served: &Served, is_deaf: bool) -> u8
+    ensures { result ≡ status_of_ends is_deaf served.now }
+{
+    if is_deaf || served.failed() > 0 {
+        status::INPUT_OUTPUT
+    } else if served.spent() > 0 {
+        status::REFUSED
+    } else {
+        status::ACCEPTED
     }
 }

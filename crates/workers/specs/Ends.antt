@@ -1,5 +1,5 @@
 -- Ends of sessions, and how many there are of each.
-use Rattle.std.specs.Prelude.{◌≡◌, ◌-◌, ◌^◌, ℕ, min, Bool, true, false, List, length, nat_lt, if◌then◌else◌, Result, Ok, Err}
+use Rattle.std.specs.Prelude.{◌≡◌, ◌-◌, ◌^◌, ℕ, min, Bool, true, false, List, Result, Ok, Err}
 use Rattle.std.specs.List.{count_by}
 use Rattle.session.specs.declared.fault.Ended.{Ended}
 use Rattle.session.specs.declared.fault.SessionFault.{SessionFault}
@@ -42,11 +42,3 @@ end_of (Ok ended) = End.Ended
 end_of (Err SessionFault.ReadFailed) = End.Failed
 end_of (Err SessionFault.WriteFailed) = End.Failed
 end_of (Err SessionFault.TooManyRequests) = End.Spent
-
--- how many sessions there were
-abbrev pub sessions_in : List End → ℕ
-sessions_in ends = capped (length ends)
-
--- the worst end: one failed, else one had too many requests, else all were answered
-abbrev pub worst_in : List End → End
-worst_in ends = if nat_lt 0 (failed_in ends) then End.Failed else (if nat_lt 0 (spent_in ends) then End.Spent else End.Ended)

@@ -52,7 +52,7 @@ impl Model for Served {
 
 impl Served {
     ghost use Rattle.std.specs.Prelude.{◌≡◌, ◌++◌, ◌∷◌, []};
-    ghost use Rattle.workers.specs.Ends.{ended_in, failed_in, sessions_in, spent_in, worst_in};
+    ghost use Rattle.workers.specs.Ends.{ended_in, failed_in, spent_in};
 
     /// Of no session.
     pub fn new() -> Served
@@ -113,27 +113,5 @@ impl Served {
         ensures { result ≡ spent_in self.now }
     {
         self.spent
-    }
-
-    /// How many sessions there were.
-    pub fn sessions(&self) -> u64
-        ensures { result ≡ sessions_in self.now }
-    {
-        self.ended
-            .saturating_add(self.failed)
-            .saturating_add(self.spent)
-    }
-
-    /// The worst end of a session: one failed, else one had too many requests, else all ended with their lines answered.
-    pub fn worst(&self) -> End
-        ensures { result ≡ worst_in self.now }
-    {
-        if self.failed > 0 {
-            End::Failed
-        } else if self.spent > 0 {
-            End::Spent
-        } else {
-            End::Ended
-        }
     }
 }
