@@ -30,6 +30,4 @@ pub use table::VersionTable;
 pub use versions::{Loads, Versions};
 
 #[cfg(test)]
-mod shelf_tests;
-#[cfg(test)]
 mod tests;

@@ -29,54 +29,181 @@ fn image(alloc: Global, base: u32) -> Result<Arc<Verified, Global>, AllocError> 
     }
 }
 
-/// A new table, the loader and one worker.
-fn two_seats(alloc: Global) -> Result<(ShelfTable, LoaderSteps, WorkerSteps), AllocError>
-    ensures { IfOk result (λ made. (made.1 ≡ made.0) × (made.2 ≡ made.0)) }
+/// A new table, the loader and two workers.
+fn three_seats(
+    alloc: Global,
+    first: &Arc<Verified, Global>,
+) -> Result<(ShelfTable, LoaderSteps, WorkerSteps, WorkerSteps), AllocError>
+    ensures { IfOk result (λ made. (made.1 ≡ made.0) × (made.2 ≡ made.0) × (made.3 ≡ made.0)) }
 {
-    let first = image(alloc, 1)?;
-    let (table, mut place) = new_shelves(alloc, &first)?;
+    let (table, mut place) = new_shelves(alloc, first)?;
     let worker = new_worker(&table, &mut place);
-    Ok((table, LoaderSteps::of(place), WorkerSteps::of(worker)))
+    let other = new_worker(&table, &mut place);
+    let loader = LoaderSteps::of(place);
+    Ok((
+        table,
+        loader,
+        WorkerSteps::of(worker),
+        WorkerSteps::of(other),
+    ))
 }
 
-#[test]
-fn a_late_take_at_the_shelf_opened_again(rt: HostRuntime) -> Result<(), Fail> {
-    let alloc: Global = rt.alloc();
-    let (table, mut loader, mut worker) = two_seats(alloc)?;
-    assert_eq!(&rt; worker.look(&table), Some(8));
-    assert!(&rt; loader.open(&table, alloc, 1, &image(alloc, 2)?)?);
-    assert!(&rt; loader.publish(&table, 1));
-    assert!(&rt; loader.close(&table, 0));
-    assert_eq!(&rt; loader.collect(&table, 0), Some(0));
-    assert!(&rt; loader.open(&table, alloc, 0, &image(alloc, 3)?)?);
-    assert_eq!(&rt; worker.take(&table), Some(None));
-    assert_eq!(&rt; table.word(1), 196865);
-    assert!(&rt; worker.leave(&table));
-    assert_eq!(&rt; table.word(1), 196864);
-    assert!(&rt; loader.publish(&table, 0));
-    assert_eq!(&rt; table.word(0), 24);
-    assert_eq!(&rt; worker.look(&table), Some(24));
-    assert_eq!(&rt; worker.take(&table), Some(Some(3)));
-    assert!(&rt; loader.close(&table, 1));
-    assert_eq!(&rt; loader.collect(&table, 1), Some(0));
+/// A worker comes late to a shelf that is opened again before it leaves.
+const LATE_AT_AN_OPEN_SHELF: &str = "\
+look: Some(8)
+open 1: true
+publish 1: true
+close 0: true
+collect 0: Some(0)
+open 0: true
+take: Some(None)
+word 1: 196865
+leave: true
+word 1: 196864
+publish 0: true
+word 0: 24
+look: Some(24)
+take: Some(Some(3))
+close 1: true
+collect 1: Some(0)";
+
+/// A worker comes late to a free shelf, which is then opened again.
+const LATE_AT_A_FREE_SHELF: &str = "\
+look: Some(8)
+open 1: true
+publish 1: true
+close 0: true
+collect 0: Some(0)
+take: Some(None)
+word 1: 1
+open 0: true
+word 1: 196865
+leave: true
+word 1: 196864";
+
+fn number(text: &str) -> Result<usize, Fail> {
+    match text.parse() {
+        Ok(number) => Ok(number),
+        Err(_) => Err(Fail::new("a number of a script")),
+    }
+}
+
+/// What a step of the worker tells.
+fn worker_tells(
+    table: &ShelfTable,
+    alloc: Global,
+    worker: &mut WorkerSteps,
+    step: &str,
+) -> Result<String, AllocError>
+    requires { worker.old ≡ table.now }
+    ensures { worker.new ≡ worker.old }
+{
+    match step {
+        "look" => format!(in alloc; "{:?}", worker.look(table)),
+        "take" => format!(in alloc; "{:?}", worker.take(table)),
+        _ => format!(in alloc; "{}", worker.leave(table)),
+    }
+}
+
+/// What a step of the loader at a shelf tells.
+fn loader_tells(
+    table: &ShelfTable,
+    alloc: Global,
+    loader: &mut LoaderSteps,
+    image: &Arc<Verified, Global>,
+    step: &str,
+    shelf: usize,
+) -> Result<String, AllocError>
+    requires { (loader.old ≡ table.now) × (shelf < 8) }
+    ensures { loader.new ≡ loader.old }
+{
+    match step {
+        "open" => {
+            let is_opened = loader.open(table, alloc, shelf, image)?;
+            format!(in alloc; "{is_opened}")
+        }
+        "publish" => format!(in alloc; "{}", loader.publish(table, shelf)),
+        "close" => format!(in alloc; "{}", loader.close(table, shelf)),
+        "collect" => format!(in alloc; "{:?}", loader.collect(table, shelf)),
+        _ => format!(in alloc; "{}", table.word(shelf)),
+    }
+}
+
+/// A step of the worker, or one of the loader at a shelf; or `word`, of which the number is below 8 too.
+fn step_tells(
+    table: &ShelfTable,
+    alloc: Global,
+    loader: &mut LoaderSteps,
+    worker: &mut WorkerSteps,
+    image: &Arc<Verified, Global>,
+    step: &str,
+) -> Result<String, Fail>
+    requires { (loader.old ≡ table.now) × (worker.old ≡ table.now) }
+    ensures loader { loader.new ≡ loader.old }
+    ensures worker { worker.new ≡ worker.old }
+{
+    let Some((step, shelf)) = step.split_once(' ') else {
+        return Ok(worker_tells(table, alloc, worker, step)?);
+    };
+    let shelf = number(shelf)?;
+    if shelf < 8 {
+        Ok(loader_tells(table, alloc, loader, image, step, shelf)?)
+    } else {
+        Err(Fail::new("a shelf of a script"))
+    }
+}
+
+fn play_line<R: Abort>(
+    rt: &R,
+    table: &ShelfTable,
+    alloc: Global,
+    loader: &mut LoaderSteps,
+    worker: &mut WorkerSteps,
+    image: &Arc<Verified, Global>,
+    line: &str,
+) -> Result<(), Fail>
+    requires { (loader.old ≡ table.now) × (worker.old ≡ table.now) }
+    ensures loader { loader.new ≡ loader.old }
+    ensures worker { worker.new ≡ worker.old }
+{
+    let (step, expected) = line.split_once(": ").unwrap_or((line, ""));
+    let answer = step_tells(table, alloc, loader, worker, image, step)?;
+    assert_eq!(rt; answer.as_str(), expected, "{line}");
     Ok(())
 }
 
+fn play<R: Abort>(
+    rt: &R,
+    table: &ShelfTable,
+    alloc: Global,
+    loader: &mut LoaderSteps,
+    worker: &mut WorkerSteps,
+    image: &Arc<Verified, Global>,
+    script: &str,
+) -> Result<(), Fail>
+    requires { (loader.old ≡ table.now) × (worker.old ≡ table.now) }
+{
+    for line in script.split('\n') {
+        play_line(rt, table, alloc, loader, worker, image, line)?;
+    }
+    Ok(())
+}
+
+fn play_at_new_shelves<R: Abort>(rt: &R, alloc: Global, script: &str) -> Result<(), Fail> {
+    let image = image(alloc, 1)?;
+    match three_seats(alloc, &image) {
+        Ok((table, mut loader, mut worker, _)) => {
+            play(rt, &table, alloc, &mut loader, &mut worker, &image, script)
+        }
+        Err(refused) => Err(refused.into()),
+    }
+}
+
 #[test]
-fn a_late_take_before_the_shelf_is_opened_again(rt: HostRuntime) -> Result<(), Fail> {
-    let alloc: Global = rt.alloc();
-    let (table, mut loader, mut worker) = two_seats(alloc)?;
-    assert_eq!(&rt; worker.look(&table), Some(8));
-    assert!(&rt; loader.open(&table, alloc, 1, &image(alloc, 2)?)?);
-    assert!(&rt; loader.publish(&table, 1));
-    assert!(&rt; loader.close(&table, 0));
-    assert_eq!(&rt; loader.collect(&table, 0), Some(0));
-    assert_eq!(&rt; worker.take(&table), Some(None));
-    assert_eq!(&rt; table.word(1), 1);
-    assert!(&rt; loader.open(&table, alloc, 0, &image(alloc, 3)?)?);
-    assert_eq!(&rt; table.word(1), 196865);
-    assert!(&rt; worker.leave(&table));
-    assert_eq!(&rt; table.word(1), 196864);
+fn late_takes(rt: HostRuntime) -> Result<(), Fail> {
+    for script in [LATE_AT_AN_OPEN_SHELF, LATE_AT_A_FREE_SHELF] {
+        play_at_new_shelves(&rt, rt.alloc(), script)?;
+    }
     Ok(())
 }
 
@@ -302,68 +429,104 @@ fn words_agree(table: &ShelfTable, core: &Core) -> bool {
     agree
 }
 
+impl Rare {
+    /// Whether each of it came about often enough.
+    fn is_seen(&self) -> bool {
+        let late = self.late_at_free > 3 && self.late_at_open > 3 && self.opened_over_late > 3;
+        let joined = self.joined_newer > 3 && self.joined_older > 3;
+        let rare = self.joined_while_holding > 3 && self.not_joined > 3;
+        late && joined && rare && self.busy_with_two > 3
+    }
+}
+
+/// A step of either worker or of the loader, as the number says: whether it told what the state machine does.
+fn one_step(
+    table: &ShelfTable,
+    loader: &mut LoaderSteps,
+    first: &mut WorkerSteps,
+    second: &mut WorkerSteps,
+    core: &mut Core,
+    rare: &mut Rare,
+    notices: &mut Vec<NoticeSteps>,
+    alloc: Global,
+    image: &Arc<Verified, Global>,
+    random: u64,
+) -> Result<bool, AllocError>
+    requires seats { (loader.old ≡ table.now) × (first.old ≡ table.now) × (second.old ≡ table.now) }
+    requires notices { All (λ notice. notice ≡ table.now) notices.old.items }
+    ensures seats { (loader.new ≡ loader.old) × (first.new ≡ first.old) × (second.new ≡ second.old) }
+    ensures notices { All (λ notice. notice ≡ table.now) notices.new.items }
+{
+    let choice = random / 8589934592 % 4;
+    let shelf = (random / 1099511627776 % 4) as usize;
+    match random / 281474976710656 % 8 {
+        0 => worker_steps(table, first, core, rare, notices, 0, choice),
+        1 => worker_steps(table, second, core, rare, notices, 1, choice),
+        _ => loader_steps(
+            table, loader, core, rare, notices, alloc, image, shelf, choice,
+        ),
+    }
+}
+
 /// Two workers that leave seldom and take in notices, and a loader that closes and collects the first four shelves.
-#[test]
-fn random_steps_beside_the_state_machine(rt: HostRuntime) -> Result<(), Fail> {
-    let alloc: Global = rt.alloc();
-    let image = image(alloc, 1)?;
-    let (table, mut place) = new_shelves(alloc, &image)?;
-    let first = new_worker(&table, &mut place);
-    let second = new_worker(&table, &mut place);
-    let mut loader = LoaderSteps::of(place);
-    let mut first = WorkerSteps::of(first);
-    let mut second = WorkerSteps::of(second);
-    let mut core = Core::new(alloc)?;
-    let mut notices = Vec::new(alloc);
-    let mut rare = Rare::default();
+fn random_steps<R: Abort>(
+    rt: &R,
+    table: &ShelfTable,
+    loader: &mut LoaderSteps,
+    first: &mut WorkerSteps,
+    second: &mut WorkerSteps,
+    core: &mut Core,
+    rare: &mut Rare,
+    notices: &mut Vec<NoticeSteps>,
+    alloc: Global,
+    image: &Arc<Verified, Global>,
+) -> Result<(), Fail>
+    requires seats { (loader.old ≡ table.now) × (first.old ≡ table.now) × (second.old ≡ table.now) }
+    requires notices { All (λ notice. notice ≡ table.now) notices.old.items }
+{
     let mut random = 19u64;
     for _round in 0..2000u32 {
         random = random
             .wrapping_mul(6364136223846793005)
             .wrapping_add(1442695040888963407);
-        let choice = random / 8589934592 % 4;
-        let shelf = (random / 1099511627776 % 4) as usize;
-        let same = match random / 281474976710656 % 8 {
-            0 => worker_steps(
-                &table,
-                &mut first,
-                &mut core,
-                &mut rare,
-                &mut notices,
-                0,
-                choice,
-            )?,
-            1 => worker_steps(
-                &table,
-                &mut second,
-                &mut core,
-                &mut rare,
-                &mut notices,
-                1,
-                choice,
-            )?,
-            _ => loader_steps(
-                &table,
-                &mut loader,
-                &mut core,
-                &mut rare,
-                &mut notices,
-                alloc,
-                &image,
-                shelf,
-                choice,
-            )?,
-        };
-        assert!(&rt; same);
-        assert!(&rt; words_agree(&table, &core));
+        let same = one_step(
+            table, loader, first, second, core, rare, notices, alloc, image, random,
+        )?;
+        assert!(rt; same && words_agree(table, core));
     }
-    assert!(&rt; rare.late_at_free > 3);
-    assert!(&rt; rare.late_at_open > 3);
-    assert!(&rt; rare.opened_over_late > 3);
-    assert!(&rt; rare.busy_with_two > 3);
-    assert!(&rt; rare.joined_newer > 3);
-    assert!(&rt; rare.joined_older > 3);
-    assert!(&rt; rare.joined_while_holding > 3);
-    assert!(&rt; rare.not_joined > 3);
+    Ok(())
+}
+
+fn random_steps_at_new_shelves<R: Abort>(
+    rt: &R,
+    alloc: Global,
+    core: &mut Core,
+    rare: &mut Rare,
+) -> Result<(), Fail> {
+    let image = image(alloc, 1)?;
+    let mut notices = Vec::new(alloc);
+    match three_seats(alloc, &image) {
+        Ok((table, mut loader, mut first, mut second)) => random_steps(
+            rt,
+            &table,
+            &mut loader,
+            &mut first,
+            &mut second,
+            core,
+            rare,
+            &mut notices,
+            alloc,
+            &image,
+        ),
+        Err(refused) => Err(refused.into()),
+    }
+}
+
+#[test]
+fn random_steps_beside_the_state_machine(rt: HostRuntime) -> Result<(), Fail> {
+    let mut rare = Rare::default();
+    let mut core = Core::new(rt.alloc())?;
+    random_steps_at_new_shelves(&rt, rt.alloc(), &mut core, &mut rare)?;
+    assert!(&rt; rare.is_seen());
     Ok(())
 }
