@@ -1,14 +1,15 @@
 -- Two answers computed from the definitions alone, over every journey: one point, and none.
 use Rattle.std.proofs.Common.{◌≡◌, ◌≢◌, ℕ, zero, suc, ◌+◌, ◌<◌, ◌≤◌, nat_le, List, [], ◌∷◌, Contains, Option, Some, None, arith, refl, sym, ◌∙◌, ap, subst, rules as std_rules}
 use Rattle.std.proofs.lemmas.Bool.{le-leb, leb-true}
+use Rattle.reasoning.proofs.ListLemmas.{not_in_nil}
 use Rattle.criteria.specs.Laws.{Rules, NoWorse}
 use Rattle.bags.specs.declared.point.Point.{Point}
 use Rattle.timetable.specs.declared.network.Footpath.{Footpath}
 use Rattle.timetable.specs.JourneyValue.{RideValue, JourneyValue}
 use Rattle.timetable.specs.Journeys.{connection_at, IsWalk, walk_end, Leads, final_time, time_after, stop_after, IsStart, start_end, start_secs, Counts, arrival}
-use Rattle.profile_scan.specs.Values.{walked, ridden, started}
+use Rattle.profile_scan.specs.Values.{journey_value, walked, ridden, started}
 use Rattle.profile_scan.specs.Points.{IsPoint, IsUndominated, IsAnswer}
-use Rattle.scan_tests.specs.Examples.{with_loops, asked, by_change, footpath}
+use Rattle.scan_tests.specs.Examples.{with_loops, with_walk, asked, by_change, footpath, on_foot}
 
 -- with loops alone every footpath is one
 is_loop : (at_a at_b : ℕ) (f : Footpath) → Contains (with_loops at_a at_b).footpaths f → f.to ≡ f.from
@@ -75,6 +76,12 @@ nothing_before_eight rules = record {
         let departs = departs_at_eight 60 0 28799 36000 departure j.start j.rides (starts_at_source 60 0 0 j.start c.journey.starts) c in
         let late = c.not_late in
         omega arith
+
+-- the first trip counts where the better one leaves too late, so some point covers it
+pub the_first_trip_counts : {V : Type 0} (rules : Rules V) → Counts with_walk (asked 29399 36000) 29280 (on_foot 120 1) → IsAnswer rules with_walk (asked 29399 36000) [] → ⊥
+the_first_trip_counts rules counts answer =
+    let covered = answer.unbeaten 29280 (journey_value rules with_walk (on_foot 120 1)) (on_foot 120 1, counts, refl) in
+    not_in_nil covered.0 covered.1
 
 -- a criterion of the arrival alone
 pub record IsByArrival (rules : Rules ℕ) : Type 0 where

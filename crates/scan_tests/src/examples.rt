@@ -49,7 +49,7 @@ fn the_latest_arrival_counts()
 {}
 
 // a start on foot moves the departure
-fn a_start_on_foot_counts(arrival: &Arrival, walking: &ArrivalTripsWalk)
+pub(crate) fn a_start_on_foot_counts(arrival: &Arrival, walking: &ArrivalTripsWalk)
     ensures late { Counts with_walk (asked 32400 36000) 29400 (on_foot 120 2) }
     ensures too_late { (departure : ℕ) → Counts with_walk (asked 29399 36000) departure (on_foot 120 2) → ⊥ }
     ensures earlier { Counts with_walk (asked 29399 36000) 29280 (on_foot 120 1) }
