@@ -1,6 +1,6 @@
 //! The seat from which a loader publishes versions without a lock.
 
-ghost use Rattle.std.specs.Prelude.{◌≡◌, ℕ, ◌<◌, ◌≤◌, [], ◌∷◌, ◌++◌, Some, IfOk, IfErr, OnErr, MatchBool, MatchOption, MatchResult};
+ghost use Rattle.std.specs.Prelude.{◌≡◌, ℕ, ◌+◌, ◌<◌, ◌≤◌, [], ◌∷◌, ◌++◌, Some, IfOk, IfErr, OnErr, MatchBool, MatchOption, MatchResult};
 ghost use Rattle.std.specs.Arc.{arc_value};
 ghost use Rattle.image_layout.specs.Image.{ImageValue};
 ghost use Rattle.version_core.specs.declared.state.Shelf.{Shelf};
@@ -104,6 +104,7 @@ impl ShelfLoader {
         ensures table { self.new.table ≡ self.old.table }
         ensures back { IfErr result (λ e. e.0 ≡ image) }
         ensures current { MatchResult result (λ v. self.new.current ≡ v) (λ _. self.new.current ≡ self.old.current) }
+        ensures next { IfOk result (λ v. v ≡ self.old.current + 1) }
         ensures loader { MatchResult result (λ v. PublishStep self.old.answers (arc_value image) v self.new.answers) (λ e. RefuseStep self.old.answers e.1 self.new.answers) }
         ensures steps { MatchResult result (λ v. (room : View) × MakesRoomBySteps self.old.view room × PublishesBySteps room (arc_value image) v self.new.view) (λ e. RefusesBySteps self.old.view e.1 self.new.view) }
     {
@@ -133,6 +134,7 @@ impl ShelfLoader {
         requires { self.old.table ≡ table.now }
         ensures table { (self.new.table ≡ self.old.table) × (self.new.answers ≡ self.old.answers) }
         ensures number { IfOk result (λ v. (1 < v) × (v ≤ 1000000000)) }
+        ensures next { IfOk result (λ v. v ≡ self.old.current + 1) }
         ensures current { MatchResult result (λ v. self.new.current ≡ v) (λ _. self.new.current ≡ self.old.current) }
         ensures published { IfOk result (λ v. (room : View) × MakesRoomBySteps self.old.view room × PublishesBySteps room (arc_value image.now) v self.new.view) }
         ensures refused { IfErr result (λ e. RefusesBySteps self.old.view e self.new.view) }
@@ -204,6 +206,7 @@ impl ShelfLoader {
         requires free { (shelf < 8) × (shelf_of self.old.view shelf ≡ Some Shelf.Free) }
         ensures table { (self.new.table ≡ self.old.table) × (self.new.answers ≡ self.old.answers) }
         ensures number { IfOk result (λ v. (1 < v) × (v ≤ 1000000000) × (self.new.current ≡ v)) }
+        ensures next { IfOk result (λ v. v ≡ self.old.current + 1) }
         ensures loads { IfOk result (λ version. (before : ℕ) × Loads shelf version before (arc_value image.now) self.old.view self.new.view) }
         ensures refused { OnErr result (self.new ≡ self.old) }
     {

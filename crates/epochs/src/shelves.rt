@@ -1,6 +1,6 @@
 //! Shelves without a lock.
 
-ghost use Rattle.std.specs.Prelude.{◌≡◌, ◌<◌, [], Some, OnOk, IfOk, IfErr, MatchResult};
+ghost use Rattle.std.specs.Prelude.{◌≡◌, ◌+◌, ◌<◌, [], Some, OnOk, IfOk, IfErr, MatchResult};
 ghost use Rattle.std.specs.List.{All};
 ghost use Rattle.std.specs.Arc.{arc_value};
 ghost use Rattle.shelf_steps.specs.Handed.{handed};
@@ -99,6 +99,7 @@ impl Shelves {
         ensures table { loader.new.table ≡ loader.old.table }
         ensures back { IfErr result (λ e. e.0 ≡ image) }
         ensures current { MatchResult result (λ r. loader.new.current ≡ r.0) (λ _. loader.new.current ≡ loader.old.current) }
+        ensures next { IfOk result (λ r. r.0 ≡ loader.old.current + 1) }
         ensures loader { MatchResult result (λ r. PublishStep loader.old.answers (arc_value image) r.0 loader.new.answers) (λ e. RefuseStep loader.old.answers e.1 loader.new.answers) }
         ensures steps { MatchResult result (λ r. (room : View) × MakesRoomBySteps loader.old.view room × PublishesWithNotice room (arc_value image) r.0 loader.new.view) (λ e. RefusesBySteps loader.old.view e.1 loader.new.view) }
         ensures notice { IfOk result (λ r. r.1 ≡ Some (record { table = self.now; version = r.0 })) }
