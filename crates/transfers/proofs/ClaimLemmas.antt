@@ -18,8 +18,8 @@ use Rattle.transfers.specs.declared.claims.Claim.{Claim}
 use Rattle.transfers.specs.Listed.{stands_for, station_of, station_in, is_station, is_child, is_of, word_of}
 use Rattle.transfers.specs.Groups.{IsGroup}
 use Rattle.transfers.specs.Lookup.{stop_named, station_named}
-use Rattle.transfers.specs.Claims.{Adds, ForOneOf, IsPairClaim, IsRowInto, IsNumberedClaim, IsClaimBy, IsSiblingPair, IsSiblingInto, IsSiblingClaim, IsRowClaim}
-use Rattle.transfers.specs.Claims.{IsLoopClaim, IsLoopOf, IsStationClaim, IsStopClaim, IsClaimInto, AreStoodFor, AreChildren}
+use Rattle.transfers.specs.Claims.{Adds, ForOneOf, IsPairClaim, IsRowInto, IsNumberedClaim, IsClaimBy, IsSiblingPair, IsSiblingInto, IsRowClaim}
+use Rattle.transfers.specs.Claims.{IsLoopOf, IsStationClaim, IsStopClaim, IsClaimInto, AreStoodFor, AreChildren}
 use Rattle.transfers.proofs.AddLemmas.{adds_one, adds_same, adds_then, adds_nothing}
 use Rattle.transfers.proofs.ListLemmas.{at_map, from_map}
 

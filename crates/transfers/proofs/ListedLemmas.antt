@@ -6,7 +6,7 @@ use Rattle.std.proofs.lemmas.Bool.{cases_eq}
 use Rattle.std.proofs.lemmas.List.Elements.{All-weaker, All-contains_itself}
 use Rattle.reasoning.proofs.ListLemmas.{at_contains, slice_get-append}
 use Rattle.timetable.specs.declared.network.Footpath.{Footpath}
-use Rattle.timetable.specs.Legal.{At, HasFootpath, IsOrderedBefore, AreInOrder}
+use Rattle.timetable.specs.Legal.{At, HasFootpath, AreInOrder}
 use Rattle.gtfs_tables.specs.declared.tables.Feed.{Feed}
 use Rattle.transfers.specs.Listed.{NamesStops, AreListed, LeadBelow, ListsMore, ListsMoreBelow, listed_secs}
 use Rattle.transfers.specs.Lookup.{EndsBelow}

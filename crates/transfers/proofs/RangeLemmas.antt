@@ -1,5 +1,5 @@
 -- What is claimed is of stops that the feed has or its transfers name, and each stop has a loop.
-use Rattle.std.proofs.Common.{◌≡◌, ◌==◌, ℕ, ◌+◌, ◌<◌, ◌≤◌, inl, inr, List, length, take, get_or, All, Bool, true, Option, Some, None, Contains, refl, sym, ap}
+use Rattle.std.proofs.Common.{◌≡◌, ℕ, ◌+◌, ◌<◌, ◌≤◌, inl, inr, List, length, take, get_or, All, Bool, true, Option, Some, None, refl, sym, ap}
 use Rattle.std.proofs.Common.{subst, ◌∙◌, arith}
 use Rattle.std.specs.List.{slice_get}
 use Rattle.std.proofs.lemmas.Option.{none-some, same_Some, slice_get_within}

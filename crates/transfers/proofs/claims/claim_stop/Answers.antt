@@ -1,4 +1,4 @@
-use Rattle.std.proofs.Common.{Option, ℕ, None, sym, subst, OnOk}
+use Rattle.std.proofs.Common.{Option, ℕ, sym, subst, OnOk}
 use Rattle.std.proofs.lemmas.Result.{on_ok_weaker}
 use Rattle.transfers.specs.Claims.{Adds, IsStopClaim}
 use Rattle.transfers.proofs.ClaimLemmas.{adds_stop}

@@ -1,9 +1,8 @@
-use Rattle.std.proofs.Common.{◌≡◌, ◌↔◌, ◌+◌, ◌++◌, List, length, Contains, sym, ap, subst, OnOk, rules}
+use Rattle.std.proofs.Common.{◌≡◌, ◌↔◌, ◌+◌, ◌++◌, List, Contains, sym, subst, OnOk, rules}
 use Rattle.std.proofs.lemmas.Result.{on_ok_weaker}
-use Rattle.timetable.specs.Legal.{AreInOrder}
 use Rattle.timetable.specs.declared.network.Footpath.{Footpath}
 use Rattle.transfers.specs.declared.claims.Claim.{Claim}
-use Rattle.transfers.specs.Claims.{AreSorted, ArePathsBelow, IsClaimInto}
+use Rattle.transfers.specs.Claims.{AreSorted, IsClaimInto}
 use Rattle.transfers.specs.Listed.{AreListed, LeadBelow}
 use Rattle.transfers.proofs.OrderLemmas.{sorted_claims}
 use Rattle.transfers.proofs.FinalLemmas.{moved_claims, ways_listed}

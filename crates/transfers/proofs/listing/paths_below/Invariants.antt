@@ -3,4 +3,8 @@ use Rattle.transfers.specs.Listed.{AreListed, LeadBelow}
 use Rattle.transfers.proofs.listing.paths_below.Given as goal
 
 abbrev pub invariant-loop-to : goal.invariant-loop-to
-invariant-loop-to l = record { listed : AreListed l.feed (LeadBelow l.to) l.paths.items; few : length l.paths.items ≤ l.most; room : length l.paths.items + l.left ≤ l.room }
+invariant-loop-to l = record {
+  listed : AreListed l.feed (LeadBelow l.to) l.paths.items;
+  few : length l.paths.items ≤ l.most;
+  room : length l.paths.items + l.left ≤ l.room;
+}
