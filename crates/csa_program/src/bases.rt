@@ -28,8 +28,9 @@ fn other_base(image: &Verified, plan: &Plan) -> Option<i64>
         (IsDayStart plan.now.zone plan.now.first_day image.now.names.base ⊎ HasNoStart plan.now.zone plan.now.first_day)
         (λ base. IsDayStart plan.now.zone plan.now.first_day base × (base ≢ image.now.names.base)) }
 {
+    let base = image.base();
     match day_start(&plan.zone, plan.first_day) {
-        Ok(start) if start != image.base() => Some(start),
-        _ => None,
+        Ok(start) => { if start == base { None } else { Some(start) } }
+        Err(_) => None,
     }
 }
