@@ -100,11 +100,25 @@ fn refused_growth_of_a_feed(rt: HostRuntime) -> Result<(), Fail> {
     Ok(())
 }
 
+// 08:00:00, two blank rows and 08:10:02 give 08:03:20 and 08:06:41.
 #[test]
 fn refused_growth_of_spread_times(rt: HostRuntime) -> Result<(), Fail> {
-    let rows = [row(1, Some(28_800)), row(2, None), row(3, Some(28_860))];
+    let rows = [
+        row(1, Some(28_800)),
+        row(2, None),
+        row(3, None),
+        row(4, Some(29_402)),
+    ];
     let times = spread(rt.alloc(), &rows)?;
-    assert_eq!(rt; times.len(), 3);
-    assert!(rt; times[1] == (28_830, 28_830));
+    let expected = [
+        (28_800, 28_800),
+        (29_000, 29_000),
+        (29_201, 29_201),
+        (29_402, 29_402),
+    ];
+    assert_eq!(rt; times.len(), 4);
+    for (time, wanted) in times.iter().zip(expected) {
+        assert!(rt; *time == wanted);
+    }
     Ok(())
 }

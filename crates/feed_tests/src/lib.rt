@@ -1,6 +1,6 @@
 //! From a feed's files to its image: tests alone, of the crates that no other test stands in, so that these are proved once.
 //!
-//! Of `gtfs_rows` are `rows`, `row_faults` and `rows_memory`, of `gtfs_tables` `joining` and `joining_memory`, of `feed_files`
+//! Of `gtfs_rows` are `values`, `rows`, `row_faults` and `rows_memory`, of `gtfs_tables` `joining` and `joining_memory`, of `feed_files`
 //! `files`, of `service_days` `days`, of `transfers` `listing`, of `connections` `runs`, of `footpaths` `closing`, and of
 //! `feed_loader` `loading`.
 #![tactic(auto)]
@@ -27,3 +27,5 @@ mod rows;
 mod rows_memory;
 #[cfg(test)]
 mod runs;
+#[cfg(test)]
+mod values;
