@@ -4,13 +4,16 @@ use Rattle.crossbeam_channel.specs.Fifo.{Held}
 use Rattle.orders.specs.Ordering.{OrderValue}
 use Rattle.orders.specs.declared.fault.OrderFault.{OrderFault}
 use Rattle.load_orders.specs.Queue.{AtMostFour, EndValue}
-use Rattle.load_orders.specs.declared.queue.LoadAnswer.{LoadAnswer}
+use Rattle.load_orders.specs.Ways.{WayId, WayValue, heard_at}
 use Rattle.load_orders.specs.declared.queue.Order.{Order}
+use Rattle.load_orders.specs.declared.queue.OrderMark.{OrderMark}
+use Rattle.load_orders.specs.declared.ways.LoadAnswer.{LoadAnswer}
 
-pub record WorkerOrdersValue : Type 0 where
+pub record WorkerOrdersValue (N : Type 0) : Type 0 where
   pub names : List (List ℕ)  -- of the feeds, by place
   pub end : EndValue  -- by which it orders feeds, by place
   pub asked : List OrderValue  -- all orders that were asked for here, refused ones too
+  pub heard : List (WayValue N)  -- the ways back at which it waited, with what was heard there
 
 -- the first feed of this name
 pub record IsFirst (names : List (List ℕ)) (name : List ℕ) (place : ℕ) : Type 0 where
@@ -26,6 +29,11 @@ IsTurnedAway N OrderFault.OrdersFull = Held {T = Order N} 4 AtMostFour
 IsTurnedAway N OrderFault.LoaderGone = ⊤
 IsTurnedAway N _ = ⊥
 
+-- why no order is put that would be waited for
+abbrev pub IsNotAwaited : Type 0 → OrderFault → Type 0
+IsNotAwaited N OrderFault.OutOfMemory = ⊤
+IsNotAwaited N fault = IsTurnedAway N fault
+
 -- why an order of a feed of this name is refused
 abbrev pub RefusesOrder : Type 0 → List (List ℕ) → List ℕ → OrderFault → Type 0
 RefusesOrder N names name OrderFault.UnknownFeed = IsNoName names name
@@ -40,14 +48,31 @@ fault_told (Some LoadAnswer.Unnoticed) = Some OrderFault.OutOfMemory
 fault_told (Some (LoadAnswer.Refused refusal)) = Some (OrderFault.LoadRefused refusal)
 fault_told None = Some OrderFault.LoaderGone
 
--- the order was put, or there was no room to wait for it, or it was turned away
-abbrev pub MayBePut : EndValue → ℕ → EndValue → Type 0
-MayBePut before place after = (after ≡ before) ⊎ (after.feeds ≡ before.feeds ++ place ∷ [])
+-- an order that nobody waits for, and one that carries a way back
+abbrev pub order_of : ℕ → OrderMark
+order_of place = record { feed = place; way = None }
+
+abbrev pub awaited_order : ℕ → WayId → OrderMark
+awaited_order place way = record { feed = place; way = Some way }
+
+-- an order of the first feed of this name is put
+abbrev pub IsPut : {N : Type 0} → List ℕ → WorkerOrdersValue N → WorkerOrdersValue N → Type 0
+IsPut name before after = (place : ℕ) × IsFirst before.names name place × (after.end.orders ≡ before.end.orders ++ order_of place ∷ [])
+
+-- one with a way back is put, and this is heard there, by its one hearing end, or nothing is
+abbrev pub Hears : {N : Type 0} → List ℕ → Option (LoadAnswer N) → WorkerOrdersValue N → WorkerOrdersValue N → Type 0
+Hears name answer before after =
+    (place : ℕ) × (way : WayId) × IsFirst before.names name place
+    × (after.end.orders ≡ before.end.orders ++ awaited_order place way ∷ []) × (after.heard ≡ before.heard ++ heard_at way answer ∷ [])
+
+-- a feed of this name is there, and nothing was put
+abbrev pub IsNotPut : {N : Type 0} → List ℕ → WorkerOrdersValue N → WorkerOrdersValue N → Type 0
+IsNotPut name before after = ((place : ℕ) × IsFirst before.names name place) × (after.end ≡ before.end) × (after.heard ≡ before.heard)
 
 -- why no version came of an order that was waited for
-abbrev pub RefusesVersion : Type 0 → List (List ℕ) → List ℕ → OrderFault → EndValue → EndValue → Type 0
-RefusesVersion N names name OrderFault.UnknownFeed before after = IsNoName names name × (after ≡ before)
-RefusesVersion N names name OrderFault.OrdersFull before after =
-    ((place : ℕ) × IsFirst names name place) × IsTurnedAway N OrderFault.OrdersFull × (after ≡ before)
-RefusesVersion N names name (OrderFault.LoadRefused refusal) before after = (place : ℕ) × IsFirst names name place × (after.feeds ≡ before.feeds ++ place ∷ [])
-RefusesVersion N names name _ before after = (place : ℕ) × IsFirst names name place × MayBePut before place after
+abbrev pub RefusesVersion : {N : Type 0} → List ℕ → OrderFault → WorkerOrdersValue N → WorkerOrdersValue N → Type 0
+RefusesVersion name OrderFault.UnknownFeed before after = IsNoName before.names name × (after.end ≡ before.end) × (after.heard ≡ before.heard)
+RefusesVersion {N} name OrderFault.OrdersFull before after = IsNotPut name before after × IsTurnedAway N OrderFault.OrdersFull
+RefusesVersion name (OrderFault.LoadRefused refusal) before after = Hears name (Some (LoadAnswer.Refused refusal)) before after
+RefusesVersion name OrderFault.OutOfMemory before after = Hears name (Some LoadAnswer.Unnoticed) before after ⊎ IsNotPut name before after
+RefusesVersion name OrderFault.LoaderGone before after = Hears name None before after ⊎ IsNotPut name before after

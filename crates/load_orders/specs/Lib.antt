@@ -1,2 +1,4 @@
+pub mod Ways
 pub mod Queue
 pub mod Asking
+pub mod Telling

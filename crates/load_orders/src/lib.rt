@@ -1,13 +1,17 @@
 //! Orders to load feeds, on their way from the workers to the one loader: a queue of four.
 #![tactic(auto)]
 
+pub mod laws;
 mod names;
+mod notes;
 mod queue;
 mod taking;
+mod ways;
 
 pub use orders::{OrderFault, Orders};
-pub use queue::{LoadAnswer, MOST_WAITING, Order};
+pub use queue::{MOST_WAITING, Order};
 pub use taking::{LoaderOrders, OrderEnd, WorkerOrders, order_queue};
+pub use ways::{LoadAnswer, WayBack};
 
 #[cfg(test)]
 mod tests;

@@ -1,34 +1,40 @@
 //! The queue under its rule.
 
+ghost use Rattle.std.specs.Prelude.{Option};
+ghost use Rattle.atomic_table.specs.Seated.{TableId};
+
+use crate::ways::WayBack;
 use crossbeam_channel::protocol::{Lesson, Outcome, Protocol, Split};
-use crossbeam_channel::{RuledReceiver, RuledSender, Sender};
+use crossbeam_channel::{RuledReceiver, RuledSender};
 use std::alloc::Global;
 use std::collections::LinkedList;
+use std::marker::Model;
 
 /// How many orders may wait.
 pub const MOST_WAITING: usize = 4;
 
-/// What came of a load, as it is told to whoever waits for it.
-#[derive(Drop)]
-pub enum LoadAnswer<N> {
-    /// A version was published, of which this is a notice.
-    Published { notice: N },
-    /// A version was published, and there was no memory for a notice of it.
-    Unnoticed,
-    /// The load or its publish was refused, with this number.
-    Refused { refusal: u8 },
-}
-
-/// An order to load a feed: its place in the list of feeds, and where what comes of it is told, if somebody waits for that.
+/// An order to load a feed: its place in the list of feeds, and the way back to whoever waits for what comes of it, if somebody does.
 #[derive(Drop)]
 pub struct Order<N: Drop> {
     pub feed: usize,
-    pub answer: Option<Sender<LoadAnswer<N>>>,
+    pub way_back: Option<WayBack<N>>,
 }
 
-/// What an end of the queue knows: the feeds of the orders that it put or took, in order. No value of it is made.
+/// What an end of the queue notes of an order: its feed's place, and which way back it carries, if any. No value of it is made.
+pub struct OrderMark {
+    pub feed: u64,
+    pub ghost way: { Option TableId },
+}
+
+impl Model for OrderMark {
+    ghost use Rattle.std.specs.Borrow.{ftrue};
+
+    ghost also_owns = { λ _. ftrue };
+}
+
+/// What an end of the queue knows: the orders that it put or took, in order. No value of it is made.
 pub struct Known {
-    pub orders: LinkedList<u64>,
+    pub orders: LinkedList<OrderMark>,
 }
 
 /// The rule: the queue holds at most four orders.

@@ -1,23 +1,26 @@
 //! The workers' ends of the queue, and the loader's.
 
-ghost use Rattle.std.specs.Prelude.{◌≡◌, ◌++◌, ◌∷◌, [], map, string_bytes, ℕ, Some, IfOk, IfErr, OnOk, MatchOption};
+ghost use Rattle.std.specs.Prelude.{◌≡◌, ◌++◌, ◌∷◌, [], map, string_bytes, Some, IfOk, IfErr, OnOk, MatchOption, Option};
 ghost use Rattle.orders.specs.Ordering.{IsNotTaken, order_value, version_told, waited_value};
-ghost use Rattle.load_orders.specs.Asking.{IsFirst, IsTurnedAway, RefusesOrder, RefusesVersion, fault_told};
-ghost use Rattle.load_orders.specs.declared.queue.LoadAnswer.{LoadAnswer};
+ghost use Rattle.load_orders.specs.Asking.{Hears, IsNotAwaited, IsPut, IsTurnedAway, RefusesOrder, RefusesVersion, awaited_order, fault_told};
+ghost use Rattle.load_orders.specs.Queue.{mark_of};
+ghost use Rattle.load_orders.specs.Telling.{IsToldBack};
+ghost use Rattle.load_orders.specs.Ways.{WayId, WayValue, heard_at};
+ghost use Rattle.load_orders.specs.declared.ways.LoadAnswer.{LoadAnswer};
 
 use crate::names::place_of;
-use crate::queue::{
-    Another, Known, LoadAnswer, MOST_WAITING, Moves, Order, OrderReceiver, OrderSender,
-};
-use crossbeam_channel::{Pass, TrySendError, bounded, bounded_with};
+use crate::notes::Notes;
+use crate::queue::{Another, Known, MOST_WAITING, Moves, Order, OrderReceiver, OrderSender};
+use crate::ways::{LoadAnswer, UsedWay, WayBack, way_back};
+use crossbeam_channel::{Pass, TrySendError, bounded_with};
 use epochs::Versions;
 use orders::{OrderFault, Ordered, Orders};
 use std::alloc::{AllocError, Global};
 use std::marker::Model;
 use std::sync::Wait;
-use timetable::Trace;
+use timetable::{Kept, Trace};
 
-/// An end of the queue at which orders are put. Contracts see which queue, and the places of the feeds that it ordered, in order.
+/// An end of the queue at which orders are put. Contracts see which queue, and the orders that were put here, in order.
 #[derive(Drop)]
 pub struct OrderEnd<N: Drop> {
     sender: OrderSender<N>,
@@ -32,7 +35,7 @@ impl<N: Drop> Model for OrderEnd<N> {
 
     ghost Value = { EndValue };
 
-    ghost view = { λ s. record { queue = s.pass.table_id; feeds = (view_of s.pass).orders } };
+    ghost view = { λ s. record { queue = s.pass.table_id; orders = (view_of s.pass).orders } };
 
     ghost invariant = { λ s. IsSeatAt (sends_on s.sender) s.pass × (ruled_capacity (sends_on s.sender) ≡ 4) };
 }
@@ -45,32 +48,49 @@ pub struct WorkerOrders<'a, N: Drop, T: Versions<Notice = N>> {
     shelves: &'a T,
     end: OrderEnd<N>,
     asked: Trace<Ordered>,
+    heard: Trace<UsedWay<N>>,
 }
 
 impl<'a, N: Drop, T: Versions<Notice = N>> Model for WorkerOrders<'a, N, T> {
     ghost use Rattle.std.specs.Prelude.{map, string_bytes};
     ghost use Rattle.load_orders.specs.Asking.{WorkerOrdersValue};
 
-    ghost Value = { WorkerOrdersValue };
+    ghost Value = { WorkerOrdersValue N };
 
-    ghost view = { λ s. record { names = map string_bytes s.names.now; end = s.end; asked = s.asked } };
+    ghost view = { λ s. record { names = map string_bytes s.names.now; end = s.end; asked = s.asked; heard = s.heard } };
 }
 
-/// The loader's end of the queue. Contracts see which queue, and the feeds of the orders that it took, in order.
+/// What the loader answered to an order. Contracts see the answer, and where it was told.
+#[derive(Drop)]
+pub struct Answered<N: Drop> {
+    answer: Kept<LoadAnswer<N>>,
+    told: Option<UsedWay<N>>,
+}
+
+impl<N: Drop> Model for Answered<N> {
+    ghost use Rattle.load_orders.specs.Telling.{AnsweredValue};
+
+    ghost Value = { AnsweredValue N };
+
+    ghost view = { λ a. record { answer = a.answer.value; told = a.told } };
+}
+
+/// The loader's end of the queue. Contracts see which queue, the orders that it took, and what it answered, in order.
 #[derive(Drop)]
 pub struct LoaderOrders<N: Drop> {
     receiver: OrderReceiver<N>,
     pass: Pass<Order<N>, Known>,
+    answered: Notes<Answered<N>>,
 }
 
 impl<N: Drop> Model for LoaderOrders<N> {
     ghost use Rattle.crossbeam_channel.specs.Claims.{IsSeatAt, view as view_of};
     ghost use Rattle.crossbeam_channel.specs.Ends.{receives_on};
-    ghost use Rattle.load_orders.specs.Queue.{EndValue};
+    ghost use Rattle.load_orders.specs.Telling.{LoaderOrdersValue};
 
-    ghost Value = { EndValue };
+    ghost Value = { LoaderOrdersValue N };
 
-    ghost view = { λ s. record { queue = s.pass.table_id; feeds = (view_of s.pass).orders } };
+    ghost view = { λ s. record { queue = s.pass.table_id; taken = (view_of s.pass).orders; answered = s.answered } };
 
     ghost invariant = { λ s. IsSeatAt (receives_on s.receiver) s.pass };
 }
@@ -78,14 +98,16 @@ impl<N: Drop> Model for LoaderOrders<N> {
 /// An empty queue for four orders: its first end, and the loader's.
 pub fn order_queue<N: Drop>(alloc: Global) -> Result<(OrderEnd<N>, LoaderOrders<N>), AllocError>
     ensures queue { IfOk result (λ ends. ends.0.queue ≡ ends.1.queue) }
-    ensures end { IfOk result (λ ends. ends.0.feeds ≡ []) }
-    ensures loader { IfOk result (λ ends. ends.1.feeds ≡ []) }
+    ensures end { IfOk result (λ ends. ends.0.orders ≡ []) }
+    ensures loader { IfOk result (λ ends. ends.1.taken ≡ []) }
+    ensures unanswered { IfOk result (λ ends. ends.1.answered ≡ []) }
 {
     let (sender, receiver, mut pass) = bounded_with(alloc, MOST_WAITING)?;
     let taking = sender.another::<Another>(&mut pass);
     let loader = LoaderOrders {
         receiver,
         pass: taking,
+        answered: Notes::none(),
     };
     Ok((OrderEnd { sender, pass }, loader))
 }
@@ -95,7 +117,7 @@ impl<N: Drop> OrderEnd<N> {
     pub fn another(&mut self) -> Result<OrderEnd<N>, AllocError>
         ensures same { self.new ≡ self.old }
         ensures queue { IfOk result (λ end. end.queue ≡ self.old.queue) }
-        ensures another { IfOk result (λ end. end.feeds ≡ []) }
+        ensures another { IfOk result (λ end. end.orders ≡ []) }
     {
         let sender = self.sender.try_clone()?;
         let pass = self.sender.another::<Another>(&mut self.pass);
@@ -105,7 +127,7 @@ impl<N: Drop> OrderEnd<N> {
     // Puts an order, where there is room.
     fn put<R: Wait>(&mut self, rt: &R, order: Order<N>) -> Result<(), OrderFault>
         ensures queue { self.new.queue ≡ self.old.queue }
-        ensures put { OnOk result (self.new.feeds ≡ self.old.feeds ++ order.feed ∷ []) }
+        ensures put { OnOk result (self.new.orders ≡ self.old.orders ++ mark_of order ∷ []) }
         ensures refused { IfErr result (λ fault. IsTurnedAway N fault × (self.new ≡ self.old)) }
     {
         match self
@@ -128,7 +150,7 @@ impl<'a, N: Drop, T: Versions<Notice = N>> WorkerOrders<'a, N, T> {
         shelves: &'a T,
         end: OrderEnd<N>,
     ) -> WorkerOrders<'a, N, T>
-        ensures { result ≡ record { names = map string_bytes names.now; end = end; asked = [] } }
+        ensures { result ≡ record { names = map string_bytes names.now; end = end; asked = []; heard = [] } }
     {
         WorkerOrders {
             alloc,
@@ -136,6 +158,7 @@ impl<'a, N: Drop, T: Versions<Notice = N>> WorkerOrders<'a, N, T> {
             shelves,
             end,
             asked: Trace::new(),
+            heard: Trace::new(),
         }
     }
 
@@ -145,23 +168,45 @@ impl<'a, N: Drop, T: Versions<Notice = N>> WorkerOrders<'a, N, T> {
         ensures names { self.new.names ≡ self.old.names }
         ensures queue { self.new.end.queue ≡ self.old.end.queue }
         ensures notice { IfOk result (λ r. T.noted r.1 ≡ r.0) }
-        ensures put { IfOk result (λ _. (place : ℕ) × IsFirst self.old.names feed.now place × (self.new.end.feeds ≡ self.old.end.feeds ++ place ∷ [])) }
-        ensures refused { IfErr result (λ fault. RefusesVersion N self.old.names feed.now fault self.old.end self.new.end) }
+        ensures heard { IfOk result (λ r. Hears feed.now (Some (LoadAnswer.Published r.1)) self.old self.new) }
+        ensures refused { IfErr result (λ fault. RefusesVersion feed.now fault self.old self.new) }
     {
         let Some(place) = place_of(self.names, feed) else {
             return Err(OrderFault::UnknownFeed);
         };
-        let Ok((answer, coming)) = bounded(self.alloc, 1) else {
-            return Err(OrderFault::OutOfMemory);
-        };
-        let order = Order {
-            feed: place,
-            answer: Some(answer),
-        };
-        match self.end.put(rt, order) {
-            Ok(()) => told::<N, T>(coming.recv(rt).ok()),
+        match put_awaited(rt, self.alloc, place, &mut self.end, &mut self.heard) {
+            Ok(answer) => told::<N, T>(answer),
             Err(fault) => Err(fault),
         }
+    }
+}
+
+// Puts an order with a way back, and waits for what comes of it, which is noted.
+fn put_awaited<R: Wait, N: Drop>(
+    rt: &R,
+    alloc: Global,
+    place: usize,
+    end: &mut OrderEnd<N>,
+    heard: &mut Trace<UsedWay<N>>,
+) -> Result<Option<LoadAnswer<N>>, OrderFault>
+    ensures queue { end.new.queue ≡ end.old.queue }
+    ensures heard { IfOk result (λ answer. (way : WayId) × (end.new.orders ≡ end.old.orders ++ awaited_order place way ∷ []) × (heard.new ≡ heard.old ++ heard_at way answer ∷ [])) }
+    ensures refused { IfErr result (λ fault. IsNotAwaited N fault × (end.new ≡ end.old) × (heard.new ≡ heard.old)) }
+{
+    let Ok((way_back, awaited)) = way_back(alloc) else {
+        return Err(OrderFault::OutOfMemory);
+    };
+    let order = Order {
+        feed: place,
+        way_back: Some(way_back),
+    };
+    match end.put(rt, order) {
+        Ok(()) => {
+            let (answer, way) = awaited.hear(rt);
+            heard.note(&way);
+            Ok(answer)
+        }
+        Err(fault) => Err(fault),
     }
 }
 
@@ -194,7 +239,8 @@ impl<'a, N: Drop, T: Versions<Notice = N>> Orders for WorkerOrders<'a, N, T> {
         ensures plain { IfErr result IsNotTaken }
         ensures names { self.new.names ≡ self.old.names }
         ensures queue { self.new.end.queue ≡ self.old.end.queue }
-        ensures put { IfOk result (λ _. (place : ℕ) × IsFirst self.old.names feed.now place × (self.new.end.feeds ≡ self.old.end.feeds ++ place ∷ [])) }
+        ensures heard { self.new.heard ≡ self.old.heard }
+        ensures put { OnOk result (IsPut feed.now self.old self.new) }
         ensures refused { IfErr result (λ fault. RefusesOrder N self.old.names feed.now fault × (self.new.end ≡ self.old.end)) }
     {
         let outcome = match place_of(self.names, feed) {
@@ -202,7 +248,7 @@ impl<'a, N: Drop, T: Versions<Notice = N>> Orders for WorkerOrders<'a, N, T> {
                 rt,
                 Order {
                     feed: place,
-                    answer: None,
+                    way_back: None,
                 },
             ),
             None => Err(OrderFault::UnknownFeed),
@@ -218,8 +264,8 @@ impl<'a, N: Drop, T: Versions<Notice = N>> Orders for WorkerOrders<'a, N, T> {
         ensures notice { IfOk result (λ r. T.noted r.1 ≡ r.0) }
         ensures names { self.new.names ≡ self.old.names }
         ensures queue { self.new.end.queue ≡ self.old.end.queue }
-        ensures put { IfOk result (λ _. (place : ℕ) × IsFirst self.old.names feed.now place × (self.new.end.feeds ≡ self.old.end.feeds ++ place ∷ [])) }
-        ensures refused { IfErr result (λ fault. RefusesVersion N self.old.names feed.now fault self.old.end self.new.end) }
+        ensures heard { IfOk result (λ r. Hears feed.now (Some (LoadAnswer.Published r.1)) self.old self.new) }
+        ensures refused { IfErr result (λ fault. RefusesVersion feed.now fault self.old self.new) }
     {
         let outcome = self.wait_for(rt, feed);
         self.asked.note(&Ordered::waited(feed, &outcome));
@@ -232,8 +278,35 @@ impl<N: Drop> LoaderOrders<N> {
     /// that the workers' ends are gone then, tests show.
     pub fn next<R: Wait>(&mut self, rt: &R) -> Option<Order<N>>
         ensures queue { self.new.queue ≡ self.old.queue }
-        ensures taken { MatchOption result (self.new.feeds ≡ self.old.feeds) (λ order. self.new.feeds ≡ self.old.feeds ++ order.feed ∷ []) }
+        ensures taken { MatchOption result (self.new.taken ≡ self.old.taken) (λ order. self.new.taken ≡ self.old.taken ++ mark_of order ∷ []) }
+        ensures answered { self.new.answered ≡ self.old.answered }
     {
         self.receiver.recv_as::<Moves, R>(rt, &mut self.pass).ok()
+    }
+
+    /// Tells whoever waits for the order what came of it, by the order's own way back. Nobody may wait for it, or wait any more.
+    pub fn answer<R: Wait>(&mut self, rt: &R, order: Order<N>, answer: LoadAnswer<N>)
+        ensures queue { self.new.queue ≡ self.old.queue }
+        ensures taken { self.new.taken ≡ self.old.taken }
+        ensures told { (told : Option (WayValue N)) × IsToldBack order.way_back answer told
+            × (self.new.answered ≡ self.old.answered ++ record { answer = answer; told = told } ∷ []) }
+    {
+        let kept = Kept::of(&answer);
+        let told = tell_back(rt, order.way_back, answer);
+        self.answered.note(&Answered { answer: kept, told });
+    }
+}
+
+// Tells whoever waits by a way back, if there is one.
+fn tell_back<R: Wait, N: Drop>(
+    rt: &R,
+    way_back: Option<WayBack<N>>,
+    answer: LoadAnswer<N>,
+) -> Option<UsedWay<N>>
+    ensures { IsToldBack way_back answer result }
+{
+    match way_back {
+        Some(way) => Some(way.tell(rt, answer)),
+        None => None,
     }
 }

@@ -130,10 +130,11 @@ fn answer_next<R: Wait>(
     answer: Option<LoadAnswer<u64>>,
 ) -> Option<usize> {
     let order = loader.next(rt)?;
-    if let (Some(to), Some(answer)) = (order.answer, answer) {
-        drop(to.send(rt, answer));
+    let feed = order.feed;
+    if let Some(answer) = answer {
+        loader.answer(rt, order, answer);
     }
-    Some(order.feed)
+    Some(feed)
 }
 
 /// What whoever waits for the feed `fast` is told, where the loader answers so; and which feed the loader was told.

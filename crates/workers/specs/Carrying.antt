@@ -2,8 +2,9 @@
 use Rattle.std.specs.Prelude.{◌≡◌, ◌≤◌, ◌⊎◌, ◌++◌, ◌∷◌, ℕ, List, [], Option, Result}
 use Rattle.epochs.specs.declared.seats.LoaderAnswer.{LoaderAnswer}
 use Rattle.feed_loader.specs.declared.plan.Plan.{Plan}
-use Rattle.load_orders.specs.Queue.{EndValue}
-use Rattle.load_orders.specs.declared.queue.LoadAnswer.{LoadAnswer}
+use Rattle.load_orders.specs.Telling.{AnsweredValue, IsToldBack, LoaderOrdersValue}
+use Rattle.load_orders.specs.declared.queue.OrderMark.{OrderMark}
+use Rattle.load_orders.specs.declared.ways.LoadAnswer.{LoadAnswer}
 use Rattle.orders.specs.Ordering.{order_fault_number}
 use Rattle.orders.specs.declared.fault.OrderFault.{OrderFault}
 use Rattle.workers.specs.Loading.{Holds, IsOutcome, load_answer}
@@ -18,15 +19,19 @@ module _ {N D : Type 0} (noted : N → ℕ) (are_files : ℕ → D → Type 0) (
       × IsOutcome noted (holds files) plan before outcome after × (answer ≡ load_answer outcome))
       ⊎ ((places ≤ feed) × (after ≡ before) × (answer ≡ LoadAnswer.Refused (order_fault_number OrderFault.UnknownFeed)))
 
-  -- an order of the feed at this place is carried out
-  abbrev pub IsCarriedOut : ℕ → List LoaderAnswer → List LoaderAnswer → Type 0
-  IsCarriedOut feed before after = (answer : LoadAnswer N) × IsLoadOf feed answer before after
+  -- an order is carried out: its own feed is loaded, and by its own way back it is told what came of that very load
+  abbrev pub IsCarriedOut : OrderMark → AnsweredValue N → List LoaderAnswer → List LoaderAnswer → Type 0
+  IsCarriedOut order answered before after = IsToldBack order.way answered.answer answered.told × IsLoadOf order.feed answered.answer before after
 
   -- orders are carried out in turn, each once
-  abbrev pub AreCarriedOut : List ℕ → List LoaderAnswer → List LoaderAnswer → Type 0
-  AreCarriedOut [] before after = after ≡ before
-  AreCarriedOut (feed ∷ feeds) before after = (between : List LoaderAnswer) × IsCarriedOut feed before between × AreCarriedOut feeds between after
+  abbrev pub AreCarriedOut : List OrderMark → List (AnsweredValue N) → List LoaderAnswer → List LoaderAnswer → Type 0
+  AreCarriedOut [] [] before after = after ≡ before
+  AreCarriedOut (order ∷ orders) (answered ∷ rest) before after =
+      (between : List LoaderAnswer) × IsCarriedOut order answered before between × AreCarriedOut orders rest between after
+  AreCarriedOut _ _ before after = ⊥
 
   -- all orders that were taken from the one to the other are
-  abbrev pub CarriesOut : EndValue → EndValue → List LoaderAnswer → List LoaderAnswer → Type 0
-  CarriesOut a b before after = (feeds : List ℕ) × (b.feeds ≡ a.feeds ++ feeds) × AreCarriedOut feeds before after
+  abbrev pub CarriesOut : LoaderOrdersValue N → LoaderOrdersValue N → List LoaderAnswer → List LoaderAnswer → Type 0
+  CarriesOut a b before after =
+      (orders : List OrderMark) × (answered : List (AnsweredValue N)) × (b.taken ≡ a.taken ++ orders) × (b.answered ≡ a.answered ++ answered)
+      × AreCarriedOut orders answered before after

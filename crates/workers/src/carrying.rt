@@ -1,7 +1,9 @@
 //! The loader: order after order.
 
-ghost use Rattle.std.specs.Prelude.{◌≡◌, ◌≤◌, ℕ, Option, Result, length};
+ghost use Rattle.std.specs.Prelude.{◌≡◌, ◌≤◌, ◌∷◌, ◌++◌, [], ℕ, Option, Result, length};
 ghost use Rattle.connections.specs.declared.days.TheConstants.{MAX_DAYS};
+ghost use Rattle.load_orders.specs.Queue.{mark_of};
+ghost use Rattle.load_orders.specs.Telling.{AnsweredValue};
 ghost use Rattle.workers.specs.Carrying.{CarriesOut, IsCarriedOut, IsLoadOf};
 ghost use Rattle.workers.specs.Loading.{IsOutcome, load_answer};
 ghost use Rattle.workers.specs.declared.refusal.LoadRefusal.{LoadRefusal};
@@ -17,7 +19,7 @@ use std::io;
 use std::io::Write;
 use std::sync::Wait;
 
-/// Carries out orders until no more come: the feed of each is loaded once, in turn, and whoever waits for it is told what came of
+/// Carries out orders until no more come: the feed of each is loaded once, in turn, and by its own way back it is told what came of
 /// that. The orders' end and the loader's seat come back.
 pub(crate) fn load_all<R: Wait, N: Drop, T: Versions<Notice = N> + Loads, F: Feeds, E: Write>(
     rt: &R,
@@ -37,7 +39,16 @@ pub(crate) fn load_all<R: Wait, N: Drop, T: Versions<Notice = N> + Loads, F: Fee
         let Some(order) = orders.next(rt) else {
             break;
         };
-        load_feed(rt, alloc, order, shelves, &mut loader, feeds, &mut errors);
+        load_feed(
+            rt,
+            alloc,
+            order,
+            &mut orders,
+            shelves,
+            &mut loader,
+            feeds,
+            &mut errors,
+        );
     }
     (orders, loader, errors)
 }
@@ -47,6 +58,7 @@ fn load_feed<R: Wait, N: Drop, T: Versions<Notice = N> + Loads, F: Feeds, E: Wri
     rt: &R,
     alloc: Global,
     order: Order<N>,
+    orders: &mut LoaderOrders<N>,
     shelves: &T,
     loader: &mut T::Loader,
     feeds: &F,
@@ -54,18 +66,13 @@ fn load_feed<R: Wait, N: Drop, T: Versions<Notice = N> + Loads, F: Feeds, E: Wri
 )
     requires { T.Loads.loads shelves.now loader.old }
     ensures loads { T.Loads.loads shelves.now loader.new }
-    ensures carried { IsCarriedOut T.Versions.noted (F.are_files feeds.now) F.Files.holds (F.is_plan feeds.now) (length (F.named feeds.now))
-        order.feed (T.Loads.answers loader.old) (T.Loads.answers loader.new) }
+    ensures taken { orders.new.taken ≡ orders.old.taken }
+    ensures carried { (answer : AnsweredValue N) × (orders.new.answered ≡ orders.old.answered ++ answer ∷ [])
+        × IsCarriedOut T.Versions.noted (F.are_files feeds.now) F.Files.holds (F.is_plan feeds.now) (length (F.named feeds.now))
+        (mark_of order) answer (T.Loads.answers loader.old) (T.Loads.answers loader.new) }
 {
-    let Order {
-        feed,
-        answer: waiting,
-    } = order;
-    let answer = load_place(rt, alloc, feed, shelves, loader, feeds, errors);
-    if let Some(waiting) = waiting {
-        // It doesn't matter that nobody waits any more.
-        drop(waiting.send(rt, answer));
-    }
+    let answer = load_place(rt, alloc, order.feed, shelves, loader, feeds, errors);
+    orders.answer(rt, order, answer);
 }
 
 // Loads the feed at the place: what came of it. Where there is none, it is refused as an unknown feed.

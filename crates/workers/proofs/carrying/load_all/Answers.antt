@@ -1,4 +1,5 @@
 use Rattle.std.proofs.Common.{length}
+use Rattle.load_orders.specs.Queue.{mark_of}
 use Rattle.workers.proofs.Carried.{carries_also, carries_nothing}
 use Rattle.workers.proofs.carrying.load_all.Goals as goal
 
@@ -24,7 +25,7 @@ loop-preserved g c =
       finite = tt;
       loads = one.loads;
       carried = carries_also g.T.Versions.noted (g.F.Feeds.are_files feeds) g.F.Files.FeedFiles.holds (g.F.Feeds.is_plan feeds)
-          (length (g.F.Feeds.named feeds)) c.args.orders c.loop.orders c.next-in-loop.new.self c.in-Some-next.order.feed
+          (length (g.F.Feeds.named feeds)) c.args.orders c.loop.orders c.next-in-loop.new.self c.load_feed.new.orders (mark_of c.in-Some-next.order)
           (g.T.Loads.answers c.args.loader) (g.T.Loads.answers c.loop.loader) (g.T.Loads.answers c.load_feed.new.loader)
-          c.loop.invariant.carried c.in-Some-next.ensures.taken one.carried;
+          c.loop.invariant.carried c.in-Some-next.ensures.taken c.in-Some-next.ensures.answered one.taken one.carried;
     }

@@ -1,0 +1,27 @@
+-- What the loader tells of the orders that it took.
+use Rattle.std.specs.Prelude.{◌≡◌, ◌⊎◌, ◌∷◌, List, [], Option, Some, None}
+use Rattle.load_orders.specs.Queue.{QueueId}
+use Rattle.load_orders.specs.Ways.{WayId, WayValue}
+use Rattle.load_orders.specs.declared.queue.OrderMark.{OrderMark}
+use Rattle.load_orders.specs.declared.ways.LoadAnswer.{LoadAnswer}
+
+-- an answer, and where it was told, if somebody may wait for it
+pub record AnsweredValue (N : Type 0) : Type 0 where
+  pub answer : LoadAnswer N
+  pub told : Option (WayValue N)
+
+-- the loader's end of a queue
+pub record LoaderOrdersValue (N : Type 0) : Type 0 where
+  pub queue : QueueId
+  pub taken : List OrderMark  -- in order
+  pub answered : List (AnsweredValue N)  -- in order
+
+-- at this way back alone the answer is told, once; or nobody waits there any more, and nothing is
+abbrev pub IsToldAt : {N : Type 0} → WayId → LoadAnswer N → WayValue N → Type 0
+IsToldAt way answer told = (told ≡ record { way = way; answers = answer ∷ [] }) ⊎ (told ≡ record { way = way; answers = [] })
+
+-- whoever waits is told this answer by the order's own way back
+abbrev pub IsToldBack : {N : Type 0} → Option WayId → LoadAnswer N → Option (WayValue N) → Type 0
+IsToldBack (Some way) answer (Some told) = IsToldAt way answer told
+IsToldBack None answer told = told ≡ None
+IsToldBack _ answer told = ⊥

@@ -1,0 +1,37 @@
+//! Lists that contracts alone see, for what goes to another thread.
+
+ghost use Rattle.std.specs.Prelude.{◌≡◌, ◌++◌, ◌∷◌, [], List};
+
+use std::collections::LinkedList;
+use std::marker::Model;
+use timetable::Kept;
+
+/// What was noted, in order. Contracts alone see it: it takes no bytes and owns nothing, so it may go to any thread.
+#[derive(Drop)]
+pub struct Notes<T> {
+    items: Kept<LinkedList<T>>,
+}
+
+impl<T> Model for Notes<T> {
+    ghost Value = { List T };
+
+    ghost view = { λ notes. notes.items.value };
+}
+
+impl<T> Notes<T> {
+    // Nothing yet.
+    pub(crate) fn none() -> Notes<T>
+        ensures { result ≡ [] }
+    {
+        Notes {
+            items: Kept::at(&(), &()),
+        }
+    }
+
+    // Adds what it is lent at the end.
+    pub(crate) fn note(&mut self, item: &T)
+        ensures { self.new ≡ self.old ++ item.now ∷ [] }
+    {
+        self.items = Kept::at(&self.items, item);
+    }
+}

@@ -1,0 +1,160 @@
+//! The way back to whoever waits for a load: one for each order, made for it, for one answer.
+
+ghost use Rattle.std.specs.Prelude.{◌≡◌, ◌∷◌, [], Some, None, IfOk, MatchOption};
+ghost use Rattle.load_orders.specs.Telling.{IsToldAt};
+ghost use Rattle.load_orders.specs.Ways.{heard_at};
+
+use crossbeam_channel::protocol::{Lesson, Outcome, Protocol, Split};
+use crossbeam_channel::{Pass, RuledReceiver, RuledSender, bounded_with};
+use std::alloc::{AllocError, Global};
+use std::collections::LinkedList;
+use std::marker::Model;
+use std::sync::Wait;
+
+/// What came of a load, as it is told to whoever waits for it.
+#[derive(Drop)]
+pub enum LoadAnswer<N> {
+    /// A version was published, of which this is a notice.
+    Published { notice: N },
+    /// A version was published, and there was no memory for a notice of it.
+    Unnoticed,
+    /// The load or its publish was refused, with this number.
+    Refused { refusal: u8 },
+}
+
+/// What an end of a way back knows. No value of it is made.
+pub enum Side<N> {
+    /// The way is new, and this is its one end.
+    Whole,
+    /// What was told there, in order.
+    Telling { told: LinkedList<LoadAnswer<N>> },
+    /// What was heard there, in order.
+    Hearing { heard: LinkedList<LoadAnswer<N>> },
+}
+
+/// The rule of a way back: one end tells, and one hears what was told.
+pub struct OneTells;
+
+impl<N: Drop> Protocol<LoadAnswer<N>, Side<N>> for OneTells {
+    ghost use Rattle.load_orders.specs.Ways.{IsWay, new_way};
+
+    ghost holds = { IsWay };
+
+    ghost first = { new_way };
+}
+
+/// An answer is told, or is heard.
+pub struct Tells;
+
+impl<N: Drop> Outcome<LoadAnswer<N>, Side<N>> for Tells {
+    ghost use Rattle.load_orders.specs.Ways.{IsOneAnswerMore};
+
+    ghost then = { IsOneAnswerMore };
+}
+
+impl<N: Drop> Lesson<LoadAnswer<N>, Side<N>> for Tells {
+    ghost use Rattle.std.specs.Prelude.{⊤};
+
+    ghost fact = { λ view items. ⊤ };
+}
+
+/// A new way has two ends: one that tells, and one that hears.
+pub struct Ends;
+
+impl<N: Drop> Split<Side<N>> for Ends {
+    ghost use Rattle.load_orders.specs.Ways.{unheard, untold};
+
+    ghost left = { λ view. untold };
+
+    ghost right = { λ view. unheard };
+}
+
+/// Where the loader tells what came of an order, once. Contracts see which way it is.
+#[derive(Drop)]
+pub struct WayBack<N: Drop> {
+    sender: RuledSender<LoadAnswer<N>, Side<N>, OneTells, Global>,
+    pass: Pass<LoadAnswer<N>, Side<N>>,
+}
+
+impl<N: Drop> Model for WayBack<N> {
+    ghost use Rattle.std.specs.Prelude.{◌≡◌};
+    ghost use Rattle.crossbeam_channel.specs.Claims.{IsSeatAt, view as view_of};
+    ghost use Rattle.crossbeam_channel.specs.Ends.{sends_on, ruled_capacity};
+    ghost use Rattle.load_orders.specs.Ways.{WayId, untold};
+
+    ghost Value = { WayId };
+
+    ghost view = { λ s. s.pass.table_id };
+
+    ghost invariant = { λ s. IsSeatAt (sends_on s.sender) s.pass × (ruled_capacity (sends_on s.sender) ≡ 1) × (view_of s.pass ≡ untold) };
+}
+
+/// Where whoever waits hears what came of the order. Contracts see which way it is.
+#[derive(Drop)]
+pub struct Awaited<N: Drop> {
+    receiver: RuledReceiver<LoadAnswer<N>, Side<N>, OneTells, Global>,
+    pass: Pass<LoadAnswer<N>, Side<N>>,
+}
+
+impl<N: Drop> Model for Awaited<N> {
+    ghost use Rattle.std.specs.Prelude.{◌≡◌};
+    ghost use Rattle.crossbeam_channel.specs.Claims.{IsSeatAt, view as view_of};
+    ghost use Rattle.crossbeam_channel.specs.Ends.{receives_on};
+    ghost use Rattle.load_orders.specs.Ways.{WayId, unheard};
+
+    ghost Value = { WayId };
+
+    ghost view = { λ s. s.pass.table_id };
+
+    ghost invariant = { λ s. IsSeatAt (receives_on s.receiver) s.pass × (view_of s.pass ≡ unheard) };
+}
+
+/// A way back that was used. Contracts see which, and the answers that were told there, or heard, as its own end knows them.
+#[derive(Drop)]
+pub struct UsedWay<N: Drop> {
+    pass: Pass<LoadAnswer<N>, Side<N>>,
+}
+
+impl<N: Drop> Model for UsedWay<N> {
+    ghost use Rattle.crossbeam_channel.specs.Claims.{view as view_of};
+    ghost use Rattle.load_orders.specs.Ways.{WayValue, answers_of};
+
+    ghost Value = { WayValue N };
+
+    ghost view = { λ s. record { way = s.pass.table_id; answers = answers_of (view_of s.pass) } };
+}
+
+/// A new way back for one answer: where it is told, and where it is heard.
+pub(crate) fn way_back<N: Drop>(alloc: Global) -> Result<(WayBack<N>, Awaited<N>), AllocError>
+    ensures { IfOk result (λ ends. ends.0 ≡ ends.1) }
+{
+    let (sender, receiver, mut pass) = bounded_with(alloc, 1)?;
+    let hearing = sender.another::<Ends>(&mut pass);
+    let awaited = Awaited {
+        receiver,
+        pass: hearing,
+    };
+    Ok((WayBack { sender, pass }, awaited))
+}
+
+impl<N: Drop> WayBack<N> {
+    // Tells whoever waits, if somebody does any more.
+    pub(crate) fn tell<R: Wait>(self, rt: &R, answer: LoadAnswer<N>) -> UsedWay<N>
+        ensures { IsToldAt self answer result }
+    {
+        let WayBack { sender, mut pass } = self;
+        drop(sender.try_send_as::<Tells, R>(rt, &mut pass, answer));
+        UsedWay { pass }
+    }
+}
+
+impl<N: Drop> Awaited<N> {
+    // Waits for the answer. None comes where the other end is gone.
+    pub(crate) fn hear<R: Wait>(self, rt: &R) -> (Option<LoadAnswer<N>>, UsedWay<N>)
+        ensures { result.1 ≡ heard_at self result.0 }
+    {
+        let Awaited { receiver, mut pass } = self;
+        let answer = receiver.recv_as::<Tells, R>(rt, &mut pass).ok();
+        (answer, UsedWay { pass })
+    }
+}
