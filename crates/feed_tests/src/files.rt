@@ -1,9 +1,10 @@
 //! A small feed in memory and in a folder, and what stops its reading.
 
+use crate::failing::{Failing, ORDER};
 use feed_files::{
-    FailedNames, FeedFiles, FileFault, FolderFiles, MemoryFiles, ReadFault, file_up_to, read_tables,
+    FeedFiles, FileFault, FolderFiles, MemoryFiles, ReadFault, file_up_to, read_tables,
 };
-use gtfs_tables::{FaultKind, IdHash, Table, TableFault, Tables};
+use gtfs_tables::{FaultKind, Table, TableFault, Tables};
 use std::alloc::{AllocError, Global};
 use std::fs;
 use std::test::Fail;
@@ -22,18 +23,6 @@ const CALENDAR: &[u8] =
     b"service_id,monday,tuesday,wednesday,thursday,friday,saturday,sunday,start_date,end_date\nS,1,1,1,1,1,1,1,20240115,20240115\n";
 
 const DATES: &[u8] = b"service_id,date,exception_type\nS,20240115,1\n";
-
-// The tables in the order in which their files are read.
-const ORDER: [Table; 8] = [
-    Table::Agency,
-    Table::Stops,
-    Table::Trips,
-    Table::StopTimes,
-    Table::Calendar,
-    Table::CalendarDates,
-    Table::Transfers,
-    Table::Frequencies,
-];
 
 // The feed with both calendars.
 fn feed() -> [(&'static str, &'static [u8]); 6] {
@@ -124,52 +113,19 @@ fn the_first_file_at_fault_is_told(rt: HostRuntime) {
     assert!(rt; tells(answer, Table::Agency, 0, FaultKind::MissingFile));
 }
 
-// Files whose read fails once so many were read.
-#[derive(Drop)]
-struct Failing<'a> {
-    files: MemoryFiles<'a>,
-    left: u64,
-    failures: u64,
-    failed: FailedNames,
-}
-
-impl<'a> FeedFiles for Failing<'a> {
-    ghost use Rattle.std.specs.Prelude.{None};
-
-    ghost failures = { λ files. files.failures };
-
-    ghost failed = { λ files. files.failed };
-
-    ghost holds = { λ files name. None };
-
-    fn read(&mut self, alloc: Global, name: &str) -> Result<Option<Vec<u8>>, FileFault> {
-        if self.left == 0 {
-            self.failures = self.failures.saturating_add(1);
-            self.failed.note(name);
-            return Err(FileFault::Failed);
-        }
-        self.left -= 1;
-        self.files.read(alloc, name)
-    }
-
-    fn id_hash(&self) -> IdHash {
-        self.files.id_hash()
-    }
-}
-
+// Whichever read fails, that file is told. So it is of one that memory is wanting for, which is no failure.
 #[test]
 fn a_read_that_fails_is_told(rt: HostRuntime) {
     let feed = feed();
     for (left, table) in ORDER.into_iter().enumerate() {
-        let mut files = Failing {
-            files: MemoryFiles { files: &feed },
-            left: left as u64,
-            failures: 0,
-            failed: FailedNames::none(),
-        };
+        let mut files = Failing::after(left, &feed, FileFault::Failed);
         let answer = read_tables(rt.alloc(), &mut files);
         assert!(rt; matches!(answer, Err(ReadFault::FileFailed(failed)) if failed == table));
         assert_eq!(rt; files.failures, 1);
+        let mut files = Failing::after(left, &feed, FileFault::OutOfMemory);
+        let answer = read_tables(rt.alloc(), &mut files);
+        assert!(rt; tells(answer, table, 0, FaultKind::OutOfMemory));
+        assert_eq!(rt; files.failures, 0);
     }
 }
 
@@ -178,12 +134,7 @@ fn a_read_that_fails_is_told(rt: HostRuntime) {
 fn a_fault_before_a_read_that_fails_is_told(rt: HostRuntime) {
     let mut feed = feed();
     feed[1].1 = b"stop_id\nA\nA\n";
-    let mut files = Failing {
-        files: MemoryFiles { files: &feed },
-        left: 2,
-        failures: 0,
-        failed: FailedNames::none(),
-    };
+    let mut files = Failing::after(2, &feed, FileFault::Failed);
     let answer = read_tables(rt.alloc(), &mut files);
     assert!(rt; tells(answer, Table::Stops, 2, FaultKind::IdTwice));
     assert_eq!(rt; files.failures, 0);
@@ -194,12 +145,7 @@ fn a_fault_before_a_read_that_fails_is_told(rt: HostRuntime) {
 fn a_read_that_fails_behind_a_missing_calendar_is_told(rt: HostRuntime) {
     let mut feed = feed();
     feed[4].0 = "elsewhere.txt";
-    let mut files = Failing {
-        files: MemoryFiles { files: &feed },
-        left: 5,
-        failures: 0,
-        failed: FailedNames::none(),
-    };
+    let mut files = Failing::after(5, &feed, FileFault::Failed);
     let answer = read_tables(rt.alloc(), &mut files);
     assert!(rt; matches!(answer, Err(ReadFault::FileFailed(Table::CalendarDates))));
     assert_eq!(rt; files.failures, 1);

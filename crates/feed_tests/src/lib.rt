@@ -2,13 +2,15 @@
 //!
 //! Of `gtfs_rows` are `values`, `rows`, `row_faults` and `rows_memory`, of `gtfs_tables` `joining` and `joining_memory`, of `feed_files`
 //! `files`, of `service_days` `days`, of `transfers` `listing`, of `connections` `runs`, of `footpaths` `closing`, and of
-//! `feed_loader` `loading`.
+//! `feed_loader` `loading`. Files that fail, which two of them read, are in `failing`.
 #![tactic(auto)]
 
 #[cfg(test)]
 mod closing;
 #[cfg(test)]
 mod days;
+#[cfg(test)]
+mod failing;
 #[cfg(test)]
 mod files;
 #[cfg(test)]

@@ -2,7 +2,8 @@
 
 ghost use Rattle.std.specs.Prelude.{◌≡◌};
 
-use feed_loader::{FailedNames, FeedFiles, FileFault, LoadFault, MemoryFiles, Plan, Report, load};
+use crate::failing::{Failing, ORDER};
+use feed_loader::{FeedFiles, FileFault, LoadFault, MemoryFiles, Plan, Report, load};
 use footpaths::FootFault;
 use gtfs_tables::{Day, FaultKind, IdHash, Table, TableFault};
 use image_layout::{sample_words, second_sample_words};
@@ -264,57 +265,11 @@ fn faults_are_told(rt: HostRuntime) -> Result<(), Fail> {
     Ok(())
 }
 
-/// Files of which the read of one fails.
-#[derive(Drop)]
-struct Failing<'a> {
-    held: MemoryFiles<'a>,
-    name: &'a str,
-    failures: u64,
-    failed: FailedNames,
-}
-
-impl<'a> FeedFiles for Failing<'a> {
-    ghost use Rattle.std.specs.Prelude.{None};
-
-    ghost failures = { λ files. files.failures };
-
-    ghost failed = { λ files. files.failed };
-
-    ghost holds = { λ files name. None };
-
-    fn read(&mut self, alloc: Global, name: &str) -> Result<Option<Vec<u8>>, FileFault> {
-        if name == self.name {
-            self.failures = self.failures.saturating_add(1);
-            self.failed.note(name);
-            return Err(FileFault::Failed);
-        }
-        self.held.read(alloc, name)
-    }
-
-    fn id_hash(&self) -> IdHash {
-        self.held.id_hash()
-    }
-}
-
-/// Whichever read fails, that file is told, and nothing else.
+/// Whichever read fails, that file is told, and nothing is read after it.
 #[test]
 fn a_read_that_fails_is_told(rt: HostRuntime) -> Result<(), Fail> {
-    for table in [
-        Table::Agency,
-        Table::Stops,
-        Table::Trips,
-        Table::StopTimes,
-        Table::Calendar,
-        Table::CalendarDates,
-        Table::Transfers,
-        Table::Frequencies,
-    ] {
-        let mut files = Failing {
-            held: MemoryFiles { files: &FILES },
-            name: table.file_name(),
-            failures: 0,
-            failed: FailedNames::none(),
-        };
+    for (left, table) in ORDER.into_iter().enumerate() {
+        let mut files = Failing::after(left, &FILES, FileFault::Failed);
         match load(rt.alloc(), &mut files, &one_day()) {
             Ok(_) => panic!(rt; "a feed that can't be read is loaded"),
             Err(fault) => {
@@ -349,7 +304,8 @@ fn refused_growth_is_told(rt: HostRuntime) -> Result<(), Fail> {
     }
 }
 
-/// All files: a station with two stops, a quoted id, a blank row, a day that is taken out, a trip that repeats, and ways between a station's stops.
+/// All files: a station with two stops, a quoted id, a blank row, a day that is taken out, and ways between a station's stops. One trip
+/// repeats by one row, the other by five that overlap: at the seconds 0, 1, 5, 10, 15, 20, 25 and 29.
 const ALL_FILES: [(&str, &[u8]); 8] = [
     ("agency.txt", b"agency_timezone\nEtc/UTC\n"),
     (
@@ -372,7 +328,8 @@ const ALL_FILES: [(&str, &[u8]); 8] = [
     ),
     (
         "frequencies.txt",
-        b"trip_id,start_time,end_time,headway_secs\nT1,09:00:00,09:40:00,1200\n",
+        b"trip_id,start_time,end_time,headway_secs\nT2,09:00:00,09:40:00,1200\nT1,00:00:00,00:00:30,10\n\
+            T1,00:00:05,00:00:30,10\nT1,00:00:00,00:00:20,10\nT1,00:00:10,00:00:30,10\nT1,00:00:01,00:00:30,14\n",
     ),
     (
         "transfers.txt",
@@ -392,12 +349,12 @@ fn refused_growth_over_all_files_is_told(rt: HostRuntime) -> Result<(), Fail> {
         Ok((_image, report)) => {
             let counted = Report {
                 stops: 3,
-                runs: 3,
-                connections: 5,
+                runs: 10,
+                connections: 18,
                 footpaths: 5,
                 lifted: 0,
                 flex: 0,
-                frequencies: 1,
+                frequencies: 2,
                 skipped: 0,
             };
             assert_eq!(rt; report, counted);

@@ -5,6 +5,7 @@ ghost use Rattle.std.specs.Prelude.{◌<◌, length};
 ghost use Rattle.profile_scan.specs.Found.{listed};
 
 use crate::images::{REPEATED, image};
+use crate::in_turn::InTurn;
 use criteria::{Arrival, ArrivalTrips, Criterion, Told, ToldValue};
 use image_layout::{sample_words, second_sample_words};
 use image_verifier::Verified;
@@ -306,21 +307,20 @@ fn both_sources_give_one_answer(rt: HostRuntime) -> Result<(), Fail> {
 }
 
 /// The answer at one call.
-fn answered<C: Criterion>(
+fn answered<S: ConnSource, C: Criterion>(
     alloc: Global,
-    image: &Verified,
+    source: &mut S,
     criterion: &C,
 ) -> Result<Answer<C>, Fail> {
-    let mut source = InPlace::new(image);
     let stops = source.stops();
     ASKED.check(stops).ok().ok_or("the query can be asked")?;
-    Ok(answer_query(alloc, &mut source, criterion, &ASKED)?)
+    Ok(answer_query(alloc, source, criterion, &ASKED)?)
 }
 
 /// The seconds of the footpath from the source to the target, as an answer has it.
 fn walk_beside(alloc: Global, words: &[u32]) -> Result<Option<u32>, Fail> {
     let image = image(alloc, words)?;
-    Ok(answered(alloc, &image, &Arrival)?.walk)
+    Ok(answered(alloc, &mut InPlace::new(&image), &Arrival)?.walk)
 }
 
 #[test]
@@ -352,12 +352,17 @@ fn by_names(rt: HostRuntime) -> Result<(), Fail> {
 }
 
 /// The answer at one call: each departure with its value and its journey, and how many connections were read. Whichever growth is
-/// refused, want of memory is told: then the test ends with `AllocError`.
+/// refused, want of memory is told: then the test ends with `AllocError`. Either way connections were asked for from the last one on,
+/// each in its turn.
 #[test]
 fn refused_growth_is_told(rt: HostRuntime) -> Result<(), Fail> {
     let alloc = rt.alloc();
     let image = image(alloc, &sample_words())?;
-    let answer = answered(alloc, &image, &ArrivalTrips)?;
+    let mut source = InTurn::of(InPlace::new(&image));
+    let answer = answered(alloc, &mut source, &ArrivalTrips);
+    assert!(rt; source.in_turn);
+    let answer = answer?;
+    assert_eq!(rt; source.left, 0);
     assert_eq!(rt; answer.read, 3);
     assert_eq!(rt; answer.departures.len(), 2);
     let direct = &answer.departures[1];

@@ -4,7 +4,7 @@ use crate::images::{REPEATED, image};
 use image_verifier::Verified;
 use journeys::JourneyFault::*;
 use journeys::{JourneyFault, TextFault, check, journey_parse, journey_text};
-use std::alloc::Global;
+use std::alloc::{AllocError, Global};
 use std::test::*;
 use timetable::{Journey, Query, Times};
 
@@ -166,11 +166,15 @@ fn a_text_has_no_end_of_a_line(rt: HostRuntime) {
     assert_eq!(rt; fault, Some(TextFault::BadText));
 }
 
-/// Where a growth is refused (`--fail-alloc`), it is told.
+/// Where a growth is refused, want of memory is told and nothing else: then the test ends with `AllocError`.
 #[test]
-fn want_of_memory(rt: HostRuntime) -> Result<(), Fail> {
-    if let Err(fault) = journey_parse(rt.alloc(), b"ride 0 0 walk 1 1 0") {
-        assert_eq!(rt; fault, TextFault::OutOfMemory);
+fn refused_growth_of_a_text(rt: HostRuntime) -> Result<(), Fail> {
+    match journey_parse(rt.alloc(), b"ride 0 0 walk 1 1 0 ride 2 2") {
+        Ok(journey) => assert_eq!(rt; journey.rides.len(), 2),
+        Err(fault) => {
+            assert_eq!(rt; fault, TextFault::OutOfMemory);
+            return Err(AllocError.into());
+        }
     }
     Ok(())
 }

@@ -10,6 +10,8 @@ mod examples;
 #[cfg(test)]
 mod images;
 #[cfg(test)]
+mod in_turn;
+#[cfg(test)]
 mod judging;
 #[cfg(test)]
 mod listing;

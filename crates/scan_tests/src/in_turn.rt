@@ -1,0 +1,68 @@
+// A source that notes in which order its connections are asked for.
+
+use sources::ConnSource;
+use timetable::{Connection, Footpath};
+
+/// A source, and whether its connections were asked for from the last one down, each once.
+#[derive(Drop)]
+pub struct InTurn<S> {
+    source: S,
+    /// How many weren't asked for yet.
+    pub left: usize,
+    pub in_turn: bool,
+}
+
+impl<S: ConnSource> InTurn<S> {
+    /// The source, of which no connection was asked for.
+    pub fn of(source: S) -> InTurn<S> {
+        InTurn {
+            left: source.len(),
+            in_turn: true,
+            source,
+        }
+    }
+}
+
+impl<S: ConnSource> ConnSource for InTurn<S> {
+    ghost timetable = { λ counted. S.timetable counted.source };
+
+    ghost log = { λ counted. S.log counted.source };
+
+    fn stops(&self) -> u32 {
+        self.source.stops()
+    }
+
+    fn trips(&self) -> u32 {
+        self.source.trips()
+    }
+
+    fn len(&self) -> usize {
+        self.source.len()
+    }
+
+    fn connection(&mut self, i: usize) -> Connection {
+        self.in_turn = self.in_turn && i < self.left && i + 1 == self.left;
+        self.left = i;
+        self.source.connection(i)
+    }
+
+    fn first_at(&self, time: u32) -> usize {
+        self.source.first_at(time)
+    }
+
+    fn walks_into(&self, stop: usize) -> (usize, usize) {
+        self.source.walks_into(stop)
+    }
+
+    fn footpath(&self, place: usize) -> Footpath {
+        self.source.footpath(place)
+    }
+
+    fn footpath_into(&self, stop: usize, place: usize) -> Footpath {
+        self.source.footpath_into(stop, place)
+    }
+
+    ghost legal = { λ counted. S.legal counted.source };
+
+    ghost limits = { λ counted. S.limits counted.source };
+}
