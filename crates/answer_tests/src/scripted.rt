@@ -1,15 +1,20 @@
 //! Sessions whose replies a plain model tells.
 
+ghost use Rattle.std.specs.Prelude.{◌≡◌};
+
 use crate::sessions::{feed_of, image, talked};
 use crate::streams::{Pieces, Taker, taker_of};
-use orders::Gate;
-use session::{Ended, FeedImage, OpenGate, SessionFault};
+use epochs::{Loads, Named, NamedNotice, ShelfLoader, ShelfSeat, Shelves, SoloShelves};
+use orders::{Gate, OrderFault, Ordered, Orders};
+use session::{Counted, Ended, FeedImage, OpenGate, SessionFault, serve};
 use std::alloc::{AllocError, Global};
 use std::io;
 use std::io::{Read, Write};
+use std::marker::Brand;
 use std::sync::Wait;
 use std::sync::atomic::{AtomicU64, Ordering};
 use std::test::Fail;
+use timetable::Trace;
 
 // What a line asks.
 #[derive(Clone, Copy, PartialEq, Eq)]
@@ -64,12 +69,14 @@ const FAST: &str =
 
 const SLOW: &str = "{\"arr\":\"08:30:00\",\"dep\":\"08:00:00\",\"journey\":\"ride 0 1\"}";
 
-// What the model knows: the version that is held, the feeds of all versions so far, and those that may still be ordered.
+// What the model knows: the version that is held, the feeds of all versions so far, those that may still be ordered, and whether an order
+// publishes one.
 #[derive(Drop)]
 struct Shown {
     held: Option<usize>,
     published: Vec<&'static str>,
     left: Vec<&'static str>,
+    is_publishing: bool,
 }
 
 impl Shown {
@@ -80,6 +87,7 @@ impl Shown {
             held: None,
             published,
             left: FEEDS.to_vec(alloc)?,
+            is_publishing: true,
         })
     }
 
@@ -137,8 +145,10 @@ impl Shown {
         let Some(place) = self.left.iter().position(|one| *one == feed) else {
             return refuse(114, "UnknownFeed", replies);
         };
-        self.left.remove(place);
-        self.published.push(feed)?;
+        if self.is_publishing {
+            self.left.remove(place);
+            self.published.push(feed)?;
+        }
         if !waits {
             return write!(replies, "{{\"feed\":\"{feed}\",\"ok\":\"load\"}}\n");
         }
@@ -420,17 +430,26 @@ fn scans_are_left_behind_their_replies(rt: HostRuntime) -> Result<(), Fail> {
     Ok(())
 }
 
-const GROWING: [Asked; 4] = [Asked::Profile, Asked::Pin, Asked::Profile, Asked::Release];
+const GROWING: [Asked; 6] = [
+    Asked::Profile,
+    Asked::Load("slow"),
+    Asked::Pin,
+    Asked::Wait("slow"),
+    Asked::Profile,
+    Asked::Release,
+];
 
-// What is told where memory is wanting at this line: nothing comes of the line.
+// What is told where memory is wanting at this line: nothing comes of the line. A second version was there before, and no order publishes one.
 fn wanting_at(alloc: Global, line: usize) -> Result<Script, AllocError> {
     let mut script = Script::new(alloc)?;
-    for place in 0..4 {
+    script.shown.published.push("slow")?;
+    script.shown.is_publishing = false;
+    for (place, asked) in GROWING.iter().enumerate() {
         if place == line {
-            ask(GROWING[place], &mut script.requests)?;
+            ask(*asked, &mut script.requests)?;
             refuse(116, "OutOfMemory", &mut script.replies)?;
         } else {
-            script.add(GROWING[place])?;
+            script.add(*asked)?;
         }
     }
     Ok(script)
@@ -442,26 +461,116 @@ fn is_told_by_one(scripts: &[Script], replies: &[u8]) -> bool {
         .any(|script| script.replies.as_bytes() == replies)
 }
 
-/// Whichever growth is refused while a line is answered, that line's reply tells want of memory, the others are as ever, and a pin that can't be
-/// told is given back. A refused growth ends the test with `AllocError`.
+// Orders that take no memory. Each that nobody waits for is counted; who waits is told of a version that was there before.
+#[derive(Drop)]
+struct OrderCount<B: Named> {
+    count: usize,
+    notice: Option<NamedNotice<B>>,
+    asked: Trace<Ordered>,
+}
+
+impl<B: Named> Orders for OrderCount<B> {
+    type Notice = NamedNotice<B>;
+
+    ghost asked = { λ orders. orders.asked };
+
+    ghost told = { λ notice. notice.version };
+
+    fn order<R: Wait>(&mut self, _rt: &R, feed: &str) -> Result<(), OrderFault> {
+        self.count = self.count.saturating_add(1);
+        self.asked.note(&Ordered::put(feed, Ok(())));
+        Ok(())
+    }
+
+    fn order_wait<R: Wait>(
+        &mut self,
+        _rt: &R,
+        feed: &str,
+    ) -> Result<(u64, NamedNotice<B>), OrderFault> {
+        let told = match self.notice.take() {
+            Some(notice) => Ok((notice.version(), notice)),
+            None => Err(OrderFault::UnknownFeed),
+        };
+        self.asked.note(&Ordered::waited(feed, &told));
+        told
+    }
+}
+
+// Publishes a second version at these shelves and serves the requests: what came of it, what was written, and how many orders nobody waited for.
+fn counting_at<B: Named, R: Wait>(
+    rt: &R,
+    alloc: Global,
+    shelves: Shelves,
+    loader: ShelfLoader,
+    seat: ShelfSeat,
+    requests: &[u8],
+    taker: Taker,
+) -> Result<(Result<Ended, SessionFault>, Taker, usize), Fail>
+    requires { (shelves ≡ B.table) × (loader.table ≡ B.table) × (seat.table ≡ B.table) }
+{
+    let (shelves, mut loader, mut seat) = SoloShelves::<B>::of(shelves, loader, seat);
+    let Ok((_, Some(notice))) = shelves.publish(rt, &mut loader, image(alloc, 121)?) else {
+        return Err(AllocError.into());
+    };
+    let mut orders = OrderCount {
+        count: 0,
+        notice: Some(notice),
+        asked: Trace::new(),
+    };
+    let mut reader = Counted::new(requests);
+    let mut writer = Counted::new(taker);
+    let ended = serve(
+        rt,
+        alloc,
+        &mut reader,
+        &mut writer,
+        &shelves,
+        &mut seat,
+        &mut orders,
+        &OpenGate,
+    );
+    Ok((ended, writer.into_inner(), orders.count))
+}
+
+// The same at new shelves.
+fn counting<R: Wait>(
+    rt: &R,
+    alloc: Global,
+    requests: &[u8],
+) -> Result<(Result<Ended, SessionFault>, Taker, usize), Fail> {
+    let mut taker = taker_of(alloc, 10_000, true);
+    taker.taken.reserve(10_000)?;
+    let Ok((shelves, loader, mut seats)) = Shelves::new(alloc, image(alloc, 0)?) else {
+        return Err(AllocError.into());
+    };
+    let Some(seat) = seats.pop() else {
+        return Err("a seat".into());
+    };
+    counting_at::<Brand, _>(rt, alloc, shelves, loader, seat, requests, taker)
+}
+
+// How many loads are told of which nobody waits for a version.
+fn loads_told(replies: &[u8]) -> usize {
+    str::from_utf8(replies)
+        .unwrap_or("?")
+        .lines()
+        .filter(|line| *line == "{\"feed\":\"slow\",\"ok\":\"load\"}")
+        .count()
+}
+
+/// Whichever growth is refused while a line is answered, that line's reply tells want of memory, the others are as ever, a pin that can't be
+/// told is given back, and a load that can't be told isn't ordered. A refused growth ends the test with `AllocError`.
 #[test]
 fn refused_growth_is_told_by_a_reply(rt: HostRuntime) -> Result<(), Fail> {
     let alloc: Global = rt.alloc();
-    let whole = wanting_at(alloc, 4)?;
+    let whole = wanting_at(alloc, GROWING.len())?;
     let mut wanting = Vec::new(alloc);
-    for line in 0..4 {
+    for line in 0..GROWING.len() {
         wanting.push(wanting_at(alloc, line)?)?;
     }
-    let mut taker = taker_of(alloc, 10_000, true);
-    taker.taken.reserve(10_000)?;
-    let reader = Pieces {
-        rest: whole.requests.as_bytes(),
-        most: 100,
-        is_failing: false,
-    };
-    let (first, feeds) = (image(alloc, 0)?, Vec::new(alloc));
-    let (ended, taker) = talked(&rt, alloc, first, feeds, reader, taker, &OpenGate)?;
+    let (ended, taker, ordered) = counting(&rt, alloc, whole.requests.as_bytes())?;
     assert!(&rt; ended == Ok(Ended));
+    assert_eq!(&rt; ordered, loads_told(&taker.taken));
     if is_told_by_one(&wanting, &taker.taken) {
         return Err(AllocError.into());
     }

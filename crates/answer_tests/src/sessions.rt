@@ -16,15 +16,21 @@ use std::sync::{Arc, Wait};
 use std::test::Fail;
 use timetable::Trace;
 
-// A writer that counts bytes.
+// What a line is answered that is no JSON, 31 bytes.
+const BAD_JSON: &[u8] = b"{\"error\":111,\"name\":\"BadJson\"}\n";
+
+// A writer that takes replies to lines that are no JSON, and counts them. It fails at any other.
 #[derive(Drop)]
 struct Tally {
-    bytes: u64,
+    replies: u64,
 }
 
 impl Write for Tally {
     fn write(&mut self, piece: &[u8]) -> io::Result<usize> {
-        self.bytes = self.bytes.saturating_add(piece.len() as u64);
+        if piece != BAD_JSON {
+            return Err(io::Error::from(io::ErrorKind::InvalidData));
+        }
+        self.replies = self.replies.saturating_add(1);
         Ok(piece.len())
     }
 
@@ -85,7 +91,7 @@ fn add_line(bytes: &mut Vec<u8>, line: &str) -> Result<(), AllocError> {
     Ok(())
 }
 
-/// The requests of a session: pins, an order, profiles, and lines that are none.
+/// The requests of a session: pins, an order, profiles, and lines that are none, one of them too long.
 fn requests(alloc: Global) -> Result<Vec<u8>, AllocError> {
     let mut bytes = Vec::new(alloc);
     add_line(&mut bytes, PIN)?;
@@ -237,21 +243,21 @@ fn a_writer_that_fails_ends_the_session(rt: HostRuntime) -> Result<(), Fail> {
 
 #[test]
 fn a_million_requests_are_answered(rt: HostRuntime) -> Result<(), Fail> {
-    let (ended, bytes) = tallied(&rt, rt.alloc(), b'\n')?;
+    let (ended, replies) = tallied(&rt, rt.alloc(), b'\n')?;
     assert!(&rt; ended == Err(SessionFault::TooManyRequests));
-    assert_eq!(&rt; bytes, 31_000_000);
+    assert_eq!(&rt; replies, 1_000_000);
     Ok(())
 }
 
 #[test]
 fn a_line_without_end_ends_the_session(rt: HostRuntime) -> Result<(), Fail> {
-    let (ended, bytes) = tallied(&rt, rt.alloc(), b'x')?;
+    let (ended, replies) = tallied(&rt, rt.alloc(), b'x')?;
     assert!(&rt; ended == Err(SessionFault::ReadFailed));
-    assert_eq!(&rt; bytes, 0);
+    assert_eq!(&rt; replies, 0);
     Ok(())
 }
 
-// Serves this byte over and over: what came of it, and how many bytes were written.
+// Serves this byte over and over: what came of it, and how many lines were told to be no JSON.
 fn tallied<R: Wait>(
     rt: &R,
     alloc: Global,
@@ -263,10 +269,10 @@ fn tallied<R: Wait>(
         image(alloc, 0)?,
         Vec::new(alloc),
         Endless { byte, given: 0 },
-        Tally { bytes: 0 },
+        Tally { replies: 0 },
         &OpenGate,
     )?;
-    Ok((ended, tally.bytes))
+    Ok((ended, tally.replies))
 }
 
 const BY_WALKING: &str =
