@@ -3,6 +3,8 @@
 ghost use Rattle.std.specs.Prelude.{◌≡◌};
 ghost use Rattle.journeys.specs.Numbers.{name_of, number_of};
 
+use reasoning::variant_name;
+
 /// Why a journey doesn't count for a query, with the number of the leg or walk.
 ///
 /// Legs count from 0. Walk i is before leg i, the start being walk 0; the last walk, after all legs, has the number of legs.
@@ -50,16 +52,10 @@ impl JourneyFault {
     pub fn name(self) -> &'static str
         ensures { result.now ≡ name_of self }
     {
-        match self {
-            JourneyFault::LegRange(_) => "LegRange",
-            JourneyFault::TwoTrips(_) => "TwoTrips",
-            JourneyFault::NoBoarding(_) => "NoBoarding",
-            JourneyFault::NoAlighting(_) => "NoAlighting",
-            JourneyFault::WalkBroken(_) => "WalkBroken",
-            JourneyFault::TooEarly(_) => "TooEarly",
-            JourneyFault::WrongEnds => "WrongEnds",
-            JourneyFault::OutsideWindow => "OutsideWindow",
-            JourneyFault::NoFootpath(_) => "NoFootpath",
-        }
+        variant_name!(
+            self, JourneyFault:
+            LegRange, TwoTrips, NoBoarding, NoAlighting, WalkBroken, TooEarly, WrongEnds, OutsideWindow,
+            NoFootpath
+        )
     }
 }

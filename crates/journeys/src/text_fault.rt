@@ -4,6 +4,7 @@ ghost use Rattle.std.specs.Prelude.{◌≡◌};
 ghost use Rattle.journeys.specs.Numbers.{text_name, text_number};
 ghost use Rattle.journeys.specs.declared.text_fault.TextFault.TheVariants.{OutOfMemory};
 
+use reasoning::variant_name;
 use std::alloc::{AllocError, AllocFailed};
 
 /// Why a text is read as no journey.
@@ -29,10 +30,7 @@ impl TextFault {
     pub fn name(self) -> &'static str
         ensures { result.now ≡ text_name self }
     {
-        match self {
-            TextFault::BadText => "BadText",
-            TextFault::OutOfMemory => "OutOfMemory",
-        }
+        variant_name!(self, TextFault: BadText, OutOfMemory)
     }
 }
 

@@ -5,6 +5,7 @@
 
 mod kept;
 mod trace;
+mod variant_name;
 
 pub use kept::Kept;
 pub use trace::Trace;

@@ -3,6 +3,7 @@
 ghost use Rattle.std.specs.Prelude.{◌≡◌};
 ghost use Rattle.session.specs.FaultNumber.{session_fault_name, session_fault_number};
 
+use reasoning::variant_name;
 use thiserror::Error;
 
 /// All lines were read and answered.
@@ -14,13 +15,13 @@ pub struct Ended;
 pub enum SessionFault {
     /// A read failed, or a line went on past 16,777,216 bytes.
     #[error("the requests can't be read")]
-    ReadFailed,
+    ReadFailed = 117,
     /// A reply couldn't be written, or not wholly.
     #[error("a reply can't be written")]
-    WriteFailed,
+    WriteFailed = 118,
     /// A million requests were answered, and there are more.
     #[error("there are too many requests")]
-    TooManyRequests,
+    TooManyRequests = 119,
 }
 
 impl SessionFault {
@@ -28,21 +29,13 @@ impl SessionFault {
     pub fn number(self) -> u8
         ensures { result ≡ session_fault_number self }
     {
-        match self {
-            SessionFault::ReadFailed => 117,
-            SessionFault::WriteFailed => 118,
-            SessionFault::TooManyRequests => 119,
-        }
+        self as u8
     }
 
     /// The name by which the fault is told, as `ReadFailed`.
     pub fn name(self) -> &'static str
         ensures { result.now ≡ session_fault_name self }
     {
-        match self {
-            SessionFault::ReadFailed => "ReadFailed",
-            SessionFault::WriteFailed => "WriteFailed",
-            SessionFault::TooManyRequests => "TooManyRequests",
-        }
+        variant_name!(self, SessionFault: ReadFailed, WriteFailed, TooManyRequests)
     }
 }
