@@ -38,9 +38,19 @@ pub fn refused<O: Write>(alloc: Global, output: &mut O, refusal: &Refusal) -> u8
 
 /// Tells of a file that can't be read.
 pub fn unreadable<E: Write>(alloc: Global, errors: &mut E, path: &str) -> u8 {
+    file_failed(alloc, errors, path, "read")
+}
+
+/// Tells of a file that can't be written.
+pub fn unwritable<E: Write>(alloc: Global, errors: &mut E, path: &str) -> u8 {
+    file_failed(alloc, errors, path, "written")
+}
+
+// Tells what can't be done to a file.
+fn file_failed<E: Write>(alloc: Global, errors: &mut E, path: &str, what: &str) -> u8 {
     line_written(
         errors,
-        format!(in alloc; "csa: {path} can't be read\n"),
+        format!(in alloc; "csa: {path} can't be {what}\n"),
         INPUT_OUTPUT,
     )
 }
@@ -48,13 +58,4 @@ pub fn unreadable<E: Write>(alloc: Global, errors: &mut E, path: &str) -> u8 {
 /// Tells that a file of a feed can't be read.
 pub fn unread<O: Write>(alloc: Global, output: &mut O, refusal: &Refusal) -> u8 {
     line_written(output, format!(in alloc; "{refusal}\n"), INPUT_OUTPUT)
-}
-
-/// Tells of a file that can't be written.
-pub fn unwritable<E: Write>(alloc: Global, errors: &mut E, path: &str) -> u8 {
-    line_written(
-        errors,
-        format!(in alloc; "csa: {path} can't be written\n"),
-        INPUT_OUTPUT,
-    )
 }
