@@ -28,6 +28,3 @@ pub use shelves::Shelves;
 pub use solo::{OneSeat, SoloShelves};
 pub use table::VersionTable;
 pub use versions::{Loads, Versions};
-
-#[cfg(test)]
-mod tests;

@@ -16,6 +16,3 @@ pub use fields::{
 pub use header::Header;
 pub use sample::{sample_names, sample_timetable, sample_words, second_sample_words};
 pub use words::{Words, WordsFault};
-
-#[cfg(test)]
-mod tests;

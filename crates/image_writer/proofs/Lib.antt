@@ -2,4 +2,3 @@ pub mod NameCounts
 pub mod Fours
 pub mod Sections
 pub mod Fits
-pub mod Legal

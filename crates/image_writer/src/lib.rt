@@ -7,6 +7,3 @@ mod network;
 mod text;
 
 pub use image::write;
-
-#[cfg(test)]
-mod tests;

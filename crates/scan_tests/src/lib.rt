@@ -18,4 +18,6 @@ mod listing;
 #[cfg(test)]
 mod reading;
 #[cfg(test)]
+mod valuing;
+#[cfg(test)]
 mod wrong_steps;

@@ -13,5 +13,4 @@ pub mod Editions
 pub mod Loadings
 pub mod Says
 pub mod Events
-pub mod Stepping
 pub mod Shown

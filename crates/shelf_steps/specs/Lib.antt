@@ -9,5 +9,3 @@ pub mod Loading
 pub mod Handed
 pub mod Laws
 pub mod Events
-pub mod PlainStore
-pub mod Stepping

@@ -16,19 +16,14 @@ mod noting;
 mod opening;
 mod pinning;
 mod places;
-#[cfg(test)]
-mod plain_store;
 mod rule;
 mod views;
 mod worker_steps;
 
-pub use blocks::editions_of;
+pub use blocks::{editions_of, fill_block};
 pub use edition::Edition;
 pub use loading::{load, try_shelf};
 pub use noting::{join, note};
 pub use pinning::{pin, release};
 pub use places::{Place, ShelfTable};
 pub use views::{Known, LoaderView, View, WorkerView};
-
-#[cfg(test)]
-mod tests;

@@ -15,6 +15,3 @@ pub use names::{Names, TripName};
 pub use network::{Connection, Footpath, Timetable};
 pub use query::{Query, QueryFault};
 pub use reasoning::{Kept, Trace};
-
-#[cfg(test)]
-mod tests;

@@ -20,6 +20,3 @@ pub use laws::{at_rest, every_run, every_step, holding, notices, runs_in_parts};
 pub use machine::Core;
 pub use sequence::run;
 pub use state::{MOST_VERSIONS, Shelf, Worker};
-
-#[cfg(test)]
-mod tests;

@@ -1,5 +1,0 @@
-use Rattle.image_writer.proofs.Legal.{one_stop_is_legal}
-use Rattle.image_writer.proofs.tests.one_stop.Goals as goal
-
-pub returns-clause-legal : goal.returns-clause-legal
-returns-clause-legal c = rw (c.new.ensures.items, c.in_ok-footpaths.ensures.items, c.change.ensures) one_stop_is_legal

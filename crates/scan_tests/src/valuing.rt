@@ -1,0 +1,154 @@
+ghost use Rattle.criteria.specs.Laws.{IsTime, IsSecs};
+
+use criteria::{
+    Arrival, ArrivalTrips, ArrivalTripsWalk, Criterion, CriterionName, TimeTrips, TimeTripsWalk,
+    Told, laws,
+};
+use std::cmp::Ordering;
+
+// The value of two legs with a footpath between them.
+fn two_legs<C: Criterion>(criterion: &C, time: u32, secs: u32) -> C::V
+    requires time { IsTime time }
+    requires secs { IsSecs secs }
+{
+    let arrived = criterion.arrive(time);
+    let last = criterion.ride(&arrived);
+    let walked = criterion.walk(secs, &last);
+    criterion.ride(&walked)
+}
+
+#[test]
+fn a_value_is_folded_from_the_end(rt: HostRuntime) {
+    assert_eq!(rt; two_legs(&Arrival, 30_000, 120), 30_000);
+    assert_eq!(rt;
+        two_legs(&ArrivalTrips, 30_000, 120),
+        TimeTrips {
+            time: 30_000,
+            trips: 2
+        }
+    );
+    assert_eq!(rt;
+        two_legs(&ArrivalTripsWalk, 30_000, 120),
+        TimeTripsWalk {
+            time: 30_000,
+            trips: 2,
+            walked: 120
+        }
+    );
+}
+
+#[test]
+fn the_number_of_trips_stays_at_the_greatest(rt: HostRuntime) {
+    let before = TimeTrips {
+        time: 30_000,
+        trips: 65_534,
+    };
+    let most = TimeTrips {
+        time: 30_000,
+        trips: 65_535,
+    };
+    assert_eq!(rt; ArrivalTrips.ride(&before), most);
+    assert_eq!(rt; ArrivalTrips.ride(&most), most);
+}
+
+#[test]
+fn the_seconds_of_walking_stay_at_the_greatest(rt: HostRuntime) {
+    let far = TimeTripsWalk {
+        time: 30_000,
+        trips: 65_535,
+        walked: 4_294_967_200,
+    };
+    let farthest = TimeTripsWalk {
+        walked: 4_294_967_295,
+        ..far
+    };
+    assert_eq!(rt; ArrivalTripsWalk.walk(95, &far), farthest);
+    assert_eq!(rt; ArrivalTripsWalk.walk(96, &far), farthest);
+    assert_eq!(rt; ArrivalTripsWalk.ride(&far), far);
+}
+
+#[test]
+fn more_trips_with_less_walking_are_neither_worse_nor_better(rt: HostRuntime) {
+    let ridden = TimeTripsWalk {
+        time: 30_000,
+        trips: 2,
+        walked: 60,
+    };
+    let walked = TimeTripsWalk {
+        time: 30_000,
+        trips: 1,
+        walked: 300,
+    };
+    assert!(rt; !ArrivalTripsWalk.no_worse(&ridden, &walked));
+    assert!(rt; !ArrivalTripsWalk.no_worse(&walked, &ridden));
+    assert!(rt; ArrivalTripsWalk.no_worse(&walked, &walked));
+    assert!(rt; ArrivalTripsWalk.list_order(&walked, &ridden) == Ordering::Less);
+}
+
+#[test]
+fn values_are_told(rt: HostRuntime) {
+    let value = TimeTripsWalk {
+        time: 30_000,
+        trips: 2,
+        walked: 60,
+    };
+    let told = ArrivalTripsWalk.tell(&value);
+    assert_eq!(rt; told.arrival, 30_000);
+    assert_eq!(rt; told.trips, Some(2));
+    assert_eq!(rt; told.walked, Some(60));
+    let told = Arrival.tell(&30_000);
+    assert_eq!(rt; told.trips, None);
+    assert_eq!(rt; told.walked, None);
+    assert_eq!(rt;
+        ArrivalTrips.tell(&TimeTrips { time: 1, trips: 2 }).walked,
+        None
+    );
+}
+
+#[test]
+fn criteria_are_named(rt: HostRuntime) {
+    assert_eq!(rt;
+        CriterionName::of("arrival+trips"),
+        Some(CriterionName::ArrivalTrips)
+    );
+    assert_eq!(rt; CriterionName::of("trips"), None);
+    assert_eq!(rt;
+        CriterionName::ArrivalTripsWalk.name(),
+        "arrival+trips+walk"
+    );
+    for name in CriterionName::NAMES {
+        assert!(rt; CriterionName::of(name).is_some(), "{name}");
+    }
+}
+
+#[test]
+fn laws_hold() {
+    laws::arrival_is_the_time(&Arrival);
+    laws::trips_are_counted(&ArrivalTrips);
+    laws::walking_is_counted(&ArrivalTripsWalk);
+    laws::names_differ();
+}
+
+#[test]
+fn earlier_with_more_trips_is_neither_worse_nor_better(rt: HostRuntime) {
+    let early = TimeTrips {
+        time: 30_000,
+        trips: 2,
+    };
+    let direct = TimeTrips {
+        time: 30_600,
+        trips: 1,
+    };
+    assert!(rt; !ArrivalTrips.no_worse(&early, &direct));
+    assert!(rt; !ArrivalTrips.no_worse(&direct, &early));
+    assert!(rt; ArrivalTrips.no_worse(&direct, &direct));
+    assert!(rt; ArrivalTrips.list_order(&early, &direct) == Ordering::Less);
+    assert!(rt; ArrivalTrips.list_order(&direct, &direct) == Ordering::Equal);
+}
+
+#[test]
+fn earlier_is_better(rt: HostRuntime) {
+    assert!(rt; Arrival.no_worse(&30_000, &30_600));
+    assert!(rt; !Arrival.no_worse(&30_600, &30_000));
+    assert!(rt; Arrival.list_order(&30_600, &30_000) == Ordering::Greater);
+}

@@ -1,2 +1,0 @@
-mod clock_texts;
-mod queries;

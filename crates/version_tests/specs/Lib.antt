@@ -1,0 +1,2 @@
+pub mod PlainStore
+pub mod Stepping

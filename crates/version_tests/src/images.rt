@@ -1,0 +1,21 @@
+//! Images that can be told apart.
+
+use image_layout::sample_words;
+use image_verifier::{Verified, verify};
+use std::alloc::{AllocError, Global};
+use std::sync::Arc;
+
+/// The sample, begun at another second.
+pub(crate) fn image(alloc: Global, base: u32) -> Result<Arc<Verified, Global>, AllocError> {
+    let mut words = sample_words().to_vec(alloc)?;
+    if let Some(word) = words.get_mut(7) {
+        *word = base;
+    }
+    let Ok(image) = verify(alloc, words) else {
+        return Err(AllocError);
+    };
+    match Arc::new(alloc, image) {
+        Ok(shared) => Ok(shared),
+        Err(_) => Err(AllocError),
+    }
+}

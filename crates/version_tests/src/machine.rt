@@ -1,0 +1,279 @@
+//! The machine of versions: courses of events with their replies.
+
+use std::alloc::Global;
+use std::process::Abort;
+use std::test::*;
+use version_core::*;
+
+/// Events with their replies, from the start on: a block for each course of events, under a title.
+const COURSES: &str = "\
+# a late take and a new look
+look 1: Looked { version: 1, shelf: 0 }
+open 1: Opened { version: 2, shelf: 1 }
+publish: Published { version: 2 }
+close 0: Closing
+collect 0: Freed
+take 1: Late
+drop 1: Dropped
+look 1: Looked { version: 2, shelf: 1 }
+take 1: Holds { version: 2 }
+
+# a held shelf stays
+look 1: Looked { version: 1, shelf: 0 }
+take 1: Holds { version: 1 }
+open 1: Opened { version: 2, shelf: 1 }
+publish: Published { version: 2 }
+close 0: Closing
+collect 0: Busy { count: 1 }
+ask 1: From { version: 1, edition: 0 }
+drop 1: Dropped
+collect 0: Freed
+
+# a shelf that is used again
+look 1: Looked { version: 1, shelf: 0 }
+open 1: Opened { version: 2, shelf: 1 }
+publish: Published { version: 2 }
+close 0: Closing
+collect 0: Freed
+open 2: Opened { version: 3, shelf: 0 }
+take 1: Late
+collect 0: NotNow
+drop 1: Dropped
+publish: Published { version: 3 }
+look 1: Looked { version: 3, shelf: 0 }
+take 1: Holds { version: 3 }
+ask 1: From { version: 3, edition: 2 }
+
+# a late worker is counted when its shelf is opened again
+look 1: Looked { version: 1, shelf: 0 }
+open 1: Opened { version: 2, shelf: 1 }
+publish: Published { version: 2 }
+close 0: Closing
+collect 0: Freed
+take 1: Late
+open 2: Opened { version: 3, shelf: 0 }
+publish: Published { version: 3 }
+open 3: Opened { version: 4, shelf: 2 }
+publish: Published { version: 4 }
+close 0: Closing
+collect 0: Busy { count: 1 }
+
+# eight versions leave no room
+look 1: Looked { version: 1, shelf: 0 }
+look 2: Looked { version: 1, shelf: 0 }
+take 1: Holds { version: 1 }
+open 2: Opened { version: 2, shelf: 1 }
+publish: Published { version: 2 }
+open 3: Opened { version: 3, shelf: 2 }
+publish: Published { version: 3 }
+open 4: Opened { version: 4, shelf: 3 }
+publish: Published { version: 4 }
+open 5: Opened { version: 5, shelf: 4 }
+publish: Published { version: 5 }
+open 6: Opened { version: 6, shelf: 5 }
+publish: Published { version: 6 }
+open 7: Opened { version: 7, shelf: 6 }
+publish: Published { version: 7 }
+open 8: Opened { version: 8, shelf: 7 }
+publish: Published { version: 8 }
+close 0: Closing
+take 2: Late
+open 9: NoRoom { counts: [2, 0, 0, 0, 0, 0, 0, 0] }
+ask 1: From { version: 1, edition: 0 }
+drop 1: Dropped
+collect 0: Busy { count: 1 }
+drop 2: Dropped
+collect 0: Freed
+open 9: Opened { version: 9, shelf: 0 }
+
+# a notice tells of its version
+open 1: Opened { version: 2, shelf: 1 }
+publish: Published { version: 2 }
+join 1 2: NotNow
+note: Noted { version: 2 }
+join 1 2: Joined { seen: 2 }
+join 1 2: NotNow
+look 1: Looked { version: 2, shelf: 1 }
+
+# who holds a version takes in notices, also of an older one than it has seen; each of two alike is taken in once
+note: Noted { version: 1 }
+note: Noted { version: 1 }
+open 1: Opened { version: 2, shelf: 1 }
+publish: Published { version: 2 }
+note: Noted { version: 2 }
+look 3: Looked { version: 2, shelf: 1 }
+join 3 1: NotNow
+take 3: Holds { version: 2 }
+join 3 1: Joined { seen: 2 }
+join 4 2: Joined { seen: 2 }
+join 4 1: Joined { seen: 2 }
+join 5 1: NotNow";
+
+/// What has no place, and changes nothing.
+const REFUSALS: &str = "\
+# at the start
+look 16: NotNow
+take 16: NotNow
+take 1: NotNow
+drop 16: NotNow
+drop 1: NotNow
+publish: NotNow
+close 8: NotNow
+close 1: NotNow
+close 0: NotNow
+collect 8: NotNow
+collect 1: NotNow
+collect 0: NotNow
+ask 16: NotNow
+ask 1: NotNow
+join 0 1: NotNow
+join 0 0: NotNow
+join 16 1: NotNow
+
+# for a worker that has looked
+look 1: Looked { version: 1, shelf: 0 }
+look 1: NotNow
+drop 1: NotNow
+ask 1: NotNow
+
+# for a worker that holds
+look 1: Looked { version: 1, shelf: 0 }
+take 1: Holds { version: 1 }
+look 1: NotNow
+take 1: NotNow
+
+# while a version is unpublished
+open 1: Opened { version: 2, shelf: 1 }
+open 2: NotNow
+close 0: NotNow
+close 1: NotNow
+collect 1: NotNow
+
+# once a version is published
+open 1: Opened { version: 2, shelf: 1 }
+publish: Published { version: 2 }
+publish: NotNow
+close 1: NotNow
+collect 0: NotNow
+collect 1: NotNow
+
+# for a late worker and a closing shelf
+look 1: Looked { version: 1, shelf: 0 }
+open 1: Opened { version: 2, shelf: 1 }
+publish: Published { version: 2 }
+close 0: Closing
+take 1: Late
+look 1: NotNow
+take 1: NotNow
+ask 1: NotNow
+close 0: NotNow
+
+# once a notice is out
+note: Noted { version: 1 }
+join 0 0: NotNow
+join 0 2: NotNow
+join 16 1: NotNow";
+
+fn number(text: &str) -> Result<u64, Fail> {
+    match text.parse() {
+        Ok(number) => Ok(number),
+        Err(_) => Err(Fail::new("a number of an event")),
+    }
+}
+
+fn event_of(word: &str, first: u64, second: u64) -> Event {
+    let place = first as usize;
+    match word {
+        "look" => Event::Look { worker: place },
+        "take" => Event::Take { worker: place },
+        "drop" => Event::Drop { worker: place },
+        "open" => Event::Open { edition: first },
+        "publish" => Event::Publish,
+        "close" => Event::Close { shelf: place },
+        "collect" => Event::Collect { shelf: place },
+        "ask" => Event::Ask { worker: place },
+        "note" => Event::Note,
+        _ => Event::Join {
+            worker: place,
+            version: second,
+        },
+    }
+}
+
+/// The event that is written, as `join 3 1`.
+fn read_event(text: &str) -> Result<Event, Fail> {
+    let (word, rest) = text.split_once(' ').unwrap_or((text, "0"));
+    let (first, second) = rest.split_once(' ').unwrap_or((rest, "0"));
+    Ok(event_of(word, number(first)?, number(second)?))
+}
+
+/// An event and its reply; or a title.
+fn play_line<R: Abort>(rt: &R, alloc: Global, core: &mut Core, line: &str) -> Result<(), Fail> {
+    let Some((event, expected)) = line.split_once(": ") else {
+        return Ok(());
+    };
+    let reply = core.step(read_event(event)?)?;
+    let reply = format!(in alloc; "{reply:?}")?;
+    assert_eq!(rt; reply.as_str(), expected, "{line}");
+    Ok(())
+}
+
+fn play_block<R: Abort>(rt: &R, alloc: Global, block: &str) -> Result<(), Fail> {
+    let mut core = Core::new(alloc)?;
+    for line in block.split('\n') {
+        play_line(rt, alloc, &mut core, line)?;
+    }
+    Ok(())
+}
+
+#[test]
+fn events_are_answered(rt: HostRuntime) -> Result<(), Fail> {
+    for block in COURSES.split("\n\n") {
+        play_block(&rt, rt.alloc(), block)?;
+    }
+    Ok(())
+}
+
+#[test]
+fn what_has_no_place_is_refused(rt: HostRuntime) -> Result<(), Fail> {
+    for block in REFUSALS.split("\n\n") {
+        play_block(&rt, rt.alloc(), block)?;
+    }
+    Ok(())
+}
+
+/// What the table tells once worker 1 came late to shelf 0, and worker 15 holds version 2 on shelf 1.
+fn tells_where<R: Abort>(rt: &R, core: &Core) {
+    assert!(rt; core.current() == (2, 1) && core.may_open());
+    assert!(rt; core.free_shelf() == Some(2) && core.shelf(8).is_none());
+    assert!(rt; core.shelf(0) == Some(Shelf::Closing { version: 1 }));
+    assert!(rt; core.worker(1) == Some(Worker::Late { shelf: 0 }));
+    assert!(rt; core.seen(15) == Some(2) && core.seen(16).is_none() && core.worker(16).is_none());
+}
+
+#[test]
+fn what_stands_where(rt: HostRuntime) -> Result<(), Fail> {
+    let mut core = Core::new(rt.alloc())?;
+    let events = [
+        Event::Look { worker: 1 },
+        Event::Open { edition: 1 },
+        Event::Publish,
+        Event::Look { worker: 15 },
+        Event::Take { worker: 15 },
+        Event::Close { shelf: 0 },
+        Event::Take { worker: 1 },
+    ];
+    run(rt.alloc(), &mut core, &events)?;
+    tells_where(&rt, &core);
+    Ok(())
+}
+
+#[test]
+fn laws_can_be_called(_rt: HostRuntime) {
+    at_rest();
+    every_run();
+    every_step();
+    holding();
+    notices();
+    runs_in_parts();
+}

@@ -1,0 +1,229 @@
+//! Scripts: what is done at shelves, line after line, and behind a colon what is answered.
+//!
+//! | line | what is done |
+//! |---|---|
+//! | `pin SEAT` | the seat pins |
+//! | `release SEAT` | the seat gives back what it holds |
+//! | `publish SECOND` | the image that begins at this second becomes the next version |
+//! | `join SEAT` | the seat takes in the oldest notice that is out |
+//! | `collect` | each closing shelf is tried |
+//!
+//! Version 1 is the image that begins at second 1.
+
+ghost use Rattle.std.specs.Prelude.{◌≡◌};
+ghost use Rattle.std.specs.List.{All};
+
+use super::stages::{LockedStage, NamedStage, Stage, named_stage};
+use crate::images::image;
+use epochs::*;
+use std::alloc::{AllocError, Global};
+use std::marker::Brand;
+use std::process::Abort;
+use std::sync::Wait;
+use std::test::*;
+
+/// Seven versions are held, and an eighth is current: no ninth comes before one of them is given back.
+const EIGHT_VERSIONS: &str = "\
+pin 0: ok, 1 at 1
+publish 2: 2
+pin 1: ok, 2 at 2
+publish 3: 3
+pin 2: ok, 3 at 3
+publish 4: 4
+pin 3: ok, 4 at 4
+publish 5: 5
+pin 4: ok, 5 at 5
+publish 6: 6
+pin 5: ok, 6 at 6
+publish 7: 7
+pin 6: ok, 7 at 7
+publish 8: 8
+pin 7: ok, 8 at 8
+publish 9: workers are at every shelf: [1, 1, 1, 1, 1, 1, 1, 0]; 9 back
+release 0: ok, nothing
+publish 9: 9
+pin 0: ok, 9 at 9
+release 6: ok, nothing
+pin 6: ok, 9 at 9";
+
+/// A version stays while a seat holds it, and is collected once.
+const A_HELD_VERSION: &str = "\
+release 3: NotPinned, nothing
+pin 3: ok, 1 at 1
+publish 7: 2
+collect: freed [false, false, false, false, false, false, false, false], busy [1, 0, 0, 0, 0, 0, 0, 0]
+pin 3: AlreadyPinned, 1 at 1
+release 3: ok, nothing
+release 3: NotPinned, nothing
+collect: freed [true, false, false, false, false, false, false, false], busy [0, 0, 0, 0, 0, 0, 0, 0]
+collect: freed [false, false, false, false, false, false, false, false], busy [0, 0, 0, 0, 0, 0, 0, 0]
+pin 3: ok, 2 at 7";
+
+/// Two seats take in a notice each, one while it holds an older version, and each notice is overtaken by later publishes.
+const NOTICES: &str = "\
+pin 1: ok, 1 at 1
+publish 2: 2
+publish 3: 3
+publish 4: 4
+join 0: notice of 2; ok, nothing
+join 1: notice of 3; ok, 1 at 1
+pin 0: ok, 4 at 4
+release 1: ok, nothing
+pin 1: ok, 4 at 4";
+
+/// One worker, which takes in the notice of each version.
+const ONE_WORKER: &str = "\
+pin 0: ok, 1 at 1
+release 0: ok, nothing
+publish 2: 2
+collect: freed [true, false, false, false, false, false, false, false], busy [0, 0, 0, 0, 0, 0, 0, 0]
+join 0: notice of 2; ok, nothing
+pin 0: ok, 2 at 2
+release 0: ok, nothing
+publish 3: 3
+collect: freed [false, true, false, false, false, false, false, false], busy [0, 0, 0, 0, 0, 0, 0, 0]
+join 0: notice of 3; ok, nothing
+pin 0: ok, 3 at 3";
+
+/// A seat that pinned elsewhere.
+const OTHER_SHELVES: &str = "\
+release 0: SeatLost, nothing
+pin 0: SeatLost, nothing
+pin 1: ok, 1 at 1";
+
+/// What is played at shelves without a lock.
+#[derive(Clone, Copy)]
+enum Course {
+    EightVersions,
+    HeldVersion,
+    Notices,
+}
+
+impl Course {
+    fn script(self) -> &'static str {
+        match self {
+            Course::EightVersions => EIGHT_VERSIONS,
+            Course::HeldVersion => A_HELD_VERSION,
+            Course::Notices => NOTICES,
+        }
+    }
+}
+
+fn number(text: &str) -> Result<u32, Fail> {
+    match text.parse() {
+        Ok(number) => Ok(number),
+        Err(_) => Err(Fail::new("a number of a script")),
+    }
+}
+
+/// Does what stands before the colon.
+fn answer_of<S: Stage, R: Wait>(rt: &R, stage: &mut S, deed: &str) -> Result<String, Fail> {
+    let (word, rest) = deed.split_once(' ').unwrap_or((deed, "0"));
+    let number = number(rest)?;
+    let answer = match word {
+        "pin" => stage.pin(rt, number as usize),
+        "release" => stage.release(rt, number as usize),
+        "join" => stage.join(rt, number as usize),
+        "publish" => stage.publish(rt, number),
+        _ => stage.collect(rt),
+    };
+    Ok(answer?)
+}
+
+fn play_line<S: Stage, R: Wait + Abort>(rt: &R, stage: &mut S, line: &str) -> Result<(), Fail> {
+    let (deed, expected) = line.split_once(": ").unwrap_or((line, ""));
+    let answer = answer_of(rt, stage, deed)?;
+    assert_eq!(rt; answer.as_str(), expected, "{line}");
+    Ok(())
+}
+
+pub(crate) fn play<S: Stage, R: Wait + Abort>(
+    rt: &R,
+    stage: &mut S,
+    script: &str,
+) -> Result<(), Fail> {
+    for line in script.split('\n') {
+        play_line(rt, stage, line)?;
+    }
+    Ok(())
+}
+
+fn play_under_a_lock<R: Wait + Abort>(rt: &R, alloc: Global, script: &str) -> Result<(), Fail> {
+    let mut stage = LockedStage::new(alloc)?;
+    play(rt, &mut stage, script)
+}
+
+fn play_at<B: Named, R: Wait + Abort>(
+    rt: &R,
+    alloc: Global,
+    shelves: Shelves,
+    loader: ShelfLoader,
+    seats: Vec<ShelfSeat>,
+    course: Course,
+) -> Result<(), Fail>
+    requires { (shelves ≡ B.table) × (loader.table ≡ B.table) × All (λ seat. seat.table ≡ B.table) seats.items }
+{
+    let mut stage = named_stage::<B>(alloc, shelves, loader, seats)?;
+    play(rt, &mut stage, course.script())
+}
+
+fn play_without_a_lock<R: Wait + Abort>(rt: &R, alloc: Global, course: Course) -> Result<(), Fail> {
+    match Shelves::new(alloc, image(alloc, 1)?) {
+        Ok((shelves, loader, seats)) => {
+            play_at::<Brand, R>(rt, alloc, shelves, loader, seats, course)
+        }
+        Err(_) => Err(AllocError.into()),
+    }
+}
+
+fn play_alone<B: Named, R: Wait + Abort>(
+    rt: &R,
+    alloc: Global,
+    shelves: Shelves,
+    loader: ShelfLoader,
+    seat: ShelfSeat,
+) -> Result<(), Fail>
+    requires { (shelves ≡ B.table) × (loader.table ≡ B.table) × (seat.table ≡ B.table) }
+{
+    let (shelves, loader, seat) = SoloShelves::<B>::of(shelves, loader, seat);
+    let mut stage = NamedStage::of(alloc, shelves, loader, Vec::new(alloc));
+    stage.seats.push(seat)?;
+    play(rt, &mut stage, ONE_WORKER)
+}
+
+#[test]
+fn scripts_under_a_lock(rt: HostRuntime) -> Result<(), Fail> {
+    for script in [EIGHT_VERSIONS, A_HELD_VERSION] {
+        play_under_a_lock(&rt, rt.alloc(), script)?;
+    }
+    Ok(())
+}
+
+#[test]
+fn scripts_without_a_lock(rt: HostRuntime) -> Result<(), Fail> {
+    for course in [Course::EightVersions, Course::HeldVersion, Course::Notices] {
+        play_without_a_lock(&rt, rt.alloc(), course)?;
+    }
+    Ok(())
+}
+
+#[test]
+fn a_script_for_one_worker(rt: HostRuntime) -> Result<(), Fail> {
+    let alloc: Global = rt.alloc();
+    match Shelves::new(alloc, image(alloc, 1)?) {
+        Ok((shelves, loader, mut seats)) => match seats.pop() {
+            Some(seat) => play_alone::<Brand, _>(&rt, alloc, shelves, loader, seat),
+            None => Err("seats".into()),
+        },
+        Err(_) => Err(AllocError.into()),
+    }
+}
+
+/// Other shelves know the worker of a seat otherwise than the seat does.
+#[test]
+fn a_seat_of_other_shelves(rt: HostRuntime) -> Result<(), Fail> {
+    let mut stage = LockedStage::new(rt.alloc())?;
+    play(&rt, &mut stage, "pin 0: ok, 1 at 1")?;
+    stage.change_shelves()?;
+    play(&rt, &mut stage, OTHER_SHELVES)
+}
