@@ -1,6 +1,6 @@
 //! Where fields of images stand, and words as bytes.
 
-ghost use Rattle.std.specs.Prelude.{◌≡◌, length};
+ghost use Rattle.std.specs.Prelude.{◌≡◌, ◌<◌, ◌+◌, length};
 ghost use Rattle.image_layout.specs.Places.{IsWhole, header_of};
 ghost use Rattle.image_layout.specs.Shown.{name_of};
 
@@ -69,59 +69,131 @@ fn early_connections() -> [Connection; 3] {
     ]
 }
 
+/// A connection as its fields tell it one by one. Bit 0 of its flags says that one may board, bit 1 that one may alight.
+fn told_by_fields(words: &[u32], i: usize) -> Connection
+    requires whole { IsWhole words.now }
+    requires within { i < (header_of words.now).connections }
+{
+    let flags = flags_at(words, i);
+    Connection {
+        from: from_at(words, i),
+        to: to_at(words, i),
+        dep: dep_at(words, i),
+        arr: arr_at(words, i),
+        trip: trip_at(words, i),
+        board: flags % 2 == 1,
+        alight: flags / 2 == 1,
+    }
+}
+
 #[test]
 fn connections_are_read(rt: HostRuntime) {
     let words = early_words();
-    for (i, wanted) in early_connections().into_iter().enumerate() {
-        assert_eq!(rt; connection_at(&words, i), wanted);
-        assert_eq!(rt; from_at(&words, i), wanted.from);
-        assert_eq!(rt; to_at(&words, i), wanted.to);
-        assert_eq!(rt; dep_at(&words, i), wanted.dep);
-        assert_eq!(rt; arr_at(&words, i), wanted.arr);
-        assert_eq!(rt; trip_at(&words, i), wanted.trip);
-        assert_eq!(rt; flags_at(&words, i), i as u32 + 1);
+    let wanted = early_connections();
+    for i in 0..3 {
+        assert!(rt; connection_at(&words, i) == wanted[i]);
+        assert!(rt; told_by_fields(&words, i) == wanted[i]);
     }
+}
+
+/// Where the footpaths into each of two stops begin, and where they end.
+fn foot_indices(words: &[u32]) -> [u32; 3]
+    requires whole { IsWhole words.now }
+    requires stops { (header_of words.now).stops ≡ 2 }
+{
+    [
+        foot_index_at(words, 0),
+        foot_index_at(words, 1),
+        foot_index_at(words, 2),
+    ]
+}
+
+/// The stops that four footpaths leave.
+fn feet_from(words: &[u32]) -> [u32; 4]
+    requires whole { IsWhole words.now }
+    requires footpaths { (header_of words.now).footpaths ≡ 4 }
+{
+    [
+        foot_from_at(words, 0),
+        foot_from_at(words, 1),
+        foot_from_at(words, 2),
+        foot_from_at(words, 3),
+    ]
+}
+
+/// Their seconds.
+fn feet_secs(words: &[u32]) -> [u32; 4]
+    requires whole { IsWhole words.now }
+    requires footpaths { (header_of words.now).footpaths ≡ 4 }
+{
+    [
+        foot_secs_at(words, 0),
+        foot_secs_at(words, 1),
+        foot_secs_at(words, 2),
+        foot_secs_at(words, 3),
+    ]
+}
+
+/// Where each of four names begins, and where they end.
+fn name_indices(words: &[u32]) -> [u32; 5]
+    requires whole { IsWhole words.now }
+    requires stops { (header_of words.now).stops ≡ 2 }
+    requires trips { (header_of words.now).trips ≡ 2 }
+{
+    [
+        name_index_at(words, 0),
+        name_index_at(words, 1),
+        name_index_at(words, 2),
+        name_index_at(words, 3),
+        name_index_at(words, 4),
+    ]
+}
+
+/// The second name, of four bytes.
+fn second_name(words: &[u32]) -> [u8; 4]
+    requires whole { IsWhole words.now }
+    requires names { 1 < (header_of words.now).stops + (header_of words.now).trips }
+    requires port { length (name_of words.now 1) ≡ 4 }
+{
+    [
+        name_byte_at(words, 1, 0),
+        name_byte_at(words, 1, 1),
+        name_byte_at(words, 1, 2),
+        name_byte_at(words, 1, 3),
+    ]
+}
+
+/// The days of two trips, and their repeats.
+fn days_and_repeats(words: &[u32]) -> [(u32, u32); 2]
+    requires whole { IsWhole words.now }
+    requires trips { (header_of words.now).trips ≡ 2 }
+{
+    [
+        (day_at(words, 0), repeat_at(words, 0)),
+        (day_at(words, 1), repeat_at(words, 1)),
+    ]
 }
 
 #[test]
 fn other_fields_are_read(rt: HostRuntime) {
     let words = early_words();
-    assert_eq!(rt; magic_at(&words), MAGIC);
-    assert_eq!(rt; layout_at(&words), FIRST_LAYOUT);
-    assert_eq!(rt; base_at(&words), -86400);
-    for (stop, index) in [0, 2, 4].into_iter().enumerate() {
-        assert_eq!(rt; foot_index_at(&words, stop), index);
-    }
-    for (place, (from, secs)) in [(0, 120), (1, 300), (0, 240), (1, 90)]
-        .into_iter()
-        .enumerate()
-    {
-        assert_eq!(rt; foot_from_at(&words, place), from);
-        assert_eq!(rt; foot_secs_at(&words, place), secs);
-    }
-    for (name, index) in [0, 0, 4, 6, 9].into_iter().enumerate() {
-        assert_eq!(rt; name_index_at(&words, name), index);
-    }
-    for (byte, letter) in [b'P', b'o', b'r', b't'].into_iter().enumerate() {
-        assert_eq!(rt; name_byte_at(&words, 1, byte), letter);
-    }
-    assert_eq!(rt; day_at(&words, 0), 19691231);
-    assert_eq!(rt; day_at(&words, 1), 19700101);
-    assert_eq!(rt; repeat_at(&words, 0), 0);
-    assert_eq!(rt; repeat_at(&words, 1), 0);
+    assert!(rt; magic_at(&words) == MAGIC);
+    assert!(rt; layout_at(&words) == FIRST_LAYOUT);
+    assert!(rt; base_at(&words) == -86400);
+    assert!(rt; foot_indices(&words) == [0, 2, 4]);
+    assert!(rt; feet_from(&words) == [0, 1, 0, 1]);
+    assert!(rt; feet_secs(&words) == [120, 300, 240, 90]);
+    assert!(rt; name_indices(&words) == [0, 0, 4, 6, 9]);
+    assert!(rt; second_name(&words) == *b"Port");
+    assert!(rt; days_and_repeats(&words) == [(19691231, 0), (19700101, 0)]);
 }
 
 #[test]
 fn repeats_are_read(rt: HostRuntime) {
     let words = repeated_words();
-    assert_eq!(rt; layout_at(&words), LAYOUT);
-    assert_eq!(rt; day_at(&words, 0), 19691231);
-    assert_eq!(rt; day_at(&words, 1), 19700101);
-    assert_eq!(rt; repeat_at(&words, 0), 5);
-    assert_eq!(rt; repeat_at(&words, 1), 0);
-    for (byte, letter) in [b'P', b'o', b'r', b't'].into_iter().enumerate() {
-        assert_eq!(rt; name_byte_at(&words, 1, byte), letter);
-    }
+    assert!(rt; layout_at(&words) == LAYOUT);
+    assert!(rt; days_and_repeats(&words) == [(19691231, 5), (19700101, 0)]);
+    assert!(rt; second_name(&words) == *b"Port");
 }
 
 #[test]
