@@ -12,6 +12,3 @@ pub use orders::{OrderFault, Orders};
 pub use queue::{MOST_WAITING, Order};
 pub use taking::{LoaderOrders, OrderEnd, WorkerOrders, order_queue};
 pub use ways::{LoadAnswer, WayBack};
-
-#[cfg(test)]
-mod tests;

@@ -10,6 +10,3 @@ pub use fault::OrderFault;
 pub use ordered::{Ordered, Outcome};
 pub use scans::{Gate, OpenGate};
 pub use taking::Orders;
-
-#[cfg(test)]
-mod tests;

@@ -21,6 +21,3 @@ pub use running::{WorkersFault, run_workers};
 pub use served::{End, Served};
 pub use serving::serve_client;
 pub use streams::Streams;
-
-#[cfg(test)]
-mod tests;

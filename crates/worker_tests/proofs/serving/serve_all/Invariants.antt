@@ -1,4 +1,4 @@
-use Rattle.workers.proofs.tests.serve_all.Given as goal
+use Rattle.worker_tests.proofs.serving.serve_all.Given as goal
 
 -- the shelves that were just made
 abbrev pub ghosts-run_shelves : goal.ghosts-run_shelves

@@ -1,4 +1,6 @@
-use crate::{Gate, OpenGate, OrderFault, Ordered};
+//! Why an order isn't taken, and a gate that lets everybody in.
+
+use orders::{Gate, OpenGate, OrderFault, Ordered};
 
 #[test]
 fn faults_are_told(rt: HostRuntime) {

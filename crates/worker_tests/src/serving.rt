@@ -2,7 +2,6 @@
 
 ghost use Rattle.std.specs.Prelude.{◌≡◌, ◌≤◌, [], All, length, IfOk};
 
-use super::*;
 use epochs::{ShelfLoader, ShelfSeat, Shelves};
 use feed_files::MemoryFiles;
 use feed_loader::Plan;
@@ -21,6 +20,7 @@ use std::test::Fail;
 use std::thread::Threads;
 use std::time::{Clock, Duration};
 use std::{io, thread};
+use workers::*;
 
 /// The files of a small feed, in which a change at the second stop takes 121 s.
 const FILES: [(&str, &[u8]); 6] = [

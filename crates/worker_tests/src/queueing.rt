@@ -1,5 +1,7 @@
-use crate::{LoadAnswer, LoaderOrders, OrderFault, Orders, WorkerOrders, order_queue};
+//! The queue of load orders, and the way back to who waits.
+
 use epochs::{Answer, Edition, PinFault, Versions};
+use load_orders::{LoadAnswer, LoaderOrders, OrderFault, Orders, WorkerOrders, order_queue};
 use std::alloc::{AllocError, Global};
 use std::process::Abort;
 use std::sync::Wait;
