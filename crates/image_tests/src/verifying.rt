@@ -5,7 +5,7 @@ use image_verifier::*;
 use std::alloc::{AllocError, Global};
 use std::process::Abort;
 use std::test::*;
-use timetable::{Connection, Footpath};
+use timetable::{Connection, Footpath, Timetable, TripName};
 
 /// Four stops, three trips and four connections, flagged 1, 2, 3 and 0, an hour before 1970. Stops 0 and 2 are both called Ham,
 /// stop 1 and trip 1 have empty names.
@@ -66,30 +66,29 @@ fn sample_is_an_image(rt: HostRuntime) -> Result<(), Fail> {
     Ok(())
 }
 
+fn assert_connections<R: Abort>(rt: &R, image: &Verified) {
+    assert!(rt; image.len() == 4);
+    let first = connection((0, 1), (100, 160), 0, true, false);
+    assert!(rt; image.connection(0) == first);
+    let second = connection((2, 3), (100, 130), 1, false, true);
+    assert!(rt; image.connection(1) == second);
+    let third = connection((1, 2), (160, 220), 0, true, true);
+    assert!(rt; image.connection(2) == third);
+    let fourth = connection((3, 0), (300, 400), 2, false, false);
+    assert!(rt; image.connection(3) == fourth);
+}
+
+fn assert_counts<R: Abort>(rt: &R, image: &Verified) {
+    assert!(rt; image.stops() == 4 && image.trips() == 3);
+    assert!(rt; image.base() == -3600);
+    assert!(rt; image.words() == EARLY.as_slice());
+}
+
 #[test]
 fn counts_and_connections_are_read_back(rt: HostRuntime) -> Result<(), Fail> {
     let image = image(rt.alloc(), &EARLY)?;
-    assert_eq!(rt; image.stops(), 4);
-    assert_eq!(rt; image.trips(), 3);
-    assert_eq!(rt; image.len(), 4);
-    assert_eq!(rt; image.base(), -3600);
-    assert_eq!(rt; image.words(), EARLY.as_slice());
-    assert_eq!(rt;
-        image.connection(0),
-        connection((0, 1), (100, 160), 0, true, false)
-    );
-    assert_eq!(rt;
-        image.connection(1),
-        connection((2, 3), (100, 130), 1, false, true)
-    );
-    assert_eq!(rt;
-        image.connection(2),
-        connection((1, 2), (160, 220), 0, true, true)
-    );
-    assert_eq!(rt;
-        image.connection(3),
-        connection((3, 0), (300, 400), 2, false, false)
-    );
+    assert_counts(&rt, &image);
+    assert_connections(&rt, &image);
     Ok(())
 }
 
@@ -110,9 +109,7 @@ fn first_departures_are_found(rt: HostRuntime) -> Result<(), Fail> {
     Ok(())
 }
 
-#[test]
-fn footpaths_are_read_back(rt: HostRuntime) -> Result<(), Fail> {
-    let image = image(rt.alloc(), &EARLY)?;
+fn assert_footpaths<R: Abort>(rt: &R, image: &Verified) {
     let paths = [
         (0, 0, 60),
         (1, 0, 45),
@@ -121,19 +118,29 @@ fn footpaths_are_read_back(rt: HostRuntime) -> Result<(), Fail> {
         (2, 2, 20),
         (3, 3, 15),
     ];
-    assert_eq!(rt; image.footpath_count(), 6);
-    for (place, (from, to, secs)) in paths.iter().enumerate() {
-        let path = Footpath {
-            from: *from,
-            to: *to,
-            secs: *secs,
-        };
-        assert_eq!(rt; image.footpath(place), path, "place {place}");
+    assert!(rt; image.footpath_count() == 6);
+    for place in 0..6 {
+        let (from, to, secs) = paths[place];
+        assert!(rt;
+            image.footpath(place) == Footpath { from, to, secs },
+            "place {place}"
+        );
     }
-    assert_eq!(rt; image.stops(), 4);
-    for (stop, places) in [(0, 2), (2, 4), (4, 5), (5, 6)].iter().enumerate() {
-        assert_eq!(rt; image.walks_into(stop), *places, "stop {stop}");
+}
+
+fn assert_walks<R: Abort>(rt: &R, image: &Verified) {
+    let places = [(0, 2), (2, 4), (4, 5), (5, 6)];
+    assert!(rt; image.stops() == 4);
+    for stop in 0..4 {
+        assert!(rt; image.walks_into(stop) == places[stop], "stop {stop}");
     }
+}
+
+#[test]
+fn footpaths_are_read_back(rt: HostRuntime) -> Result<(), Fail> {
+    let image = image(rt.alloc(), &EARLY)?;
+    assert_footpaths(&rt, &image);
+    assert_walks(&rt, &image);
     Ok(())
 }
 
@@ -221,28 +228,60 @@ fn refused_growth_gives_the_words_back(rt: HostRuntime) -> Result<(), Fail> {
     Ok(())
 }
 
-/// What is asked of each trip: its day and its repeat.
-fn assert_trips<R: Abort>(rt: &R, image: &Verified, trips: &[(u32, u32)]) {
-    assert_eq!(rt; image.trips() as usize, trips.len());
-    for (trip, (day, repeat)) in trips.iter().enumerate() {
-        assert_eq!(rt; image.trip_day(trip), *day, "trip {trip}");
-        assert_eq!(rt; image.trip_repeat(trip), *repeat, "trip {trip}");
+/// What is asked of each of three trips: its day and its repeat.
+fn assert_trips<R: Abort>(rt: &R, image: &Verified, trips: [(u32, u32); 3]) {
+    assert!(rt; image.trips() == 3);
+    for trip in 0..3 {
+        assert!(rt;
+            (image.trip_day(trip), image.trip_repeat(trip)) == trips[trip],
+            "trip {trip}"
+        );
     }
 }
 
 #[test]
 fn days_and_repeats_are_read_back(rt: HostRuntime) -> Result<(), Fail> {
     let first = image(rt.alloc(), &EARLY)?;
-    assert_trips(&rt, &first, &[(20240115, 0), (0, 0), (4294967295, 0)]);
+    assert_trips(&rt, &first, [(20240115, 0), (0, 0), (4294967295, 0)]);
     let second = image(rt.alloc(), &REPEATED)?;
     assert_trips(
         &rt,
         &second,
-        &[(20240115, 7), (0, 0), (4294967295, 4294967295)],
+        [(20240115, 7), (0, 0), (4294967295, 4294967295)],
     );
     assert_eq!(rt; second.find(b"Ham"), Some(0));
     assert_eq!(rt; second.words(), REPEATED.as_slice());
     Ok(())
+}
+
+fn assert_timetable<R: Abort>(rt: &R, image: &Verified, timetable: &Timetable) {
+    assert!(rt; timetable.stops == 4 && timetable.trips == 3);
+    assert!(rt; timetable.connections.len() == 4);
+    assert!(rt; timetable.footpaths.len() == 6 && image.footpath_count() == 6);
+    for place in 0..6 {
+        assert!(rt;
+            image.footpath(place) == timetable.footpaths[place],
+            "place {place}"
+        );
+    }
+}
+
+fn assert_stop_names<R: Abort>(rt: &R, stops: &[String]) {
+    let names = ["Ham", "", "Ham", "Zug am See"];
+    assert!(rt; stops.len() == 4);
+    for stop in 0..4 {
+        assert!(rt; stops[stop].as_str() == names[stop]);
+    }
+}
+
+fn assert_trip_names<R: Abort>(rt: &R, trips: &[TripName]) {
+    let wanted = [(20240115, 7), (0, 0), (4294967295, 4294967295)];
+    assert!(rt; trips.len() == 3);
+    for trip in 0..3 {
+        let (day, repeat) = wanted[trip];
+        let name = &trips[trip];
+        assert!(rt; name.day == day && name.repeat == repeat);
+    }
 }
 
 /// An image comes out as values of their own.
@@ -250,25 +289,10 @@ fn days_and_repeats_are_read_back(rt: HostRuntime) -> Result<(), Fail> {
 fn images_are_unpacked(rt: HostRuntime) -> Result<(), Fail> {
     let image = image(rt.alloc(), &REPEATED)?;
     let (timetable, names) = image.to_timetable(rt.alloc())?;
-    assert_eq!(rt; timetable.stops, 4);
-    assert_eq!(rt; timetable.trips, 3);
-    assert_eq!(rt; timetable.connections.len(), 4);
-    assert_eq!(rt; timetable.footpaths.len(), 6);
-    for (place, path) in timetable.footpaths.iter().enumerate() {
-        assert_eq!(rt; image.footpath(place), *path, "place {place}");
-    }
-    assert_eq!(rt; names.base, -3600);
-    for (stop, name) in names.stops.iter().zip(["Ham", "", "Ham", "Zug am See"]) {
-        assert_eq!(rt; stop.as_str(), name);
-    }
-    for (trip, (day, repeat)) in names
-        .trips
-        .iter()
-        .zip([(20240115, 7), (0, 0), (4294967295, 4294967295)])
-    {
-        assert_eq!(rt; trip.day, day);
-        assert_eq!(rt; trip.repeat, repeat);
-    }
+    assert_timetable(&rt, &image, &timetable);
+    assert!(&rt; names.base == -3600);
+    assert_stop_names(&rt, &names.stops);
+    assert_trip_names(&rt, &names.trips);
     Ok(())
 }
 
