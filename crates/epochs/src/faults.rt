@@ -3,6 +3,7 @@
 ghost use Rattle.std.specs.Prelude.{◌≡◌};
 ghost use Rattle.epochs.specs.FaultNumber.{pin_fault_number, pin_fault_name, publish_fault_number, publish_fault_name};
 
+use reasoning::variant_name;
 use thiserror::Error;
 
 /// Why a pin or a release was refused.
@@ -40,13 +41,7 @@ impl PinFault {
     pub fn name(self) -> &'static str
         ensures { result.now ≡ pin_fault_name self }
     {
-        match self {
-            PinFault::Moved { newest: _ } => "Moved",
-            PinFault::AlreadyPinned => "AlreadyPinned",
-            PinFault::NotPinned => "NotPinned",
-            PinFault::SeatLost => "SeatLost",
-            PinFault::OutOfMemory => "OutOfMemory",
-        }
+        variant_name!(self, PinFault: Moved, AlreadyPinned, NotPinned, SeatLost, OutOfMemory)
     }
 }
 
@@ -79,10 +74,6 @@ impl PublishFault {
     pub fn name(self) -> &'static str
         ensures { result.now ≡ publish_fault_name self }
     {
-        match self {
-            PublishFault::ShelvesFull { counts: _ } => "ShelvesFull",
-            PublishFault::VersionsSpent => "VersionsSpent",
-            PublishFault::OutOfMemory => "OutOfMemory",
-        }
+        variant_name!(self, PublishFault: ShelvesFull, VersionsSpent, OutOfMemory)
     }
 }

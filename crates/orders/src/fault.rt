@@ -3,6 +3,7 @@
 ghost use Rattle.std.specs.Prelude.{◌≡◌};
 ghost use Rattle.orders.specs.Ordering.{order_fault_name, order_fault_number};
 
+use reasoning::variant_name;
 use thiserror::Error;
 
 /// Why an order to load a feed wasn't taken, or no version came of one that was waited for.
@@ -41,12 +42,9 @@ impl OrderFault {
     pub fn name(self) -> &'static str
         ensures { result.now ≡ order_fault_name self }
     {
-        match self {
-            OrderFault::UnknownFeed => "UnknownFeed",
-            OrderFault::OrdersFull => "OrdersFull",
-            OrderFault::OutOfMemory => "OutOfMemory",
-            OrderFault::LoadRefused { refusal: _ } => "LoadRefused",
-            OrderFault::LoaderGone => "LoaderGone",
-        }
+        variant_name!(
+            self, OrderFault:
+            UnknownFeed, OrdersFull, OutOfMemory, LoadRefused, LoaderGone
+        )
     }
 }

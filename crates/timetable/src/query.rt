@@ -1,6 +1,7 @@
 //! What a client asks, and the first thing that is wrong with it.
 
 use crate::limits::TIME_END;
+use reasoning::variant_name;
 use thiserror::Error;
 
 /// What a client asks: from a stop to a stop, departing in a window, arriving by a time. Times are seconds after the base.
@@ -21,13 +22,13 @@ pub struct Query {
 pub enum QueryFault {
     /// The timetable doesn't have the source, or the target.
     #[error("the timetable doesn't have the stop")]
-    UnknownStop,
+    UnknownStop = 31,
     /// The source is the target.
     #[error("source and target are one stop")]
-    SameStop,
+    SameStop = 32,
     /// The window ends before it begins, or the latest arrival is before it, or a time is past those of every timetable.
     #[error("the window can't be")]
-    BadWindow,
+    BadWindow = 33,
 }
 
 impl QueryFault {
@@ -38,22 +39,14 @@ impl QueryFault {
     pub fn number(self) -> u8
         ensures { result ≡ fault_number self }
     {
-        match self {
-            QueryFault::UnknownStop => 31,
-            QueryFault::SameStop => 32,
-            QueryFault::BadWindow => 33,
-        }
+        self as u8
     }
 
     /// The name by which the fault is told, as `UnknownStop`.
     pub fn name(self) -> &'static str
         ensures { result.now ≡ fault_name self }
     {
-        match self {
-            QueryFault::UnknownStop => "UnknownStop",
-            QueryFault::SameStop => "SameStop",
-            QueryFault::BadWindow => "BadWindow",
-        }
+        variant_name!(self, QueryFault: UnknownStop, SameStop, BadWindow)
     }
 }
 
