@@ -3,6 +3,7 @@
 ghost use Rattle.std.specs.Prelude.{◌≡◌};
 ghost use Rattle.footpaths.specs.declared.fault.FootFault.TheVariants.{OutOfMemory};
 
+use reasoning::variant_name;
 use std::alloc::AllocError;
 use thiserror::Error;
 
@@ -11,12 +12,12 @@ use thiserror::Error;
 pub enum FootFault {
     /// A footpath of the closure takes more than `timetable::limits::MAX_WALK_SECS`.
     #[error("a walk takes too long")]
-    WalkTooLong,
+    WalkTooLong = 41,
     /// The closure has more footpaths than `timetable::limits::MAX_FOOTPATHS`.
     #[error("there are too many footpaths")]
-    TooManyFootpaths,
+    TooManyFootpaths = 42,
     #[error("out of memory")]
-    OutOfMemory,
+    OutOfMemory = 43,
 }
 
 impl FootFault {
@@ -27,22 +28,14 @@ impl FootFault {
     pub fn number(self) -> u8
         ensures { result ≡ fault_number self }
     {
-        match self {
-            FootFault::WalkTooLong => 41,
-            FootFault::TooManyFootpaths => 42,
-            FootFault::OutOfMemory => 43,
-        }
+        self as u8
     }
 
     /// The name by which the fault is told.
     pub fn name(self) -> &'static str
         ensures { result.now ≡ fault_name self }
     {
-        match self {
-            FootFault::WalkTooLong => "WalkTooLong",
-            FootFault::TooManyFootpaths => "TooManyFootpaths",
-            FootFault::OutOfMemory => "OutOfMemory",
-        }
+        variant_name!(self, FootFault: WalkTooLong, TooManyFootpaths, OutOfMemory)
     }
 }
 

@@ -3,6 +3,7 @@
 ghost use Rattle.std.specs.Prelude.{◌≡◌};
 ghost use Rattle.gtfs_rows.specs.Told.{fault_name, fault_number, file_name as name_of_file};
 
+use reasoning::variant_name;
 use std::error::Error;
 use std::fmt;
 
@@ -22,24 +23,24 @@ pub enum Table {
 /// What is wrong with a table.
 #[derive(Clone, Copy, Debug, PartialEq, Eq)]
 pub enum FaultKind {
-    MissingFile,
-    MissingColumn,
-    BadUtf8,
-    RowLength,
-    BadTime,
-    BadDate,
-    BadNumber,
-    IdTwice,
-    UnknownId,
-    ZonesDiffer,
-    SequenceTwice,
-    EndWithoutTime,
-    TimeGoesBack,
-    HopWithoutDuration,
-    NotAStop,
-    TooMany,
-    OutOfMemory,
-    BadHeadway,
+    MissingFile = 1,
+    MissingColumn = 2,
+    BadUtf8 = 3,
+    RowLength = 4,
+    BadTime = 5,
+    BadDate = 6,
+    BadNumber = 7,
+    IdTwice = 8,
+    UnknownId = 9,
+    ZonesDiffer = 10,
+    SequenceTwice = 11,
+    EndWithoutTime = 12,
+    TimeGoesBack = 13,
+    HopWithoutDuration = 14,
+    NotAStop = 15,
+    TooMany = 16,
+    OutOfMemory = 17,
+    BadHeadway = 18,
 }
 
 /// A fault of a feed: the file, the record's number (from 1 after the header; 0 is the file) and what is wrong.
@@ -55,52 +56,19 @@ impl FaultKind {
     pub fn number(self) -> u8
         ensures { result ≡ fault_number self }
     {
-        match self {
-            FaultKind::MissingFile => 1,
-            FaultKind::MissingColumn => 2,
-            FaultKind::BadUtf8 => 3,
-            FaultKind::RowLength => 4,
-            FaultKind::BadTime => 5,
-            FaultKind::BadDate => 6,
-            FaultKind::BadNumber => 7,
-            FaultKind::IdTwice => 8,
-            FaultKind::UnknownId => 9,
-            FaultKind::ZonesDiffer => 10,
-            FaultKind::SequenceTwice => 11,
-            FaultKind::EndWithoutTime => 12,
-            FaultKind::TimeGoesBack => 13,
-            FaultKind::HopWithoutDuration => 14,
-            FaultKind::NotAStop => 15,
-            FaultKind::TooMany => 16,
-            FaultKind::OutOfMemory => 17,
-            FaultKind::BadHeadway => 18,
-        }
+        self as u8
     }
 
     /// The name by which the kind is told, as `MissingFile`.
     pub fn name(self) -> &'static str
         ensures { result.now ≡ fault_name self }
     {
-        match self {
-            FaultKind::MissingFile => "MissingFile",
-            FaultKind::MissingColumn => "MissingColumn",
-            FaultKind::BadUtf8 => "BadUtf8",
-            FaultKind::RowLength => "RowLength",
-            FaultKind::BadTime => "BadTime",
-            FaultKind::BadDate => "BadDate",
-            FaultKind::BadNumber => "BadNumber",
-            FaultKind::IdTwice => "IdTwice",
-            FaultKind::UnknownId => "UnknownId",
-            FaultKind::ZonesDiffer => "ZonesDiffer",
-            FaultKind::SequenceTwice => "SequenceTwice",
-            FaultKind::EndWithoutTime => "EndWithoutTime",
-            FaultKind::TimeGoesBack => "TimeGoesBack",
-            FaultKind::HopWithoutDuration => "HopWithoutDuration",
-            FaultKind::NotAStop => "NotAStop",
-            FaultKind::TooMany => "TooMany",
-            FaultKind::OutOfMemory => "OutOfMemory",
-            FaultKind::BadHeadway => "BadHeadway",
-        }
+        variant_name!(
+            self, FaultKind:
+            MissingFile, MissingColumn, BadUtf8, RowLength, BadTime, BadDate, BadNumber, IdTwice,
+            UnknownId, ZonesDiffer, SequenceTwice, EndWithoutTime, TimeGoesBack, HopWithoutDuration,
+            NotAStop, TooMany, OutOfMemory, BadHeadway
+        )
     }
 
     // What is wrong, in words.

@@ -3,17 +3,18 @@
 ghost use Rattle.std.specs.Prelude.{◌≡◌};
 ghost use Rattle.service_days.specs.Faults.{name_of, number_of};
 
+use reasoning::variant_name;
 use thiserror::Error;
 
 /// Why there is no zone, or no start of a day.
 #[derive(Clone, Copy, Debug, PartialEq, Eq, Error)]
 pub enum DayFault {
     #[error("the time zone is refused")]
-    BadZone,
+    BadZone = 21,
     #[error("the day is no civil date, or its noon has no instant")]
-    DayOutOfRange,
+    DayOutOfRange = 22,
     #[error("out of memory")]
-    OutOfMemory,
+    OutOfMemory = 23,
 }
 
 impl DayFault {
@@ -21,21 +22,13 @@ impl DayFault {
     pub fn number(self) -> u8
         ensures { result ≡ number_of self }
     {
-        match self {
-            DayFault::BadZone => 21,
-            DayFault::DayOutOfRange => 22,
-            DayFault::OutOfMemory => 23,
-        }
+        self as u8
     }
 
     /// The name by which refusals are told, as `BadZone`.
     pub fn name(self) -> &'static str
         ensures { result.now ≡ name_of self }
     {
-        match self {
-            DayFault::BadZone => "BadZone",
-            DayFault::DayOutOfRange => "DayOutOfRange",
-            DayFault::OutOfMemory => "OutOfMemory",
-        }
+        variant_name!(self, DayFault: BadZone, DayOutOfRange, OutOfMemory)
     }
 }
