@@ -5,47 +5,32 @@ use Rattle.gtfs_rows.specs.declared.fault.FaultKind.TheVariants as kinds
 use Rattle.gtfs_rows.specs.declared.fault.Table.{Table}
 use Rattle.gtfs_rows.specs.declared.fault.Table.TheVariants as tables
 
--- the number by which a kind is told
-abbrev pub fault_number : FaultKind → ℕ
-fault_number kinds.MissingFile = 1
-fault_number kinds.MissingColumn = 2
-fault_number kinds.BadUtf8 = 3
-fault_number kinds.RowLength = 4
-fault_number kinds.BadTime = 5
-fault_number kinds.BadDate = 6
-fault_number kinds.BadNumber = 7
-fault_number kinds.IdTwice = 8
-fault_number kinds.UnknownId = 9
-fault_number kinds.ZonesDiffer = 10
-fault_number kinds.SequenceTwice = 11
-fault_number kinds.EndWithoutTime = 12
-fault_number kinds.TimeGoesBack = 13
-fault_number kinds.HopWithoutDuration = 14
-fault_number kinds.NotAStop = 15
-fault_number kinds.TooMany = 16
-fault_number kinds.OutOfMemory = 17
-fault_number kinds.BadHeadway = 18
+-- the number and the name by which a kind is told
+abbrev pub fault_told : FaultKind → ℕ × List ℕ
+fault_told kinds.MissingFile = (1, codes "MissingFile")
+fault_told kinds.MissingColumn = (2, codes "MissingColumn")
+fault_told kinds.BadUtf8 = (3, codes "BadUtf8")
+fault_told kinds.RowLength = (4, codes "RowLength")
+fault_told kinds.BadTime = (5, codes "BadTime")
+fault_told kinds.BadDate = (6, codes "BadDate")
+fault_told kinds.BadNumber = (7, codes "BadNumber")
+fault_told kinds.IdTwice = (8, codes "IdTwice")
+fault_told kinds.UnknownId = (9, codes "UnknownId")
+fault_told kinds.ZonesDiffer = (10, codes "ZonesDiffer")
+fault_told kinds.SequenceTwice = (11, codes "SequenceTwice")
+fault_told kinds.EndWithoutTime = (12, codes "EndWithoutTime")
+fault_told kinds.TimeGoesBack = (13, codes "TimeGoesBack")
+fault_told kinds.HopWithoutDuration = (14, codes "HopWithoutDuration")
+fault_told kinds.NotAStop = (15, codes "NotAStop")
+fault_told kinds.TooMany = (16, codes "TooMany")
+fault_told kinds.OutOfMemory = (17, codes "OutOfMemory")
+fault_told kinds.BadHeadway = (18, codes "BadHeadway")
 
--- the name by which a kind is told
+abbrev pub fault_number : FaultKind → ℕ
+fault_number kind = (fault_told kind).0
+
 abbrev pub fault_name : FaultKind → List ℕ
-fault_name kinds.MissingFile = codes "MissingFile"
-fault_name kinds.MissingColumn = codes "MissingColumn"
-fault_name kinds.BadUtf8 = codes "BadUtf8"
-fault_name kinds.RowLength = codes "RowLength"
-fault_name kinds.BadTime = codes "BadTime"
-fault_name kinds.BadDate = codes "BadDate"
-fault_name kinds.BadNumber = codes "BadNumber"
-fault_name kinds.IdTwice = codes "IdTwice"
-fault_name kinds.UnknownId = codes "UnknownId"
-fault_name kinds.ZonesDiffer = codes "ZonesDiffer"
-fault_name kinds.SequenceTwice = codes "SequenceTwice"
-fault_name kinds.EndWithoutTime = codes "EndWithoutTime"
-fault_name kinds.TimeGoesBack = codes "TimeGoesBack"
-fault_name kinds.HopWithoutDuration = codes "HopWithoutDuration"
-fault_name kinds.NotAStop = codes "NotAStop"
-fault_name kinds.TooMany = codes "TooMany"
-fault_name kinds.OutOfMemory = codes "OutOfMemory"
-fault_name kinds.BadHeadway = codes "BadHeadway"
+fault_name kind = (fault_told kind).1
 
 -- the name of a table's file
 abbrev pub file_name : Table → List ℕ

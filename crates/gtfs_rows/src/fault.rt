@@ -65,9 +65,9 @@ impl FaultKind {
     {
         variant_name!(
             self, FaultKind:
-            MissingFile, MissingColumn, BadUtf8, RowLength, BadTime, BadDate, BadNumber, IdTwice, UnknownId,
-            ZonesDiffer, SequenceTwice, EndWithoutTime, TimeGoesBack, HopWithoutDuration, NotAStop, TooMany,
-            OutOfMemory, BadHeadway
+            MissingFile, MissingColumn, BadUtf8, RowLength, BadTime, BadDate, BadNumber, IdTwice,
+            UnknownId, ZonesDiffer, SequenceTwice, EndWithoutTime, TimeGoesBack, HopWithoutDuration,
+            NotAStop, TooMany, OutOfMemory, BadHeadway
         )
     }
 

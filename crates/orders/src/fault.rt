@@ -42,6 +42,9 @@ impl OrderFault {
     pub fn name(self) -> &'static str
         ensures { result.now ≡ order_fault_name self }
     {
-        variant_name!(self, OrderFault: UnknownFeed, OrdersFull, OutOfMemory, LoadRefused, LoaderGone)
+        variant_name!(
+            self, OrderFault:
+            UnknownFeed, OrdersFull, OutOfMemory, LoadRefused, LoaderGone
+        )
     }
 }
