@@ -209,21 +209,6 @@ unfolding repeats_from
 repeats_count day t r [] = refl
 repeats_count day t r (s ∷ starts) = ap (λ n. suc n) (repeats_count day t (r + 1) starts)
 
--- a repeat more
-pub repeats_more : (day : Day) (t k from start : ℕ) (rows : List Frequency) (old mid new : List Run) → IsNext (is_start rows) from start
-    → k ≡ length (starts_before rows from)
-    → mid ≡ old ++ repeats_from day t 0 (starts_before rows from) → new ≡ mid ++ record { day = day; trip = t; repeat = k; start = Some start } ∷ []
-    → new ≡ old ++ repeats_from day t 0 (starts_before rows (start + 1))
-repeats_more day t k from start rows old mid new next count was now =
-    let run : Run = record { day = day; trip = t; repeat = k; start = Some start } in
-    now ∙ ap (λ (rs : List Run). rs ++ run ∷ []) was ∙ append_assoc old (repeats_from day t 0 (starts_before rows from)) (run ∷ [])
-    ∙ ap (λ (rs : List Run). old ++ rs)
-    (sym (ap (repeats_from day t 0) (starts_next rows from start next) ∙ repeats_push day t 0 k start (starts_before rows from) (omega (arith, count))))
-
-pub repeats_start : (day : Day) (t : ℕ) (rows : List Frequency) (old : List Run) → old ≡ old ++ repeats_from day t 0 (starts_before rows 0)
-repeats_start day t rows old = sym (ap (λ xs. old ++ repeats_from day t 0 xs) (starts_none rows) ∙ ap (λ (rs : List Run). old ++ rs) (repeats_none day t 0)
-    ∙ append-nil old)
-
 -- the runs of listed starts, one more
 pub pushed_none : (day : Day) (t : ℕ) (old : List Run) → old ≡ old ++ repeats_from day t 0 []
 pushed_none day t old = sym (ap (λ (rs : List Run). old ++ rs) (repeats_none day t 0) ∙ append-nil old)

@@ -61,7 +61,7 @@ pub(crate) fn next_of_row(row: Frequency, from: u32) -> Option<u32>
 }
 
 // The first start, from a time on, that one of the rows gives.
-pub(crate) fn next_start(rows: &[Frequency], from: u32) -> Option<u32>
+fn next_start(rows: &[Frequency], from: u32) -> Option<u32>
     ensures next { MatchOption result (IsNever (is_start rows.now) from) (IsNext (is_start rows.now) from) }
     ensures room { IfSome result (λ start. start < u32.MAX) }
 {
@@ -83,26 +83,33 @@ fn earlier(one: Option<u32>, other: Option<u32>) -> Option<u32>
     }
 }
 
-// How many starts the rows give, found one after the other.
-fn count_in_turn(rows: &[Frequency]) -> usize
-    ensures { result ≡ length (starts_of rows.now) }
+// The starts that the rows give, rising, each once: found one after the other.
+fn starts_in_turn(alloc: Global, rows: &[Frequency]) -> Result<Vec<u32>, AllocError>
+    ensures { IfOk result (λ starts. starts.items ≡ starts_of rows.now) }
 {
-    let mut count = 0;
+    let mut starts = Vec::new(alloc);
     let mut from = 0;
     while let Some(start) = next_start(rows, from) {
-        count += 1;
+        starts.push(start)?;
         from = start + 1;
     }
-    count
+    Ok(starts)
+}
+
+// The starts that the rows give, rising, each once.
+pub(crate) fn starts_given(alloc: Global, rows: &[Frequency]) -> Result<Vec<u32>, AllocError>
+    ensures { IfOk result (λ starts. starts.items ≡ starts_of rows.now) }
+{
+    if are_many(rows) {
+        return marked_starts(alloc, rows);
+    }
+    starts_in_turn(alloc, rows)
 }
 
 // How many starts the rows give.
 pub(crate) fn count_starts(alloc: Global, rows: &[Frequency]) -> Result<usize, AllocError>
     ensures { IfOk result (λ count. count ≡ length (starts_of rows.now)) }
 {
-    if are_many(rows) {
-        let starts = marked_starts(alloc, rows)?;
-        return Ok(starts.len());
-    }
-    Ok(count_in_turn(rows))
+    let starts = starts_given(alloc, rows)?;
+    Ok(starts.len())
 }

@@ -14,8 +14,7 @@ ghost use Rattle.connections.specs.Runs.{repeats_from, runs_at, runs_from, runs_
 
 use crate::days::ServiceDay;
 use crate::fault::{RunsFault, out_of_memory, too_many};
-use crate::marks::{are_many, marked_starts};
-use crate::repeats::{count_starts, next_start, rows_by_trip};
+use crate::repeats::{count_starts, rows_by_trip, starts_given};
 use gtfs_tables::{Day, Feed, Frequency, Table, Trip};
 use service_days::{DayServices, Services};
 use std::alloc::{AllocError, Global};
@@ -160,11 +159,8 @@ fn add_repeats(
 ) -> Result<(), AllocError>
     ensures { OnOk result (runs.new.items ≡ runs.old.items ++ repeats_from day trip 0 (starts_of rows.now)) }
 {
-    if are_many(rows) {
-        let starts = marked_starts(alloc, rows)?;
-        return add_starts(runs, day, trip, &starts);
-    }
-    add_in_turn(runs, day, trip, rows)
+    let starts = starts_given(alloc, rows)?;
+    add_starts(runs, day, trip, &starts)
 }
 
 // Adds the repeats of a trip on a day: one for each of the starts.
@@ -181,30 +177,6 @@ fn add_starts(runs: &mut Vec<Run>, day: Day, trip: u32, starts: &[u32]) -> Resul
             repeat,
             start: Some(*start),
         })?;
-    }
-    Ok(())
-}
-
-// Adds the repeats of a trip on a day, whose starts are found one after the other.
-fn add_in_turn(
-    runs: &mut Vec<Run>,
-    day: Day,
-    trip: u32,
-    rows: &[Frequency],
-) -> Result<(), AllocError>
-    ensures { OnOk result (runs.new.items ≡ runs.old.items ++ repeats_from day trip 0 (starts_of rows.now)) }
-{
-    let mut repeat = 0u32;
-    let mut from = 0;
-    while let Some(start) = next_start(rows, from) {
-        runs.push(Run {
-            day,
-            trip,
-            repeat,
-            start: Some(start),
-        })?;
-        repeat += 1;
-        from = start + 1;
     }
     Ok(())
 }

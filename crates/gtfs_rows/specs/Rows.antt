@@ -10,6 +10,8 @@ use Rattle.gtfs_rows.specs.Ids.{first_seen, is_given}
 use Rattle.gtfs_rows.specs.Values.{day_of, number_of, time_of}
 use Rattle.gtfs_rows.specs.declared.fault.FaultKind.{FaultKind}
 use Rattle.gtfs_rows.specs.declared.fault.FaultKind.TheVariants as kinds
+use Rattle.gtfs_rows.specs.declared.keyed.Key.{Key}
+use Rattle.gtfs_rows.specs.declared.keyed.Key.TheVariants as keys
 use Rattle.gtfs_rows.specs.declared.rows.AgencyRow.{AgencyRow}
 use Rattle.gtfs_rows.specs.declared.rows.CalendarDateRow.{CalendarDateRow}
 use Rattle.gtfs_rows.specs.declared.rows.CalendarRow.{CalendarRow}
@@ -36,6 +38,12 @@ no_fault places r = None
 
 abbrev pub no_key : Places → Record → Option (List ℕ)
 no_key places r = None
+
+-- the key of the columns that tell the records of a table apart: none, the text of one, those of two behind one another
+abbrev pub key_by : Key → Places → Record → Option (List ℕ)
+key_by keys.Nothing places = λ r. None
+key_by (keys.Column k) places = λ r. Some (value places k r)
+key_by (keys.Columns j k) places = λ r. Some (value places j r ++ value places k r)
 
 -- ---- agency.txt: the time zone, which all records share
 

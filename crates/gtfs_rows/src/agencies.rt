@@ -7,10 +7,10 @@ ghost use Rattle.gtfs_rows.specs.Rows.{SpellsAgency, is_first_zone, judge_agency
 ghost use Rattle.gtfs_rows.specs.Tables.{HoldsAgencies, agency_shape};
 ghost use Rattle.gtfs_rows.specs.declared.fault.Table.TheVariants as files;
 
-use crate::cells::{cell, text_in};
+use crate::cells::{Place, cell, text_in};
 use crate::fault::{FaultKind, Table, TableFault};
 use crate::id_hash::IdHash;
-use crate::reader::{TableRows, read_table};
+use crate::reader::{TableRows, add_row, read_table};
 use crate::rows::AgencyRow;
 use crate::table_file::TableFile;
 use csv::ByteRecord;
@@ -42,19 +42,14 @@ impl TableRows for Agencies {
     fn add(
         &mut self,
         alloc: Global,
-        places: &[Option<usize>],
+        places: &[Place],
         fields: &ByteRecord,
     ) -> Result<(), FaultKind> {
         if !has_zone(&self.rows, cell(fields, places[0])) {
             return Err(FaultKind::ZonesDiffer);
         }
-        let Ok(zone) = text_in(alloc, fields, places[0]) else {
-            return Err(FaultKind::OutOfMemory);
-        };
-        if self.rows.push(AgencyRow { zone }).is_err() {
-            return Err(FaultKind::OutOfMemory);
-        }
-        Ok(())
+        let zone = text_in(alloc, fields, places[0])?;
+        add_row(&mut self.rows, AgencyRow { zone })
     }
 }
 

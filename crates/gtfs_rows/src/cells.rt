@@ -1,12 +1,16 @@
 //! The columns of a table and what a record has in them.
 
-ghost use Rattle.std.specs.Prelude.{◌≡◌, ◌≤◌, length, map, IfOk, IsUtf8, true, false};
+ghost use Rattle.std.specs.Prelude.{◌≡◌, ◌≤◌, length, map, IfErr, IfOk, IsUtf8, true, false};
 ghost use Rattle.std.specs.String.{string_bytes};
 ghost use Rattle.csv.specs.Records.{AllText, fields_of};
 ghost use Rattle.gtfs_rows.specs.Cells.{cell as cell_of, column as column_of, has_required as are_there, places_of, trim_front, trim_spaces};
 
+use crate::fault::FaultKind;
 use csv::ByteRecord;
 use std::alloc::{AllocError, Global};
+
+/// Where a header has a column, if it has it.
+pub(crate) type Place = Option<usize>;
 
 // The text without the spaces at its ends.
 fn trim(text: &[u8]) -> &[u8]
@@ -32,7 +36,7 @@ fn trim_start(text: &[u8]) -> &[u8]
 }
 
 // What a record has in a column, blank where the column is absent.
-pub(crate) fn cell<'a>(fields: &'a ByteRecord, place: Option<usize>) -> &'a [u8]
+pub(crate) fn cell<'a>(fields: &'a ByteRecord, place: Place) -> &'a [u8]
     ensures { result.now ≡ cell_of place (fields_of fields.entry.now) }
 {
     let Some(place) = place else {
@@ -45,7 +49,7 @@ pub(crate) fn cell<'a>(fields: &'a ByteRecord, place: Option<usize>) -> &'a [u8]
 }
 
 // The first column of a name.
-fn column(header: &ByteRecord, name: &[u8]) -> Option<usize>
+fn column(header: &ByteRecord, name: &[u8]) -> Place
     ensures { result ≡ column_of name.now (fields_of header.now) }
 {
     for place in 0..header.len() {
@@ -61,7 +65,7 @@ pub(crate) fn places(
     alloc: Global,
     header: &ByteRecord,
     names: &[&str],
-) -> Result<Vec<Option<usize>>, AllocError>
+) -> Result<Vec<Place>, AllocError>
     ensures { IfOk result (λ v. v.items ≡ places_of (map (λ name. name.now) names.now) (fields_of header.now)) }
 {
     let mut places = Vec::with_capacity(alloc, names.len())?;
@@ -72,7 +76,7 @@ pub(crate) fn places(
 }
 
 // Whether the required columns, which are the first ones, are all there.
-pub(crate) fn has_required(places: &[Option<usize>], required: usize) -> bool
+pub(crate) fn has_required(places: &[Place], required: usize) -> bool
     requires { required ≤ length places.now }
     ensures { result ≡ are_there required places.now }
 {
@@ -101,13 +105,10 @@ pub(crate) fn text_of(alloc: Global, bytes: &[u8]) -> Result<String, AllocError>
 }
 
 // What a record has in a column, as a text of its own.
-pub(crate) fn text_in(
-    alloc: Global,
-    fields: &ByteRecord,
-    place: Option<usize>,
-) -> Result<String, AllocError>
+pub(crate) fn text_in(alloc: Global, fields: &ByteRecord, place: Place) -> Result<String, FaultKind>
     requires { AllText (fields_of fields.now) }
-    ensures { IfOk result (λ s. string_bytes s ≡ cell_of place (fields_of fields.now)) }
+    ensures ok { IfOk result (λ s. string_bytes s ≡ cell_of place (fields_of fields.now)) }
+    ensures err { IfErr result (λ kind. kind ≡ FaultKind.OutOfMemory) }
 {
-    text_of(alloc, cell(fields, place))
+    text_of(alloc, cell(fields, place)).map_err(|_| FaultKind::OutOfMemory)
 }

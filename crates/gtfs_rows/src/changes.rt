@@ -4,20 +4,21 @@ ghost use Rattle.std.specs.Prelude.{◌≡◌, ◌<◌, length, None, Some, IfOk
 ghost use Rattle.csv.specs.Records.{fields_of};
 ghost use Rattle.gtfs_rows.specs.Cells.{cell as cell_of};
 ghost use Rattle.gtfs_rows.specs.Faults.{IsFaultOf, fault_unless};
-ghost use Rattle.gtfs_rows.specs.Rows.{SpellsFrequency, SpellsTransfer, frequency_row_fault, headway_fault, no_fault, no_key, transfer_of, typed_transfer};
+ghost use Rattle.gtfs_rows.specs.Rows.{SpellsFrequency, SpellsTransfer, frequency_row_fault, headway_fault, no_fault, transfer_of, typed_transfer};
 ghost use Rattle.gtfs_rows.specs.Tables.{HoldsFrequencies, HoldsTransfers, frequencies_shape, transfers_shape};
 ghost use Rattle.gtfs_rows.specs.Values.{number_of, time_of};
 ghost use Rattle.gtfs_rows.specs.declared.fault.Table.TheVariants as files;
+ghost use Rattle.gtfs_rows.specs.declared.keyed.Key.TheVariants as keys;
 
-use crate::cells::{cell, text_in};
+use crate::cells::{Place, cell, text_in};
 use crate::fault::{FaultKind, Table, TableFault};
 use crate::id_hash::IdHash;
-use crate::keyed::{Row, read_rows};
+use crate::keyed::{Key, Row, read_rows};
 use crate::rows::{FrequencyRow, TransferKind, TransferRow};
 use crate::table_file::TableFile;
 use crate::values::{Time, number};
 use csv::ByteRecord;
-use std::alloc::{AllocError, Global};
+use std::alloc::Global;
 
 // What a transfer_type says.
 fn typed(text: &[u8]) -> TransferKind
@@ -36,7 +37,7 @@ fn typed(text: &[u8]) -> TransferKind
 }
 
 // What a record says, which is skipped where it names routes or trips.
-fn transfer_kind(fields: &ByteRecord, places: &[Option<usize>]) -> TransferKind
+fn transfer_kind(fields: &ByteRecord, places: &[Place]) -> TransferKind
     requires { 7 < length places.now }
     ensures { result ≡ transfer_of places.now (fields_of fields.now) }
 {
@@ -56,35 +57,19 @@ impl Row for TransferRow {
 
     ghost values = { no_fault };
 
-    ghost key = { no_key };
+    ghost KEY = { keys.Nothing };
 
     ghost spells = { SpellsTransfer };
 
-    fn read(
-        alloc: Global,
-        places: &[Option<usize>],
-        fields: &ByteRecord,
-    ) -> Result<TransferRow, FaultKind> {
-        let Ok(from) = text_in(alloc, fields, places[0]) else {
-            return Err(FaultKind::OutOfMemory);
-        };
-        let Ok(to) = text_in(alloc, fields, places[1]) else {
-            return Err(FaultKind::OutOfMemory);
-        };
+    const KEY: Key = Key::Nothing;
+
+    fn read(alloc: Global, places: &[Place], fields: &ByteRecord) -> Result<Self, FaultKind> {
         Ok(TransferRow {
-            from,
-            to,
+            from: text_in(alloc, fields, places[0])?,
+            to: text_in(alloc, fields, places[1])?,
             kind: transfer_kind(fields, places),
             seconds: number(cell(fields, places[3])),
         })
-    }
-
-    fn key_of(
-        _alloc: Global,
-        _places: &[Option<usize>],
-        _fields: &ByteRecord,
-    ) -> Result<Option<String>, AllocError> {
-        Ok(None)
     }
 }
 
@@ -138,35 +123,23 @@ impl Row for FrequencyRow {
 
     ghost values = { frequency_row_fault };
 
-    ghost key = { no_key };
+    ghost KEY = { keys.Nothing };
 
     ghost spells = { SpellsFrequency };
 
-    fn read(
-        alloc: Global,
-        places: &[Option<usize>],
-        fields: &ByteRecord,
-    ) -> Result<FrequencyRow, FaultKind> {
+    const KEY: Key = Key::Nothing;
+
+    fn read(alloc: Global, places: &[Place], fields: &ByteRecord) -> Result<Self, FaultKind> {
         let start = clock_in(fields, places[1])?;
         let end = clock_in(fields, places[2])?;
         let headway = headway(cell(fields, places[3]))?;
-        let Ok(trip) = text_in(alloc, fields, places[0]) else {
-            return Err(FaultKind::OutOfMemory);
-        };
+        let trip = text_in(alloc, fields, places[0])?;
         Ok(FrequencyRow {
             trip,
             start,
             end,
             headway,
         })
-    }
-
-    fn key_of(
-        _alloc: Global,
-        _places: &[Option<usize>],
-        _fields: &ByteRecord,
-    ) -> Result<Option<String>, AllocError> {
-        Ok(None)
     }
 }
 

@@ -6,7 +6,7 @@ ghost use Rattle.gtfs_rows.specs.Source.{AllRecordsText, IsTableReader, Record, 
 ghost use Rattle.gtfs_rows.specs.Cells.{Places};
 ghost use Rattle.gtfs_rows.specs.Faults.{HoldsFile, HoldsUnder, IsFaultOf, IsFaultUnder, IsFaultless, IsFirstFault, Judge, Shape, length_first};
 
-use crate::cells::{has_required, is_text, places};
+use crate::cells::{Place, has_required, is_text, places};
 use crate::fault::{FaultKind, Table, TableFault};
 use crate::source::{open_table, take_record};
 use csv::{ByteRecord, Reader};
@@ -22,12 +22,7 @@ pub(crate) trait TableRows: Sized + Drop {
     ghost holds: { Places → List Record → Self → Type 0 };
 
     // Takes one record more, or tells what is wrong with it.
-    fn add(
-        &mut self,
-        alloc: Global,
-        places: &[Option<usize>],
-        fields: &ByteRecord,
-    ) -> Result<(), FaultKind>
+    fn add(&mut self, alloc: Global, places: &[Place], fields: &ByteRecord) -> Result<(), FaultKind>
         requires text { AllText (fields_of fields.now) }
         requires wide { length places.now ≡ columns }
         ensures ok { (before : List Record) → holds places.now before self.old → OnOk result
@@ -36,11 +31,22 @@ pub(crate) trait TableRows: Sized + Drop {
             → judge places.now before (fields_of fields.now) ≡ Some kind) };
 }
 
+// Adds a row behind the others.
+pub(crate) fn add_row<R: Drop>(rows: &mut Vec<R>, row: R) -> Result<(), FaultKind>
+    ensures ok { OnOk result (rows.new.items ≡ rows.old.items ++ row ∷ []) }
+    ensures err { IfErr result (λ kind. kind ≡ FaultKind.OutOfMemory) }
+{
+    match rows.push(row) {
+        Ok(()) => Ok(()),
+        Err(_) => Err(FaultKind::OutOfMemory),
+    }
+}
+
 // Takes one record more, whose length is judged first.
 fn add_record<T: TableRows>(
     rows: &mut T,
     alloc: Global,
-    places: &[Option<usize>],
+    places: &[Place],
     width: usize,
     fields: &ByteRecord,
 ) -> Result<(), FaultKind>
@@ -63,7 +69,7 @@ fn add_records<T: TableRows>(
     alloc: Global,
     table: Table,
     reader: &mut Reader<&[u8]>,
-    places: &[Option<usize>],
+    places: &[Place],
     width: usize,
 ) -> Result<T, TableFault>
     requires sound { IsTableReader reader.old }

@@ -4,20 +4,21 @@ ghost use Rattle.std.specs.Prelude.{◌≡◌, ◌+◌, ◌<◌, length, None, S
 ghost use Rattle.csv.specs.Records.{fields_of};
 ghost use Rattle.gtfs_rows.specs.Cells.{cell as cell_of};
 ghost use Rattle.gtfs_rows.specs.Faults.{IsFaultOf, fault_unless};
-ghost use Rattle.gtfs_rows.specs.Rows.{SpellsCalendar, SpellsCalendarDate, calendar_date_fault, calendar_fault, exception_of, flag_of, service_day_key, service_key, weekday as weekday_of, weekdays_of};
+ghost use Rattle.gtfs_rows.specs.Rows.{SpellsCalendar, SpellsCalendarDate, calendar_date_fault, calendar_fault, exception_of, flag_of, weekday as weekday_of, weekdays_of};
 ghost use Rattle.gtfs_rows.specs.Tables.{HoldsCalendar, HoldsCalendarDates, calendar_dates_shape, calendar_shape};
 ghost use Rattle.gtfs_rows.specs.Values.{day_of, number_of};
 ghost use Rattle.gtfs_rows.specs.declared.fault.Table.TheVariants as files;
+ghost use Rattle.gtfs_rows.specs.declared.keyed.Key.TheVariants as keys;
 
-use crate::cells::{cell, text_in};
+use crate::cells::{Place, cell, text_in};
 use crate::fault::{FaultKind, Table, TableFault};
 use crate::id_hash::IdHash;
-use crate::keyed::{Row, read_rows};
+use crate::keyed::{Key, Row, read_rows};
 use crate::rows::{CalendarDateRow, CalendarRow, Exception};
 use crate::table_file::TableFile;
 use crate::values::{Day, number};
 use csv::ByteRecord;
-use std::alloc::{AllocError, Global};
+use std::alloc::Global;
 
 // The date in a column.
 fn day_in(fields: &ByteRecord, place: Option<usize>) -> Result<Day, FaultKind>
@@ -28,7 +29,7 @@ fn day_in(fields: &ByteRecord, place: Option<usize>) -> Result<Day, FaultKind>
 }
 
 // Whether a service runs on the weekday of a column.
-fn weekday(fields: &ByteRecord, places: &[Option<usize>], column: usize) -> Option<bool>
+fn weekday(fields: &ByteRecord, places: &[Place], column: usize) -> Option<bool>
     requires { column < length places.now }
     ensures { result ≡ weekday_of places.now (fields_of fields.now) column }
 {
@@ -40,7 +41,7 @@ fn weekday(fields: &ByteRecord, places: &[Option<usize>], column: usize) -> Opti
 }
 
 // The weekdays, Monday first.
-fn weekdays(fields: &ByteRecord, places: &[Option<usize>]) -> Option<[bool; 7]>
+fn weekdays(fields: &ByteRecord, places: &[Place]) -> Option<[bool; 7]>
     requires { 7 < length places.now }
     ensures { result ≡ weekdays_of places.now (fields_of fields.now) }
 {
@@ -71,37 +72,25 @@ impl Row for CalendarRow {
 
     ghost values = { calendar_fault };
 
-    ghost key = { service_key };
+    ghost KEY = { keys.Column 0 };
 
     ghost spells = { SpellsCalendar };
 
-    fn read(
-        alloc: Global,
-        places: &[Option<usize>],
-        fields: &ByteRecord,
-    ) -> Result<CalendarRow, FaultKind> {
+    const KEY: Key = Key::Column(0);
+
+    fn read(alloc: Global, places: &[Place], fields: &ByteRecord) -> Result<Self, FaultKind> {
         let Some(weekdays) = weekdays(fields, places) else {
             return Err(FaultKind::BadNumber);
         };
         let start = day_in(fields, places[8])?;
         let end = day_in(fields, places[9])?;
-        let Ok(service) = text_in(alloc, fields, places[0]) else {
-            return Err(FaultKind::OutOfMemory);
-        };
+        let service = text_in(alloc, fields, places[0])?;
         Ok(CalendarRow {
             service,
             weekdays,
             start,
             end,
         })
-    }
-
-    fn key_of(
-        alloc: Global,
-        places: &[Option<usize>],
-        fields: &ByteRecord,
-    ) -> Result<Option<String>, AllocError> {
-        Ok(Some(text_in(alloc, fields, places[0])?))
     }
 }
 
@@ -136,38 +125,23 @@ impl Row for CalendarDateRow {
 
     ghost values = { calendar_date_fault };
 
-    ghost key = { service_day_key };
+    ghost KEY = { keys.Columns 0 1 };
 
     ghost spells = { SpellsCalendarDate };
 
-    fn read(
-        alloc: Global,
-        places: &[Option<usize>],
-        fields: &ByteRecord,
-    ) -> Result<CalendarDateRow, FaultKind> {
+    const KEY: Key = Key::Columns(0, 1);
+
+    fn read(alloc: Global, places: &[Place], fields: &ByteRecord) -> Result<Self, FaultKind> {
         let day = day_in(fields, places[1])?;
         let Some(exception) = exception(cell(fields, places[2])) else {
             return Err(FaultKind::BadNumber);
         };
-        let Ok(service) = text_in(alloc, fields, places[0]) else {
-            return Err(FaultKind::OutOfMemory);
-        };
+        let service = text_in(alloc, fields, places[0])?;
         Ok(CalendarDateRow {
             service,
             day,
             exception,
         })
-    }
-
-    fn key_of(
-        alloc: Global,
-        places: &[Option<usize>],
-        fields: &ByteRecord,
-    ) -> Result<Option<String>, AllocError> {
-        let mut key = text_in(alloc, fields, places[0])?;
-        let date = text_in(alloc, fields, places[1])?;
-        key.push_str(date.as_str())?;
-        Ok(Some(key))
     }
 }
 

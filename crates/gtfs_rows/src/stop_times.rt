@@ -12,17 +12,17 @@ ghost use Rattle.gtfs_rows.specs.Tables.{HoldsStopTimes, stop_times_shape};
 ghost use Rattle.gtfs_rows.specs.Values.{number_of};
 ghost use Rattle.gtfs_rows.specs.declared.fault.Table.TheVariants as files;
 
-use crate::cells::cell;
+use crate::cells::{Place, cell};
 use crate::fault::{FaultKind, Table, TableFault};
 use crate::id_hash::IdHash;
 use crate::ids::place_of;
-use crate::reader::{TableRows, read_table};
+use crate::reader::{TableRows, add_row, read_table};
 use crate::rows::StopTimeRow;
 use crate::table_file::TableFile;
 use crate::values::{Time, number};
 use csv::ByteRecord;
 use indexmap::IndexSet;
-use std::alloc::{AllocError, Global};
+use std::alloc::Global;
 
 /// The rows of `stop_times.txt`, and the ids that they name by place: of trips, and of stops. Each id is there once, in
 /// the order in which they are first seen.
@@ -92,7 +92,7 @@ fn add_stop_time(
     times: &mut StopTimes,
     alloc: Global,
     likely: Option<u32>,
-    places: &[Option<usize>],
+    places: &[Place],
     fields: &ByteRecord,
 ) -> Result<Option<u32>, FaultKind>
     requires text { AllText (fields_of fields.now) }
@@ -118,9 +118,7 @@ fn add_stop_time(
         board: available(cell(fields, places[5])),
         alight: available(cell(fields, places[6])),
     };
-    if times.rows.push(row).is_err() {
-        return Err(FaultKind::OutOfMemory);
-    }
+    add_row(&mut times.rows, row)?;
     Ok(stop)
 }
 
@@ -141,14 +139,15 @@ fn follower(followers: &[u32], place: u32) -> Option<u32> {
 }
 
 // Notes what followed a place. Each place has an entry once it was followed or came later than one that was.
-fn note_follower(followers: &mut Vec<u32>, place: u32, next: u32) -> Result<(), AllocError> {
+fn note_follower(followers: &mut Vec<u32>, place: u32, next: u32) -> Result<(), FaultKind>
+    ensures { IfErr result (λ kind. kind ≡ FaultKind.OutOfMemory) }
+{
     let at = place as usize;
     if at < followers.len() {
         followers[at] = next;
         return Ok(());
     }
-    followers.push(next)?;
-    Ok(())
+    add_row(followers, next)
 }
 
 impl TableRows for StopTimesRead {
@@ -161,7 +160,7 @@ impl TableRows for StopTimesRead {
     fn add(
         &mut self,
         alloc: Global,
-        places: &[Option<usize>],
+        places: &[Place],
         fields: &ByteRecord,
     ) -> Result<(), FaultKind> {
         let likely = follower(&self.followers, self.last);
@@ -169,9 +168,7 @@ impl TableRows for StopTimesRead {
         let Some(stop) = stop else {
             return Ok(());
         };
-        if note_follower(&mut self.followers, self.last, stop).is_err() {
-            return Err(FaultKind::OutOfMemory);
-        }
+        note_follower(&mut self.followers, self.last, stop)?;
         self.last = stop;
         Ok(())
     }

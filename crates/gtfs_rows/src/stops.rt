@@ -1,22 +1,23 @@
 //! stops.txt and trips.txt, whose records have ids.
 
 ghost use Rattle.std.specs.Prelude.{◌≡◌, ◌≢◌, None, Some, IfOk, IfErr, count_by};
-ghost use Rattle.gtfs_rows.specs.Rows.{SpellsStop, SpellsTrip, location_of, no_fault, stop_key, trip_key};
+ghost use Rattle.gtfs_rows.specs.Rows.{SpellsStop, SpellsTrip, location_of, no_fault};
 ghost use Rattle.gtfs_rows.specs.Tables.{HoldsStopsWithin, HoldsTripsWithin, IsStopsFault, IsTripsFault, is_stop};
 ghost use Rattle.gtfs_rows.specs.Values.{number_of};
 ghost use Rattle.gtfs_rows.specs.declared.fault.Table.TheVariants as files;
+ghost use Rattle.gtfs_rows.specs.declared.keyed.Key.TheVariants as keys;
 ghost use Rattle.gtfs_rows.specs.declared.read.TheConstants.{MAX_STOPS, MAX_TRIPS};
 
-use crate::cells::{cell, text_in};
+use crate::cells::{Place, cell, text_in};
 use crate::fault::{FaultKind, Table, TableFault};
 use crate::id_hash::IdHash;
-use crate::keyed::{Row, read_rows};
+use crate::keyed::{Key, Row, read_rows};
 use crate::read::{MAX_STOPS, MAX_TRIPS};
 use crate::rows::{Location, StopRow, TripRow};
 use crate::table_file::TableFile;
 use crate::values::number;
 use csv::ByteRecord;
-use std::alloc::{AllocError, Global};
+use std::alloc::Global;
 
 // The place that a location_type says.
 fn location(text: &[u8]) -> Location
@@ -36,35 +37,18 @@ impl Row for StopRow {
 
     ghost values = { no_fault };
 
-    ghost key = { stop_key };
+    ghost KEY = { keys.Column 0 };
 
     ghost spells = { SpellsStop };
 
-    fn read(
-        alloc: Global,
-        places: &[Option<usize>],
-        fields: &ByteRecord,
-    ) -> Result<StopRow, FaultKind> {
-        let Ok(id) = text_in(alloc, fields, places[0]) else {
-            return Err(FaultKind::OutOfMemory);
-        };
-        let Ok(parent) = text_in(alloc, fields, places[2]) else {
-            return Err(FaultKind::OutOfMemory);
-        };
-        let location = location(cell(fields, places[1]));
-        Ok(StopRow {
-            id,
-            location,
-            parent,
-        })
-    }
+    const KEY: Key = Key::Column(0);
 
-    fn key_of(
-        alloc: Global,
-        places: &[Option<usize>],
-        fields: &ByteRecord,
-    ) -> Result<Option<String>, AllocError> {
-        Ok(Some(text_in(alloc, fields, places[0])?))
+    fn read(alloc: Global, places: &[Place], fields: &ByteRecord) -> Result<Self, FaultKind> {
+        Ok(StopRow {
+            id: text_in(alloc, fields, places[0])?,
+            location: location(cell(fields, places[1])),
+            parent: text_in(alloc, fields, places[2])?,
+        })
     }
 }
 
@@ -119,30 +103,17 @@ impl Row for TripRow {
 
     ghost values = { no_fault };
 
-    ghost key = { trip_key };
+    ghost KEY = { keys.Column 1 };
 
     ghost spells = { SpellsTrip };
 
-    fn read(
-        alloc: Global,
-        places: &[Option<usize>],
-        fields: &ByteRecord,
-    ) -> Result<TripRow, FaultKind> {
-        let Ok(service) = text_in(alloc, fields, places[0]) else {
-            return Err(FaultKind::OutOfMemory);
-        };
-        let Ok(id) = text_in(alloc, fields, places[1]) else {
-            return Err(FaultKind::OutOfMemory);
-        };
-        Ok(TripRow { service, id })
-    }
+    const KEY: Key = Key::Column(1);
 
-    fn key_of(
-        alloc: Global,
-        places: &[Option<usize>],
-        fields: &ByteRecord,
-    ) -> Result<Option<String>, AllocError> {
-        Ok(Some(text_in(alloc, fields, places[1])?))
+    fn read(alloc: Global, places: &[Place], fields: &ByteRecord) -> Result<Self, FaultKind> {
+        Ok(TripRow {
+            service: text_in(alloc, fields, places[0])?,
+            id: text_in(alloc, fields, places[1])?,
+        })
     }
 }
 

@@ -1,6 +1,7 @@
 -- The first fault of several steps, and what is linked by maps that hold what the ids name.
-use Rattle.std.proofs.Common.{◌≡◌, ℕ, ◌+◌, ◌<◌, List, [], ◌∷◌, length, map, Bool, false, Option, Some, None, refl, ap, ◌∙◌, arith, subst, slice_index_or}
+use Rattle.std.proofs.Common.{◌≡◌, ℕ, ◌+◌, ◌<◌, List, [], ◌∷◌, length, Bool, false, Option, Some, None, refl, ap, ◌∙◌, arith, subst, slice_index_or}
 use Rattle.std.specs.Prelude.{Result, Ok, Err, IfOk, IfErr, ◌≢◌}
+use Rattle.std.specs.Global.{Vec}
 use Rattle.std.specs.Option.{option_or}
 use Rattle.gtfs_rows.specs.declared.fault.FaultKind.TheVariants.{OutOfMemory}
 use Rattle.gtfs_rows.specs.declared.fault.Table.TheVariants as kinds
@@ -9,15 +10,18 @@ use Rattle.gtfs_rows.specs.declared.rows.FrequencyRow.{FrequencyRow}
 use Rattle.gtfs_rows.specs.declared.rows.StopRow.{StopRow}
 use Rattle.gtfs_rows.specs.declared.rows.StopTimeRow.{StopTimeRow}
 use Rattle.gtfs_rows.specs.declared.rows.TripRow.{TripRow}
-use Rattle.gtfs_tables.specs.Feeds.{IsLinked, IsNamingFault, feed_trip, feed_trips, rows_by, stop_time_fault, stops_by, trip_fault, trips_by}
+use Rattle.gtfs_tables.specs.Feeds.{IsFirstFault, IsLinked, IsNamingFault, feed_trip, feed_trips, first_fault, linked_by}
+use Rattle.gtfs_tables.specs.Feeds.{rows_by, stop_time_fault, stops_by, trip_fault, trips_by}
 use Rattle.gtfs_tables.specs.First.{first_below, first_fault_of}
-use Rattle.gtfs_tables.specs.Order.{IsInOrder, row_of, turns_by, turns_in}
-use Rattle.gtfs_tables.specs.Rows.{frequency_fault, is_flex_id, linked_fault, linked_row, parent_fault}
+use Rattle.gtfs_tables.specs.Names.{stop_named, trip_named}
+use Rattle.gtfs_tables.specs.Order.{IsInOrder, turns_by, turns_in}
+use Rattle.gtfs_tables.specs.Rows.{frequency_fault, is_flex_id, is_repeated, linked_fault, parent_fault, transfer_fault}
 use Rattle.gtfs_tables.specs.declared.joining.Links.{Links}
 use Rattle.gtfs_tables.specs.declared.names.Named.{Named}
 use Rattle.gtfs_tables.specs.declared.order.RowOrder.{RowOrder}
 use Rattle.gtfs_tables.specs.declared.order.Turn.{Turn}
 use Rattle.gtfs_tables.specs.declared.tables.Tables.{Tables}
+use Rattle.gtfs_tables.specs.declared.tables.Transfer.{Transfer}
 use Rattle.gtfs_tables.specs.declared.tables.Trip.{Trip}
 use Rattle.gtfs_tables.proofs.TurnFacts.{turns_kept}
 
@@ -71,26 +75,15 @@ pub times_told : (named : List ℕ → Option Named) (placed : List ℕ → Opti
 times_told named placed t ts r e h = subst (λ (x : List (Option ℕ)). first_fault_of kinds.StopTimes
     (λ row. linked_fault x (stops_by named t) (is_flex_id t.stop_times.rows.items row.trip) row) t.stop_times.rows.items ≡ r) e h
 
-pub rows_told : (named : List ℕ → Option Named) (placed : List ℕ → Option ℕ) (t : Tables) (ts : List (Option ℕ)) (ss : List (Option Named))
-    (order : RowOrder)
-    (rows : List StopTimeRow) → ts ≡ trips_by placed t → ss ≡ stops_by named t
-    → rows ≡ map (λ turn. linked_row ts ss (is_flex_id t.stop_times.rows.items (row_of t.stop_times.rows.items turn.number).trip)
-    (row_of t.stop_times.rows.items turn.number)) (turns_in ts order t.stop_times.rows.items)
-    → rows ≡ rows_by named placed t (turns_in (trips_by placed t) order t.stop_times.rows.items)
-rows_told named placed t ts ss order rows e s h =
-    subst (λ (x : List (Option Named)). rows ≡ map (λ turn. linked_row (trips_by placed t) x
-    (is_flex_id t.stop_times.rows.items (row_of t.stop_times.rows.items turn.number).trip) (row_of t.stop_times.rows.items turn.number))
-    (turns_in (trips_by placed t) order t.stop_times.rows.items)) s
-    (subst (λ (x : List (Option ℕ)). rows ≡ map (λ turn. linked_row x ss
-    (is_flex_id t.stop_times.rows.items (row_of t.stop_times.rows.items turn.number).trip) (row_of t.stop_times.rows.items turn.number))
-    (turns_in x order t.stop_times.rows.items)) e h)
+pub rows_told : (ts trips : List (Option ℕ)) (ss stops : List (Option Named)) (order : RowOrder) (rows made : List StopTimeRow)
+    → ts ≡ trips → ss ≡ stops → made ≡ linked_by ts ss order rows → made ≡ linked_by trips stops order rows
+rows_told ts trips ss stops order rows made e s h = subst (λ (x : List (Option Named)). made ≡ linked_by trips x order rows) s
+    (subst (λ (x : List (Option ℕ)). made ≡ linked_by x ss order rows) e h)
 
 -- the linked rows' turns are those of the rows
-pub turns_told : (named : List ℕ → Option Named) (placed : List ℕ → Option ℕ) (t : Tables) (order : RowOrder) (rows : List StopTimeRow)
-    → rows ≡ rows_by named placed t (turns_in (trips_by placed t) order t.stop_times.rows.items)
-    → turns_by order rows ≡ turns_in (trips_by placed t) order t.stop_times.rows.items
-turns_told named placed t order rows made =
-    turns_kept (trips_by placed t) (stops_by named t) (λ row. is_flex_id t.stop_times.rows.items row.trip) order t.stop_times.rows.items rows made
+pub turns_told : (trips : List (Option ℕ)) (stops : List (Option Named)) (order : RowOrder) (rows made : List StopTimeRow)
+    → made ≡ linked_by trips stops order rows → turns_by order made ≡ turns_in trips order rows
+turns_told trips stops order rows made h = turns_kept trips stops (λ row. is_flex_id rows row.trip) order rows made h
 
 -- the marks of flex trips, told of lists that are those of the tables
 pub flex_told : (rows : List StopTimeRow) (ts trips : List (Option ℕ)) (given flex : List Bool) → ts ≡ trips → given ≡ flex
@@ -104,10 +97,10 @@ pub frequencies_told : (placed : List ℕ → Option ℕ) (given rows : List Fre
     → first_fault_of kinds.Frequencies (frequency_fault placed) given ≡ r → first_fault_of kinds.Frequencies (frequency_fault placed) rows ≡ r
 frequencies_told placed given rows r e h = subst (λ (x : List FrequencyRow). first_fault_of kinds.Frequencies (frequency_fault placed) x ≡ r) e h
 
--- two functions that agree are one: what a call gives of the one is given of the other
-pub links_told : (f g : List ℕ → Option Named) (h k : List ℕ → Option ℕ) (t : Tables) (r : Result Links TableFault) → ((id : List ℕ) → f id ≡ g id)
-    → ((id : List ℕ) → h id ≡ k id) → IfOk r (IsLinked f h t) → IfOk r (IsLinked g k t)
-links_told f g h k t r e d linked = swapped
+-- functions that agree are one: what holds of the ones holds of the others
+both_told : (P : (List ℕ → Option Named) → (List ℕ → Option ℕ) → Type 0) (f g : List ℕ → Option Named) (h k : List ℕ → Option ℕ)
+    → ((id : List ℕ) → f id ≡ g id) → ((id : List ℕ) → h id ≡ k id) → P f h → P g k
+both_told P f g h k e d held = subst (λ (x : List ℕ → Option ℕ). P g x) d_path (subst (λ (x : List ℕ → Option Named). P x h) e_path held)
   where
     e_path : f ≡ g
     e_path = λ i id. e id i
@@ -115,23 +108,15 @@ links_told f g h k t r e d linked = swapped
     d_path : h ≡ k
     d_path = λ i id. d id i
 
-    swapped : IfOk r (IsLinked g k t)
-    swapped = subst (λ (x : List ℕ → Option ℕ). IfOk r (IsLinked g x t)) d_path (subst (λ (x : List ℕ → Option Named). IfOk r (IsLinked x h t)) e_path linked)
+-- what a call gives of the ones is given of the others
+pub links_told : (f g : List ℕ → Option Named) (h k : List ℕ → Option ℕ) (t : Tables) (r : Result Links TableFault) → ((id : List ℕ) → f id ≡ g id)
+    → ((id : List ℕ) → h id ≡ k id) → IfOk r (IsLinked f h t) → IfOk r (IsLinked g k t)
+links_told f g h k t r = both_told (λ x y. IfOk r (IsLinked x y t)) f g h k
 
 pub fault_told : (f g : List ℕ → Option Named) (h k : List ℕ → Option ℕ) (t : Tables) (r : Result Links TableFault) → ((id : List ℕ) → f id ≡ g id)
     → ((id : List ℕ) → h id ≡ k id)
     → IfErr r (λ fault. fault.kind ≢ OutOfMemory → IsNamingFault f h t fault) → IfErr r (λ fault. fault.kind ≢ OutOfMemory → IsNamingFault g k t fault)
-fault_told f g h k t r e d wrong = swapped
-  where
-    e_path : f ≡ g
-    e_path = λ i id. e id i
-
-    d_path : h ≡ k
-    d_path = λ i id. d id i
-
-    swapped : IfErr r (λ fault. fault.kind ≢ OutOfMemory → IsNamingFault g k t fault)
-    swapped = subst (λ (x : List ℕ → Option ℕ). IfErr r (λ fault. fault.kind ≢ OutOfMemory → IsNamingFault g x t fault)) d_path
-        (subst (λ (x : List ℕ → Option Named). IfErr r (λ fault. fault.kind ≢ OutOfMemory → IsNamingFault x h t fault)) e_path wrong)
+fault_told f g h k t r = both_told (λ x y. IfErr r (λ fault. fault.kind ≢ OutOfMemory → IsNamingFault x y t fault)) f g h k
 
 pub of_err : {X E : Type 0} (r : Result X E) (fault : E) (Q : E → Type 0) → r ≡ Err fault → IfErr r Q → Q fault
 of_err {X = X} {E = E} r fault Q e h = subst (λ (x : Result X E). IfErr x Q) e h
@@ -139,18 +124,87 @@ of_err {X = X} {E = E} r fault Q e h = subst (λ (x : Result X E). IfErr x Q) e 
 pub of_ok : {X E : Type 0} (r : Result X E) (kept : X) (Q : X → Type 0) → r ≡ Ok kept → IfOk r Q → Q kept
 of_ok {X = X} {E = E} r kept Q e h = subst (λ (x : Result X E). IfOk x Q) e h
 
+-- what is told of trips, by turns and rows that are others'
 pub trips_told : (strict : Bool) (given turns : List Turn) (listed rows : List StopTimeRow) (n : ℕ) (r : Option TableFault) → given ≡ turns → listed ≡ rows
     → first_below (trip_fault strict given listed) n ≡ r → first_below (trip_fault strict turns rows) n ≡ r
 trips_told strict given turns listed rows n r e f h =
     subst (λ (x : List Turn). first_below (trip_fault strict x rows) n ≡ r) e
     (subst (λ (x : List StopTimeRow). first_below (trip_fault strict given x) n ≡ r) f h)
 
-pub trips_made : (given turns : List Turn) (listed rows : List StopTimeRow) (marked repeats : List Bool) (f : ℕ → Bool) (trips : List TripRow)
-    (made : List Trip) → given ≡ turns → listed ≡ rows → marked ≡ repeats
-    → ((i : ℕ) → i < length trips → slice_index_or repeats i false ≡ f i) → made ≡ feed_trips given listed (λ t. slice_index_or marked t false) 0 trips → made
-    ≡ feed_trips turns rows f 0 trips
-trips_made given turns listed rows marked repeats f trips made e d m same h =
+pub trips_made : (given turns : List Turn) (listed rows : List StopTimeRow) (marked repeats : List Bool) (trips : List TripRow) (made : List Trip)
+    → given ≡ turns → listed ≡ rows → marked ≡ repeats → made ≡ feed_trips given listed (λ t. slice_index_or marked t false) 0 trips
+    → made ≡ feed_trips turns rows (λ t. slice_index_or repeats t false) 0 trips
+trips_made given turns listed rows marked repeats trips made e d m h =
     subst (λ (x : List Turn). made ≡ feed_trips x rows (λ t. slice_index_or repeats t false) 0 trips) e
     (subst (λ (x : List StopTimeRow). made ≡ feed_trips given x (λ t. slice_index_or repeats t false) 0 trips) d
     (subst (λ (x : List Bool). made ≡ feed_trips given listed (λ t. slice_index_or x t false) 0 trips) m h))
-    ∙ same_trips turns rows (λ t. slice_index_or repeats t false) f 0 trips (λ t lt. same t (omega arith))
+
+-- what links tell of the tables whose ids they link
+module _ (strict : Bool) (t : Tables) (links : Links) (linked : IsLinked (stop_named t.stops.items) (trip_named t.trips.items) t links) where
+  turns_are : turns_in links.names.trips.items links.order t.stop_times.rows.items
+      ≡ turns_in (trips_by (trip_named t.trips.items) t) links.order t.stop_times.rows.items
+  turns_are = ap (λ (x : List (Option ℕ)). turns_in x links.order t.stop_times.rows.items) linked.trips
+
+  pub rows_are : linked_by links.names.trips.items links.names.stops.items links.order t.stop_times.rows.items
+      ≡ rows_by (stop_named t.stops.items) (trip_named t.trips.items) t (turns_in (trips_by (trip_named t.trips.items) t) links.order t.stop_times.rows.items)
+  rows_are = rows_told links.names.trips.items (trips_by (trip_named t.trips.items) t) links.names.stops.items (stops_by (stop_named t.stops.items) t)
+      links.order t.stop_times.rows.items (linked_by links.names.trips.items links.names.stops.items links.order t.stop_times.rows.items)
+      linked.trips linked.stops refl
+
+  -- the first fault of the trips' times
+  judged : (r : Option TableFault) → first_below (trip_fault strict (turns_in links.names.trips.items links.order t.stop_times.rows.items)
+      (linked_by links.names.trips.items links.names.stops.items links.order t.stop_times.rows.items)) (length t.trips.items) ≡ r
+      → first_below (trip_fault strict (turns_in (trips_by (trip_named t.trips.items) t) links.order t.stop_times.rows.items)
+      (rows_by (stop_named t.stops.items) (trip_named t.trips.items) t (turns_in (trips_by (trip_named t.trips.items) t) links.order t.stop_times.rows.items)))
+      (length t.trips.items) ≡ r
+  judged r h = trips_told strict (turns_in links.names.trips.items links.order t.stop_times.rows.items)
+      (turns_in (trips_by (trip_named t.trips.items) t) links.order t.stop_times.rows.items)
+      (linked_by links.names.trips.items links.names.stops.items links.order t.stop_times.rows.items)
+      (rows_by (stop_named t.stops.items) (trip_named t.trips.items) t (turns_in (trips_by (trip_named t.trips.items) t) links.order t.stop_times.rows.items))
+      (length t.trips.items) r turns_are rows_are h
+
+  -- a fault of the trips' times
+  pub trip_first : (fault : TableFault) → first_below (trip_fault strict (turns_in links.names.trips.items links.order t.stop_times.rows.items)
+      (linked_by links.names.trips.items links.names.stops.items links.order t.stop_times.rows.items)) (length t.trips.items) ≡ Some fault
+      → IsFirstFault strict t fault
+  trip_first fault h = record {
+    turns = turns_in (trips_by (trip_named t.trips.items) t) links.order t.stop_times.rows.items;
+    in_order = linked.in_order;
+    first = of_two _ _ _ fault linked.fine (judged (Some fault) h);
+  }
+
+  -- trips whose times have none, and a fault of the transfers
+  pub transfer_first : (fault : TableFault) → first_below (trip_fault strict (turns_in links.names.trips.items links.order t.stop_times.rows.items)
+      (linked_by links.names.trips.items links.names.stops.items links.order t.stop_times.rows.items)) (length t.trips.items) ≡ None
+      → links.transfers ≡ Err fault → fault.kind ≢ OutOfMemory → IsFirstFault strict t fault
+  transfer_first fault none is other = record {
+    turns = turns_in (trips_by (trip_named t.trips.items) t) links.order t.stop_times.rows.items;
+    in_order = linked.in_order;
+    first = of_three _ _ _ fault linked.fine (judged None none) (of_err links.transfers fault (λ fault. fault.kind ≢ OutOfMemory
+        → first_fault_of kinds.Transfers (transfer_fault (stop_named t.stops.items)) t.transfers.items ≡ Some fault) is linked.transfers_wrong other);
+  }
+
+  -- neither of both
+  pub none_first : (kept : Vec Transfer) → first_below (trip_fault strict (turns_in links.names.trips.items links.order t.stop_times.rows.items)
+      (linked_by links.names.trips.items links.names.stops.items links.order t.stop_times.rows.items)) (length t.trips.items) ≡ None
+      → links.transfers ≡ Ok kept → first_fault (stop_named t.stops.items) (trip_named t.trips.items) strict t
+      (turns_in (trips_by (trip_named t.trips.items) t) links.order t.stop_times.rows.items) ≡ None
+  none_first kept none is = of_none _ _ _ linked.fine (judged None none) (of_ok links.transfers kept
+      (λ kept. first_fault_of kinds.Transfers (transfer_fault (stop_named t.stops.items)) t.transfers.items ≡ None) is linked.transfers_fine)
+
+  -- the trips
+  pub trips_are : (made : List Trip) → made ≡ feed_trips (turns_in links.names.trips.items links.order t.stop_times.rows.items)
+      (linked_by links.names.trips.items links.names.stops.items links.order t.stop_times.rows.items)
+      (λ i. slice_index_or links.repeats.items i false) 0 t.trips.items
+      → made ≡ feed_trips (turns_in (trips_by (trip_named t.trips.items) t) links.order t.stop_times.rows.items)
+      (rows_by (stop_named t.stops.items) (trip_named t.trips.items) t (turns_in (trips_by (trip_named t.trips.items) t) links.order t.stop_times.rows.items))
+      (is_repeated (trip_named t.trips.items) t.frequencies.items) 0 t.trips.items
+  trips_are made h = trips_made (turns_in links.names.trips.items links.order t.stop_times.rows.items)
+      (turns_in (trips_by (trip_named t.trips.items) t) links.order t.stop_times.rows.items)
+      (linked_by links.names.trips.items links.names.stops.items links.order t.stop_times.rows.items)
+      (rows_by (stop_named t.stops.items) (trip_named t.trips.items) t (turns_in (trips_by (trip_named t.trips.items) t) links.order t.stop_times.rows.items))
+      links.repeats.items links.repeats.items t.trips.items made turns_are rows_are refl h
+      ∙ same_trips (turns_in (trips_by (trip_named t.trips.items) t) links.order t.stop_times.rows.items)
+      (rows_by (stop_named t.stops.items) (trip_named t.trips.items) t (turns_in (trips_by (trip_named t.trips.items) t) links.order t.stop_times.rows.items))
+      (λ i. slice_index_or links.repeats.items i false) (is_repeated (trip_named t.trips.items) t.frequencies.items) 0 t.trips.items
+      (λ i lt. linked.repeats i (omega arith))

@@ -1,5 +1,5 @@
 -- The rows of the tables, a row on.
-use Rattle.std.proofs.Common.{◌≡◌, ℕ, ap, subst, ◌+◌, ◌-◌, ◌<◌, ◌≤◌, List, [], ◌∷◌, ◌++◌, length, get_or, get_or-set_other}
+use Rattle.std.proofs.Common.{◌≡◌, ℕ, ap, subst, ◌+◌, ◌-◌, ◌<◌, List, [], ◌∷◌, ◌++◌, length, get_or, get_or-set_other}
 use Rattle.std.proofs.Common.{map, set, take, Bool, true, false, eqb, ◌||◌, Option, Some, None, refl, ◌∙◌, sym, arith, inl, inr, ◌⊎◌}
 use Rattle.std.specs.Prelude.{filter, is_some, option_to_list, IfSome}
 use Rattle.std.specs.List.{AllZip}
@@ -48,26 +48,26 @@ marked_more named rows i u n row old lt e names len before t within = by (cases_
         let differs : eqb u t ≡ false = ne_eqb u t (λ s. other (sym s)) in
         set_else ∙ here ∙ sym (more ∙ rw differs (or-false (is_repeated named (take i rows) t)))
 
+-- what is told of a row by its mark is told of what the mark stands for: where no mark was made its trip isn't known
+by_mark : {X : Type 0} (told : Bool → X) (trips : List (Option ℕ)) (rows : List StopTimeRow) (flex : List Bool) (id : ℕ)
+    → ((id : ℕ) → id < length trips → get_or flex id false ≡ is_flex_id rows id)
+    → (get_or trips id None ≡ None → told (get_or flex id false) ≡ told (is_flex_id rows id))
+    → told (get_or flex id false) ≡ told (is_flex_id rows id)
+by_mark told trips rows flex id same unknown = elim (cases_lt id (length trips)) [
+  | inl lt ↦ ap told (same id lt)
+  | inr le ↦ unknown (get_or_past trips id None le)
+]
+
 -- a trip that isn't known is a fault, and gives no stop, flex or not
 pub fault_same : (trips : List (Option ℕ)) (stops : List (Option Named)) (rows : List StopTimeRow) (flex : List Bool) (row : StopTimeRow)
     → ((id : ℕ) → id < length trips → get_or flex id false ≡ is_flex_id rows id)
     → linked_fault trips stops (get_or flex row.trip false) row ≡ linked_fault trips stops (is_flex_id rows row.trip) row
-fault_same trips stops rows flex row same = by (cases_lt row.trip (length trips))
-  where
-    by : (row.trip < length trips) ⊎ (length trips ≤ row.trip) → linked_fault trips stops (get_or flex row.trip false) row
-        ≡ linked_fault trips stops (is_flex_id rows row.trip) row
-    by (inl lt) = rw (same row.trip lt) refl
-    by (inr le) = let none : get_or trips row.trip None ≡ None = get_or_past trips row.trip None le in rw none refl
+fault_same trips stops rows flex row same = by_mark (λ mark. linked_fault trips stops mark row) trips rows flex row.trip same (λ none. rw none refl)
 
 pub row_same : (trips : List (Option ℕ)) (stops : List (Option Named)) (rows : List StopTimeRow) (flex : List Bool) (row : StopTimeRow)
     → ((id : ℕ) → id < length trips → get_or flex id false ≡ is_flex_id rows id)
     → linked_row trips stops (get_or flex row.trip false) row ≡ linked_row trips stops (is_flex_id rows row.trip) row
-row_same trips stops rows flex row same = by (cases_lt row.trip (length trips))
-  where
-    by : (row.trip < length trips) ⊎ (length trips ≤ row.trip) → linked_row trips stops (get_or flex row.trip false) row
-        ≡ linked_row trips stops (is_flex_id rows row.trip) row
-    by (inl lt) = rw (same row.trip lt) refl
-    by (inr le) = let none : get_or trips row.trip None ≡ None = get_or_past trips row.trip None le in rw none refl
+row_same trips stops rows flex row same = by_mark (λ mark. linked_row trips stops mark row) trips rows flex row.trip same (λ none. rw none refl)
 
 pub kept_more : (named : List ℕ → Option Named) (rows : List TransferRow) (i : ℕ) (row : TransferRow) (kept : List Transfer) (found : Transfer)
     → i < length rows → row ≡ get_or rows i row

@@ -18,6 +18,7 @@ use Rattle.gtfs_tables.specs.Rows.{IsTransferOf, frequency_fault, frequency_of, 
 use Rattle.gtfs_tables.specs.Times.{first_wrong, is_flex}
 use Rattle.gtfs_tables.specs.declared.joining.Links.{Links}
 use Rattle.gtfs_tables.specs.declared.names.Named.{Named}
+use Rattle.gtfs_tables.specs.declared.order.RowOrder.{RowOrder}
 use Rattle.gtfs_tables.specs.declared.order.Turn.{Turn}
 use Rattle.gtfs_tables.specs.declared.tables.Feed.{Feed}
 use Rattle.gtfs_tables.specs.declared.tables.Stop.{Stop}
@@ -39,6 +40,11 @@ link_by named placed t row = linked_row (trips_by placed t) (stops_by named t) (
 
 abbrev pub rows_by : (List ℕ → Option Named) → (List ℕ → Option ℕ) → Tables → List Turn → List StopTimeRow
 rows_by named placed t turns = map (λ turn. link_by named placed t (row_of t.stop_times.rows.items turn.number)) turns
+
+-- the same of lists of what the ids name, in an order
+abbrev pub linked_by : List (Option ℕ) → List (Option Named) → RowOrder → List StopTimeRow → List StopTimeRow
+linked_by trips stops order rows =
+    map (λ turn. linked_row trips stops (is_flex_id rows (row_of rows turn.number).trip) (row_of rows turn.number)) (turns_in trips order rows)
 
 -- ---- the faults, in the order in which they are judged
 

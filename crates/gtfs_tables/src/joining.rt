@@ -1,16 +1,16 @@
 //! The tables of a feed joined, or the first thing that is wrong with them.
 
-ghost use Rattle.std.specs.Prelude.{◌≡◌, ◌≢◌, ◌≤◌, ◌<◌, ◌+◌, ℕ, List, length, map, filter, IfOk, IfErr, IsSortedBy, Some, None, Option, false, slice_index_or, option_map};
+ghost use Rattle.std.specs.Prelude.{◌≡◌, ◌≢◌, ◌≤◌, ◌<◌, ◌+◌, ℕ, List, length, map, filter, Ok, Err, ◌⊎◌, IfOk, IfErr, IsSortedBy, Some, None, Option, false, slice_index_or, option_map};
 ghost use Rattle.std.specs.List.{AllWithin, slice_range};
 ghost use Rattle.gtfs_rows.specs.declared.rows.StopTimeRow.{StopTimeRow as LinkedRow};
 ghost use Rattle.gtfs_rows.specs.Tables.{is_stop};
 ghost use Rattle.gtfs_tables.specs.First.{first_below, first_fault_of};
 ghost use Rattle.gtfs_tables.specs.Names.{held_at, stop_named, trip_named};
-ghost use Rattle.gtfs_tables.specs.Order.{comes_before, first_turn, row_of, turns_by};
+ghost use Rattle.gtfs_tables.specs.Order.{comes_before, first_turn, turns_by, turns_in};
 ghost use Rattle.gtfs_tables.specs.Rows.{is_flex_id, linked_fault, linked_row, station_of};
 ghost use Rattle.std.specs.String.{string_bytes};
 ghost use Rattle.gtfs_tables.specs.Times.{first_wrong as wrong_first};
-ghost use Rattle.gtfs_tables.specs.Feeds.{IsFirstFault, IsJoined, IsLinked, IsNamingFault, feed_stop, feed_trips, told_of, trip_fault};
+ghost use Rattle.gtfs_tables.specs.Feeds.{IsFirstFault, IsJoined, IsLinked, IsNamingFault, feed_stop, feed_trips, linked_by, told_of, trip_fault};
 ghost use Rattle.gtfs_tables.specs.declared.names.Named.{Named as NamedBy};
 
 use crate::links::{
@@ -164,52 +164,140 @@ fn feed_of(alloc: Global, tables: Tables, links: Links, strict: bool) -> Result<
     ensures ok { IfOk result (IsJoined strict tables) }
     ensures err { IfErr result (λ fault. fault.kind ≢ FaultKind.OutOfMemory → IsFirstFault strict tables fault) }
 {
+    let hash = *tables.stop_times.trips.hasher();
+    let skipped = skipped_in(&tables.transfers);
     let Tables {
         stops,
         trips,
         stop_times,
-        transfers,
         calendar,
         calendar_dates,
         ..
     } = tables;
-    let hash = *stop_times.trips.hasher();
     let StopTimes { rows, .. } = stop_times;
+    match made_of(alloc, stops, trips, rows, links, strict) {
+        Ok(made) => Ok(Feed {
+            stops: made.stops,
+            trips: made.trips,
+            stop_times: made.stop_times,
+            frequencies: made.frequencies,
+            transfers: made.transfers,
+            skipped,
+            calendar,
+            calendar_dates,
+            hash,
+        }),
+        Err(fault) => Err(fault),
+    }
+}
+
+// What a feed has of its rows and links.
+#[derive(Drop)]
+struct Made {
+    stops: Vec<Stop>,
+    trips: Vec<Trip>,
+    stop_times: Vec<StopTimeRow>,
+    frequencies: Vec<Frequency>,
+    transfers: Vec<Transfer>,
+}
+
+// What is made of rows by their links, or the first fault of the trips' times or the transfers.
+#[tactic(none)]
+fn made_of(
+    alloc: Global,
+    stops: Vec<StopRow>,
+    trips: Vec<TripRow>,
+    rows: Vec<StopTimeRow>,
+    links: Links,
+    strict: bool,
+) -> Result<Made, TableFault>
+    requires flex { (id : ℕ) → id < length links.names.trips.items → slice_index_or links.names.flex.items id false ≡ is_flex_id rows.items id }
+    requires rising { IsSortedBy comes_before (turns_in links.names.trips.items links.order rows.items) }
+    ensures rows { IfOk result (λ made. made.stop_times.items ≡ linked_by links.names.trips.items links.names.stops.items links.order rows.items) }
+    ensures fine { IfOk result (λ made. first_below (trip_fault strict (turns_in links.names.trips.items links.order rows.items)
+        (linked_by links.names.trips.items links.names.stops.items links.order rows.items)) (length trips.items) ≡ None) }
+    ensures trips { IfOk result (λ made. made.trips.items ≡ feed_trips (turns_in links.names.trips.items links.order rows.items)
+        (linked_by links.names.trips.items links.names.stops.items links.order rows.items)
+        (λ t. slice_index_or links.repeats.items t false) 0 trips.items) }
+    ensures stops { (named : List ℕ → Option NamedBy) → links.stations.items ≡ map (station_of named) stops.items
+        → IfOk result (λ made. made.stops.items ≡ map (feed_stop named) (filter is_stop stops.items)) }
+    ensures frequencies { IfOk result (λ made. made.frequencies ≡ links.frequencies) }
+    ensures transfers { IfOk result (λ made. links.transfers ≡ Ok made.transfers) }
+    ensures err { IfErr result (λ fault. fault.kind ≢ FaultKind.OutOfMemory
+        → (first_below (trip_fault strict (turns_in links.names.trips.items links.order rows.items)
+        (linked_by links.names.trips.items links.names.stops.items links.order rows.items)) (length trips.items) ≡ Some fault)
+        ⊎ ((first_below (trip_fault strict (turns_in links.names.trips.items links.order rows.items)
+        (linked_by links.names.trips.items links.names.stops.items links.order rows.items)) (length trips.items) ≡ None)
+        × (links.transfers ≡ Err fault))) }
+{
+    let (stop_times, trips) = match timed_rows(alloc, rows, trips, &links, strict) {
+        Ok(timed) => timed,
+        Err(fault) => return Err(fault),
+    };
+    let Ok(stops) = feed_stops(alloc, stops, &links.stations) else {
+        return Err(out_of_memory());
+    };
     let Links {
-        order,
-        stations,
-        names,
-        repeats,
-        frequencies,
-        transfers: kept,
-    } = links;
-    let skipped = skipped_in(&transfers);
-    let Ok(stop_times) = linked_rows(alloc, rows, &order, &names.trips, &names.stops, &names.flex)
-    else {
-        return Err(out_of_memory());
-    };
-    let trips = match timed_trips(alloc, trips, &stop_times, &order, &repeats, strict) {
-        Ok(trips) => trips,
-        Err(fault) => return Err(fault),
-    };
-    let transfers = match kept {
-        Ok(kept) => kept,
-        Err(fault) => return Err(fault),
-    };
-    let Ok(stops) = feed_stops(alloc, stops, &stations) else {
-        return Err(out_of_memory());
-    };
-    Ok(Feed {
-        stops,
-        trips,
-        stop_times,
         frequencies,
         transfers,
-        skipped,
-        calendar,
-        calendar_dates,
-        hash,
-    })
+        ..
+    } = links;
+    match transfers {
+        Ok(transfers) => Ok(Made {
+            stops,
+            trips,
+            stop_times,
+            frequencies,
+            transfers,
+        }),
+        Err(fault) => Err(fault),
+    }
+}
+
+// The rows in their order, each with what it names, and the trips with their rows, unless the times of one are wrong.
+#[tactic(none)]
+fn timed_rows(
+    alloc: Global,
+    rows: Vec<StopTimeRow>,
+    trips: Vec<TripRow>,
+    links: &Links,
+    strict: bool,
+) -> Result<(Vec<StopTimeRow>, Vec<Trip>), TableFault>
+    requires flex { (id : ℕ) → id < length links.now.names.trips.items → slice_index_or links.now.names.flex.items id false ≡ is_flex_id rows.items id }
+    requires rising { IsSortedBy comes_before (turns_in links.now.names.trips.items links.now.order rows.items) }
+    ensures rows { IfOk result (λ timed. timed.0.items ≡ linked_by links.now.names.trips.items links.now.names.stops.items links.now.order rows.items) }
+    ensures fine { IfOk result (λ timed. first_below (trip_fault strict (turns_in links.now.names.trips.items links.now.order rows.items)
+        (linked_by links.now.names.trips.items links.now.names.stops.items links.now.order rows.items)) (length trips.items) ≡ None) }
+    ensures trips { IfOk result (λ timed. timed.1.items ≡ feed_trips (turns_in links.now.names.trips.items links.now.order rows.items)
+        (linked_by links.now.names.trips.items links.now.names.stops.items links.now.order rows.items)
+        (λ t. slice_index_or links.now.repeats.items t false) 0 trips.items) }
+    ensures err { IfErr result (λ fault. fault.kind ≢ FaultKind.OutOfMemory
+        → first_below (trip_fault strict (turns_in links.now.names.trips.items links.now.order rows.items)
+        (linked_by links.now.names.trips.items links.now.names.stops.items links.now.order rows.items)) (length trips.items) ≡ Some fault) }
+{
+    let names = &links.names;
+    let linked = linked_rows(
+        alloc,
+        rows,
+        &links.order,
+        &names.trips,
+        &names.stops,
+        &names.flex,
+    );
+    let Ok(stop_times) = linked else {
+        return Err(out_of_memory());
+    };
+    match timed_trips(
+        alloc,
+        trips,
+        &stop_times,
+        &links.order,
+        &links.repeats,
+        strict,
+    ) {
+        Ok(trips) => Ok((stop_times, trips)),
+        Err(fault) => Err(fault),
+    }
 }
 
 // The trips with their rows, unless the times of one are wrong.

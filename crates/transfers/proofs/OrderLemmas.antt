@@ -16,6 +16,8 @@ use Rattle.transfers.specs.declared.claims.Claim.{Claim}
 use Rattle.transfers.specs.Claims.{source_number, IsHeardBefore, ComesBefore, AreSorted}
 use Rattle.transfers.specs.contracts.claims.ClaimOrd.TheImpl.{cmp-value}
 use Rattle.transfers.specs.contracts.claims.ClaimOrd.TheImpl.Laws.{total-law}
+use Rattle.transfers.specs.contracts.claims.SourceOrd.TheImpl.{cmp-value as source_cmp}
+use Rattle.transfers.specs.contracts.claims.WordOrd.TheImpl.{cmp-value as word_order}
 use Rattle.transfers.proofs.ClaimLemmas.{claim_of}
 
 abbrev pub word_cmp : Word → Word → Ordering
@@ -24,46 +26,32 @@ word_cmp Never (Takes n) = Less
 word_cmp (Takes m) Never = Greater
 word_cmp (Takes m) (Takes n) = nat_cmp m n
 
+-- how sources compare, and words
+sources_compare : (s s' : Source) → source_cmp.it s s' ≡ nat_cmp (source_number s) (source_number s')
+sources_compare Stops Stops = refl
+sources_compare Stops Station = refl
+sources_compare Stops Default = refl
+sources_compare Station Stops = refl
+sources_compare Station Station = refl
+sources_compare Station Default = refl
+sources_compare Default Stops = refl
+sources_compare Default Station = refl
+sources_compare Default Default = refl
+
+words_compare : (w w' : Word) → word_order.it w w' ≡ word_cmp w w'
+words_compare Never Never = refl
+words_compare Never (Takes n) = refl
+words_compare (Takes m) Never = refl
+words_compare (Takes m) (Takes n) = refl
+
 -- how claims compare
 cmp_is : (to from to' from' : ℕ) (s s' : Source) (w w' : Word)
     → cmp-value.it (claim_of to from s w) (claim_of to' from' s' w')
     ≡ ordering_then (nat_cmp to to') (ordering_then (nat_cmp from from') (ordering_then (nat_cmp (source_number s) (source_number s')) (word_cmp w w')))
-cmp_is to from to' from' Stops Stops Never Never = refl
-cmp_is to from to' from' Stops Stops Never (Takes n) = refl
-cmp_is to from to' from' Stops Stops (Takes m) Never = refl
-cmp_is to from to' from' Stops Stops (Takes m) (Takes n) = refl
-cmp_is to from to' from' Stops Station Never Never = refl
-cmp_is to from to' from' Stops Station Never (Takes n) = refl
-cmp_is to from to' from' Stops Station (Takes m) Never = refl
-cmp_is to from to' from' Stops Station (Takes m) (Takes n) = refl
-cmp_is to from to' from' Stops Default Never Never = refl
-cmp_is to from to' from' Stops Default Never (Takes n) = refl
-cmp_is to from to' from' Stops Default (Takes m) Never = refl
-cmp_is to from to' from' Stops Default (Takes m) (Takes n) = refl
-cmp_is to from to' from' Station Stops Never Never = refl
-cmp_is to from to' from' Station Stops Never (Takes n) = refl
-cmp_is to from to' from' Station Stops (Takes m) Never = refl
-cmp_is to from to' from' Station Stops (Takes m) (Takes n) = refl
-cmp_is to from to' from' Station Station Never Never = refl
-cmp_is to from to' from' Station Station Never (Takes n) = refl
-cmp_is to from to' from' Station Station (Takes m) Never = refl
-cmp_is to from to' from' Station Station (Takes m) (Takes n) = refl
-cmp_is to from to' from' Station Default Never Never = refl
-cmp_is to from to' from' Station Default Never (Takes n) = refl
-cmp_is to from to' from' Station Default (Takes m) Never = refl
-cmp_is to from to' from' Station Default (Takes m) (Takes n) = refl
-cmp_is to from to' from' Default Stops Never Never = refl
-cmp_is to from to' from' Default Stops Never (Takes n) = refl
-cmp_is to from to' from' Default Stops (Takes m) Never = refl
-cmp_is to from to' from' Default Stops (Takes m) (Takes n) = refl
-cmp_is to from to' from' Default Station Never Never = refl
-cmp_is to from to' from' Default Station Never (Takes n) = refl
-cmp_is to from to' from' Default Station (Takes m) Never = refl
-cmp_is to from to' from' Default Station (Takes m) (Takes n) = refl
-cmp_is to from to' from' Default Default Never Never = refl
-cmp_is to from to' from' Default Default Never (Takes n) = refl
-cmp_is to from to' from' Default Default (Takes m) Never = refl
-cmp_is to from to' from' Default Default (Takes m) (Takes n) = refl
+cmp_is to from to' from' s s' w w' =
+    ap (λ (o : Ordering). ordering_then (nat_cmp to to') (ordering_then (nat_cmp from from') (ordering_then o (word_order.it w w')))) (sources_compare s s')
+    ∙ ap (λ (o : Ordering). ordering_then (nat_cmp to to')
+    (ordering_then (nat_cmp from from') (ordering_then (nat_cmp (source_number s) (source_number s')) o))) (words_compare w w')
 
 -- what isn't less isn't so in its first part
 first_part : (m n : ℕ) (o : Ordering) → is_lt (ordering_then (nat_cmp m n) o) ≡ false → n ≤ m

@@ -48,18 +48,18 @@ fn members_of(alloc: Global, keys: &[Option<u32>]) -> Result<Vec<Member>, AllocE
     Ok(members)
 }
 
-// The keys of members.
-fn keys_of(alloc: Global, members: &[Member]) -> Result<Vec<u32>, AllocError>
-    ensures { IfOk result (λ v. v.items ≡ map (λ m. m.key) members.now) }
+// The keys of members, and their numbers.
+fn parts_of(alloc: Global, members: &[Member]) -> Result<(Vec<u32>, Vec<u32>), AllocError>
+    ensures keys { IfOk result (λ parts. parts.0.items ≡ map (λ m. m.key) members.now) }
+    ensures numbers { IfOk result (λ parts. parts.1.items ≡ map (λ m. m.number) members.now) }
 {
-    members.iter().map(|member| member.key).collect(alloc)
-}
-
-// The numbers of members.
-fn numbers_of(alloc: Global, members: &[Member]) -> Result<Vec<u32>, AllocError>
-    ensures { IfOk result (λ v. v.items ≡ map (λ m. m.number) members.now) }
-{
-    members.iter().map(|member| member.number).collect(alloc)
+    let mut keys = Vec::with_capacity(alloc, members.len())?;
+    let mut numbers = Vec::with_capacity(alloc, members.len())?;
+    for member in members {
+        keys.push(member.key)?;
+        numbers.push(member.number)?;
+    }
+    Ok((keys, numbers))
 }
 
 // The numbers from a place up to before another.
@@ -78,8 +78,7 @@ impl Groups {
     {
         let mut members = members_of(alloc, keys)?;
         members.sort_by_key(|member| member.key)?;
-        let keys = keys_of(alloc, &members)?;
-        let numbers = numbers_of(alloc, &members)?;
+        let (keys, numbers) = parts_of(alloc, &members)?;
         Ok(Groups { keys, numbers })
     }
 

@@ -27,7 +27,11 @@ pub(crate) struct Lookup {
 fn stations(alloc: Global, stops: &[Stop]) -> Result<Vec<Option<u32>>, AllocError>
     ensures { IfOk result (λ v. v.items ≡ map (λ stop. stop.station) stops.now) }
 {
-    stops.iter().map(|stop| stop.station).collect(alloc)
+    let mut stations = Vec::with_capacity(alloc, stops.len())?;
+    for stop in stops {
+        stations.push(stop.station)?;
+    }
+    Ok(stations)
 }
 
 // The stop that a place is.
@@ -50,24 +54,21 @@ fn station_named(place: &Place) -> Option<u32>
     }
 }
 
-// The stop that each transfer leads to.
-fn stops_named(alloc: Global, transfers: &[Transfer]) -> Result<Vec<Option<u32>>, AllocError>
-    ensures { IfOk result (λ v. v.items ≡ map (λ row. stop_named row.to) transfers.now) }
+// The stop that each transfer leads to, and the station.
+fn ends_named(
+    alloc: Global,
+    transfers: &[Transfer],
+) -> Result<(Vec<Option<u32>>, Vec<Option<u32>>), AllocError>
+    ensures stops { IfOk result (λ ends. ends.0.items ≡ map (λ row. stop_named row.to) transfers.now) }
+    ensures stations { IfOk result (λ ends. ends.1.items ≡ map (λ row. station_named row.to) transfers.now) }
 {
-    transfers
-        .iter()
-        .map(|row| stop_named(&row.to))
-        .collect(alloc)
-}
-
-// The station that each transfer leads to.
-fn stations_named(alloc: Global, transfers: &[Transfer]) -> Result<Vec<Option<u32>>, AllocError>
-    ensures { IfOk result (λ v. v.items ≡ map (λ row. station_named row.to) transfers.now) }
-{
-    transfers
-        .iter()
-        .map(|row| station_named(&row.to))
-        .collect(alloc)
+    let mut stops = Vec::with_capacity(alloc, transfers.len())?;
+    let mut stations = Vec::with_capacity(alloc, transfers.len())?;
+    for row in transfers {
+        stops.push(stop_named(&row.to))?;
+        stations.push(station_named(&row.to))?;
+    }
+    Ok((stops, stations))
 }
 
 impl Lookup {
@@ -76,8 +77,9 @@ impl Lookup {
         ensures { IfOk result (IsLookup feed.now.stops.items feed.now.transfers.items) }
     {
         let children = Groups::new(alloc, &stations(alloc, &feed.stops)?)?;
-        let into_stops = Groups::new(alloc, &stops_named(alloc, &feed.transfers)?)?;
-        let into_stations = Groups::new(alloc, &stations_named(alloc, &feed.transfers)?)?;
+        let (stops, stations) = ends_named(alloc, &feed.transfers)?;
+        let into_stops = Groups::new(alloc, &stops)?;
+        let into_stations = Groups::new(alloc, &stations)?;
         Ok(Lookup {
             children,
             into_stops,

@@ -1,5 +1,4 @@
-use Rattle.std.proofs.Common.{◌≡◌, true, None, Some, ℕ, map, refl, rules, slice_index_or, string_bytes}
-use Rattle.std.specs.Result.{is_ok}
+use Rattle.std.proofs.Common.{◌≡◌, None, Some, ℕ, map, refl, slice_index_or, string_bytes}
 use Rattle.csv.specs.Records.{fields_of}
 use Rattle.gtfs_rows.specs.Cells.{Places}
 use Rattle.gtfs_rows.specs.Rows.{SpellsStopTime, stop_time_fault, time_fault, value}
@@ -22,8 +21,6 @@ stop_place-requires c = rw c.cell-2.ensures (cell_text (slice_index_or c.args.pl
 
 pub returns-clause-ok : goal.returns-clause-ok
 returns-clause-ok c = λ before held.
-    let good : is_ok c.push.result ≡ true = search rules in
-    let items = rw good at c.push.ensures.items in
     let row : StopTimeRow = record {
       trip = c.in_ok-trip.trip;
       arrival = c.in_ok-arrival.arrival;
@@ -54,7 +51,7 @@ returns-clause-ok c = λ before held.
             (map string_bytes c.place_of.new.ids.keys) (map string_bytes c.stop_place.new.stops.keys)
             (value c.args.places.now 0 (fields_of c.args.fields.now)) (value c.args.places.now 3 (fields_of c.args.fields.now)) c.args.places.now before
             (fields_of c.args.fields.now)
-            c.args.times.now.rows.items c.push.new.self.items row (rw c.cell.ensures at c.in_ok-trip.ensures.more)
-            (rw c.cell-2.ensures at c.in_ok-stop.ensures.more) items held.rows spelled;
+            c.args.times.now.rows.items c.add_row.new.rows.items row (rw c.cell.ensures at c.in_ok-trip.ensures.more)
+            (rw c.cell-2.ensures at c.in_ok-stop.ensures.more) c.in_ok-add_row.ensures.ok held.rows spelled;
       },
     )

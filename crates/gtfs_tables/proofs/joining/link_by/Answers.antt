@@ -1,18 +1,42 @@
 use Rattle.std.proofs.Common.{◌≡◌, ◌∙◌, List, None, Some, ap, arith, map, refl, subst, sym}
 use Rattle.std.specs.Prelude.{IfErr, IfOk, ◌≢◌, filter}
 use Rattle.std.specs.List.{AllZip}
-use Rattle.std.specs.Option.{option_or}
 use Rattle.reasoning.proofs.FirstLemmas.{option_or-some}
 use Rattle.gtfs_rows.specs.declared.fault.FaultKind.TheVariants.{OutOfMemory}
 use Rattle.gtfs_rows.specs.declared.fault.Table.TheVariants as kinds
+use Rattle.gtfs_rows.specs.declared.fault.TableFault.{TableFault}
 use Rattle.gtfs_rows.specs.declared.rows.TransferRow.{TransferRow}
-use Rattle.gtfs_tables.specs.Feeds.{stop_time_fault, trips_by}
+use Rattle.gtfs_tables.specs.Feeds.{IsNamingFault, naming_fault, stop_time_fault, trips_by}
 use Rattle.gtfs_tables.specs.First.{first_fault_of}
 use Rattle.gtfs_tables.specs.Names.{held_at}
-use Rattle.gtfs_tables.specs.Order.{turns_in}
-use Rattle.gtfs_tables.specs.Rows.{IsTransferOf, frequency_fault, frequency_of, is_kept, is_repeated, parent_fault, station_of, transfer_fault}
+use Rattle.gtfs_tables.specs.Order.{IsInOrder, turns_in}
+use Rattle.gtfs_tables.specs.Rows.{IsTransferOf, frequency_of, is_kept, is_repeated, parent_fault, station_of, transfer_fault}
 use Rattle.gtfs_tables.proofs.JoinFacts.{frequencies_told, of_none, of_three, of_two, flex_told, order_told, stops_told, times_told}
+use Rattle.gtfs_tables.proofs.joining.link_by.Goals.{In-Ok-judged_times, In-Ok-order_of_rows, In-Ok-stations}
 use Rattle.gtfs_tables.proofs.joining.link_by.Goals as goal
+
+ordered : (c : goal.In-Ok-order_of_rows) → IsInOrder (trips_by (held_at c.args.places.now) c.args.tables.now) c.args.tables.now.stop_times.rows.items
+    (turns_in (trips_by (held_at c.args.places.now) c.args.tables.now) c.in-Ok-order_of_rows.order c.args.tables.now.stop_times.rows.items)
+ordered c = order_told (held_at c.args.places.now) c.args.tables.now c.deref.result.now c.deref-2.result.now c.in-Ok-order_of_rows.order
+    c.deref.ensures.value (c.deref-2.ensures.value ∙ c.in-Ok.ensures) c.in-Ok-order_of_rows.ensures
+
+naming : (c : goal.In-Ok-order_of_rows) (fault : TableFault)
+    → naming_fault (held_at c.args.names.now) (held_at c.args.places.now) c.args.tables.now ≡ Some fault
+    → IsNamingFault (held_at c.args.names.now) (held_at c.args.places.now) c.args.tables.now fault
+naming c fault first = record {
+  turns = turns_in (trips_by (held_at c.args.places.now) c.args.tables.now) c.in-Ok-order_of_rows.order c.args.tables.now.stop_times.rows.items;
+  in_order = ordered c;
+  first = first;
+}
+
+stops_fine : (c : goal.In-Ok-stations) → first_fault_of kinds.Stops (parent_fault (held_at c.args.names.now)) c.args.tables.now.stops.items ≡ None
+stops_fine c = stops_told (held_at c.args.names.now) c.deref-3.result.now c.args.tables.now.stops.items None c.deref-3.ensures.value
+    c.in-Ok-stations.ensures.fine
+
+times_fine : (c : goal.In-Ok-judged_times) → first_fault_of kinds.StopTimes (stop_time_fault (held_at c.args.names.now) (held_at c.args.places.now)
+    c.args.tables.now) c.args.tables.now.stop_times.rows.items ≡ None
+times_fine c = times_told (held_at c.args.names.now) (held_at c.args.places.now) c.args.tables.now c.deref-4.result.now None
+    (c.deref-4.ensures.value ∙ c.in-Ok.ensures) c.in-Ok-judged_times.ensures.fine
 
 pub returns-in_default-clause-err : goal.returns-in_default-clause-err
 returns-in_default-clause-err c = λ other. absurd (other c.out_of_memory.ensures)
@@ -21,62 +45,31 @@ pub returns-in_default-order_of_rows-clause-err : goal.returns-in_default-order_
 returns-in_default-order_of_rows-clause-err c = λ other. absurd (other c.out_of_memory-in_default-order_of_rows.ensures)
 
 pub returns-in-Err-clause-err : goal.returns-in-Err-clause-err
-returns-in-Err-clause-err c = λ other. record {
-  turns = turns_in (trips_by (held_at c.args.places.now) c.args.tables.now) c.in-Ok-order_of_rows.order
-      c.args.tables.now.stop_times.rows.items;
-  in_order = order_told (held_at c.args.places.now) c.args.tables.now c.deref.result.now c.deref-2.result.now c.in-Ok-order_of_rows.order
-      c.deref.ensures.value (c.deref-2.ensures.value ∙ c.in-Ok.ensures) c.in-Ok-order_of_rows.ensures;
-  first = option_or-some (first_fault_of kinds.Stops (parent_fault (held_at c.args.names.now)) c.args.tables.now.stops.items)
-      (option_or (first_fault_of kinds.StopTimes (stop_time_fault (held_at c.args.names.now) (held_at c.args.places.now) c.args.tables.now)
-      c.args.tables.now.stop_times.rows.items) (first_fault_of kinds.Frequencies (frequency_fault (held_at c.args.places.now))
-      c.args.tables.now.frequencies.items)) c.in-Err.fault (stops_told (held_at c.args.names.now) c.deref-3.result.now c.args.tables.now.stops.items
-      (Some c.in-Err.fault) c.deref-3.ensures.value (c.in-Err.ensures.err other));
-}
+returns-in-Err-clause-err c = λ other. naming (goal.at.returns-in-Err-clause-err c).In-Ok-order_of_rows c.in-Err.fault
+    (option_or-some _ _ c.in-Err.fault (stops_told (held_at c.args.names.now) c.deref-3.result.now c.args.tables.now.stops.items
+    (Some c.in-Err.fault) c.deref-3.ensures.value (c.in-Err.ensures.err other)))
 
 pub returns-in-Err-judged_times-clause-err : goal.returns-in-Err-judged_times-clause-err
-returns-in-Err-judged_times-clause-err c = λ other. record {
-  turns = turns_in (trips_by (held_at c.args.places.now) c.args.tables.now) c.in-Ok-order_of_rows.order
-      c.args.tables.now.stop_times.rows.items;
-  in_order = order_told (held_at c.args.places.now) c.args.tables.now c.deref.result.now c.deref-2.result.now c.in-Ok-order_of_rows.order
-      c.deref.ensures.value (c.deref-2.ensures.value ∙ c.in-Ok.ensures) c.in-Ok-order_of_rows.ensures;
-  first = of_two (first_fault_of kinds.Stops (parent_fault (held_at c.args.names.now)) c.args.tables.now.stops.items)
-      (first_fault_of kinds.StopTimes (stop_time_fault (held_at c.args.names.now) (held_at c.args.places.now) c.args.tables.now)
-      c.args.tables.now.stop_times.rows.items) (first_fault_of kinds.Frequencies (frequency_fault (held_at c.args.places.now))
-      c.args.tables.now.frequencies.items) c.in-Err-judged_times.fault
-      (stops_told (held_at c.args.names.now) c.deref-3.result.now c.args.tables.now.stops.items None c.deref-3.ensures.value c.in-Ok-stations.ensures.fine)
-      (times_told (held_at c.args.names.now) (held_at c.args.places.now) c.args.tables.now c.deref-4.result.now (Some c.in-Err-judged_times.fault)
-      (c.deref-4.ensures.value ∙ c.in-Ok.ensures) (c.in-Err-judged_times.ensures.err other));
-}
+returns-in-Err-judged_times-clause-err c = λ other.
+    let from = goal.at.returns-in-Err-judged_times-clause-err c in
+    naming from.In-Ok-order_of_rows c.in-Err-judged_times.fault (of_two _ _ _ c.in-Err-judged_times.fault (stops_fine from.In-Ok-stations)
+    (times_told (held_at c.args.names.now) (held_at c.args.places.now) c.args.tables.now c.deref-4.result.now (Some c.in-Err-judged_times.fault)
+    (c.deref-4.ensures.value ∙ c.in-Ok.ensures) (c.in-Err-judged_times.ensures.err other)))
 
 pub returns-in-Err-repeating-clause-err : goal.returns-in-Err-repeating-clause-err
-returns-in-Err-repeating-clause-err c = λ other. record {
-  turns = turns_in (trips_by (held_at c.args.places.now) c.args.tables.now) c.in-Ok-order_of_rows.order
-      c.args.tables.now.stop_times.rows.items;
-  in_order = order_told (held_at c.args.places.now) c.args.tables.now c.deref.result.now c.deref-2.result.now c.in-Ok-order_of_rows.order
-      c.deref.ensures.value (c.deref-2.ensures.value ∙ c.in-Ok.ensures) c.in-Ok-order_of_rows.ensures;
-  first = of_three (first_fault_of kinds.Stops (parent_fault (held_at c.args.names.now)) c.args.tables.now.stops.items)
-      (first_fault_of kinds.StopTimes (stop_time_fault (held_at c.args.names.now) (held_at c.args.places.now) c.args.tables.now)
-      c.args.tables.now.stop_times.rows.items) (first_fault_of kinds.Frequencies (frequency_fault (held_at c.args.places.now))
-      c.args.tables.now.frequencies.items) c.in-Err-repeating.fault (stops_told (held_at c.args.names.now) c.deref-3.result.now c.args.tables.now.stops.items
-      None c.deref-3.ensures.value c.in-Ok-stations.ensures.fine) (times_told (held_at c.args.names.now) (held_at c.args.places.now) c.args.tables.now
-      c.deref-4.result.now None (c.deref-4.ensures.value ∙ c.in-Ok.ensures) c.in-Ok-judged_times.ensures.fine)
-      (frequencies_told (held_at c.args.places.now) c.deref-5.result.now c.args.tables.now.frequencies.items (Some c.in-Err-repeating.fault)
-      c.deref-5.ensures.value (c.in-Err-repeating.ensures.err other));
-}
+returns-in-Err-repeating-clause-err c = λ other.
+    let from = goal.at.returns-in-Err-repeating-clause-err c in
+    naming from.In-Ok-order_of_rows c.in-Err-repeating.fault (of_three _ _ _ c.in-Err-repeating.fault (stops_fine from.In-Ok-stations)
+    (times_fine from.In-Ok-judged_times) (frequencies_told (held_at c.args.places.now) c.deref-5.result.now c.args.tables.now.frequencies.items
+    (Some c.in-Err-repeating.fault) c.deref-5.ensures.value (c.in-Err-repeating.ensures.err other)))
 
 pub returns-in_default-linked_frequencies-clause-err : goal.returns-in_default-linked_frequencies-clause-err
 returns-in_default-linked_frequencies-clause-err c = λ other. absurd (other c.out_of_memory-in_default-linked_frequencies.ensures)
 
 pub returns-clause-ok : goal.returns-clause-ok
 returns-clause-ok c = record {
-  in_order = order_told (held_at c.args.places.now) c.args.tables.now c.deref.result.now c.deref-2.result.now c.in-Ok-order_of_rows.order
-      c.deref.ensures.value (c.deref-2.ensures.value ∙ c.in-Ok.ensures) c.in-Ok-order_of_rows.ensures;
-  fine = of_none (first_fault_of kinds.Stops (parent_fault (held_at c.args.names.now)) c.args.tables.now.stops.items)
-      (first_fault_of kinds.StopTimes (stop_time_fault (held_at c.args.names.now) (held_at c.args.places.now) c.args.tables.now)
-      c.args.tables.now.stop_times.rows.items) (first_fault_of kinds.Frequencies (frequency_fault (held_at c.args.places.now))
-      c.args.tables.now.frequencies.items) (stops_told (held_at c.args.names.now) c.deref-3.result.now c.args.tables.now.stops.items None
-      c.deref-3.ensures.value c.in-Ok-stations.ensures.fine) (times_told (held_at c.args.names.now) (held_at c.args.places.now) c.args.tables.now
-      c.deref-4.result.now None (c.deref-4.ensures.value ∙ c.in-Ok.ensures) c.in-Ok-judged_times.ensures.fine)
+  in_order = ordered (goal.at.returns-clause-ok c).In-Ok-order_of_rows;
+  fine = of_none _ _ _ (stops_fine (goal.at.returns-clause-ok c).In-Ok-stations) (times_fine (goal.at.returns-clause-ok c).In-Ok-judged_times)
       (frequencies_told (held_at c.args.places.now) c.deref-5.result.now c.args.tables.now.frequencies.items None c.deref-5.ensures.value
       c.in-Ok-repeating.ensures.fine);
   stations = c.in-Ok-stations.ensures.ok ∙ ap (map (station_of (held_at c.args.names.now))) c.deref-3.ensures.value;

@@ -1,5 +1,5 @@
-use Rattle.std.proofs.Common.{◌≡◌, ◌<◌, ◌≤◌, ◌+◌, length, get_or, false, arith, rules}
-use Rattle.gtfs_tables.specs.Order.{comes_before, no_row, turn_of}
+use Rattle.std.proofs.Common.{◌≡◌, ◌<◌, length, false, arith, rules}
+use Rattle.gtfs_tables.specs.Order.{comes_before}
 use Rattle.gtfs_tables.proofs.TurnFacts.{rising_all, rising_more, rising_one}
 use Rattle.gtfs_tables.proofs.order.are_in_order.Goals as goal
 
