@@ -16,31 +16,19 @@ use Rattle.epochs.specs.Seats.{AreBusyButOne, RefuseStep}
 use Rattle.epochs.specs.ShelfLoads.{RefusesBySteps, IsUnspent, Rests, TriedShelf, TriesBelow, shelf_of, HasFree, AreFull}
 
 free_other : (k j : ℕ) (u u' : View) → Frees k u u' → j ≢ k → shelf_of u' j ≡ shelf_of u j
-free_other k j (View.Working v) u' f ne = absurd f
-free_other k j (View.Noting x') u' f ne = absurd f
-free_other k j View.Spent u' f ne = absurd f
-free_other k j (View.Loading a) (View.Working v) f ne = absurd f
-free_other k j (View.Loading a) (View.Noting x') f ne = absurd f
-free_other k j (View.Loading a) View.Spent f ne = absurd f
 free_other k j (View.Loading a) (View.Loading b) f ne = ap (λ (xs : List Shelf). slice_get xs j) f.shelves ∙ slice_get-set_other a.shelves k j Shelf.Free ne
+free_other k j (View.Loading a) _ f ne = absurd f
+free_other k j _ u' f ne = absurd f
 
 free_here : (k : ℕ) (x : Shelf) (u u' : View) → Frees k u u' → shelf_of u k ≡ Some x → shelf_of u' k ≡ Some Shelf.Free
-free_here k x (View.Working v) u' f is = absurd f
-free_here k x (View.Noting x') u' f is = absurd f
-free_here k x View.Spent u' f is = absurd f
-free_here k x (View.Loading a) (View.Working v) f is = absurd f
-free_here k x (View.Loading a) (View.Noting x') f is = absurd f
-free_here k x (View.Loading a) View.Spent f is = absurd f
 free_here k x (View.Loading a) (View.Loading b) f is = ap (λ (xs : List Shelf). slice_get xs k) f.shelves ∙ slice_get-set_same a.shelves k Shelf.Free (slice_get_within a.shelves k x is)
+free_here k x (View.Loading a) _ f is = absurd f
+free_here k x _ u' f is = absurd f
 
 busy_same : (k count j : ℕ) (u u' : View) → FindsBusy k count u u' → (0 < count) × (shelf_of u' j ≡ shelf_of u j)
-busy_same k count j (View.Working v) u' f = absurd f
-busy_same k count j (View.Noting x') u' f = absurd f
-busy_same k count j View.Spent u' f = absurd f
-busy_same k count j (View.Loading a) (View.Working v) f = absurd f
-busy_same k count j (View.Loading a) (View.Noting x') f = absurd f
-busy_same k count j (View.Loading a) View.Spent f = absurd f
 busy_same k count j (View.Loading a) (View.Loading b) f = (f.some_one, ap (λ (xs : List Shelf). slice_get xs j) f.shelves)
+busy_same k count j (View.Loading a) _ f = absurd f
+busy_same k count j _ u' f = absurd f
 
 tried_other : (k j : ℕ) (s : Option Shelf) (u : View) (f : Bool) (b : ℕ) (u' : View) → TriedShelf k s u f b u' → j ≢ k → shelf_of u' j ≡ shelf_of u j
 tried_other k j (Some (Shelf.Closing v)) u true b u' t ne = free_other k j u u' t.1 ne

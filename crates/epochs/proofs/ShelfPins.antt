@@ -21,22 +21,14 @@ use Rattle.reasoning.proofs.ListLemmas.{slice_get-append, slice_get-last}
 use Rattle.epochs.specs.ShelfSeats.{ShelfSeatValue, SeatsHanded, new_seat, seen_of}
 
 late_seen : (u u' : View) (n : ℕ) → Late u n u' → (seen_of u ≤ n) × (seen_of u' ≡ n)
-late_seen (View.Loading l) u' n h = absurd h
-late_seen (View.Noting x') u' n h = absurd h
-late_seen View.Spent u' n h = absurd h
-late_seen (View.Working a) (View.Loading l) n h = absurd h
-late_seen (View.Working a) (View.Noting x') n h = absurd h
-late_seen (View.Working a) View.Spent n h = absurd h
 late_seen (View.Working a) (View.Working b) n h = (h.look.from, h.seen)
+late_seen (View.Working a) _ n h = absurd h
+late_seen _ u' n h = absurd h
 
 well_seen : (u u' : View) (n shelf : ℕ) (e : Edition) → Well u n shelf e u' → (seen_of u ≤ n) × (seen_of u' ≡ n)
-well_seen (View.Loading l) u' n shelf e h = absurd h
-well_seen (View.Noting x') u' n shelf e h = absurd h
-well_seen View.Spent u' n shelf e h = absurd h
-well_seen (View.Working a) (View.Loading l) n shelf e h = absurd h
-well_seen (View.Working a) (View.Noting x') n shelf e h = absurd h
-well_seen (View.Working a) View.Spent n shelf e h = absurd h
 well_seen (View.Working a) (View.Working b) n shelf e h = (h.look.from, h.seen)
+well_seen (View.Working a) _ n shelf e h = absurd h
+well_seen _ u' n shelf e h = absurd h
 
 lates_seen : (ns : List ℕ) (u u' : View) → Lates u ns u' → seen_of u ≤ seen_of u'
 lates_seen [] u u' h = let e : seen_of u' ≡ seen_of u = ap (λ (v : View). seen_of v) h in omega arith
@@ -57,13 +49,9 @@ moves_seen u u' n h =
     )
 
 pub releases_seen : (u u' : View) → Releases u u' → seen_of u' ≡ seen_of u
-releases_seen (View.Loading l) u' h = absurd h
-releases_seen (View.Noting x') u' h = absurd h
-releases_seen View.Spent u' h = absurd h
-releases_seen (View.Working a) (View.Loading l) h = absurd h
-releases_seen (View.Working a) (View.Noting x') h = absurd h
-releases_seen (View.Working a) View.Spent h = absurd h
 releases_seen (View.Working a) (View.Working b) h = h.seen
+releases_seen (View.Working a) _ h = absurd h
+releases_seen _ u' h = absurd h
 
 well_holds : (u : View) (m : Mine) (number n shelf : ℕ) (e : Edition) → Well u n shelf e m.0 → IsHoldingAs number shelf e m → e.version ≡ n → HoldsInHistory number (Some (e.version, arc_value e.image))
 well_holds u m number n shelf e h is same = of_view u m.0 h is.0

@@ -32,6 +32,6 @@ abbrev pub PublishesAt : TableValue → ImageValue → Result ℕ PublishFault �
 PublishesAt a image (Ok version) b = (room : TableValue) × MakesRoom a room × Publishes room image version b
 PublishesAt a image (Err fault) b = RefusesPublish a fault b
 
--- nothing has happened at the table, and it has one image
-abbrev pub IsNew : TableValue → Type 0
-IsNew table = (image : ImageValue) × (table ≡ record { state = start; events = []; images = image ∷ [] })
+-- nothing has happened at the table, and this is its one image
+abbrev pub IsNew : ImageValue → TableValue → Type 0
+IsNew image table = table ≡ record { state = start; events = []; images = image ∷ [] }

@@ -15,6 +15,7 @@ use crate::table::VersionTable;
 use image_verifier::Verified;
 use shelf_steps::Edition;
 use std::alloc::{AllocError, Global};
+use std::snapshot::Snapshot;
 use std::sync::{Arc, Mutex, Wait};
 
 /// A table of versions under one lock.
@@ -43,9 +44,10 @@ impl LockedShelves {
             Ok(seats) => seats,
             Err(_) => return Err((first, PublishFault::OutOfMemory)),
         };
+        let shown = Snapshot::of(&*first);
         match VersionTable::new(alloc, first) {
             Ok(table) => {
-                let shelves = LockedShelves::of(table);
+                let shelves = LockedShelves::of(table, shown);
                 Ok((shelves, LoaderSeat::new(), seats))
             }
             Err((first, _)) => Err((first, PublishFault::OutOfMemory)),
@@ -53,9 +55,10 @@ impl LockedShelves {
     }
 
     // What a lock begins with can't be asked afterwards, so it is asked for here.
-    pub(crate) fn of(table: VersionTable) -> LockedShelves
-        requires { IsNew table }
+    pub(crate) fn of(table: VersionTable, first: Snapshot<Verified>) -> LockedShelves
+        requires { IsNew first.value table }
     {
+        drop(first);
         LockedShelves {
             table: Mutex::new(table),
         }

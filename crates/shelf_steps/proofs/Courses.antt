@@ -2,8 +2,8 @@
 use Rattle.reasoning.proofs.ListLemmas.{slice_get-append}
 use Rattle.version_core.specs.Actors.{nobody, actor, NoneOf}
 use Rattle.image_layout.specs.Image.{ImageValue}
-use Rattle.std.proofs.Common.{◌≡◌, ◌≢◌, ℕ, zero, suc, ◌+◌, ◌≤◌, List, [], ◌∷◌, ◌++◌, length, Option, Some, slice_get, get_or, refl, ap, sym, ◌∙◌}
-use Rattle.std.proofs.Common.{subst, arith, append_assoc}
+use Rattle.std.proofs.Common.{◌≡◌, ◌≢◌, ℕ, zero, suc, ◌+◌, ◌<◌, ◌≤◌, true, List, [], ◌∷◌, ◌++◌, length, Option, Some, None, slice_get, get_or, refl, ap}
+use Rattle.std.proofs.Common.{sym, ◌∙◌, subst, arith, append_assoc}
 use Rattle.std.proofs.lemmas.List.{append-nil}
 use mathlib.Core.List.{IsPrefix}
 use Rattle.version_core.specs.declared.event.Event.{Event}
@@ -16,9 +16,11 @@ use Rattle.version_core.proofs.Runs.{reached_kept, list_grows_with_replies}
 use Rattle.shelf_steps.specs.declared.edition.Edition.{Edition}
 use Rattle.shelf_steps.specs.declared.views.Known.{Known}
 use Rattle.shelf_steps.specs.declared.views.WorkerView.{WorkerView}
+use Rattle.shelf_steps.specs.declared.views.LoaderView.{LoaderView}
+use Rattle.version_core.specs.Shown.{WorkerShows}
 use Rattle.shelf_steps.specs.Course.{Course, Goes, extended, all_of, Begins, Happened, image_of, IsEdition}
 use Rattle.shelf_steps.specs.Course.{note_of, notes_in, join_of, joined_by, HasDoneNothing}
-use Rattle.shelf_steps.specs.Seats.{HasEdition, WorkerFits}
+use Rattle.shelf_steps.specs.Seats.{HasEdition, WorkerFits, LoaderFits}
 
 pub kept_of : (c : Course) → Goes c → Kept c.state
 kept_of c g = reached_kept c.state (c.events, record { replies = c.replies; run = g.run })
@@ -137,4 +139,46 @@ other_fits c d u now seen up more known joined f = record {
   edition = has_later c.images d.images u.now u.edition more f.edition;
   known = known;
   joined = f.joined ∙ sym joined;
+}
+
+-- what a worker knows after a step of its own, which takes in no notice
+pub worker_next : (c d : Course) (e : Event) (v v' : WorkerView) → WorkerFits c v → d.events ≡ c.events ++ e ∷ [] → join_of v.number e ≡ []
+    → v'.known ≡ all_of d → (v'.number ≡ v.number) × (v'.joined ≡ v.joined)
+    → WorkerShows v'.number v'.now v'.seen d.state → (v'.last ≤ d.state.current) × (v'.last ≤ v'.seen)
+    → (v'.passed ≡ true → v'.last < d.state.current) → HasEdition d.images v'.now v'.edition → WorkerFits d v'
+worker_next c d e v v' f more none known kept shows last passed edition = record {
+  shows = shows;
+  last = last;
+  passed = passed;
+  edition = edition;
+  known = subst (λ (x : Known). Begins x (Some v'.number) d) (sym known) (begins_all d (Some v'.number));
+  joined = kept.1 ∙ (f.joined ∙ (sym (ap (λ (es : List Event). joined_by v.number es) more ∙ joined_same v.number c.events e none)
+      ∙ ap (λ (n : ℕ). joined_by n d.events) (sym kept.0)));
+}
+
+-- what the loader knows after a step of its own, which gives no notice
+pub loader_next : (c d : Course) (e : Event) (l l' : LoaderView) → LoaderFits c l → d.events ≡ c.events ++ e ∷ [] → note_of e ≡ 0 → l'.known ≡ all_of d
+    → l'.notes ≡ l.notes → length d.images ≡ newest d.state
+    → l'.current ≡ d.state.current → l'.current_shelf ≡ d.state.current_shelf → l'.shelves ≡ d.state.shelves → LoaderFits d l'
+loader_next c d e l l' f more none known notes as_many current current_shelf shelves = record {
+  shows = record { current = current; current_shelf = current_shelf; shelves = shelves; newest_is = ap (λ (x : Known). length x.images) known ∙ as_many };
+  images = ap (λ (x : Known). x.images) known;
+  known = subst (λ (x : Known). Begins x None d) (sym known) (begins_all d None);
+  notes = notes ∙ (f.notes ∙ sym (ap (λ (es : List Event). notes_in es) more ∙ notes_same c.events e none));
+}
+
+-- and after one that is another's, or that gives a notice
+pub loader_apart : (c : Course) (e : Event) (reply : Reply) (t : State) (l : LoaderView) (count : ℕ) → actor e ≢ None
+    → t.current ≡ c.state.current → t.current_shelf ≡ c.state.current_shelf → t.shelves ≡ c.state.shelves → t.editions ≡ c.state.editions
+    → count ≡ l.notes + note_of e → LoaderFits c l → LoaderFits (extended c e reply t c.images) (record l { notes = count })
+loader_apart c e reply t l count others current current_shelf shelves editions counted f = record {
+  shows = record {
+    current = f.shows.current ∙ sym current;
+    current_shelf = f.shows.current_shelf ∙ sym current_shelf;
+    shelves = f.shows.shelves ∙ sym shelves;
+    newest_is = f.shows.newest_is ∙ ap (λ (xs : List ℕ). length xs) (sym editions);
+  };
+  images = f.images;
+  known = begins_longer c e reply t c.images l.known None others (prefix_same c.images) f.known;
+  notes = let a = f.notes in let b = notes_snoc c.events e in omega arith;
 }

@@ -30,8 +30,8 @@ use Rattle.shelf_steps.specs.Seats.{WorkerFits, LoaderFits}
 use Rattle.shelf_steps.specs.Slots.{SlotsFit, SlotFits, down_from, nothings}
 use Rattle.shelf_steps.specs.Ruled.{Ruled}
 use Rattle.shelf_steps.specs.Plays.{Mine, newest_of, with_open, with_current, with_closing, with_free, with_hand, AllHave, Noted, Opens, Publishes, Closes, CollectsFound, Collects, Gathers, PutsBack, MayOpenOn, MayPublish, MayClose, MayCollect, MayGather, MayPutBack}
-use Rattle.shelf_steps.proofs.Courses.{kept_of, notes_same, joined_same, no_join, nothing_snoc}
-use Rattle.shelf_steps.proofs.Courses.{begins_longer, happened, goes_on, goes_same, begins_all, prefix_same, other_fits}
+use Rattle.shelf_steps.proofs.Courses.{kept_of, joined_same, no_join, nothing_snoc}
+use Rattle.shelf_steps.proofs.Courses.{begins_longer, happened, goes_on, goes_same, loader_next, prefix_same, other_fits}
 use Rattle.shelf_steps.proofs.Frames.{loader_moves}
 use Rattle.shelf_steps.proofs.WordsAfter.{words_same, words_after, few_counted, version_bound, found_at}
 use Rattle.shelf_steps.proofs.NoteLists.{notices_loader}
@@ -150,17 +150,8 @@ opens_as slots id k version l image f many small free hand current next few all 
       given_home table.homes [] f (16 * k) 16 (16 * k + u) (omega arith) (omega arith) (omega arith),
       (h.0, h.1, h.2 ∙ (next ∙ ap (λ m. m + 1) is_newest), image_last r.course.images image (newest s + 1) (omega arith) ∙ ap (λ (x : ImageValue). Some x) (sym h.3)),
     ) in
-    let fits' : LoaderFits d l' = record {
-      shows = record {
-        current = knows.shows.current;
-        current_shelf = knows.shows.current_shelf;
-        shelves = λ i. set (knows.shows.shelves i) k (Shelf.Open (is_newest i + 1));
-        newest_is = goes'.as_many;
-      };
-      images = refl;
-      known = begins_all d None;
-      notes = knows.notes ∙ sym (notes_same r.course.events e refl);
-    } in (
+    let fits' : LoaderFits d l' = loader_next r.course d e l l' knows refl refl refl refl goes'.as_many knows.shows.current knows.shows.current_shelf
+        (λ i. set (knows.shows.shelves i) k (Shelf.Open (is_newest i + 1))) in (
       View.Loading l',
       give_block 16,
       gives_valid table.homes (down_from f (16 * k) 16 []) 16,
@@ -233,17 +224,7 @@ publishings_as slots id k version (View.Loading l) c small may table r full at f
     let is_step : Step s e reply t = (k, (stands, later), refl) in
     let d : Course = extended r.course e reply t r.course.images in
     let l' : LoaderView = with_current l version k (all_of d) in
-    let fits' : LoaderFits d l' = record {
-      shows = record {
-        current = refl;
-        current_shelf = refl;
-        shelves = knows.shows.shelves;
-        newest_is = r.goes.as_many;
-      };
-      images = refl;
-      known = begins_all d None;
-      notes = knows.notes ∙ sym (notes_same r.course.events e refl);
-    } in (
+    let fits' : LoaderFits d l' = loader_next r.course d e l l' knows refl refl refl refl r.goes.as_many refl refl knows.shows.shelves in (
       View.Loading l',
       keeps,
       tt,
@@ -276,17 +257,8 @@ closings_as slots id k (View.Loading l) c small may table r full at fits =
     let eight = kept.shelves.eight in
     let bound = version_bound s k (Shelf.Open version) kept stands version (inl refl) in
     let word = close_word n (get_or s.counts k 0) version (r.words.each k (Shelf.Open version) stands) (few_counted s k kept small) bound in
-    let fits' : LoaderFits d l' = record {
-      shows = record {
-        current = knows.shows.current;
-        current_shelf = knows.shows.current_shelf;
-        shelves = λ i. set (knows.shows.shelves i) k (Shelf.Closing version);
-        newest_is = r.goes.as_many;
-      };
-      images = refl;
-      known = begins_all d None;
-      notes = knows.notes ∙ sym (notes_same r.course.events e refl);
-    } in (
+    let fits' : LoaderFits d l' = loader_next r.course d e l l' knows refl refl refl refl r.goes.as_many knows.shows.current knows.shows.current_shelf
+        (λ i. set (knows.shows.shelves i) k (Shelf.Closing version)) in (
       View.Loading l',
       keeps,
       tt,
@@ -330,6 +302,13 @@ is_other n m e q = grind (arith, nat_tests)
 busy_word : (n count version : ℕ) → n ≡ count + 512 + 65536 * version → count ≤ 16 → count ≡ n % 256
 busy_word n count version is few = omega arith
 
+-- a closing shelf, and the word that it has
+closing_at : (id k version : ℕ) (l : LoaderView) (table : Table (Option Edition) View) (r : Ruled table) → get_elem? table.views id ≡ some (View.Loading l)
+    → slice_get l.shelves k ≡ Some (Shelf.Closing version)
+    → IsClosing r.course.state k version × (get_or table.words (k + 1) 0 ≡ shelf_word (Shelf.Closing version) (get_or r.course.state.counts k 0))
+closing_at id k version l table r at shelf =
+    let closing = shelf_is table r id l at k (Shelf.Closing version) shelf in (closing, r.words.each k (Shelf.Closing version) closing)
+
 collects_found : (id k version : ℕ) (l : LoaderView) (table : Table (Option Edition) View) (r : Ruled table) → get_elem? table.views id ≡ some (View.Loading l) → length table.homes ≡ 128 → k < 8
     → slice_get l.shelves k ≡ Some (Shelf.Closing version) → l.hand ≡ None → (b : Bool) → (get_or table.words (k + 1) 0 == 512 + 65536 * version) ≡ b
     → (w : View) × (a : Act (Option Edition)) × Valid table.homes [] a × Ruled (stepped table (k + 1) (either b 0 (get_or table.words (k + 1) 0)) id [] w a) × CollectsFound l k version (get_or table.words (k + 1) 0) b (w, carried_after [] a)
@@ -337,29 +316,19 @@ collects_found id k version l table r at many small shelf hand true found =
     let s = r.course.state in let n = get_or table.words (k + 1) 0 in
     let kept : Kept s = kept_of r.course r.goes in
     let knows = loader_knows table r id l at in
-    let closing : IsClosing s k version = shelf_is table r id l at k (Shelf.Closing version) shelf in
-    let word = r.words.each k (Shelf.Closing version) closing in
+    let here = closing_at id k version l table r at shelf in let word = here.1 in
     let is = is_equal n (512 + 65536 * version) found in
     let nobody : get_or s.counts k 0 ≡ 0 = omega arith in
     let t : State = shelved s k Shelf.Free in
     let e : Event = Event.Collect k in let reply : Reply = Reply.Freed in
-    let is_step : Step s e reply t = (version, closing, nobody, refl) in
+    let is_step : Step s e reply t = (version, here.0, nobody, refl) in
     let d : Course = extended r.course e reply t r.course.images in
     let l' : LoaderView = with_free l k (all_of d) in
     let eight = kept.shelves.eight in
     let f : ℕ → Option Edition = λ j. value_at (get_elem? table.homes j) in
-    let home : IsHome table.homes f (16 * k) 16 = all_home table.homes s.shelves s.counts s.workers r.course.images l.hand k version (no_one_at s.counts s.workers k kept.counts small nobody) closing (loader_slots table r id l at) in
-    let fits' : LoaderFits d l' = record {
-      shows = record {
-        current = knows.shows.current;
-        current_shelf = knows.shows.current_shelf;
-        shelves = λ i. set (knows.shows.shelves i) k Shelf.Free;
-        newest_is = r.goes.as_many;
-      };
-      images = refl;
-      known = begins_all d None;
-      notes = knows.notes ∙ sym (notes_same r.course.events e refl);
-    } in (
+    let home : IsHome table.homes f (16 * k) 16 = all_home table.homes s.shelves s.counts s.workers r.course.images l.hand k version (no_one_at s.counts s.workers k kept.counts small nobody) here.0 (loader_slots table r id l at) in
+    let fits' : LoaderFits d l' = loader_next r.course d e l l' knows refl refl refl refl r.goes.as_many knows.shows.current knows.shows.current_shelf
+        (λ i. set (knows.shows.shelves i) k Shelf.Free) in (
       View.Loading l',
       take_block f (16 * k) 16,
       block_valid table.homes [] f (16 * k) 16 home,
@@ -383,26 +352,16 @@ collects_found id k version l table r at many small shelf hand false found =
     let s = r.course.state in let n = get_or table.words (k + 1) 0 in
     let kept : Kept s = kept_of r.course r.goes in
     let knows = loader_knows table r id l at in
-    let closing : IsClosing s k version = shelf_is table r id l at k (Shelf.Closing version) shelf in
-    let word = r.words.each k (Shelf.Closing version) closing in
+    let here = closing_at id k version l table r at shelf in let word = here.1 in
     let is = is_other n (512 + 65536 * version) found in
     let count : get_or s.counts k 0 ≡ n % 256 = busy_word n (get_or s.counts k 0) version word (few_counted s k kept small) in
     let some_one : 0 < n % 256 = some_one_there n (get_or s.counts k 0) version word is count in
     let e : Event = Event.Collect k in let reply : Reply = Reply.Busy (n % 256) in
-    let is_step : Step s e reply s = (version, closing, count, some_one, refl) in
+    let is_step : Step s e reply s = (version, here.0, count, some_one, refl) in
     let d : Course = extended r.course e reply s r.course.images in
     let l' : LoaderView = with_hand l None (all_of d) in
-    let fits' : LoaderFits d l' = record {
-      shows = record {
-        current = knows.shows.current;
-        current_shelf = knows.shows.current_shelf;
-        shelves = knows.shows.shelves;
-        newest_is = r.goes.as_many;
-      };
-      images = refl;
-      known = begins_all d None;
-      notes = knows.notes ∙ sym (notes_same r.course.events e refl);
-    } in (
+    let fits' : LoaderFits d l' = loader_next r.course d e l l' knows refl refl refl refl r.goes.as_many knows.shows.current knows.shows.current_shelf
+        knows.shows.shelves in (
       View.Loading l',
       keeps,
       tt,
@@ -463,17 +422,8 @@ tries_free id k l c hand' a table r at small free slots false found =
     let is_step : Step s e reply s = ((λ v q. let z : Some Shelf.Free ≡ Some (Shelf.Closing v) = sym is_free ∙ q in cc), refl) in
     let d : Course = extended r.course e reply s r.course.images in
     let l' : LoaderView = with_hand l hand' (all_of d) in
-    let fits' : LoaderFits d l' = record {
-      shows = record {
-        current = knows.shows.current;
-        current_shelf = knows.shows.current_shelf;
-        shelves = knows.shows.shelves;
-        newest_is = r.goes.as_many;
-      };
-      images = refl;
-      known = begins_all d None;
-      notes = knows.notes ∙ sym (notes_same r.course.events e refl);
-    } in (
+    let fits' : LoaderFits d l' = loader_next r.course d e l l' knows refl refl refl refl r.goes.as_many knows.shows.current knows.shows.current_shelf
+        knows.shows.shelves in (
       all_of d,
       noted_ruled table r id l l' at refl e reply s refl is_step refl refl refl refl (omega arith) (set table.words (k + 1) n)
           (homes_after table.homes c a) fits' (words_same table.words (k + 1) s s r.words refl refl refl refl) slots,

@@ -26,7 +26,7 @@ use Rattle.shelf_steps.specs.Ruled.{Ruled, notices_of}
 use Rattle.shelf_steps.specs.Laws.{Shelved}
 use Rattle.shelf_steps.specs.Plays.{Mine, with_note, gives_notice, new_notice, with_seen, joins_notice, IsLoading, IsSettled, IsNotice}
 use Rattle.shelf_steps.specs.Events.{NotesAreEvents, JoinsAreEvents}
-use Rattle.shelf_steps.proofs.Courses.{kept_of, notes_snoc, joined_snoc, joined_same, nothing_snoc, begins_longer, goes_same, prefix_same, other_fits}
+use Rattle.shelf_steps.proofs.Courses.{kept_of, joined_snoc, joined_same, nothing_snoc, begins_longer, goes_same, prefix_same, loader_apart, other_fits}
 use Rattle.shelf_steps.proofs.Frames.{worker_moves, loader_moves}
 use Rattle.shelf_steps.proofs.NoteLists.{notices_worker, notices_loader, notices_more, notices_less}
 use Rattle.shelf_steps.proofs.Opens.{at_end}
@@ -51,17 +51,7 @@ module _ (table : Shelved) (r : Ruled table) (e : Event) (reply : Reply) (t : St
 
   loader_on : (l : LoaderView) (count : ℕ) → count ≡ l.notes + note_of e → LoaderFits r.course l
       → LoaderFits (extended r.course e reply t r.course.images) (record l { notes = count })
-  loader_on l count counted f = record {
-    shows = record {
-      current = f.shows.current ∙ sym current;
-      current_shelf = f.shows.current_shelf ∙ sym current_shelf;
-      shelves = f.shows.shelves ∙ sym shelves;
-      newest_is = f.shows.newest_is ∙ ap (λ (xs : List ℕ). length xs) (sym editions);
-    };
-    images = f.images;
-    known = begins_longer r.course e reply t r.course.images l.known None not_loaders (prefix_same r.course.images) f.known;
-    notes = let a = f.notes in let b = notes_snoc r.course.events e in omega arith;
-  }
+  loader_on l count counted f = loader_apart r.course e reply t l count not_loaders current current_shelf shelves editions counted f
 
   worker_on : (u : WorkerView) → slice_get t.workers u.number ≡ slice_get r.course.state.workers u.number
       → get_or t.seen u.number 0 ≡ get_or r.course.state.seen u.number 0 → join_of u.number e ≡ [] → WorkerFits r.course u

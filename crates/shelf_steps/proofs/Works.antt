@@ -4,7 +4,7 @@ use Rattle.version_core.specs.Actors.{nobody, actor}
 use Rattle.image_layout.specs.Image.{ImageValue}
 use Rattle.std.proofs.Common.{◌≡◌, ◌≢◌, ℕ, zero, suc, ◌+◌, ◌-◌, ◌*◌, ◌/◌, ◌%◌, ◌<◌, ◌≤◌, Bool, true, false, MatchBool, List, [], ◌∷◌, length, set, get_or, Option, Some, None, slice_get, refl, ap, sym, ◌∙◌, subst, arith, get_or-set_same, get_or-set_other, le_refl, inl, inr}
 use Rattle.std.proofs.lemmas.Option.{slice_get_within}
-use mathlib.Core.Option.{none, some}
+use mathlib.Core.Option.{Option as Maybe, none, some}
 use lib.ListN.{get_elem?}
 use Rattle.atomic_table.specs.Table.{State as Table, Act, keeps, takes, gives, stepped, Allows, Valid, homes_after, carried_after}
 use Rattle.version_core.specs.declared.event.Event.{Event}
@@ -20,13 +20,13 @@ use Rattle.shelf_steps.specs.declared.views.Known.{Known}
 use Rattle.shelf_steps.specs.declared.views.WorkerView.{WorkerView}
 use Rattle.shelf_steps.specs.declared.views.View.{View}
 use Rattle.shelf_steps.specs.Course.{Course, Goes, extended, all_of, Begins, Happened, IsEdition}
-use Rattle.version_core.specs.Shown.{WordsShow, shelf_word}
+use Rattle.version_core.specs.Shown.{WordsShow, WorkerShows, shelf_word}
 use Rattle.shelf_steps.specs.Seats.{WorkerFits, LoaderFits, SeatsFit, HasEdition}
 use Rattle.shelf_steps.specs.Slots.{SlotsFit, SlotFits}
 use Rattle.shelf_steps.specs.Ruled.{Ruled}
 use Rattle.shelf_steps.specs.Plays.{Mine, looked_at, is_open, holding, come_late, gone, Looks, TakesFound, TakesAs, Takes, Leaves, GivesBack, IsIdle, HasLooked, IsLate, HoldsOut, ShowsIn}
-use Rattle.shelf_steps.proofs.Courses.{kept_of, notes_same, joined_same, no_note, no_join, nothing_snoc}
-use Rattle.shelf_steps.proofs.Courses.{begins_longer, happened, goes_same, begins_all, prefix_same, other_fits}
+use Rattle.shelf_steps.proofs.Courses.{kept_of, joined_same, no_note, no_join, nothing_snoc}
+use Rattle.shelf_steps.proofs.Courses.{begins_longer, happened, goes_same, loader_apart, prefix_same, other_fits, worker_next}
 use Rattle.shelf_steps.proofs.Frames.{there, worker_moves}
 use Rattle.shelf_steps.proofs.WordsAfter.{current_word, words_same, words_after, word_rises, word_falls, word_tells, found_at}
 use Rattle.shelf_steps.proofs.NoteLists.{notices_worker}
@@ -56,17 +56,8 @@ module _ (table : Table (Option Edition) View) (r : Ruled table) (id : ℕ) (v v
   not_nobodys q = let z : Some v.number ≡ Some 16 = sym whose ∙ q in let same : v.number ≡ 16 = cc in let less = number_small in omega arith
 
   loads : LoaderFits (extended r.course e reply t r.course.images) r.loader
-  loads = let f = r.seats.loads in record {
-    shows = record {
-      current = f.shows.current ∙ sym current;
-      current_shelf = f.shows.current_shelf ∙ sym current_shelf;
-      shelves = f.shows.shelves ∙ sym shelves;
-      newest_is = f.shows.newest_is ∙ ap (λ (l : List ℕ). length l) (sym editions);
-    };
-    images = f.images;
-    known = begins_longer r.course e reply t r.course.images r.loader.known None not_loaders (prefix_same r.course.images) f.known;
-    notes = f.notes ∙ sym (notes_same r.course.events e (no_note e not_nobodys));
-  }
+  loads = loader_apart r.course e reply t r.loader r.loader.notes not_loaders current current_shelf shelves editions
+      (let z = no_note e not_nobodys in omega arith) r.seats.loads
 
   others : (u : WorkerView) → u.number ≢ v.number → WorkerFits r.course u → WorkerFits (extended r.course e reply t r.course.images) u
   others u other f = let z = rest u.number other in
@@ -77,6 +68,19 @@ module _ (table : Table (Option Edition) View) (r : Ruled table) (id : ℕ) (v v
   pub next_seats : WorkerFits (extended r.course e reply t r.course.images) v' → SeatsFit (extended r.course e reply t r.course.images) (set table.views id (View.Working v')) r.loader
   next_seats fits = worker_moves r.course (extended r.course e reply t r.course.images) table.views r.loader r.seats id v v' at named others loads rest
       (λ w low other h. nothing_snoc w r.course.events e (not_of w other) (no_join w e not_nobodys) h) fits
+
+  pub next_ruled : (words' : List ℕ) (homes' : List (Maybe (Option Edition))) → WorkerFits next v' → WordsShow words' t
+      → SlotsFit homes' t.shelves t.workers r.course.images r.loader.hand
+      → t.notices ≡ r.course.state.notices → Ruled record { words = words'; homes = homes'; views = set table.views id (View.Working v') }
+  next_ruled words' homes' fits words slots notices = record {
+    course = next;
+    loader = r.loader;
+    goes = next_goes;
+    words = words;
+    seats = next_seats fits;
+    notices = notices_worker table.views id v v' at ∙ (r.notices ∙ sym notices);
+    slots = slots;
+  }
 
   pub next_happened : Happened v.known e reply (all_of (extended r.course e reply t r.course.images))
   next_happened = happened r.course e reply t r.course.images v.known
@@ -102,26 +106,19 @@ looks_as slots id (View.Working v) c idle table r full at small =
     λ j other. (slice_get-set_other s.workers w j (Worker.Looked s.current s.current_shelf) other, get_or-set_other s.seen w j s.current 0 other) in
     let many = kept.workers.sixteen in let many' = kept.workers.sixteen_seen in
     let seen_less : v.seen ≤ n / 8 = let q = kept.workers.each w Worker.Idle is_idle in let q' = f.shows.seen in let q'' = z.1 in omega arith in
-    let fits : WorkerFits d v' = record {
-      shows = record { now = slice_get-set_same s.workers w (Worker.Looked s.current s.current_shelf) within ∙ (λ i. Some (Worker.Looked (sym z.1 i) (sym z.2 i))); seen = get_or-set_same s.seen w s.current 0 (omega arith) ∙ sym z.1 };
-      last = ((let q = z.1 in omega arith), le_refl (n / 8));
-      passed = λ p. absurd (cc);
-      edition = refl;
-      known = begins_all d (Some w);
-      joined = f.joined ∙ sym (joined_same w r.course.events e refl);
-    } in (
+    let shows : WorkerShows w v'.now v'.seen d.state = record {
+      now = slice_get-set_same s.workers w (Worker.Looked s.current s.current_shelf) within ∙ (λ i. Some (Worker.Looked (sym z.1 i) (sym z.2 i)));
+      seen = get_or-set_same s.seen w s.current 0 (omega arith) ∙ sym z.1;
+    } in
+    let fits : WorkerFits d v' = worker_next r.course d e v v' f refl refl refl (refl, refl) shows
+        ((let q = z.1 in omega arith), le_refl (n / 8)) (λ p. absurd (cc)) refl in (
       View.Working v',
       keeps,
       tt,
-      record {
-        course = d;
-        loader = r.loader;
-        goes = next_goes table r id v v' at refl e reply t refl is_step refl refl refl refl rest;
-        words = words_same table.words 0 s t r.words refl refl refl refl;
-        seats = next_seats table r id v v' at refl e reply t refl is_step refl refl refl refl rest fits;
-        notices = notices_worker table.views id v v' at ∙ r.notices;
-        slots = slots_worker table.homes s.shelves s.workers r.course.images r.loader.hand w Worker.Idle (Worker.Looked s.current s.current_shelf) is_idle (λ k x q. cc) r.slots;
-      },
+      next_ruled table r id v v' at refl e reply t refl is_step refl refl refl refl rest (set table.words 0 n) table.homes fits
+          (words_same table.words 0 s t r.words refl refl refl refl)
+          (slots_worker table.homes s.shelves s.workers r.course.images r.loader.hand w Worker.Idle (Worker.Looked s.current s.current_shelf) is_idle
+          (λ k x q. cc) r.slots) refl,
       (all_of d, refl, next_happened table r id v v' at refl e reply t refl is_step refl refl refl refl rest, seen_less, (λ p. let q = f.passed p in let q' = z.1 in omega arith), (t, next_goes table r id v v' at refl e reply t refl is_step refl refl refl refl rest, fits.shows)),
     )
 
@@ -161,27 +158,18 @@ takes_found id k v version c table r at now true stands =
     let is_its : IsEdition r.course.images version (Some edition) = (edition, refl, home.2.2, home.2.3) in
     let d : Course = extended r.course e reply t r.course.images in
     let v' : WorkerView = holding v k version edition (all_of d) in
-    let fits : WorkerFits d v' = record {
-      shows = record { now = slice_get-set_same s.workers w (Worker.Holding k version) within; seen = f.shows.seen };
-      last = f.last;
-      passed = f.passed;
-      edition = is_its;
-      known = begins_all d (Some w);
-      joined = f.joined ∙ sym (joined_same w r.course.events e refl);
-    } in (
+    let shows : WorkerShows w v'.now v'.seen d.state = record { now = slice_get-set_same s.workers w (Worker.Holding k version) within; seen = f.shows.seen } in
+    let fits : WorkerFits d v' = worker_next r.course d e v v' f refl refl refl (refl, refl) shows f.last f.passed is_its in (
       View.Working v',
       takes (16 * k + w) (Some edition),
       filled,
-      record {
-        course = d;
-        loader = r.loader;
-        goes = next_goes table r id v v' at refl e reply t refl is_step refl refl refl refl rest;
-        words = words_counted table.words k ((n + 1) % 18446744073709551616) (get_or s.counts k 0 + 1) t.workers s kept r.words z.1 (word_rises table.words s k kept r.words z.1);
-        seats = next_seats table r id v v' at refl e reply t refl is_step refl refl refl refl rest fits;
-        notices = notices_worker table.views id v v' at ∙ r.notices;
-        slots = slots_one table.homes s.shelves s.workers r.course.images r.loader.hand k w (Worker.Looked version k) (Worker.Holding k version) (Shelf.Open version) none has (λ j x ne q. cc) stands z.0
-            (there table.homes (16 * k + w) _ filled) (inr (refl, slice_get-set_same s.workers w (Worker.Holding k version) within)) r.slots;
-      },
+      next_ruled table r id v v' at refl e reply t refl is_step refl refl refl refl rest (set table.words (k + 1) ((n + 1) % 18446744073709551616))
+          (homes_after table.homes c (takes (16 * k + w) (Some edition))) fits
+          (words_counted table.words k ((n + 1) % 18446744073709551616) (get_or s.counts k 0 + 1) t.workers s kept r.words z.1
+          (word_rises table.words s k kept r.words z.1))
+          (slots_one table.homes s.shelves s.workers r.course.images r.loader.hand k w (Worker.Looked version k) (Worker.Holding k version)
+          (Shelf.Open version) none has (λ j x ne q. cc) stands z.0 (there table.homes (16 * k + w) _ filled)
+          (inr (refl, slice_get-set_same s.workers w (Worker.Holding k version) within)) r.slots) refl,
       (
         edition,
         all_of d,
@@ -207,26 +195,16 @@ takes_found id k v version c table r at now false shut =
     let v' : WorkerView = come_late v k (all_of d) in
     let goes' : Goes d = next_goes table r id v v' at refl e reply t refl is_step refl refl refl refl rest in
     let after = (kept_of d goes').workers.each w (Worker.Late k) (slice_get-set_same s.workers w (Worker.Late k) within) in
-    let fits : WorkerFits d v' = record {
-      shows = record { now = slice_get-set_same s.workers w (Worker.Late k) within; seen = f.shows.seen };
-      last = f.last;
-      passed = λ p. let a = f.last.1 in let b = f.shows.seen in let q = after.1 in omega arith;
-      edition = refl;
-      known = begins_all d (Some w);
-      joined = f.joined ∙ sym (joined_same w r.course.events e refl);
-    } in (
+    let shows : WorkerShows w v'.now v'.seen d.state = record { now = slice_get-set_same s.workers w (Worker.Late k) within; seen = f.shows.seen } in
+    let fits : WorkerFits d v' = worker_next r.course d e v v' f refl refl refl (refl, refl) shows f.last
+        (λ p. let a = f.last.1 in let b = f.shows.seen in let q = after.1 in omega arith) refl in (
       View.Working v',
       keeps,
       tt,
-      record {
-        course = d;
-        loader = r.loader;
-        goes = goes';
-        words = words_counted table.words k ((n + 1) % 18446744073709551616) (get_or s.counts k 0 + 1) t.workers s kept r.words z.1 (word_rises table.words s k kept r.words z.1);
-        seats = next_seats table r id v v' at refl e reply t refl is_step refl refl refl refl rest fits;
-        notices = notices_worker table.views id v v' at ∙ r.notices;
-        slots = slots_worker table.homes s.shelves s.workers r.course.images r.loader.hand w (Worker.Looked version k) (Worker.Late k) has (λ j x q. cc) r.slots;
-      },
+      next_ruled table r id v v' at refl e reply t refl is_step refl refl refl refl rest (set table.words (k + 1) ((n + 1) % 18446744073709551616)) table.homes fits
+          (words_counted table.words k ((n + 1) % 18446744073709551616) (get_or s.counts k 0 + 1) t.workers s kept r.words z.1
+          (word_rises table.words s k kept r.words z.1))
+          (slots_worker table.homes s.shelves s.workers r.course.images r.loader.hand w (Worker.Looked version k) (Worker.Late k) has (λ j x q. cc) r.slots) refl,
       (
         all_of d,
         refl,
@@ -268,24 +246,13 @@ leaves_with id k v table r at stays c a small slots =
     let rest : (j : ℕ) → j ≢ w → (slice_get t.workers j ≡ slice_get s.workers j) × (get_or t.seen j 0 ≡ get_or s.seen j 0) = λ j other. (slice_get-set_other s.workers w j Worker.Idle other, refl) in
     let d : Course = extended r.course e reply t r.course.images in
     let v' : WorkerView = gone v (all_of d) in
-    let fits : WorkerFits d v' = record {
-      shows = record { now = slice_get-set_same s.workers w Worker.Idle within; seen = f.shows.seen };
-      last = f.last;
-      passed = f.passed;
-      edition = refl;
-      known = begins_all d (Some w);
-      joined = f.joined ∙ sym (joined_same w r.course.events e refl);
-    } in (
+    let shows : WorkerShows w v'.now v'.seen d.state = record { now = slice_get-set_same s.workers w Worker.Idle within; seen = f.shows.seen } in
+    let fits : WorkerFits d v' = worker_next r.course d e v v' f refl refl refl (refl, refl) shows f.last f.passed refl in (
       all_of d,
-      record {
-        course = d;
-        loader = r.loader;
-        goes = next_goes table r id v v' at refl e reply t refl is_step refl refl refl refl rest;
-        words = words_counted table.words k ((n + (18446744073709551616 - 1)) % 18446744073709551616) (get_or s.counts k 0 - 1) t.workers s kept r.words z.1 (word_falls table.words s k kept r.words z.1 z.2);
-        seats = next_seats table r id v v' at refl e reply t refl is_step refl refl refl refl rest fits;
-        notices = notices_worker table.views id v v' at ∙ r.notices;
-        slots = slots;
-      },
+      next_ruled table r id v v' at refl e reply t refl is_step refl refl refl refl rest
+          (set table.words (k + 1) ((n + (18446744073709551616 - 1)) % 18446744073709551616)) (homes_after table.homes c a) fits
+          (words_counted table.words k ((n + (18446744073709551616 - 1)) % 18446744073709551616) (get_or s.counts k 0 - 1) t.workers s kept r.words z.1
+          (word_falls table.words s k kept r.words z.1 z.2)) slots refl,
       next_happened table r id v v' at refl e reply t refl is_step refl refl refl refl rest,
       (t, next_goes table r id v v' at refl e reply t refl is_step refl refl refl refl rest, fits.shows),
     )

@@ -3,6 +3,7 @@ mod stages;
 mod threads;
 
 ghost use Rattle.std.specs.Prelude.{◌≡◌, IfOk};
+ghost use Rattle.std.specs.List.{All};
 
 use crate::images::image;
 use epochs::*;
@@ -57,13 +58,13 @@ fn calls_succeed(
 }
 
 /// The loader's seat and a worker's, of shelves that are let go.
-fn new_seats(alloc: Global) -> Result<(LoaderSeat, WorkerSeat), AllocError> {
+fn new_seats(alloc: Global) -> Result<(LoaderSeat, WorkerSeat), Fail> {
     match LockedShelves::new(alloc, image(alloc, 1)?) {
         Ok((_, loader, mut seats)) => match seats.pop() {
             Some(seat) => Ok((loader, seat)),
-            None => Err(AllocError),
+            None => Err("seats".into()),
         },
-        Err(_) => Err(AllocError),
+        Err(refused) => Err(unmade(refused)),
     }
 }
 
@@ -78,20 +79,41 @@ fn the_table_without_a_lock(rt: HostRuntime) -> Result<(), Fail> {
             assert!(&rt; calls_succeed(&mut table, &mut seat, &mut loader, second));
             Ok(())
         }
-        Err(_) => Err(AllocError.into()),
+        Err((_, refused)) => Err(refused.into()),
     }
 }
 
-/// A worker's seat at new shelves, the shelves and the loader's seat. The image of version 1 begins at second 1.
-fn open_shelves(alloc: Global) -> Result<(Shelves, ShelfLoader, ShelfSeat), AllocError>
-    ensures { IfOk result (λ made. (made.1.table ≡ made.0) × (made.2.table ≡ made.0)) }
+/// Why no shelves were made, of which version 1 begins at second 1: for want of memory, and the image comes back.
+fn unmade(refused: (Arc<Verified, Global>, PublishFault)) -> Fail {
+    let (first, fault) = refused;
+    if first.base() == 1 && fault == PublishFault::OutOfMemory {
+        AllocError.into()
+    } else {
+        fault.into()
+    }
+}
+
+/// New shelves, the loader's seat and the workers'. The image of version 1 begins at second 1.
+fn new_shelves(alloc: Global) -> Result<(Shelves, ShelfLoader, Vec<ShelfSeat>), Fail>
+    ensures loader { IfOk result (λ made. made.1.table ≡ made.0) }
+    ensures seats { IfOk result (λ made. All (λ seat. seat.table ≡ made.0) made.2.items) }
 {
     match Shelves::new(alloc, image(alloc, 1)?) {
+        Ok(made) => Ok(made),
+        Err(refused) => Err(unmade(refused)),
+    }
+}
+
+/// The same with one worker's seat.
+fn open_shelves(alloc: Global) -> Result<(Shelves, ShelfLoader, ShelfSeat), Fail>
+    ensures { IfOk result (λ made. (made.1.table ≡ made.0) × (made.2.table ≡ made.0)) }
+{
+    match new_shelves(alloc) {
         Ok((shelves, loader, mut seats)) => match seats.pop() {
             Some(seat) => Ok((shelves, loader, seat)),
-            None => Err(AllocError),
+            None => Err("seats".into()),
         },
-        Err(_) => Err(AllocError),
+        Err(refused) => Err(refused),
     }
 }
 
@@ -149,7 +171,7 @@ fn words_of_shelves(rt: HostRuntime) -> Result<(), Fail> {
             words_change(&rt, &shelves, &mut loader, &mut seat, image);
             Ok(())
         }
-        Err(_) => Err(AllocError.into()),
+        Err(refused) => Err(refused),
     }
 }
 
@@ -227,12 +249,9 @@ fn refused_growth_gives_the_image_back(rt: HostRuntime) -> Result<(), Fail> {
     match LockedShelves::new(alloc, image(alloc, 1)?) {
         Ok((shelves, mut loader, mut seats)) => match seats.pop() {
             Some(mut seat) => publish_seven(&rt, alloc, &shelves, &mut loader, &mut seat),
-            None => Err(AllocError.into()),
+            None => Err("seats".into()),
         },
-        Err((first, fault)) => {
-            assert!(&rt; first.base() == 1 && fault == PublishFault::OutOfMemory);
-            Err(AllocError.into())
-        }
+        Err(refused) => Err(unmade(refused)),
     }
 }
 
@@ -262,6 +281,6 @@ fn a_refused_growth_gives_the_image_back(rt: HostRuntime) -> Result<(), Fail> {
         Ok((shelves, mut loader, mut seat)) => {
             publishes_openly(&rt, &shelves, &mut loader, &mut seat, image)
         }
-        Err(_) => Err(AllocError.into()),
+        Err(refused) => Err(refused),
     }
 }

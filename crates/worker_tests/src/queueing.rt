@@ -72,56 +72,155 @@ fn two_names(alloc: Global) -> Result<Vec<String>, AllocError> {
     Ok(names)
 }
 
-/// The feed of the next order.
-fn next_feed<R: Wait>(rt: &R, loader: &mut LoaderOrders<u64>) -> Option<usize> {
+type Worker<'a> = WorkerOrders<'a, u64, Numbers>;
+
+/// Two workers' ends of a queue and the loader's, while they are there.
+#[derive(Drop)]
+struct Ends<'a> {
+    workers: Vec<Worker<'a>>,
+    loader: Option<LoaderOrders<u64>>,
+}
+
+/// The ends of a new queue.
+fn new_ends(alloc: Global, names: &[String]) -> Result<Ends<'_>, AllocError> {
+    let (mut end, loader) = order_queue(alloc)?;
+    let mut workers = Vec::with_capacity(alloc, 2)?;
+    workers.push(WorkerOrders::new(alloc, names, &Numbers, end.another()?))?;
+    workers.push(WorkerOrders::new(alloc, names, &Numbers, end))?;
+    Ok(Ends {
+        workers,
+        loader: Some(loader),
+    })
+}
+
+/// What an order is answered.
+fn order_words<R: Wait>(rt: &R, worker: &mut Worker<'_>, order: &str) -> &'static str {
+    let (word, feed) = order.split_once(' ').unwrap_or((order, ""));
+    let answer = match word {
+        "awaits" => awaits(rt, worker, feed),
+        _ => worker.order(rt, feed),
+    };
+    match answer {
+        Ok(()) => "ok",
+        Err(fault) => fault.name(),
+    }
+}
+
+fn awaits<R: Wait>(rt: &R, worker: &mut Worker<'_>, feed: &str) -> Result<(), OrderFault> {
+    match worker.order_wait(rt, feed) {
+        Ok(_) => Ok(()),
+        Err(fault) => Err(fault),
+    }
+}
+
+/// The name of the next order's feed.
+fn next_words<R: Wait>(rt: &R, loader: &mut LoaderOrders<u64>) -> &'static str {
     match loader.next(rt) {
-        Some(order) => Some(order.feed),
-        None => None,
+        Some(order) if order.feed == 0 => "slow",
+        Some(order) if order.feed == 1 => "fast",
+        Some(_) => "another",
+        None => "nothing",
+    }
+}
+
+impl<'a> Ends<'a> {
+    /// Does what a line of a script says, and tells what is answered.
+    ///
+    /// | line | what is done |
+    /// |---|---|
+    /// | `one orders FEED`, `other orders FEED` | the worker orders the feed |
+    /// | `one awaits FEED`, `other awaits FEED` | the worker orders it and waits |
+    /// | `loader takes` | the loader takes an order: its feed |
+    /// | `loader goes`, `workers go` | their ends are let go |
+    fn answer<R: Wait>(&mut self, rt: &R, deed: &str) -> &'static str {
+        match deed {
+            "loader goes" => {
+                self.loader = None;
+                "gone"
+            }
+            "workers go" => {
+                self.workers.clear();
+                "gone"
+            }
+            "loader takes" => self.take(rt),
+            _ => self.order(rt, deed),
+        }
+    }
+
+    fn take<R: Wait>(&mut self, rt: &R) -> &'static str {
+        match &mut self.loader {
+            Some(loader) => next_words(rt, loader),
+            None => "no loader",
+        }
+    }
+
+    fn order<R: Wait>(&mut self, rt: &R, deed: &str) -> &'static str {
+        let (who, order) = deed.split_once(' ').unwrap_or((deed, ""));
+        let place = match who {
+            "one" => 0,
+            _ => 1,
+        };
+        match self.workers.get_mut(place) {
+            Some(worker) => order_words(rt, worker, order),
+            None => "no worker",
+        }
+    }
+}
+
+fn play_line<R: Wait + Abort>(rt: &R, ends: &mut Ends<'_>, line: &str) {
+    let (deed, expected) = line.split_once(": ").unwrap_or((line, ""));
+    assert_eq!(rt; ends.answer(rt, deed), expected, "{line}");
+}
+
+fn play<R: Wait + Abort>(rt: &R, ends: &mut Ends<'_>, script: &str) {
+    for line in script.split('\n') {
+        play_line(rt, ends, line);
     }
 }
 
 /// Four orders wait, the fifth is refused, also for whoever would wait, and one that is taken makes room again.
+const FOUR_WAIT: &str = "\
+one orders fast: ok
+one orders none: UnknownFeed
+one awaits none: UnknownFeed
+other orders slow: ok
+other orders fast: ok
+one orders slow: ok
+other orders slow: OrdersFull
+other awaits slow: OrdersFull
+other orders : UnknownFeed
+loader takes: fast
+loader takes: slow
+other orders fast: ok
+workers go: gone
+loader takes: fast
+loader takes: slow
+loader takes: fast
+loader takes: nothing";
+
+const THE_LOADER_IS_GONE: &str = "\
+loader goes: gone
+one orders slow: LoaderGone
+one awaits slow: LoaderGone
+one awaits none: UnknownFeed";
+
 #[test]
-fn four_orders_wait(rt: HostRuntime) -> Result<(), Fail> {
-    let alloc: Global = rt.alloc();
-    let names = two_names(alloc)?;
-    let (mut end, mut loader) = order_queue(alloc)?;
-    let mut other = WorkerOrders::new(alloc, &names, &Numbers, end.another()?);
-    let mut one = WorkerOrders::new(alloc, &names, &Numbers, end);
-    assert_eq!(&rt; one.order(&rt, "fast"), Ok(()));
-    assert_eq!(&rt; one.order(&rt, "none"), Err(OrderFault::UnknownFeed));
-    assert_eq!(&rt; one.order_wait(&rt, "none"), Err(OrderFault::UnknownFeed));
-    assert_eq!(&rt; other.order(&rt, "slow"), Ok(()));
-    assert_eq!(&rt; other.order(&rt, "fast"), Ok(()));
-    assert_eq!(&rt; one.order(&rt, "slow"), Ok(()));
-    assert_eq!(&rt; other.order(&rt, "slow"), Err(OrderFault::OrdersFull));
-    assert_eq!(&rt; other.order_wait(&rt, "slow"), Err(OrderFault::OrdersFull));
-    assert_eq!(&rt; other.order(&rt, ""), Err(OrderFault::UnknownFeed));
-    assert_eq!(&rt; next_feed(&rt, &mut loader), Some(1));
-    assert_eq!(&rt; next_feed(&rt, &mut loader), Some(0));
-    assert_eq!(&rt; other.order(&rt, "fast"), Ok(()));
-    drop(one);
-    drop(other);
-    assert_eq!(&rt; next_feed(&rt, &mut loader), Some(1));
-    assert_eq!(&rt; next_feed(&rt, &mut loader), Some(0));
-    assert_eq!(&rt; next_feed(&rt, &mut loader), Some(1));
-    assert_eq!(&rt; next_feed(&rt, &mut loader), None);
+fn orders_wait(rt: HostRuntime) -> Result<(), Fail> {
+    let names = two_names(rt.alloc())?;
+    for script in [FOUR_WAIT, THE_LOADER_IS_GONE] {
+        play_at_new_ends(&rt, rt.alloc(), &names, script)?;
+    }
     Ok(())
 }
 
-#[test]
-fn the_loader_is_gone(rt: HostRuntime) -> Result<(), Fail> {
-    let alloc: Global = rt.alloc();
-    let names = two_names(alloc)?;
-    let (end, loader) = order_queue(alloc)?;
-    let mut worker = WorkerOrders::new(alloc, &names, &Numbers, end);
-    drop(loader);
-    assert_eq!(&rt; worker.order(&rt, "slow"), Err(OrderFault::LoaderGone));
-    assert_eq!(&rt; worker.order_wait(&rt, "slow"), Err(OrderFault::LoaderGone));
-    assert_eq!(&rt;
-        worker.order_wait(&rt, "none"),
-        Err(OrderFault::UnknownFeed)
-    );
+fn play_at_new_ends<R: Wait + Abort>(
+    rt: &R,
+    alloc: Global,
+    names: &[String],
+    script: &str,
+) -> Result<(), Fail> {
+    let mut ends = new_ends(alloc, names)?;
+    play(rt, &mut ends, script);
     Ok(())
 }
 
@@ -142,47 +241,93 @@ fn answer_next<R: Wait>(
 /// What whoever waits for the feed `fast` is told, where the loader answers so; and which feed the loader was told.
 fn told<R: Threads + Wait + Sync>(
     rt: &R,
-    alloc: Global,
+    worker: &mut Worker<'_>,
+    loader: LoaderOrders<u64>,
     answer: Option<LoadAnswer<u64>>,
-) -> Result<(Result<(u64, u64), OrderFault>, Option<usize>), AllocError> {
-    let names = two_names(alloc)?;
-    let (end, loader) = order_queue(alloc)?;
-    let mut worker = WorkerOrders::new(alloc, &names, &Numbers, end);
-    Ok(thread::join(
+) -> (Result<(u64, u64), OrderFault>, Option<usize>) {
+    thread::join(
         rt,
-        move || -> Result<(u64, u64), OrderFault> { worker.order_wait(rt, "fast") },
+        || worker.order_wait(rt, "fast"),
         move || -> Option<usize> { answer_next(rt, loader, answer) },
-    ))
+    )
+}
+
+/// Asserts what is told of the load where the loader answers so, and that the loader was told of the feed `fast`.
+fn tells<R: Threads + Wait + Sync + Abort>(
+    rt: &R,
+    alloc: Global,
+    names: &[String],
+    answer: Option<LoadAnswer<u64>>,
+    expected: Result<(u64, u64), OrderFault>,
+) -> Result<(), Fail> {
+    let (end, loader) = order_queue(alloc)?;
+    let mut worker = WorkerOrders::new(alloc, names, &Numbers, end);
+    let (version, feed) = told(rt, &mut worker, loader, answer);
+    assert_eq!(rt; version, expected);
+    assert_eq!(rt; feed, Some(1));
+    Ok(())
+}
+
+fn each_answer<R: Threads + Wait + Sync + Abort>(
+    rt: &R,
+    alloc: Global,
+    names: &[String],
+) -> Result<(), Fail> {
+    let published = LoadAnswer::Published { notice: 7 };
+    tells(rt, alloc, names, Some(published), Ok((7, 7)))?;
+    let unnoticed = Err(OrderFault::OutOfMemory);
+    tells(rt, alloc, names, Some(LoadAnswer::Unnoticed), unnoticed)?;
+    let refused = LoadAnswer::Refused { refusal: 101 };
+    let fault = OrderFault::LoadRefused { refusal: 101 };
+    tells(rt, alloc, names, Some(refused), Err(fault))?;
+    tells(rt, alloc, names, None, Err(OrderFault::LoaderGone))
 }
 
 /// Each answer of the loader reaches whoever waits for it; where none came, the loader is gone.
 #[test]
 fn answers_are_told(rt: HostRuntime) -> Result<(), Fail> {
-    let alloc: Global = rt.alloc();
-    let (version, feed) = told(&rt, alloc, Some(LoadAnswer::Published { notice: 7 }))?;
-    assert_eq!(&rt; version, Ok((7, 7)));
-    assert_eq!(&rt; feed, Some(1));
-    let (version, _) = told(&rt, alloc, Some(LoadAnswer::Unnoticed))?;
-    assert_eq!(&rt; version, Err(OrderFault::OutOfMemory));
-    let (version, _) = told(&rt, alloc, Some(LoadAnswer::Refused { refusal: 101 }))?;
-    assert_eq!(&rt; version, Err(OrderFault::LoadRefused { refusal: 101 }));
-    let (version, feed) = told(&rt, alloc, None)?;
-    assert_eq!(&rt; version, Err(OrderFault::LoaderGone));
-    assert_eq!(&rt; feed, Some(1));
+    let names = two_names(rt.alloc())?;
+    each_answer(&rt, rt.alloc(), &names)
+}
+
+/// Four orders wait.
+const FILLED: &str = "\
+one orders slow: ok
+other orders fast: ok
+one orders fast: ok
+other orders slow: ok";
+
+/// The same four wait, and no other does.
+const STILL_FILLED: &str = "\
+one orders slow: OrdersFull
+one awaits none: UnknownFeed
+loader takes: slow
+loader takes: fast
+one orders slow: ok
+workers go: gone
+loader takes: fast
+loader takes: slow
+loader takes: slow
+loader takes: nothing";
+
+/// An order for which its worker would wait isn't put: the queue is full, or there was no memory for a way back. Neither changes
+/// the queue.
+fn awaits_at_a_full_queue<R: Wait + Abort>(rt: &R, ends: &mut Ends<'_>) -> Result<(), Fail> {
+    play(rt, ends, FILLED);
+    let answer = ends.answer(rt, "other awaits slow");
+    play(rt, ends, STILL_FILLED);
+    if answer == "OutOfMemory" {
+        return Err(AllocError.into());
+    }
+    assert_eq!(rt; answer, "OrdersFull");
     Ok(())
 }
 
-/// Whichever growth is refused, the test ends with `AllocError`.
+/// A growth that is refused before the ends stand makes no queue; one of the way back leaves the orders that wait as they are.
+/// Either ends the test with `AllocError`.
 #[test]
 fn refused_growth_makes_no_queue(rt: HostRuntime) -> Result<(), Fail> {
-    let alloc: Global = rt.alloc();
-    let names = two_names(alloc)?;
-    let (mut end, loader) = order_queue(alloc)?;
-    let mut other = WorkerOrders::new(alloc, &names, &Numbers, end.another()?);
-    assert_eq!(&rt; other.order(&rt, "slow"), Ok(()));
-    drop(loader);
-    if other.order_wait(&rt, "slow") == Err(OrderFault::OutOfMemory) {
-        return Err(AllocError.into());
-    }
-    Ok(())
+    let names = two_names(rt.alloc())?;
+    let mut ends = new_ends(rt.alloc(), &names)?;
+    awaits_at_a_full_queue(&rt, &mut ends)
 }

@@ -14,9 +14,9 @@ ghost use Rattle.std.specs.Prelude.{◌≡◌};
 ghost use Rattle.std.specs.List.{All};
 
 use super::stages::{LockedStage, NamedStage, Stage, named_stage};
-use crate::images::image;
+use super::{new_shelves, open_shelves};
 use epochs::*;
-use std::alloc::{AllocError, Global};
+use std::alloc::Global;
 use std::marker::Brand;
 use std::process::Abort;
 use std::sync::Wait;
@@ -168,11 +168,11 @@ fn play_at<B: Named, R: Wait + Abort>(
 }
 
 fn play_without_a_lock<R: Wait + Abort>(rt: &R, alloc: Global, course: Course) -> Result<(), Fail> {
-    match Shelves::new(alloc, image(alloc, 1)?) {
+    match new_shelves(alloc) {
         Ok((shelves, loader, seats)) => {
             play_at::<Brand, R>(rt, alloc, shelves, loader, seats, course)
         }
-        Err(_) => Err(AllocError.into()),
+        Err(refused) => Err(refused),
     }
 }
 
@@ -210,12 +210,9 @@ fn scripts_without_a_lock(rt: HostRuntime) -> Result<(), Fail> {
 #[test]
 fn a_script_for_one_worker(rt: HostRuntime) -> Result<(), Fail> {
     let alloc: Global = rt.alloc();
-    match Shelves::new(alloc, image(alloc, 1)?) {
-        Ok((shelves, loader, mut seats)) => match seats.pop() {
-            Some(seat) => play_alone::<Brand, _>(&rt, alloc, shelves, loader, seat),
-            None => Err("seats".into()),
-        },
-        Err(_) => Err(AllocError.into()),
+    match open_shelves(alloc) {
+        Ok((shelves, loader, seat)) => play_alone::<Brand, _>(&rt, alloc, shelves, loader, seat),
+        Err(refused) => Err(refused),
     }
 }
 

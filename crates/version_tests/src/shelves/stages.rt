@@ -3,11 +3,13 @@
 ghost use Rattle.std.specs.Prelude.{◌≡◌};
 ghost use Rattle.std.specs.List.{All};
 
+use super::unmade;
 use crate::images::image;
 use epochs::*;
 use image_verifier::Verified;
 use std::alloc::{AllocError, Global};
 use std::sync::{Arc, Wait};
+use std::test::*;
 
 /// Shelves with all their seats. The call of a seat tells the answer and what the seat holds then, as `ok, 2 at 7`: version 2,
 /// whose image begins at second 7.
@@ -76,7 +78,7 @@ pub(crate) struct LockedStage {
 
 impl LockedStage {
     /// New shelves. The image of version 1 begins at second 1.
-    pub(crate) fn new(alloc: Global) -> Result<LockedStage, AllocError> {
+    pub(crate) fn new(alloc: Global) -> Result<LockedStage, Fail> {
         match LockedShelves::new(alloc, image(alloc, 1)?) {
             Ok((shelves, loader, seats)) => Ok(LockedStage {
                 alloc,
@@ -84,12 +86,12 @@ impl LockedStage {
                 loader,
                 seats,
             }),
-            Err(_) => Err(AllocError),
+            Err(refused) => Err(unmade(refused)),
         }
     }
 
     /// The seats are at other shelves from now on, which are new.
-    pub(crate) fn change_shelves(&mut self) -> Result<(), AllocError> {
+    pub(crate) fn change_shelves(&mut self) -> Result<(), Fail> {
         let other = LockedStage::new(self.alloc)?;
         self.shelves = other.shelves;
         Ok(())

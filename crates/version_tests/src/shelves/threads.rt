@@ -5,11 +5,11 @@ ghost use Rattle.std.specs.List.{All};
 
 use super::scripts::play;
 use super::stages::{LockedStage, NamedStage, named_stage};
-use super::{current_version, publish};
+use super::{current_version, new_shelves, publish};
 use crate::images::image;
 use epochs::*;
 use image_verifier::Verified;
-use std::alloc::{AllocError, Global};
+use std::alloc::Global;
 use std::marker::Brand;
 use std::process::Abort;
 use std::sync::{Arc, Wait};
@@ -226,10 +226,10 @@ fn beside_a_loader<B: Named + Send + Sync, R: Threads + Wait + Sync + Abort>(
 #[test]
 fn two_workers_beside_a_loader(rt: HostRuntime) -> Result<(), Fail> {
     let alloc: Global = rt.alloc();
-    match Shelves::new(alloc, image(alloc, 1)?) {
+    match new_shelves(alloc) {
         Ok((shelves, loader, seats)) => {
             beside_a_loader::<Brand, _>(&rt, alloc, shelves, loader, seats)
         }
-        Err(_) => Err(AllocError.into()),
+        Err(refused) => Err(refused),
     }
 }
