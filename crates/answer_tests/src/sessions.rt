@@ -97,7 +97,7 @@ fn add_line(bytes: &mut Vec<u8>, line: &str) -> Result<(), AllocError> {
 fn lines_of(alloc: Global, lines: &[&str]) -> Result<Vec<u8>, AllocError> {
     let mut bytes = Vec::new(alloc);
     for line in lines {
-        add_line(&mut bytes, line)?;
+        add_line(&mut bytes, *line)?;
     }
     Ok(bytes)
 }
