@@ -81,9 +81,12 @@ pub not_rose : (first now : ℕ) → now ≡ first → ¬ (first < now)
 not_rose first now same up = absurd (omega (arith, same, up))
 
 -- a session that ends so behind the lines that are answered
-serves_so_far : (number : ℕ) (result : Result Ended SessionFault) (to_read known later : Option (List ℕ)) (unread bytes : List ℕ) (contents wrote : Option (List ℕ)) (a b : SeatValue) (asked asked_then : List OrderValue) (count : ℕ) (read_failed write_failed : Type 0)
-    → count ≤ 1_000_000 → (so_far : SoFar number to_read known unread contents wrote a asked b asked_then count) → (more : HasGiven to_read later (unread ++ bytes) (lines_in so_far.turns))
-    → EndsSo result more.read (text_of so_far.turns) so_far.turns (IsAtEnd later) read_failed write_failed → Serves number result to_read later contents wrote read_failed write_failed a asked b asked_then
+serves_so_far : (number : ℕ) (result : Result Ended SessionFault) (to_read known later : Option (List ℕ)) (unread bytes : List ℕ)
+    (contents wrote : Option (List ℕ)) (a b : SeatValue) (asked asked_then : List OrderValue) (count : ℕ) (read_failed write_failed : Type 0)
+    → count ≤ 1_000_000 → (so_far : SoFar number to_read known unread contents wrote a asked b asked_then count)
+    → (more : HasGiven to_read later (unread ++ bytes) (lines_in so_far.turns))
+    → EndsSo result more.read (text_of so_far.turns) so_far.turns (IsAtEnd later) read_failed write_failed
+    → Serves number result to_read later contents wrote read_failed write_failed a asked b asked_then
 serves_so_far number result to_read known later unread bytes contents wrote a b asked asked_then count read_failed write_failed few so_far more ends = record {
   read = more.read;
   written = text_of so_far.turns;
@@ -102,7 +105,8 @@ pub ends_at_end : (number : ℕ) (to_read known later : Option (List ℕ)) (unre
     → Serves number (Ok ended) to_read later contents wrote read_failed write_failed a asked b asked_then
 ends_at_end number to_read known later unread bytes contents wrote a b asked asked_then count read_failed write_failed ended few so_far came none end no_read no_write =
     let more = HasGiven-read to_read known later unread bytes (lines_in so_far.turns) so_far.given came in
-    serves_so_far number (Ok ended) to_read known later unread bytes contents wrote a b asked asked_then count read_failed write_failed few so_far more
+    serves_so_far number (Ok ended) to_read known later unread bytes contents wrote a b asked asked_then count
+    read_failed write_failed few so_far more
     (end, no_read, no_write, sym (HasGiven-nothing to_read later (unread ++ bytes) (lines_in so_far.turns) more none), refl)
 
 -- the rest was the last line
@@ -175,7 +179,8 @@ read_fails number to_read known later unread bytes contents wrote a b asked aske
     let more = HasGiven-read to_read known later unread bytes (lines_in so_far.turns) so_far.given came in
     let rest : rest_of more.read ≡ unread ++ bytes = IsCut-rest more.read (unread ++ bytes) (lines_in so_far.turns) one more.cut in
     let why : read_failed ⊎ (length (rest_of more.read) ≡ 16_777_217) = subst (λ (xs : List ℕ). read_failed ⊎ (length xs ≡ 16_777_217)) (sym rest) failed in
-    serves_so_far number (Err SessionFault.ReadFailed) to_read known later unread bytes contents wrote a b asked asked_then count read_failed write_failed few so_far more
+    serves_so_far number (Err SessionFault.ReadFailed) to_read known later unread bytes contents wrote a b asked asked_then count
+    read_failed write_failed few so_far more
     (why, no_write, sym (IsCut-whole more.read (unread ++ bytes) (lines_in so_far.turns) one more.cut), refl)
 
 -- a million lines are answered, and a byte is there
@@ -188,8 +193,10 @@ too_many number to_read known later unread bytes contents wrote a b asked asked_
     let further : 0 < length (lines_of (unread ++ bytes)) = lines_of-some (unread ++ bytes) some in
     let full : length (lines_in so_far.turns) ≡ 1_000_000 = lines_many so_far.turns ∙ so_far.many ∙ million in
     let long : 1_000_000 < length (lines_of more.read) = omega (arith, ap (λ (ls : List (List ℕ)). length ls) all, length-append (lines_in so_far.turns) (lines_of (unread ++ bytes)), further, full) in
-    serves_so_far number (Err SessionFault.TooManyRequests) to_read known later unread bytes contents wrote a b asked asked_then count read_failed write_failed (omega (arith, million)) so_far more
-    (no_read, no_write, so_far.many ∙ million, long, first_of (lines_in so_far.turns) (lines_of (unread ++ bytes)) (lines_of more.read) all ∙ ap (λ (n : ℕ). take n (lines_of more.read)) full, refl)
+    let first = first_of (lines_in so_far.turns) (lines_of (unread ++ bytes)) (lines_of more.read) all in
+    serves_so_far number (Err SessionFault.TooManyRequests) to_read known later unread bytes contents wrote a b asked asked_then count
+    read_failed write_failed (omega (arith, million)) so_far more
+    (no_read, no_write, so_far.many ∙ million, long, first ∙ ap (λ (n : ℕ). take n (lines_of more.read)) full, refl)
 
 -- why a read fails
 pub why_failed : (first before now long : ℕ) → first < 2 ^ 64 - 1 → before ≡ first → (now ≡ one_more before) ⊎ ((now ≡ before) × (long ≡ 16_777_217)) → (first < now) ⊎ (long ≡ 16_777_217)

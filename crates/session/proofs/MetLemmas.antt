@@ -32,7 +32,8 @@ pin_refused number a b fault reply step told =
     record { moves = answered (Answer.PinRefused fault) ∷ []; meets = inr (refl, inr met); seat = (b, step, refl) }
 
 -- where memory is wanting, what was pinned is given back
-given_back : (number : ℕ) (asked : Asked) (a m b : SeatValue) (v : ℕ) (image : ImageValue) (r : Result (Unit {0}) PinFault) (reply : List ℕ) → PinStep a (Ok tt) m → HoldsInHistory number m.held → m.held ≡ Some (v, image)
+given_back : (number : ℕ) (asked : Asked) (a m b : SeatValue) (v : ℕ) (image : ImageValue) (r : Result (Unit {0}) PinFault)
+    (reply : List ℕ) → PinStep a (Ok tt) m → HoldsInHistory number m.held → m.held ≡ Some (v, image)
     → ReleaseStep m r b → reply ≡ memory_line → IsMet number a asked reply b
 given_back number asked a m b v image r reply step known held back told =
     let pinned = is_pinned number a m v image step known held in
@@ -45,7 +46,8 @@ given_back number asked a m b v image r reply step known held back told =
     }
 
 -- a pin that can't be told
-pub pin_given_back : (number : ℕ) (a m b : SeatValue) (v : ℕ) (image : ImageValue) (r : Result (Unit {0}) PinFault) (reply : List ℕ) → PinStep a (Ok tt) m → HoldsInHistory number m.held → m.held ≡ Some (v, image)
+pub pin_given_back : (number : ℕ) (a m b : SeatValue) (v : ℕ) (image : ImageValue) (r : Result (Unit {0}) PinFault) (reply : List ℕ)
+    → PinStep a (Ok tt) m → HoldsInHistory number m.held → m.held ≡ Some (v, image)
     → ReleaseStep m r b → reply ≡ memory_line → IsMet number a (asks pin) reply b
 pin_given_back number a m b v image r reply step known held back told = given_back number (asks pin) a m b v image r reply step known held back told
 
@@ -90,4 +92,5 @@ profile_met_once number a m b v image r ask reply step known held back (inl told
       meets = inr (refl, met);
       seat = both.1;
     }
-profile_met_once number a m b v image r ask reply step known held back (inr memory) = given_back number (asks (profile ask)) a m b v image r reply step known held back memory
+profile_met_once number a m b v image r ask reply step known held back (inr memory) =
+    given_back number (asks (profile ask)) a m b v image r reply step known held back memory

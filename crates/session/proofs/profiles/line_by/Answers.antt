@@ -5,5 +5,8 @@ use Rattle.session.proofs.profiles.line_by.Goals as goal
 
 pub returns : goal.returns
 returns g c =
-    IfOk-weaker c.profile_reply.result _ _ (λ line told. answered_line _ _ _ _ _ _ c.in_ok-answer.answer.departures.items _ _ _ c.new-source.ensures.timetable c.in_ok-answer.ensures.points c.in_ok-answer.ensures.journeys c.in_ok-answer.ensures.walk refl told)
+    let answer = c.in_ok-answer.ensures in
+    IfOk-weaker c.profile_reply.result _ _
+    (λ line told. answered_line _ _ _ _ _ _ c.in_ok-answer.answer.departures.items _ _ _ c.new-source.ensures.timetable
+    answer.points answer.journeys answer.walk refl told)
     c.profile_reply.ensures
