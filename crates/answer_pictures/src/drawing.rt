@@ -6,7 +6,7 @@ ghost use Rattle.answer_pictures.specs.Pictures.{AreDrawn, IsPicture, extent_tex
 
 use crate::axis::Axis;
 use crate::lines::{JourneyLine, Stretch, Way};
-use crate::putting::{put_attribute, put_clock, put_element, put_number, put_text};
+use crate::putting::{put_attribute, put_clock, put_element, put_number, put_numbers, put_text};
 use crate::style::style;
 use crate::width::width_for;
 use std::alloc::{AllocError, Global};
@@ -42,15 +42,14 @@ pub fn picture(
 fn put_view(out: &mut String, width: u64, height: u64) -> Result<(), AllocError>
     ensures { OnOk result (string_bytes out.new ≡ string_bytes out.old ++ view_text width height) }
 {
-    put_text(
+    put_numbers(
         out,
         "<svg xmlns=\"http://www.w3.org/2000/svg\" viewBox=\"0 0 ",
-    )?;
-    put_number(out, width)?;
-    put_text(out, " ")?;
-    put_number(out, height)?;
-    put_text(out, "\"")?;
-    Ok(())
+        width,
+        " ",
+        height,
+        "\"",
+    )
 }
 
 fn put_size(out: &mut String, width: u64, height: u64) -> Result<(), AllocError>
@@ -83,12 +82,7 @@ fn put_heading(out: &mut String, title: &str) -> Result<(), AllocError>
 fn put_grid(out: &mut String, x: u64, bottom: u64) -> Result<(), AllocError>
     ensures { OnOk result (string_bytes out.new ≡ string_bytes out.old ++ grid_text x bottom) }
 {
-    put_text(out, "<path class=\"grid\" d=\"M")?;
-    put_number(out, x)?;
-    put_text(out, " 64V")?;
-    put_number(out, bottom)?;
-    put_text(out, "\"/>")?;
-    Ok(())
+    put_numbers(out, "<path class=\"grid\" d=\"M", x, " 64V", bottom, "\"/>")
 }
 
 fn put_tick(out: &mut String, x: u64, time: u32) -> Result<(), AllocError>

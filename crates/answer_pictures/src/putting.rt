@@ -24,6 +24,25 @@ pub(crate) fn put_number(out: &mut String, number: u64) -> Result<(), AllocError
     write!(out, "{number}")
 }
 
+/// Adds two numbers, with texts around them and between.
+pub(crate) fn put_numbers(
+    out: &mut String,
+    opening: &str,
+    first: u64,
+    between: &str,
+    second: u64,
+    closing: &str,
+) -> Result<(), AllocError>
+    ensures { OnOk result (string_bytes out.new ≡ string_bytes out.old ++ (opening.now ++ decimal first ++ between.now ++ decimal second ++ closing.now)) }
+{
+    put_text(out, opening)?;
+    put_number(out, first)?;
+    put_text(out, between)?;
+    put_number(out, second)?;
+    put_text(out, closing)?;
+    Ok(())
+}
+
 /// Adds an attribute, whose name has a space before it.
 pub(crate) fn put_attribute(out: &mut String, name: &str, number: u64) -> Result<(), AllocError>
     ensures { OnOk result (string_bytes out.new ≡ string_bytes out.old ++ attribute_text name.now number) }

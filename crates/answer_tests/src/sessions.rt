@@ -2,7 +2,7 @@
 
 ghost use Rattle.std.specs.Prelude.{◌≡◌, IfOk, Ok};
 
-use crate::streams::{Endless, Pieces, Taker, taker_of};
+use crate::streams::{Endless, Pieces, Taker, taker_of, whole};
 use epochs::{Named, ShelfLoader, ShelfSeat, Shelves, SoloShelves};
 use image_layout::sample_words;
 use image_verifier::{Verified, verify};
@@ -80,6 +80,8 @@ fn image_with_a_footpath(alloc: Global) -> Result<Arc<Verified, Global>, Fail> {
 
 const PIN: &str = "{\"do\":\"pin\"}";
 
+const LOAD: &str = "{\"do\":\"load\",\"feed\":\"slow\"}";
+
 const RELEASE: &str = "{\"do\":\"release\"}";
 
 const PROFILE: &str =
@@ -91,17 +93,28 @@ fn add_line(bytes: &mut Vec<u8>, line: &str) -> Result<(), AllocError> {
     Ok(())
 }
 
+// Lines, one after the other.
+fn lines_of(alloc: Global, lines: &[&str]) -> Result<Vec<u8>, AllocError> {
+    let mut bytes = Vec::new(alloc);
+    for line in lines {
+        add_line(&mut bytes, *line)?;
+    }
+    Ok(bytes)
+}
+
 /// The requests of a session: pins, an order, profiles, and lines that are none, one of them too long.
 fn requests(alloc: Global) -> Result<Vec<u8>, AllocError> {
-    let mut bytes = Vec::new(alloc);
-    add_line(&mut bytes, PIN)?;
-    add_line(&mut bytes, "{\"do\":\"load\",\"feed\":\"slow\"}")?;
-    add_line(&mut bytes, PROFILE)?;
-    add_line(&mut bytes, RELEASE)?;
-    add_line(&mut bytes, PROFILE)?;
-    add_line(&mut bytes, "{\"do\":\"pi")?;
-    add_line(&mut bytes, PIN)?;
-    add_line(&mut bytes, PIN)?;
+    let front = [
+        PIN,
+        LOAD,
+        PROFILE,
+        RELEASE,
+        PROFILE,
+        "{\"do\":\"pi",
+        PIN,
+        PIN,
+    ];
+    let mut bytes = lines_of(alloc, &front)?;
     for _ in 0..65_537 {
         bytes.push(b'x')?;
     }
@@ -228,12 +241,7 @@ fn a_writer_that_fails_ends_the_session(rt: HostRuntime) -> Result<(), Fail> {
     let bytes = requests(rt.alloc())?;
     for number in 0..2 * REPLIES.len() {
         let room = number / 2;
-        let reader = Pieces {
-            rest: &bytes,
-            most: 100_000,
-            is_failing: false,
-        };
-        let (ended, written) = served(&rt, rt.alloc(), reader, room, number % 2 == 1)?;
+        let (ended, written) = served(&rt, rt.alloc(), whole(&bytes), room, number % 2 == 1)?;
         assert!(&rt; ended == Err(SessionFault::WriteFailed));
         assert!(&rt; REPLIES.as_bytes().starts_with(&written));
         assert_eq!(&rt; written.len(), room);
@@ -241,19 +249,18 @@ fn a_writer_that_fails_ends_the_session(rt: HostRuntime) -> Result<(), Fail> {
     Ok(())
 }
 
+/// A million requests are answered, and no line without an end.
 #[test]
-fn a_million_requests_are_answered(rt: HostRuntime) -> Result<(), Fail> {
-    let (ended, replies) = tallied(&rt, rt.alloc(), b'\n')?;
-    assert!(&rt; ended == Err(SessionFault::TooManyRequests));
-    assert_eq!(&rt; replies, 1_000_000);
-    Ok(())
-}
-
-#[test]
-fn a_line_without_end_ends_the_session(rt: HostRuntime) -> Result<(), Fail> {
-    let (ended, replies) = tallied(&rt, rt.alloc(), b'x')?;
-    assert!(&rt; ended == Err(SessionFault::ReadFailed));
-    assert_eq!(&rt; replies, 0);
+fn requests_have_limits(rt: HostRuntime) -> Result<(), Fail> {
+    let limits = [
+        (b'\n', SessionFault::TooManyRequests, 1_000_000),
+        (b'x', SessionFault::ReadFailed, 0),
+    ];
+    for (byte, fault, answered) in limits {
+        let (ended, replies) = tallied(&rt, rt.alloc(), byte)?;
+        assert!(&rt; ended == Err(fault));
+        assert_eq!(&rt; replies, answered);
+    }
     Ok(())
 }
 
@@ -285,17 +292,9 @@ const WALKED_REPLIES: &str =
 #[test]
 fn walked_seconds_are_told(rt: HostRuntime) -> Result<(), Fail> {
     let alloc: Global = rt.alloc();
-    let mut bytes = Vec::new(alloc);
-    add_line(&mut bytes, BY_WALKING)?;
-    add_line(&mut bytes, "{\"do\":\"load\",\"feed\":\"slow\"}")?;
-    add_line(&mut bytes, BY_WALKING)?;
-    let reader = Pieces {
-        rest: &bytes,
-        most: 100_000,
-        is_failing: false,
-    };
+    let bytes = lines_of(alloc, &[BY_WALKING, LOAD, BY_WALKING])?;
     let (first, slow) = (image_with_a_footpath(alloc)?, image(alloc, 60)?);
-    let (ended, written) = served_from(&rt, alloc, first, slow, reader, 10_000, true)?;
+    let (ended, written) = served_from(&rt, alloc, first, slow, whole(&bytes), 10_000, true)?;
     assert!(&rt; ended == Ok(Ended));
     assert_eq!(&rt; str::from_utf8(&written).unwrap_or("?"), WALKED_REPLIES);
     Ok(())
@@ -310,23 +309,9 @@ const WAITED_REPLIES: &str =
 #[test]
 fn a_load_is_waited_for(rt: HostRuntime) -> Result<(), Fail> {
     let alloc: Global = rt.alloc();
-    let mut bytes = Vec::new(alloc);
-    add_line(&mut bytes, PIN)?;
-    add_line(&mut bytes, WAIT)?;
-    add_line(&mut bytes, PIN)?;
-    add_line(&mut bytes, RELEASE)?;
-    add_line(&mut bytes, PIN)?;
-    add_line(&mut bytes, WAIT)?;
-    add_line(
-        &mut bytes,
-        "{\"do\":\"load\",\"feed\":\"slow\",\"wait\":\"yes\"}",
-    )?;
-    let reader = Pieces {
-        rest: &bytes,
-        most: 100_000,
-        is_failing: false,
-    };
-    let (ended, written) = served(&rt, alloc, reader, 10_000, true)?;
+    let odd = "{\"do\":\"load\",\"feed\":\"slow\",\"wait\":\"yes\"}";
+    let bytes = lines_of(alloc, &[PIN, WAIT, PIN, RELEASE, PIN, WAIT, odd])?;
+    let (ended, written) = served(&rt, alloc, whole(&bytes), 10_000, true)?;
     assert!(&rt; ended == Ok(Ended));
     assert_eq!(&rt; str::from_utf8(&written).unwrap_or("?"), WAITED_REPLIES);
     Ok(())
@@ -420,9 +405,7 @@ fn waited_and_pinned<R: Wait>(
     for _ in 0..count {
         feeds.push(feed_of(alloc, "slow", image(alloc, 121)?)?)?;
     }
-    let mut bytes = Vec::new(alloc);
-    add_line(&mut bytes, WAIT)?;
-    add_line(&mut bytes, PIN)?;
+    let bytes = lines_of(alloc, &[WAIT, PIN])?;
     let Ok((shelves, loader, mut seats)) = Shelves::new(alloc, image(alloc, 0)?) else {
         return Err(AllocError.into());
     };

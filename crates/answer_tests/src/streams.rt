@@ -12,6 +12,15 @@ pub(crate) struct Pieces<'a> {
     pub(crate) is_failing: bool,
 }
 
+/// A reader that gives these bytes at once.
+pub(crate) fn whole(bytes: &[u8]) -> Pieces<'_> {
+    Pieces {
+        rest: bytes,
+        most: usize::MAX,
+        is_failing: false,
+    }
+}
+
 impl Read for Pieces<'_> {
     fn read(&mut self, room: &mut [u8]) -> io::Result<usize> {
         if self.rest.is_empty() && self.is_failing {

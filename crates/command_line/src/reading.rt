@@ -51,27 +51,38 @@ pub fn read<'a, S: AsStr>(alloc: Global, words: &'a [S]) -> Result<Request<'a>, 
     let Ok(command) = program(alloc) else {
         return Err(Unread::OutOfMemory);
     };
-    let matches = match command.try_get_matches_from(words) {
-        Ok(matches) => matches,
-        Err(error) => return Err(unread_of(alloc, &error)),
-    };
-    let request = match matches.subcommand() {
-        Some(("verify", inner)) => inner.get_str("image").map(Request::Verify),
-        Some(("journey", inner)) => journey_request(inner).map(Request::Journey),
-        Some(("profile", inner)) => profile_request(inner).map(Request::Profile),
-        Some(("stops", inner)) => stops_request(inner).map(Request::Stops),
-        Some(("tables", inner)) => inner.get_str("folder").map(Request::Tables),
+    match command.try_get_matches_from(words) {
+        Ok(matches) => request_in(alloc, &matches),
+        Err(error) => Err(unread_of(alloc, &error)),
+    }
+}
+
+/// What is asked by words that clap takes.
+fn request_in<'a>(alloc: Global, matches: &ArgMatches<'a>) -> Result<Request<'a>, Unread> {
+    match matches.subcommand() {
         Some(("build", inner)) => match build_request(inner) {
-            Some(request) => Some(Request::Build(request)),
-            None => return Err(mistake(alloc, WRONG_PLAN_FORM)),
+            Some(request) => Ok(Request::Build(request)),
+            None => Err(mistake(alloc, WRONG_PLAN_FORM)),
         },
-        Some(("upgrade", inner)) => upgrade_request(inner).map(Request::Upgrade),
-        Some(("serve", inner)) => return serve_request(alloc, inner),
-        _ => None,
-    };
-    match request {
-        Some(request) => Ok(request),
+        Some(("serve", inner)) => serve_request(alloc, inner),
+        Some((name, inner)) => match plain_request(name, inner) {
+            Some(request) => Ok(request),
+            None => Err(mistake(alloc, WRONG_FORM)),
+        },
         None => Err(mistake(alloc, WRONG_FORM)),
+    }
+}
+
+/// What a command without service days asks for.
+fn plain_request<'a>(name: &str, matches: &ArgMatches<'a>) -> Option<Request<'a>> {
+    match name {
+        "verify" => matches.get_str("image").map(Request::Verify),
+        "journey" => journey_request(matches).map(Request::Journey),
+        "profile" => profile_request(matches).map(Request::Profile),
+        "stops" => stops_request(matches).map(Request::Stops),
+        "tables" => matches.get_str("folder").map(Request::Tables),
+        "upgrade" => upgrade_request(matches).map(Request::Upgrade),
+        _ => None,
     }
 }
 

@@ -6,6 +6,7 @@ use std::env;
 use std::fs::File;
 use std::io::{ErrorKind, IsTerminal};
 use std::process::ExitCode;
+use std::rt::Env;
 
 // A folder: neither reads nor writes of it succeed.
 const FOLDER: &str = "/";
@@ -17,14 +18,9 @@ fn main(rt: HostRuntime) -> ExitCode {
         File::open(&rt, FOLDER),
         File::open(&rt, FOLDER),
     ];
-    let arguments = match env::args(&rt) {
-        Ok(arguments) => arguments,
-        Err(fault) if fault.kind() == ErrorKind::OutOfMemory => return ExitCode::from(4),
-        Err(_) => return ExitCode::from(64),
-    };
-    let words: Vec<String> = match arguments.collect(rt.alloc()) {
+    let words = match words_of(&rt) {
         Ok(words) => words,
-        Err(_) => return ExitCode::from(4),
+        Err(status) => return ExitCode::from(status),
     };
     let mut input = rt.stdin();
     let mut output = rt.stdout();
@@ -38,4 +34,17 @@ fn main(rt: HostRuntime) -> ExitCode {
         &mut errors,
         is_terminal,
     ))
+}
+
+/// The words of the command line; or the status without them, 4 where memory is wanting, 64 where a word is no text.
+fn words_of<R: Env + AllocGlobal>(rt: &R) -> Result<Vec<String>, u8> {
+    let arguments = match env::args(rt) {
+        Ok(arguments) => arguments,
+        Err(fault) if fault.kind() == ErrorKind::OutOfMemory => return Err(4),
+        Err(_) => return Err(64),
+    };
+    match arguments.collect(rt.alloc()) {
+        Ok(words) => Ok(words),
+        Err(_) => Err(4),
+    }
 }

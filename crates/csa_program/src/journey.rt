@@ -1,6 +1,5 @@
 //! `csa journey IMAGE TEXT QUERY`.
 
-use crate::opening::open_image;
 use crate::question::query_asked;
 use crate::refusal::Refusal;
 use crate::status;
@@ -8,8 +7,7 @@ use command_requests::JourneyRequest;
 use image_verifier::Verified;
 use journeys::{TextFault, check, journey_parse};
 use std::alloc::Global;
-use std::io::{Read, Write};
-use std::rt::Files;
+use std::io::Write;
 use timetable::Times;
 use timetable::clocks::Clock;
 
@@ -20,24 +18,19 @@ enum Failure {
 }
 
 /// Tells when the journey departs and arrives, or why it doesn't hold in the image or doesn't count for the query.
-pub fn run<H: Files + AllocGlobal, I: Read, O: Write, E: Write>(
-    rt: &H,
+pub fn run<O: Write>(
+    alloc: Global,
+    image: &Verified,
     request: JourneyRequest<'_>,
-    input: &mut I,
     output: &mut O,
-    errors: &mut E,
 ) -> u8 {
-    let image = match open_image(rt, request.image, input, output, errors) {
-        Ok(image) => image,
-        Err(status) => return status,
-    };
-    match judge(rt.alloc(), &image, request) {
+    match judge(alloc, image, request) {
         Ok(times) => {
             let (dep, arr) = (Clock(times.dep), Clock(times.arr));
-            let line = format!(in rt.alloc(); "ok dep {dep} arr {arr}\n");
+            let line = format!(in alloc; "ok dep {dep} arr {arr}\n");
             status::line_written(output, line, status::ACCEPTED)
         }
-        Err(Failure::Refused(refusal)) => status::refused(rt.alloc(), output, &refusal),
+        Err(Failure::Refused(refusal)) => status::refused(alloc, output, &refusal),
         Err(Failure::OutOfMemory) => status::OUT_OF_MEMORY,
     }
 }

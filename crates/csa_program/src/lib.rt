@@ -1,9 +1,9 @@
 //! The body of the program `csa`: words, a reader and two writers in, an exit status out.
 #![tactic(auto)]
 
+mod asked;
 mod bases;
 mod build;
-mod disk;
 mod journey;
 mod naming;
 mod opening;
@@ -23,9 +23,10 @@ mod upgrade;
 mod verify;
 mod writing;
 
-pub use crate::disk::Disk;
+use crate::asked::{Asked, answer};
 use command_line::{Unread, read};
 use command_requests::Request;
+pub use feed_files::Disk;
 use std::convert::AsStr;
 use std::io::{Read, Write};
 use std::net::{Net, TcpListener, TcpStream};
@@ -55,13 +56,13 @@ pub fn run<
     E: Write + Send,
 >(rt: &H, words: &[S], input: &mut I, output: &mut O, errors: &mut E, is_terminal: bool) -> u8 {
     match read(rt.alloc(), words) {
-        Ok(Request::Verify(image)) => verify::run(rt, image, input, output, errors),
-        Ok(Request::Journey(request)) => journey::run(rt, request, input, output, errors),
-        Ok(Request::Profile(request)) => profile::run(rt, request, input, output, errors),
-        Ok(Request::Stops(request)) => stops::run(rt, request, input, output, errors),
+        Ok(Request::Verify(image)) => answer(rt, Asked::Verify(image), input, output, errors),
+        Ok(Request::Journey(request)) => answer(rt, Asked::Journey(request), input, output, errors),
+        Ok(Request::Profile(request)) => answer(rt, Asked::Profile(request), input, output, errors),
+        Ok(Request::Stops(request)) => answer(rt, Asked::Stops(request), input, output, errors),
         Ok(Request::Tables(folder)) => tables::run(rt, folder, output),
         Ok(Request::Build(request)) => build::run(rt, request, output, errors, is_terminal),
-        Ok(Request::Upgrade(request)) => upgrade::run(rt, request, input, output, errors),
+        Ok(Request::Upgrade(request)) => answer(rt, Asked::Upgrade(request), input, output, errors),
         Ok(Request::Serve(request)) => serve::run(rt, request, input, output, errors),
         Err(Unread::Help(text)) => status::written(output, text.as_str(), status::ACCEPTED),
         Err(Unread::Mistake(text)) => status::written(errors, text.as_str(), status::COMMAND_LINE),

@@ -3,7 +3,6 @@
 ghost use Rattle.timetable.specs.Queries.{IsAskable};
 
 use crate::naming::append_named;
-use crate::opening::open_image;
 use crate::pictured::{PictureFailure, draw};
 use crate::question::query_asked;
 use crate::refusal::Refusal;
@@ -16,32 +15,28 @@ use journeys::{Answer, Departure, answer_query, journey_string};
 use profile_scan::InPlace;
 use std::alloc::{AllocError, Global};
 use std::fmt::Write as _;
-use std::io::{Read, Write};
+use std::io::Write;
 use std::rt::Files;
 use timetable::clocks::Clock;
 use timetable::{Journey, Query};
 
 /// Prints each best departure with a journey, and then how many there are, how many connections were read, and the direct footpath;
 /// or else what a session replies. A picture that is asked for is written before.
-pub fn run<H: Files + AllocGlobal, I: Read, O: Write, E: Write>(
+pub fn run<H: Files + AllocGlobal, O: Write, E: Write>(
     rt: &H,
+    image: &Verified,
     request: ProfileRequest<'_>,
-    input: &mut I,
     output: &mut O,
     errors: &mut E,
 ) -> u8 {
-    let image = match open_image(rt, request.image, input, output, errors) {
-        Ok(image) => image,
-        Err(status) => return status,
-    };
-    let query = match query_asked(&image, &request.question) {
+    let query = match query_asked(image, &request.question) {
         Ok(query) => query,
         Err(fault) => return status::refused(rt.alloc(), output, &Refusal::Query(fault)),
     };
     let lines = match request.criterion {
-        CriterionName::Arrival => answered(rt, &image, &Arrival, &query, request),
-        CriterionName::ArrivalTrips => answered(rt, &image, &ArrivalTrips, &query, request),
-        CriterionName::ArrivalTripsWalk => answered(rt, &image, &ArrivalTripsWalk, &query, request),
+        CriterionName::Arrival => answered(rt, image, &Arrival, &query, request),
+        CriterionName::ArrivalTrips => answered(rt, image, &ArrivalTrips, &query, request),
+        CriterionName::ArrivalTripsWalk => answered(rt, image, &ArrivalTripsWalk, &query, request),
     };
     match lines {
         Ok(lines) => status::written(output, lines.as_str(), status::ACCEPTED),

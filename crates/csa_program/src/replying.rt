@@ -3,11 +3,10 @@
 ghost use Rattle.std.specs.Prelude.{◌≡◌, IfOk, map, string_bytes};
 ghost use Rattle.session.specs.Profiles.{departure_data};
 ghost use Rattle.session_texts.specs.Replies.{line_of, profile_data};
-ghost use Rattle.session_texts.specs.Telling.{points_of};
 
 use criteria::Told;
-use journeys::{Answer, Departure, journey_string};
-use session_texts::Points;
+use journeys::Answer;
+use session::profile_reply;
 use std::alloc::{AllocError, Global};
 
 /// The version that an image is which a server has just opened.
@@ -21,27 +20,5 @@ pub fn reply_line<C: Told>(
 ) -> Result<String, AllocError>
     ensures { IfOk result (λ line. string_bytes line ≡ line_of (profile_data (map (departure_data C.told) answer.now.departures.items) 1 answer.now.walk)) }
 {
-    let points = points_told(alloc, criterion, &answer.departures)?;
-    points.profile_line(alloc, FIRST_VERSION, answer.walk)
-}
-
-// What is told of each departure.
-fn points_told<C: Told>(
-    alloc: Global,
-    criterion: &C,
-    departures: &[Departure<C::V>],
-) -> Result<Points, AllocError>
-    ensures { IfOk result (λ points. points_of points ≡ map (departure_data C.told) departures.now) }
-{
-    let mut points = Points::new(alloc);
-    for departure in departures {
-        let journey = journey_string(alloc, &departure.journey)?;
-        points.add(
-            alloc,
-            departure.time,
-            criterion.tell(&departure.value),
-            journey,
-        )?;
-    }
-    Ok(points)
+    profile_reply(alloc, FIRST_VERSION, criterion, answer)
 }

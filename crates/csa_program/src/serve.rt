@@ -5,7 +5,6 @@ ghost use Rattle.connections.specs.declared.days.TheConstants.{MAX_DAYS};
 ghost use Rattle.csa_program.specs.Serving.{sessions_in, status_of_ends};
 
 use crate::bases::tell_bases;
-use crate::disk::{Disk, DiskFolder};
 use crate::opening::open_image;
 use crate::planning::{PlanFailure, plan_of};
 use crate::refusal::refuse_feed;
@@ -13,6 +12,7 @@ use crate::sockets::Door;
 use crate::status;
 use command_requests::{NamedFolder, ServeRequest};
 use epochs::{ShelfLoader, ShelfSeat, Shelves};
+use feed_files::{Disk, FolderFiles};
 use feed_loader::Plan;
 use image_verifier::Verified;
 use orders::OpenGate;
@@ -38,7 +38,7 @@ struct Folders<'a, H> {
 }
 
 impl<'a, H: Disk + Sync> Feeds for Folders<'a, H> {
-    type Files = DiskFolder<'a, H>;
+    type Files = FolderFiles<'a, H>;
 
     ghost named = { λ folders. folders.names.items };
 
@@ -50,9 +50,9 @@ impl<'a, H: Disk + Sync> Feeds for Folders<'a, H> {
         &self.plan
     }
 
-    fn files(&self, place: usize) -> Option<DiskFolder<'a, H>> {
+    fn files(&self, place: usize) -> Option<FolderFiles<'a, H>> {
         match self.feeds.get(place) {
-            Some(feed) => Some(DiskFolder::new(self.disk, feed.folder)),
+            Some(feed) => Some(FolderFiles::new(self.disk, feed.folder)),
             None => None,
         }
     }

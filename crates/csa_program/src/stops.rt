@@ -1,30 +1,23 @@
 //! `csa stops IMAGE [TEXT]`.
 
-use crate::opening::open_image;
 use crate::status;
 use answer_pictures::stop_name;
 use command_requests::StopsRequest;
 use image_verifier::Verified;
 use std::alloc::{AllocError, Global};
 use std::fmt::Write as _;
-use std::io::{Read, Write};
-use std::rt::Files;
+use std::io::Write;
 
 /// Prints number and name of each stop whose name has the text in it, in order.
-pub fn run<H: Files + AllocGlobal, I: Read, O: Write, E: Write>(
-    rt: &H,
+pub fn run<O: Write>(
+    alloc: Global,
+    image: &Verified,
     request: StopsRequest<'_>,
-    input: &mut I,
     output: &mut O,
-    errors: &mut E,
 ) -> u8 {
-    let image = match open_image(rt, request.image, input, output, errors) {
-        Ok(image) => image,
-        Err(status) => return status,
-    };
     status::line_written(
         output,
-        lines_of(rt.alloc(), &image, request.text),
+        lines_of(alloc, image, request.text),
         status::ACCEPTED,
     )
 }

@@ -5,7 +5,6 @@ ghost use Rattle.image_layout.specs.declared.layout.TheConstants.{LAYOUT};
 ghost use Rattle.image_layout.specs.Fields.{layout_of};
 ghost use Rattle.image_layout.specs.Image.{IsImage};
 
-use crate::opening::open_image;
 use crate::status;
 use crate::verify::counts;
 use crate::writing::put_image;
@@ -13,27 +12,22 @@ use command_requests::UpgradeRequest;
 use image_verifier::Verified;
 use image_writer::write;
 use std::alloc::{AllocError, Global};
-use std::io::{ErrorKind, Read, Write};
+use std::io::{ErrorKind, Write};
 use std::rt::Files;
 
-/// Writes the image in the layout that is written today, and prints its counts as `verify` does; or tells the image's first
-/// fault. The file is written only where there is none.
-pub fn run<H: Files + AllocGlobal, I: Read, O: Write, E: Write>(
+/// Writes the image in the layout that is written today, and prints its counts as `verify` does.
+pub fn run<H: Files + AllocGlobal, O: Write, E: Write>(
     rt: &H,
+    image: &Verified,
     request: UpgradeRequest<'_>,
-    input: &mut I,
     output: &mut O,
     errors: &mut E,
 ) -> u8 {
-    let image = match open_image(rt, request.image, input, output, errors) {
-        Ok(image) => image,
-        Err(status) => return status,
-    };
-    let Ok(words) = upgraded(rt.alloc(), &image) else {
+    let Ok(words) = upgraded(rt.alloc(), image) else {
         return status::OUT_OF_MEMORY;
     };
     match put_image(rt, request.out, &words) {
-        Ok(()) => status::line_written(output, counts(rt.alloc(), &image), status::ACCEPTED),
+        Ok(()) => status::line_written(output, counts(rt.alloc(), image), status::ACCEPTED),
         Err(error) => match error.kind() {
             ErrorKind::OutOfMemory => status::OUT_OF_MEMORY,
             _ => status::unwritable(rt.alloc(), errors, request.out),

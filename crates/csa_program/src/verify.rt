@@ -1,24 +1,13 @@
 //! `csa verify IMAGE`.
 
-use crate::opening::open_image;
 use crate::status;
 use image_verifier::Verified;
 use std::alloc::{AllocError, Global};
-use std::io::{Read, Write};
-use std::rt::Files;
+use std::io::Write;
 
-/// Judges the image and prints its counts, or its first fault.
-pub fn run<H: Files + AllocGlobal, I: Read, O: Write, E: Write>(
-    rt: &H,
-    path: &str,
-    input: &mut I,
-    output: &mut O,
-    errors: &mut E,
-) -> u8 {
-    match open_image(rt, path, input, output, errors) {
-        Ok(image) => status::line_written(output, counts(rt.alloc(), &image), status::ACCEPTED),
-        Err(status) => status,
-    }
+/// Prints the counts of an image, which was judged when it was opened.
+pub fn run<O: Write>(alloc: Global, image: &Verified, output: &mut O) -> u8 {
+    status::line_written(output, counts(alloc, image), status::ACCEPTED)
 }
 
 /// What is printed of an accepted image.

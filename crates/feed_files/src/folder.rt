@@ -14,26 +14,55 @@ use std::path::Path;
 use std::random::RandomSource;
 use std::rt::Files;
 
+/// A disk with feeds' folders. It asks of a machine no more than that, so that its files can be read from any thread.
+pub trait Disk {
+    /// The bytes of a file of a folder, none where there is no such file.
+    fn feed_file(
+        &self,
+        alloc: Global,
+        folder: &str,
+        name: &str,
+    ) -> Result<Option<Vec<u8>>, FileFault>;
+
+    /// A hash of a new random key, by which ids of a feed's files are looked up.
+    fn id_hash(&self) -> IdHash;
+}
+
+impl<H: Files + RandomSource> Disk for H {
+    fn feed_file(
+        &self,
+        alloc: Global,
+        folder: &str,
+        name: &str,
+    ) -> Result<Option<Vec<u8>>, FileFault> {
+        file_up_to(LONGEST_FILE, self, alloc, folder, name)
+    }
+
+    fn id_hash(&self) -> IdHash {
+        IdHash::random(self)
+    }
+}
+
 /// The files of a folder. No contract says what a disk holds, so it tells nothing of their bytes.
 #[derive(Drop)]
 pub struct FolderFiles<'a, H> {
-    rt: &'a H,
+    disk: &'a H,
     folder: &'a str,
     hash: IdHash,
     failures: u64,
     failed: FailedNames,
 }
 
-impl<'a, H: Files + RandomSource + AllocGlobal> FolderFiles<'a, H> {
+impl<'a, H: Disk> FolderFiles<'a, H> {
     /// The files of the folder at a path, which need not be there: then no file is. Their ids get a hash of a random key.
-    pub fn new(rt: &'a H, folder: &'a str) -> FolderFiles<'a, H>
+    pub fn new(disk: &'a H, folder: &'a str) -> FolderFiles<'a, H>
         ensures failures { result.failures ≡ 0 }
         ensures failed { result.failed ≡ [] }
     {
         FolderFiles {
-            rt,
+            disk,
             folder,
-            hash: IdHash::random(rt),
+            hash: disk.id_hash(),
             failures: 0,
             failed: FailedNames::none(),
         }
@@ -103,7 +132,7 @@ pub fn file_up_to<H: Files>(
     }
 }
 
-impl<'a, H: Files + RandomSource + AllocGlobal> FeedFiles for FolderFiles<'a, H> {
+impl<'a, H: Disk> FeedFiles for FolderFiles<'a, H> {
     ghost failures = { λ files. files.failures };
 
     ghost failed = { λ files. files.failed };
@@ -111,7 +140,7 @@ impl<'a, H: Files + RandomSource + AllocGlobal> FeedFiles for FolderFiles<'a, H>
     ghost holds = { λ files name. None };
 
     fn read(&mut self, alloc: Global, name: &str) -> Result<Option<Vec<u8>>, FileFault> {
-        let read = file_up_to(LONGEST_FILE, self.rt, alloc, self.folder, name);
+        let read = self.disk.feed_file(alloc, self.folder, name);
         if let Err(FileFault::Failed) = read {
             self.failures = self.failures.saturating_add(1);
             self.failed.note(name);

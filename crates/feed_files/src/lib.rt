@@ -10,6 +10,6 @@ pub mod reading;
 
 pub use failed::FailedNames;
 pub use files::{FeedFiles, FileFault, LONGEST_FILE};
-pub use folder::{FolderFiles, file_up_to};
+pub use folder::{Disk, FolderFiles, file_up_to};
 pub use memory::MemoryFiles;
 pub use reading::{ReadFault, read_tables};

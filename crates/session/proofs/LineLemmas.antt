@@ -1,6 +1,6 @@
 -- What a session has read, done and written so far, and how it ends.
 use Rattle.std.proofs.Common.{◌≡◌, ◌⊎◌, ◌<◌, ◌≤◌, ◌+◌, ◌-◌, ◌^◌, ℕ, suc, List, [], ◌∷◌, ◌++◌}
-use Rattle.std.proofs.Common.{length, take, Option, Ok, Err, refl, sym, ap, ◌∙◌, subst, append-nil, length-append, arith, inl, inr}
+use Rattle.std.proofs.Common.{length, take, Option, Result, Ok, Err, refl, sym, ap, ◌∙◌, subst, append-nil, length-append, arith, inl, inr}
 use Rattle.std.proofs.lemmas.List.{take-append-le, take_all, length_push}
 use Rattle.std.specs.Io.KnownBytes.{Appends, Consumes, IsAtEnd}
 use Rattle.std.proofs.KnownBytes.{Appends-nil, Appends-trans}
@@ -14,7 +14,7 @@ use Rattle.lines.proofs.GivenLemmas.{HasGiven-start, HasGiven-read, HasGiven-end
 use Rattle.orders.specs.Ordering.{OrderValue}
 use Rattle.session.specs.declared.fault.Ended.{Ended}
 use Rattle.session.specs.declared.fault.SessionFault.{SessionFault}
-use Rattle.session.specs.Sessions.{AreShort, AreTurns, IsCutShort, Serves, lines_in, text_of}
+use Rattle.session.specs.Sessions.{AreShort, AreTurns, EndsSo, IsCutShort, Serves, lines_in, text_of}
 use Rattle.session.specs.Turns.{Turn, TurnsTo}
 use Rattle.session.proofs.TurnLemmas.{AreTurns-more, lines_in-more, text_of-more}
 
@@ -80,23 +80,34 @@ rose first before now below same more = omega (arith, below, same, more)
 pub not_rose : (first now : ℕ) → now ≡ first → ¬ (first < now)
 not_rose first now same up = absurd (omega (arith, same, up))
 
+-- a session that ends so behind the lines that are answered
+serves_so_far : (number : ℕ) (result : Result Ended SessionFault) (to_read known later : Option (List ℕ)) (unread bytes : List ℕ)
+    (contents wrote : Option (List ℕ)) (a b : SeatValue) (asked asked_then : List OrderValue) (count : ℕ) (read_failed write_failed : Type 0)
+    → count ≤ 1_000_000 → (so_far : SoFar number to_read known unread contents wrote a asked b asked_then count)
+    → (more : HasGiven to_read later (unread ++ bytes) (lines_in so_far.turns))
+    → EndsSo result more.read (text_of so_far.turns) so_far.turns (IsAtEnd later) read_failed write_failed
+    → Serves number result to_read later contents wrote read_failed write_failed a asked b asked_then
+serves_so_far number result to_read known later unread bytes contents wrote a b asked asked_then count read_failed write_failed few so_far more ends = record {
+  read = more.read;
+  written = text_of so_far.turns;
+  turns = so_far.turns;
+  reads = more.consumed;
+  writes = so_far.writes;
+  does = so_far.does;
+  few = omega (arith, so_far.many, few);
+  short = so_far.short;
+  ends = ends;
+}
+
 -- nothing is left
 pub ends_at_end : (number : ℕ) (to_read known later : Option (List ℕ)) (unread bytes : List ℕ) (contents wrote : Option (List ℕ)) (a b : SeatValue) (asked asked_then : List OrderValue) (count : ℕ) (read_failed write_failed : Type 0) (ended : Ended)
     → count ≤ 1_000_000 → SoFar number to_read known unread contents wrote a asked b asked_then count → Consumes known later bytes → unread ++ bytes ≡ [] → IsAtEnd later → (¬ read_failed) → (¬ write_failed)
     → Serves number (Ok ended) to_read later contents wrote read_failed write_failed a asked b asked_then
 ends_at_end number to_read known later unread bytes contents wrote a b asked asked_then count read_failed write_failed ended few so_far came none end no_read no_write =
     let more = HasGiven-read to_read known later unread bytes (lines_in so_far.turns) so_far.given came in
-    record {
-      read = more.read;
-      written = text_of so_far.turns;
-      turns = so_far.turns;
-      reads = more.consumed;
-      writes = so_far.writes;
-      does = so_far.does;
-      few = omega (arith, so_far.many, few);
-      short = so_far.short;
-      ends = (end, no_read, no_write, sym (HasGiven-nothing to_read later (unread ++ bytes) (lines_in so_far.turns) more none), refl);
-    }
+    serves_so_far number (Ok ended) to_read known later unread bytes contents wrote a b asked asked_then count
+    read_failed write_failed few so_far more
+    (end, no_read, no_write, sym (HasGiven-nothing to_read later (unread ++ bytes) (lines_in so_far.turns) more none), refl)
 
 -- the rest was the last line
 pub ends_with_rest : (number : ℕ) (to_read known later : Option (List ℕ)) (unread bytes : List ℕ) (contents wrote writes : Option (List ℕ)) (a b after : SeatValue) (asked between asked_then : List OrderValue) (count : ℕ) (new : LineReader) (read_failed write_failed : Type 0) (ended : Ended)
@@ -168,17 +179,9 @@ read_fails number to_read known later unread bytes contents wrote a b asked aske
     let more = HasGiven-read to_read known later unread bytes (lines_in so_far.turns) so_far.given came in
     let rest : rest_of more.read ≡ unread ++ bytes = IsCut-rest more.read (unread ++ bytes) (lines_in so_far.turns) one more.cut in
     let why : read_failed ⊎ (length (rest_of more.read) ≡ 16_777_217) = subst (λ (xs : List ℕ). read_failed ⊎ (length xs ≡ 16_777_217)) (sym rest) failed in
-    record {
-      read = more.read;
-      written = text_of so_far.turns;
-      turns = so_far.turns;
-      reads = more.consumed;
-      writes = so_far.writes;
-      does = so_far.does;
-      few = omega (arith, so_far.many, few);
-      short = so_far.short;
-      ends = (why, no_write, sym (IsCut-whole more.read (unread ++ bytes) (lines_in so_far.turns) one more.cut), refl);
-    }
+    serves_so_far number (Err SessionFault.ReadFailed) to_read known later unread bytes contents wrote a b asked asked_then count
+    read_failed write_failed few so_far more
+    (why, no_write, sym (IsCut-whole more.read (unread ++ bytes) (lines_in so_far.turns) one more.cut), refl)
 
 -- a million lines are answered, and a byte is there
 pub too_many : (number : ℕ) (to_read known later : Option (List ℕ)) (unread bytes : List ℕ) (contents wrote : Option (List ℕ)) (a b : SeatValue) (asked asked_then : List OrderValue) (count : ℕ) (read_failed write_failed : Type 0)
@@ -190,17 +193,10 @@ too_many number to_read known later unread bytes contents wrote a b asked asked_
     let further : 0 < length (lines_of (unread ++ bytes)) = lines_of-some (unread ++ bytes) some in
     let full : length (lines_in so_far.turns) ≡ 1_000_000 = lines_many so_far.turns ∙ so_far.many ∙ million in
     let long : 1_000_000 < length (lines_of more.read) = omega (arith, ap (λ (ls : List (List ℕ)). length ls) all, length-append (lines_in so_far.turns) (lines_of (unread ++ bytes)), further, full) in
-    record {
-      read = more.read;
-      written = text_of so_far.turns;
-      turns = so_far.turns;
-      reads = more.consumed;
-      writes = so_far.writes;
-      does = so_far.does;
-      few = omega (arith, so_far.many, million);
-      short = so_far.short;
-      ends = (no_read, no_write, so_far.many ∙ million, long, first_of (lines_in so_far.turns) (lines_of (unread ++ bytes)) (lines_of more.read) all ∙ ap (λ (n : ℕ). take n (lines_of more.read)) full, refl);
-    }
+    let first = first_of (lines_in so_far.turns) (lines_of (unread ++ bytes)) (lines_of more.read) all in
+    serves_so_far number (Err SessionFault.TooManyRequests) to_read known later unread bytes contents wrote a b asked asked_then count
+    read_failed write_failed (omega (arith, million)) so_far more
+    (no_read, no_write, so_far.many ∙ million, long, first ∙ ap (λ (n : ℕ). take n (lines_of more.read)) full, refl)
 
 -- why a read fails
 pub why_failed : (first before now long : ℕ) → first < 2 ^ 64 - 1 → before ≡ first → (now ≡ one_more before) ⊎ ((now ≡ before) × (long ≡ 16_777_217)) → (first < now) ⊎ (long ≡ 16_777_217)

@@ -7,7 +7,7 @@ use Rattle.epochs.specs.Pins.{HoldsInHistory}
 use Rattle.epochs.specs.Seats.{SeatValue, PinStep, ReleaseStep}
 use Rattle.session_texts.specs.Replies.{pin_text, release_text}
 use Rattle.session_texts.specs.Requests.{AskValue, pin, release, profile}
-use Rattle.session.specs.Lines.{asks, memory_line, pin_fault_line}
+use Rattle.session.specs.Lines.{Asked, asks, memory_line, pin_fault_line}
 use Rattle.session.specs.Profiles.{IsProfileReply}
 use Rattle.session.specs.SeatSteps.{answered}
 use Rattle.session.specs.Turns.{IsMet, ProfileIsMet, ProfileIsMetOnce, PinIsMet, PinIsRefused, ReleaseIsRefused}
@@ -31,10 +31,11 @@ pin_refused number a b fault reply step told =
     let met : PinIsRefused (answered (Answer.PinRefused fault) ∷ []) reply = record { fault = fault; moves_are = refl; reply_is = told } in
     record { moves = answered (Answer.PinRefused fault) ∷ []; meets = inr (refl, inr met); seat = (b, step, refl) }
 
--- a pin that can't be told is given back
-pub pin_given_back : (number : ℕ) (a m b : SeatValue) (v : ℕ) (image : ImageValue) (r : Result (Unit {0}) PinFault) (reply : List ℕ) → PinStep a (Ok tt) m → HoldsInHistory number m.held → m.held ≡ Some (v, image)
-    → ReleaseStep m r b → reply ≡ memory_line → IsMet number a (asks pin) reply b
-pin_given_back number a m b v image r reply step known held back told =
+-- where memory is wanting, what was pinned is given back
+given_back : (number : ℕ) (asked : Asked) (a m b : SeatValue) (v : ℕ) (image : ImageValue) (r : Result (Unit {0}) PinFault)
+    (reply : List ℕ) → PinStep a (Ok tt) m → HoldsInHistory number m.held → m.held ≡ Some (v, image)
+    → ReleaseStep m r b → reply ≡ memory_line → IsMet number a asked reply b
+given_back number asked a m b v image r reply step known held back told =
     let pinned = is_pinned number a m v image step known held in
     let released = is_released number m b r (some_is_held v image m.held held) back in
     let both = pins_once number a m b v image pinned released in
@@ -43,6 +44,12 @@ pin_given_back number a m b v image r reply step known held back told =
       meets = inl (told, refl, inr (inr (v, image, both.0)));
       seat = both.1;
     }
+
+-- a pin that can't be told
+pub pin_given_back : (number : ℕ) (a m b : SeatValue) (v : ℕ) (image : ImageValue) (r : Result (Unit {0}) PinFault) (reply : List ℕ)
+    → PinStep a (Ok tt) m → HoldsInHistory number m.held → m.held ≡ Some (v, image)
+    → ReleaseStep m r b → reply ≡ memory_line → IsMet number a (asks pin) reply b
+pin_given_back number a m b v image r reply step known held back told = given_back number (asks pin) a m b v image r reply step known held back told
 
 pub release_met : (number : ℕ) (a b : SeatValue) (reply : List ℕ) → ReleaseStep a (Ok tt) b → reply ≡ release_text → IsMet number a (asks release) reply b
 release_met number a b reply step told = record { moves = answered Answer.Released ∷ []; meets = inr (refl, inl (refl, told)); seat = (b, step, refl) }
@@ -86,11 +93,4 @@ profile_met_once number a m b v image r ask reply step known held back (inl told
       seat = both.1;
     }
 profile_met_once number a m b v image r ask reply step known held back (inr memory) =
-    let pinned = is_pinned number a m v image step known held in
-    let released = is_released number m b r (some_is_held v image m.held held) back in
-    let both = pins_once number a m b v image pinned released in
-    record {
-      moves = answered (Answer.Pinned v pinned.shown) ∷ answered released.last ∷ [];
-      meets = inl (memory, refl, inr (inr (v, image, both.0)));
-      seat = both.1;
-    }
+    given_back number (asks (profile ask)) a m b v image r reply step known held back memory

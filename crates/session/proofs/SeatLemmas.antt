@@ -107,29 +107,31 @@ stays least a b low is = omega (arith, low, is)
 abbrev seen_in : SeatValue → ℕ
 seen_in s = s.seen
 
+refused_pin_rises : (least : ℕ) (a m : SeatValue) (fault : PinFault) → least ≤ a.seen → PinStep a (Err fault) m → least ≤ m.seen
+refused_pin_rises least a m (PinFault.Moved newest) low step = rises least a m newest low (omega (arith, step.1)) (ap seen_in step.2)
+refused_pin_rises least a m PinFault.AlreadyPinned low step = stays least a m low (ap seen_in step.1)
+refused_pin_rises least a m PinFault.SeatLost low step = stays least a m low (ap seen_in step.1)
+refused_pin_rises least a m PinFault.OutOfMemory low step = stays least a m low (ap seen_in step.1)
+refused_pin_rises least a m PinFault.NotPinned low step = absurd step
+
+refused_release_stays : (least : ℕ) (a m : SeatValue) (fault : PinFault) → least ≤ a.seen → ReleaseStep a (Err fault) m → least ≤ m.seen
+refused_release_stays least a m PinFault.NotPinned low step = stays least a m low (ap seen_in step.1)
+refused_release_stays least a m PinFault.SeatLost low step = stays least a m low (ap seen_in step.1)
+refused_release_stays least a m PinFault.AlreadyPinned low step = absurd step
+refused_release_stays least a m PinFault.OutOfMemory low step = absurd step
+refused_release_stays least a m (PinFault.Moved n) low step = absurd step
+
 pub never_falls : (number least : ℕ) (a b : SeatValue) (moves : List SeatMove) → least ≤ a.seen → Follows number a moves b → NeverFalls least moves
 never_falls number least a b [] low same = tt
 never_falls number least a b (answered (Answer.Pinned version image) ∷ moves) low (m, step, rest) =
     let seen : m.seen ≡ version = ap seen_in step.2 in
     (omega (arith, low, step.1), never_falls number version m b moves (omega (arith, seen)) rest)
-never_falls number least a b (answered (Answer.PinRefused (PinFault.Moved newest)) ∷ moves) low (m, step, rest) =
-    never_falls number least m b moves (rises least a m newest low (omega (arith, step.1)) (ap seen_in step.2)) rest
-never_falls number least a b (answered (Answer.PinRefused PinFault.AlreadyPinned) ∷ moves) low (m, step, rest) =
-    never_falls number least m b moves (stays least a m low (ap seen_in step.1)) rest
-never_falls number least a b (answered (Answer.PinRefused PinFault.SeatLost) ∷ moves) low (m, step, rest) =
-    never_falls number least m b moves (stays least a m low (ap seen_in step.1)) rest
-never_falls number least a b (answered (Answer.PinRefused PinFault.OutOfMemory) ∷ moves) low (m, step, rest) =
-    never_falls number least m b moves (stays least a m low (ap seen_in step.1)) rest
-never_falls number least a b (answered (Answer.PinRefused PinFault.NotPinned) ∷ moves) low (m, step, rest) = absurd step
+never_falls number least a b (answered (Answer.PinRefused fault) ∷ moves) low (m, step, rest) =
+    never_falls number least m b moves (refused_pin_rises least a m fault low step) rest
 never_falls number least a b (answered Answer.Released ∷ moves) low (m, step, rest) =
     never_falls number least m b moves (stays least a m low (ap seen_in step.1)) rest
-never_falls number least a b (answered (Answer.ReleaseRefused PinFault.NotPinned) ∷ moves) low (m, step, rest) =
-    never_falls number least m b moves (stays least a m low (ap seen_in step.1)) rest
-never_falls number least a b (answered (Answer.ReleaseRefused PinFault.SeatLost) ∷ moves) low (m, step, rest) =
-    never_falls number least m b moves (stays least a m low (ap seen_in step.1)) rest
-never_falls number least a b (answered (Answer.ReleaseRefused PinFault.AlreadyPinned) ∷ moves) low (m, step, rest) = absurd step
-never_falls number least a b (answered (Answer.ReleaseRefused PinFault.OutOfMemory) ∷ moves) low (m, step, rest) = absurd step
-never_falls number least a b (answered (Answer.ReleaseRefused (PinFault.Moved n)) ∷ moves) low (m, step, rest) = absurd step
+never_falls number least a b (answered (Answer.ReleaseRefused fault) ∷ moves) low (m, step, rest) =
+    never_falls number least m b moves (refused_release_stays least a m fault low step) rest
 never_falls number least a b (joined version ∷ moves) low (m, step, rest) =
     let seen : m.seen ≡ max a.seen version = ap seen_in step in
     never_falls number (max least version) m b moves (omega (arith, low, seen)) rest

@@ -3,6 +3,7 @@
 ghost use Rattle.std.specs.Prelude.{◌≡◌, ◌⊎◌, None, IfOk, map, string_bytes};
 ghost use Rattle.std.specs.Arc.{arc_value};
 ghost use Rattle.timetable.specs.Queries.{IsAskable};
+ghost use Rattle.session_texts.specs.Replies.{line_of, profile_data};
 ghost use Rattle.session_texts.specs.Requests.{ask_value, profile};
 ghost use Rattle.session_texts.specs.Telling.{points_of};
 ghost use Rattle.session.specs.Lines.{asks, memory_line, text_of_reply};
@@ -13,7 +14,7 @@ use crate::reply::Reply;
 use criteria::{Arrival, ArrivalTrips, ArrivalTripsWalk, CriterionName, Told};
 use epochs::{Edition, Versions};
 use image_verifier::Verified;
-use journeys::{Departure, Window, answer_query, journey_string, query_of};
+use journeys::{Answer, Departure, Window, answer_query, journey_string, query_of};
 use orders::Gate;
 use session_texts::{Ask, Points, Refusal};
 use sources::InPlace;
@@ -121,6 +122,18 @@ fn line_by<C: Told>(
 {
     let mut source = InPlace::new(image);
     let answer = answer_query(alloc, &mut source, criterion, query)?;
+    profile_reply(alloc, version, criterion, &answer)
+}
+
+/// The line that replies an answer over the image of that version.
+pub fn profile_reply<C: Told>(
+    alloc: Global,
+    version: u64,
+    criterion: &C,
+    answer: &Answer<C>,
+) -> Result<String, AllocError>
+    ensures { IfOk result (λ line. string_bytes line ≡ line_of (profile_data (map (departure_data C.told) answer.now.departures.items) version answer.now.walk)) }
+{
     let points = points_told(alloc, criterion, &answer.departures)?;
     points.profile_line(alloc, version, answer.walk)
 }

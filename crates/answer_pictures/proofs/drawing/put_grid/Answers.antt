@@ -1,11 +1,6 @@
-use Rattle.std.proofs.Common.{string_bytes}
 use Rattle.answer_pictures.specs.Pictures.{grid_text}
-use Rattle.answer_pictures.proofs.Joined.{five}
 use Rattle.answer_pictures.proofs.drawing.put_grid.Goals as goal
 
 pub returns : goal.returns
 unfolding grid_text
-returns c =
-    five (string_bytes c.args.out.now) (string_bytes c.put_text.new.out) (string_bytes c.put_number.new.out) (string_bytes c.put_text-2.new.out)
-    (string_bytes c.put_number-2.new.out) (string_bytes c.put_text-3.new.out) _ _ _ _ _
-    c.in_ok-put_text.ensures c.in_ok-put_number.ensures c.in_ok-put_text-2.ensures c.in_ok-put_number-2.ensures c.in_ok-put_text-3.ensures
+returns c = c.put_numbers.ensures
