@@ -4,7 +4,7 @@ use Rattle.std.proofs.lemmas.Option.{slice_get-get_or}
 use Rattle.timetable.specs.declared.network.Footpath.{Footpath}
 use Rattle.timetable.specs.Legal.{At}
 use Rattle.footpaths.proofs.IndexLemmas.{no_path}
-use Rattle.feed_tests.proofs.closing.has_loop.Goals as goal
+use Rattle.feed_tests.proofs.tests.closing.has_loop.Goals as goal
 
 pub returns-then-path-stop-2 : goal.returns-then-path-stop-2
 returns-then-path-stop-2 c =

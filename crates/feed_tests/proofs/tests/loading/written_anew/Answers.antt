@@ -1,5 +1,5 @@
 use Rattle.image_writer.specs.Writable.{IsWritable}
-use Rattle.feed_tests.proofs.loading.written_anew.Goals as goal
+use Rattle.feed_tests.proofs.tests.loading.written_anew.Goals as goal
 
 pub write-requires : goal.write-requires
 write-requires c =

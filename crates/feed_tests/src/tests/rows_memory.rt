@@ -24,28 +24,33 @@ fn read_or_refused<T: Drop>(
     }
 }
 
+// Whether one row was read, or want of memory told.
+fn one_or_refused<T: Drop>(
+    rt: &impl Abort,
+    table: Table,
+    answer: Result<Vec<T>, TableFault>,
+) -> Result<(), Fail> {
+    let rows = read_or_refused(rt, table, answer)?;
+    assert_eq!(rt; rows.len(), 1);
+    Ok(())
+}
+
 #[test]
 fn refused_growth_of_agencies(rt: HostRuntime) -> Result<(), Fail> {
     let answer = read_agency(rt.alloc(), b"agency_timezone\nEtc/UTC\n");
-    let rows = read_or_refused(&rt, Table::Agency, answer)?;
-    assert_eq!(rt; rows.len(), 1);
-    Ok(())
+    one_or_refused(&rt, Table::Agency, answer)
 }
 
 #[test]
 fn refused_growth_of_stops(rt: HostRuntime) -> Result<(), Fail> {
     let answer = read_stops(rt.alloc(), b"stop_id,parent_station\nA,S\n");
-    let rows = read_or_refused(&rt, Table::Stops, answer)?;
-    assert_eq!(rt; rows.len(), 1);
-    Ok(())
+    one_or_refused(&rt, Table::Stops, answer)
 }
 
 #[test]
 fn refused_growth_of_trips(rt: HostRuntime) -> Result<(), Fail> {
     let answer = read_trips(rt.alloc(), b"trip_id,service_id\nT,S\n");
-    let rows = read_or_refused(&rt, Table::Trips, answer)?;
-    assert_eq!(rt; rows.len(), 1);
-    Ok(())
+    one_or_refused(&rt, Table::Trips, answer)
 }
 
 // Whether a row of one trip and one stop was read.
@@ -62,44 +67,29 @@ fn refused_growth_of_stop_times(rt: HostRuntime) -> Result<(), Fail> {
     Ok(())
 }
 
+const CALENDAR: &[u8] =
+    b"service_id,monday,tuesday,wednesday,thursday,friday,saturday,sunday,start_date,end_date\nS,1,0,1,0,1,0,1,20240115,20240116\n";
+
 #[test]
 fn refused_growth_of_calendar(rt: HostRuntime) -> Result<(), Fail> {
-    let answer = read_calendar(
-        rt.alloc(),
-        b"service_id,monday,tuesday,wednesday,thursday,friday,saturday,sunday,start_date,end_date\nS,1,0,1,0,1,0,1,20240115,20240116\n",
-    );
-    let rows = read_or_refused(&rt, Table::Calendar, answer)?;
-    assert_eq!(rt; rows.len(), 1);
-    Ok(())
+    one_or_refused(&rt, Table::Calendar, read_calendar(rt.alloc(), CALENDAR))
 }
 
 #[test]
 fn refused_growth_of_calendar_dates(rt: HostRuntime) -> Result<(), Fail> {
-    let answer = read_calendar_dates(
-        rt.alloc(),
-        b"service_id,date,exception_type\nX,20240115,1\n",
-    );
-    let rows = read_or_refused(&rt, Table::CalendarDates, answer)?;
-    assert_eq!(rt; rows.len(), 1);
-    Ok(())
+    let bytes = b"service_id,date,exception_type\nX,20240115,1\n";
+    let answer = read_calendar_dates(rt.alloc(), bytes);
+    one_or_refused(&rt, Table::CalendarDates, answer)
 }
 
 #[test]
 fn refused_growth_of_transfers(rt: HostRuntime) -> Result<(), Fail> {
-    let answer = read_transfers(
-        rt.alloc(),
-        b"from_stop_id,to_stop_id,min_transfer_time\nA,B,1\n",
-    );
-    let rows = read_or_refused(&rt, Table::Transfers, answer)?;
-    assert_eq!(rt; rows.len(), 1);
-    Ok(())
+    let bytes = b"from_stop_id,to_stop_id,min_transfer_time\nA,B,1\n";
+    one_or_refused(&rt, Table::Transfers, read_transfers(rt.alloc(), bytes))
 }
 
 #[test]
 fn refused_growth_of_frequencies(rt: HostRuntime) -> Result<(), Fail> {
     let bytes = b"trip_id,start_time,end_time,headway_secs\nT,9:00:00,10:00:00,60\n";
-    let answer = read_frequencies(rt.alloc(), bytes);
-    let rows = read_or_refused(&rt, Table::Frequencies, answer)?;
-    assert_eq!(rt; rows.len(), 1);
-    Ok(())
+    one_or_refused(&rt, Table::Frequencies, read_frequencies(rt.alloc(), bytes))
 }

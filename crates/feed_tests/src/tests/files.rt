@@ -1,6 +1,6 @@
 //! A small feed in memory and in a folder, and what stops its reading.
 
-use crate::failing::{Failing, ORDER};
+use super::failing::{Failing, ORDER};
 use feed_files::{
     FeedFiles, FileFault, FolderFiles, MemoryFiles, ReadFault, file_up_to, read_tables,
 };

@@ -2,7 +2,8 @@
 
 ghost use Rattle.std.specs.Prelude.{◌≡◌};
 
-use crate::failing::{Failing, ORDER};
+use super::failing::{Failing, ORDER};
+use super::texts::{feed_of, files_of};
 use feed_loader::{FeedFiles, FileFault, LoadFault, MemoryFiles, Plan, Report, load};
 use footpaths::FootFault;
 use gtfs_tables::{Day, FaultKind, IdHash, Table, TableFault};
@@ -15,41 +16,70 @@ use std::process::Abort;
 use std::test::*;
 
 /// The files of a small feed: three stops, a trip over all of them, and one from the second to the third.
-const FILES: [(&str, &[u8]); 5] = [
-    ("agency.txt", b"agency_timezone\nEtc/UTC\n"),
-    ("stops.txt", b"stop_id\nA\nB\nC\n"),
-    ("trips.txt", b"service_id,trip_id\nS,T1\nS,T2\n"),
-    (
-        "stop_times.txt",
-        b"trip_id,arrival_time,departure_time,stop_id,stop_sequence\nT1,08:00:00,08:00:00,A,1\nT1,08:10:00,08:10:00,B,2\nT1,08:30:00,08:30:00,C,3\nT2,08:12:00,08:12:00,B,1\nT2,08:20:00,08:20:00,C,2\n",
-    ),
-    (
-        "calendar.txt",
-        b"service_id,monday,tuesday,wednesday,thursday,friday,saturday,sunday,start_date,end_date\nS,1,1,1,1,1,1,1,20240115,20240115\n",
-    ),
-];
+const FILES: &str = "\
+agency.txt: Etc/UTC
+stops.txt stop_id|A|B|C
+trips.txt: S,T1|S,T2
+stop_times.txt: T1,08:00:00,08:00:00,A,1|T1,08:10:00,08:10:00,B,2|T1,08:30:00,08:30:00,C,3|T2,08:12:00,08:12:00,B,1|T2,08:20:00,08:20:00,C,2
+calendar.txt: S,1,1,1,1,1,1,1,20240115,20240115";
+
+/// A day of January 2024.
+fn january(day: u8) -> Day {
+    Day {
+        year: 2024,
+        month: 1,
+        day,
+    }
+}
 
 fn one_day() -> Plan
     ensures { result.days ≡ 1 }
 {
     Plan {
-        first_day: Day {
-            year: 2024,
-            month: 1,
-            day: 15,
-        },
+        first_day: january(15),
         days: 1,
         zone: Zone::fixed(0),
         strict: false,
     }
 }
 
+/// What files in memory make, or why they make nothing.
+fn made(
+    alloc: Global,
+    files: &[(&str, &[u8])],
+    plan: &Plan,
+) -> Result<(Verified, Report), LoadFault>
+    requires { plan.now.days ≡ 1 }
+{
+    let mut files = MemoryFiles { files };
+    load(alloc, &mut files, plan)
+}
+
+/// The image of the small feed with some other files, and what was counted.
+fn loaded(alloc: Global, changed: &str, plan: &Plan) -> Result<(Verified, Report), Fail>
+    requires { plan.now.days ≡ 1 }
+{
+    let feed = feed_of(alloc, changed, FILES)?;
+    let files = files_of(alloc, feed.as_str())?;
+    match made(alloc, &files, plan) {
+        Ok(loaded) => Ok(loaded),
+        Err(_) => Err(Fail::new("the feed is refused")),
+    }
+}
+
+/// These files are refused by this fault.
+fn assert_refused(rt: &impl Abort, alloc: Global, files: &[(&str, &[u8])], expected: LoadFault) {
+    match made(alloc, files, &one_day()) {
+        Ok(_) => panic!(rt; "files that are wrong are loaded"),
+        Err(fault) => {
+            assert_eq!(rt; fault, expected);
+        }
+    }
+}
+
 #[test]
 fn a_feed_makes_its_image(rt: HostRuntime) -> Result<(), Fail> {
-    let mut files = MemoryFiles { files: &FILES };
-    let Ok((image, report)) = load(rt.alloc(), &mut files, &one_day()) else {
-        panic!(rt; "the feed is refused");
-    };
+    let (image, report) = loaded(rt.alloc(), "", &one_day())?;
     assert!(rt; image.words() == second_sample_words().as_slice());
     let counted = Report {
         stops: 3,
@@ -91,16 +121,18 @@ impl<F: FeedFiles> FeedFiles for Hashed<F> {
 /// Whatever the key of the hash, the image has the same words.
 #[test]
 fn an_image_has_no_trace_of_a_key(rt: HostRuntime) -> Result<(), Fail> {
+    let feed = feed_of(rt.alloc(), "", FILES)?;
+    let files = files_of(rt.alloc(), feed.as_str())?;
     for hash in [
         IdHash::of_key(1),
         IdHash::of_key(u64::MAX),
         IdHash::random(&rt),
     ] {
-        let mut files = Hashed {
-            files: MemoryFiles { files: &FILES },
+        let mut hashed = Hashed {
+            files: MemoryFiles { files: &files },
             hash,
         };
-        let Ok((image, _report)) = load(rt.alloc(), &mut files, &one_day()) else {
+        let Ok((image, _report)) = load(rt.alloc(), &mut hashed, &one_day()) else {
             panic!(rt; "the feed is refused");
         };
         assert!(rt; image.words() == second_sample_words().as_slice());
@@ -108,20 +140,10 @@ fn an_image_has_no_trace_of_a_key(rt: HostRuntime) -> Result<(), Fail> {
     Ok(())
 }
 
-// The small feed with these rows of frequencies.txt.
-fn repeated(frequencies: &'static [u8]) -> [(&'static str, &'static [u8]); 6] {
-    let [agencies, stops, trips, times, calendar] = FILES;
-    [
-        agencies,
-        stops,
-        trips,
-        times,
-        calendar,
-        ("frequencies.txt", frequencies),
-    ]
-}
+/// The first trip leaves at 09:00:00, 09:20:00 and 09:40:00.
+const THREE_STARTS: &str = "frequencies.txt: T1,09:00:00,10:00:00,1200";
 
-/// The image, worked out by hand, in which the first trip leaves at 09:00:00, 09:20:00 and 09:40:00: its days are followed by the
+/// The image of these starts, worked out by hand: its days are followed by the
 /// repeats 0, 1, 2 of these runs and 0 of the second trip's.
 const REPEATED: [u32; 80] = [
     0x50415343, 2, 3, 4, 7, 3, 11, 1705276800, 0, 1, 2, 29520, 30000, 3, 3, 0, 1, 32400, 33000, 0,
@@ -133,11 +155,7 @@ const REPEATED: [u32; 80] = [
 /// A trip that repeats runs once for each of its starts, and the image has the runs' numbers.
 #[test]
 fn repeats_are_numbered(rt: HostRuntime) -> Result<(), Fail> {
-    let files = repeated(b"trip_id,start_time,end_time,headway_secs\nT1,09:00:00,10:00:00,1200\n");
-    let mut files = MemoryFiles { files: &files };
-    let Ok((image, report)) = load(rt.alloc(), &mut files, &one_day()) else {
-        panic!(rt; "the feed is refused");
-    };
+    let (image, report) = loaded(rt.alloc(), THREE_STARTS, &one_day())?;
     assert_eq!(rt; report.runs, 4);
     assert_eq!(rt; report.connections, 7);
     assert_eq!(rt; report.frequencies, 1);
@@ -174,47 +192,36 @@ fn an_image_is_written_anew(rt: HostRuntime) -> Result<(), Fail> {
     Ok(())
 }
 
-/// The last start lies before the end time; a headway of 0 is refused.
+/// The last of two starts lies before the end time.
+const TWO_STARTS: &str = "frequencies.txt: T1,09:00:00,09:40:00,1200";
+
+const NO_HEADWAY: &str = "frequencies.txt: T1,09:00:00,10:00:00,0";
+
+/// An end time is no start; a headway of 0 is refused.
 #[test]
 fn an_end_time_is_no_start(rt: HostRuntime) -> Result<(), Fail> {
-    let files = repeated(b"trip_id,start_time,end_time,headway_secs\nT1,09:00:00,09:40:00,1200\n");
-    let mut files = MemoryFiles { files: &files };
-    let Ok((_, report)) = load(rt.alloc(), &mut files, &one_day()) else {
-        panic!(rt; "the feed is refused");
-    };
+    let (_, report) = loaded(rt.alloc(), TWO_STARTS, &one_day())?;
     assert_eq!(rt; report.runs, 3);
     assert_eq!(rt; report.connections, 5);
-    let files = repeated(b"trip_id,start_time,end_time,headway_secs\nT1,09:00:00,10:00:00,0\n");
-    let mut files = MemoryFiles { files: &files };
+    let feed = feed_of(rt.alloc(), NO_HEADWAY, FILES)?;
+    let files = files_of(rt.alloc(), feed.as_str())?;
     let headway = TableFault {
         table: Table::Frequencies,
         row: 1,
         kind: FaultKind::BadHeadway,
     };
-    match load(rt.alloc(), &mut files, &one_day()) {
-        Ok(_) => panic!(rt; "a headway of 0 is taken"),
-        Err(fault) => {
-            assert_eq!(rt; fault, LoadFault::Table(headway));
-        }
-    }
+    assert_refused(&rt, rt.alloc(), &files, LoadFault::Table(headway));
     Ok(())
 }
 
 /// On a day on which nothing runs there are no trips.
 #[test]
 fn a_day_without_runs_has_an_image(rt: HostRuntime) -> Result<(), Fail> {
-    let mut files = MemoryFiles { files: &FILES };
     let next = Plan {
-        first_day: Day {
-            year: 2024,
-            month: 1,
-            day: 16,
-        },
+        first_day: january(16),
         ..one_day()
     };
-    let Ok((image, report)) = load(rt.alloc(), &mut files, &next) else {
-        panic!(rt; "the feed is refused");
-    };
+    let (image, report) = loaded(rt.alloc(), "", &next)?;
     assert_eq!(rt; report.runs, 0);
     assert_eq!(rt; image.trips(), 0);
     assert_eq!(rt; image.stops(), 3);
@@ -223,20 +230,13 @@ fn a_day_without_runs_has_an_image(rt: HostRuntime) -> Result<(), Fail> {
 }
 
 #[test]
-fn what_is_wrong_is_told(rt: HostRuntime) -> Result<(), Fail> {
-    let mut none = MemoryFiles { files: &[] };
+fn what_is_wrong_is_told(rt: HostRuntime) {
     let missing = TableFault {
         table: Table::Agency,
         row: 0,
         kind: FaultKind::MissingFile,
     };
-    match load(rt.alloc(), &mut none, &one_day()) {
-        Ok(_) => panic!(rt; "a feed without files is loaded"),
-        Err(fault) => {
-            assert_eq!(rt; fault, LoadFault::Table(missing));
-        }
-    }
-    Ok(())
+    assert_refused(&rt, rt.alloc(), &[], LoadFault::Table(missing));
 }
 
 /// A fault is told by its number, its name and its places.
@@ -268,15 +268,17 @@ fn faults_are_told(rt: HostRuntime) -> Result<(), Fail> {
 /// Whichever read fails, that file is told, and nothing is read after it.
 #[test]
 fn a_read_that_fails_is_told(rt: HostRuntime) -> Result<(), Fail> {
+    let feed = feed_of(rt.alloc(), "", FILES)?;
+    let files = files_of(rt.alloc(), feed.as_str())?;
     for (left, table) in ORDER.into_iter().enumerate() {
-        let mut files = Failing::after(left, &FILES, FileFault::Failed);
-        match load(rt.alloc(), &mut files, &one_day()) {
+        let mut failing = Failing::after(left, &files, FileFault::Failed);
+        match load(rt.alloc(), &mut failing, &one_day()) {
             Ok(_) => panic!(rt; "a feed that can't be read is loaded"),
             Err(fault) => {
                 assert_eq!(rt; fault, LoadFault::FileFailed(table));
             }
         }
-        assert_eq!(rt; files.failures, 1);
+        assert_eq!(rt; failing.failures, 1);
     }
     Ok(())
 }
@@ -294,8 +296,9 @@ fn wants_memory(rt: &impl Abort, fault: LoadFault) -> Result<(), Fail> {
 /// Whichever growth is refused, want of memory is told.
 #[test]
 fn refused_growth_is_told(rt: HostRuntime) -> Result<(), Fail> {
-    let mut files = MemoryFiles { files: &FILES };
-    match load(rt.alloc(), &mut files, &one_day()) {
+    let feed = feed_of(rt.alloc(), "", FILES)?;
+    let files = files_of(rt.alloc(), feed.as_str())?;
+    match made(rt.alloc(), &files, &one_day()) {
         Ok((image, _report)) => {
             assert!(rt; image.words() == second_sample_words().as_slice());
             Ok(())
@@ -306,41 +309,23 @@ fn refused_growth_is_told(rt: HostRuntime) -> Result<(), Fail> {
 
 /// All files: a station with two stops, a quoted id, a blank row, a day that is taken out, and ways between a station's stops. One trip
 /// repeats by one row, the other by five that overlap: at the seconds 0, 1, 5, 10, 15, 20, 25 and 29.
-const ALL_FILES: [(&str, &[u8]); 8] = [
-    ("agency.txt", b"agency_timezone\nEtc/UTC\n"),
-    (
-        "stops.txt",
-        b"stop_id,location_type,parent_station\nS,1,\n\"A\",0,S\nB,0,S\nC,0,\n",
-    ),
-    ("trips.txt", b"service_id,trip_id\nS,T1\nS,T2\n"),
-    (
-        "stop_times.txt",
-        b"trip_id,arrival_time,departure_time,stop_id,stop_sequence\nT1,08:00:00,08:00:00,A,1\nT1,,,B,2\n\
-            T1,08:30:00,08:30:00,C,3\nT2,08:12:00,08:12:00,B,1\nT2,08:20:00,08:20:00,C,2\n",
-    ),
-    (
-        "calendar.txt",
-        b"service_id,monday,tuesday,wednesday,thursday,friday,saturday,sunday,start_date,end_date\nS,1,1,1,1,1,1,1,20240115,20240116\n",
-    ),
-    (
-        "calendar_dates.txt",
-        b"service_id,date,exception_type\nS,20240116,2\n",
-    ),
-    (
-        "frequencies.txt",
-        b"trip_id,start_time,end_time,headway_secs\nT2,09:00:00,09:40:00,1200\nT1,00:00:00,00:00:30,10\n\
-            T1,00:00:05,00:00:30,10\nT1,00:00:00,00:00:20,10\nT1,00:00:10,00:00:30,10\nT1,00:00:01,00:00:30,14\n",
-    ),
-    (
-        "transfers.txt",
-        b"from_stop_id,to_stop_id,transfer_type,min_transfer_time\nS,S,2,180\n",
-    ),
-];
+const ALL_FILES: &str = "\
+agency.txt: Etc/UTC
+stops.txt: S,1,|\"A\",0,S|B,0,S|C,0,
+trips.txt: S,T1|S,T2
+stop_times.txt: T1,08:00:00,08:00:00,A,1|T1,,,B,2|T1,08:30:00,08:30:00,C,3|T2,08:12:00,08:12:00,B,1|T2,08:20:00,08:20:00,C,2
+calendar.txt: S,1,1,1,1,1,1,1,20240115,20240116
+calendar_dates.txt: S,20240116,2
+frequencies.txt: T2,09:00:00,09:40:00,1200|T1,00:00:00,00:00:30,10|T1,00:00:05,00:00:30,10|T1,00:00:00,00:00:20,10|T1,00:00:10,00:00:30,10|\
+    T1,00:00:01,00:00:30,14
+transfers.txt: S,S,2,180";
 
 /// So too over a feed with all files.
 #[test]
 fn refused_growth_over_all_files_is_told(rt: HostRuntime) -> Result<(), Fail> {
-    let mut files = MemoryFiles { files: &ALL_FILES };
+    let feed = feed_of(rt.alloc(), "", ALL_FILES)?;
+    let files = files_of(rt.alloc(), feed.as_str())?;
+    let mut files = MemoryFiles { files: &files };
     let plan = Plan {
         days: 2,
         ..one_day()

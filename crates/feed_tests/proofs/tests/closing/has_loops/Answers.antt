@@ -2,7 +2,7 @@ use Rattle.std.proofs.Common.{◌≡◌, ℕ, inl, inr, sym, subst, true, arith}
 use Rattle.std.proofs.lemmas.Bool.{cases_eq}
 use Rattle.std.proofs.lemmas.Grind.{common_steps}
 use Rattle.timetable.specs.Legal.{HasFootpath}
-use Rattle.feed_tests.proofs.closing.has_loops.Goals as goal
+use Rattle.feed_tests.proofs.tests.closing.has_loops.Goals as goal
 
 pub loop-stop-preserved : goal.loop-stop-preserved
 loop-stop-preserved c = λ s below. elim (cases_eq s c.loop-stop.stop) [
