@@ -172,17 +172,6 @@ fn assert_arrivals(
     assert_answers(rt, alloc, words, &Arrival, query, expected)
 }
 
-/// The same of arrival and trips.
-fn assert_trips(
-    rt: &impl Abort,
-    alloc: Global,
-    words: &[u32],
-    query: &Query,
-    expected: &[(u32, u32, &str)],
-) -> Result<(), Fail> {
-    assert_answers(rt, alloc, words, &ArrivalTrips, query, expected)
-}
-
 fn until(until: u32) -> Query {
     Query { until, ..ASKED }
 }
@@ -199,8 +188,8 @@ fn by_a_change(rt: HostRuntime) -> Result<(), Fail> {
     let second = second_sample_words();
     let both = [(28800, 30000, CHANGE), (28800, 30600, "ride 0 1")];
     assert_arrivals(&rt, alloc, &first, &ASKED, &[(28800, 30000, CHANGE)])?;
-    assert_trips(&rt, alloc, &first, &ASKED, &both)?;
-    assert_trips(&rt, alloc, &second, &ASKED, &both)
+    assert_answers(&rt, alloc, &first, &ArrivalTrips, &ASKED, &both)?;
+    assert_answers(&rt, alloc, &second, &ArrivalTrips, &ASKED, &both)
 }
 
 /// Each repeat is a trip of its own: from 09:00:00 until 10:00:00 one leaves three times, and none but the last where one leaves
@@ -219,12 +208,19 @@ fn by_repeats(rt: HostRuntime) -> Result<(), Fail> {
         (33600, 35400, "ride 3 4"),
         (34800, 36600, "ride 5 6"),
     ];
-    assert_trips(&rt, alloc, &REPEATED, &asked, &legs)?;
+    assert_answers(&rt, alloc, &REPEATED, &ArrivalTrips, &asked, &legs)?;
     let later = Query {
         from: 33601,
         ..asked
     };
-    assert_trips(&rt, alloc, &REPEATED, &later, &[(34800, 36600, "ride 5 6")])
+    assert_answers(
+        &rt,
+        alloc,
+        &REPEATED,
+        &ArrivalTrips,
+        &later,
+        &[(34800, 36600, "ride 5 6")],
+    )
 }
 
 /// Two minutes are just enough for the change.
@@ -256,7 +252,14 @@ fn at_the_ends_of_the_window(rt: HostRuntime) -> Result<(), Fail> {
 #[test]
 fn by_one_trip(rt: HostRuntime) -> Result<(), Fail> {
     let direct = [(28800, 30000, "ride 1 1")];
-    assert_trips(&rt, rt.alloc(), &WITH_DIRECT_TRIP, &ASKED, &direct)
+    assert_answers(
+        &rt,
+        rt.alloc(),
+        &WITH_DIRECT_TRIP,
+        &ArrivalTrips,
+        &ASKED,
+        &direct,
+    )
 }
 
 #[test]

@@ -5,6 +5,7 @@ use image_verifier::Verified;
 use journeys::JourneyFault::*;
 use journeys::{JourneyFault, TextFault, check, journey_parse, journey_text};
 use std::alloc::{AllocError, Global};
+use std::process::Abort;
 use std::test::*;
 use timetable::{Journey, Query, Times};
 
@@ -98,50 +99,40 @@ fn loops(alloc: Global, count: u32, last: &[u8]) -> Result<Vec<u8>, Fail> {
     Ok(text)
 }
 
+/// What is told of rides with so many loops, in each row.
+fn assert_loops(
+    rt: &impl Abort,
+    alloc: Global,
+    query: [u32; 5],
+    last: &[u8],
+    table: &[(u32, Result<Times, JourneyFault>)],
+) -> Result<(), Fail> {
+    let image = image(alloc, &FAR)?;
+    for (count, expected) in table.iter() {
+        let text = loops(alloc, *count, last)?;
+        assert_eq!(rt; judged(alloc, &image, query, &text)?, *expected, "{count}");
+    }
+    Ok(())
+}
+
+/// From the beginning to a time.
+fn until(arr: u32) -> Result<Times, JourneyFault> {
+    Ok(Times { dep: 0, arr })
+}
+
 /// Where a sum of 32 bits would begin again, the walks aren't short.
 #[test]
 fn long_walks(rt: HostRuntime) -> Result<(), Fail> {
-    let image = image(rt.alloc(), &FAR)?;
     let onward = [0, 2, 0, 4294967295, 4294967295];
     let table = [
-        (
-            1999,
-            Ok(Times {
-                dep: 0,
-                arr: 1999999999,
-            }),
-        ),
+        (1999, until(1999999999)),
         (2000, Err(TooEarly(1))),
         (4295, Err(TooEarly(1))),
     ];
-    for (count, expected) in table.iter() {
-        let text = loops(rt.alloc(), *count, b" ride 1 1")?;
-        assert_eq!(rt;
-            judged(rt.alloc(), &image, onward, &text)?,
-            *expected,
-            "{count}"
-        );
-    }
+    assert_loops(&rt, rt.alloc(), onward, b" ride 1 1", &table)?;
     let stay = [0, 1, 0, 4294967295, 4294967295];
-    let table = [
-        (
-            4294,
-            Ok(Times {
-                dep: 0,
-                arr: 4294000001,
-            }),
-        ),
-        (4295, Err(OutsideWindow)),
-    ];
-    for (count, expected) in table.iter() {
-        let text = loops(rt.alloc(), *count, b"")?;
-        assert_eq!(rt;
-            judged(rt.alloc(), &image, stay, &text)?,
-            *expected,
-            "{count}"
-        );
-    }
-    Ok(())
+    let table = [(4294, until(4294000001)), (4295, Err(OutsideWindow))];
+    assert_loops(&rt, rt.alloc(), stay, b"", &table)
 }
 
 #[test]

@@ -1,0 +1,18 @@
+//! Of `gtfs_rows` are `values`, `rows`, `row_faults` and `rows_memory`, of `gtfs_tables` `joining` and `joining_memory`, of `feed_files`
+//! `files`, of `service_days` `days`, of `transfers` `listing`, of `connections` `runs`, of `footpaths` `closing`, and of
+//! `feed_loader` `loading`. Files that fail, which two of them read, are in `failing`, and cases as texts in `texts`.
+
+mod closing;
+mod days;
+mod failing;
+mod files;
+mod joining;
+mod joining_memory;
+mod listing;
+mod loading;
+mod row_faults;
+mod rows;
+mod rows_memory;
+mod runs;
+mod texts;
+mod values;

@@ -1,0 +1,232 @@
+//! Small feeds and what they make.
+
+ghost use Rattle.std.specs.Prelude.{◌≡◌};
+ghost use Rattle.connections.specs.Faults.{too_many_of};
+
+use super::texts::{
+    Case, Telling, add_rows, joined, joined_or_refused, number, try_cases, zone_of,
+};
+use connections::{MAX_DAYS, Report, Run, RunsFault, runs_of};
+use gtfs_tables::{Day, FaultKind, Table};
+use service_days::{DayFault, Zone};
+use std::alloc::{AllocError, Global};
+use std::process::Abort;
+use std::test::Fail;
+use timetable::Connection;
+
+// The files that a case doesn't have: one trip on one day, with three rows at 08:00:00 and one at 08:01:00.
+const LEVEL: &str = "\
+agency.txt: Etc/UTC
+stops.txt stop_id|A|B|C|D
+trips.txt: S,T
+stop_times.txt: T,08:00:00,08:00:00,A,1|T,08:00:00,08:00:00,B,2|T,08:00:00,08:00:00,C,3|T,08:01:00,08:01:00,D,4
+calendar_dates.txt: S,20240115,1
+transfers.txt from_stop_id,to_stop_id,transfer_type|A,B,9";
+
+// Feeds behind what they show, with the first day, the number of days and the zone; and what they make. In the second 25:10:00 of the
+// first day is 1711843800, 08:00:00 of the second 1711864800, and the base 1711753200, that of the first. In the third X runs on its one
+// day, Y never; a flex trip, and a trip of one row, run on no day. In the last connections stand by departure, then by arrival, then by
+// run: of two runs on each of two days.
+const FEEDS: &str = "
+= times are lifted: 20240115 1 fixed:0
+> Report { stops: 4, runs: 1, connections: 3, footpaths: 0, lifted: 1, flex: 0, frequencies: 0, skipped: 1 }
+> Run { day: Day { year: 2024, month: 1, day: 15 }, trip: 0, repeat: 0, start: None }
+> Connection { from: 0, to: 1, dep: 28800, arr: 28801, trip: 0, board: true, alight: true }
+> Connection { from: 1, to: 2, dep: 28801, arr: 28802, trip: 0, board: true, alight: true }
+> Connection { from: 2, to: 3, dep: 28802, arr: 28860, trip: 0, board: true, alight: true }
+= the clocks are changed in the night to the second day: 20240330 2 CET-1CEST,M3.5.0,M10.5.0/3
+trips.txt: first,T|second,U
+stop_times.txt: T,25:10:00,25:10:00,A,1|T,25:11:00,25:11:00,B,2|U,08:00:00,08:00:00,A,1|U,08:01:00,08:01:00,B,2
+calendar_dates.txt: first,20240330,1|second,20240331,1
+> Report { stops: 4, runs: 2, connections: 2, footpaths: 0, lifted: 0, flex: 0, frequencies: 0, skipped: 1 }
+> Run { day: Day { year: 2024, month: 3, day: 30 }, trip: 0, repeat: 0, start: None }
+> Run { day: Day { year: 2024, month: 3, day: 31 }, trip: 1, repeat: 0, start: None }
+> Connection { from: 0, to: 1, dep: 90600, arr: 90660, trip: 0, board: true, alight: true }
+> Connection { from: 0, to: 1, dep: 111600, arr: 111660, trip: 1, board: true, alight: true }
+= trips run with their services: 20240115 2 fixed:0
+trips.txt: Y,T|X,U|X,F|X,V
+stop_times.txt trip_id,arrival_time,departure_time,stop_id,stop_sequence,pickup_type,drop_off_type|T,08:00:00,08:00:00,A,1,,|\
+    T,08:10:00,08:10:00,B,2,,|U,08:00:00,08:00:00,A,1,1,|U,,,B,2,,1|U,08:10:00,08:12:00,C,3,,|F,08:00:00,08:00:00,A,1,,|\
+    F,08:10:00,08:10:00,,2,,|V,08:00:00,08:00:00,A,1,,
+calendar_dates.txt: X,20240115,1|X,20240116,2
+> Report { stops: 4, runs: 1, connections: 2, footpaths: 0, lifted: 0, flex: 1, frequencies: 0, skipped: 1 }
+> Run { day: Day { year: 2024, month: 1, day: 15 }, trip: 1, repeat: 0, start: None }
+> Connection { from: 0, to: 1, dep: 28800, arr: 29100, trip: 0, board: false, alight: false }
+> Connection { from: 1, to: 2, dep: 29100, arr: 29400, trip: 0, board: true, alight: true }
+= connections are in order: 20240115 2 fixed:3600
+trips.txt: S,T|S,U
+stop_times.txt: T,08:00:00,08:00:00,A,1|T,08:20:00,08:20:00,B,2|U,08:00:00,08:00:00,A,1|U,08:10:00,08:10:00,B,2|U,32:00:00,32:00:00,C,3|\
+    U,32:20:00,32:20:00,D,4
+calendar_dates.txt: S,20240115,1|S,20240116,1
+> Report { stops: 4, runs: 4, connections: 8, footpaths: 0, lifted: 0, flex: 0, frequencies: 0, skipped: 1 }
+> Run { day: Day { year: 2024, month: 1, day: 15 }, trip: 0, repeat: 0, start: None }
+> Run { day: Day { year: 2024, month: 1, day: 15 }, trip: 1, repeat: 0, start: None }
+> Run { day: Day { year: 2024, month: 1, day: 16 }, trip: 0, repeat: 0, start: None }
+> Run { day: Day { year: 2024, month: 1, day: 16 }, trip: 1, repeat: 0, start: None }
+> Connection { from: 0, to: 1, dep: 28800, arr: 29400, trip: 1, board: true, alight: true }
+> Connection { from: 0, to: 1, dep: 28800, arr: 30000, trip: 0, board: true, alight: true }
+> Connection { from: 1, to: 2, dep: 29400, arr: 115200, trip: 1, board: true, alight: true }
+> Connection { from: 0, to: 1, dep: 115200, arr: 115800, trip: 3, board: true, alight: true }
+> Connection { from: 2, to: 3, dep: 115200, arr: 116400, trip: 1, board: true, alight: true }
+> Connection { from: 0, to: 1, dep: 115200, arr: 116400, trip: 2, board: true, alight: true }
+> Connection { from: 1, to: 2, dep: 115800, arr: 201600, trip: 3, board: true, alight: true }
+> Connection { from: 2, to: 3, dep: 201600, arr: 202800, trip: 3, board: true, alight: true }";
+
+// Two trips, T of three stops and U of two.
+const TWO_TRIPS: &str = "\
+trips.txt: S,T|S,U
+stop_times.txt: T,07:00:00,08:00:00,A,1|T,08:10:00,08:10:00,B,2|T,08:30:00,08:30:00,C,3|U,08:12:00,08:12:00,B,1|U,08:20:00,08:20:00,C,2
+calendar_dates.txt: S,20240115,1|S,20240116,1";
+
+// Runs stand by day, trip and repeat. A repeat's first arrival isn't used: it lies before the base here.
+const REPEATS: &str = "
+= repeats depart at their starts: 20240115 1 fixed:0
+frequencies.txt: T,00:20:00,00:20:01,7|T,00:00:00,00:40:00,1200
+> Report { stops: 4, runs: 3, connections: 5, footpaths: 0, lifted: 0, flex: 0, frequencies: 1, skipped: 1 }
+> Run { day: Day { year: 2024, month: 1, day: 15 }, trip: 0, repeat: 0, start: Some(0) }
+> Run { day: Day { year: 2024, month: 1, day: 15 }, trip: 0, repeat: 1, start: Some(1200) }
+> Run { day: Day { year: 2024, month: 1, day: 15 }, trip: 1, repeat: 0, start: None }
+> Connection { from: 0, to: 1, dep: 0, arr: 600, trip: 0, board: true, alight: true }
+> Connection { from: 1, to: 2, dep: 600, arr: 1800, trip: 0, board: true, alight: true }
+> Connection { from: 0, to: 1, dep: 1200, arr: 1800, trip: 1, board: true, alight: true }
+> Connection { from: 1, to: 2, dep: 1800, arr: 3000, trip: 1, board: true, alight: true }
+> Connection { from: 1, to: 2, dep: 29520, arr: 30000, trip: 2, board: true, alight: true }";
+
+// How many runs and connections two days of these trips have, whichever the starts are, exact or not, in whichever order of the rows,
+// also where so many rows overlap that seconds are marked.
+const COUNTED: &str = "
+= three starts: 20240115 2 fixed:0
+frequencies.txt: T,09:00:00,10:00:00,1200
+> runs 8, connections 14, frequencies 1
+= an end time is no start: 20240115 2 fixed:0
+frequencies.txt: T,09:00:00,09:40:00,1200
+> runs 6, connections 10, frequencies 1
+= a row without a start: 20240115 2 fixed:0
+frequencies.txt: T,09:00:00,09:00:00,1200
+> runs 2, connections 2, frequencies 1
+= rows in any order, exact or not: 20240115 2 fixed:0
+frequencies.txt trip_id,start_time,end_time,headway_secs,exact_times|T,09:20:00,09:40:01,600,1|T,09:00:00,10:00:00,1200,0
+> runs 10, connections 18, frequencies 1
+= headways longer than their rows: 20240115 2 fixed:0
+frequencies.txt: U,00:00:00,00:00:01,99999|T,00:00:00,24:00:00,86399
+> runs 6, connections 10, frequencies 2
+= so many rows that seconds are marked: 20240115 2 fixed:0
+frequencies.txt: T,00:00:00,00:01:00,10|T,00:00:05,00:01:00,10|T,00:00:00,00:02:00,7|T,00:00:03,00:02:00,7|T,00:00:30,00:00:45,1|\
+    T,00:00:30,00:02:00,45
+> runs 108, connections 214, frequencies 1
+= no frequencies: 20240115 2 fixed:0
+> runs 4, connections 6, frequencies 0";
+
+const DAYS_WITHOUT_A_START: &str = "
+= the last day: 99991231 1 fixed:0
+> Day(DayOutOfRange)
+= the last but one, and the last: 99991230 2 fixed:0
+> Day(DayOutOfRange)
+= the last but one: 99991230 1 fixed:0
+> runs 0, connections 0, frequencies 0";
+
+type Made = (Vec<Connection>, Vec<Run>, Report);
+
+// What the files of a text, with further ones, make on some days, as `20240115 1 fixed:0`.
+fn made(
+    alloc: Global,
+    files: &str,
+    further: &str,
+    asked: &str,
+) -> Result<Result<Made, RunsFault>, Fail> {
+    let files = format!(in alloc; "{files}\n{further}")?;
+    let feed = joined(alloc, files.as_str(), LEVEL, false)?;
+    let (first, rest) = asked.split_once(' ').unwrap_or((asked, ""));
+    let (days, zone) = rest.split_once(' ').unwrap_or((rest, ""));
+    let first = Day::parse(first.as_bytes())?;
+    let zone = zone_of(alloc, zone)?;
+    let days = number(days)?;
+    if days < 1 || days > MAX_DAYS {
+        return Err(Fail::new("a number of days"));
+    }
+    Ok(runs_of(alloc, &feed, first, days, &zone))
+}
+
+// What is made, all of it or its counts alone.
+fn made_text(alloc: Global, made: &Made, is_counted: bool) -> Result<String, AllocError> {
+    let (connections, runs, report) = made;
+    if is_counted {
+        let (runs, connections) = (runs.len(), connections.len());
+        let frequencies = report.frequencies;
+        return format!(in alloc;
+            "runs {runs}, connections {connections}, frequencies {frequencies}"
+        );
+    }
+    let mut text = format!(in alloc; "{report:?}")?;
+    add_rows(&mut text, runs)?;
+    add_rows(&mut text, connections)?;
+    Ok(text)
+}
+
+// Feeds with further files, of which all is told or the counts alone.
+#[derive(Drop)]
+struct Feeds {
+    further: &'static str,
+    is_counted: bool,
+}
+
+impl Telling for Feeds {
+    fn told<R: Abort>(&self, _rt: &R, alloc: Global, case: Case<'_>) -> Result<String, Fail> {
+        let (_, asked) = case.head.split_once(": ").unwrap_or(("", ""));
+        match made(alloc, case.given, self.further, asked)? {
+            Ok(made) => Ok(made_text(alloc, &made, self.is_counted)?),
+            Err(fault) => Ok(format!(in alloc; "{fault:?}")?),
+        }
+    }
+}
+
+#[test]
+fn feeds_make_runs(rt: HostRuntime) -> Result<(), Fail> {
+    for (cases, further, is_counted) in [
+        (FEEDS, "", false),
+        (REPEATS, TWO_TRIPS, false),
+        (COUNTED, TWO_TRIPS, true),
+        (DAYS_WITHOUT_A_START, "", true),
+    ] {
+        let feeds = Feeds {
+            further,
+            is_counted,
+        };
+        try_cases(&rt, rt.alloc(), cases, &feeds)?;
+    }
+    Ok(())
+}
+
+/// Where there are too many runs, trips.txt is named, and none of its records.
+fn too_many_runs()
+    ensures { too_many_of Table.Trips ≡ RunsFault.Table (record { table = Table.Trips; row = 0; kind = FaultKind.TooMany }) }
+{}
+
+#[test]
+fn faults_name_their_tables(rt: HostRuntime) {
+    too_many_runs();
+    assert!(rt; MAX_DAYS == 14);
+}
+
+// Whether memory was wanting.
+fn is_want_of_memory(fault: RunsFault) -> bool {
+    match fault {
+        RunsFault::Table(fault) => fault.kind == FaultKind::OutOfMemory,
+        RunsFault::Day(fault) => fault == DayFault::OutOfMemory,
+    }
+}
+
+// Whichever growth is refused, want of memory is told and nothing else. A refused growth ends the test with `AllocError`.
+#[test]
+fn refused_growth_is_told(rt: HostRuntime) -> Result<(), Fail> {
+    let feed = joined_or_refused(&rt, rt.alloc(), "", LEVEL)?;
+    let first = Day::parse(b"20240115")?;
+    match runs_of(rt.alloc(), &feed, first, 1, &Zone::fixed(0)) {
+        Ok((connections, _runs, _report)) => assert_eq!(rt; connections.len(), 3),
+        Err(fault) => {
+            assert!(rt; is_want_of_memory(fault));
+            return Err(AllocError.into());
+        }
+    }
+    Ok(())
+}

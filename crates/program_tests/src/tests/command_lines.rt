@@ -1,0 +1,67 @@
+//! Command lines that ask for nothing, or for help.
+
+use super::transcript::try_lines;
+use std::test::Fail;
+
+const COMMAND_LINES: &str = "
+# Words that are missing, unknown or too many, and a file that there isn't.
+run
+complains 64
+run verify
+complains 64
+run verify - more
+complains 64
+run fly -
+complains 64
+run verify no/such/file
+complains 3
+run tables
+complains 64
+run tables folder more
+complains 64
+run profile -
+complains 64
+run build folder out
+complains 64
+run journey -
+complains 64
+
+# Help.
+run --help
+helps
+run verify --help
+helps
+run journey --help
+helps
+run profile --help
+helps
+run tables --help
+helps
+run build --help
+helps
+
+# Days, dates and zones of a wrong form.
+run build no_such_feed none.csa --first 20240115 --days 0 --zone fixed:0
+complains 64
+run build no_such_feed none.csa --first 20240115 --days 15 --zone fixed:0
+complains 64
+run build no_such_feed none.csa --first 20240115 --days +1 --zone fixed:0
+complains 64
+run build no_such_feed none.csa --first 20240115 --days '' --zone fixed:0
+complains 64
+run build no_such_feed none.csa --first 20240230 --days 1 --zone fixed:0
+complains 64
+run build no_such_feed none.csa --first 20240115 --days 1 --zone fixed:86400
+complains 64
+run build no_such_feed none.csa --first 20240115 --days 1 --zone fixed:-86400
+complains 64
+run build no_such_feed none.csa --first 20240115 --days 1 --zone fixed:1h
+complains 64
+run build no_such_feed none.csa --first 20240115 --days 1 --zone UTC
+complains 64
+";
+
+#[test]
+fn command_lines_are_judged(rt: HostRuntime) -> Result<(), Fail> {
+    try_lines(&rt, COMMAND_LINES)
+}

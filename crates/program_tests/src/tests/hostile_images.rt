@@ -1,0 +1,229 @@
+//! Images with one thing wrong, and with several: the first fault is told.
+
+use super::transcript::try_lines;
+use std::test::Fail;
+
+const CHANGES: &str = "
+# Each word of the sample in turn at its greatest value.
+run verify -
+with 0 4294967295: refused 61 BadMagic
+with 1 4294967295: refused 62 BadLayout
+with 2 4294967295: refused 63 BadLength
+with 3 4294967295: refused 63 BadLength
+with 4 4294967295: refused 63 BadLength
+with 5 4294967295: refused 63 BadLength
+with 6 4294967295: refused 63 BadLength
+with 7 4294967295: ok stops 3 trips 2 connections 3 footpaths 3
+with 8 4294967295: ok stops 3 trips 2 connections 3 footpaths 3
+with 9 4294967295: refused 64 StopRange 0
+with 10 4294967295: refused 64 StopRange 0
+with 11 4294967295: refused 69 TimeRange 0
+with 12 4294967295: refused 69 TimeRange 0
+with 13 4294967295: refused 65 TripRange 0
+with 14 4294967295: refused 70 BadFlags 0
+with 15 4294967295: refused 64 StopRange 1
+with 16 4294967295: refused 64 StopRange 1
+with 17 4294967295: refused 69 TimeRange 1
+with 18 4294967295: refused 69 TimeRange 1
+with 19 4294967295: refused 65 TripRange 1
+with 20 4294967295: refused 70 BadFlags 1
+with 21 4294967295: refused 64 StopRange 2
+with 22 4294967295: refused 64 StopRange 2
+with 23 4294967295: refused 69 TimeRange 2
+with 24 4294967295: refused 69 TimeRange 2
+with 25 4294967295: refused 65 TripRange 2
+with 26 4294967295: refused 70 BadFlags 2
+with 27 4294967295: refused 71 FootRange 0
+with 28 4294967295: refused 71 FootRange 0
+with 29 4294967295: refused 71 FootRange 1
+with 30 4294967295: refused 71 FootRange 2
+with 31 4294967295: refused 71 FootRange 0
+with 32 4294967295: refused 71 FootRange 0
+with 33 4294967295: refused 71 FootRange 1
+with 34 4294967295: refused 71 FootRange 1
+with 35 4294967295: refused 71 FootRange 2
+with 36 4294967295: refused 71 FootRange 2
+with 37 4294967295: refused 75 BadNames 0
+with 38 4294967295: refused 75 BadNames 0
+with 39 4294967295: refused 75 BadNames 1
+with 40 4294967295: refused 75 BadNames 2
+with 41 4294967295: refused 75 BadNames 3
+with 42 4294967295: refused 75 BadNames 4
+with 43 4294967295: ok stops 3 trips 2 connections 3 footpaths 3
+with 44 4294967295: ok stops 3 trips 2 connections 3 footpaths 3
+with 45 4294967295: refused 75 BadNames 0
+with 46 4294967295: refused 75 BadNames 3
+
+# Each front of the sample is too short.
+sample
+cut 0
+answers refused 63 BadLength
+cut 4
+answers refused 63 BadLength
+cut 8
+answers refused 63 BadLength
+cut 12
+answers refused 63 BadLength
+cut 16
+answers refused 63 BadLength
+cut 20
+answers refused 63 BadLength
+cut 24
+answers refused 63 BadLength
+cut 28
+answers refused 63 BadLength
+cut 32
+answers refused 63 BadLength
+cut 36
+answers refused 63 BadLength
+cut 40
+answers refused 63 BadLength
+cut 44
+answers refused 63 BadLength
+cut 48
+answers refused 63 BadLength
+cut 52
+answers refused 63 BadLength
+cut 56
+answers refused 63 BadLength
+cut 60
+answers refused 63 BadLength
+cut 64
+answers refused 63 BadLength
+cut 68
+answers refused 63 BadLength
+cut 72
+answers refused 63 BadLength
+cut 76
+answers refused 63 BadLength
+cut 80
+answers refused 63 BadLength
+cut 84
+answers refused 63 BadLength
+cut 88
+answers refused 63 BadLength
+cut 92
+answers refused 63 BadLength
+cut 96
+answers refused 63 BadLength
+cut 100
+answers refused 63 BadLength
+cut 104
+answers refused 63 BadLength
+cut 108
+answers refused 63 BadLength
+cut 112
+answers refused 63 BadLength
+cut 116
+answers refused 63 BadLength
+cut 120
+answers refused 63 BadLength
+cut 124
+answers refused 63 BadLength
+cut 128
+answers refused 63 BadLength
+cut 132
+answers refused 63 BadLength
+cut 136
+answers refused 63 BadLength
+cut 140
+answers refused 63 BadLength
+cut 144
+answers refused 63 BadLength
+cut 148
+answers refused 63 BadLength
+cut 152
+answers refused 63 BadLength
+cut 156
+answers refused 63 BadLength
+cut 160
+answers refused 63 BadLength
+cut 164
+answers refused 63 BadLength
+cut 168
+answers refused 63 BadLength
+cut 172
+answers refused 63 BadLength
+cut 176
+answers refused 63 BadLength
+cut 180
+answers refused 63 BadLength
+cut 184
+answers refused 63 BadLength
+
+# One word of the sample changed, to another fault each.
+with 24 29520: refused 66 HopWithoutDuration 2
+with 15 0: refused 68 TripBroken 1
+with 17 29399: refused 68 TripBroken 1
+with 11 29401: refused 66 HopWithoutDuration 0
+with 12 2000000000: refused 69 TimeRange 0
+with 26 4: refused 70 BadFlags 2
+with 27 1: refused 71 FootRange 0
+with 30 2: refused 73 NoLoop 2
+with 30 4: refused 71 FootRange 2
+with 32 1000001: refused 71 FootRange 0
+with 31 1: refused 73 NoLoop 0
+with 37 1: refused 75 BadNames 0
+with 45 1413694207: refused 75 BadNames 0
+with 46 20075569: refused 75 BadNames 5
+
+# Stops and footpaths alone. Several ways are open in the first four: the one with the least last stop is told, then with the least middle one, then
+# with the least first one.
+# 1 to 0, 2 to 1 and 0 to 2: each two want a third.
+image 1346458435 1 3 0 0 6 0 0 0 0 2 4 6 0 0 1 5 1 0 2 5 0 5 2 0 0 0 0 0
+answers refused 74 NotClosed 2 1 0
+# 0 to 3 by way of 1 and of 2.
+image 1346458435 1 4 0 0 8 0 0 0 0 1 3 5 8 0 0 0 5 1 0 0 5 2 0 1 5 2 5 3 0 0 0 0 0 0
+answers refused 74 NotClosed 0 1 3
+# 0 and 1 to 3 by way of 2.
+image 1346458435 1 4 0 0 7 0 0 0 0 1 2 5 7 0 0 1 0 0 5 1 5 2 0 2 5 3 0 0 0 0 0 0
+answers refused 74 NotClosed 0 2 3
+# 1 to 3 by way of 0, and 0 to 3 by way of 2 in 10 s in place of 20 s.
+image 1346458435 1 4 0 0 9 0 0 0 0 2 3 6 9 0 0 1 5 1 0 0 5 1 10 2 0 0 20 2 5 3 0 0 0 0 0 0
+answers refused 74 NotClosed 1 0 3
+# There and back is shorter than the loop at 0, and than the one at 1; and as long as both.
+image 1346458435 1 2 0 0 4 0 0 0 0 2 4 0 50 1 10 0 10 1 50 0 0 0
+answers refused 74 NotClosed 0 1 0
+image 1346458435 1 2 0 0 4 0 0 0 0 2 4 0 0 1 10 0 10 1 50 0 0 0
+answers refused 74 NotClosed 1 0 1
+image 1346458435 1 2 0 0 4 0 0 0 0 2 4 0 20 1 10 0 10 1 20 0 0 0
+answers ok stops 2 trips 0 connections 0 footpaths 4
+# Footpaths of no seconds from 0 to 1 and to 2: with no direct one, one of 1 s, and one of none.
+image 1346458435 1 3 0 0 6 0 0 0 0 2 4 6 0 0 1 0 0 0 1 0 1 0 2 0 0 0 0 0
+answers refused 74 NotClosed 0 1 2
+image 1346458435 1 3 0 0 6 0 0 0 0 1 3 6 0 0 0 0 1 0 0 1 1 0 2 0 0 0 0 0
+answers refused 74 NotClosed 0 1 2
+image 1346458435 1 3 0 0 6 0 0 0 0 1 3 6 0 0 0 0 1 0 0 0 1 0 2 0 0 0 0 0
+answers ok stops 3 trips 0 connections 0 footpaths 6
+# The most seconds, and an order that falls.
+image 1346458435 1 2 0 0 4 0 0 0 0 2 4 0 0 1 1000000 0 1000000 1 0 0 0 0
+answers ok stops 2 trips 0 connections 0 footpaths 4
+image 1346458435 1 2 0 0 4 0 0 0 0 2 4 1 5 0 0 0 5 1 0 0 0 0
+answers refused 72 FootUnsorted 0
+
+# Without stops the index of footpaths begins with 0, as without names theirs does; and it ends with their number.
+image 1346458435 1 0 0 0 0 0 0 0 0 0
+answers ok stops 0 trips 0 connections 0 footpaths 0
+image 1346458435 1 0 0 0 0 0 0 0 1 0
+answers refused 71 FootRange 0
+image 1346458435 1 1 0 0 2 0 0 0 0 1 0 0 0 0 0 0
+answers refused 71 FootRange 1
+image 1346458435 1 0 0 0 0 0 0 0 0 1
+answers refused 75 BadNames 0
+
+# Both layouts are read, and no other; a length of the other layout is none.
+with 1 0: refused 62 BadLayout
+with 1 1: ok stops 3 trips 2 connections 3 footpaths 3
+with 1 2: refused 63 BadLength
+with 1 3: refused 62 BadLayout
+sample 2
+set 1 1
+answers refused 63 BadLength
+sample 2
+answers ok stops 3 trips 2 connections 3 footpaths 3
+";
+
+#[test]
+fn the_first_fault_is_told(rt: HostRuntime) -> Result<(), Fail> {
+    try_lines(&rt, CHANGES)
+}

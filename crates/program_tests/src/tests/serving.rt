@@ -1,0 +1,89 @@
+//! `csa serve`: what is told of wrong words. How it serves is tried over the built program (`.ci/server`), and over workers.
+
+use super::running::outcome_of;
+use super::transcript::try_lines;
+use image_layout::{Words, sample_words};
+use std::alloc::Global;
+use std::net::{Ipv4Addr, TcpListener};
+use std::test::Fail;
+
+const WRONG_WORDS: &str = "
+# Ports, workers, sessions, zones and feeds of a wrong form.
+run serve --image - --port 65536 --workers 2 --sessions 1 --first 20240115 --days 1 --zone fixed:0 slow=slow_feed
+complains 64
+run serve --image - --port 0 --workers 0 --sessions 1 --first 20240115 --days 1 --zone fixed:0 slow=slow_feed
+complains 64
+run serve --image - --port 0 --workers 17 --sessions 1 --first 20240115 --days 1 --zone fixed:0 slow=slow_feed
+complains 64
+run serve --image - --port 0 --workers 2 --sessions -1 --first 20240115 --days 1 --zone fixed:0 slow=slow_feed
+complains 64
+run serve --image - --port 0 --workers 2 --sessions 1 --first 20240115 --days 1 --zone utc slow=slow_feed
+complains 64
+run serve --image - --port 0 --workers 2 --sessions 1 --first 20240115 --days 1 --zone fixed:0 slow
+complains 64
+run serve --image - --port 0 --workers 2 --sessions 1 --first 20240115 --days 1 --zone fixed:0 slow=
+complains 64
+
+# An image that can't be read.
+run serve --image 'no such file' --port 0 --workers 2 --sessions 1 --first 20240115 --days 1 --zone fixed:0 slow=slow_feed
+complains 3
+
+# A zone that is none is told before an image that is none.
+run serve --image - --port 0 --workers 2 --sessions 1 --first 20240115 --days 1 --zone posix:none slow=slow_feed
+answers refused 21 BadZone
+sample
+cut 3
+run serve --image - --port 0 --workers 2 --sessions 1 --first 20240115 --days 1 --zone fixed:0 slow=slow_feed
+answers refused 51 OddLength
+";
+
+#[test]
+fn what_cannot_be_served_is_told(rt: HostRuntime) -> Result<(), Fail> {
+    try_lines(&rt, WRONG_WORDS)
+}
+
+/// The sample, from the standard input, to one session, beside a feed whose days begin so.
+fn words_at<'a>(port: &'a str, first: &'a str) -> [&'a str; 17] {
+    [
+        "csa",
+        "serve",
+        "--image",
+        "-",
+        "--port",
+        port,
+        "--workers",
+        "2",
+        "--sessions",
+        "1",
+        "--first",
+        first,
+        "--days",
+        "1",
+        "--zone",
+        "fixed:0",
+        "slow=slow_feed",
+    ]
+}
+
+/// A port that is taken is told, and before it that clocks of a feed would count from another base than the image's.
+#[test]
+fn a_port_that_is_taken(rt: HostRuntime) -> Result<(), Fail> {
+    let alloc: Global = rt.alloc();
+    let listener = TcpListener::bind(&rt, (Ipv4Addr::LOCALHOST, 0))?;
+    let port = format!(in alloc; "{}", listener.local_addr()?.port())?;
+    let image = Words::to_bytes(alloc, &sample_words())?;
+    for (first, told) in [
+        ("20240115", ""),
+        (
+            "20240116",
+            "csa: the image's clocks count from 1705276800, those of a feed that is loaded from 1705363200\n",
+        ),
+    ] {
+        let outcome = outcome_of(&rt, &words_at(port.as_str(), first), &image);
+        let taken = format!(in alloc; "{told}csa: port {port} can't be listened at\n")?;
+        assert_eq!(&rt; outcome.status, 3);
+        assert!(&rt; outcome.output.is_empty());
+        assert!(&rt; outcome.errors.as_slice() == taken.as_bytes());
+    }
+    Ok(())
+}

@@ -1,0 +1,116 @@
+//! `csa tables` over folders: a small feed, and what is told of changes to it.
+
+use super::transcript::try_lines;
+use std::test::Fail;
+
+const CHANGES: &str = "
+# The feed of examples/base.
+folder base_feed
+file base_feed/agency.txt agency_id,agency_name,agency_url,agency_timezone|1,Base,http://base.example,Etc/UTC
+file base_feed/stops.txt stop_id,stop_name|A,A|B,B|C,C
+file base_feed/trips.txt route_id,service_id,trip_id|R,S,T1|R,S,T2
+file base_feed/calendar.txt service_id,monday,tuesday,wednesday,thursday,friday,saturday,sunday,start_date,end_date|S,1,1,1,1,1,1,1,20240115,20240115
+file base_feed/stop_times.txt trip_id,arrival_time,departure_time,stop_id,stop_sequence|T1,08:00:00,08:00:00,A,1|T1,08:10:00,08:10:00,B,2|\
+    T1,08:30:00,08:30:00,C,3|T2,08:12:00,08:12:00,B,1|T2,08:20:00,08:20:00,C,2
+run tables base_feed
+answers tables agencies 1 stops 3 trips 2 stop_times 5 calendar 1 calendar_dates 0 transfers 0
+
+# Values: minutes, and a number with a fraction.
+but 2 T1,08:60:00,08:10:00,B,2
+answers refused 5 BadTime stop_times.txt 2
+but 2 T1,08:10:00,08:10:00,B,2.5
+answers refused 7 BadNumber stop_times.txt 2
+
+# Times of a trip: one that goes back, a number twice, and an end without a time.
+but 2 T1,08:10:00,07:59:00,B,2
+answers refused 13 TimeGoesBack stop_times.txt 2
+but 3 T1,08:30:00,08:30:00,C,2
+answers refused 11 SequenceTwice stop_times.txt 3
+but 5 T2,,,C,2
+answers refused 12 EndWithoutTime stop_times.txt 5
+
+# Ids that are nowhere: of a trip, and of a stop.
+but 4 N1,08:12:00,08:12:00,B,1
+answers refused 9 UnknownId stop_times.txt 4
+but 4 T2,08:12:00,08:12:00,D,1
+answers refused 9 UnknownId stop_times.txt 4
+
+# A trip with a blank stop_id, and one with a single row, isn't judged by its times; no hop needs a duration.
+file base_feed/stop_times.txt trip_id,arrival_time,departure_time,stop_id,stop_sequence|T1,08:10:00,08:10:00,Q,1|T1,08:00:00,08:00:00,,1|\
+    T1,,,C,3|T2,,,B,1|T2,08:20:00,08:20:00,C,2
+answers refused 12 EndWithoutTime stop_times.txt 4
+but 5 T1,,,C,3
+answers tables agencies 1 stops 3 trips 2 stop_times 5 calendar 1 calendar_dates 0 transfers 0
+file base_feed/stop_times.txt trip_id,arrival_time,departure_time,stop_id,stop_sequence|T1,08:00:00,08:00:00,A,1|T1,08:00:00,08:00:00,B,2|\
+    T1,08:00:00,08:00:00,C,3|T2,08:12:00,08:12:00,B,1|T2,08:20:00,08:20:00,C,2
+answers tables agencies 1 stops 3 trips 2 stop_times 5 calendar 1 calendar_dates 0 transfers 0
+
+# Numbers may have a point and zeros, and a kind of place that isn't one counts as blank.
+file base_feed/stops.txt stop_id,stop_name,location_type|A,A,0.0|B,B,9|C,C,
+file base_feed/stop_times.txt trip_id,arrival_time,departure_time,stop_id,stop_sequence|T1,08:00:00,08:00:00,A,1.0|T1,08:10:00,08:10:00,B,2|\
+    T1,08:30:00,08:30:00,C,3|T2,08:12:00,08:12:00,B,1|T2,08:20:00,08:20:00,C,2
+answers tables agencies 1 stops 3 trips 2 stop_times 5 calendar 1 calendar_dates 0 transfers 0
+
+# Columns come in any order, with some that aren't known; a mark stands before the first; lines end with CR LF.
+crlf base_feed/agency.txt agency_timezone,agency_fare,agency_id|Etc/UTC,x,1
+crlf base_feed/stop_times.txt \u{FEFF}stop_sequence,stop_id,note,departure_time,arrival_time,trip_id|1,A,n,08:00:00,08:00:00,T1|\
+    2,B,n,08:10:00,08:10:00,T1|3,C,n,08:30:00,08:30:00,T1|1,B,n,08:12:00,08:12:00,T2|2,C,n,08:20:00,08:20:00,T2
+answers tables agencies 1 stops 3 trips 2 stop_times 5 calendar 1 calendar_dates 0 transfers 0
+
+# Another number of records in each file; a station, which no stop time names, is one of its file's.
+file base_feed/agency.txt agency_timezone|Etc/UTC|Etc/UTC|Etc/UTC
+file base_feed/stops.txt stop_id,location_type,parent_station|A,,S|B,,|C,,S|S,1,
+file base_feed/calendar_dates.txt service_id,date,exception_type|X,20240115,1|X,20240116,2|Y,20240115,1|Z,20240115,1|V,20240115,1|W,20240115,1
+file base_feed/transfers.txt from_stop_id,to_stop_id,transfer_type|A,B,|B,A,2|S,S,3|nowhere,A,4|A,A,1|B,B,0|C,S,2
+answers tables agencies 3 stops 4 trips 2 stop_times 5 calendar 1 calendar_dates 6 transfers 7
+
+# What is found once all files are read comes after what is wrong with any file.
+file base_feed/stops.txt stop_id,parent_station|A,Q|B,|C,
+file base_feed/calendar_dates.txt service_id,date,exception_type|S,20240115,3
+file base_feed/frequencies.txt trip_id,start_time,end_time,headway_secs|T2,9:00:00,10:00:00,1200|T9,9:00:00,10:00:00,1200
+answers refused 7 BadNumber calendar_dates.txt 1
+remove base_feed/calendar_dates.txt
+
+# Then the order is: parents, stop times, frequencies, trips, transfers. The first trip comes back in time over a blank row.
+file base_feed/transfers.txt from_stop_id,to_stop_id|A,Q
+answers refused 9 UnknownId stops.txt 1
+file base_feed/stops.txt stop_id|A|B|C
+file base_feed/stop_times.txt trip_id,arrival_time,departure_time,stop_id,stop_sequence|T1,08:10:00,08:10:00,A,1|T1,,,B,2|\
+    T1,08:00:00,08:00:00,C,3|T2,08:12:00,08:12:00,B,1|T2,08:20:00,08:20:00,C,2
+answers refused 9 UnknownId frequencies.txt 2
+file base_feed/frequencies.txt trip_id,start_time,end_time,headway_secs|T2,9:00:00,10:00:00,1200
+answers refused 13 TimeGoesBack stop_times.txt 3
+file base_feed/stop_times.txt trip_id,arrival_time,departure_time,stop_id,stop_sequence|T1,08:00:00,08:00:00,A,1|T1,08:10:00,08:10:00,B,2|\
+    T1,08:30:00,08:30:00,C,3|T2,08:12:00,08:12:00,B,1|T2,08:20:00,08:20:00,C,2
+answers refused 9 UnknownId transfers.txt 1
+remove base_feed/frequencies.txt
+
+# A station, and an entrance, are no stops; a row that is skipped isn't looked up, and of the ends that are unknown comes first.
+file base_feed/stops.txt stop_id,location_type|A,|B,1|C,2
+file base_feed/transfers.txt from_stop_id,to_stop_id,transfer_type|C,Q,4
+answers refused 15 NotAStop stop_times.txt 2
+file base_feed/stops.txt stop_id,location_type|A,|B,|C,|E,2
+file base_feed/transfers.txt from_stop_id,to_stop_id|A,B|E,B
+answers refused 15 NotAStop transfers.txt 2
+file base_feed/transfers.txt from_stop_id,to_stop_id|E,Q
+answers refused 9 UnknownId transfers.txt 1
+remove base_feed/transfers.txt
+
+# Files that there aren't, a folder in the place of one, which can't be read, and at last no folder.
+remove base_feed/stops.txt
+answers refused 1 MissingFile stops.txt 0
+folder base_feed/stops.txt
+prints refused 101 FileFailed stops.txt
+ends 3
+remove base_feed/stops.txt
+file base_feed/stops.txt stop_id|A|B|C
+remove base_feed/calendar.txt
+answers refused 1 MissingFile calendar.txt 0
+remove base_feed
+answers refused 1 MissingFile agency.txt 0
+";
+
+#[test]
+fn tables_are_judged(rt: HostRuntime) -> Result<(), Fail> {
+    try_lines(&rt, CHANGES)
+}

@@ -1,0 +1,404 @@
+//! Transcripts: what stands in files, what a user types, and what the program answers, line after line. The first word of a line says what it is.
+//!
+//! | line | meaning |
+//! |---|---|
+//! | `# TEXT`, or none | nothing: it tells what the lines below show |
+//! | `image WORD ..` | the input is an image of these words |
+//! | `sample` | the input is the sample image; `sample 2` in the layout that is written |
+//! | `set PLACE WORD` | the input's word at this place is another |
+//! | `cut BYTES` | of the input so many bytes alone |
+//! | `zeros WORDS` | the input is so many words of 0 |
+//! | `folder PATH` | makes a folder |
+//! | `file PATH TEXT`, `crlf PATH TEXT` | makes a file of lines, each ended by LF, or by CR LF; a bar stands between two |
+//! | `but RECORD TEXT` | the file that was made last, as it was made then but for one line; 0 is the first |
+//! | `remove PATH` | takes a file or a folder away, with all that is in it |
+//! | `run WORD ..` | the words of the next command behind the program's name; one in single quotes may have spaces |
+//! | `prints TEXT`, `tells TEXT` | one more line that it must print, or tell among its errors |
+//! | `ends STATUS` | runs it: it prints and tells these lines alone, and ends with this status |
+//! | `answers LINE` | runs it: it prints this line alone, and ends with status 2 where the line says `refused`, else with 0 |
+//! | `with PLACE WORD: LINE` | the input is the sample, where the word at this place is another: the same |
+//! | `judges QUERY: TEXT: LINE` | so does `csa journey` of this text; a query is its ends and times, as `A C 07:00:00 09:00:00 10:00:00` |
+//! | `complains STATUS` | runs it: it prints nothing, tells something of its own, and ends with this status |
+//! | `helps` | runs it: it prints something of its own, tells nothing, and ends with status 0 |
+//! | `saves PATH` | puts the bytes of the input into a file |
+//! | `holds PATH` | the file has the bytes of the input |
+//! | `lacks PATH` | there is no such file |
+//!
+//! Each `run` is tried before the next one and before the end, and so is each `prints` and `tells`: one that nothing ran is refused.
+
+use super::running::{Machine, Outcome, outcome_of};
+use image_layout::{Words, sample_words, second_sample_words};
+use std::alloc::{AllocError, Global};
+use std::fs;
+use std::net::{Net, TcpListener, TcpStream};
+use std::process::Abort;
+use std::test::Fail;
+
+/// What the next command finds, and what it is to print.
+#[derive(Drop)]
+struct Stage<'a> {
+    /// The words of the image on its input.
+    image: Vec<u32>,
+    /// How many bytes of them are there at most.
+    bytes: usize,
+    /// The file that was made last, and its lines, with a bar between two.
+    path: &'a str,
+    lines: &'a str,
+    words: Vec<&'a str>,
+    /// Whether the words were tried.
+    is_tried: bool,
+    printed: String,
+    told: String,
+}
+
+impl<'a> Stage<'a> {
+    fn empty(alloc: Global) -> Stage<'a> {
+        Stage {
+            image: Vec::new(alloc),
+            bytes: usize::MAX,
+            path: "",
+            lines: "",
+            words: Vec::new(alloc),
+            is_tried: true,
+            printed: String::new(alloc),
+            told: String::new(alloc),
+        }
+    }
+
+    fn input(&self, alloc: Global) -> Result<Vec<u8>, AllocError> {
+        let mut bytes = Words::to_bytes(alloc, &self.image)?;
+        bytes.truncate(self.bytes);
+        Ok(bytes)
+    }
+
+    /// Takes the words of the next command, once those before it were tried.
+    fn take_words(&mut self, words: Vec<&'a str>) -> Result<(), Fail> {
+        self.ended()?;
+        self.words = words;
+        self.is_tried = false;
+        Ok(())
+    }
+
+    /// Nothing waits to be tried.
+    fn ended(&self) -> Result<(), Fail> {
+        if !self.is_tried {
+            return Err(Fail::new("a command that was never tried"));
+        }
+        self.all_compared()
+    }
+
+    /// No line stands ready.
+    fn all_compared(&self) -> Result<(), Fail> {
+        if self.printed.is_empty() && self.told.is_empty() {
+            Ok(())
+        } else {
+            Err(Fail::new("lines that were never compared"))
+        }
+    }
+
+    fn take_image(&mut self, image: Vec<u32>) {
+        self.image = image;
+        self.bytes = usize::MAX;
+    }
+}
+
+/// A number of a transcript.
+fn number(text: &str) -> Result<u32, Fail> {
+    match text.parse() {
+        Ok(number) => Ok(number),
+        Err(_) => Err(Fail::new("a number of a transcript")),
+    }
+}
+
+fn image_of(alloc: Global, text: &str) -> Result<Vec<u32>, Fail> {
+    let mut words = Vec::new(alloc);
+    for word in text.split(' ') {
+        words.push(number(word)?)?;
+    }
+    Ok(words)
+}
+
+fn zeros(alloc: Global, count: u32) -> Result<Vec<u32>, AllocError> {
+    Ok(vec![in alloc; 0u32; count as usize]?)
+}
+
+/// The sample in a layout.
+fn sample_of(alloc: Global, layout: &str) -> Result<Vec<u32>, AllocError> {
+    match layout {
+        "2" => second_sample_words().to_vec(alloc),
+        _ => sample_words().to_vec(alloc),
+    }
+}
+
+/// Puts a word at a place.
+fn set(image: &mut [u32], text: &str) -> Result<(), Fail> {
+    let Some((place, word)) = text.split_once(' ') else {
+        return Err(Fail::new("a place and a word"));
+    };
+    match image.get_mut(number(place)? as usize) {
+        Some(at) => {
+            *at = number(word)?;
+            Ok(())
+        }
+        None => Err(Fail::new("a place behind the image")),
+    }
+}
+
+/// Adds words of a command: those between spaces.
+fn add_plain<'a>(words: &mut Vec<&'a str>, text: &'a str) -> Result<(), AllocError> {
+    for word in text.split(' ') {
+        if !word.is_empty() {
+            words.push(word)?;
+        }
+    }
+    Ok(())
+}
+
+/// The words of a command: those between quotes, and the others between spaces.
+fn words_of<'a>(alloc: Global, text: &'a str) -> Result<Vec<&'a str>, AllocError> {
+    let mut words = vec![in alloc; "csa"]?;
+    let mut is_quoted = false;
+    for piece in text.split('\'') {
+        if is_quoted {
+            words.push(piece)?;
+        } else {
+            add_plain(&mut words, piece)?;
+        }
+        is_quoted = !is_quoted;
+    }
+    Ok(words)
+}
+
+fn add_line(text: &mut String, line: &str, end: &str) -> Result<(), AllocError> {
+    text.push_str(line)?;
+    text.push_str(end)
+}
+
+/// Takes a file or a folder away.
+fn remove<R: Machine>(rt: &R, path: &str) -> Result<(), Fail> {
+    match fs::remove_file(rt, path) {
+        Ok(()) => Ok(()),
+        Err(_) => Ok(fs::remove_dir_all(rt, path)?),
+    }
+}
+
+/// The text of lines with bars between them, each ended so. The one at the place, if there is one, is another.
+fn text_of(
+    alloc: Global,
+    lines: &str,
+    end: &str,
+    (place, other): (usize, &str),
+) -> Result<String, AllocError> {
+    let mut text = String::new(alloc);
+    for (at, line) in lines.split('|').enumerate() {
+        let line = if at == place { other } else { line };
+        add_line(&mut text, line, end)?;
+    }
+    Ok(text)
+}
+
+/// Makes a file.
+fn make<'a, R: Machine>(
+    rt: &R,
+    stage: &mut Stage<'a>,
+    kind: &str,
+    rest: &'a str,
+) -> Result<(), Fail> {
+    let (path, lines) = rest.split_once(' ').unwrap_or((rest, ""));
+    stage.path = path;
+    stage.lines = lines;
+    let end = if kind == "crlf" { "\r\n" } else { "\n" };
+    let text = text_of(rt.alloc(), lines, end, (usize::MAX, ""))?;
+    Ok(fs::write(rt, path, text.as_str())?)
+}
+
+/// Makes the last file once more, with another line.
+fn make_but<R: Machine>(rt: &R, stage: &Stage<'_>, rest: &str) -> Result<(), Fail> {
+    let (place, line) = rest.split_once(' ').unwrap_or((rest, ""));
+    let place = number(place)? as usize;
+    let text = text_of(rt.alloc(), stage.lines, "\n", (place, line))?;
+    Ok(fs::write(rt, stage.path, text.as_str())?)
+}
+
+/// Runs the command on the input.
+fn run_on_stage<R: Machine + Net<Listener = TcpListener, Stream = TcpStream>>(
+    rt: &R,
+    stage: &mut Stage<'_>,
+) -> Result<Outcome, AllocError> {
+    let input = stage.input(rt.alloc())?;
+    stage.is_tried = true;
+    Ok(outcome_of(rt, &stage.words, &input))
+}
+
+/// The command prints and tells the lines that stand ready, and ends with a status.
+fn expect_lines<R: Machine + Net<Listener = TcpListener, Stream = TcpStream> + Abort>(
+    rt: &R,
+    stage: &mut Stage<'_>,
+    status: &str,
+) -> Result<(), Fail> {
+    let outcome = run_on_stage(rt, stage)?;
+    let words = &stage.words;
+    assert!(rt;
+        outcome.output.as_slice() == stage.printed.as_bytes(),
+        "the output of {words:?}"
+    );
+    assert!(rt;
+        outcome.errors.as_slice() == stage.told.as_bytes(),
+        "the errors of {words:?}"
+    );
+    assert_eq!(rt; u32::from(outcome.status), number(status)?, "{words:?}");
+    stage.printed.clear();
+    stage.told.clear();
+    Ok(())
+}
+
+/// The command prints this line alone, and ends as the line says.
+fn expect_answer<R: Machine + Net<Listener = TcpListener, Stream = TcpStream> + Abort>(
+    rt: &R,
+    stage: &mut Stage<'_>,
+    line: &str,
+) -> Result<(), Fail> {
+    let status = if line.starts_with("refused ") {
+        "2"
+    } else {
+        "0"
+    };
+    add_line(&mut stage.printed, line, "\n")?;
+    expect_lines(rt, stage, status)
+}
+
+/// The words of `csa journey` for a journey and a query.
+fn journey_words<'a>(
+    alloc: Global,
+    query: &'a str,
+    journey: &'a str,
+) -> Result<Vec<&'a str>, AllocError> {
+    let mut words = vec![in alloc; "csa", "journey", "-", journey]?;
+    let options = ["--from", "--to", "--after", "--until", "--by"];
+    for (option, word) in options.iter().zip(query.split(' ')) {
+        words.push(*option)?;
+        words.push(word)?;
+    }
+    Ok(words)
+}
+
+/// What stands before a colon, and what behind it.
+fn parted(text: &str) -> Result<(&str, &str), Fail> {
+    match text.split_once(": ") {
+        Some(parts) => Ok(parts),
+        None => Err(Fail::new("a line with a colon")),
+    }
+}
+
+/// A journey is judged for a query.
+fn judge<'a, R: Machine + Net<Listener = TcpListener, Stream = TcpStream> + Abort>(
+    rt: &R,
+    stage: &mut Stage<'a>,
+    text: &'a str,
+) -> Result<(), Fail> {
+    let (query, rest) = parted(text)?;
+    let (journey, line) = parted(rest)?;
+    stage.take_words(journey_words(rt.alloc(), query, journey)?)?;
+    expect_answer(rt, stage, line)
+}
+
+/// The command is run on the sample with another word.
+fn run_with<R: Machine + Net<Listener = TcpListener, Stream = TcpStream> + Abort>(
+    rt: &R,
+    stage: &mut Stage<'_>,
+    text: &str,
+) -> Result<(), Fail> {
+    let (changed, line) = parted(text)?;
+    stage.take_image(sample_of(rt.alloc(), "")?);
+    set(&mut stage.image, changed)?;
+    expect_answer(rt, stage, line)
+}
+
+/// The command prints something, or tells something, and not both, and ends with a status.
+fn expect_any<R: Machine + Net<Listener = TcpListener, Stream = TcpStream> + Abort>(
+    rt: &R,
+    stage: &mut Stage<'_>,
+    prints: bool,
+    status: u32,
+) -> Result<(), Fail> {
+    stage.all_compared()?;
+    let outcome = run_on_stage(rt, stage)?;
+    let words = &stage.words;
+    assert!(rt;
+        outcome.output.is_empty() != prints,
+        "the output of {words:?}"
+    );
+    assert!(rt;
+        outcome.errors.is_empty() == prints,
+        "the errors of {words:?}"
+    );
+    assert_eq!(rt; u32::from(outcome.status), status, "{words:?}");
+    Ok(())
+}
+
+fn expect_held<R: Machine + Abort>(rt: &R, stage: &Stage<'_>, path: &str) -> Result<(), Fail> {
+    let held = fs::read(rt, path)?;
+    let input = stage.input(rt.alloc())?;
+    assert!(rt; held.as_slice() == input.as_slice(), "another file {path}");
+    Ok(())
+}
+
+/// Makes another input.
+fn take_input(alloc: Global, stage: &mut Stage<'_>, kind: &str, rest: &str) -> Result<(), Fail> {
+    match kind {
+        "image" => stage.take_image(image_of(alloc, rest)?),
+        "sample" => stage.take_image(sample_of(alloc, rest)?),
+        "zeros" => stage.take_image(zeros(alloc, number(rest)?)?),
+        "set" => set(&mut stage.image, rest)?,
+        _ => stage.bytes = number(rest)? as usize,
+    }
+    Ok(())
+}
+
+/// Does what a line says.
+fn follow<'a, R: Machine + Net<Listener = TcpListener, Stream = TcpStream> + Abort>(
+    rt: &R,
+    stage: &mut Stage<'a>,
+    line: &'a str,
+) -> Result<(), Fail> {
+    let (kind, rest) = line.split_once(' ').unwrap_or((line, ""));
+    match kind {
+        "" | "#" => Ok(()),
+        "image" | "sample" | "zeros" | "set" | "cut" => take_input(rt.alloc(), stage, kind, rest),
+        "folder" => Ok(fs::create_dir(rt, rest)?),
+        "file" | "crlf" => make(rt, stage, kind, rest),
+        "but" => make_but(rt, stage, rest),
+        "remove" => remove(rt, rest),
+        "run" => stage.take_words(words_of(rt.alloc(), rest)?),
+        "prints" => Ok(add_line(&mut stage.printed, rest, "\n")?),
+        "tells" => Ok(add_line(&mut stage.told, rest, "\n")?),
+        "ends" => expect_lines(rt, stage, rest),
+        "answers" => expect_answer(rt, stage, rest),
+        "with" => run_with(rt, stage, rest),
+        "judges" => judge(rt, stage, rest),
+        "complains" => expect_any(rt, stage, false, number(rest)?),
+        "helps" => expect_any(rt, stage, true, 0),
+        "saves" => {
+            let input = stage.input(rt.alloc())?;
+            Ok(fs::write(rt, rest, input.as_slice())?)
+        }
+        "holds" => expect_held(rt, stage, rest),
+        "lacks" => {
+            assert!(rt; fs::read(rt, rest).is_err(), "there is a file {rest}");
+            Ok(())
+        }
+        _ => Err(Fail::new("no line of a transcript")),
+    }
+}
+
+/// Tries each line of a transcript in turn.
+pub(crate) fn try_lines<R: Machine + Net<Listener = TcpListener, Stream = TcpStream> + Abort>(
+    rt: &R,
+    transcript: &str,
+) -> Result<(), Fail> {
+    let mut stage = Stage::empty(rt.alloc());
+    for line in transcript.split('\n') {
+        follow(rt, &mut stage, line)?;
+    }
+    stage.ended()
+}
