@@ -69,11 +69,11 @@ module _ (table : Table (Option Edition) View) (r : Ruled table) (id : ℕ) (v v
   next_seats fits = worker_moves r.course (extended r.course e reply t r.course.images) table.views r.loader r.seats id v v' at named others loads rest
       (λ w low other h. nothing_snoc w r.course.events e (not_of w other) (no_join w e not_nobodys) h) fits
 
-  pub next_ruled : (words' : List ℕ) (homes' : List (Maybe (Option Edition))) → WorkerFits next v' → WordsShow words' t
+  pub next_ruled : (words' : List ℕ) (homes' : List (Maybe (Option Edition))) → WorkerFits (extended r.course e reply t r.course.images) v' → WordsShow words' t
       → SlotsFit homes' t.shelves t.workers r.course.images r.loader.hand
       → t.notices ≡ r.course.state.notices → Ruled record { words = words'; homes = homes'; views = set table.views id (View.Working v') }
   next_ruled words' homes' fits words slots notices = record {
-    course = next;
+    course = extended r.course e reply t r.course.images;
     loader = r.loader;
     goes = next_goes;
     words = words;
