@@ -190,9 +190,11 @@ fn date_of(alloc: Global, text: &str) -> Result<CalendarDateRow, Fail> {
         Some(date) => (Exception::Added, date),
         None => (Exception::Removed, change.strip_prefix('-').unwrap_or("")),
     };
+    let day = day(date)?;
+    let service = String::from_str(alloc, service)?;
     Ok(CalendarDateRow {
-        service: String::from_str(alloc, service)?,
-        day: day(date)?,
+        service,
+        day,
         exception,
     })
 }

@@ -117,14 +117,14 @@ fn the_first_file_at_fault_is_told(rt: HostRuntime) {
 #[test]
 fn a_read_that_fails_is_told(rt: HostRuntime) {
     let feed = feed();
-    for (left, table) in ORDER.into_iter().enumerate() {
+    for (left, table) in ORDER.iter().enumerate() {
         let mut files = Failing::after(left, &feed, FileFault::Failed);
         let answer = read_tables(rt.alloc(), &mut files);
-        assert!(rt; matches!(answer, Err(ReadFault::FileFailed(failed)) if failed == table));
+        assert!(rt; matches!(answer, Err(ReadFault::FileFailed(failed)) if failed == *table));
         assert_eq!(rt; files.failures, 1);
         let mut files = Failing::after(left, &feed, FileFault::OutOfMemory);
         let answer = read_tables(rt.alloc(), &mut files);
-        assert!(rt; tells(answer, table, 0, FaultKind::OutOfMemory));
+        assert!(rt; tells(answer, *table, 0, FaultKind::OutOfMemory));
         assert_eq!(rt; files.failures, 0);
     }
 }

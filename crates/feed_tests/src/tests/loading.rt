@@ -270,12 +270,12 @@ fn faults_are_told(rt: HostRuntime) -> Result<(), Fail> {
 fn a_read_that_fails_is_told(rt: HostRuntime) -> Result<(), Fail> {
     let feed = feed_of(rt.alloc(), "", FILES)?;
     let files = files_of(rt.alloc(), feed.as_str())?;
-    for (left, table) in ORDER.into_iter().enumerate() {
+    for (left, table) in ORDER.iter().enumerate() {
         let mut failing = Failing::after(left, &files, FileFault::Failed);
         match load(rt.alloc(), &mut failing, &one_day()) {
             Ok(_) => panic!(rt; "a feed that can't be read is loaded"),
             Err(fault) => {
-                assert_eq!(rt; fault, LoadFault::FileFailed(table));
+                assert_eq!(rt; fault, LoadFault::FileFailed(*table));
             }
         }
         assert_eq!(rt; failing.failures, 1);
