@@ -2,93 +2,37 @@
 
 use timetable::{Query, QueryFault};
 
+/// A query by its ends, its earliest and latest departure and its latest arrival.
+fn query(words: [u32; 5]) -> Query {
+    Query {
+        source: words[0],
+        target: words[1],
+        from: words[2],
+        until: words[3],
+        by: words[4],
+    }
+}
+
 #[test]
 fn queries_are_checked(rt: HostRuntime) {
-    let query = Query {
-        source: 0,
-        target: 2,
-        from: 28_800,
-        until: 32_400,
-        by: 36_000,
-    };
     let last = 1_999_999_999;
     let queries = [
-        (query, Ok(())),
-        (
-            Query {
-                until: 28_800,
-                by: 28_800,
-                ..query
-            },
-            Ok(()),
-        ),
-        (
-            Query {
-                from: last,
-                until: last,
-                by: last,
-                ..query
-            },
-            Ok(()),
-        ),
-        (Query { source: 3, ..query }, Err(QueryFault::UnknownStop)),
-        (Query { target: 3, ..query }, Err(QueryFault::UnknownStop)),
-        (
-            Query {
-                source: 3,
-                target: 3,
-                ..query
-            },
-            Err(QueryFault::UnknownStop),
-        ),
-        (
-            Query {
-                source: 3,
-                until: 0,
-                ..query
-            },
-            Err(QueryFault::UnknownStop),
-        ),
-        (Query { source: 2, ..query }, Err(QueryFault::SameStop)),
-        (
-            Query {
-                source: 2,
-                until: 0,
-                ..query
-            },
-            Err(QueryFault::SameStop),
-        ),
-        (
-            Query {
-                until: 28_799,
-                ..query
-            },
-            Err(QueryFault::BadWindow),
-        ),
-        (
-            Query {
-                by: 28_799,
-                ..query
-            },
-            Err(QueryFault::BadWindow),
-        ),
-        (
-            Query {
-                until: last + 1,
-                ..query
-            },
-            Err(QueryFault::BadWindow),
-        ),
-        (
-            Query {
-                by: last + 1,
-                ..query
-            },
-            Err(QueryFault::BadWindow),
-        ),
+        ([0, 2, 28_800, 32_400, 36_000], Ok(())),
+        ([0, 2, 28_800, 28_800, 28_800], Ok(())),
+        ([0, 2, last, last, last], Ok(())),
+        ([3, 2, 28_800, 32_400, 36_000], Err(QueryFault::UnknownStop)),
+        ([0, 3, 28_800, 32_400, 36_000], Err(QueryFault::UnknownStop)),
+        ([3, 3, 28_800, 32_400, 36_000], Err(QueryFault::UnknownStop)),
+        ([3, 2, 28_800, 0, 36_000], Err(QueryFault::UnknownStop)),
+        ([2, 2, 28_800, 32_400, 36_000], Err(QueryFault::SameStop)),
+        ([2, 2, 28_800, 0, 36_000], Err(QueryFault::SameStop)),
+        ([0, 2, 28_800, 28_799, 36_000], Err(QueryFault::BadWindow)),
+        ([0, 2, 28_800, 32_400, 28_799], Err(QueryFault::BadWindow)),
+        ([0, 2, 28_800, last + 1, 36_000], Err(QueryFault::BadWindow)),
+        ([0, 2, 28_800, 32_400, last + 1], Err(QueryFault::BadWindow)),
     ];
-    for (asked, answer) in queries {
-        assert_eq!(rt; asked.check(3), answer);
+    for (words, answer) in queries {
+        assert_eq!(rt; query(words).check(3), answer);
     }
 }
 

@@ -1,3 +1,4 @@
+ghost use Rattle.std.specs.Prelude.{◌≡◌};
 ghost use Rattle.criteria.specs.Laws.{IsTime, IsSecs};
 
 use criteria::{
@@ -5,6 +6,22 @@ use criteria::{
     Told, laws,
 };
 use std::cmp::Ordering;
+
+const fn trips(time: u32, trips: u16) -> TimeTrips
+    ensures { result ≡ record { time = time; trips = trips } }
+{
+    TimeTrips { time, trips }
+}
+
+const fn walking(time: u32, trips: u16, walked: u32) -> TimeTripsWalk
+    ensures { result ≡ record { time = time; trips = trips; walked = walked } }
+{
+    TimeTripsWalk {
+        time,
+        trips,
+        walked,
+    }
+}
 
 // The value of two legs with a footpath between them.
 fn two_legs<C: Criterion>(criterion: &C, time: u32, secs: u32) -> C::V
@@ -20,48 +37,25 @@ fn two_legs<C: Criterion>(criterion: &C, time: u32, secs: u32) -> C::V
 #[test]
 fn a_value_is_folded_from_the_end(rt: HostRuntime) {
     assert_eq!(rt; two_legs(&Arrival, 30_000, 120), 30_000);
-    assert_eq!(rt;
-        two_legs(&ArrivalTrips, 30_000, 120),
-        TimeTrips {
-            time: 30_000,
-            trips: 2
-        }
-    );
+    assert_eq!(rt; two_legs(&ArrivalTrips, 30_000, 120), trips(30_000, 2));
     assert_eq!(rt;
         two_legs(&ArrivalTripsWalk, 30_000, 120),
-        TimeTripsWalk {
-            time: 30_000,
-            trips: 2,
-            walked: 120
-        }
+        walking(30_000, 2, 120)
     );
 }
 
 #[test]
 fn the_number_of_trips_stays_at_the_greatest(rt: HostRuntime) {
-    let before = TimeTrips {
-        time: 30_000,
-        trips: 65_534,
-    };
-    let most = TimeTrips {
-        time: 30_000,
-        trips: 65_535,
-    };
+    let before = trips(30_000, 65_534);
+    let most = trips(30_000, 65_535);
     assert_eq!(rt; ArrivalTrips.ride(&before), most);
     assert_eq!(rt; ArrivalTrips.ride(&most), most);
 }
 
 #[test]
 fn the_seconds_of_walking_stay_at_the_greatest(rt: HostRuntime) {
-    let far = TimeTripsWalk {
-        time: 30_000,
-        trips: 65_535,
-        walked: 4_294_967_200,
-    };
-    let farthest = TimeTripsWalk {
-        walked: 4_294_967_295,
-        ..far
-    };
+    let far = walking(30_000, 65_535, 4_294_967_200);
+    let farthest = walking(30_000, 65_535, 4_294_967_295);
     assert_eq!(rt; ArrivalTripsWalk.walk(95, &far), farthest);
     assert_eq!(rt; ArrivalTripsWalk.walk(96, &far), farthest);
     assert_eq!(rt; ArrivalTripsWalk.ride(&far), far);
@@ -69,16 +63,8 @@ fn the_seconds_of_walking_stay_at_the_greatest(rt: HostRuntime) {
 
 #[test]
 fn more_trips_with_less_walking_are_neither_worse_nor_better(rt: HostRuntime) {
-    let ridden = TimeTripsWalk {
-        time: 30_000,
-        trips: 2,
-        walked: 60,
-    };
-    let walked = TimeTripsWalk {
-        time: 30_000,
-        trips: 1,
-        walked: 300,
-    };
+    let ridden = walking(30_000, 2, 60);
+    let walked = walking(30_000, 1, 300);
     assert!(rt; !ArrivalTripsWalk.no_worse(&ridden, &walked));
     assert!(rt; !ArrivalTripsWalk.no_worse(&walked, &ridden));
     assert!(rt; ArrivalTripsWalk.no_worse(&walked, &walked));
@@ -87,22 +73,14 @@ fn more_trips_with_less_walking_are_neither_worse_nor_better(rt: HostRuntime) {
 
 #[test]
 fn values_are_told(rt: HostRuntime) {
-    let value = TimeTripsWalk {
-        time: 30_000,
-        trips: 2,
-        walked: 60,
-    };
-    let told = ArrivalTripsWalk.tell(&value);
+    let told = ArrivalTripsWalk.tell(&walking(30_000, 2, 60));
     assert_eq!(rt; told.arrival, 30_000);
     assert_eq!(rt; told.trips, Some(2));
     assert_eq!(rt; told.walked, Some(60));
     let told = Arrival.tell(&30_000);
     assert_eq!(rt; told.trips, None);
     assert_eq!(rt; told.walked, None);
-    assert_eq!(rt;
-        ArrivalTrips.tell(&TimeTrips { time: 1, trips: 2 }).walked,
-        None
-    );
+    assert_eq!(rt; ArrivalTrips.tell(&trips(1, 2)).walked, None);
 }
 
 #[test]
@@ -131,14 +109,8 @@ fn laws_hold() {
 
 #[test]
 fn earlier_with_more_trips_is_neither_worse_nor_better(rt: HostRuntime) {
-    let early = TimeTrips {
-        time: 30_000,
-        trips: 2,
-    };
-    let direct = TimeTrips {
-        time: 30_600,
-        trips: 1,
-    };
+    let early = trips(30_000, 2);
+    let direct = trips(30_600, 1);
     assert!(rt; !ArrivalTrips.no_worse(&early, &direct));
     assert!(rt; !ArrivalTrips.no_worse(&direct, &early));
     assert!(rt; ArrivalTrips.no_worse(&direct, &direct));
