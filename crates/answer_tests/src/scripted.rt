@@ -11,6 +11,7 @@ use std::alloc::{AllocError, Global};
 use std::io;
 use std::io::{Read, Write};
 use std::marker::Brand;
+use std::process::Abort;
 use std::sync::Wait;
 use std::sync::atomic::{AtomicU64, Ordering};
 use std::test::Fail;
@@ -342,22 +343,46 @@ fn whole_lines(text: &[u8]) -> usize {
     text.iter().filter(|byte| **byte == b'\n').count()
 }
 
+/// The reader of a session fails after so many bytes: each line that was whole is answered, and the session fails.
+fn fails_at<R: Abort + Wait>(
+    rt: &R,
+    alloc: Global,
+    script: &Script,
+    place: usize,
+) -> Result<(), Fail> {
+    let bytes = script.requests.as_bytes();
+    let (front, _) = bytes.split_at(bytes.len().min(place));
+    let reader = Pieces {
+        rest: front,
+        most: 7,
+        is_failing: true,
+    };
+    let (ended, taker) = told(rt, alloc, reader)?;
+    assert!(rt; ended == Err(SessionFault::ReadFailed));
+    assert!(rt; script.replies.as_bytes().starts_with(&taker.taken));
+    assert_eq!(rt; whole_lines(&taker.taken), whole_lines(front));
+    assert!(rt; taker.taken.is_empty() || taker.taken.ends_with(b"\n"));
+    Ok(())
+}
+
 #[test]
 fn a_read_may_fail_anywhere(rt: HostRuntime) -> Result<(), Fail> {
     let script = short_script(rt.alloc())?;
-    let bytes = script.requests.as_bytes();
-    for place in 0..bytes.len() {
-        let (front, _) = bytes.split_at(place);
-        let reader = Pieces {
-            rest: front,
-            most: 7,
-            is_failing: true,
-        };
-        let (ended, taker) = told(&rt, rt.alloc(), reader)?;
-        assert!(&rt; ended == Err(SessionFault::ReadFailed));
-        assert!(&rt; script.replies.as_bytes().starts_with(&taker.taken));
-        assert_eq!(&rt; whole_lines(&taker.taken), whole_lines(front));
-        assert!(&rt; taker.taken.is_empty() || taker.taken.ends_with(b"\n"));
+    for place in 0..script.requests.len() {
+        fails_at(&rt, rt.alloc(), &script, place)?;
+    }
+    Ok(())
+}
+
+/// So it may around a line that is too long: before it, in it, where it becomes too long, at its end and behind it.
+#[test]
+fn a_read_may_fail_in_a_long_line(rt: HostRuntime) -> Result<(), Fail> {
+    let mut script = Script::new(rt.alloc())?;
+    for asked in [Asked::Pin, Asked::Long, Asked::Pin] {
+        script.add(asked)?;
+    }
+    for place in [13, 14, 4_096, 65_548, 65_549, 65_550, 65_551, 65_560] {
+        fails_at(&rt, rt.alloc(), &script, place)?;
     }
     Ok(())
 }
