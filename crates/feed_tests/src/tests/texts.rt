@@ -173,11 +173,13 @@ fn usual_columns(file: &str) -> &'static str {
 /// A text in which each `|` stands for LF.
 pub(crate) fn lines_of(alloc: Global, text: &str) -> Result<String, AllocError> {
     let mut lines = String::new(alloc);
-    let mut end = "";
+    let mut is_later = false;
     for line in text.split('|') {
-        lines.push_str(end)?;
+        if is_later {
+            lines.push_str("\n")?;
+        }
         lines.push_str(line)?;
-        end = "\n";
+        is_later = true;
     }
     Ok(lines)
 }
