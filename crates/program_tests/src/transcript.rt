@@ -8,16 +8,12 @@
 //! | `set PLACE WORD` | the input's word at this place is another |
 //! | `cut BYTES` | of the input so many bytes alone |
 //! | `zeros WORDS` | the input is so many words of 0 |
-//! | `folder PATH` | makes a folder |
-//! | `file PATH TEXT`, `crlf PATH TEXT` | makes a file of lines, each ended by LF, or by CR LF; a bar stands between two |
-//! | `but RECORD TEXT` | the file that was made last, as it was made then but for one line; 0 is the first |
+//! | `folder PATH`, `file PATH` | makes a folder, or an empty file |
+//! | `has TEXT`, `crlf TEXT` | the file has one more line, ended by LF, or by CR LF |
 //! | `remove PATH` | takes a file or a folder away, with all that is in it |
 //! | `run WORD ..` | the words of the next command behind the program's name; one in single quotes may have spaces |
 //! | `prints TEXT`, `tells TEXT` | one more line that it must print, or tell among its errors |
 //! | `ends STATUS` | runs it: it prints and tells these lines alone, and ends with this status |
-//! | `answers LINE` | runs it: it prints this line alone, and ends with status 2 where the line says `refused`, else with 0 |
-//! | `with PLACE WORD: LINE` | the input is the sample, where the word at this place is another: the same |
-//! | `judges QUERY: TEXT: LINE` | so does `csa journey` of this text; a query is its ends and times, as `A C 07:00:00 09:00:00 10:00:00` |
 //! | `complains STATUS` | runs it: it prints nothing, tells something of its own, and ends with this status |
 //! | `helps` | runs it: it prints something of its own, tells nothing, and ends with status 0 |
 //! | `saves PATH` | puts the bytes of the input into a file |
@@ -26,7 +22,7 @@
 //!
 //! Each `run` is tried before the next one and before the end, and so is each `prints` and `tells`: one that nothing ran is refused.
 
-use super::running::{Machine, Outcome, outcome_of};
+use crate::running::{Machine, Outcome, outcome_of};
 use image_layout::{Words, sample_words, second_sample_words};
 use std::alloc::{AllocError, Global};
 use std::fs;
@@ -41,9 +37,9 @@ struct Stage<'a> {
     image: Vec<u32>,
     /// How many bytes of them are there at most.
     bytes: usize,
-    /// The file that was made last, and its lines, with a bar between two.
+    /// The file that is being written, and what it has.
     path: &'a str,
-    lines: &'a str,
+    text: String,
     words: Vec<&'a str>,
     /// Whether the words were tried.
     is_tried: bool,
@@ -57,7 +53,7 @@ impl<'a> Stage<'a> {
             image: Vec::new(alloc),
             bytes: usize::MAX,
             path: "",
-            lines: "",
+            text: String::new(alloc),
             words: Vec::new(alloc),
             is_tried: true,
             printed: String::new(alloc),
@@ -182,42 +178,22 @@ fn remove<R: Machine>(rt: &R, path: &str) -> Result<(), Fail> {
     }
 }
 
-/// The text of lines with bars between them, each ended so. The one at the place, if there is one, is another.
-fn text_of(
-    alloc: Global,
-    lines: &str,
-    end: &str,
-    (place, other): (usize, &str),
-) -> Result<String, AllocError> {
-    let mut text = String::new(alloc);
-    for (at, line) in lines.split('|').enumerate() {
-        let line = if at == place { other } else { line };
-        add_line(&mut text, line, end)?;
-    }
-    Ok(text)
-}
-
-/// Makes a file.
-fn make<'a, R: Machine>(
+/// Makes an empty file, or adds a line to the one that was made last.
+fn write<'a, R: Machine>(
     rt: &R,
     stage: &mut Stage<'a>,
     kind: &str,
     rest: &'a str,
 ) -> Result<(), Fail> {
-    let (path, lines) = rest.split_once(' ').unwrap_or((rest, ""));
-    stage.path = path;
-    stage.lines = lines;
-    let end = if kind == "crlf" { "\r\n" } else { "\n" };
-    let text = text_of(rt.alloc(), lines, end, (usize::MAX, ""))?;
-    Ok(fs::write(rt, path, text.as_str())?)
-}
-
-/// Makes the last file once more, with another line.
-fn make_but<R: Machine>(rt: &R, stage: &Stage<'_>, rest: &str) -> Result<(), Fail> {
-    let (place, line) = rest.split_once(' ').unwrap_or((rest, ""));
-    let place = number(place)? as usize;
-    let text = text_of(rt.alloc(), stage.lines, "\n", (place, line))?;
-    Ok(fs::write(rt, stage.path, text.as_str())?)
+    if kind == "file" {
+        stage.path = rest;
+        stage.text.clear();
+    } else {
+        let end = if kind == "crlf" { "\r\n" } else { "\n" };
+        add_line(&mut stage.text, rest, end)?;
+    }
+    fs::write(rt, stage.path, stage.text.as_str())?;
+    Ok(())
 }
 
 /// Runs the command on the input.
@@ -250,68 +226,6 @@ fn expect_lines<R: Machine + Net<Listener = TcpListener, Stream = TcpStream> + A
     stage.printed.clear();
     stage.told.clear();
     Ok(())
-}
-
-/// The command prints this line alone, and ends as the line says.
-fn expect_answer<R: Machine + Net<Listener = TcpListener, Stream = TcpStream> + Abort>(
-    rt: &R,
-    stage: &mut Stage<'_>,
-    line: &str,
-) -> Result<(), Fail> {
-    let status = if line.starts_with("refused ") {
-        "2"
-    } else {
-        "0"
-    };
-    add_line(&mut stage.printed, line, "\n")?;
-    expect_lines(rt, stage, status)
-}
-
-/// The words of `csa journey` for a journey and a query.
-fn journey_words<'a>(
-    alloc: Global,
-    query: &'a str,
-    journey: &'a str,
-) -> Result<Vec<&'a str>, AllocError> {
-    let mut words = vec![in alloc; "csa", "journey", "-", journey]?;
-    let options = ["--from", "--to", "--after", "--until", "--by"];
-    for (option, word) in options.iter().zip(query.split(' ')) {
-        words.push(*option)?;
-        words.push(word)?;
-    }
-    Ok(words)
-}
-
-/// What stands before a colon, and what behind it.
-fn parted(text: &str) -> Result<(&str, &str), Fail> {
-    match text.split_once(": ") {
-        Some(parts) => Ok(parts),
-        None => Err(Fail::new("a line with a colon")),
-    }
-}
-
-/// A journey is judged for a query.
-fn judge<'a, R: Machine + Net<Listener = TcpListener, Stream = TcpStream> + Abort>(
-    rt: &R,
-    stage: &mut Stage<'a>,
-    text: &'a str,
-) -> Result<(), Fail> {
-    let (query, rest) = parted(text)?;
-    let (journey, line) = parted(rest)?;
-    stage.take_words(journey_words(rt.alloc(), query, journey)?)?;
-    expect_answer(rt, stage, line)
-}
-
-/// The command is run on the sample with another word.
-fn run_with<R: Machine + Net<Listener = TcpListener, Stream = TcpStream> + Abort>(
-    rt: &R,
-    stage: &mut Stage<'_>,
-    text: &str,
-) -> Result<(), Fail> {
-    let (changed, line) = parted(text)?;
-    stage.take_image(sample_of(rt.alloc(), "")?);
-    set(&mut stage.image, changed)?;
-    expect_answer(rt, stage, line)
 }
 
 /// The command prints something, or tells something, and not both, and ends with a status.
@@ -366,16 +280,12 @@ fn follow<'a, R: Machine + Net<Listener = TcpListener, Stream = TcpStream> + Abo
         "" | "#" => Ok(()),
         "image" | "sample" | "zeros" | "set" | "cut" => take_input(rt.alloc(), stage, kind, rest),
         "folder" => Ok(fs::create_dir(rt, rest)?),
-        "file" | "crlf" => make(rt, stage, kind, rest),
-        "but" => make_but(rt, stage, rest),
+        "file" | "has" | "crlf" => write(rt, stage, kind, rest),
         "remove" => remove(rt, rest),
         "run" => stage.take_words(words_of(rt.alloc(), rest)?),
         "prints" => Ok(add_line(&mut stage.printed, rest, "\n")?),
         "tells" => Ok(add_line(&mut stage.told, rest, "\n")?),
         "ends" => expect_lines(rt, stage, rest),
-        "answers" => expect_answer(rt, stage, rest),
-        "with" => run_with(rt, stage, rest),
-        "judges" => judge(rt, stage, rest),
         "complains" => expect_any(rt, stage, false, number(rest)?),
         "helps" => expect_any(rt, stage, true, 0),
         "saves" => {

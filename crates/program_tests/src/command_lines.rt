@@ -1,6 +1,6 @@
 //! Command lines that ask for nothing, or for help.
 
-use super::transcript::try_lines;
+use crate::transcript::try_lines;
 use std::test::Fail;
 
 const COMMAND_LINES: &str = "

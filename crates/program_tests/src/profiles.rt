@@ -1,6 +1,6 @@
 //! Profiles as a user asks for them: each line, and that `csa journey` accepts each journey that is printed.
 
-use super::transcript::try_lines;
+use crate::transcript::try_lines;
 use std::fs;
 use std::test::Fail;
 
@@ -16,8 +16,12 @@ prints dep 08:00:00 arr 08:20:00 trips 2 : ride 0 0 walk 1 1 0 ride 2 2
 prints dep 08:00:00 arr 08:30:00 trips 1 : ride 0 1
 prints points 2 read 3 walk none
 ends 0
-judges A C 07:00:00 09:00:00 10:00:00: ride 0 0 walk 1 1 0 ride 2 2: ok dep 08:00:00 arr 08:20:00
-judges A C 07:00:00 09:00:00 10:00:00: ride 0 1: ok dep 08:00:00 arr 08:30:00
+run journey - 'ride 0 0 walk 1 1 0 ride 2 2' --from A --to C --after 07:00:00 --until 09:00:00 --by 10:00:00
+prints ok dep 08:00:00 arr 08:20:00
+ends 0
+run journey - 'ride 0 1' --from A --to C --after 07:00:00 --until 09:00:00 --by 10:00:00
+prints ok dep 08:00:00 arr 08:30:00
+ends 0
 
 # A change takes as long as the loop at its stop: two minutes are had at B, and a second more isn't.
 set 34 120
@@ -30,14 +34,18 @@ prints dep 08:00:00 arr 08:30:00 : ride 0 1
 prints points 1 read 3 walk none
 ends 0
 set 34 120
-judges A C 07:00:00 09:00:00 10:00:00: ride 0 0 walk 1 1 120 ride 2 2: ok dep 08:00:00 arr 08:20:00
+run journey - 'ride 0 0 walk 1 1 120 ride 2 2' --from A --to C --after 07:00:00 --until 09:00:00 --by 10:00:00
+prints ok dep 08:00:00 arr 08:20:00
+ends 0
 
 # The window cuts departures: nobody sets out by the loop at the source to depart in it.
 sample
 run profile - --from A --to C --after 07:00:00 --until 07:59:59 --by 10:00:00 --criterion arrival
-answers points 0 read 3 walk none
+prints points 0 read 3 walk none
+ends 0
 set 32 60
-answers points 0 read 3 walk none
+prints points 0 read 3 walk none
+ends 0
 sample
 run profile - --from A --to C --after 07:00:00 --until 08:00:00 --by 10:00:00 --criterion arrival
 prints dep 08:00:00 arr 08:20:00 : ride 0 0 walk 1 1 0 ride 2 2
@@ -50,12 +58,14 @@ prints dep 08:00:00 arr 08:20:00 : ride 0 0 walk 1 1 0 ride 2 2
 prints points 1 read 3 walk none
 ends 0
 run profile - --from A --to C --after 07:00:00 --until 09:00:00 --by 08:19:59 --criterion arrival
-answers points 0 read 3 walk none
+prints points 0 read 3 walk none
+ends 0
 
 # Without connections none are read.
 image 1346458435 1 3 0 0 3 3 1705276800 0 0 1 2 3 0 0 1 0 2 0 0 1 2 3 4407873
 run profile - --from A --to C --after 07:00:00 --until 09:00:00 --by 10:00:00 --criterion arrival
-answers points 0 read 0 walk none
+prints points 0 read 0 walk none
+ends 0
 
 # A third trip goes from A to C and arrives as the change does: fewer trips are better.
 image 1346458435 1 3 3 4 3 9 1705276800 0 0 1 28800 29400 0 3 0 2 28800 30000 2 3 1 2 29400 30600 0 3 1 2 29520 30000 1 3 0 1 2 3 0 0 1 0 2 0 0 1 2 3 5 7 9 20240115 20240115 20240115 1413694017 1412584497 51
@@ -63,12 +73,15 @@ run profile - --from A --to C --after 07:00:00 --until 09:00:00 --by 10:00:00 --
 prints dep 08:00:00 arr 08:20:00 trips 1 : ride 1 1
 prints points 1 read 4 walk none
 ends 0
-judges A C 07:00:00 09:00:00 10:00:00: ride 1 1: ok dep 08:00:00 arr 08:20:00
+run journey - 'ride 1 1' --from A --to C --after 07:00:00 --until 09:00:00 --by 10:00:00
+prints ok dep 08:00:00 arr 08:20:00
+ends 0
 
 # Words of a query are judged: its window, and the name of its criterion.
 sample
 run profile - --from A --to C --after 07:00:00 --until 06:00:00 --by 10:00:00 --criterion arrival
-answers refused 33 BadWindow
+prints refused 33 BadWindow
+ends 2
 run profile - --from A --to C --after 07:00:00 --until 09:00:00 --by 10:00:00 --criterion walking
 complains 64
 
@@ -79,7 +92,8 @@ prints 1 B
 prints 2 C
 ends 0
 run stops - B
-answers 1 B
+prints 1 B
+ends 0
 run stops - b
 ends 0
 ";
@@ -96,13 +110,17 @@ run profile - --from A --to C --after 07:00:00 --until 09:00:00 --by 10:00:00 --
 prints dep 08:10:00 arr 08:20:00 : walk 0 1 120 ride 2 2
 prints points 1 read 3 walk none
 ends 0
-judges A C 07:00:00 09:00:00 10:00:00: walk 0 1 120 ride 2 2: ok dep 08:10:00 arr 08:20:00
+run journey - 'walk 0 1 120 ride 2 2' --from A --to C --after 07:00:00 --until 09:00:00 --by 10:00:00
+prints ok dep 08:10:00 arr 08:20:00
+ends 0
 run profile - --from A --to C --after 07:00:00 --until 08:09:59 --by 10:00:00 --criterion arrival
 prints dep 08:00:00 arr 08:20:00 : ride 0 0 walk 1 1 0 ride 2 2
 prints dep 08:08:00 arr 08:30:00 : walk 0 1 120 ride 1 1
 prints points 2 read 3 walk none
 ends 0
-judges A C 07:00:00 09:00:00 10:00:00: walk 0 1 120 ride 1 1: ok dep 08:08:00 arr 08:30:00
+run journey - 'walk 0 1 120 ride 1 1' --from A --to C --after 07:00:00 --until 09:00:00 --by 10:00:00
+prints ok dep 08:08:00 arr 08:30:00
+ends 0
 run profile - --from A --to C --after 07:00:00 --until 08:09:59 --by 10:00:00 --criterion arrival+trips+walk
 prints dep 08:00:00 arr 08:20:00 trips 2 walked 0 : ride 0 0 walk 1 1 0 ride 2 2
 prints dep 08:00:00 arr 08:30:00 trips 1 walked 0 : ride 0 1
@@ -117,12 +135,17 @@ prints dep 08:00:00 arr 08:11:00 : ride 0 0 walk 1 2 60
 prints dep 08:11:00 arr 08:20:00 : walk 0 1 60 ride 2 2
 prints points 2 read 3 walk 120
 ends 0
-judges A C 07:00:00 09:00:00 10:00:00: ride 0 0 walk 1 2 60: ok dep 08:00:00 arr 08:11:00
-judges A C 07:00:00 09:00:00 10:00:00: walk 0 1 60 ride 2 2: ok dep 08:11:00 arr 08:20:00
+run journey - 'ride 0 0 walk 1 2 60' --from A --to C --after 07:00:00 --until 09:00:00 --by 10:00:00
+prints ok dep 08:00:00 arr 08:11:00
+ends 0
+run journey - 'walk 0 1 60 ride 2 2' --from A --to C --after 07:00:00 --until 09:00:00 --by 10:00:00
+prints ok dep 08:11:00 arr 08:20:00
+ends 0
 
 # As a reply of a session, which has no names.
 run profile - --from A --to C --after 07:00:00 --until 09:00:00 --by 10:00:00 --criterion arrival+trips --json
-answers {\"ok\":\"profile\",\"points\":[{\"arr\":\"08:11:00\",\"dep\":\"08:00:00\",\"journey\":\"ride 0 0 walk 1 2 60\",\"trips\":1},{\"arr\":\"08:20:00\",\"dep\":\"08:11:00\",\"journey\":\"walk 0 1 60 ride 2 2\",\"trips\":1}],\"version\":1,\"walk\":120}
+prints {\"ok\":\"profile\",\"points\":[{\"arr\":\"08:11:00\",\"dep\":\"08:00:00\",\"journey\":\"ride 0 0 walk 1 2 60\",\"trips\":1},{\"arr\":\"08:20:00\",\"dep\":\"08:11:00\",\"journey\":\"walk 0 1 60 ride 2 2\",\"trips\":1}],\"version\":1,\"walk\":120}
+ends 0
 run profile - --from A --to C --after 07:00:00 --until 09:00:00 --by 10:00:00 --criterion arrival+trips --json --names
 complains 64
 
@@ -139,7 +162,9 @@ prints dep 08:00:00 arr 08:20:00 trips 2 : ride 0 0 walk 1 1 0 ride 2 2
 prints dep 08:00:00 arr 08:25:00 trips 1 : ride 0 0 walk 1 2 900
 prints points 2 read 3 walk none
 ends 0
-judges A C 07:00:00 09:00:00 10:00:00: ride 0 0 walk 1 2 900: ok dep 08:00:00 arr 08:25:00
+run journey - 'ride 0 0 walk 1 2 900' --from A --to C --after 07:00:00 --until 09:00:00 --by 10:00:00
+prints ok dep 08:00:00 arr 08:25:00
+ends 0
 
 # By names: of trips and stops, and when each trip is boarded and left; a walk keeps its seconds.
 run profile - --from A --to C --after 07:00:00 --until 09:00:00 --by 10:00:00 --criterion arrival+trips --names
@@ -156,7 +181,9 @@ prints dep 08:00:00 arr 08:20:00 trips 2 walked 60 : ride 0 0 walk 1 1 60 ride 2
 prints dep 08:00:00 arr 08:30:00 trips 1 walked 0 : ride 0 1
 prints points 2 read 3 walk none
 ends 0
-judges A C 07:00:00 09:00:00 10:00:00: ride 0 0 walk 1 1 60 ride 2 2: ok dep 08:00:00 arr 08:20:00
+run journey - 'ride 0 0 walk 1 1 60 ride 2 2' --from A --to C --after 07:00:00 --until 09:00:00 --by 10:00:00
+prints ok dep 08:00:00 arr 08:20:00
+ends 0
 ";
 
 #[test]

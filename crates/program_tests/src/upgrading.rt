@@ -1,22 +1,25 @@
 //! `csa upgrade`: what is written, and what stays as it was.
 
-use super::transcript::try_lines;
+use crate::transcript::try_lines;
 use std::test::Fail;
 
 const UPGRADES: &str = "
 # An image of the first layout is written in the second; that one, upgraded in its place, stays as it is.
 sample
 run upgrade - new.csa
-answers ok stops 3 trips 2 connections 3 footpaths 3
+prints ok stops 3 trips 2 connections 3 footpaths 3
+ends 0
 sample 2
 holds new.csa
 lacks new.csa.part
 run upgrade new.csa new.csa
-answers ok stops 3 trips 2 connections 3 footpaths 3
+prints ok stops 3 trips 2 connections 3 footpaths 3
+ends 0
 holds new.csa
 lacks new.csa.part
 run verify new.csa
-answers ok stops 3 trips 2 connections 3 footpaths 3
+prints ok stops 3 trips 2 connections 3 footpaths 3
+ends 0
 remove new.csa
 
 # What is refused leaves the file as it was, and so does an image that can't be read.
@@ -25,7 +28,8 @@ saves kept.csa
 sample
 cut 4
 run upgrade - kept.csa
-answers refused 63 BadLength
+prints refused 63 BadLength
+ends 2
 image 7
 holds kept.csa
 lacks kept.csa.part

@@ -1,6 +1,6 @@
 //! `csa verify` and `csa journey` over the sample image, changes of it, and bytes that are no image.
 
-use super::transcript::try_lines;
+use crate::transcript::try_lines;
 use csa_program::run;
 use image_layout::{Words, sample_words};
 use std::test::Fail;
@@ -9,49 +9,65 @@ const IMAGES: &str = "
 # The sample, from the input and from a file.
 sample
 run verify -
-answers ok stops 3 trips 2 connections 3 footpaths 3
+prints ok stops 3 trips 2 connections 3 footpaths 3
+ends 0
 saves base.csa
 run verify base.csa
-answers ok stops 3 trips 2 connections 3 footpaths 3
+prints ok stops 3 trips 2 connections 3 footpaths 3
+ends 0
 remove base.csa
 
 # Stops A, B and C with loops, no trips and no connections.
 run verify -
 image 1346458435 1 3 0 0 3 3 1705276800 0 0 1 2 3 0 0 1 0 2 0 0 1 2 3 4407873
-answers ok stops 3 trips 0 connections 0 footpaths 3
+prints ok stops 3 trips 0 connections 0 footpaths 3
+ends 0
 
 # The words of connections 1 and 2 exchanged.
 image 1346458435 1 3 2 3 3 7 1705276800 0 0 1 28800 29400 0 3 1 2 29520 30000 1 3 1 2 29400 30600 0 3 0 1 2 3 0 0 1 0 2 0 0 1 2 3 5 7 20240115 20240115 1413694017 3298353
-answers refused 67 Unsorted 2
+prints refused 67 Unsorted 2
+ends 2
 
 # A connection that arrives when it departs.
-with 24 29520: refused 66 HopWithoutDuration 2
+sample
+set 24 29520
+prints refused 66 HopWithoutDuration 2
+ends 2
 
 # Footpaths from A to B and from B to C of 60 s, and none from A to C, one that takes too long, and one that doesn't.
 image 1346458435 1 3 2 3 5 7 1705276800 0 0 1 28800 29400 0 3 1 2 29400 30600 0 3 1 2 29520 30000 1 3 0 1 3 5 0 0 0 60 1 0 1 60 2 0 0 1 2 3 5 7 20240115 20240115 1413694017 3298353
-answers refused 74 NotClosed 0 1 2
+prints refused 74 NotClosed 0 1 2
+ends 2
 image 1346458435 1 3 2 3 6 7 1705276800 0 0 1 28800 29400 0 3 1 2 29400 30600 0 3 1 2 29520 30000 1 3 0 1 3 6 0 0 0 60 1 0 0 121 1 60 2 0 0 1 2 3 5 7 20240115 20240115 1413694017 3298353
-answers refused 74 NotClosed 0 1 2
+prints refused 74 NotClosed 0 1 2
+ends 2
 set 38 120
-answers ok stops 3 trips 2 connections 3 footpaths 6
+prints ok stops 3 trips 2 connections 3 footpaths 6
+ends 0
 
 # Of the sample's 188 bytes all but one, all but a word, and none.
 sample
 cut 188
-answers ok stops 3 trips 2 connections 3 footpaths 3
+prints ok stops 3 trips 2 connections 3 footpaths 3
+ends 0
 cut 187
-answers refused 51 OddLength
+prints refused 51 OddLength
+ends 2
 cut 184
-answers refused 63 BadLength
+prints refused 63 BadLength
+ends 2
 cut 0
-answers refused 63 BadLength
+prints refused 63 BadLength
+ends 2
 
 # More words than are read at once.
 zeros 50001
 cut 200003
-answers refused 51 OddLength
+prints refused 51 OddLength
+ends 2
 cut 200000
-answers refused 61 BadMagic
+prints refused 61 BadMagic
+ends 2
 ";
 
 #[test]
@@ -62,25 +78,47 @@ fn images_are_verified(rt: HostRuntime) -> Result<(), Fail> {
 const JOURNEYS: &str = "
 # By the change at B, and straight on.
 sample
-judges A C 07:00:00 09:00:00 10:00:00: ride 0 0 walk 1 1 0 ride 2 2: ok dep 08:00:00 arr 08:20:00
-judges A C 07:00:00 09:00:00 10:00:00: ride 0 1: ok dep 08:00:00 arr 08:30:00
+run journey - 'ride 0 0 walk 1 1 0 ride 2 2' --from A --to C --after 07:00:00 --until 09:00:00 --by 10:00:00
+prints ok dep 08:00:00 arr 08:20:00
+ends 0
+run journey - 'ride 0 1' --from A --to C --after 07:00:00 --until 09:00:00 --by 10:00:00
+prints ok dep 08:00:00 arr 08:30:00
+ends 0
 
 # No walk at the change; connections of two trips in one ride; a connection that isn't; no ride.
-judges A C 07:00:00 09:00:00 10:00:00: ride 0 0 ride 2 2: refused 85 WalkBroken 1
-judges A C 07:00:00 09:00:00 10:00:00: ride 0 2: refused 82 TwoTrips 0
-judges A C 07:00:00 09:00:00 10:00:00: ride 0 3: refused 81 LegRange 0
-judges A C 07:00:00 09:00:00 10:00:00: walk 0 0 0: refused 80 BadText
+run journey - 'ride 0 0 ride 2 2' --from A --to C --after 07:00:00 --until 09:00:00 --by 10:00:00
+prints refused 85 WalkBroken 1
+ends 2
+run journey - 'ride 0 2' --from A --to C --after 07:00:00 --until 09:00:00 --by 10:00:00
+prints refused 82 TwoTrips 0
+ends 2
+run journey - 'ride 0 3' --from A --to C --after 07:00:00 --until 09:00:00 --by 10:00:00
+prints refused 81 LegRange 0
+ends 2
+run journey - 'walk 0 0 0' --from A --to C --after 07:00:00 --until 09:00:00 --by 10:00:00
+prints refused 80 BadText
+ends 2
 
 # A change at B that takes 121 s.
 set 34 121
-judges A C 07:00:00 09:00:00 10:00:00: ride 0 0 walk 1 1 121 ride 2 2: refused 86 TooEarly 1
-judges A C 07:00:00 09:00:00 10:00:00: ride 0 0 walk 1 1 0 ride 2 2: refused 89 NoFootpath 1
+run journey - 'ride 0 0 walk 1 1 121 ride 2 2' --from A --to C --after 07:00:00 --until 09:00:00 --by 10:00:00
+prints refused 86 TooEarly 1
+ends 2
+run journey - 'ride 0 0 walk 1 1 0 ride 2 2' --from A --to C --after 07:00:00 --until 09:00:00 --by 10:00:00
+prints refused 89 NoFootpath 1
+ends 2
 
 # The query is judged before the text: its window, its stops, and first of all the forms of its words.
 sample
-judges A C 07:00:00 06:00:00 10:00:00: no journey: refused 33 BadWindow
-judges A A 07:00:00 09:00:00 10:00:00: no journey: refused 32 SameStop
-judges A D 07:00:00 09:00:00 10:00:00: no journey: refused 31 UnknownStop
+run journey - 'no journey' --from A --to C --after 07:00:00 --until 06:00:00 --by 10:00:00
+prints refused 33 BadWindow
+ends 2
+run journey - 'no journey' --from A --to A --after 07:00:00 --until 09:00:00 --by 10:00:00
+prints refused 32 SameStop
+ends 2
+run journey - 'no journey' --from A --to D --after 07:00:00 --until 09:00:00 --by 10:00:00
+prints refused 31 UnknownStop
+ends 2
 run journey - 'no journey' --from A --to D --after 07:00:00 --until 9:0:0 --by 10:00:00
 complains 64
 ";
