@@ -151,7 +151,7 @@ opens_as slots id k version l image f many small free hand current next few all 
       (h.0, h.1, h.2 ∙ (next ∙ ap (λ m. m + 1) is_newest), image_last r.course.images image (newest s + 1) (omega arith) ∙ ap (λ (x : ImageValue). Some x) (sym h.3)),
     ) in
     let fits' : LoaderFits d l' = loader_next r.course d e l l' knows refl refl refl refl goes'.as_many knows.shows.current knows.shows.current_shelf
-        (λ i. set (knows.shows.shelves i) k (Shelf.Open (is_newest i + 1))) in (
+    (λ i. set (knows.shows.shelves i) k (Shelf.Open (is_newest i + 1))) in (
       View.Loading l',
       give_block 16,
       gives_valid table.homes (down_from f (16 * k) 16 []) 16,
@@ -258,7 +258,7 @@ closings_as slots id k (View.Loading l) c small may table r full at fits =
     let bound = version_bound s k (Shelf.Open version) kept stands version (inl refl) in
     let word = close_word n (get_or s.counts k 0) version (r.words.each k (Shelf.Open version) stands) (few_counted s k kept small) bound in
     let fits' : LoaderFits d l' = loader_next r.course d e l l' knows refl refl refl refl r.goes.as_many knows.shows.current knows.shows.current_shelf
-        (λ i. set (knows.shows.shelves i) k (Shelf.Closing version)) in (
+    (λ i. set (knows.shows.shelves i) k (Shelf.Closing version)) in (
       View.Loading l',
       keeps,
       tt,
@@ -328,7 +328,7 @@ collects_found id k version l table r at many small shelf hand true found =
     let f : ℕ → Option Edition = λ j. value_at (get_elem? table.homes j) in
     let home : IsHome table.homes f (16 * k) 16 = all_home table.homes s.shelves s.counts s.workers r.course.images l.hand k version (no_one_at s.counts s.workers k kept.counts small nobody) here.0 (loader_slots table r id l at) in
     let fits' : LoaderFits d l' = loader_next r.course d e l l' knows refl refl refl refl r.goes.as_many knows.shows.current knows.shows.current_shelf
-        (λ i. set (knows.shows.shelves i) k Shelf.Free) in (
+    (λ i. set (knows.shows.shelves i) k Shelf.Free) in (
       View.Loading l',
       take_block f (16 * k) 16,
       block_valid table.homes [] f (16 * k) 16 home,
@@ -361,7 +361,7 @@ collects_found id k version l table r at many small shelf hand false found =
     let d : Course = extended r.course e reply s r.course.images in
     let l' : LoaderView = with_hand l None (all_of d) in
     let fits' : LoaderFits d l' = loader_next r.course d e l l' knows refl refl refl refl r.goes.as_many knows.shows.current knows.shows.current_shelf
-        knows.shows.shelves in (
+    knows.shows.shelves in (
       View.Loading l',
       keeps,
       tt,
@@ -423,7 +423,7 @@ tries_free id k l c hand' a table r at small free slots false found =
     let d : Course = extended r.course e reply s r.course.images in
     let l' : LoaderView = with_hand l hand' (all_of d) in
     let fits' : LoaderFits d l' = loader_next r.course d e l l' knows refl refl refl refl r.goes.as_many knows.shows.current knows.shows.current_shelf
-        knows.shows.shelves in (
+    knows.shows.shelves in (
       all_of d,
       noted_ruled table r id l l' at refl e reply s refl is_step refl refl refl refl (omega arith) (set table.words (k + 1) n)
           (homes_after table.homes c a) fits' (words_same table.words (k + 1) s s r.words refl refl refl refl) slots,

@@ -111,7 +111,7 @@ looks_as slots id (View.Working v) c idle table r full at small =
       seen = get_or-set_same s.seen w s.current 0 (omega arith) ∙ sym z.1;
     } in
     let fits : WorkerFits d v' = worker_next r.course d e v v' f refl refl refl (refl, refl) shows
-        ((let q = z.1 in omega arith), le_refl (n / 8)) (λ p. absurd (cc)) refl in (
+    ((let q = z.1 in omega arith), le_refl (n / 8)) (λ p. absurd (cc)) refl in (
       View.Working v',
       keeps,
       tt,
@@ -197,7 +197,7 @@ takes_found id k v version c table r at now false shut =
     let after = (kept_of d goes').workers.each w (Worker.Late k) (slice_get-set_same s.workers w (Worker.Late k) within) in
     let shows : WorkerShows w v'.now v'.seen d.state = record { now = slice_get-set_same s.workers w (Worker.Late k) within; seen = f.shows.seen } in
     let fits : WorkerFits d v' = worker_next r.course d e v v' f refl refl refl (refl, refl) shows f.last
-        (λ p. let a = f.last.1 in let b = f.shows.seen in let q = after.1 in omega arith) refl in (
+    (λ p. let a = f.last.1 in let b = f.shows.seen in let q = after.1 in omega arith) refl in (
       View.Working v',
       keeps,
       tt,
