@@ -150,11 +150,15 @@ pub route_push : (s : Story) (first : ℕ) (labels : List ℕ) (label : ℕ) (c 
 route_push s first [] label c route is = (route, (c, is, refl))
 route_push s first (l ∷ ls) label c route is = (route.0, (route.1.0, route.1.1, route_push s route.1.0.step.label ls label c route.1.2 is))
 
-pub route_pop : (s : Story) (first : ℕ) (labels : List ℕ) (label last : ℕ) → IsRoute s first (labels ++ label ∷ []) last → IsRoute s first labels label × ((c : Change) × (change s label ≡ Some c) × (c.step.label ≡ last))
+route_pop : (s : Story) (first : ℕ) (labels : List ℕ) (label last : ℕ) → IsRoute s first (labels ++ label ∷ []) last → IsRoute s first labels label × ((c : Change) × (change s label ≡ Some c) × (c.step.label ≡ last))
 route_pop s first [] label last route = (route.0, (route.1.0, route.1.1, route.1.2))
 route_pop s first (l ∷ ls) label last route =
     let rest = route_pop s route.1.0.step.label ls label last route.1.2 in
     ((route.0, (route.1.0, route.1.1, rest.0)), rest.1)
+
+-- the same, of a route from which its last label was taken
+pub route_popped : (s : Story) (first : ℕ) (route labels : List ℕ) (label last : ℕ) → route ≡ labels ++ label ∷ [] → IsRoute s first route last → IsRoute s first labels label × ((c : Change) × (change s label ≡ Some c) × (c.step.label ≡ last))
+route_popped s first route labels label last is on = route_pop s first labels label last (subst (λ (ls : List ℕ). IsRoute s first ls last) is on)
 
 -- where the first label of a route is told, the last is
 pub route_told : (walks : List Footpath) (s : Story) (first : ℕ) (labels : List ℕ) (last : ℕ) → IsRoute s first labels last → IsLabelTold walks s first → IsLabelTold walks s last

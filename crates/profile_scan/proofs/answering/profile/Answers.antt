@@ -14,6 +14,8 @@ use Rattle.profile_scan.specs.Telling.{IsJourneyTold, IsRetold}
 use Rattle.profile_scan.proofs.AnsweredLemmas.{answered, journeys_told}
 use Rattle.profile_scan.proofs.Offers.{bag_under}
 use Rattle.profile_scan.proofs.LogLemmas.{taken_all}
+use Rattle.profile_scan.proofs.answering.profile.Given as given
+use Rattle.profile_scan.proofs.answering.profile.Goals.{After-of}
 use Rattle.profile_scan.proofs.answering.profile.Goals as goal
 
 pub returns-in_err-scan-clause-err : goal.returns-in_err-scan-clause-err
@@ -57,9 +59,9 @@ tell_journeys-requires g c =
     (subst (λ (x : TimetableValue). (p : Point g.row.C-V.Denot) → Contains points p → IsJourneyTold x.footpaths (story_of scan) p.tag) (sym c.in_ok-scan.ensures.timetable)
     (journeys_told rules t c.args.query.now c.first_at-start.result (story_of scan) (points_of scan.found) points c.in_ok-scan.ensures.matches c.in_ok-points.ensures.only))
 
--- that it answers is kept with the timetable and the query that stand beside it
-pub invariant_of-result : goal.invariant_of-result
-invariant_of-result g c =
+-- what was told answers the query
+made : (g : given.Over) (c : goal.After-of g) → IsAnswered (g.C.Criterion.rules c.args.criterion.now) (g.S.ConnSource.timetable c.args.source.now) c.args.query.now c.in_ok-told.told.points.items c.in_ok-told.told.nodes.items c.secs_from.result
+made g c =
     let rules = g.C.Criterion.rules c.args.criterion.now in
     let laws = g.met.C.Criterion.laws c.args.criterion.now in
     let t = g.S.ConnSource.timetable c.args.source.now in
@@ -74,31 +76,24 @@ invariant_of-result g c =
     let says = subst (λ (x : TimetableValue). (p : Point g.row.C-V.Denot) → Contains points p → IsRetold x.footpaths (story_of scan) c.in_ok-points.points.items nodes p) c.in_ok-scan.ensures.timetable
     (subst (λ (ps : List (Point g.row.C-V.Denot)). (p : Point g.row.C-V.Denot) → Contains points p → IsRetold (g.S.ConnSource.timetable c.scan_window.new.source).footpaths (story_of scan) ps nodes p) c.deref.ensures.value c.in_ok-told.ensures.says) in
     let same = subst (λ (ps : List (Point g.row.C-V.Denot)). map untagged points ≡ map untagged ps) c.deref.ensures.value c.in_ok-told.ensures.same in
-    let made = answered rules laws t q can c.first_at-start.result c.first_at-start.ensures (story_of scan) nodes found c.in_ok-points.points.items points c.secs_from.result c.in_ok-scan.ensures.matches bag c.in_ok-points.ensures.ordered c.in_ok-points.ensures.only c.in_ok-points.ensures.each same says way in
-    let at_t = subst (λ (x : TimetableValue). IsAnswered rules x q points nodes c.secs_from.result) (sym (c.timetable_of.ensures ∙ c.in_ok-scan.ensures.timetable)) made in
+    answered rules laws t q can c.first_at-start.result c.first_at-start.ensures (story_of scan) nodes found c.in_ok-points.points.items points c.secs_from.result c.in_ok-scan.ensures.matches bag c.in_ok-points.ensures.ordered c.in_ok-points.ensures.only c.in_ok-points.ensures.each same says way
+
+-- that it answers is kept with the timetable and the query that stand beside it
+pub invariant_of-result : goal.invariant_of-result
+invariant_of-result g c =
+    let rules = g.C.Criterion.rules c.args.criterion.now in
+    let points = c.in_ok-told.told.points.items in
+    let nodes = c.in_ok-told.told.nodes.items in
+    let at_t = subst (λ (x : TimetableValue). IsAnswered rules x c.args.query.now points nodes c.secs_from.result) (sym (c.timetable_of.ensures ∙ c.in_ok-scan.ensures.timetable)) (made g (goal.at.invariant_of-result g c).After-of) in
     let at_q = subst (λ (x : Query). IsAnswered rules c.timetable_of.result.value x points nodes c.secs_from.result) (sym c.of.ensures) at_t in
     record { answered = ∣ at_q ∣₁ }
 
 pub returns-clause-answers : goal.returns-clause-answers
 returns-clause-answers g c =
-    let rules = g.C.Criterion.rules c.args.criterion.now in
-    let laws = g.met.C.Criterion.laws c.args.criterion.now in
-    let t = g.S.ConnSource.timetable c.args.source.now in
-    let q = c.args.query.now in
-    let can : CanScan (g.S.ConnSource.timetable c.args.source.now) c.args.query.now = record { legal = g.met.S.ConnSource.legal c.args.source.now; limits = g.met.S.ConnSource.limits c.args.source.now; in_time = c.requires.small.2 } in
-    let scan = c.in_ok-scan.scan in
-    let found = points_of scan.found in
-    let points = c.in_ok-told.told.points.items in
-    let nodes = c.in_ok-told.told.nodes.items in
-    let bag = bag_under g.C.Criterion.rules scan.found.criterion c.args.criterion.now found c.in_ok-scan.ensures.same scan.found.kept in
-    let way = subst (IsWay t q.target q.source) (sym c.secs_from.ensures) (c.in_ok-ways.ensures.each q.source c.requires.source) in
-    let says = subst (λ (x : TimetableValue). (p : Point g.row.C-V.Denot) → Contains points p → IsRetold x.footpaths (story_of scan) c.in_ok-points.points.items nodes p) c.in_ok-scan.ensures.timetable
-    (subst (λ (ps : List (Point g.row.C-V.Denot)). (p : Point g.row.C-V.Denot) → Contains points p → IsRetold (g.S.ConnSource.timetable c.scan_window.new.source).footpaths (story_of scan) ps nodes p) c.deref.ensures.value c.in_ok-told.ensures.says) in
-    let same = subst (λ (ps : List (Point g.row.C-V.Denot)). map untagged points ≡ map untagged ps) c.deref.ensures.value c.in_ok-told.ensures.same in
-    let made = answered rules laws t q can c.first_at-start.result c.first_at-start.ensures (story_of scan) nodes found c.in_ok-points.points.items points c.secs_from.result c.in_ok-scan.ensures.matches bag c.in_ok-points.ensures.ordered c.in_ok-points.ensures.only c.in_ok-points.ensures.each same says way in
+    let answer = made g (goal.at.returns-clause-answers g c).After-of in
     record {
-      answer = made.answer;
-      attained = made.attained;
-      direct = made.direct;
+      answer = answer.answer;
+      attained = answer.attained;
+      direct = answer.direct;
       keeps = (refl, c.timetable_of.ensures ∙ c.in_ok-scan.ensures.timetable, c.of.ensures);
     }
