@@ -1,5 +1,7 @@
 -- What is kept alike matches alike, and where nothing is offered all stays.
-use Rattle.std.proofs.Common.{◌≡◌, ◌≢◌, ℕ, List, [], length, Contains, Option, None, refl, sym, ap, subst, arith}
+use Rattle.std.proofs.Common.{◌≡◌, ◌≢◌, ◌<◌, ℕ, List, [], length, Contains, Option, None, refl, sym, ap, subst, arith}
+use Rattle.timetable.specs.Legal.{IsLegal}
+use Rattle.timetable.proofs.LegalFacts.{connection_at-stands}
 use Rattle.criteria.specs.Laws.{Rules}
 use Rattle.bags.specs.declared.point.Point.{Point}
 use Rattle.timetable.specs.declared.network.Connection.{Connection}
@@ -60,3 +62,14 @@ step_idle rules t q a i scan way is idle =
 pub step_idle_at : {V : Type 0} (rules : Rules V) (t : TimetableValue) (q : Query) (a : Spelling) (i : ℕ) (scan : ScanValue V) (way : Option ℕ) (c : Connection) → c ≡ connection_at t i → IsWay t q.target c.to way → IsIdle q c way (scan.labels c.trip) (scan.bag c.to) → IsStep rules t q (from_to a a) i scan scan
 step_idle_at rules t q a i scan way c e is idle =
     step_idle rules t q a i scan way (subst (λ (x : Connection). IsWay t q.target x.to way) e is) (subst (λ (x : Connection). IsIdle q x way (scan.labels x.trip) (scan.bag x.to)) e idle)
+
+-- where a connection of a legal timetable begins and ends, and its trip, are of that timetable
+module _ (t : TimetableValue) (legal : IsLegal t) (i : ℕ) (in_i : i < length t.connections) (c : Connection) (is : c ≡ connection_at t i) where
+  pub begins_in : c.from < t.stops
+  begins_in = subst (λ (x : Connection). x.from < t.stops) (sym is) (legal.stops_in_range i (connection_at t i) (connection_at-stands t i in_i)).0
+
+  pub ends_in : c.to < t.stops
+  ends_in = subst (λ (x : Connection). x.to < t.stops) (sym is) (legal.stops_in_range i (connection_at t i) (connection_at-stands t i in_i)).1
+
+  pub trip_in : c.trip < t.trips
+  trip_in = subst (λ (x : Connection). x.trip < t.trips) (sym is) (legal.trips_in_range i (connection_at t i) (connection_at-stands t i in_i))

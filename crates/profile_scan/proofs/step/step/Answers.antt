@@ -2,12 +2,11 @@ use Rattle.std.proofs.Common.{◌<◌, ◌+◌, ◌∙◌, ℕ, List, Contains, 
 use Rattle.criteria.specs.Laws.{Admits}
 use Rattle.timetable.specs.declared.network.Connection.{Connection}
 use Rattle.timetable.specs.Journeys.{connection_at}
-use Rattle.timetable.proofs.LegalFacts.{connection_at-stands}
 use Rattle.profile_scan.specs.Matching.{from_to}
 use Rattle.bags.specs.Bag.{points_of}
 use Rattle.fronts.specs.Lists.{entries_of, items_of, lists_criterion, steps_of}
 use Rattle.fronts.proofs.Mapped.{list_admitted}
-use Rattle.profile_scan.specs.Bound.{carried}
+use Rattle.profile_scan.specs.Bound.{AreBounds, carried}
 use Rattle.profile_scan.specs.Steps.{TakesIn, leavings, boardings, settings_out}
 use Rattle.profile_scan.specs.Adding.{label_points, trip_points}
 use Rattle.profile_scan.specs.Story.{story, told}
@@ -16,43 +15,37 @@ use Rattle.profile_scan.proofs.Admitted.{AreAdmitted}
 use Rattle.profile_scan.proofs.Offers.{bag_under}
 use Rattle.profile_scan.proofs.BoundLemmas.{bounds_renewed, bounds_on, carried_by_bounds}
 use Rattle.profile_scan.proofs.StoryLemmas.{grows_none, grows_keeps}
-use Rattle.profile_scan.proofs.StepFacts.{step_idle_at}
+use Rattle.profile_scan.proofs.StepFacts.{ends_in, step_idle_at, trip_in}
 use Rattle.profile_scan.proofs.LabelLemmas.{trip_admitted}
+use Rattle.profile_scan.proofs.step.step.Given as given
+use Rattle.profile_scan.proofs.step.step.Goals.{After-step_in-arg-6-1}
 use Rattle.profile_scan.proofs.step.step.Goals as goal
 
 pub secs_from-way-requires : goal.secs_from-way-requires
 secs_from-way-requires g c =
-    let t = g.S.ConnSource.timetable c.args.source.now in
-    let to_in = ((g.met.S.ConnSource.legal c.args.source.now).stops_in_range c.args.place (connection_at t c.args.place) (connection_at-stands t c.args.place c.requires.place)).1 in
-    subst (λ (n : ℕ). c.args.connection.now.to < n) (sym c.requires.ways.long) (subst (λ (x : Connection). x.to < t.stops) (sym c.requires.connection) to_in)
+    subst (λ (n : ℕ). c.args.connection.now.to < n) (sym c.requires.ways.long) (ends_in (g.S.ConnSource.timetable c.args.source.now) (g.met.S.ConnSource.legal c.args.source.now) c.args.place c.requires.place c.args.connection.now c.requires.connection)
 
 pub step_in-requires-clause-way : goal.step_in-requires-clause-way
 step_in-requires-clause-way g c =
     let t = g.S.ConnSource.timetable c.args.source.now in
-    let to_in = ((g.met.S.ConnSource.legal c.args.source.now).stops_in_range c.args.place (connection_at t c.args.place) (connection_at-stands t c.args.place c.requires.place)).1 in
     subst (IsWay t c.args.query.now.target c.args.connection.now.to) (sym c.secs_from-way.ensures)
-    (c.requires.ways.each c.args.connection.now.to (subst (λ (x : Connection). x.to < t.stops) (sym c.requires.connection) to_in))
+    (c.requires.ways.each c.args.connection.now.to (ends_in (g.S.ConnSource.timetable c.args.source.now) (g.met.S.ConnSource.legal c.args.source.now) c.args.place c.requires.place c.args.connection.now c.requires.connection))
 
 pub is_idle-requires-clause-trip : goal.is_idle-requires-clause-trip
 is_idle-requires-clause-trip g c =
-    let t = g.S.ConnSource.timetable c.args.source.now in
-    let in_trips = (g.met.S.ConnSource.legal c.args.source.now).trips_in_range c.args.place (connection_at t c.args.place) (connection_at-stands t c.args.place c.requires.place) in
-    subst (λ (n : ℕ). c.args.connection.now.trip < n) (sym c.requires.scan.long) (subst (λ (x : Connection). x.trip < t.trips) (sym c.requires.connection) in_trips)
+    subst (λ (n : ℕ). c.args.connection.now.trip < n) (sym c.requires.scan.long) (trip_in (g.S.ConnSource.timetable c.args.source.now) (g.met.S.ConnSource.legal c.args.source.now) c.args.place c.requires.place c.args.connection.now c.requires.connection)
 
 pub is_idle-requires-clause-stop : goal.is_idle-requires-clause-stop
 is_idle-requires-clause-stop g c =
-    let t = g.S.ConnSource.timetable c.args.source.now in
-    let to_in = ((g.met.S.ConnSource.legal c.args.source.now).stops_in_range c.args.place (connection_at t c.args.place) (connection_at-stands t c.args.place c.requires.place)).1 in
-    subst (λ (n : ℕ). c.args.connection.now.to < n) (sym c.requires.scan.at_stops.long) (subst (λ (x : Connection). x.to < t.stops) (sym c.requires.connection) to_in)
+    subst (λ (n : ℕ). c.args.connection.now.to < n) (sym c.requires.scan.at_stops.long) (ends_in (g.S.ConnSource.timetable c.args.source.now) (g.met.S.ConnSource.legal c.args.source.now) c.args.place c.requires.place c.args.connection.now c.requires.connection)
 
 pub returns-then-is_idle-clause-step : goal.returns-then-is_idle-clause-step
 returns-then-is_idle-clause-step g c =
     let t = g.S.ConnSource.timetable c.args.source.now in
     let q = c.args.query.now in
     let scan = c.args.scan.now in
-    let to_in = ((g.met.S.ConnSource.legal c.args.source.now).stops_in_range c.args.place (connection_at t c.args.place) (connection_at-stands t c.args.place c.requires.place)).1 in
     let is = subst (IsWay t q.target c.args.connection.now.to) (sym c.secs_from-way.ensures)
-    (c.requires.ways.each c.args.connection.now.to (subst (λ (x : Connection). x.to < t.stops) (sym c.requires.connection) to_in)) in
+    (c.requires.ways.each c.args.connection.now.to (ends_in (g.S.ConnSource.timetable c.args.source.now) (g.met.S.ConnSource.legal c.args.source.now) c.args.place c.requires.place c.args.connection.now c.requires.connection)) in
     step_idle_at (g.C.Criterion.rules c.args.criterion.now) t q (told t.footpaths (story_of scan)) c.args.place (kept_by scan) _ c.args.connection.now c.requires.connection is (c.is_idle.ensures c.if-is_idle.true)
 
 pub returns-clause-scan : goal.returns-clause-scan
@@ -64,31 +57,32 @@ returns-clause-scan g c = record {
 }
 
 -- the values of a bound, renewed
-pub step_in-requires-clause-bound : goal.step_in-requires-clause-bound
-step_in-requires-clause-bound g c =
+renewed : (g : given.Over) (c : goal.After-step_in-arg-6-1 g) → AreBounds (g.C.Criterion.rules c.args.criterion.now) (g.S.ConnSource.timetable c.args.source.now) (points_of c.args.scan.now.found) (c.args.place + 1) c.renew.new.bound.values.items
+renewed g c =
     let rules = g.C.Criterion.rules c.args.criterion.now in
     let laws = g.met.C.Criterion.laws c.args.criterion.now in
     let t = g.S.ConnSource.timetable c.args.source.now in
     let legal = g.met.S.ConnSource.legal c.args.source.now in
     let scan = c.args.scan.now in
     let found = bag_under g.C.Criterion.rules scan.found.criterion c.args.criterion.now (points_of scan.found) c.requires.scan.found scan.found.kept in
-    let bounds = bounds_renewed rules laws t legal (points_of scan.found) found.admitted c.args.place c.args.connection.now.dep c.requires.place (ap (λ (x : Connection). x.dep) c.requires.connection) scan.bound.values.items c.renew.new.bound.values.items c.requires.bound c.in_ok-renew.ensures.only in
-    subst (λ (values : List g.row.C-V.Denot). (b : g.row.C-V.Denot) → Contains values b → Admits rules b) (sym c.deref.ensures.value) bounds.admitted
+    bounds_renewed rules laws t legal (points_of scan.found) found.admitted c.args.place c.args.connection.now.dep c.requires.place (ap (λ (x : Connection). x.dep) c.requires.connection) scan.bound.values.items c.renew.new.bound.values.items c.requires.bound c.in_ok-renew.ensures.only
+
+pub step_in-requires-clause-bound : goal.step_in-requires-clause-bound
+step_in-requires-clause-bound g c =
+    let rules = g.C.Criterion.rules c.args.criterion.now in
+    subst (λ (values : List g.row.C-V.Denot). (b : g.row.C-V.Denot) → Contains values b → Admits rules b) (sym c.deref.ensures.value) (renewed g (goal.at.step_in-requires-clause-bound g c).After-step_in-arg-6-1).admitted
 
 pub returns-clause-bound : goal.returns-clause-bound
 returns-clause-bound g c =
     let rules = g.C.Criterion.rules c.args.criterion.now in
     let laws = g.met.C.Criterion.laws c.args.criterion.now in
     let t = g.S.ConnSource.timetable c.args.source.now in
-    let legal = g.met.S.ConnSource.legal c.args.source.now in
     let scan = c.args.scan.now in
-    let found = bag_under g.C.Criterion.rules scan.found.criterion c.args.criterion.now (points_of scan.found) c.requires.scan.found scan.found.kept in
-    let bounds = bounds_renewed rules laws t legal (points_of scan.found) found.admitted c.args.place c.args.connection.now.dep c.requires.place (ap (λ (x : Connection). x.dep) c.requires.connection) scan.bound.values.items c.renew.new.bound.values.items c.requires.bound c.in_ok-renew.ensures.only in
     let now = story c.step_in.new.exits.items (steps_of c.step_in.new.stops.lists) c.step_in.new.set_outs.items in
     let taken = c.in_ok-step_in.ensures.takes in
     let mid = story taken.0 (steps_of scan.stops.lists) scan.set_outs.items in
     bounds_on rules laws t (points_of scan.found) (points_of c.step_in.new.found) (c.args.place + 1) c.args.place c.renew.new.bound.values.items (omega arith)
-    (taken.5 mid now (grows_none mid) (grows_none now)).kept bounds
+    (taken.5 mid now (grows_none mid) (grows_none now)).kept (renewed g (goal.at.returns-clause-bound g c).After-step_in-arg-6-1)
 
 pub returns-then-is_idle-clause-bound : goal.returns-then-is_idle-clause-bound
 returns-then-is_idle-clause-bound g c =
@@ -103,9 +97,7 @@ is_idle-requires-clause-labels g c = (g.C.Criterion.rules c.args.criterion.now, 
 
 pub step_in-requires-clause-trip : goal.step_in-requires-clause-trip
 step_in-requires-clause-trip g c =
-    let t = g.S.ConnSource.timetable c.args.source.now in
-    let in_trips = (g.met.S.ConnSource.legal c.args.source.now).trips_in_range c.args.place (connection_at t c.args.place) (connection_at-stands t c.args.place c.requires.place) in
-    subst (λ (n : ℕ). c.args.connection.now.trip < n) (sym c.requires.scan.long) (subst (λ (x : Connection). x.trip < t.trips) (sym c.requires.connection) in_trips)
+    subst (λ (n : ℕ). c.args.connection.now.trip < n) (sym c.requires.scan.long) (trip_in (g.S.ConnSource.timetable c.args.source.now) (g.met.S.ConnSource.legal c.args.source.now) c.args.place c.requires.place c.args.connection.now c.requires.connection)
 
 pub returns-clause-step : goal.returns-clause-step
 returns-clause-step g c =

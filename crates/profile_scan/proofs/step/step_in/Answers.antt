@@ -5,7 +5,7 @@ use Rattle.bags.specs.Bag.{points_of}
 use Rattle.bags.specs.declared.point.Point.{Point}
 use Rattle.timetable.specs.declared.network.Connection.{Connection}
 use Rattle.timetable.specs.Journeys.{connection_at}
-use Rattle.timetable.proofs.LegalFacts.{connection_at-stands, arrival_limit}
+use Rattle.timetable.proofs.LegalFacts.{arrival_limit}
 use Rattle.profile_scan.specs.Steps.{leavings, boardings, settings_out, TakesIn}
 use Rattle.profile_scan.specs.Adding.{Takes, label_points, trip_points}
 use Rattle.fronts.specs.declared.labels.Label.{Label}
@@ -16,14 +16,13 @@ use Rattle.profile_scan.specs.Story.{story, told}
 use Rattle.profile_scan.specs.Kept.{points_at}
 use Rattle.profile_scan.proofs.LabelLemmas.{trip_admitted}
 use Rattle.profile_scan.proofs.StoryLemmas.{exits_grow}
+use Rattle.profile_scan.proofs.StepFacts.{ends_in}
 use Rattle.profile_scan.proofs.LeaveLemmas.{way_secs, leavings_taken}
 use Rattle.profile_scan.proofs.step.step_in.Goals as goal
 
 pub index-head-requires : goal.index-head-requires
 index-head-requires g c =
-    let t = g.S.ConnSource.timetable c.args.source.now in
-    let to_in = ((g.met.S.ConnSource.legal c.args.source.now).stops_in_range c.args.place (connection_at t c.args.place) (connection_at-stands t c.args.place c.requires.place)).1 in
-    subst (λ (n : ℕ). c.args.connection.now.to < n) (sym c.requires.stops.long) (subst (λ (x : Connection). x.to < t.stops) (sym c.requires.connection) to_in)
+    subst (λ (n : ℕ). c.args.connection.now.to < n) (sym c.requires.stops.long) (ends_in (g.S.ConnSource.timetable c.args.source.now) (g.met.S.ConnSource.legal c.args.source.now) c.args.place c.requires.place c.args.connection.now c.requires.connection)
 
 pub alight-requires-clause-arrival : goal.alight-requires-clause-arrival
 alight-requires-clause-arrival g c =
@@ -36,10 +35,8 @@ alight-requires-clause-secs g c =
 
 pub alight-requires-clause-head : goal.alight-requires-clause-head
 alight-requires-clause-head g c =
-    let t = g.S.ConnSource.timetable c.args.source.now in
-    let to_in = ((g.met.S.ConnSource.legal c.args.source.now).stops_in_range c.args.place (connection_at t c.args.place) (connection_at-stands t c.args.place c.requires.place)).1 in
     let heads = c.args.stops.now.heads in
-    let within : c.args.connection.now.to < length heads.items = subst (λ (n : ℕ). c.args.connection.now.to < n) (sym c.requires.stops.long ∙ heads.ok.0) (subst (λ (x : Connection). x.to < t.stops) (sym c.requires.connection) to_in) in
+    let within : c.args.connection.now.to < length heads.items = subst (λ (n : ℕ). c.args.connection.now.to < n) (sym c.requires.stops.long ∙ heads.ok.0) (ends_in (g.S.ConnSource.timetable c.args.source.now) (g.met.S.ConnSource.legal c.args.source.now) c.args.place c.requires.place c.args.connection.now c.requires.connection) in
     let is : c.index-head.result.now ≡ slice_index heads.items c.args.connection.now.to = c.index-head.ensures ∙ get_or_default heads.items c.args.connection.now.to c.index-head.result.now 0 within in
     subst (λ (n : ℕ). n < length (entries_of c.args.stops.now.lists)) (sym is) (c.requires.stops.within c.args.connection.now.to)
 
@@ -57,8 +54,7 @@ returns-clause-takes g c =
     let old = trip_points c.args.labels.now cn.trip in
     let new = trip_points c.alight.new.labels cn.trip in
     let here_is = c.of-here.ensures in
-    let to_in = (legal.stops_in_range c.args.place (connection_at t c.args.place) (connection_at-stands t c.args.place c.requires.place)).1 in
-    let within : c.args.connection.now.to < length heads.items = subst (λ (n : ℕ). c.args.connection.now.to < n) (sym c.requires.stops.long ∙ heads.ok.0) (subst (λ (x : Connection). x.to < t.stops) (sym c.requires.connection) to_in) in
+    let within : c.args.connection.now.to < length heads.items = subst (λ (n : ℕ). c.args.connection.now.to < n) (sym c.requires.stops.long ∙ heads.ok.0) (ends_in (g.S.ConnSource.timetable c.args.source.now) (g.met.S.ConnSource.legal c.args.source.now) c.args.place c.requires.place c.args.connection.now c.requires.connection) in
     let is : c.index-head.result.now ≡ slice_index heads.items cn.to = c.index-head.ensures ∙ get_or_default heads.items cn.to c.index-head.result.now 0 within in
     let bag_is : carried rules c.args.bound.now (list_points stops.lists c.index-head.result.now) ≡ carried rules c.args.bound.now (points_at stops (connection_at t c.args.place).to) = ap (λ (n : ℕ). carried rules c.args.bound.now (list_points stops.lists n)) is ∙ ap (λ (x : Connection). carried rules c.args.bound.now (points_at stops x.to)) c.requires.connection in (
       mid,
