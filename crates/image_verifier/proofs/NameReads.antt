@@ -2,10 +2,12 @@
 use Rattle.std.proofs.Common.{◌≡◌, ℕ, ◌+◌, ◌-◌, ◌<◌, ◌≤◌, List, length, drop, map, Some, refl, sym, ap, ◌∙◌, arith}
 use Rattle.std.specs.Prelude.{slice_get}
 use Rattle.std.specs.List.{range_with_len}
+use Rattle.std.specs.Option.{option_map}
 use Rattle.std.proofs.lemmas.List.{length-drop, length-take-le}
 use Rattle.std.proofs.lemmas.Option.{slice_get-get_or}
 use Rattle.std.proofs.lemmas.List.FromFn.{length-map-range_with_len, get_or-map-range_with_len}
 use Rattle.timetable.specs.Legal.{At}
+use Rattle.timetable.specs.NamesValue.{NamesValue, TripNameValue}
 use Rattle.image_layout.specs.Places.{header_of}
 use Rattle.image_layout.specs.Fields.{name_index_of}
 use Rattle.image_layout.specs.Text.{padded_text_of}
@@ -53,3 +55,11 @@ stop_name_shown w s name e = shown_in (name_of w) (header_of w).stops s name e
 
 pub trip_name_is : (w : List ℕ) (t : ℕ) → t < (header_of w).trips → At (names_of w).trips t (trip_name_of w t)
 trip_name_is w t lt = made_at (trip_name_of w) (header_of w).trips t lt
+
+-- what is told of a trip's name, where it is what the words show
+pub trip_told : (tell : TripNameValue → ℕ) (names : NamesValue) (w : List ℕ) (t told : ℕ) → names ≡ names_of w → t < (header_of w).trips
+    → told ≡ tell (trip_name_of w t) → option_map tell (slice_get names.trips t) ≡ Some told
+trip_told tell names w t told same lt is =
+    ap (λ (n : NamesValue). option_map tell (slice_get n.trips t)) same
+    ∙ ap (λ o. option_map tell o) (trip_name_is w t lt)
+    ∙ ap Some (sym is)

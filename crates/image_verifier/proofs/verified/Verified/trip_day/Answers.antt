@@ -1,11 +1,9 @@
-use Rattle.std.proofs.Common.{◌<◌, ℕ, List, Some, sym, subst, ap, ◌∙◌}
-use Rattle.std.specs.Prelude.{slice_get}
-use Rattle.std.specs.Option.{option_map}
+use Rattle.std.proofs.Common.{◌<◌, ℕ, List, sym, subst, ap, ◌∙◌}
 use Rattle.timetable.specs.NamesValue.{TripNameValue}
 use Rattle.image_layout.specs.Places.{header_of}
 use Rattle.image_layout.specs.Fields.{day_of}
 use Rattle.image_layout.specs.Image.{ImageValue}
-use Rattle.image_verifier.proofs.NameReads.{trip_name_is}
+use Rattle.image_verifier.proofs.NameReads.{trip_told}
 use Rattle.image_verifier.proofs.verified.Verified.trip_day.Goals as goal
 
 pub day_at-requires-clause-within : goal.day_at-requires-clause-within
@@ -13,7 +11,6 @@ day_at-requires-clause-within c = subst (λ (x : List ℕ). c.args.trip < (heade
 
 pub returns : goal.returns
 returns c =
-    let within : c.args.trip < (header_of c.self.inside.words.items).trips = subst (λ (v : ImageValue). c.args.trip < v.timetable.trips) (sym c.self.view_is) c.requires in
-    ap (λ (v : ImageValue). option_map (λ (t : TripNameValue). t.day) (slice_get v.names.trips c.args.trip)) (sym c.self.view_is)
-    ∙ ap (λ o. option_map (λ (t : TripNameValue). t.day) o) (trip_name_is c.self.inside.words.items c.args.trip within)
-    ∙ ap Some (ap (λ (x : List ℕ). day_of x c.args.trip) (sym c.deref.ensures.value) ∙ sym c.day_at.ensures)
+    let within = subst (λ (v : ImageValue). c.args.trip < v.timetable.trips) (sym c.self.view_is) c.requires in
+    trip_told (λ (t : TripNameValue). t.day) _ c.self.inside.words.items c.args.trip _ (ap (λ (v : ImageValue). v.names) (sym c.self.view_is)) within
+    (c.day_at.ensures ∙ ap (λ (x : List ℕ). day_of x c.args.trip) c.deref.ensures.value)
