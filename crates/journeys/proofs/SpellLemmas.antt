@@ -14,7 +14,7 @@ use Rattle.profile_scan.specs.declared.found.Found.{Found}
 use Rattle.timetable.specs.JourneyValue.{RideValue, JourneyValue}
 use Rattle.profile_scan.specs.Continuations.{Aboard}
 use Rattle.profile_scan.specs.Steps.{boarded}
-use Rattle.profile_scan.specs.Nodes.{Spelled, nothing, spelled, changed_at, boarded_after, set_out_by, walk_of}
+use Rattle.profile_scan.specs.Nodes.{Spelled, nothing, spelled, spells, changed_at, boarded_after, set_out_by, walk_of}
 use Rattle.profile_scan.specs.declared.nodes.Node.{Node}
 use Rattle.profile_scan.specs.declared.nodes.Node.TheVariants.{Ends, Changes, Boards, SetsOut}
 use Rattle.profile_scan.proofs.NodeLemmas.{spelled_at, spelled_past}
@@ -72,29 +72,58 @@ module _ (nodes : List Node) (k : ℕ) where
       let s = spelled_at nodes k (SetsOut start first next) at in
       ap (λ (z : Spelled). z.journey) s.1.is ∙ ap (λ (z : Spelled). set_out_by start first z.aboard) (s.1.none next ge)
 
-  -- other nodes
-  pub ends_alone : (last : ℕ) (walk : Option Footpath) → slice_get nodes k ≡ Some (Ends last walk)
-      → ((spelled nodes k).onward ≡ None) × ((spelled nodes k).journey ≡ None)
-  ends_alone last walk at =
-      let s = spelled_at nodes k (Ends last walk) at in
-      (ap (λ (z : Spelled). z.onward) s.1.is, ap (λ (z : Spelled). z.journey) s.1.is)
+-- what the other nodes don't spell
+module _ (nodes : List Node) (k : ℕ) (node : Node) (at : Some node ≡ slice_get nodes k) where
+  said : (other : Node) → node ≡ other → (earlier : ℕ → Spelled) × (spelled nodes k ≡ spells earlier other)
+  said other same = let s = spelled_at nodes k other (sym at ∙ ap Some same) in (s.0, s.1.is)
 
-  pub changes_alone : (last next : ℕ) → slice_get nodes k ≡ Some (Changes last next) → ((spelled nodes k).onward ≡ None) × ((spelled nodes k).journey ≡ None)
-  changes_alone last next at =
-      let s = spelled_at nodes k (Changes last next) at in
-      (ap (λ (z : Spelled). z.onward) s.1.is, ap (λ (z : Spelled). z.journey) s.1.is)
+  pub ends_onward : (last : ℕ) (walk : Option Footpath) → node ≡ Ends last walk → (spelled nodes k).onward ≡ None
+  ends_onward last walk same = ap (λ (z : Spelled). z.onward) (said (Ends last walk) same).1
 
-  pub boards_alone : (walk : Footpath) (first next : ℕ) → slice_get nodes k ≡ Some (Boards walk first next)
-      → ((spelled nodes k).aboard ≡ None) × ((spelled nodes k).journey ≡ None)
-  boards_alone walk first next at =
-      let s = spelled_at nodes k (Boards walk first next) at in
-      (ap (λ (z : Spelled). z.aboard) s.1.is, ap (λ (z : Spelled). z.journey) s.1.is)
+  pub ends_journey : (last : ℕ) (walk : Option Footpath) → node ≡ Ends last walk → (spelled nodes k).journey ≡ None
+  ends_journey last walk same = ap (λ (z : Spelled). z.journey) (said (Ends last walk) same).1
 
-  pub sets_out_alone : (start : Option Footpath) (first next : ℕ) → slice_get nodes k ≡ Some (SetsOut start first next)
-      → ((spelled nodes k).onward ≡ None) × ((spelled nodes k).aboard ≡ None)
-  sets_out_alone start first next at =
-      let s = spelled_at nodes k (SetsOut start first next) at in
-      (ap (λ (z : Spelled). z.onward) s.1.is, ap (λ (z : Spelled). z.aboard) s.1.is)
+  pub changes_onward : (last next : ℕ) → node ≡ Changes last next → (spelled nodes k).onward ≡ None
+  changes_onward last next same = ap (λ (z : Spelled). z.onward) (said (Changes last next) same).1
+
+  pub changes_journey : (last next : ℕ) → node ≡ Changes last next → (spelled nodes k).journey ≡ None
+  changes_journey last next same = ap (λ (z : Spelled). z.journey) (said (Changes last next) same).1
+
+  pub boards_aboard : (walk : Footpath) (first next : ℕ) → node ≡ Boards walk first next → (spelled nodes k).aboard ≡ None
+  boards_aboard walk first next same = ap (λ (z : Spelled). z.aboard) (said (Boards walk first next) same).1
+
+  pub boards_journey : (walk : Footpath) (first next : ℕ) → node ≡ Boards walk first next → (spelled nodes k).journey ≡ None
+  boards_journey walk first next same = ap (λ (z : Spelled). z.journey) (said (Boards walk first next) same).1
+
+  pub sets_out_onward : (start : Option Footpath) (first next : ℕ) → node ≡ SetsOut start first next → (spelled nodes k).onward ≡ None
+  sets_out_onward start first next same = ap (λ (z : Spelled). z.onward) (said (SetsOut start first next) same).1
+
+  pub sets_out_aboard : (start : Option Footpath) (first next : ℕ) → node ≡ SetsOut start first next → (spelled nodes k).aboard ≡ None
+  sets_out_aboard start first next same = ap (λ (z : Spelled). z.aboard) (said (SetsOut start first next) same).1
+
+-- no node spells nothing
+pub none_onward : (nodes : List Node) (k : ℕ) → None ≡ slice_get nodes k → (spelled nodes k).onward ≡ None
+none_onward nodes k none = ap (λ (z : Spelled). z.onward) (none_spelled nodes k (sym none))
+
+pub none_aboard : (nodes : List Node) (k : ℕ) → None ≡ slice_get nodes k → (spelled nodes k).aboard ≡ None
+none_aboard nodes k none = ap (λ (z : Spelled). z.aboard) (none_spelled nodes k (sym none))
+
+pub none_journey : (nodes : List Node) (k : ℕ) → None ≡ slice_get nodes k → (spelled nodes k).journey ≡ None
+none_journey nodes k none = ap (λ (z : Spelled). z.journey) (none_spelled nodes k (sym none))
+
+pub ruleset nothing_said = (
+  ends_onward,
+  ends_journey,
+  changes_onward,
+  changes_journey,
+  boards_aboard,
+  boards_journey,
+  sets_out_onward,
+  sets_out_aboard,
+  none_onward,
+  none_aboard,
+  none_journey,
+)
 
 -- getting off to board again
 pub changes_on : (nodes : List Node) (k last next : ℕ) (walk : Footpath) (first then : ℕ) → slice_get nodes k ≡ Some (Changes last next) → next < k

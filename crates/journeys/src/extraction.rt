@@ -29,6 +29,7 @@ enum Alighting {
 }
 
 // The boarding that a node is, by an earlier node.
+#[tactic(auto, using(crate::proofs::SpellLemmas::nothing_said))]
 fn boards_at<C: Criterion>(found: &Found<C>, number: usize) -> Option<Boarding>
     ensures { MatchOption result ((spelled (nodes_of found.now) number).onward ≡ None) (λ boarding. IsBoarding (nodes_of found.now) number boarding) }
 {
@@ -48,6 +49,7 @@ fn boards_at<C: Criterion>(found: &Found<C>, number: usize) -> Option<Boarding>
 }
 
 // How one gets off by a node, and by earlier ones.
+#[tactic(auto, using(crate::proofs::SpellLemmas::nothing_said))]
 fn gets_off_at<C: Criterion>(found: &Found<C>, number: usize) -> Option<Alighting>
     ensures { MatchOption result ((spelled (nodes_of found.now) number).aboard ≡ None) (λ alighting. IsAlighting (nodes_of found.now) number alighting) }
 {
@@ -132,6 +134,7 @@ fn rides_from<C: Criterion>(
 }
 
 // The journey that a node spells, if it spells one.
+#[tactic(auto, using(crate::proofs::SpellLemmas::nothing_said))]
 fn spelled_at<C: Criterion>(
     alloc: Global,
     found: &Found<C>,
