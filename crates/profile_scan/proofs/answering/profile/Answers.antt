@@ -34,20 +34,14 @@ returns-clause-log g c =
 pub returns-in_err-points-clause-err : goal.returns-in_err-points-clause-err
 returns-in_err-points-clause-err g c =
     let t = g.S.ConnSource.timetable c.args.source.now in
-    let q = c.args.query.now in
-    let log = g.S.ConnSource.log c.args.source.now in
     let falls = (window_is_read_backward t (g.met.S.ConnSource.legal c.args.source.now) c.args.query.now).falls c.first_at-start.result c.first_at-end.result c.first_at-start.ensures c.first_at-end.ensures in
-    let read : g.S.ConnSource.log c.scan_window.new.source ≡ g.S.ConnSource.log c.args.source.now ++ reverse (window t q) = c.in_ok-scan.ensures.log ∙ ap (λ (ks : List ℕ). g.S.ConnSource.log c.args.source.now ++ ks) (sym falls) in
-    on_err c.from_residual-in_err-points.result _ (length (reverse (window t q)), taken_all log (reverse (window t q)) (g.S.ConnSource.log c.scan_window.new.source) read)
+    on_err c.from_residual-in_err-points.result _ (length (reverse (window t c.args.query.now)), taken_all (g.S.ConnSource.log c.args.source.now) (reverse (window t c.args.query.now)) (g.S.ConnSource.log c.scan_window.new.source) (c.in_ok-scan.ensures.log ∙ ap (λ (ks : List ℕ). g.S.ConnSource.log c.args.source.now ++ ks) (sym falls)))
 
 pub returns-in_err-told-clause-err : goal.returns-in_err-told-clause-err
 returns-in_err-told-clause-err g c =
     let t = g.S.ConnSource.timetable c.args.source.now in
-    let q = c.args.query.now in
-    let log = g.S.ConnSource.log c.args.source.now in
     let falls = (window_is_read_backward t (g.met.S.ConnSource.legal c.args.source.now) c.args.query.now).falls c.first_at-start.result c.first_at-end.result c.first_at-start.ensures c.first_at-end.ensures in
-    let read : g.S.ConnSource.log c.scan_window.new.source ≡ g.S.ConnSource.log c.args.source.now ++ reverse (window t q) = c.in_ok-scan.ensures.log ∙ ap (λ (ks : List ℕ). g.S.ConnSource.log c.args.source.now ++ ks) (sym falls) in
-    on_err c.from_residual-in_err-told.result _ (length (reverse (window t q)), taken_all log (reverse (window t q)) (g.S.ConnSource.log c.scan_window.new.source) read)
+    on_err c.from_residual-in_err-told.result _ (length (reverse (window t c.args.query.now)), taken_all (g.S.ConnSource.log c.args.source.now) (reverse (window t c.args.query.now)) (g.S.ConnSource.log c.scan_window.new.source) (c.in_ok-scan.ensures.log ∙ ap (λ (ks : List ℕ). g.S.ConnSource.log c.args.source.now ++ ks) (sym falls)))
 
 pub tell_journeys-requires : goal.tell_journeys-requires
 tell_journeys-requires g c =
