@@ -1,10 +1,11 @@
 -- An answer with its journeys, one point after the other.
-use Rattle.std.proofs.Common.{◌≡◌, ℕ, zero, suc, ◌+◌, ◌-◌, ◌<◌, ◌≤◌, List, [], ◌∷◌, ◌++◌, length, take, map, get_or, Contains, slice_get, Some, refl}
+use Rattle.std.proofs.Common.{◌≡◌, ℕ, zero, suc, ◌+◌, ◌-◌, ◌<◌, ◌≤◌, List, [], ◌∷◌, ◌++◌, length, take, map, get_or, Contains, slice_get, Some, Result, OnErr, refl}
 use Rattle.std.proofs.Common.{sym, ◌∙◌, ap, subst, inl, inr, arith}
 use Rattle.std.proofs.lemmas.Option.{slice_get_within, get_or_from_slice_get}
 use Rattle.std.proofs.lemmas.List.{map-append, length-map, length-reverse, get_or-map, get_or_default, take_all}
 use Rattle.std.proofs.lemmas.List.Elements.{Contains-push_cases}
 use Rattle.std.proofs.Math.Seq.{take-suc}
+use Rattle.reasoning.proofs.OptionLemmas.{on_err}
 use Rattle.criteria.specs.Laws.{Rules}
 use Rattle.bags.specs.declared.point.Point.{Point}
 use Rattle.timetable.specs.declared.query.Query.{Query}
@@ -14,6 +15,7 @@ use Rattle.timetable.specs.Legal.{IsLegal}
 use Rattle.sources.specs.FirstAt.{IsFirstAt}
 use Rattle.profile_scan.specs.Points.{Lists, Before, IsAnswer}
 use Rattle.profile_scan.specs.Window.{window, falling}
+use Rattle.profile_scan.proofs.LogLemmas.{taken_all}
 use Rattle.profile_scan.proofs.Windows.{window_is_read_backward}
 use Rattle.journeys.specs.Extracted.{Attains}
 use Rattle.journeys.specs.Answer.{point_of}
@@ -29,6 +31,10 @@ pub window_count : (t : TimetableValue) (q : Query) (start end : ℕ) → IsLega
 window_count t q start end legal is_start is_end =
     let falls = (window_is_read_backward t legal q).falls start end is_start is_end in
     sym (length-falling start (end - start)) ∙ (ap length (sym falls) ∙ length-reverse (window t q))
+
+-- an error behind the scan: all of the window was read
+pub whole_read : {T E : Type 0} (r : Result T E) (log read now : List ℕ) → now ≡ log ++ read → OnErr r ((n : ℕ) × (now ≡ log ++ take n read))
+whole_read r log read now e = on_err r ((n : ℕ) × (now ≡ log ++ take n read)) (length read, taken_all log read now e)
 
 -- a point that has lost its tag
 abbrev pub tagless : {V : Type 0} → Point V → Point V

@@ -46,22 +46,22 @@ number_is_plain : (n : ℕ) → IsPlain (number_text n)
 number_is_plain n = behind 32 (decimal n) (inl refl) (decimal_is_plain n)
 
 -- words
-letter : (b : ℕ) (xs : List ℕ) → 97 ≤ b → b ≤ 122 → IsPlain xs → IsPlain (b ∷ xs)
-letter b xs low high rest = behind b xs (inr (inr (low, high))) rest
+abbrev IsLetter : ℕ → Type 0
+IsLetter b = (97 ≤ b) × (b ≤ 122)
+
+word_is_plain : (a b c d : ℕ) → IsLetter a → IsLetter b → IsLetter c → IsLetter d → IsPlain (32 ∷ a ∷ b ∷ c ∷ d ∷ [])
+word_is_plain a b c d first second third fourth =
+    behind 32 (a ∷ b ∷ c ∷ d ∷ []) (inl refl)
+    (behind a (b ∷ c ∷ d ∷ []) (inr (inr first))
+    (behind b (c ∷ d ∷ []) (inr (inr second)) (behind c (d ∷ []) (inr (inr third)) (behind d [] (inr (inr fourth)) (All-nil IsPlainByte)))))
 
 walk_word : IsPlain (codes " walk")
 walk_word =
-    let k = letter 107 [] (omega arith) (omega arith) (All-nil IsPlainByte) in
-    let lk = letter 108 (107 ∷ []) (omega arith) (omega arith) k in
-    let alk = letter 97 (108 ∷ 107 ∷ []) (omega arith) (omega arith) lk in
-    behind 32 (119 ∷ 97 ∷ 108 ∷ 107 ∷ []) (inl refl) (letter 119 (97 ∷ 108 ∷ 107 ∷ []) (omega arith) (omega arith) alk)
+    word_is_plain 119 97 108 107 (omega arith, omega arith) (omega arith, omega arith) (omega arith, omega arith) (omega arith, omega arith)
 
 ride_word : IsPlain (codes " ride")
 ride_word =
-    let e = letter 101 [] (omega arith) (omega arith) (All-nil IsPlainByte) in
-    let de = letter 100 (101 ∷ []) (omega arith) (omega arith) e in
-    let ide = letter 105 (100 ∷ 101 ∷ []) (omega arith) (omega arith) de in
-    behind 32 (114 ∷ 105 ∷ 100 ∷ 101 ∷ []) (inl refl) (letter 114 (105 ∷ 100 ∷ 101 ∷ []) (omega arith) (omega arith) ide)
+    word_is_plain 114 105 100 101 (omega arith, omega arith) (omega arith, omega arith) (omega arith, omega arith) (omega arith, omega arith)
 
 walk_is_plain : (f : Footpath) → IsPlain (walk_text f)
 walk_is_plain f =

@@ -1,16 +1,10 @@
-use Rattle.std.proofs.Common.{◌+◌, ◌≤◌, length, reverse, sym, ◌∙◌, subst, arith}
-use Rattle.reasoning.proofs.OptionLemmas.{on_err}
+use Rattle.std.proofs.Common.{◌+◌, ◌≤◌, length, sym, ◌∙◌, subst, arith}
 use Rattle.profile_scan.specs.Found.{listed}
-use Rattle.profile_scan.specs.Window.{window}
-use Rattle.profile_scan.proofs.LogLemmas.{taken_all}
-use Rattle.journeys.proofs.AnswerLemmas.{AreTold, none_told, one_more, all_told, window_count}
+use Rattle.journeys.proofs.AnswerLemmas.{AreTold, none_told, one_more, all_told, whole_read, window_count}
 use Rattle.journeys.proofs.answering.answer_query.Goals as goal
 
 pub returns-in_err-departures-clause-err : goal.returns-in_err-departures-clause-err
-returns-in_err-departures-clause-err g c =
-    let read = reverse (window (g.S.ConnSource.timetable c.args.source.now) c.args.query.now) in
-    on_err c.from_residual-in_err-departures.result _
-    (length read, taken_all (g.S.ConnSource.log c.args.source.now) read (g.S.ConnSource.log c.profile.new.source) c.in_ok-found.ensures.log)
+returns-in_err-departures-clause-err g c = whole_read c.from_residual-in_err-departures.result _ _ _ c.in_ok-found.ensures.log
 
 pub loop-i-init : goal.loop-i-init
 loop-i-init g c =
@@ -20,16 +14,10 @@ loop-i-init g c =
     (none_told rules t c.args.query.now (listed c.in_ok-found.found))
 
 pub returns-in_err-journey-clause-err : goal.returns-in_err-journey-clause-err
-returns-in_err-journey-clause-err g c =
-    let read = reverse (window (g.S.ConnSource.timetable c.args.source.now) c.args.query.now) in
-    on_err c.from_residual-in_err-journey.result _
-    (length read, taken_all (g.S.ConnSource.log c.args.source.now) read (g.S.ConnSource.log c.profile.new.source) c.in_ok-found.ensures.log)
+returns-in_err-journey-clause-err g c = whole_read c.from_residual-in_err-journey.result _ _ _ c.in_ok-found.ensures.log
 
 pub returns-in_err-push-clause-err : goal.returns-in_err-push-clause-err
-returns-in_err-push-clause-err g c =
-    let read = reverse (window (g.S.ConnSource.timetable c.args.source.now) c.args.query.now) in
-    on_err c.from_residual-in_err-push.result _
-    (length read, taken_all (g.S.ConnSource.log c.args.source.now) read (g.S.ConnSource.log c.profile.new.source) c.in_ok-found.ensures.log)
+returns-in_err-push-clause-err g c = whole_read c.from_residual-in_err-push.result _ _ _ c.in_ok-found.ensures.log
 
 pub loop-i-preserved : goal.loop-i-preserved
 loop-i-preserved g c =
