@@ -11,18 +11,25 @@
 //! | `folder PATH`, `file PATH` | makes a folder, or an empty file |
 //! | `has TEXT`, `crlf TEXT` | the file has one more line, ended by LF, or by CR LF |
 //! | `remove PATH` | takes a file or a folder away, with all that is in it |
+//! | `base` | makes the feed of examples/base, in a folder `base_feed` |
+//! | `with FILE PLACE RECORD` | that file of it is as it was made, but for the record at this place, from 1 behind its header |
 //! | `run WORD ..` | the words of the next command behind the program's name; one in single quotes may have spaces |
+//! | `profile FROM TO AFTER UNTIL BY CRITERION` | the words are those of `csa profile` over the input, with this query |
+//! | `judge FROM TO AFTER UNTIL BY LEG ..` | the words are those of `csa journey` over the input, with this query and these legs |
 //! | `prints TEXT`, `tells TEXT` | one more line that it must print, or tell among its errors |
 //! | `ends STATUS` | runs it: it prints and tells these lines alone, and ends with this status |
+//! | `answers TEXT` | one more line that it must print, and `ends 0` |
+//! | `refuses TEXT` | one more line, `refused` and this text, and `ends 2` |
 //! | `complains STATUS` | runs it: it prints nothing, tells something of its own, and ends with this status |
 //! | `helps` | runs it: it prints something of its own, tells nothing, and ends with status 0 |
 //! | `saves PATH` | puts the bytes of the input into a file |
 //! | `holds PATH` | the file has the bytes of the input |
 //! | `lacks PATH` | there is no such file |
 //!
-//! Each `run` is tried before the next one and before the end, and so is each `prints` and `tells`: one that nothing ran is refused.
+//! Each command is tried before the next one and before the end, and so is each `prints` and `tells`: one that nothing ran is refused.
 
-use crate::running::{Machine, Outcome, outcome_of};
+use crate::tests::base_feed;
+use crate::tests::running::{Machine, Outcome, outcome_of};
 use image_layout::{Words, sample_words, second_sample_words};
 use std::alloc::{AllocError, Global};
 use std::fs;
@@ -165,6 +172,25 @@ fn words_of<'a>(alloc: Global, text: &'a str) -> Result<Vec<&'a str>, AllocError
     Ok(words)
 }
 
+/// The words of a command over the input with a query: its ends, its clocks, and behind them the criterion, or the legs.
+fn asked<'a>(alloc: Global, command: &'a str, text: &'a str) -> Result<Vec<&'a str>, Fail> {
+    let mut words = vec![in alloc; "csa", command, "-"]?;
+    let mut rest = text;
+    for flag in ["--from", "--to", "--after", "--until", "--by"] {
+        let Some((word, more)) = rest.split_once(' ') else {
+            return Err(Fail::new("a query of five words, and what is asked"));
+        };
+        words.push(flag)?;
+        words.push(word)?;
+        rest = more;
+    }
+    if command == "profile" {
+        words.push("--criterion")?;
+    }
+    words.push(rest)?;
+    Ok(words)
+}
+
 fn add_line(text: &mut String, line: &str, end: &str) -> Result<(), AllocError> {
     text.push_str(line)?;
     text.push_str(end)
@@ -228,6 +254,20 @@ fn expect_lines<R: Machine + Net<Listener = TcpListener, Stream = TcpStream> + A
     Ok(())
 }
 
+/// The command prints one more line than stand ready, its last one, and ends well, or with a refusal.
+fn expect_last<R: Machine + Net<Listener = TcpListener, Stream = TcpStream> + Abort>(
+    rt: &R,
+    stage: &mut Stage<'_>,
+    refuses: bool,
+    line: &str,
+) -> Result<(), Fail> {
+    if refuses {
+        stage.printed.push_str("refused ")?;
+    }
+    add_line(&mut stage.printed, line, "\n")?;
+    expect_lines(rt, stage, if refuses { "2" } else { "0" })
+}
+
 /// The command prints something, or tells something, and not both, and ends with a status.
 fn expect_any<R: Machine + Net<Listener = TcpListener, Stream = TcpStream> + Abort>(
     rt: &R,
@@ -282,10 +322,16 @@ fn follow<'a, R: Machine + Net<Listener = TcpListener, Stream = TcpStream> + Abo
         "folder" => Ok(fs::create_dir(rt, rest)?),
         "file" | "has" | "crlf" => write(rt, stage, kind, rest),
         "remove" => remove(rt, rest),
+        "base" => base_feed::make(rt),
+        "with" => base_feed::change(rt, rest),
         "run" => stage.take_words(words_of(rt.alloc(), rest)?),
+        "profile" => stage.take_words(asked(rt.alloc(), "profile", rest)?),
+        "judge" => stage.take_words(asked(rt.alloc(), "journey", rest)?),
         "prints" => Ok(add_line(&mut stage.printed, rest, "\n")?),
         "tells" => Ok(add_line(&mut stage.told, rest, "\n")?),
         "ends" => expect_lines(rt, stage, rest),
+        "answers" => expect_last(rt, stage, false, rest),
+        "refuses" => expect_last(rt, stage, true, rest),
         "complains" => expect_any(rt, stage, false, number(rest)?),
         "helps" => expect_any(rt, stage, true, 0),
         "saves" => {

@@ -1,7 +1,7 @@
 //! `csa serve`: what is told of wrong words. How it serves is tried over the built program (`.ci/server`), and over workers.
 
-use crate::running::outcome_of;
-use crate::transcript::try_lines;
+use crate::tests::running::outcome_of;
+use crate::tests::transcript::try_lines;
 use image_layout::{Words, sample_words};
 use std::alloc::Global;
 use std::net::{Ipv4Addr, TcpListener};
@@ -30,13 +30,11 @@ complains 3
 
 # A zone that is none is told before an image that is none.
 run serve --image - --port 0 --workers 2 --sessions 1 --first 20240115 --days 1 --zone posix:none slow=slow_feed
-prints refused 21 BadZone
-ends 2
+refuses 21 BadZone
 sample
 cut 3
 run serve --image - --port 0 --workers 2 --sessions 1 --first 20240115 --days 1 --zone fixed:0 slow=slow_feed
-prints refused 51 OddLength
-ends 2
+refuses 51 OddLength
 ";
 
 #[test]

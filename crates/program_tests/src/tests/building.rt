@@ -1,42 +1,19 @@
 //! `csa build` over folders: what is counted, what is written, and what is refused.
 
-use crate::transcript::try_lines;
+use crate::tests::transcript::try_lines;
 use std::fs;
 use std::test::Fail;
 
 const BASE: &str = "
 # The feed of examples/base makes the sample in the layout that is written.
-folder built
-file built/agency.txt
-has agency_id,agency_name,agency_url,agency_timezone
-has 1,Base,http://base.example,Etc/UTC
-file built/stops.txt
-has stop_id,stop_name
-has A,A
-has B,B
-has C,C
-file built/trips.txt
-has route_id,service_id,trip_id
-has R,S,T1
-has R,S,T2
-file built/stop_times.txt
-has trip_id,arrival_time,departure_time,stop_id,stop_sequence
-has T1,08:00:00,08:00:00,A,1
-has T1,08:10:00,08:10:00,B,2
-has T1,08:30:00,08:30:00,C,3
-has T2,08:12:00,08:12:00,B,1
-has T2,08:20:00,08:20:00,C,2
-file built/calendar.txt
-has service_id,monday,tuesday,wednesday,thursday,friday,saturday,sunday,start_date,end_date
-has S,1,1,1,1,1,1,1,20240115,20240115
-run build built built.csa --first 20240115 --days 1 --zone fixed:0
-prints stops 3 runs 2 connections 3 footpaths 3 lifted 0 flex 0 frequencies 0 skipped 0
-ends 0
+base
+run build base_feed built.csa --first 20240115 --days 1 --zone fixed:0
+answers stops 3 runs 2 connections 3 footpaths 3 lifted 0 flex 0 frequencies 0 skipped 0
 sample 2
 holds built.csa
 
 # What is done is told beside the counts, each file as it is read.
-run build built built.csa --first 20240115 --days 1 --zone fixed:0 --progress
+run build base_feed built.csa --first 20240115 --days 1 --zone fixed:0 --progress
 prints stops 3 runs 2 connections 3 footpaths 3 lifted 0 flex 0 frequencies 0 skipped 0
 tells csa: reading agency.txt
 tells csa: reading stops.txt
@@ -52,46 +29,40 @@ ends 0
 holds built.csa
 
 # A day begins an hour later in the west.
-run build built built.csa --first 20240115 --days 1 --zone fixed:-3600
-prints stops 3 runs 2 connections 3 footpaths 3 lifted 0 flex 0 frequencies 0 skipped 0
-ends 0
+run build base_feed built.csa --first 20240115 --days 1 --zone fixed:-3600
+answers stops 3 runs 2 connections 3 footpaths 3 lifted 0 flex 0 frequencies 0 skipped 0
 set 7 1705280400
 holds built.csa
 
 # A day that can't be, and a file that can't be written.
-run build built built.csa --first 99991231 --days 2 --zone fixed:0
-prints refused 22 DayOutOfRange
-ends 2
+run build base_feed built.csa --first 99991231 --days 2 --zone fixed:0
+refuses 22 DayOutOfRange
 holds built.csa
-run build built no_such_folder/built.csa --first 20240115 --days 1 --zone fixed:0
+run build base_feed no_such_folder/built.csa --first 20240115 --days 1 --zone fixed:0
 complains 3
 
 # A trip that repeats every twenty minutes until before ten.
-file built/frequencies.txt
+file base_feed/frequencies.txt
 has trip_id,start_time,end_time,headway_secs
 has T1,09:00:00,10:00:00,1200
-run build built built.csa --first 20240115 --days 1 --zone fixed:0
-prints stops 3 runs 4 connections 7 footpaths 3 lifted 0 flex 0 frequencies 1 skipped 0
-ends 0
+run build base_feed built.csa --first 20240115 --days 1 --zone fixed:0
+answers stops 3 runs 4 connections 7 footpaths 3 lifted 0 flex 0 frequencies 1 skipped 0
 run profile built.csa --from A --to C --after 09:00:00 --until 10:00:00 --by 11:00:00 --criterion arrival+trips
 prints dep 09:00:00 arr 09:30:00 trips 1 : ride 1 2
 prints dep 09:20:00 arr 09:50:00 trips 1 : ride 3 4
 prints dep 09:40:00 arr 10:10:00 trips 1 : ride 5 6
-prints points 3 read 6 walk none
-ends 0
-file built/frequencies.txt
+answers points 3 read 6 walk none
+file base_feed/frequencies.txt
 has trip_id,start_time,end_time,headway_secs
 has T1,09:00:00,09:40:00,1200
-run build built built.csa --first 20240115 --days 1 --zone fixed:0
-prints stops 3 runs 3 connections 5 footpaths 3 lifted 0 flex 0 frequencies 1 skipped 0
-ends 0
-file built/frequencies.txt
+run build base_feed built.csa --first 20240115 --days 1 --zone fixed:0
+answers stops 3 runs 3 connections 5 footpaths 3 lifted 0 flex 0 frequencies 1 skipped 0
+file base_feed/frequencies.txt
 has trip_id,start_time,end_time,headway_secs
 has T1,09:00:00,09:40:00,0
-prints refused 18 BadHeadway frequencies.txt 1
-ends 2
+refuses 18 BadHeadway frequencies.txt 1
 remove built.csa
-remove built
+remove base_feed
 ";
 
 #[test]
@@ -124,16 +95,13 @@ file feed/calendar.txt
 has service_id,monday,tuesday,wednesday,thursday,friday,saturday,sunday,start_date,end_date
 has S,1,1,1,1,1,1,1,20240101,20241231
 run build feed feed.csa --first 20240115 --days 1 --zone fixed:0
-prints stops 4 runs 1 connections 3 footpaths 4 lifted 1 flex 0 frequencies 0 skipped 0
-ends 0
+answers stops 4 runs 1 connections 3 footpaths 4 lifted 1 flex 0 frequencies 0 skipped 0
 run profile feed.csa --from B --to C --after 08:00:00 --until 09:00:00 --by 09:00:00 --criterion arrival
 prints dep 08:00:01 arr 08:00:02 : ride 1 1
-prints points 1 read 3 walk none
-ends 0
+answers points 1 read 3 walk none
 remove feed.csa
 run build feed feed.csa --first 20240115 --days 1 --zone fixed:0 --strict
-prints refused 14 HopWithoutDuration stop_times.txt 2
-ends 2
+refuses 14 HopWithoutDuration stop_times.txt 2
 lacks feed.csa
 
 # A trip at eight, and one past midnight, in the night of the change of clocks: the second day starts an hour early, twelve hours before noon.
@@ -152,13 +120,11 @@ has T,08:10:00,08:10:00,B,2
 has N,25:10:00,25:10:00,A,1
 has N,25:20:00,25:20:00,B,2
 run build feed feed.csa --first 20240330 --days 2 --zone posix:CET-1CEST,M3.5.0,M10.5.0/3
-prints stops 2 runs 4 connections 4 footpaths 2 lifted 0 flex 0 frequencies 0 skipped 0
-ends 0
+answers stops 2 runs 4 connections 4 footpaths 2 lifted 0 flex 0 frequencies 0 skipped 0
 run profile feed.csa --from A --to B --after 25:00:00 --until 32:00:00 --by 32:00:00 --criterion arrival
 prints dep 25:10:00 arr 25:20:00 : ride 1 1
 prints dep 31:00:00 arr 31:10:00 : ride 2 2
-prints points 2 read 2 walk none
-ends 0
+answers points 2 read 2 walk none
 
 # Two services, of which the one has one day and the other none.
 file feed/trips.txt
@@ -177,12 +143,10 @@ has service_id,date,exception_type
 has X,20240115,1
 has X,20240116,2
 run build feed feed.csa --first 20240115 --days 2 --zone fixed:0
-prints stops 2 runs 1 connections 1 footpaths 2 lifted 0 flex 0 frequencies 0 skipped 0
-ends 0
+answers stops 2 runs 1 connections 1 footpaths 2 lifted 0 flex 0 frequencies 0 skipped 0
 run profile feed.csa --from A --to B --after 00:00:00 --until 48:00:00 --by 48:00:00 --criterion arrival
 prints dep 08:00:00 arr 08:10:00 : ride 0 0
-prints points 1 read 1 walk none
-ends 0
+answers points 1 read 1 walk none
 
 # Two stops of a station, and nothing that runs: two minutes between them, unless a row has another time, or there is no way.
 file feed/stops.txt
@@ -197,43 +161,34 @@ has trip_id,arrival_time,departure_time,stop_id,stop_sequence
 file feed/transfers.txt
 has from_stop_id,to_stop_id,transfer_type,min_transfer_time
 run build feed feed.csa --first 20240115 --days 1 --zone fixed:0
-prints stops 2 runs 0 connections 0 footpaths 4 lifted 0 flex 0 frequencies 0 skipped 0
-ends 0
+answers stops 2 runs 0 connections 0 footpaths 4 lifted 0 flex 0 frequencies 0 skipped 0
 run profile feed.csa --from P --to Q --after 00:00:00 --until 01:00:00 --by 01:00:00 --criterion arrival
-prints points 0 read 0 walk 120
-ends 0
+answers points 0 read 0 walk 120
 file feed/transfers.txt
 has from_stop_id,to_stop_id,transfer_type,min_transfer_time
 has S,S,2,180
 run build feed feed.csa --first 20240115 --days 1 --zone fixed:0
-prints stops 2 runs 0 connections 0 footpaths 4 lifted 0 flex 0 frequencies 0 skipped 0
-ends 0
+answers stops 2 runs 0 connections 0 footpaths 4 lifted 0 flex 0 frequencies 0 skipped 0
 run profile feed.csa --from P --to Q --after 00:00:00 --until 01:00:00 --by 01:00:00 --criterion arrival
-prints points 0 read 0 walk 180
-ends 0
+answers points 0 read 0 walk 180
 file feed/transfers.txt
 has from_stop_id,to_stop_id,transfer_type,min_transfer_time
 has S,S,2,180
 has P,Q,3,
 run build feed feed.csa --first 20240115 --days 1 --zone fixed:0
-prints stops 2 runs 0 connections 0 footpaths 3 lifted 0 flex 0 frequencies 0 skipped 0
-ends 0
+answers stops 2 runs 0 connections 0 footpaths 3 lifted 0 flex 0 frequencies 0 skipped 0
 run profile feed.csa --from P --to Q --after 00:00:00 --until 01:00:00 --by 01:00:00 --criterion arrival
-prints points 0 read 0 walk none
-ends 0
+answers points 0 read 0 walk none
 remove feed.csa
 remove feed
 
 # The zone is judged before the folder is looked at; a zone file that can't be read is told too.
 run build no_such_feed none.csa --first 20240115 --days 1 --zone fixed:0
-prints refused 1 MissingFile agency.txt 0
-ends 2
+refuses 1 MissingFile agency.txt 0
 run build no_such_feed none.csa --first 20240115 --days 1 --zone fixed:-86399
-prints refused 1 MissingFile agency.txt 0
-ends 2
+refuses 1 MissingFile agency.txt 0
 run build no_such_feed none.csa --first 20240115 --days 1 --zone posix:CET
-prints refused 21 BadZone
-ends 2
+refuses 21 BadZone
 run build no_such_feed none.csa --first 20240115 --days 1 --zone file:no_such_zone
 complains 3
 
@@ -244,8 +199,7 @@ run build unread no_such_folder/unread.csa --first 20240115 --days 1 --zone fixe
 prints refused 101 FileFailed agency.txt
 ends 3
 remove unread/agency.txt
-prints refused 1 MissingFile agency.txt 0
-ends 2
+refuses 1 MissingFile agency.txt 0
 remove unread
 ";
 
@@ -278,16 +232,14 @@ has trip_id,arrival_time,departure_time,stop_id,stop_sequence
 file east/calendar_dates.txt
 has service_id,date,exception_type
 run build east east.csa --first 20240115 --days 1 --zone file:zone_file
-prints stops 1 runs 0 connections 0 footpaths 1 lifted 0 flex 0 frequencies 0 skipped 0
-ends 0
+answers stops 1 runs 0 connections 0 footpaths 1 lifted 0 flex 0 frequencies 0 skipped 0
 image 1346458435 2 1 0 0 1 1 1705273200 0 0 1 0 0 0 1 65
 holds east.csa
 
 # A zone file that is none.
 file zone_file
 has no zone
-prints refused 21 BadZone
-ends 2
+refuses 21 BadZone
 remove zone_file
 remove east.csa
 remove east

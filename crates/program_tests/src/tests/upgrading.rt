@@ -1,25 +1,22 @@
 //! `csa upgrade`: what is written, and what stays as it was.
 
-use crate::transcript::try_lines;
+use crate::tests::transcript::try_lines;
 use std::test::Fail;
 
 const UPGRADES: &str = "
 # An image of the first layout is written in the second; that one, upgraded in its place, stays as it is.
 sample
 run upgrade - new.csa
-prints ok stops 3 trips 2 connections 3 footpaths 3
-ends 0
+answers ok stops 3 trips 2 connections 3 footpaths 3
 sample 2
 holds new.csa
 lacks new.csa.part
 run upgrade new.csa new.csa
-prints ok stops 3 trips 2 connections 3 footpaths 3
-ends 0
+answers ok stops 3 trips 2 connections 3 footpaths 3
 holds new.csa
 lacks new.csa.part
 run verify new.csa
-prints ok stops 3 trips 2 connections 3 footpaths 3
-ends 0
+answers ok stops 3 trips 2 connections 3 footpaths 3
 remove new.csa
 
 # What is refused leaves the file as it was, and so does an image that can't be read.
@@ -28,8 +25,7 @@ saves kept.csa
 sample
 cut 4
 run upgrade - kept.csa
-prints refused 63 BadLength
-ends 2
+refuses 63 BadLength
 image 7
 holds kept.csa
 lacks kept.csa.part

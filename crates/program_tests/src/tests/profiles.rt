@@ -1,99 +1,81 @@
 //! Profiles as a user asks for them: each line, and that `csa journey` accepts each journey that is printed.
 
-use crate::transcript::try_lines;
+use crate::tests::transcript::try_lines;
 use std::fs;
 use std::test::Fail;
 
 const ANSWERS: &str = "
 # The sample: by arrival, and by trips too.
 sample
-run profile - --from A --to C --after 07:00:00 --until 09:00:00 --by 10:00:00 --criterion arrival
+profile A C 07:00:00 09:00:00 10:00:00 arrival
 prints dep 08:00:00 arr 08:20:00 : ride 0 0 walk 1 1 0 ride 2 2
-prints points 1 read 3 walk none
-ends 0
-run profile - --from A --to C --after 07:00:00 --until 09:00:00 --by 10:00:00 --criterion arrival+trips
+answers points 1 read 3 walk none
+profile A C 07:00:00 09:00:00 10:00:00 arrival+trips
 prints dep 08:00:00 arr 08:20:00 trips 2 : ride 0 0 walk 1 1 0 ride 2 2
 prints dep 08:00:00 arr 08:30:00 trips 1 : ride 0 1
-prints points 2 read 3 walk none
-ends 0
-run journey - 'ride 0 0 walk 1 1 0 ride 2 2' --from A --to C --after 07:00:00 --until 09:00:00 --by 10:00:00
-prints ok dep 08:00:00 arr 08:20:00
-ends 0
-run journey - 'ride 0 1' --from A --to C --after 07:00:00 --until 09:00:00 --by 10:00:00
-prints ok dep 08:00:00 arr 08:30:00
-ends 0
+answers points 2 read 3 walk none
+judge A C 07:00:00 09:00:00 10:00:00 ride 0 0 walk 1 1 0 ride 2 2
+answers ok dep 08:00:00 arr 08:20:00
+judge A C 07:00:00 09:00:00 10:00:00 ride 0 1
+answers ok dep 08:00:00 arr 08:30:00
 
 # A change takes as long as the loop at its stop: two minutes are had at B, and a second more isn't.
 set 34 120
-run profile - --from A --to C --after 07:00:00 --until 09:00:00 --by 10:00:00 --criterion arrival
+profile A C 07:00:00 09:00:00 10:00:00 arrival
 prints dep 08:00:00 arr 08:20:00 : ride 0 0 walk 1 1 120 ride 2 2
-prints points 1 read 3 walk none
-ends 0
+answers points 1 read 3 walk none
 set 34 121
 prints dep 08:00:00 arr 08:30:00 : ride 0 1
-prints points 1 read 3 walk none
-ends 0
+answers points 1 read 3 walk none
 set 34 120
-run journey - 'ride 0 0 walk 1 1 120 ride 2 2' --from A --to C --after 07:00:00 --until 09:00:00 --by 10:00:00
-prints ok dep 08:00:00 arr 08:20:00
-ends 0
+judge A C 07:00:00 09:00:00 10:00:00 ride 0 0 walk 1 1 120 ride 2 2
+answers ok dep 08:00:00 arr 08:20:00
 
 # The window cuts departures: nobody sets out by the loop at the source to depart in it.
 sample
-run profile - --from A --to C --after 07:00:00 --until 07:59:59 --by 10:00:00 --criterion arrival
-prints points 0 read 3 walk none
-ends 0
+profile A C 07:00:00 07:59:59 10:00:00 arrival
+answers points 0 read 3 walk none
 set 32 60
-prints points 0 read 3 walk none
-ends 0
+answers points 0 read 3 walk none
 sample
-run profile - --from A --to C --after 07:00:00 --until 08:00:00 --by 10:00:00 --criterion arrival
+profile A C 07:00:00 08:00:00 10:00:00 arrival
 prints dep 08:00:00 arr 08:20:00 : ride 0 0 walk 1 1 0 ride 2 2
-prints points 1 read 3 walk none
-ends 0
+answers points 1 read 3 walk none
 
 # The latest arrival is kept.
-run profile - --from A --to C --after 07:00:00 --until 09:00:00 --by 08:20:00 --criterion arrival
+profile A C 07:00:00 09:00:00 08:20:00 arrival
 prints dep 08:00:00 arr 08:20:00 : ride 0 0 walk 1 1 0 ride 2 2
-prints points 1 read 3 walk none
-ends 0
-run profile - --from A --to C --after 07:00:00 --until 09:00:00 --by 08:19:59 --criterion arrival
-prints points 0 read 3 walk none
-ends 0
+answers points 1 read 3 walk none
+profile A C 07:00:00 09:00:00 08:19:59 arrival
+answers points 0 read 3 walk none
 
 # Without connections none are read.
 image 1346458435 1 3 0 0 3 3 1705276800 0 0 1 2 3 0 0 1 0 2 0 0 1 2 3 4407873
-run profile - --from A --to C --after 07:00:00 --until 09:00:00 --by 10:00:00 --criterion arrival
-prints points 0 read 0 walk none
-ends 0
+profile A C 07:00:00 09:00:00 10:00:00 arrival
+answers points 0 read 0 walk none
 
 # A third trip goes from A to C and arrives as the change does: fewer trips are better.
 image 1346458435 1 3 3 4 3 9 1705276800 0 0 1 28800 29400 0 3 0 2 28800 30000 2 3 1 2 29400 30600 0 3 1 2 29520 30000 1 3 0 1 2 3 0 0 1 0 2 0 0 1 2 3 5 7 9 20240115 20240115 20240115 1413694017 1412584497 51
-run profile - --from A --to C --after 07:00:00 --until 09:00:00 --by 10:00:00 --criterion arrival+trips
+profile A C 07:00:00 09:00:00 10:00:00 arrival+trips
 prints dep 08:00:00 arr 08:20:00 trips 1 : ride 1 1
-prints points 1 read 4 walk none
-ends 0
-run journey - 'ride 1 1' --from A --to C --after 07:00:00 --until 09:00:00 --by 10:00:00
-prints ok dep 08:00:00 arr 08:20:00
-ends 0
+answers points 1 read 4 walk none
+judge A C 07:00:00 09:00:00 10:00:00 ride 1 1
+answers ok dep 08:00:00 arr 08:20:00
 
 # Words of a query are judged: its window, and the name of its criterion.
 sample
-run profile - --from A --to C --after 07:00:00 --until 06:00:00 --by 10:00:00 --criterion arrival
-prints refused 33 BadWindow
-ends 2
-run profile - --from A --to C --after 07:00:00 --until 09:00:00 --by 10:00:00 --criterion walking
+profile A C 07:00:00 06:00:00 10:00:00 arrival
+refuses 33 BadWindow
+profile A C 07:00:00 09:00:00 10:00:00 walking
 complains 64
 
 # The stops are listed by their numbers, all or those with a text in their names.
 run stops -
 prints 0 A
 prints 1 B
-prints 2 C
-ends 0
+answers 2 C
 run stops - B
-prints 1 B
-ends 0
+answers 1 B
 run stops - b
 ends 0
 ";
@@ -106,84 +88,69 @@ fn best_departures_are_printed(rt: HostRuntime) -> Result<(), Fail> {
 const WALKS: &str = "
 # A footpath from A to B of two minutes: who may set out later walks to the second trip; who may not has two best departures.
 image 1346458435 1 3 2 3 4 7 1705276800 0 0 1 28800 29400 0 3 1 2 29400 30600 0 3 1 2 29520 30000 1 3 0 1 3 4 0 0 0 120 1 0 2 0 0 1 2 3 5 7 20240115 20240115 1413694017 3298353
-run profile - --from A --to C --after 07:00:00 --until 09:00:00 --by 10:00:00 --criterion arrival
+profile A C 07:00:00 09:00:00 10:00:00 arrival
 prints dep 08:10:00 arr 08:20:00 : walk 0 1 120 ride 2 2
-prints points 1 read 3 walk none
-ends 0
-run journey - 'walk 0 1 120 ride 2 2' --from A --to C --after 07:00:00 --until 09:00:00 --by 10:00:00
-prints ok dep 08:10:00 arr 08:20:00
-ends 0
-run profile - --from A --to C --after 07:00:00 --until 08:09:59 --by 10:00:00 --criterion arrival
+answers points 1 read 3 walk none
+judge A C 07:00:00 09:00:00 10:00:00 walk 0 1 120 ride 2 2
+answers ok dep 08:10:00 arr 08:20:00
+profile A C 07:00:00 08:09:59 10:00:00 arrival
 prints dep 08:00:00 arr 08:20:00 : ride 0 0 walk 1 1 0 ride 2 2
 prints dep 08:08:00 arr 08:30:00 : walk 0 1 120 ride 1 1
-prints points 2 read 3 walk none
-ends 0
-run journey - 'walk 0 1 120 ride 1 1' --from A --to C --after 07:00:00 --until 09:00:00 --by 10:00:00
-prints ok dep 08:08:00 arr 08:30:00
-ends 0
-run profile - --from A --to C --after 07:00:00 --until 08:09:59 --by 10:00:00 --criterion arrival+trips+walk
+answers points 2 read 3 walk none
+judge A C 07:00:00 09:00:00 10:00:00 walk 0 1 120 ride 1 1
+answers ok dep 08:08:00 arr 08:30:00
+profile A C 07:00:00 08:09:59 10:00:00 arrival+trips+walk
 prints dep 08:00:00 arr 08:20:00 trips 2 walked 0 : ride 0 0 walk 1 1 0 ride 2 2
 prints dep 08:00:00 arr 08:30:00 trips 1 walked 0 : ride 0 1
 prints dep 08:08:00 arr 08:30:00 trips 1 walked 120 : walk 0 1 120 ride 1 1
-prints points 3 read 3 walk none
-ends 0
+answers points 3 read 3 walk none
 
 # Footpaths of a minute from A to B and from B to C, and of two from A to C: the direct one is told beside the answer, and takes nothing out of it.
 image 1346458435 1 3 2 3 6 7 1705276800 0 0 1 28800 29400 0 3 1 2 29400 30600 0 3 1 2 29520 30000 1 3 0 1 3 6 0 0 0 60 1 0 0 120 1 60 2 0 0 1 2 3 5 7 20240115 20240115 1413694017 3298353
-run profile - --from A --to C --after 07:00:00 --until 09:00:00 --by 10:00:00 --criterion arrival
+profile A C 07:00:00 09:00:00 10:00:00 arrival
 prints dep 08:00:00 arr 08:11:00 : ride 0 0 walk 1 2 60
 prints dep 08:11:00 arr 08:20:00 : walk 0 1 60 ride 2 2
-prints points 2 read 3 walk 120
-ends 0
-run journey - 'ride 0 0 walk 1 2 60' --from A --to C --after 07:00:00 --until 09:00:00 --by 10:00:00
-prints ok dep 08:00:00 arr 08:11:00
-ends 0
-run journey - 'walk 0 1 60 ride 2 2' --from A --to C --after 07:00:00 --until 09:00:00 --by 10:00:00
-prints ok dep 08:11:00 arr 08:20:00
-ends 0
+answers points 2 read 3 walk 120
+judge A C 07:00:00 09:00:00 10:00:00 ride 0 0 walk 1 2 60
+answers ok dep 08:00:00 arr 08:11:00
+judge A C 07:00:00 09:00:00 10:00:00 walk 0 1 60 ride 2 2
+answers ok dep 08:11:00 arr 08:20:00
 
 # As a reply of a session, which has no names.
 run profile - --from A --to C --after 07:00:00 --until 09:00:00 --by 10:00:00 --criterion arrival+trips --json
-prints {\"ok\":\"profile\",\"points\":[{\"arr\":\"08:11:00\",\"dep\":\"08:00:00\",\"journey\":\"ride 0 0 walk 1 2 60\",\"trips\":1},{\"arr\":\"08:20:00\",\"dep\":\"08:11:00\",\"journey\":\"walk 0 1 60 ride 2 2\",\"trips\":1}],\"version\":1,\"walk\":120}
-ends 0
+answers {\"ok\":\"profile\",\"points\":[{\"arr\":\"08:11:00\",\"dep\":\"08:00:00\",\"journey\":\"ride 0 0 walk 1 2 60\",\"trips\":1},{\"arr\":\"08:20:00\",\"dep\":\"08:11:00\",\"journey\":\"walk 0 1 60 ride 2 2\",\"trips\":1}],\"version\":1,\"walk\":120}
 run profile - --from A --to C --after 07:00:00 --until 09:00:00 --by 10:00:00 --criterion arrival+trips --json --names
 complains 64
 
 # A footpath from B to C of a quarter of an hour: each footpath counts; by trips alone the walk is preferred.
 image 1346458435 1 3 2 3 4 7 1705276800 0 0 1 28800 29400 0 3 1 2 29400 30600 0 3 1 2 29520 30000 1 3 0 1 2 4 0 0 1 0 1 900 2 0 0 1 2 3 5 7 20240115 20240115 1413694017 3298353
-run profile - --from A --to C --after 07:00:00 --until 09:00:00 --by 10:00:00 --criterion arrival+trips+walk
+profile A C 07:00:00 09:00:00 10:00:00 arrival+trips+walk
 prints dep 08:00:00 arr 08:20:00 trips 2 walked 0 : ride 0 0 walk 1 1 0 ride 2 2
 prints dep 08:00:00 arr 08:25:00 trips 1 walked 900 : ride 0 0 walk 1 2 900
 prints dep 08:00:00 arr 08:30:00 trips 1 walked 0 : ride 0 1
-prints points 3 read 3 walk none
-ends 0
-run profile - --from A --to C --after 07:00:00 --until 09:00:00 --by 10:00:00 --criterion arrival+trips
+answers points 3 read 3 walk none
+profile A C 07:00:00 09:00:00 10:00:00 arrival+trips
 prints dep 08:00:00 arr 08:20:00 trips 2 : ride 0 0 walk 1 1 0 ride 2 2
 prints dep 08:00:00 arr 08:25:00 trips 1 : ride 0 0 walk 1 2 900
-prints points 2 read 3 walk none
-ends 0
-run journey - 'ride 0 0 walk 1 2 900' --from A --to C --after 07:00:00 --until 09:00:00 --by 10:00:00
-prints ok dep 08:00:00 arr 08:25:00
-ends 0
+answers points 2 read 3 walk none
+judge A C 07:00:00 09:00:00 10:00:00 ride 0 0 walk 1 2 900
+answers ok dep 08:00:00 arr 08:25:00
 
 # By names: of trips and stops, and when each trip is boarded and left; a walk keeps its seconds.
 run profile - --from A --to C --after 07:00:00 --until 09:00:00 --by 10:00:00 --criterion arrival+trips --names
 prints dep 08:00:00 arr 08:20:00 trips 2 : ride T1 08:00:00 A 08:10:00 B walk B B 0 ride T2 08:12:00 B 08:20:00 C
 prints dep 08:00:00 arr 08:25:00 trips 1 : ride T1 08:00:00 A 08:10:00 B walk B C 900
-prints points 2 read 3 walk none
-ends 0
+answers points 2 read 3 walk none
 
 # The loop of a change counts too.
 sample
 set 34 60
-run profile - --from A --to C --after 07:00:00 --until 09:00:00 --by 10:00:00 --criterion arrival+trips+walk
+profile A C 07:00:00 09:00:00 10:00:00 arrival+trips+walk
 prints dep 08:00:00 arr 08:20:00 trips 2 walked 60 : ride 0 0 walk 1 1 60 ride 2 2
 prints dep 08:00:00 arr 08:30:00 trips 1 walked 0 : ride 0 1
-prints points 2 read 3 walk none
-ends 0
-run journey - 'ride 0 0 walk 1 1 60 ride 2 2' --from A --to C --after 07:00:00 --until 09:00:00 --by 10:00:00
-prints ok dep 08:00:00 arr 08:20:00
-ends 0
+answers points 2 read 3 walk none
+judge A C 07:00:00 09:00:00 10:00:00 ride 0 0 walk 1 1 60 ride 2 2
+answers ok dep 08:00:00 arr 08:20:00
 ";
 
 #[test]
@@ -195,8 +162,7 @@ const DRAWN: &str = "
 sample
 run profile - --from A --to C --after 07:00:00 --until 09:00:00 --by 10:00:00 --criterion arrival --picture answer.svg
 prints dep 08:00:00 arr 08:20:00 : ride 0 0 walk 1 1 0 ride 2 2
-prints points 1 read 3 walk none
-ends 0
+answers points 1 read 3 walk none
 run profile - --from A --to C --after 07:00:00 --until 09:00:00 --by 10:00:00 --criterion arrival --picture none/answer.svg
 complains 3
 ";

@@ -1,6 +1,6 @@
 //! Command lines that ask for nothing, or for help.
 
-use crate::transcript::try_lines;
+use crate::tests::transcript::try_lines;
 use std::test::Fail;
 
 const COMMAND_LINES: &str = "

@@ -1,0 +1,14 @@
+//! `transcript` has the forms of transcripts, `running` runs a command for them, and `base_feed` is the feed that most of them change.
+
+mod base_feed;
+mod building;
+mod checking;
+mod command_lines;
+mod hostile_images;
+mod profiles;
+mod running;
+mod serving;
+mod tables;
+mod town_journeys;
+mod transcript;
+mod upgrading;
