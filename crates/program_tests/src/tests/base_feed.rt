@@ -8,10 +8,12 @@ use std::test::Fail;
 /// The lines of one of its files.
 fn lines_of(file: &str) -> &'static str {
     match file {
-        "agency.txt" => "agency_id,agency_name,agency_url,agency_timezone\n1,Base,http://base.example,Etc/UTC",
+        "agency.txt" =>
+            "agency_id,agency_name,agency_url,agency_timezone\n1,Base,http://base.example,Etc/UTC",
         "stops.txt" => "stop_id,stop_name\nA,A\nB,B\nC,C",
         "trips.txt" => "route_id,service_id,trip_id\nR,S,T1\nR,S,T2",
-        "calendar.txt" => "service_id,monday,tuesday,wednesday,thursday,friday,saturday,sunday,start_date,end_date\nS,1,1,1,1,1,1,1,20240115,20240115",
+        "calendar.txt" =>
+            "service_id,monday,tuesday,wednesday,thursday,friday,saturday,sunday,start_date,end_date\nS,1,1,1,1,1,1,1,20240115,20240115",
         _ => "trip_id,arrival_time,departure_time,stop_id,stop_sequence
 T1,08:00:00,08:00:00,A,1
 T1,08:10:00,08:10:00,B,2
@@ -22,12 +24,7 @@ T2,08:20:00,08:20:00,C,2",
 }
 
 /// Lines of which the one at a place, from 0 for the first, is another; each is ended.
-fn changed(
-    alloc: Global,
-    lines: &str,
-    mut place: u32,
-    record: &str,
-) -> Result<String, AllocError> {
+fn changed(alloc: Global, lines: &str, mut place: u32, record: &str) -> Result<String, AllocError> {
     let mut text = String::new(alloc);
     for line in lines.split('\n') {
         text.push_str(if place == 0 { record } else { line })?;
@@ -45,7 +42,13 @@ fn write<R: Machine>(rt: &R, file: &str, text: &str) -> Result<(), Fail> {
 /// Makes the folder, and its files.
 pub(crate) fn make<R: Machine>(rt: &R) -> Result<(), Fail> {
     fs::create_dir(rt, "base_feed")?;
-    for file in ["agency.txt", "stops.txt", "trips.txt", "calendar.txt", "stop_times.txt"] {
+    for file in [
+        "agency.txt",
+        "stops.txt",
+        "trips.txt",
+        "calendar.txt",
+        "stop_times.txt",
+    ] {
         write(rt, file, lines_of(file))?;
     }
     Ok(())
