@@ -36,15 +36,13 @@ holds built.csa
 
 # A day that can't be, and a file that can't be written.
 run build base_feed built.csa --first 99991231 --days 2 --zone fixed:0
-refuses 22 DayOutOfRange
+answers refused 22 DayOutOfRange
 holds built.csa
 run build base_feed no_such_folder/built.csa --first 20240115 --days 1 --zone fixed:0
 complains 3
 
 # A trip that repeats every twenty minutes until before ten.
-file base_feed/frequencies.txt
-has trip_id,start_time,end_time,headway_secs
-has T1,09:00:00,10:00:00,1200
+rows base_feed/frequencies.txt trip_id,start_time,end_time,headway_secs | T1,09:00:00,10:00:00,1200
 run build base_feed built.csa --first 20240115 --days 1 --zone fixed:0
 answers stops 3 runs 4 connections 7 footpaths 3 lifted 0 flex 0 frequencies 1 skipped 0
 run profile built.csa --from A --to C --after 09:00:00 --until 10:00:00 --by 11:00:00 --criterion arrival+trips
@@ -52,15 +50,11 @@ prints dep 09:00:00 arr 09:30:00 trips 1 : ride 1 2
 prints dep 09:20:00 arr 09:50:00 trips 1 : ride 3 4
 prints dep 09:40:00 arr 10:10:00 trips 1 : ride 5 6
 answers points 3 read 6 walk none
-file base_feed/frequencies.txt
-has trip_id,start_time,end_time,headway_secs
-has T1,09:00:00,09:40:00,1200
+rows base_feed/frequencies.txt trip_id,start_time,end_time,headway_secs | T1,09:00:00,09:40:00,1200
 run build base_feed built.csa --first 20240115 --days 1 --zone fixed:0
 answers stops 3 runs 3 connections 5 footpaths 3 lifted 0 flex 0 frequencies 1 skipped 0
-file base_feed/frequencies.txt
-has trip_id,start_time,end_time,headway_secs
-has T1,09:00:00,09:40:00,0
-refuses 18 BadHeadway frequencies.txt 1
+rows base_feed/frequencies.txt trip_id,start_time,end_time,headway_secs | T1,09:00:00,09:40:00,0
+answers refused 18 BadHeadway frequencies.txt 1
 remove built.csa
 remove base_feed
 ";
@@ -73,27 +67,11 @@ fn the_base_feed_is_built(rt: HostRuntime) -> Result<(), Fail> {
 const FEEDS: &str = "
 # One trip that stands still for a while, as its times are told: each hop takes a second at least, or is refused.
 folder feed
-file feed/agency.txt
-has agency_timezone
-has Etc/UTC
-file feed/stops.txt
-has stop_id
-has A
-has B
-has C
-has D
-file feed/trips.txt
-has service_id,trip_id
-has S,T
-file feed/stop_times.txt
-has trip_id,arrival_time,departure_time,stop_id,stop_sequence
-has T,08:00:00,08:00:00,A,1
-has T,08:00:00,08:00:00,B,2
-has T,08:00:00,08:00:00,C,3
-has T,08:01:00,08:01:00,D,4
-file feed/calendar.txt
-has service_id,monday,tuesday,wednesday,thursday,friday,saturday,sunday,start_date,end_date
-has S,1,1,1,1,1,1,1,20240101,20241231
+rows feed/agency.txt agency_timezone | Etc/UTC
+rows feed/stops.txt stop_id | A | B | C | D
+rows feed/trips.txt service_id,trip_id | S,T
+rows feed/stop_times.txt trip_id,arrival_time,departure_time,stop_id,stop_sequence | T,08:00:00,08:00:00,A,1 | T,08:00:00,08:00:00,B,2 | T,08:00:00,08:00:00,C,3 | T,08:01:00,08:01:00,D,4
+rows feed/calendar.txt service_id,monday,tuesday,wednesday,thursday,friday,saturday,sunday,start_date,end_date | S,1,1,1,1,1,1,1,20240101,20241231
 run build feed feed.csa --first 20240115 --days 1 --zone fixed:0
 answers stops 4 runs 1 connections 3 footpaths 4 lifted 1 flex 0 frequencies 0 skipped 0
 run profile feed.csa --from B --to C --after 08:00:00 --until 09:00:00 --by 09:00:00 --criterion arrival
@@ -101,24 +79,13 @@ prints dep 08:00:01 arr 08:00:02 : ride 1 1
 answers points 1 read 3 walk none
 remove feed.csa
 run build feed feed.csa --first 20240115 --days 1 --zone fixed:0 --strict
-refuses 14 HopWithoutDuration stop_times.txt 2
+answers refused 14 HopWithoutDuration stop_times.txt 2
 lacks feed.csa
 
 # A trip at eight, and one past midnight, in the night of the change of clocks: the second day starts an hour early, twelve hours before noon.
-file feed/stops.txt
-has stop_id
-has A
-has B
-file feed/trips.txt
-has service_id,trip_id
-has S,T
-has S,N
-file feed/stop_times.txt
-has trip_id,arrival_time,departure_time,stop_id,stop_sequence
-has T,08:00:00,08:00:00,A,1
-has T,08:10:00,08:10:00,B,2
-has N,25:10:00,25:10:00,A,1
-has N,25:20:00,25:20:00,B,2
+rows feed/stops.txt stop_id | A | B
+rows feed/trips.txt service_id,trip_id | S,T | S,N
+rows feed/stop_times.txt trip_id,arrival_time,departure_time,stop_id,stop_sequence | T,08:00:00,08:00:00,A,1 | T,08:10:00,08:10:00,B,2 | N,25:10:00,25:10:00,A,1 | N,25:20:00,25:20:00,B,2
 run build feed feed.csa --first 20240330 --days 2 --zone posix:CET-1CEST,M3.5.0,M10.5.0/3
 answers stops 2 runs 4 connections 4 footpaths 2 lifted 0 flex 0 frequencies 0 skipped 0
 run profile feed.csa --from A --to B --after 25:00:00 --until 32:00:00 --by 32:00:00 --criterion arrival
@@ -127,21 +94,10 @@ prints dep 31:00:00 arr 31:10:00 : ride 2 2
 answers points 2 read 2 walk none
 
 # Two services, of which the one has one day and the other none.
-file feed/trips.txt
-has service_id,trip_id
-has X,T
-has Y,U
-file feed/stop_times.txt
-has trip_id,arrival_time,departure_time,stop_id,stop_sequence
-has T,08:00:00,08:00:00,A,1
-has T,08:10:00,08:10:00,B,2
-has U,09:00:00,09:00:00,A,1
-has U,09:10:00,09:10:00,B,2
+rows feed/trips.txt service_id,trip_id | X,T | Y,U
+rows feed/stop_times.txt trip_id,arrival_time,departure_time,stop_id,stop_sequence | T,08:00:00,08:00:00,A,1 | T,08:10:00,08:10:00,B,2 | U,09:00:00,09:00:00,A,1 | U,09:10:00,09:10:00,B,2
 remove feed/calendar.txt
-file feed/calendar_dates.txt
-has service_id,date,exception_type
-has X,20240115,1
-has X,20240116,2
+rows feed/calendar_dates.txt service_id,date,exception_type | X,20240115,1 | X,20240116,2
 run build feed feed.csa --first 20240115 --days 2 --zone fixed:0
 answers stops 2 runs 1 connections 1 footpaths 2 lifted 0 flex 0 frequencies 0 skipped 0
 run profile feed.csa --from A --to B --after 00:00:00 --until 48:00:00 --by 48:00:00 --criterion arrival
@@ -149,32 +105,20 @@ prints dep 08:00:00 arr 08:10:00 : ride 0 0
 answers points 1 read 1 walk none
 
 # Two stops of a station, and nothing that runs: two minutes between them, unless a row has another time, or there is no way.
-file feed/stops.txt
-has stop_id,location_type,parent_station
-has S,1,
-has P,0,S
-has Q,0,S
-file feed/trips.txt
-has service_id,trip_id
-file feed/stop_times.txt
-has trip_id,arrival_time,departure_time,stop_id,stop_sequence
-file feed/transfers.txt
-has from_stop_id,to_stop_id,transfer_type,min_transfer_time
+rows feed/stops.txt stop_id,location_type,parent_station | S,1, | P,0,S | Q,0,S
+rows feed/trips.txt service_id,trip_id
+rows feed/stop_times.txt trip_id,arrival_time,departure_time,stop_id,stop_sequence
+rows feed/transfers.txt from_stop_id,to_stop_id,transfer_type,min_transfer_time
 run build feed feed.csa --first 20240115 --days 1 --zone fixed:0
 answers stops 2 runs 0 connections 0 footpaths 4 lifted 0 flex 0 frequencies 0 skipped 0
 run profile feed.csa --from P --to Q --after 00:00:00 --until 01:00:00 --by 01:00:00 --criterion arrival
 answers points 0 read 0 walk 120
-file feed/transfers.txt
-has from_stop_id,to_stop_id,transfer_type,min_transfer_time
-has S,S,2,180
+rows feed/transfers.txt from_stop_id,to_stop_id,transfer_type,min_transfer_time | S,S,2,180
 run build feed feed.csa --first 20240115 --days 1 --zone fixed:0
 answers stops 2 runs 0 connections 0 footpaths 4 lifted 0 flex 0 frequencies 0 skipped 0
 run profile feed.csa --from P --to Q --after 00:00:00 --until 01:00:00 --by 01:00:00 --criterion arrival
 answers points 0 read 0 walk 180
-file feed/transfers.txt
-has from_stop_id,to_stop_id,transfer_type,min_transfer_time
-has S,S,2,180
-has P,Q,3,
+rows feed/transfers.txt from_stop_id,to_stop_id,transfer_type,min_transfer_time | S,S,2,180 | P,Q,3,
 run build feed feed.csa --first 20240115 --days 1 --zone fixed:0
 answers stops 2 runs 0 connections 0 footpaths 3 lifted 0 flex 0 frequencies 0 skipped 0
 run profile feed.csa --from P --to Q --after 00:00:00 --until 01:00:00 --by 01:00:00 --criterion arrival
@@ -184,11 +128,11 @@ remove feed
 
 # The zone is judged before the folder is looked at; a zone file that can't be read is told too.
 run build no_such_feed none.csa --first 20240115 --days 1 --zone fixed:0
-refuses 1 MissingFile agency.txt 0
+answers refused 1 MissingFile agency.txt 0
 run build no_such_feed none.csa --first 20240115 --days 1 --zone fixed:-86399
-refuses 1 MissingFile agency.txt 0
+answers refused 1 MissingFile agency.txt 0
 run build no_such_feed none.csa --first 20240115 --days 1 --zone posix:CET
-refuses 21 BadZone
+answers refused 21 BadZone
 run build no_such_feed none.csa --first 20240115 --days 1 --zone file:no_such_zone
 complains 3
 
@@ -199,7 +143,7 @@ run build unread no_such_folder/unread.csa --first 20240115 --days 1 --zone fixe
 prints refused 101 FileFailed agency.txt
 ends 3
 remove unread/agency.txt
-refuses 1 MissingFile agency.txt 0
+answers refused 1 MissingFile agency.txt 0
 remove unread
 ";
 
@@ -219,27 +163,19 @@ TZif2\0\0\0\0\0\0\0\0\0\0\0\0\0\0\0\
 const ZONE_FILE: &str = "
 # One stop, and a day that begins an hour earlier in the east, by a zone file.
 folder east
-file east/agency.txt
-has agency_timezone
-has Etc/UTC
-file east/stops.txt
-has stop_id
-has A
-file east/trips.txt
-has service_id,trip_id
-file east/stop_times.txt
-has trip_id,arrival_time,departure_time,stop_id,stop_sequence
-file east/calendar_dates.txt
-has service_id,date,exception_type
+rows east/agency.txt agency_timezone | Etc/UTC
+rows east/stops.txt stop_id | A
+rows east/trips.txt service_id,trip_id
+rows east/stop_times.txt trip_id,arrival_time,departure_time,stop_id,stop_sequence
+rows east/calendar_dates.txt service_id,date,exception_type
 run build east east.csa --first 20240115 --days 1 --zone file:zone_file
 answers stops 1 runs 0 connections 0 footpaths 1 lifted 0 flex 0 frequencies 0 skipped 0
 image 1346458435 2 1 0 0 1 1 1705273200 0 0 1 0 0 0 1 65
 holds east.csa
 
 # A zone file that is none.
-file zone_file
-has no zone
-refuses 21 BadZone
+rows zone_file no zone
+answers refused 21 BadZone
 remove zone_file
 remove east.csa
 remove east

@@ -22,18 +22,16 @@ answers ok stops 3 trips 0 connections 0 footpaths 3
 
 # The words of connections 1 and 2 exchanged.
 image 1346458435 1 3 2 3 3 7 1705276800 0 0 1 28800 29400 0 3 1 2 29520 30000 1 3 1 2 29400 30600 0 3 0 1 2 3 0 0 1 0 2 0 0 1 2 3 5 7 20240115 20240115 1413694017 3298353
-refuses 67 Unsorted 2
+answers refused 67 Unsorted 2
 
 # A connection that arrives when it departs.
-sample
-set 24 29520
-refuses 66 HopWithoutDuration 2
+word 24 29520 | refused 66 HopWithoutDuration 2
 
 # Footpaths from A to B and from B to C of 60 s, and none from A to C, one that takes too long, and one that doesn't.
 image 1346458435 1 3 2 3 5 7 1705276800 0 0 1 28800 29400 0 3 1 2 29400 30600 0 3 1 2 29520 30000 1 3 0 1 3 5 0 0 0 60 1 0 1 60 2 0 0 1 2 3 5 7 20240115 20240115 1413694017 3298353
-refuses 74 NotClosed 0 1 2
+answers refused 74 NotClosed 0 1 2
 image 1346458435 1 3 2 3 6 7 1705276800 0 0 1 28800 29400 0 3 1 2 29400 30600 0 3 1 2 29520 30000 1 3 0 1 3 6 0 0 0 60 1 0 0 121 1 60 2 0 0 1 2 3 5 7 20240115 20240115 1413694017 3298353
-refuses 74 NotClosed 0 1 2
+answers refused 74 NotClosed 0 1 2
 set 38 120
 answers ok stops 3 trips 2 connections 3 footpaths 6
 
@@ -42,18 +40,18 @@ sample
 cut 188
 answers ok stops 3 trips 2 connections 3 footpaths 3
 cut 187
-refuses 51 OddLength
+answers refused 51 OddLength
 cut 184
-refuses 63 BadLength
+answers refused 63 BadLength
 cut 0
-refuses 63 BadLength
+answers refused 63 BadLength
 
 # More words than are read at once.
 zeros 50001
 cut 200003
-refuses 51 OddLength
+answers refused 51 OddLength
 cut 200000
-refuses 61 BadMagic
+answers refused 61 BadMagic
 ";
 
 #[test]
@@ -64,37 +62,26 @@ fn images_are_verified(rt: HostRuntime) -> Result<(), Fail> {
 const JOURNEYS: &str = "
 # By the change at B, and straight on.
 sample
-judge A C 07:00:00 09:00:00 10:00:00 ride 0 0 walk 1 1 0 ride 2 2
-answers ok dep 08:00:00 arr 08:20:00
-judge A C 07:00:00 09:00:00 10:00:00 ride 0 1
-answers ok dep 08:00:00 arr 08:30:00
+judge A C 07:00:00 09:00:00 10:00:00 ride 0 0 walk 1 1 0 ride 2 2 | ok dep 08:00:00 arr 08:20:00
+judge A C 07:00:00 09:00:00 10:00:00 ride 0 1 | ok dep 08:00:00 arr 08:30:00
 
 # No walk at the change; connections of two trips in one ride; a connection that isn't; no ride.
-judge A C 07:00:00 09:00:00 10:00:00 ride 0 0 ride 2 2
-refuses 85 WalkBroken 1
-judge A C 07:00:00 09:00:00 10:00:00 ride 0 2
-refuses 82 TwoTrips 0
-judge A C 07:00:00 09:00:00 10:00:00 ride 0 3
-refuses 81 LegRange 0
-judge A C 07:00:00 09:00:00 10:00:00 walk 0 0 0
-refuses 80 BadText
+judge A C 07:00:00 09:00:00 10:00:00 ride 0 0 ride 2 2 | refused 85 WalkBroken 1
+judge A C 07:00:00 09:00:00 10:00:00 ride 0 2 | refused 82 TwoTrips 0
+judge A C 07:00:00 09:00:00 10:00:00 ride 0 3 | refused 81 LegRange 0
+judge A C 07:00:00 09:00:00 10:00:00 walk 0 0 0 | refused 80 BadText
 
 # A change at B that takes 121 s.
 set 34 121
-judge A C 07:00:00 09:00:00 10:00:00 ride 0 0 walk 1 1 121 ride 2 2
-refuses 86 TooEarly 1
-judge A C 07:00:00 09:00:00 10:00:00 ride 0 0 walk 1 1 0 ride 2 2
-refuses 89 NoFootpath 1
+judge A C 07:00:00 09:00:00 10:00:00 ride 0 0 walk 1 1 121 ride 2 2 | refused 86 TooEarly 1
+judge A C 07:00:00 09:00:00 10:00:00 ride 0 0 walk 1 1 0 ride 2 2 | refused 89 NoFootpath 1
 
 # The query is judged before the text: its window, its stops, and first of all the forms of its words.
 sample
-judge A C 07:00:00 06:00:00 10:00:00 no journey
-refuses 33 BadWindow
-judge A A 07:00:00 09:00:00 10:00:00 no journey
-refuses 32 SameStop
-judge A D 07:00:00 09:00:00 10:00:00 no journey
-refuses 31 UnknownStop
-judge A D 07:00:00 9:0:0 10:00:00 no journey
+judge A C 07:00:00 06:00:00 10:00:00 no journey | refused 33 BadWindow
+judge A A 07:00:00 09:00:00 10:00:00 no journey | refused 32 SameStop
+judge A D 07:00:00 09:00:00 10:00:00 no journey | refused 31 UnknownStop
+run journey - 'no journey' --from A --to D --after 07:00:00 --until 9:0:0 --by 10:00:00
 complains 64
 ";
 

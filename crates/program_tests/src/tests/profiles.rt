@@ -14,10 +14,8 @@ profile A C 07:00:00 09:00:00 10:00:00 arrival+trips
 prints dep 08:00:00 arr 08:20:00 trips 2 : ride 0 0 walk 1 1 0 ride 2 2
 prints dep 08:00:00 arr 08:30:00 trips 1 : ride 0 1
 answers points 2 read 3 walk none
-judge A C 07:00:00 09:00:00 10:00:00 ride 0 0 walk 1 1 0 ride 2 2
-answers ok dep 08:00:00 arr 08:20:00
-judge A C 07:00:00 09:00:00 10:00:00 ride 0 1
-answers ok dep 08:00:00 arr 08:30:00
+judge A C 07:00:00 09:00:00 10:00:00 ride 0 0 walk 1 1 0 ride 2 2 | ok dep 08:00:00 arr 08:20:00
+judge A C 07:00:00 09:00:00 10:00:00 ride 0 1 | ok dep 08:00:00 arr 08:30:00
 
 # A change takes as long as the loop at its stop: two minutes are had at B, and a second more isn't.
 set 34 120
@@ -28,8 +26,7 @@ set 34 121
 prints dep 08:00:00 arr 08:30:00 : ride 0 1
 answers points 1 read 3 walk none
 set 34 120
-judge A C 07:00:00 09:00:00 10:00:00 ride 0 0 walk 1 1 120 ride 2 2
-answers ok dep 08:00:00 arr 08:20:00
+judge A C 07:00:00 09:00:00 10:00:00 ride 0 0 walk 1 1 120 ride 2 2 | ok dep 08:00:00 arr 08:20:00
 
 # The window cuts departures: nobody sets out by the loop at the source to depart in it.
 sample
@@ -59,13 +56,12 @@ image 1346458435 1 3 3 4 3 9 1705276800 0 0 1 28800 29400 0 3 0 2 28800 30000 2 
 profile A C 07:00:00 09:00:00 10:00:00 arrival+trips
 prints dep 08:00:00 arr 08:20:00 trips 1 : ride 1 1
 answers points 1 read 4 walk none
-judge A C 07:00:00 09:00:00 10:00:00 ride 1 1
-answers ok dep 08:00:00 arr 08:20:00
+judge A C 07:00:00 09:00:00 10:00:00 ride 1 1 | ok dep 08:00:00 arr 08:20:00
 
 # Words of a query are judged: its window, and the name of its criterion.
 sample
 profile A C 07:00:00 06:00:00 10:00:00 arrival
-refuses 33 BadWindow
+answers refused 33 BadWindow
 profile A C 07:00:00 09:00:00 10:00:00 walking
 complains 64
 
@@ -91,14 +87,12 @@ image 1346458435 1 3 2 3 4 7 1705276800 0 0 1 28800 29400 0 3 1 2 29400 30600 0 
 profile A C 07:00:00 09:00:00 10:00:00 arrival
 prints dep 08:10:00 arr 08:20:00 : walk 0 1 120 ride 2 2
 answers points 1 read 3 walk none
-judge A C 07:00:00 09:00:00 10:00:00 walk 0 1 120 ride 2 2
-answers ok dep 08:10:00 arr 08:20:00
+judge A C 07:00:00 09:00:00 10:00:00 walk 0 1 120 ride 2 2 | ok dep 08:10:00 arr 08:20:00
 profile A C 07:00:00 08:09:59 10:00:00 arrival
 prints dep 08:00:00 arr 08:20:00 : ride 0 0 walk 1 1 0 ride 2 2
 prints dep 08:08:00 arr 08:30:00 : walk 0 1 120 ride 1 1
 answers points 2 read 3 walk none
-judge A C 07:00:00 09:00:00 10:00:00 walk 0 1 120 ride 1 1
-answers ok dep 08:08:00 arr 08:30:00
+judge A C 07:00:00 09:00:00 10:00:00 walk 0 1 120 ride 1 1 | ok dep 08:08:00 arr 08:30:00
 profile A C 07:00:00 08:09:59 10:00:00 arrival+trips+walk
 prints dep 08:00:00 arr 08:20:00 trips 2 walked 0 : ride 0 0 walk 1 1 0 ride 2 2
 prints dep 08:00:00 arr 08:30:00 trips 1 walked 0 : ride 0 1
@@ -111,10 +105,8 @@ profile A C 07:00:00 09:00:00 10:00:00 arrival
 prints dep 08:00:00 arr 08:11:00 : ride 0 0 walk 1 2 60
 prints dep 08:11:00 arr 08:20:00 : walk 0 1 60 ride 2 2
 answers points 2 read 3 walk 120
-judge A C 07:00:00 09:00:00 10:00:00 ride 0 0 walk 1 2 60
-answers ok dep 08:00:00 arr 08:11:00
-judge A C 07:00:00 09:00:00 10:00:00 walk 0 1 60 ride 2 2
-answers ok dep 08:11:00 arr 08:20:00
+judge A C 07:00:00 09:00:00 10:00:00 ride 0 0 walk 1 2 60 | ok dep 08:00:00 arr 08:11:00
+judge A C 07:00:00 09:00:00 10:00:00 walk 0 1 60 ride 2 2 | ok dep 08:11:00 arr 08:20:00
 
 # As a reply of a session, which has no names.
 run profile - --from A --to C --after 07:00:00 --until 09:00:00 --by 10:00:00 --criterion arrival+trips --json
@@ -133,8 +125,7 @@ profile A C 07:00:00 09:00:00 10:00:00 arrival+trips
 prints dep 08:00:00 arr 08:20:00 trips 2 : ride 0 0 walk 1 1 0 ride 2 2
 prints dep 08:00:00 arr 08:25:00 trips 1 : ride 0 0 walk 1 2 900
 answers points 2 read 3 walk none
-judge A C 07:00:00 09:00:00 10:00:00 ride 0 0 walk 1 2 900
-answers ok dep 08:00:00 arr 08:25:00
+judge A C 07:00:00 09:00:00 10:00:00 ride 0 0 walk 1 2 900 | ok dep 08:00:00 arr 08:25:00
 
 # By names: of trips and stops, and when each trip is boarded and left; a walk keeps its seconds.
 run profile - --from A --to C --after 07:00:00 --until 09:00:00 --by 10:00:00 --criterion arrival+trips --names
@@ -149,8 +140,7 @@ profile A C 07:00:00 09:00:00 10:00:00 arrival+trips+walk
 prints dep 08:00:00 arr 08:20:00 trips 2 walked 60 : ride 0 0 walk 1 1 60 ride 2 2
 prints dep 08:00:00 arr 08:30:00 trips 1 walked 0 : ride 0 1
 answers points 2 read 3 walk none
-judge A C 07:00:00 09:00:00 10:00:00 ride 0 0 walk 1 1 60 ride 2 2
-answers ok dep 08:00:00 arr 08:20:00
+judge A C 07:00:00 09:00:00 10:00:00 ride 0 0 walk 1 1 60 ride 2 2 | ok dep 08:00:00 arr 08:20:00
 ";
 
 #[test]

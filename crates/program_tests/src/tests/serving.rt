@@ -30,11 +30,11 @@ complains 3
 
 # A zone that is none is told before an image that is none.
 run serve --image - --port 0 --workers 2 --sessions 1 --first 20240115 --days 1 --zone posix:none slow=slow_feed
-refuses 21 BadZone
+answers refused 21 BadZone
 sample
 cut 3
 run serve --image - --port 0 --workers 2 --sessions 1 --first 20240115 --days 1 --zone fixed:0 slow=slow_feed
-refuses 51 OddLength
+answers refused 51 OddLength
 ";
 
 #[test]

@@ -11,23 +11,23 @@ answers tables agencies 1 stops 3 trips 2 stop_times 5 calendar 1 calendar_dates
 
 # Values: minutes, and a number with a fraction.
 with stop_times.txt 2 T1,08:60:00,08:10:00,B,2
-refuses 5 BadTime stop_times.txt 2
+answers refused 5 BadTime stop_times.txt 2
 with stop_times.txt 2 T1,08:10:00,08:10:00,B,2.5
-refuses 7 BadNumber stop_times.txt 2
+answers refused 7 BadNumber stop_times.txt 2
 
 # Times of a trip: one that goes back, a number twice, and an end without a time.
 with stop_times.txt 2 T1,08:10:00,07:59:00,B,2
-refuses 13 TimeGoesBack stop_times.txt 2
+answers refused 13 TimeGoesBack stop_times.txt 2
 with stop_times.txt 3 T1,08:30:00,08:30:00,C,2
-refuses 11 SequenceTwice stop_times.txt 3
+answers refused 11 SequenceTwice stop_times.txt 3
 with stop_times.txt 5 T2,,,C,2
-refuses 12 EndWithoutTime stop_times.txt 5
+answers refused 12 EndWithoutTime stop_times.txt 5
 
 # Ids that are nowhere: of a trip, and of a stop.
 with stop_times.txt 4 N1,08:12:00,08:12:00,B,1
-refuses 9 UnknownId stop_times.txt 4
+answers refused 9 UnknownId stop_times.txt 4
 with stop_times.txt 4 T2,08:12:00,08:12:00,D,1
-refuses 9 UnknownId stop_times.txt 4
+answers refused 9 UnknownId stop_times.txt 4
 
 # A trip with a blank stop_id, and one with a single row, isn't judged by its times; no hop needs a duration.
 file base_feed/stop_times.txt
@@ -36,16 +36,10 @@ has T1,08:10:00,08:10:00,Q,1
 has T1,08:00:00,08:00:00,,1
 has T1,,,C,3
 has T2,,,B,1
-has T2,08:20:00,08:20:00,C,2
-refuses 12 EndWithoutTime stop_times.txt 4
-file base_feed/stop_times.txt
-has trip_id,arrival_time,departure_time,stop_id,stop_sequence
-has T1,08:10:00,08:10:00,Q,1
-has T1,08:00:00,08:00:00,,1
-has T1,,,C,3
-has T2,,,B,1
 has T1,,,C,3
 answers tables agencies 1 stops 3 trips 2 stop_times 5 calendar 1 calendar_dates 0 transfers 0
+has T2,08:20:00,08:20:00,C,2
+answers refused 12 EndWithoutTime stop_times.txt 4
 file base_feed/stop_times.txt
 has trip_id,arrival_time,departure_time,stop_id,stop_sequence
 has T1,08:00:00,08:00:00,A,1
@@ -56,11 +50,7 @@ has T2,08:20:00,08:20:00,C,2
 answers tables agencies 1 stops 3 trips 2 stop_times 5 calendar 1 calendar_dates 0 transfers 0
 
 # Numbers may have a point and zeros, and a kind of place that isn't one counts as blank.
-file base_feed/stops.txt
-has stop_id,stop_name,location_type
-has A,A,0.0
-has B,B,9
-has C,C,
+rows base_feed/stops.txt stop_id,stop_name,location_type | A,A,0.0 | B,B,9 | C,C,
 with stop_times.txt 1 T1,08:00:00,08:00:00,A,1.0
 answers tables agencies 1 stops 3 trips 2 stop_times 5 calendar 1 calendar_dates 0 transfers 0
 
@@ -78,17 +68,8 @@ crlf 2,C,n,08:20:00,08:20:00,T2
 answers tables agencies 1 stops 3 trips 2 stop_times 5 calendar 1 calendar_dates 0 transfers 0
 
 # Another number of records in each file; a station, which no stop time names, is one of its file's.
-file base_feed/agency.txt
-has agency_timezone
-has Etc/UTC
-has Etc/UTC
-has Etc/UTC
-file base_feed/stops.txt
-has stop_id,location_type,parent_station
-has A,,S
-has B,,
-has C,,S
-has S,1,
+rows base_feed/agency.txt agency_timezone | Etc/UTC | Etc/UTC | Etc/UTC
+rows base_feed/stops.txt stop_id,location_type,parent_station | A,,S | B,, | C,,S | S,1,
 file base_feed/calendar_dates.txt
 has service_id,date,exception_type
 has X,20240115,1
@@ -109,31 +90,19 @@ has C,S,2
 answers tables agencies 3 stops 4 trips 2 stop_times 5 calendar 1 calendar_dates 6 transfers 7
 
 # What is found once all files are read comes after what is wrong with any file.
-file base_feed/stops.txt
-has stop_id,parent_station
-has A,Q
-has B,
-has C,
-file base_feed/calendar_dates.txt
-has service_id,date,exception_type
-has S,20240115,3
+rows base_feed/stops.txt stop_id,parent_station | A,Q | B, | C,
+rows base_feed/calendar_dates.txt service_id,date,exception_type | S,20240115,3
 file base_feed/frequencies.txt
 has trip_id,start_time,end_time,headway_secs
 has T2,9:00:00,10:00:00,1200
 has T9,9:00:00,10:00:00,1200
-refuses 7 BadNumber calendar_dates.txt 1
+answers refused 7 BadNumber calendar_dates.txt 1
 remove base_feed/calendar_dates.txt
 
 # Then the order is: parents, stop times, frequencies, trips, transfers. The first trip comes back in time over a blank row.
-file base_feed/transfers.txt
-has from_stop_id,to_stop_id
-has A,Q
-refuses 9 UnknownId stops.txt 1
-file base_feed/stops.txt
-has stop_id
-has A
-has B
-has C
+rows base_feed/transfers.txt from_stop_id,to_stop_id | A,Q
+answers refused 9 UnknownId stops.txt 1
+rows base_feed/stops.txt stop_id | A | B | C
 file base_feed/stop_times.txt
 has trip_id,arrival_time,departure_time,stop_id,stop_sequence
 has T1,08:10:00,08:10:00,A,1
@@ -141,58 +110,36 @@ has T1,,,B,2
 has T1,08:00:00,08:00:00,C,3
 has T2,08:12:00,08:12:00,B,1
 has T2,08:20:00,08:20:00,C,2
-refuses 9 UnknownId frequencies.txt 2
-file base_feed/frequencies.txt
-has trip_id,start_time,end_time,headway_secs
-has T2,9:00:00,10:00:00,1200
-refuses 13 TimeGoesBack stop_times.txt 3
+answers refused 9 UnknownId frequencies.txt 2
+rows base_feed/frequencies.txt trip_id,start_time,end_time,headway_secs | T2,9:00:00,10:00:00,1200
+answers refused 13 TimeGoesBack stop_times.txt 3
 with stop_times.txt 1 T1,08:00:00,08:00:00,A,1
-refuses 9 UnknownId transfers.txt 1
+answers refused 9 UnknownId transfers.txt 1
 remove base_feed/frequencies.txt
 
 # A station, and an entrance, are no stops; a row that is skipped isn't looked up, and of the ends that are unknown comes first.
-file base_feed/stops.txt
-has stop_id,location_type
-has A,
-has B,1
-has C,2
-file base_feed/transfers.txt
-has from_stop_id,to_stop_id,transfer_type
-has C,Q,4
-refuses 15 NotAStop stop_times.txt 2
-file base_feed/stops.txt
-has stop_id,location_type
-has A,
-has B,
-has C,
-has E,2
-file base_feed/transfers.txt
-has from_stop_id,to_stop_id
-has A,B
-has E,B
-refuses 15 NotAStop transfers.txt 2
-file base_feed/transfers.txt
-has from_stop_id,to_stop_id
-has E,Q
-refuses 9 UnknownId transfers.txt 1
+rows base_feed/stops.txt stop_id,location_type | A, | B,1 | C,2
+rows base_feed/transfers.txt from_stop_id,to_stop_id,transfer_type | C,Q,4
+answers refused 15 NotAStop stop_times.txt 2
+rows base_feed/stops.txt stop_id,location_type | A, | B, | C, | E,2
+rows base_feed/transfers.txt from_stop_id,to_stop_id | A,B | E,B
+answers refused 15 NotAStop transfers.txt 2
+rows base_feed/transfers.txt from_stop_id,to_stop_id | E,Q
+answers refused 9 UnknownId transfers.txt 1
 remove base_feed/transfers.txt
 
 # Files that there aren't, a folder in the place of one, which can't be read, and at last no folder.
 remove base_feed/stops.txt
-refuses 1 MissingFile stops.txt 0
+answers refused 1 MissingFile stops.txt 0
 folder base_feed/stops.txt
 prints refused 101 FileFailed stops.txt
 ends 3
 remove base_feed/stops.txt
-file base_feed/stops.txt
-has stop_id
-has A
-has B
-has C
+rows base_feed/stops.txt stop_id | A | B | C
 remove base_feed/calendar.txt
-refuses 1 MissingFile calendar.txt 0
+answers refused 1 MissingFile calendar.txt 0
 remove base_feed
-refuses 1 MissingFile agency.txt 0
+answers refused 1 MissingFile agency.txt 0
 ";
 
 #[test]

@@ -8,136 +8,76 @@ const TOWN: &str = "
 image 1346458435 1 4 4 7 7 4 0 0 1 3 50 60 3 3 0 1 100 200 0 1 1 2 200 300 0 2 2 3 300 400 0 3 1 3 320 420 1 3 2 3 350 450 2 1 3 0 500 600 2 0 0 1 3 6 7 0 0 0 90 1 30 0 140 1 60 2 20 3 0 0 1 2 3 4 4 4 4 4 0 0 0 0 1145258561
 
 # Journeys that count, and one fault of the legs.
-judge B D 00:00:00 00:01:30 00:05:10 ride 0 0
-answers ok dep 00:00:50 arr 00:01:00
-judge A C 00:00:00 00:16:40 00:05:10 ride 1 2
-answers ok dep 00:01:40 arr 00:05:00
-judge A C 00:00:00 00:01:30 00:05:10 ride 0 7
-refuses 81 LegRange 0
-judge A C 00:00:00 00:01:30 00:05:10 ride 1 0
-refuses 81 LegRange 0
-judge B C 00:00:00 00:01:30 00:05:10 ride 0 2
-refuses 82 TwoTrips 0
-judge B D 00:00:00 00:01:30 00:33:20 ride 0 3
-refuses 82 TwoTrips 0
-judge B C 00:00:00 00:16:40 00:05:10 ride 2 2
-refuses 83 NoBoarding 0
-judge B D 00:00:00 00:16:40 00:33:20 ride 2 3
-refuses 83 NoBoarding 0
-judge A C 00:00:00 00:16:40 00:05:10 ride 1 1 walk 1 2 60
-refuses 84 NoAlighting 0
-judge B D 00:00:00 00:16:40 00:33:20 walk 1 2 60 ride 5 5
-refuses 84 NoAlighting 0
+judge B D 00:00:00 00:01:30 00:05:10 ride 0 0 | ok dep 00:00:50 arr 00:01:00
+judge A C 00:00:00 00:16:40 00:05:10 ride 1 2 | ok dep 00:01:40 arr 00:05:00
+judge A C 00:00:00 00:01:30 00:05:10 ride 0 7 | refused 81 LegRange 0
+judge A C 00:00:00 00:01:30 00:05:10 ride 1 0 | refused 81 LegRange 0
+judge B C 00:00:00 00:01:30 00:05:10 ride 0 2 | refused 82 TwoTrips 0
+judge B D 00:00:00 00:01:30 00:33:20 ride 0 3 | refused 82 TwoTrips 0
+judge B C 00:00:00 00:16:40 00:05:10 ride 2 2 | refused 83 NoBoarding 0
+judge B D 00:00:00 00:16:40 00:33:20 ride 2 3 | refused 83 NoBoarding 0
+judge A C 00:00:00 00:16:40 00:05:10 ride 1 1 walk 1 2 60 | refused 84 NoAlighting 0
+judge B D 00:00:00 00:16:40 00:33:20 walk 1 2 60 ride 5 5 | refused 84 NoAlighting 0
 
 # One fault of the walks, and legs that depart too early.
-judge A C 00:00:00 00:16:40 00:05:10 ride 1 2 walk 2 2 0
-refuses 89 NoFootpath 1
-judge A D 00:00:00 00:16:40 00:05:10 ride 1 2 walk 2 3 5
-refuses 89 NoFootpath 1
-judge B D 00:00:00 00:01:30 00:33:20 ride 0 0 ride 1 3
-refuses 85 WalkBroken 1
-judge B D 00:00:00 00:16:40 00:33:20 ride 0 0 ride 4 4
-refuses 85 WalkBroken 1
-judge A D 00:00:00 00:16:40 00:33:20 ride 1 2 walk 2 2 20 ride 3 3
-refuses 86 TooEarly 1
-judge A D 00:00:00 00:16:40 00:33:20 ride 1 2 walk 2 2 20 walk 2 2 20 ride 3 3
-refuses 86 TooEarly 1
-judge B D 00:00:00 00:16:40 00:33:20 walk 1 1 30 ride 4 4
-refuses 85 WalkBroken 0
-judge A D 00:00:00 00:16:40 00:33:20 walk 0 2 140 ride 4 4
-refuses 85 WalkBroken 0
-judge A D 00:00:00 00:16:40 00:33:20 ride 1 3 walk 0 0 0
-refuses 85 WalkBroken 1
+judge A C 00:00:00 00:16:40 00:05:10 ride 1 2 walk 2 2 0 | refused 89 NoFootpath 1
+judge A D 00:00:00 00:16:40 00:05:10 ride 1 2 walk 2 3 5 | refused 89 NoFootpath 1
+judge B D 00:00:00 00:01:30 00:33:20 ride 0 0 ride 1 3 | refused 85 WalkBroken 1
+judge B D 00:00:00 00:16:40 00:33:20 ride 0 0 ride 4 4 | refused 85 WalkBroken 1
+judge A D 00:00:00 00:16:40 00:33:20 ride 1 2 walk 2 2 20 ride 3 3 | refused 86 TooEarly 1
+judge A D 00:00:00 00:16:40 00:33:20 ride 1 2 walk 2 2 20 walk 2 2 20 ride 3 3 | refused 86 TooEarly 1
+judge B D 00:00:00 00:16:40 00:33:20 walk 1 1 30 ride 4 4 | refused 85 WalkBroken 0
+judge A D 00:00:00 00:16:40 00:33:20 walk 0 2 140 ride 4 4 | refused 85 WalkBroken 0
+judge A D 00:00:00 00:16:40 00:33:20 ride 1 3 walk 0 0 0 | refused 85 WalkBroken 1
 
 # Other ends, and departures and arrivals outside the window.
-judge A C 00:00:00 00:01:30 00:05:10 ride 0 0
-refuses 87 WrongEnds
-judge A D 00:00:00 00:16:40 00:05:10 ride 1 2
-refuses 87 WrongEnds
-judge A C 00:00:00 00:01:30 00:05:10 ride 1 2
-refuses 88 OutsideWindow
-judge A D 00:01:40 00:01:40 00:06:40 ride 1 3
-answers ok dep 00:01:40 arr 00:06:40
-judge A D 00:00:00 00:16:40 00:33:20 walk 0 1 90 ride 0 0
-refuses 88 OutsideWindow
-judge A D 00:01:41 00:16:40 00:33:20 ride 1 3
-refuses 88 OutsideWindow
-judge A D 00:00:00 00:16:40 00:06:39 ride 1 3
-refuses 88 OutsideWindow
+judge A C 00:00:00 00:01:30 00:05:10 ride 0 0 | refused 87 WrongEnds
+judge A D 00:00:00 00:16:40 00:05:10 ride 1 2 | refused 87 WrongEnds
+judge A C 00:00:00 00:01:30 00:05:10 ride 1 2 | refused 88 OutsideWindow
+judge A D 00:01:40 00:01:40 00:06:40 ride 1 3 | ok dep 00:01:40 arr 00:06:40
+judge A D 00:00:00 00:16:40 00:33:20 walk 0 1 90 ride 0 0 | refused 88 OutsideWindow
+judge A D 00:01:41 00:16:40 00:33:20 ride 1 3 | refused 88 OutsideWindow
+judge A D 00:00:00 00:16:40 00:06:39 ride 1 3 | refused 88 OutsideWindow
 
 # A fault of the legs, and another one.
-judge B C 00:00:00 00:16:40 00:33:20 ride 0 3 walk 3 3 0 ride 3 7
-refuses 82 TwoTrips 0
-judge B D 00:00:00 00:16:40 00:33:20 ride 2 3 walk 3 3 0 ride 0 7
-refuses 83 NoBoarding 0
-judge A D 00:00:00 00:16:40 00:05:10 ride 1 1 walk 1 1 30 ride 0 7
-refuses 84 NoAlighting 0
-judge A C 00:00:00 00:01:30 00:05:10 ride 0 7 walk 2 2 0
-refuses 81 LegRange 0
-judge B C 00:00:00 00:16:40 00:05:10 ride 0 0 ride 0 7
-refuses 81 LegRange 1
-judge A C 00:00:00 00:01:30 00:05:10 ride 0 7 walk 0 0 0
-refuses 81 LegRange 0
-judge A C 00:00:00 00:01:30 00:33:20 ride 1 3 walk 3 3 0 ride 0 7
-refuses 81 LegRange 1
-judge B D 00:00:00 00:16:40 00:33:20 ride 2 4
-refuses 82 TwoTrips 0
-judge B D 00:00:00 00:01:30 00:33:20 ride 0 5
-refuses 82 TwoTrips 0
-judge B C 00:00:00 00:01:30 00:05:10 ride 0 2 walk 2 2 0
-refuses 82 TwoTrips 0
-judge B D 00:00:00 00:16:40 00:33:20 ride 0 0 ride 1 4
-refuses 82 TwoTrips 1
-judge A C 00:00:00 00:01:30 00:05:10 ride 0 2
-refuses 82 TwoTrips 0
+judge B C 00:00:00 00:16:40 00:33:20 ride 0 3 walk 3 3 0 ride 3 7 | refused 82 TwoTrips 0
+judge B D 00:00:00 00:16:40 00:33:20 ride 2 3 walk 3 3 0 ride 0 7 | refused 83 NoBoarding 0
+judge A D 00:00:00 00:16:40 00:05:10 ride 1 1 walk 1 1 30 ride 0 7 | refused 84 NoAlighting 0
+judge A C 00:00:00 00:01:30 00:05:10 ride 0 7 walk 2 2 0 | refused 81 LegRange 0
+judge B C 00:00:00 00:16:40 00:05:10 ride 0 0 ride 0 7 | refused 81 LegRange 1
+judge A C 00:00:00 00:01:30 00:05:10 ride 0 7 walk 0 0 0 | refused 81 LegRange 0
+judge A C 00:00:00 00:01:30 00:33:20 ride 1 3 walk 3 3 0 ride 0 7 | refused 81 LegRange 1
+judge B D 00:00:00 00:16:40 00:33:20 ride 2 4 | refused 82 TwoTrips 0
+judge B D 00:00:00 00:01:30 00:33:20 ride 0 5 | refused 82 TwoTrips 0
+judge B C 00:00:00 00:01:30 00:05:10 ride 0 2 walk 2 2 0 | refused 82 TwoTrips 0
+judge B D 00:00:00 00:16:40 00:33:20 ride 0 0 ride 1 4 | refused 82 TwoTrips 1
+judge A C 00:00:00 00:01:30 00:05:10 ride 0 2 | refused 82 TwoTrips 0
 
 # Two faults: the first is told.
-judge B C 00:00:00 00:16:40 00:05:10 ride 2 2 walk 2 2 0
-refuses 83 NoBoarding 0
-judge B D 00:00:00 00:01:30 00:33:20 ride 0 0 ride 2 3
-refuses 83 NoBoarding 1
-judge A C 00:00:00 00:16:40 00:05:10 ride 2 2
-refuses 83 NoBoarding 0
-judge B C 00:00:00 00:01:30 00:05:10 ride 2 2
-refuses 83 NoBoarding 0
-judge A D 00:00:00 00:16:40 00:33:20 ride 1 2 walk 2 2 0 ride 5 5
-refuses 84 NoAlighting 1
-judge B D 00:00:00 00:01:30 00:33:20 ride 0 0 ride 5 5
-refuses 84 NoAlighting 1
-judge A C 00:00:00 00:16:40 00:05:10 ride 1 1
-refuses 84 NoAlighting 0
-judge A C 00:00:00 00:01:30 00:05:10 ride 1 1 walk 1 2 60
-refuses 84 NoAlighting 0
-judge B C 00:00:00 00:01:30 00:33:20 ride 0 0 walk 2 2 0
-refuses 89 NoFootpath 1
-judge A D 00:00:00 00:16:40 00:05:10 ride 1 2 walk 2 2 0
-refuses 89 NoFootpath 1
-judge A C 00:00:00 00:01:30 00:05:10 ride 1 2 walk 2 2 0
-refuses 89 NoFootpath 1
+judge B C 00:00:00 00:16:40 00:05:10 ride 2 2 walk 2 2 0 | refused 83 NoBoarding 0
+judge B D 00:00:00 00:01:30 00:33:20 ride 0 0 ride 2 3 | refused 83 NoBoarding 1
+judge A C 00:00:00 00:16:40 00:05:10 ride 2 2 | refused 83 NoBoarding 0
+judge B C 00:00:00 00:01:30 00:05:10 ride 2 2 | refused 83 NoBoarding 0
+judge A D 00:00:00 00:16:40 00:33:20 ride 1 2 walk 2 2 0 ride 5 5 | refused 84 NoAlighting 1
+judge B D 00:00:00 00:01:30 00:33:20 ride 0 0 ride 5 5 | refused 84 NoAlighting 1
+judge A C 00:00:00 00:16:40 00:05:10 ride 1 1 | refused 84 NoAlighting 0
+judge A C 00:00:00 00:01:30 00:05:10 ride 1 1 walk 1 2 60 | refused 84 NoAlighting 0
+judge B C 00:00:00 00:01:30 00:33:20 ride 0 0 walk 2 2 0 | refused 89 NoFootpath 1
+judge A D 00:00:00 00:16:40 00:05:10 ride 1 2 walk 2 2 0 | refused 89 NoFootpath 1
+judge A C 00:00:00 00:01:30 00:05:10 ride 1 2 walk 2 2 0 | refused 89 NoFootpath 1
 
 # Two faults, later ones.
-judge A D 00:00:00 00:16:40 00:05:10 ride 1 2 ride 0 0
-refuses 85 WalkBroken 1
-judge A D 00:00:00 00:01:30 00:33:20 ride 0 0 ride 1 2
-refuses 85 WalkBroken 1
-judge B D 00:00:00 00:16:40 00:05:10 ride 0 0 ride 3 3
-refuses 85 WalkBroken 1
-judge A D 00:02:00 00:16:40 00:05:10 ride 1 2 walk 2 2 20 ride 3 3
-refuses 86 TooEarly 1
-judge A D 00:00:00 00:16:40 00:33:20 ride 1 2 walk 2 2 20 ride 3 3 walk 3 3 0 ride 0 7
-refuses 81 LegRange 2
-judge A D 00:00:00 00:16:40 00:33:20 ride 1 2 walk 2 2 20 ride 3 4
-refuses 82 TwoTrips 1
-judge A D 00:00:00 00:16:40 00:33:20 ride 6 6
-refuses 83 NoBoarding 0
-judge B D 00:00:00 00:16:40 00:33:20 ride 2 2 walk 2 2 20 ride 3 3
-refuses 83 NoBoarding 0
-judge A D 00:00:00 00:16:40 00:33:20 ride 1 2 walk 2 2 20 walk 2 2 20 walk 2 2 20 ride 5 5
-refuses 84 NoAlighting 1
-judge A D 00:00:00 00:16:40 00:33:20 ride 1 2 walk 2 2 20 walk 2 2 0 ride 3 3
-refuses 89 NoFootpath 1
-judge A C 00:00:00 00:16:40 00:33:20 ride 1 2 walk 2 2 20 ride 3 3
-refuses 86 TooEarly 1
+judge A D 00:00:00 00:16:40 00:05:10 ride 1 2 ride 0 0 | refused 85 WalkBroken 1
+judge A D 00:00:00 00:01:30 00:33:20 ride 0 0 ride 1 2 | refused 85 WalkBroken 1
+judge B D 00:00:00 00:16:40 00:05:10 ride 0 0 ride 3 3 | refused 85 WalkBroken 1
+judge A D 00:02:00 00:16:40 00:05:10 ride 1 2 walk 2 2 20 ride 3 3 | refused 86 TooEarly 1
+judge A D 00:00:00 00:16:40 00:33:20 ride 1 2 walk 2 2 20 ride 3 3 walk 3 3 0 ride 0 7 | refused 81 LegRange 2
+judge A D 00:00:00 00:16:40 00:33:20 ride 1 2 walk 2 2 20 ride 3 4 | refused 82 TwoTrips 1
+judge A D 00:00:00 00:16:40 00:33:20 ride 6 6 | refused 83 NoBoarding 0
+judge B D 00:00:00 00:16:40 00:33:20 ride 2 2 walk 2 2 20 ride 3 3 | refused 83 NoBoarding 0
+judge A D 00:00:00 00:16:40 00:33:20 ride 1 2 walk 2 2 20 walk 2 2 20 walk 2 2 20 ride 5 5 | refused 84 NoAlighting 1
+judge A D 00:00:00 00:16:40 00:33:20 ride 1 2 walk 2 2 20 walk 2 2 0 ride 3 3 | refused 89 NoFootpath 1
+judge A C 00:00:00 00:16:40 00:33:20 ride 1 2 walk 2 2 20 ride 3 3 | refused 86 TooEarly 1
 ";
 
 #[test]
@@ -148,46 +88,26 @@ fn faults_are_told_in_order(rt: HostRuntime) -> Result<(), Fail> {
 const TEXTS: &str = "
 # Texts that are no journeys.
 sample
-run journey - '' --from A --to C --after 07:00:00 --until 09:00:00 --by 10:00:00
-refuses 80 BadText
-judge A C 07:00:00 09:00:00 10:00:00 walk 0 0 0
-refuses 80 BadText
-judge A C 07:00:00 09:00:00 10:00:00 ride 0
-refuses 80 BadText
-judge A C 07:00:00 09:00:00 10:00:00 ride 0 0 0
-refuses 80 BadText
-judge A C 07:00:00 09:00:00 10:00:00 ride 0 0 
-refuses 80 BadText
-judge A C 07:00:00 09:00:00 10:00:00  ride 0 0
-refuses 80 BadText
-judge A C 07:00:00 09:00:00 10:00:00 ride  0 0
-refuses 80 BadText
-judge A C 07:00:00 09:00:00 10:00:00 ride 0 0  walk 1 1 0
-refuses 80 BadText
-judge A C 07:00:00 09:00:00 10:00:00 ride 00 0
-refuses 80 BadText
-judge A C 07:00:00 09:00:00 10:00:00 ride 0 01
-refuses 80 BadText
-judge A C 07:00:00 09:00:00 10:00:00 ride 0 4294967296
-refuses 80 BadText
-judge A C 07:00:00 09:00:00 10:00:00 ride 0 99999999999999999999999999
-refuses 80 BadText
-judge A C 07:00:00 09:00:00 10:00:00 ride +0 0
-refuses 80 BadText
-judge A C 07:00:00 09:00:00 10:00:00 ride 0 -1
-refuses 80 BadText
-judge A C 07:00:00 09:00:00 10:00:00 ride 0 0ride 1 1
-refuses 80 BadText
-judge A C 07:00:00 09:00:00 10:00:00 ride 0 0 walk 1 1
-refuses 80 BadText
-judge A C 07:00:00 09:00:00 10:00:00 Ride 0 0
-refuses 80 BadText
-judge A C 07:00:00 09:00:00 10:00:00 walk 0 1 2 walk 1 2 3 ride 0 0
-refuses 80 BadText
-judge A C 07:00:00 09:00:00 10:00:00 walk 0 1 2ride 0 0
-refuses 80 BadText
-judge A C 07:00:00 09:00:00 10:00:00 ride 0 0 ride
-refuses 80 BadText
+judge A C 07:00:00 09:00:00 10:00:00  | refused 80 BadText
+judge A C 07:00:00 09:00:00 10:00:00 walk 0 0 0 | refused 80 BadText
+judge A C 07:00:00 09:00:00 10:00:00 ride 0 | refused 80 BadText
+judge A C 07:00:00 09:00:00 10:00:00 ride 0 0 0 | refused 80 BadText
+judge A C 07:00:00 09:00:00 10:00:00 ride 0 0  | refused 80 BadText
+judge A C 07:00:00 09:00:00 10:00:00  ride 0 0 | refused 80 BadText
+judge A C 07:00:00 09:00:00 10:00:00 ride  0 0 | refused 80 BadText
+judge A C 07:00:00 09:00:00 10:00:00 ride 0 0  walk 1 1 0 | refused 80 BadText
+judge A C 07:00:00 09:00:00 10:00:00 ride 00 0 | refused 80 BadText
+judge A C 07:00:00 09:00:00 10:00:00 ride 0 01 | refused 80 BadText
+judge A C 07:00:00 09:00:00 10:00:00 ride 0 4294967296 | refused 80 BadText
+judge A C 07:00:00 09:00:00 10:00:00 ride 0 99999999999999999999999999 | refused 80 BadText
+judge A C 07:00:00 09:00:00 10:00:00 ride +0 0 | refused 80 BadText
+judge A C 07:00:00 09:00:00 10:00:00 ride 0 -1 | refused 80 BadText
+judge A C 07:00:00 09:00:00 10:00:00 ride 0 0ride 1 1 | refused 80 BadText
+judge A C 07:00:00 09:00:00 10:00:00 ride 0 0 walk 1 1 | refused 80 BadText
+judge A C 07:00:00 09:00:00 10:00:00 Ride 0 0 | refused 80 BadText
+judge A C 07:00:00 09:00:00 10:00:00 walk 0 1 2 walk 1 2 3 ride 0 0 | refused 80 BadText
+judge A C 07:00:00 09:00:00 10:00:00 walk 0 1 2ride 0 0 | refused 80 BadText
+judge A C 07:00:00 09:00:00 10:00:00 ride 0 0 ride | refused 80 BadText
 ";
 
 #[test]

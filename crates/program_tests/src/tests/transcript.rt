@@ -6,20 +6,21 @@
 //! | `image WORD ..` | the input is an image of these words |
 //! | `sample` | the input is the sample image; `sample 2` in the layout that is written |
 //! | `set PLACE WORD` | the input's word at this place is another |
+//! | `word PLACE WORD | TEXT` | the input is the sample with this word there, and the command answers so |
 //! | `cut BYTES` | of the input so many bytes alone |
 //! | `zeros WORDS` | the input is so many words of 0 |
 //! | `folder PATH`, `file PATH` | makes a folder, or an empty file |
 //! | `has TEXT`, `crlf TEXT` | the file has one more line, ended by LF, or by CR LF |
+//! | `rows PATH LINE | LINE ..` | a file of these lines |
 //! | `remove PATH` | takes a file or a folder away, with all that is in it |
 //! | `base` | makes the feed of examples/base, in a folder `base_feed` |
 //! | `with FILE PLACE RECORD` | that file of it is as it was made, but for the record at this place, from 1 behind its header |
 //! | `run WORD ..` | the words of the next command behind the program's name; one in single quotes may have spaces |
 //! | `profile FROM TO AFTER UNTIL BY CRITERION` | the words are those of `csa profile` over the input, with this query |
-//! | `judge FROM TO AFTER UNTIL BY LEG ..` | the words are those of `csa journey` over the input, with this query and these legs |
+//! | `judge FROM TO AFTER UNTIL BY LEG .. | TEXT` | the words are those of `csa journey` over the input, with this query and these legs, and it answers so |
 //! | `prints TEXT`, `tells TEXT` | one more line that it must print, or tell among its errors |
 //! | `ends STATUS` | runs it: it prints and tells these lines alone, and ends with this status |
-//! | `answers TEXT` | one more line that it must print, and `ends 0` |
-//! | `refuses TEXT` | one more line, `refused` and this text, and `ends 2` |
+//! | `answers TEXT` | one more line that it must print, and `ends 0`, or `ends 2` where the line begins with `refused` |
 //! | `complains STATUS` | runs it: it prints nothing, tells something of its own, and ends with this status |
 //! | `helps` | runs it: it prints something of its own, tells nothing, and ends with status 0 |
 //! | `saves PATH` | puts the bytes of the input into a file |
@@ -222,6 +223,18 @@ fn write<'a, R: Machine>(
     Ok(())
 }
 
+/// Makes a file of lines.
+fn write_rows<R: Machine>(rt: &R, text: &str) -> Result<(), Fail> {
+    let Some((path, lines)) = text.split_once(' ') else {
+        return Err(Fail::new("a file and its lines"));
+    };
+    let mut rows = String::new(rt.alloc());
+    for line in lines.split(" | ") {
+        add_line(&mut rows, line, "\n")?;
+    }
+    Ok(fs::write(rt, path, rows.as_str())?)
+}
+
 /// Runs the command on the input.
 fn run_on_stage<R: Machine + Net<Listener = TcpListener, Stream = TcpStream>>(
     rt: &R,
@@ -254,18 +267,42 @@ fn expect_lines<R: Machine + Net<Listener = TcpListener, Stream = TcpStream> + A
     Ok(())
 }
 
-/// The command prints one more line than stand ready, its last one, and ends well, or with a refusal.
+/// The command prints one more line than stand ready, its last one, and ends well, or with a refusal where the line is one.
 fn expect_last<R: Machine + Net<Listener = TcpListener, Stream = TcpStream> + Abort>(
     rt: &R,
     stage: &mut Stage<'_>,
-    refuses: bool,
     line: &str,
 ) -> Result<(), Fail> {
-    if refuses {
-        stage.printed.push_str("refused ")?;
-    }
+    let is_refused = line.starts_with("refused ");
     add_line(&mut stage.printed, line, "\n")?;
-    expect_lines(rt, stage, if refuses { "2" } else { "0" })
+    expect_lines(rt, stage, if is_refused { "2" } else { "0" })
+}
+
+/// The command answers so on the sample with a word in the place of another.
+fn answer_changed<R: Machine + Net<Listener = TcpListener, Stream = TcpStream> + Abort>(
+    rt: &R,
+    stage: &mut Stage<'_>,
+    text: &str,
+) -> Result<(), Fail> {
+    let Some((word, answer)) = text.split_once(" | ") else {
+        return Err(Fail::new("a word of the sample and an answer"));
+    };
+    stage.take_image(sample_of(rt.alloc(), "")?);
+    set(&mut stage.image, word)?;
+    expect_last(rt, stage, answer)
+}
+
+/// A journey is judged so: its query, its legs and behind them the answer.
+fn judge<'a, R: Machine + Net<Listener = TcpListener, Stream = TcpStream> + Abort>(
+    rt: &R,
+    stage: &mut Stage<'a>,
+    text: &'a str,
+) -> Result<(), Fail> {
+    let Some((journey, answer)) = text.split_once(" | ") else {
+        return Err(Fail::new("a journey and its answer"));
+    };
+    stage.take_words(asked(rt.alloc(), "journey", journey)?)?;
+    expect_last(rt, stage, answer)
 }
 
 /// The command prints something, or tells something, and not both, and ends with a status.
@@ -321,17 +358,18 @@ fn follow<'a, R: Machine + Net<Listener = TcpListener, Stream = TcpStream> + Abo
         "image" | "sample" | "zeros" | "set" | "cut" => take_input(rt.alloc(), stage, kind, rest),
         "folder" => Ok(fs::create_dir(rt, rest)?),
         "file" | "has" | "crlf" => write(rt, stage, kind, rest),
+        "rows" => write_rows(rt, rest),
         "remove" => remove(rt, rest),
         "base" => base_feed::make(rt),
         "with" => base_feed::change(rt, rest),
         "run" => stage.take_words(words_of(rt.alloc(), rest)?),
         "profile" => stage.take_words(asked(rt.alloc(), "profile", rest)?),
-        "judge" => stage.take_words(asked(rt.alloc(), "journey", rest)?),
+        "judge" => judge(rt, stage, rest),
         "prints" => Ok(add_line(&mut stage.printed, rest, "\n")?),
         "tells" => Ok(add_line(&mut stage.told, rest, "\n")?),
         "ends" => expect_lines(rt, stage, rest),
-        "answers" => expect_last(rt, stage, false, rest),
-        "refuses" => expect_last(rt, stage, true, rest),
+        "answers" => expect_last(rt, stage, rest),
+        "word" => answer_changed(rt, stage, rest),
         "complains" => expect_any(rt, stage, false, number(rest)?),
         "helps" => expect_any(rt, stage, true, 0),
         "saves" => {

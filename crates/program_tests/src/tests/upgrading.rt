@@ -25,7 +25,7 @@ saves kept.csa
 sample
 cut 4
 run upgrade - kept.csa
-refuses 63 BadLength
+answers refused 63 BadLength
 image 7
 holds kept.csa
 lacks kept.csa.part
