@@ -277,28 +277,35 @@ no_entries w low k secs le table =
     let within : a < stops = omega (arith, lt, table.size) in
     table.entry a within ∙ ap or_never (first_between-empty (secs_from w a) low k le) ∙ sym (get_or-replicate stops a NEVER 0 within))
 
+-- a table where the entry of one stop is written anew: it has those of other places, where these change nothing for other stops
+HasSecs-put : (w : List ℕ) (low end now_low now_end b secs_now : ℕ) (secs : List ℕ) → b < (header_of w).stops → HasSecs w low end secs
+    → secs_now ≡ or_never (first_between (secs_from w b) now_low now_end)
+    → ((a : ℕ) → b ≢ a → first_between (secs_from w a) now_low now_end ≡ first_between (secs_from w a) low end)
+    → HasSecs w now_low now_end (set secs b secs_now)
+HasSecs-put w low end now_low now_end b secs_now secs within table here others =
+    let inside : b < length secs = omega (arith, within, table.size) in
+    record {
+      size = length-set secs b secs_now ∙ table.size;
+      entry = λ a lt. elim (cases_eq b a) [
+        | inl same ↦
+            ap (λ (x : ℕ). get_or (set secs b secs_now) x 0) (sym same) ∙ get_or-set_same secs b secs_now 0 inside
+            ∙ here ∙ ap (λ (x : ℕ). or_never (first_between (secs_from w x) now_low now_end)) same
+        | inr other ↦ get_or-set_other secs b a secs_now 0 (λ e. other (sym e)) ∙ table.entry a lt ∙ ap or_never (sym (others a other))
+      ];
+    }
+
 -- one place more
 pub HasSecs-more : (w : List ℕ) (c k : ℕ) (secs : List ℕ) → HasFootRange w c → foot_index_of w c ≤ k → k < foot_index_of w (c + 1)
     → HasSecs w (foot_index_of w c) k secs → HasSecs w (foot_index_of w c) (k + 1) (set secs (foot_from_of w k) (foot_secs_of w k))
 HasSecs-more w c k secs range low high table =
-    let low_end = foot_index_of w c in
+    let start = foot_index_of w c in
     let b = foot_from_of w k in
-    let time = foot_secs_of w k in
-    let inside : b < length secs = omega (arith, range.from k low high, table.size) in
-    record {
-      size = length-set secs b time ∙ table.size;
-      entry = λ a lt. elim (cases_eq b a) [
-        | inl same ↦
-            let found : first_between (secs_from w a) low_end (k + 1) ≡ Some time =
-            first_between-found (secs_from w a) low_end (k + 1) k time low (omega arith)
-            (first_between-all (secs_from w a) low_end k (λ j jl jh. secs_elsewhere w a j (λ e. omega (arith, rises_later w c j k range jl jh high, e, same))))
-            (secs_here w a k same) in
-            ap (λ (x : ℕ). get_or (set secs b time) x 0) (sym same) ∙ get_or-set_same secs b time 0 inside ∙ sym (ap or_never found)
-        | inr other ↦
-            get_or-set_other secs b a time 0 (λ e. other (sym e)) ∙ table.entry a lt
-            ∙ ap or_never (sym (without_last (secs_from w a) low_end k low (secs_elsewhere w a k other)))
-      ];
-    }
+    let none_before : first_between (secs_from w b) start k ≡ None =
+    first_between-all (secs_from w b) start k (λ j jl jh. secs_elsewhere w b j (λ e. omega (arith, rises_later w c j k range jl jh high, e))) in
+    let found : first_between (secs_from w b) start (k + 1) ≡ Some (foot_secs_of w k) =
+    first_between-found (secs_from w b) start (k + 1) k (foot_secs_of w k) low (omega arith) none_before (secs_here w b k refl) in
+    HasSecs-put w start k start (k + 1) b (foot_secs_of w k) secs (range.from k low high) table (sym (ap or_never found))
+    (λ a other. without_last (secs_from w a) start k low (secs_elsewhere w a k other))
 
 -- one place less
 pub HasSecs-less : (w : List ℕ) (c k : ℕ) (secs : List ℕ) → HasFootRange w c → foot_index_of w c ≤ k → k < foot_index_of w (c + 1)
@@ -306,19 +313,10 @@ pub HasSecs-less : (w : List ℕ) (c k : ℕ) (secs : List ℕ) → HasFootRange
 HasSecs-less w c k secs range low high table =
     let end = foot_index_of w (c + 1) in
     let b = foot_from_of w k in
-    let inside : b < length secs = omega (arith, range.from k low high, table.size) in
-    record {
-      size = length-set secs b NEVER ∙ table.size;
-      entry = λ a lt. elim (cases_eq b a) [
-        | inl same ↦
-            let none : first_between (secs_from w a) (k + 1) end ≡ None =
-            first_between-all (secs_from w a) (k + 1) end (λ j jl jh. secs_elsewhere w a j (λ e. omega (arith, rises_later w c k j range low (omega (arith, jl)) jh, e, same))) in
-            ap (λ (x : ℕ). get_or (set secs b NEVER) x 0) (sym same) ∙ get_or-set_same secs b NEVER 0 inside ∙ sym (ap or_never none)
-        | inr other ↦
-            get_or-set_other secs b a NEVER 0 (λ e. other (sym e)) ∙ table.entry a lt
-            ∙ ap or_never (sym (without_first (secs_from w a) k end high (secs_elsewhere w a k other)))
-      ];
-    }
+    let none : first_between (secs_from w b) (k + 1) end ≡ None =
+    first_between-all (secs_from w b) (k + 1) end (λ j jl jh. secs_elsewhere w b j (λ e. omega (arith, rises_later w c k j range low (omega (arith, jl)) jh, e))) in
+    HasSecs-put w k end (k + 1) end b NEVER secs (range.from k low high) table (sym (ap or_never none))
+    (λ a other. without_first (secs_from w a) k end high (secs_elsewhere w a k other))
 
 -- the fault by way of stop b to stop c from where the footpath at place i begins
 abbrev pub open_at : List ℕ → ℕ → ℕ → ℕ → Option ImageFault

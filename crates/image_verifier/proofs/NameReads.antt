@@ -1,5 +1,5 @@
 -- The names that accepted words show.
-use Rattle.std.proofs.Common.{◌≡◌, ℕ, ◌+◌, ◌-◌, ◌<◌, ◌≤◌, List, length, drop, map, Some, refl, sym, ap, ◌∙◌, arith}
+use Rattle.std.proofs.Common.{◌≡◌, ℕ, ◌+◌, ◌-◌, ◌<◌, ◌≤◌, List, length, drop, map, Some, refl, sym, subst, ap, ◌∙◌, arith}
 use Rattle.std.specs.Prelude.{slice_get}
 use Rattle.std.specs.List.{range_with_len}
 use Rattle.std.specs.Option.{option_map}
@@ -7,12 +7,13 @@ use Rattle.std.proofs.lemmas.List.{length-drop, length-take-le}
 use Rattle.std.proofs.lemmas.Option.{slice_get-get_or}
 use Rattle.std.proofs.lemmas.List.FromFn.{length-map-range_with_len, get_or-map-range_with_len}
 use Rattle.timetable.specs.Legal.{At}
-use Rattle.timetable.specs.NamesValue.{NamesValue, TripNameValue}
+use Rattle.timetable.specs.NamesValue.{TripNameValue}
 use Rattle.image_layout.specs.Places.{header_of}
-use Rattle.image_layout.specs.Fields.{name_index_of}
+use Rattle.image_layout.specs.Fields.{name_index_of, layout_of}
 use Rattle.image_layout.specs.Text.{padded_text_of}
 use Rattle.image_layout.specs.Spelling.{name_list}
-use Rattle.image_layout.specs.Shown.{name_count, name_of, trip_name_of, names_of}
+use Rattle.image_layout.specs.Image.{ImageValue}
+use Rattle.image_layout.specs.Shown.{name_count, name_of, trip_name_of, names_of, timetable_of}
 use Rattle.image_layout.proofs.Names.{names_are}
 use Rattle.image_layout.proofs.Whole.{text_is_long}
 use Rattle.image_verifier.specs.Accepted.{IsAccepted}
@@ -56,10 +57,30 @@ stop_name_shown w s name e = shown_in (name_of w) (header_of w).stops s name e
 pub trip_name_is : (w : List ℕ) (t : ℕ) → t < (header_of w).trips → At (names_of w).trips t (trip_name_of w t)
 trip_name_is w t lt = made_at (trip_name_of w) (header_of w).trips t lt
 
--- what is told of a trip's name, where it is what the words show
-pub trip_told : (tell : TripNameValue → ℕ) (names : NamesValue) (w : List ℕ) (t told : ℕ) → names ≡ names_of w → t < (header_of w).trips
-    → told ≡ tell (trip_name_of w t) → option_map tell (slice_get names.trips t) ≡ Some told
-trip_told tell names w t told same lt is =
-    ap (λ (n : NamesValue). option_map tell (slice_get n.trips t)) same
-    ∙ ap (λ o. option_map tell o) (trip_name_is w t lt)
-    ∙ ap Some (sym is)
+-- what the words show
+abbrev pub shown : List ℕ → ImageValue
+shown w = record { layout = layout_of w; timetable = timetable_of w; names = names_of w }
+
+-- a number of a name of the image is one of the words'
+pub within_names : (image : ImageValue) (w words : List ℕ) (i : ℕ) → shown w ≡ image → words ≡ w
+    → i < image.timetable.stops + image.timetable.trips → i < name_count words
+within_names image w words i is same lt =
+    subst (λ (x : List ℕ). i < name_count x) (sym same) (subst (λ (v : ImageValue). i < v.timetable.stops + v.timetable.trips) (sym is) lt)
+
+-- a name of the image is that of the words
+pub name_told : (image : ImageValue) (w words : List ℕ) (i : ℕ) (name : List ℕ) → shown w ≡ image → words ≡ w
+    → At (name_list image.names) i name → name_of words i ≡ name
+name_told image w words i name is same at =
+    ap (λ (x : List ℕ). name_of x i) same ∙ sym (name_shown w i name (subst (λ (v : ImageValue). At (name_list v.names) i name) (sym is) at)).1
+
+-- a trip of the image is one of the words'
+pub within_trips : (image : ImageValue) (w words : List ℕ) (t : ℕ) → shown w ≡ image → words ≡ w → t < image.timetable.trips → t < (header_of words).trips
+within_trips image w words t is same lt = subst (λ (x : List ℕ). t < (header_of x).trips) (sym same) (subst (λ (v : ImageValue). t < v.timetable.trips) (sym is) lt)
+
+-- what is told of a trip's name in the words is told of the image's
+pub trip_told : (tell : TripNameValue → ℕ) (image : ImageValue) (w words : List ℕ) (t told : ℕ) → shown w ≡ image → words ≡ w
+    → t < image.timetable.trips → told ≡ tell (trip_name_of words t) → option_map tell (slice_get image.names.trips t) ≡ Some told
+trip_told tell image w words t told is same lt e =
+    ap (λ (v : ImageValue). option_map tell (slice_get v.names.trips t)) (sym is)
+    ∙ ap (λ o. option_map tell o) (trip_name_is w t (within_trips image w w t is refl lt))
+    ∙ ap Some (ap (λ (x : List ℕ). tell (trip_name_of x t)) (sym same) ∙ sym e)

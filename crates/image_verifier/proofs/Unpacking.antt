@@ -45,3 +45,7 @@ next_taken {X} xs taken k x lt so_far at =
     ap (λ (ys : List X). ys ++ x ∷ []) so_far
     ∙ ap (λ (y : X). take k xs ++ y ∷ []) (sym (get_or_from_slice_get xs k x x at))
     ∙ sym (take_more xs k x lt)
+
+-- all of them, once as many are made as there are
+pub all_made : {X : Type 0} (made : ℕ → List X) (k count : ℕ) (xs : List X) → xs ≡ made k → k ≡ count → xs ≡ made count
+all_made made k count xs so_far all = so_far ∙ ap made all

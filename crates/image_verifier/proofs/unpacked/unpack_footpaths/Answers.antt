@@ -1,10 +1,10 @@
-use Rattle.std.proofs.Common.{◌≡◌, ◌∙◌, ℕ, List, ◌++◌, sym, ap, arith}
+use Rattle.std.proofs.Common.{◌∙◌, ℕ, List, ◌++◌, sym, ap, arith}
 use Rattle.std.specs.List.{flat_map, range_with_len}
 use Rattle.timetable.specs.declared.network.Footpath.{Footpath}
 use Rattle.image_layout.specs.declared.header.Header.{Header}
 use Rattle.image_layout.specs.Places.{header_of}
 use Rattle.image_layout.specs.Shown.{footpaths_into, footpaths_of}
-use Rattle.image_verifier.proofs.Unpacking.{next_piece}
+use Rattle.image_verifier.proofs.Unpacking.{next_piece, all_made}
 use Rattle.image_verifier.proofs.unpacked.unpack_footpaths.Goals as goal
 
 pub loop-stop-preserved : goal.loop-stop-preserved
@@ -18,5 +18,5 @@ pub returns : goal.returns
 unfolding footpaths_of
 returns c =
     let stops = ap (λ (h : Header). h.stops) c.of-header.ensures in
-    let all : c.loop-stop.stop ≡ (header_of c.args.words.now).stops = omega (arith, c.loop-stop-test.false, c.loop-stop.auto, stops) in
-    c.loop-stop.invariant ∙ ap (λ (n : ℕ). flat_map (footpaths_into c.args.words.now) (range_with_len 0 n)) all
+    all_made (λ (n : ℕ). flat_map (footpaths_into c.args.words.now) (range_with_len 0 n)) c.loop-stop.stop (header_of c.args.words.now).stops _ c.loop-stop.invariant
+    (omega (arith, c.loop-stop-test.false, c.loop-stop.auto, stops))

@@ -1,10 +1,10 @@
-use Rattle.std.proofs.Common.{◌≡◌, ◌∙◌, ℕ, map, ap, arith}
+use Rattle.std.proofs.Common.{◌∙◌, ℕ, map, ap, arith}
 use Rattle.std.specs.Prelude.{string_bytes}
 use Rattle.std.specs.List.{range_with_len}
 use Rattle.image_layout.specs.declared.header.Header.{Header}
 use Rattle.image_layout.specs.Places.{header_of}
 use Rattle.image_layout.specs.Shown.{name_of}
-use Rattle.image_verifier.proofs.Unpacking.{next_shown}
+use Rattle.image_verifier.proofs.Unpacking.{next_shown, all_made}
 use Rattle.image_verifier.proofs.unpacked.unpack_stop_names.Goals as goal
 
 pub loop-stop-preserved : goal.loop-stop-preserved
@@ -14,5 +14,5 @@ loop-stop-preserved c =
 pub returns : goal.returns
 returns c =
     let count = ap (λ (h : Header). h.stops) c.of.ensures in
-    let all : c.loop-stop.stop ≡ (header_of c.args.words.now).stops = omega (arith, c.loop-stop-test.false, c.loop-stop.auto, count) in
-    c.loop-stop.invariant ∙ ap (λ (n : ℕ). map (name_of c.args.words.now) (range_with_len 0 n)) all
+    all_made (λ (n : ℕ). map (name_of c.args.words.now) (range_with_len 0 n)) c.loop-stop.stop (header_of c.args.words.now).stops _ c.loop-stop.invariant
+    (omega (arith, c.loop-stop-test.false, c.loop-stop.auto, count))

@@ -1,10 +1,10 @@
-use Rattle.std.proofs.Common.{◌≡◌, ◌∙◌, ℕ, ◌+◌, map, ap, arith}
+use Rattle.std.proofs.Common.{◌∙◌, ℕ, ◌+◌, map, ap, arith}
 use Rattle.std.specs.Prelude.{string_bytes}
 use Rattle.std.specs.List.{range_with_len}
 use Rattle.image_layout.specs.declared.header.Header.{Header}
 use Rattle.image_layout.specs.Places.{header_of}
 use Rattle.image_layout.specs.Shown.{name_of, trip_name_of}
-use Rattle.image_verifier.proofs.Unpacking.{next_one}
+use Rattle.image_verifier.proofs.Unpacking.{next_one, all_made}
 use Rattle.image_verifier.proofs.unpacked.unpack_trip_names.Goals as goal
 use Rattle.image_layout.proofs.BackNames.{label_is}
 
@@ -19,5 +19,5 @@ loop-trip-preserved c =
 pub returns : goal.returns
 returns c =
     let trips = ap (λ (h : Header). h.trips) c.of-header.ensures in
-    let all : c.loop-trip.trip ≡ (header_of c.args.words.now).trips = omega (arith, c.loop-trip-test.false, c.loop-trip.auto, trips) in
-    c.loop-trip.invariant ∙ ap (λ (n : ℕ). map (trip_name_of c.args.words.now) (range_with_len 0 n)) all
+    all_made (λ (n : ℕ). map (trip_name_of c.args.words.now) (range_with_len 0 n)) c.loop-trip.trip (header_of c.args.words.now).trips _ c.loop-trip.invariant
+    (omega (arith, c.loop-trip-test.false, c.loop-trip.auto, trips))
