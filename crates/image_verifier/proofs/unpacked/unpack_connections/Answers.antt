@@ -12,6 +12,5 @@ loop-i-preserved c = c.in_ok-push.ensures.items ∙ next_one (connection_of c.ar
 pub returns : goal.returns
 unfolding connections_of
 returns c =
-    let count = ap (λ (h : Header). h.connections) c.of-count.ensures in
     all_made (λ (n : ℕ). map (connection_of c.args.words.now) (range_with_len 0 n)) c.loop-i.i (header_of c.args.words.now).connections _ c.loop-i.invariant
-    (omega (arith, c.loop-i-test.false, c.loop-i.auto, count))
+    (omega (arith, c.loop-i-test.false, c.loop-i.auto, ap (λ (h : Header). h.connections) c.of-count.ensures))

@@ -13,6 +13,5 @@ loop-stop-preserved c =
 
 pub returns : goal.returns
 returns c =
-    let count = ap (λ (h : Header). h.stops) c.of.ensures in
     all_made (λ (n : ℕ). map (name_of c.args.words.now) (range_with_len 0 n)) c.loop-stop.stop (header_of c.args.words.now).stops _ c.loop-stop.invariant
-    (omega (arith, c.loop-stop-test.false, c.loop-stop.auto, count))
+    (omega (arith, c.loop-stop-test.false, c.loop-stop.auto, ap (λ (h : Header). h.stops) c.of.ensures))

@@ -18,6 +18,5 @@ loop-trip-preserved c =
 
 pub returns : goal.returns
 returns c =
-    let trips = ap (λ (h : Header). h.trips) c.of-header.ensures in
     all_made (λ (n : ℕ). map (trip_name_of c.args.words.now) (range_with_len 0 n)) c.loop-trip.trip (header_of c.args.words.now).trips _ c.loop-trip.invariant
-    (omega (arith, c.loop-trip-test.false, c.loop-trip.auto, trips))
+    (omega (arith, c.loop-trip-test.false, c.loop-trip.auto, ap (λ (h : Header). h.trips) c.of-header.ensures))
