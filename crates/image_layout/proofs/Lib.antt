@@ -10,3 +10,4 @@ pub mod BackNames
 pub mod NameByte
 pub mod WordList
 pub mod SampleImage
+pub mod Computed

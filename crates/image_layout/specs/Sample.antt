@@ -1,18 +1,25 @@
 -- Two small timetables with their names, and words of the second, in each layout.
 use Rattle.std.specs.Prelude.{ℕ, List, [], ◌∷◌, true, false, pos, negsuc, codes}
 use Rattle.timetable.specs.TimetableValue.{TimetableValue}
+use Rattle.timetable.specs.declared.network.Connection.{Connection}
+use Rattle.timetable.specs.declared.network.Footpath.{Footpath}
 use Rattle.timetable.specs.NamesValue.{NamesValue}
+
+-- a connection where all may board and alight
+abbrev open_connection : ℕ → ℕ → ℕ → ℕ → ℕ → Connection
+open_connection from to dep arr trip = record { from = from; to = to; dep = dep; arr = arr; trip = trip; board = true; alight = true }
+
+-- a change that takes no time
+abbrev free_change : ℕ → Footpath
+free_change stop = record { from = stop; to = stop; secs = 0 }
 
 -- three stops, two trips of two connections and of one, and the loops
 abbrev pub sample_timetable : TimetableValue
 sample_timetable = record {
   stops = 3;
   trips = 2;
-  connections =
-      record { from = 0; to = 1; dep = 28800; arr = 29400; trip = 0; board = true; alight = true }
-      ∷ record { from = 1; to = 2; dep = 29400; arr = 30600; trip = 0; board = true; alight = true }
-      ∷ record { from = 1; to = 2; dep = 29520; arr = 30000; trip = 1; board = true; alight = true } ∷ [];
-  footpaths = record { from = 0; to = 0; secs = 0 } ∷ record { from = 1; to = 1; secs = 0 } ∷ record { from = 2; to = 2; secs = 0 } ∷ [];
+  connections = open_connection 0 1 28800 29400 0 ∷ open_connection 1 2 29400 30600 0 ∷ open_connection 1 2 29520 30000 1 ∷ [];
+  footpaths = free_change 0 ∷ free_change 1 ∷ free_change 2 ∷ [];
 }
 
 -- its times count from 2024-01-15T00:00:00Z
@@ -39,21 +46,20 @@ early_timetable = record {
       ∷ record { from = 1; to = 1; secs = 90 } ∷ [];
 }
 
--- its times count from 1969-12-31T00:00:00Z; a stop has no name
-abbrev pub early_names : NamesValue
-early_names = record {
+-- its times count from 1969-12-31T00:00:00Z; a stop has no name; the first trip is a first or a repeat
+abbrev names_with : ℕ → NamesValue
+names_with repeat = record {
   base = negsuc 86399;
   stops = [] ∷ codes "Port" ∷ [];
-  trips = record { name = codes "12"; day = 19691231; repeat = 0 } ∷ record { name = codes "ABC"; day = 19700101; repeat = 0 } ∷ [];
+  trips = record { name = codes "12"; day = 19691231; repeat = repeat } ∷ record { name = codes "ABC"; day = 19700101; repeat = 0 } ∷ [];
 }
+
+abbrev pub early_names : NamesValue
+early_names = names_with 0
 
 -- the same trips as repeats of others
 abbrev pub repeated_names : NamesValue
-repeated_names = record {
-  base = negsuc 86399;
-  stops = [] ∷ codes "Port" ∷ [];
-  trips = record { name = codes "12"; day = 19691231; repeat = 5 } ∷ record { name = codes "ABC"; day = 19700101; repeat = 0 } ∷ [];
-}
+repeated_names = names_with 5
 
 -- worked out by hand, a section a line; in the first layout
 abbrev pub early_words : List ℕ

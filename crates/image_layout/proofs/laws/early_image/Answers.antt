@@ -1,12 +1,8 @@
-use Rattle.std.proofs.Common.{refl}
-use Rattle.image_layout.specs.Spelling.{image_in, text_words}
-use Rattle.image_layout.specs.Shown.{connections_of, footpaths_of}
+use Rattle.image_layout.proofs.Computed.{are_spelled, show_their_timetable}
 use Rattle.image_layout.proofs.laws.early_image.Goals as goal
 
 pub returns-clause-spelled : goal.returns-clause-spelled
-unfolding image_in text_words
-returns-clause-spelled c = refl
+returns-clause-spelled c = are_spelled.0
 
 pub returns-clause-timetable : goal.returns-clause-timetable
-unfolding connections_of footpaths_of
-returns-clause-timetable c = refl
+returns-clause-timetable c = show_their_timetable.0
