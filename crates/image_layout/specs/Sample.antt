@@ -1,5 +1,5 @@
 -- Two small timetables with their names, and words of the second, in each layout.
-use Rattle.std.specs.Prelude.{ℕ, List, [], ◌∷◌, true, false, pos, negsuc, codes}
+use Rattle.std.specs.Prelude.{ℕ, List, [], ◌∷◌, ◌++◌, true, false, pos, negsuc, codes}
 use Rattle.timetable.specs.TimetableValue.{TimetableValue}
 use Rattle.timetable.specs.declared.network.Connection.{Connection}
 use Rattle.timetable.specs.declared.network.Footpath.{Footpath}
@@ -61,25 +61,21 @@ early_names = names_with 0
 abbrev pub repeated_names : NamesValue
 repeated_names = names_with 5
 
--- worked out by hand, a section a line; in the first layout
-abbrev pub early_words : List ℕ
-early_words =
-    1346458435 ∷ 1 ∷ 2 ∷ 2 ∷ 3 ∷ 4 ∷ 9 ∷ 4294880896 ∷ 4294967295
+-- worked out by hand, a section a line: in a layout, with what it has of repeats before the text
+abbrev words_with : ℕ → List ℕ → List ℕ
+words_with layout repeats =
+    1346458435 ∷ layout ∷ 2 ∷ 2 ∷ 3 ∷ 4 ∷ 9 ∷ 4294880896 ∷ 4294967295
     ∷ 0 ∷ 1 ∷ 10 ∷ 20 ∷ 1 ∷ 1 ∷ 1 ∷ 0 ∷ 30 ∷ 50 ∷ 1 ∷ 2 ∷ 1 ∷ 0 ∷ 40 ∷ 60 ∷ 0 ∷ 3
     ∷ 0 ∷ 2 ∷ 4
     ∷ 0 ∷ 120 ∷ 1 ∷ 300 ∷ 0 ∷ 240 ∷ 1 ∷ 90
     ∷ 0 ∷ 0 ∷ 4 ∷ 6 ∷ 9
     ∷ 19691231 ∷ 19700101
-    ∷ 0x7472_6f50 ∷ 0x4241_3231 ∷ 0x43 ∷ []
+    ∷ (repeats ++ 0x7472_6f50 ∷ 0x4241_3231 ∷ 0x43 ∷ [])
 
--- and with the repeats, before the text
+-- in the first layout
+abbrev pub early_words : List ℕ
+early_words = words_with 1 []
+
+-- in the one that is written
 abbrev pub repeated_words : List ℕ
-repeated_words =
-    1346458435 ∷ 2 ∷ 2 ∷ 2 ∷ 3 ∷ 4 ∷ 9 ∷ 4294880896 ∷ 4294967295
-    ∷ 0 ∷ 1 ∷ 10 ∷ 20 ∷ 1 ∷ 1 ∷ 1 ∷ 0 ∷ 30 ∷ 50 ∷ 1 ∷ 2 ∷ 1 ∷ 0 ∷ 40 ∷ 60 ∷ 0 ∷ 3
-    ∷ 0 ∷ 2 ∷ 4
-    ∷ 0 ∷ 120 ∷ 1 ∷ 300 ∷ 0 ∷ 240 ∷ 1 ∷ 90
-    ∷ 0 ∷ 0 ∷ 4 ∷ 6 ∷ 9
-    ∷ 19691231 ∷ 19700101
-    ∷ 5 ∷ 0
-    ∷ 0x7472_6f50 ∷ 0x4241_3231 ∷ 0x43 ∷ []
+repeated_words = words_with 2 (5 ∷ 0 ∷ [])
