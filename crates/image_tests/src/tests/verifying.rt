@@ -85,14 +85,6 @@ fn assert_counts<R: Abort>(rt: &R, image: &Verified) {
 }
 
 #[test]
-fn counts_and_connections_are_read_back(rt: HostRuntime) -> Result<(), Fail> {
-    let image = image(rt.alloc(), &EARLY)?;
-    assert_counts(&rt, &image);
-    assert_connections(&rt, &image);
-    Ok(())
-}
-
-#[test]
 fn first_departures_are_found(rt: HostRuntime) -> Result<(), Fail> {
     let image = image(rt.alloc(), &EARLY)?;
     for (time, first) in [
@@ -137,8 +129,10 @@ fn assert_walks<R: Abort>(rt: &R, image: &Verified) {
 }
 
 #[test]
-fn footpaths_are_read_back(rt: HostRuntime) -> Result<(), Fail> {
+fn a_timetable_is_read_back(rt: HostRuntime) -> Result<(), Fail> {
     let image = image(rt.alloc(), &EARLY)?;
+    assert_counts(&rt, &image);
+    assert_connections(&rt, &image);
     assert_footpaths(&rt, &image);
     assert_walks(&rt, &image);
     Ok(())

@@ -69,84 +69,37 @@ fn early_connections() -> [Connection; 3] {
     ]
 }
 
-/// A connection as its fields tell it one by one. Bit 0 of its flags says that one may board, bit 1 that one may alight.
-fn told_by_fields(words: &[u32], i: usize) -> Connection
+/// The six words of a connection, each read by itself. Bit 0 of the last says that one may board, bit 1 that one may alight.
+fn six_words(words: &[u32], i: usize) -> [u32; 6]
     requires whole { IsWhole words.now }
     requires within { i < (header_of words.now).connections }
 {
-    let flags = flags_at(words, i);
-    Connection {
-        from: from_at(words, i),
-        to: to_at(words, i),
-        dep: dep_at(words, i),
-        arr: arr_at(words, i),
-        trip: trip_at(words, i),
-        board: flags % 2 == 1,
-        alight: flags / 2 == 1,
-    }
+    [
+        from_at(words, i),
+        to_at(words, i),
+        dep_at(words, i),
+        arr_at(words, i),
+        trip_at(words, i),
+        flags_at(words, i),
+    ]
 }
 
 #[test]
 fn connections_are_read(rt: HostRuntime) {
     let words = early_words();
     let wanted = early_connections();
+    let fields = [
+        [0, 1, 10, 20, 1, 1],
+        [1, 0, 30, 50, 1, 2],
+        [1, 0, 40, 60, 0, 3],
+    ];
     for i in 0..3 {
         assert!(rt; connection_at(&words, i) == wanted[i]);
-        assert!(rt; told_by_fields(&words, i) == wanted[i]);
+        let told = six_words(&words, i);
+        assert!(rt; told == fields[i]);
+        assert!(rt; wanted[i].board == (told[5] % 2 == 1));
+        assert!(rt; wanted[i].alight == (told[5] / 2 == 1));
     }
-}
-
-/// Where the footpaths into each of two stops begin, and where they end.
-fn foot_indices(words: &[u32]) -> [u32; 3]
-    requires whole { IsWhole words.now }
-    requires stops { (header_of words.now).stops ≡ 2 }
-{
-    [
-        foot_index_at(words, 0),
-        foot_index_at(words, 1),
-        foot_index_at(words, 2),
-    ]
-}
-
-/// The stops that four footpaths leave.
-fn feet_from(words: &[u32]) -> [u32; 4]
-    requires whole { IsWhole words.now }
-    requires footpaths { (header_of words.now).footpaths ≡ 4 }
-{
-    [
-        foot_from_at(words, 0),
-        foot_from_at(words, 1),
-        foot_from_at(words, 2),
-        foot_from_at(words, 3),
-    ]
-}
-
-/// Their seconds.
-fn feet_secs(words: &[u32]) -> [u32; 4]
-    requires whole { IsWhole words.now }
-    requires footpaths { (header_of words.now).footpaths ≡ 4 }
-{
-    [
-        foot_secs_at(words, 0),
-        foot_secs_at(words, 1),
-        foot_secs_at(words, 2),
-        foot_secs_at(words, 3),
-    ]
-}
-
-/// Where each of four names begins, and where they end.
-fn name_indices(words: &[u32]) -> [u32; 5]
-    requires whole { IsWhole words.now }
-    requires stops { (header_of words.now).stops ≡ 2 }
-    requires trips { (header_of words.now).trips ≡ 2 }
-{
-    [
-        name_index_at(words, 0),
-        name_index_at(words, 1),
-        name_index_at(words, 2),
-        name_index_at(words, 3),
-        name_index_at(words, 4),
-    ]
 }
 
 /// The second name, of four bytes.
@@ -180,12 +133,30 @@ fn other_fields_are_read(rt: HostRuntime) {
     assert!(rt; magic_at(&words) == MAGIC);
     assert!(rt; layout_at(&words) == FIRST_LAYOUT);
     assert!(rt; base_at(&words) == -86400);
-    assert!(rt; foot_indices(&words) == [0, 2, 4]);
-    assert!(rt; feet_from(&words) == [0, 1, 0, 1]);
-    assert!(rt; feet_secs(&words) == [120, 300, 240, 90]);
-    assert!(rt; name_indices(&words) == [0, 0, 4, 6, 9]);
     assert!(rt; second_name(&words) == *b"Port");
     assert!(rt; days_and_repeats(&words) == [(19691231, 0), (19700101, 0)]);
+}
+
+/// Where the footpaths into each of two stops begin, and where they end; and what each tells.
+#[test]
+fn footpaths_are_read(rt: HostRuntime) {
+    let words = early_words();
+    for stop in 0..3 {
+        assert!(rt; foot_index_at(&words, stop) == [0, 2, 4][stop]);
+    }
+    for place in 0..4 {
+        assert!(rt; foot_from_at(&words, place) == [0, 1, 0, 1][place]);
+        assert!(rt; foot_secs_at(&words, place) == [120, 300, 240, 90][place]);
+    }
+}
+
+/// Where each of four names begins, and where they end.
+#[test]
+fn names_begin_at_their_bytes(rt: HostRuntime) {
+    let words = early_words();
+    for name in 0..5 {
+        assert!(rt; name_index_at(&words, name) == [0, 0, 4, 6, 9][name]);
+    }
 }
 
 #[test]
