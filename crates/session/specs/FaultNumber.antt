@@ -2,12 +2,7 @@
 use Rattle.std.specs.Prelude.{ℕ, List, codes}
 use Rattle.session.specs.declared.fault.SessionFault.{SessionFault}
 
-abbrev pub session_fault_number : SessionFault → ℕ
-session_fault_number SessionFault.ReadFailed = 117
-session_fault_number SessionFault.WriteFailed = 118
-session_fault_number SessionFault.TooManyRequests = 119
-
-abbrev pub session_fault_name : SessionFault → List ℕ
-session_fault_name SessionFault.ReadFailed = codes "ReadFailed"
-session_fault_name SessionFault.WriteFailed = codes "WriteFailed"
-session_fault_name SessionFault.TooManyRequests = codes "TooManyRequests"
+abbrev pub told_as : SessionFault → ℕ × List ℕ
+told_as SessionFault.ReadFailed = (117, codes "ReadFailed")
+told_as SessionFault.WriteFailed = (118, codes "WriteFailed")
+told_as SessionFault.TooManyRequests = (119, codes "TooManyRequests")

@@ -1,7 +1,7 @@
 //! How a session ends.
 
 ghost use Rattle.std.specs.Prelude.{◌≡◌};
-ghost use Rattle.session.specs.FaultNumber.{session_fault_name, session_fault_number};
+ghost use Rattle.session.specs.FaultNumber.{told_as};
 
 use reasoning::variant_name;
 use thiserror::Error;
@@ -27,14 +27,14 @@ pub enum SessionFault {
 impl SessionFault {
     /// The number by which the fault is told, from 117 to 119.
     pub fn number(self) -> u8
-        ensures { result ≡ session_fault_number self }
+        ensures { result ≡ (told_as self).0 }
     {
         self as u8
     }
 
     /// The name by which the fault is told, as `ReadFailed`.
     pub fn name(self) -> &'static str
-        ensures { result.now ≡ session_fault_name self }
+        ensures { result.now ≡ (told_as self).1 }
     {
         variant_name!(self, SessionFault: ReadFailed, WriteFailed, TooManyRequests)
     }
