@@ -1,13 +1,5 @@
-//! Versions of timetables: tests alone. Of `version_core` is `machine`, of `shelf_steps` are `steps` and `plain_store`, of `epochs` is `shelves`.
+//! Versions of timetables, from the machine of versions to the shelves that it is run on: tests alone.
 #![tactic(auto)]
 
 #[cfg(test)]
-mod images;
-#[cfg(test)]
-mod machine;
-#[cfg(test)]
-mod plain_store;
-#[cfg(test)]
-mod shelves;
-#[cfg(test)]
-mod steps;
+mod tests;

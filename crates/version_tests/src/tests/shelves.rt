@@ -1,0 +1,286 @@
+mod scripts;
+mod stages;
+mod threads;
+
+ghost use Rattle.std.specs.Prelude.{◌≡◌, IfOk};
+ghost use Rattle.std.specs.List.{All};
+
+use crate::tests::images::image;
+use epochs::*;
+use image_verifier::Verified;
+use std::alloc::{AllocError, Global};
+use std::process::Abort;
+use std::sync::{Arc, Wait};
+use std::test::*;
+
+/// Publishes: the version, or the fault and the second of the image that came back.
+fn publish<R: Wait>(
+    rt: &R,
+    shelves: &LockedShelves,
+    loader: &mut LoaderSeat,
+    image: Arc<Verified, Global>,
+) -> Result<u64, (i64, PublishFault)> {
+    match shelves.publish(rt, loader, image) {
+        Ok(version) => Ok(version),
+        Err((image, fault)) => Err((image.base(), fault)),
+    }
+}
+
+/// Pins, reads the version, and releases.
+fn current_version<R: Wait>(
+    rt: &R,
+    shelves: &LockedShelves,
+    seat: &mut WorkerSeat,
+) -> Result<u64, PinFault> {
+    shelves.pin(rt, seat)?;
+    let version = match seat.edition() {
+        Some(edition) => edition.version,
+        None => return Err(PinFault::NotPinned),
+    };
+    shelves.release(rt, seat)?;
+    Ok(version)
+}
+
+/// Whether each call of a new table does what it is to do once.
+fn calls_succeed(
+    table: &mut VersionTable,
+    seat: &mut WorkerSeat,
+    loader: &mut LoaderSeat,
+    image: Arc<Verified, Global>,
+) -> bool {
+    let is_pinned = table.pin(seat).is_ok();
+    let is_published = table.publish(loader, image).is_ok();
+    let found = table.collect(loader);
+    let is_seen = seat.seen() == 1 && seat.is_holding() && found.busy[0] == 1;
+    let is_released = table.release(seat).is_ok();
+    table.history();
+    is_pinned && is_published && is_seen && is_released
+}
+
+/// The loader's seat and a worker's, of shelves that are let go.
+fn new_seats(alloc: Global) -> Result<(LoaderSeat, WorkerSeat), Fail> {
+    match LockedShelves::new(alloc, image(alloc, 1)?) {
+        Ok((_, loader, mut seats)) => match seats.pop() {
+            Some(seat) => Ok((loader, seat)),
+            None => Err("seats".into()),
+        },
+        Err(refused) => Err(unmade(refused)),
+    }
+}
+
+/// The table itself, whose calls the lock hands on.
+#[test]
+fn the_table_without_a_lock(rt: HostRuntime) -> Result<(), Fail> {
+    let alloc: Global = rt.alloc();
+    let second = image(alloc, 2)?;
+    let (mut loader, mut seat) = new_seats(alloc)?;
+    match VersionTable::new(alloc, image(alloc, 1)?) {
+        Ok(mut table) => {
+            assert!(&rt; calls_succeed(&mut table, &mut seat, &mut loader, second));
+            Ok(())
+        }
+        Err((_, refused)) => Err(refused.into()),
+    }
+}
+
+/// Why no shelves were made, of which version 1 begins at second 1: for want of memory, and the image comes back.
+fn unmade(refused: (Arc<Verified, Global>, PublishFault)) -> Fail {
+    let (first, fault) = refused;
+    if first.base() == 1 && fault == PublishFault::OutOfMemory {
+        AllocError.into()
+    } else {
+        fault.into()
+    }
+}
+
+/// New shelves, the loader's seat and the workers'. The image of version 1 begins at second 1.
+fn new_shelves(alloc: Global) -> Result<(Shelves, ShelfLoader, Vec<ShelfSeat>), Fail>
+    ensures loader { IfOk result (λ made. made.1.table ≡ made.0) }
+    ensures seats { IfOk result (λ made. All (λ seat. seat.table ≡ made.0) made.2.items) }
+{
+    match Shelves::new(alloc, image(alloc, 1)?) {
+        Ok(made) => Ok(made),
+        Err(refused) => Err(unmade(refused)),
+    }
+}
+
+/// The same with one worker's seat.
+fn open_shelves(alloc: Global) -> Result<(Shelves, ShelfLoader, ShelfSeat), Fail>
+    ensures { IfOk result (λ made. (made.1.table ≡ made.0) × (made.2.table ≡ made.0)) }
+{
+    match new_shelves(alloc) {
+        Ok((shelves, loader, mut seats)) => match seats.pop() {
+            Some(seat) => Ok((shelves, loader, seat)),
+            None => Err("seats".into()),
+        },
+        Err(refused) => Err(refused),
+    }
+}
+
+/// Publishes: the version, or the fault and the second of the image that came back.
+fn publish_openly(
+    shelves: &Shelves,
+    loader: &mut ShelfLoader,
+    image: Arc<Verified, Global>,
+) -> Result<u64, (i64, PublishFault)>
+    requires { loader.old.table ≡ shelves.now }
+{
+    match shelves.publish(loader, image) {
+        Ok((version, _)) => Ok(version),
+        Err((image, fault)) => Err((image.base(), fault)),
+    }
+}
+
+/// Pins: the version that is held.
+fn pin_openly(shelves: &Shelves, seat: &mut ShelfSeat) -> Option<u64>
+    requires { seat.old.table ≡ shelves.now }
+{
+    shelves.pin(seat).ok()?;
+    match seat.edition() {
+        Some(edition) => Some(edition.version),
+        None => None,
+    }
+}
+
+/// The word of the current version, and that of shelf 0.
+fn two_words(shelves: &Shelves) -> (u64, u64) {
+    (shelves.word(0), shelves.word(1))
+}
+
+fn words_change<R: Abort>(
+    rt: &R,
+    shelves: &Shelves,
+    loader: &mut ShelfLoader,
+    seat: &mut ShelfSeat,
+    image: Arc<Verified, Global>,
+)
+    requires { (loader.old.table ≡ shelves.now) × (seat.old.table ≡ shelves.now) }
+{
+    assert_eq!(rt; pin_openly(shelves, seat), Some(1));
+    assert!(rt; two_words(shelves) == (8, 65793) && seat.number() == 15);
+    assert_eq!(rt; publish_openly(shelves, loader, image), Ok(2));
+    assert!(rt; two_words(shelves) == (17, 66049));
+}
+
+/// The current version on its shelf, and shelf 0 with its count, before a version is published and after.
+#[test]
+fn words_of_shelves(rt: HostRuntime) -> Result<(), Fail> {
+    let image = image(rt.alloc(), 2)?;
+    match open_shelves(rt.alloc()) {
+        Ok((shelves, mut loader, mut seat)) => {
+            words_change(&rt, &shelves, &mut loader, &mut seat, image);
+            Ok(())
+        }
+        Err(refused) => Err(refused),
+    }
+}
+
+#[test]
+fn faults_have_numbers_and_names(rt: HostRuntime) -> Result<(), Fail> {
+    let pins = [
+        (PinFault::Moved { newest: 7 }, 91, "Moved"),
+        (PinFault::AlreadyPinned, 92, "AlreadyPinned"),
+        (PinFault::NotPinned, 93, "NotPinned"),
+        (PinFault::SeatLost, 97, "SeatLost"),
+        (PinFault::OutOfMemory, 98, "OutOfMemory"),
+    ];
+    for (fault, number, name) in pins.iter() {
+        assert!(&rt;
+            fault.number() == *number && fault.name() == *name,
+            "{name}"
+        );
+    }
+    let full = PublishFault::ShelvesFull { counts: [1; 8] };
+    let publishes = [
+        (full, 94, "ShelvesFull"),
+        (PublishFault::VersionsSpent, 95, "VersionsSpent"),
+        (PublishFault::OutOfMemory, 96, "OutOfMemory"),
+    ];
+    for (fault, number, name) in publishes.iter() {
+        assert!(&rt;
+            fault.number() == *number && fault.name() == *name,
+            "{name}"
+        );
+    }
+    Ok(())
+}
+
+/// Whether the image of the next second became the next version. Else it came back for want of memory, and the version that was
+/// current stays so.
+fn publishes_next<R: Wait + Abort>(
+    rt: &R,
+    shelves: &LockedShelves,
+    loader: &mut LoaderSeat,
+    seat: &mut WorkerSeat,
+    current: u32,
+    image: Arc<Verified, Global>,
+) -> bool {
+    let next = current.saturating_add(1);
+    let answer = publish(rt, shelves, loader, image);
+    if answer == Ok(u64::from(next)) {
+        return true;
+    }
+    assert_eq!(rt; answer, Err((i64::from(next), PublishFault::OutOfMemory)));
+    assert_eq!(rt; current_version(rt, shelves, seat), Ok(u64::from(current)));
+    false
+}
+
+fn publish_seven<R: Wait + Abort>(
+    rt: &R,
+    alloc: Global,
+    shelves: &LockedShelves,
+    loader: &mut LoaderSeat,
+    seat: &mut WorkerSeat,
+) -> Result<(), Fail> {
+    for current in 1..7u32 {
+        let image = image(alloc, current.saturating_add(1))?;
+        if !publishes_next(rt, shelves, loader, seat, current, image) {
+            return Err(AllocError.into());
+        }
+    }
+    Ok(())
+}
+
+/// Whichever growth is refused, the image comes back, and the version that was current stays so. A refused growth ends the
+/// test with `AllocError`.
+#[test]
+fn refused_growth_gives_the_image_back(rt: HostRuntime) -> Result<(), Fail> {
+    let alloc: Global = rt.alloc();
+    match LockedShelves::new(alloc, image(alloc, 1)?) {
+        Ok((shelves, mut loader, mut seats)) => match seats.pop() {
+            Some(mut seat) => publish_seven(&rt, alloc, &shelves, &mut loader, &mut seat),
+            None => Err("seats".into()),
+        },
+        Err(refused) => Err(unmade(refused)),
+    }
+}
+
+/// The same of a publish without a lock.
+fn publishes_openly<R: Abort>(
+    rt: &R,
+    shelves: &Shelves,
+    loader: &mut ShelfLoader,
+    seat: &mut ShelfSeat,
+    image: Arc<Verified, Global>,
+) -> Result<(), Fail>
+    requires { (loader.old.table ≡ shelves.now) × (seat.old.table ≡ shelves.now) }
+{
+    let answer = publish_openly(shelves, loader, image);
+    if answer == Ok(2) {
+        return Ok(());
+    }
+    assert_eq!(rt; answer, Err((2, PublishFault::OutOfMemory)));
+    assert_eq!(rt; pin_openly(shelves, seat), Some(1));
+    Err(AllocError.into())
+}
+
+#[test]
+fn a_refused_growth_gives_the_image_back(rt: HostRuntime) -> Result<(), Fail> {
+    let image = image(rt.alloc(), 2)?;
+    match open_shelves(rt.alloc()) {
+        Ok((shelves, mut loader, mut seat)) => {
+            publishes_openly(&rt, &shelves, &mut loader, &mut seat, image)
+        }
+        Err(refused) => Err(refused),
+    }
+}

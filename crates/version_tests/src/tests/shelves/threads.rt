@@ -1,0 +1,235 @@
+//! Workers in threads of their own, beside a loader that publishes.
+
+ghost use Rattle.std.specs.Prelude.{◌≡◌};
+ghost use Rattle.std.specs.List.{All};
+
+use super::scripts::play;
+use super::stages::{LockedStage, NamedStage, named_stage};
+use super::{current_version, new_shelves, publish};
+use crate::tests::images::image;
+use epochs::*;
+use image_verifier::Verified;
+use std::alloc::Global;
+use std::marker::Brand;
+use std::process::Abort;
+use std::sync::{Arc, Wait};
+use std::test::*;
+use std::thread;
+use std::thread::Threads;
+
+/// Images that begin at seconds from 2 on.
+fn images(alloc: Global, count: u32) -> Result<Vec<Arc<Verified, Global>>, Fail> {
+    let mut images = Vec::new(alloc);
+    for place in 0..count {
+        images.push(image(alloc, place.saturating_add(2))?)?;
+    }
+    Ok(images)
+}
+
+/// Whether a hundred pins gave versions that never fell.
+fn versions_rise<R: Wait>(rt: &R, shelves: &LockedShelves, seat: &mut WorkerSeat) -> bool {
+    let mut rising = true;
+    let mut last = 0;
+    for _ in 0..100 {
+        match current_version(rt, shelves, seat) {
+            Ok(version) => {
+                rising = rising && last <= version;
+                last = version;
+            }
+            Err(_) => rising = false,
+        }
+    }
+    rising
+}
+
+fn pins_in_turn<R: Wait>(rt: &R, shelves: &LockedShelves, seats: &mut [WorkerSeat]) -> bool {
+    let mut rising = true;
+    for seat in seats.iter_mut() {
+        rising = versions_rise(rt, shelves, seat) && rising;
+    }
+    rising
+}
+
+fn publishes_in_turn<R: Wait>(
+    rt: &R,
+    shelves: &LockedShelves,
+    loader: &mut LoaderSeat,
+    images: Vec<Arc<Verified, Global>>,
+) -> bool {
+    let mut all = true;
+    for image in images {
+        all = publish(rt, shelves, loader, image).is_ok() && all;
+        shelves.collect(rt, loader);
+    }
+    all
+}
+
+/// Each seat pins in turn, while images are published.
+fn pin_and_publish<R: Threads + Wait + Sync>(
+    rt: &R,
+    shelves: &LockedShelves,
+    seats: &mut [WorkerSeat],
+    loader: &mut LoaderSeat,
+    images: Vec<Arc<Verified, Global>>,
+) -> (bool, bool) {
+    thread::join(
+        rt,
+        || pins_in_turn(rt, shelves, seats),
+        || publishes_in_turn(rt, shelves, loader, images),
+    )
+}
+
+#[test]
+fn workers_beside_a_loader_under_a_lock(rt: HostRuntime) -> Result<(), Fail> {
+    let images = images(rt.alloc(), 10)?;
+    let mut stage = LockedStage::new(rt.alloc())?;
+    let (rising, all) = pin_and_publish(
+        &rt,
+        &stage.shelves,
+        &mut stage.seats,
+        &mut stage.loader,
+        images,
+    );
+    assert!(&rt; rising && all);
+    play(&rt, &mut stage, "pin 0: ok, 11 at 11")
+}
+
+/// Whether the image that begins at this second is that of the version.
+fn goes_with(edition: &Edition) -> bool {
+    match i64::try_from(edition.version) {
+        Ok(second) => second == edition.image.base(),
+        Err(_) => false,
+    }
+}
+
+/// Whether the seat holds the image of its version.
+fn holds_well<B: Named>(seat: &NamedSeat<B>) -> bool {
+    match NamedShelves::<B>::edition(seat) {
+        Some(edition) => goes_with(edition),
+        None => false,
+    }
+}
+
+/// Whether a pin holds the image of its version, which is given back.
+fn pins_well<B: Named, R: Wait>(
+    rt: &R,
+    shelves: &NamedShelves<B>,
+    seat: &mut NamedSeat<B>,
+) -> bool {
+    let pinned = shelves.pin(rt, seat);
+    let well = holds_well(seat) && pinned.is_ok();
+    let released = shelves.release(rt, seat);
+    released.is_ok() && well
+}
+
+/// How many of a thousand pins held the image of their version.
+fn pins_of<B: Named, R: Wait>(rt: &R, shelves: &NamedShelves<B>, seat: &mut NamedSeat<B>) -> u32 {
+    let mut held = 0u32;
+    for _ in 0..1000u32 {
+        if pins_well(rt, shelves, seat) {
+            held = held.wrapping_add(1);
+        }
+    }
+    held
+}
+
+/// How many of the images became versions, with a collection after each.
+fn publishes_of<B: Named, R: Wait>(
+    rt: &R,
+    shelves: &NamedShelves<B>,
+    loader: &mut NamedLoader<B>,
+    images: Vec<Arc<Verified, Global>>,
+) -> u32 {
+    let mut published = 0u32;
+    for image in images {
+        if shelves.publish(rt, loader, image).is_ok() {
+            published = published.wrapping_add(1);
+        }
+        let _found = shelves.collect(rt, loader);
+    }
+    published
+}
+
+/// Two seats pin beside one another.
+fn two_pin<B: Named + Send + Sync, R: Threads + Wait + Sync>(
+    rt: &R,
+    shelves: &NamedShelves<B>,
+    first: &mut NamedSeat<B>,
+    second: &mut NamedSeat<B>,
+) -> (u32, u32) {
+    thread::join(
+        rt,
+        || pins_of(rt, shelves, first),
+        || pins_of(rt, shelves, second),
+    )
+}
+
+/// A loader publishes beside them.
+fn pin_beside_a_loader<B: Named + Send + Sync, R: Threads + Wait + Sync>(
+    rt: &R,
+    shelves: &NamedShelves<B>,
+    loader: &mut NamedLoader<B>,
+    first: &mut NamedSeat<B>,
+    second: &mut NamedSeat<B>,
+    images: Vec<Arc<Verified, Global>>,
+) -> (u32, (u32, u32)) {
+    thread::join(
+        rt,
+        || publishes_of(rt, shelves, loader, images),
+        || two_pin(rt, shelves, first, second),
+    )
+}
+
+fn two_seats<B: Named>(
+    stage: &mut NamedStage<B, ManySeats>,
+) -> Result<(NamedSeat<B>, NamedSeat<B>), Fail> {
+    match (stage.seats.pop(), stage.seats.pop()) {
+        (Some(first), Some(second)) => Ok((first, second)),
+        _ => Err("seats".into()),
+    }
+}
+
+/// A refused pin found four versions that were gone, each newer than those before: with fifty that go, that is at most twelve times.
+fn try_two_workers<B: Named + Send + Sync, R: Threads + Wait + Sync + Abort>(
+    rt: &R,
+    stage: &mut NamedStage<B, ManySeats>,
+    images: Vec<Arc<Verified, Global>>,
+) -> Result<(), Fail> {
+    let (mut first, mut second) = two_seats(stage)?;
+    let (published, (held, also_held)) = pin_beside_a_loader(
+        rt,
+        &stage.shelves,
+        &mut stage.loader,
+        &mut first,
+        &mut second,
+        images,
+    );
+    let found = stage.shelves.collect(rt, &mut stage.loader);
+    assert!(rt; published == 50 && held >= 988 && also_held >= 988);
+    assert_eq!(rt; found.busy, [0; 8]);
+    Ok(())
+}
+
+fn beside_a_loader<B: Named + Send + Sync, R: Threads + Wait + Sync + Abort>(
+    rt: &R,
+    alloc: Global,
+    shelves: Shelves,
+    loader: ShelfLoader,
+    seats: Vec<ShelfSeat>,
+) -> Result<(), Fail>
+    requires { (shelves ≡ B.table) × (loader.table ≡ B.table) × All (λ seat. seat.table ≡ B.table) seats.items }
+{
+    let mut stage = named_stage::<B>(alloc, shelves, loader, seats)?;
+    try_two_workers(rt, &mut stage, images(alloc, 50)?)
+}
+
+#[test]
+fn two_workers_beside_a_loader(rt: HostRuntime) -> Result<(), Fail> {
+    let alloc: Global = rt.alloc();
+    match new_shelves(alloc) {
+        Ok((shelves, loader, seats)) => {
+            beside_a_loader::<Brand, _>(&rt, alloc, shelves, loader, seats)
+        }
+        Err(refused) => Err(refused),
+    }
+}
