@@ -306,14 +306,19 @@ impl Core {
     fn unpublished_on(&self, shelf: usize) -> Option<u64>
         ensures { MatchOption result ((v : ℕ) → ¬ (IsUnpublished self.now shelf v)) (λ v. IsUnpublished self.now shelf v) }
     {
+        let version = self.open_on(shelf)?;
+        if version > self.current {
+            Some(version)
+        } else {
+            None
+        }
+    }
+
+    fn open_on(&self, shelf: usize) -> Option<u64>
+        ensures { MatchOption result ((v : ℕ) → ¬ (IsOpen self.now shelf v)) (λ v. IsOpen self.now shelf v) }
+    {
         match self.shelf(shelf) {
-            Some(Shelf::Open { version }) => {
-                if version > self.current {
-                    Some(version)
-                } else {
-                    None
-                }
-            }
+            Some(Shelf::Open { version }) => Some(version),
             Some(Shelf::Free | Shelf::Closing { .. }) | None => None,
         }
     }
@@ -332,15 +337,11 @@ impl Core {
     fn outdated_on(&self, shelf: usize) -> Option<u64>
         ensures { MatchOption result ((v : ℕ) → ¬ (IsOutdated self.now shelf v)) (λ v. IsOutdated self.now shelf v) }
     {
-        match self.shelf(shelf) {
-            Some(Shelf::Open { version }) => {
-                if version < self.current {
-                    Some(version)
-                } else {
-                    None
-                }
-            }
-            Some(Shelf::Free | Shelf::Closing { .. }) | None => None,
+        let version = self.open_on(shelf)?;
+        if version < self.current {
+            Some(version)
+        } else {
+            None
         }
     }
 
