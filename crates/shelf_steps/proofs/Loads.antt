@@ -29,7 +29,7 @@ use Rattle.version_core.specs.Shown.{WordsShow, shelf_word}
 use Rattle.shelf_steps.specs.Seats.{WorkerFits, LoaderFits}
 use Rattle.shelf_steps.specs.Slots.{SlotsFit, SlotFits, down_from, nothings}
 use Rattle.shelf_steps.specs.Ruled.{Ruled}
-use Rattle.shelf_steps.specs.Plays.{Mine, newest_of, with_open, with_current, with_closing, with_free, with_hand, AllHave, Noted, Opens, Publishes, Closes, CollectsFound, Collects, Gathers, PutsBack, MayOpenOn, MayPublish, MayClose, MayCollect, MayGather, MayPutBack}
+use Rattle.shelf_steps.specs.Plays.{OfLoader, Mine, newest_of, with_open, with_current, with_closing, with_free, with_hand, AllHave, Noted, Opens, Publishes, Closes, CollectsFound, Collects, Gathers, PutsBack, MayOpenOn, MayPublish, MayClose, MayCollect, MayGather, MayPutBack}
 use Rattle.shelf_steps.proofs.Courses.{kept_of, joined_same, no_join, nothing_snoc}
 use Rattle.shelf_steps.proofs.Courses.{begins_longer, happened, goes_on, goes_same, loader_next, prefix_same, other_fits}
 use Rattle.shelf_steps.proofs.Frames.{loader_moves}
@@ -430,57 +430,58 @@ tries_free id k l c hand' a table r at small free slots false found =
       noted table r id l l' at refl e reply s refl is_step refl refl refl refl (omega arith),
     )
 
-gatherings_as : (slots id k : ℕ) (u : View) (c : List (ℕ × Option Edition)) → slots ≡ 128 → k < 8 → MayGather k u c
-    → Allows Ruled slots id (u, c) (k + 1) (λ n. either (n == 512) 0 n) (Gathers (step slots (k + 1) 512 0 none) (u, c))
-gatherings_as slots id k (View.Working v) c many small may = absurd may
-gatherings_as slots id k (View.Noting x') c many small may = absurd may
-gatherings_as slots id k View.Spent c many small may = absurd may
-gatherings_as slots id k (View.Loading l) c many small may =
-    subst (λ (x : List (ℕ × Option Edition)). Allows Ruled slots id (View.Loading l, x) (k + 1) (λ n. either (n == 512) 0 n) (Gathers (step slots (k + 1) 512 0 none) (View.Loading l, x))) (sym may.2)
+-- what follows from what holds of a loader's view follows for a view of which it holds
+of_loader : (P : LoaderView → Type 0) (Q : View → Type 0) (u : View) → ((l : LoaderView) → P l → Q (View.Loading l)) → OfLoader u P → Q u
+of_loader P Q (View.Loading l) each h = each l h
+of_loader P Q (View.Working v) each h = absurd h
+of_loader P Q (View.Noting n) each h = absurd h
+of_loader P Q View.Spent each h = absurd h
+
+-- after such a try the loader has this in its hand, and these slots
+abbrev SparedOn : LoaderView → (ℕ → Option ℕ) → (ℕ → List (ℕ × Option Edition)) → ℕ → Mine → Type 0
+SparedOn l hand after j m' = (known : Known) × (m' ≡ (View.Loading (with_hand l (hand j) known), after j)) × Noted l (Event.Collect j) Reply.NotNow known
+
+-- the loader may try a free shelf, where an act moves the shelf's empty slots
+spare_tries : (slots id k : ℕ) (l : LoaderView) (c was : List (ℕ × Option Edition)) (hand : ℕ → Option ℕ) (after : ℕ → List (ℕ × Option Edition)) (a : Act (Option Edition)) → c ≡ was → k < 8 → slice_get l.shelves k ≡ Some Shelf.Free
+    → carried_after was a ≡ after k
+    → ((table : Table (Option Edition) View) (r : Ruled table) → length table.homes ≡ slots → get_elem? table.views id ≡ some (View.Loading l) → IsFree r.course.state k
+    → Valid table.homes was a × SlotsFit (homes_after table.homes was a) r.course.state.shelves r.course.state.workers r.course.images (hand k))
+    → Allows Ruled slots id (View.Loading l, c) (k + 1) (λ n. either (n == 512) 0 n)
+    (λ n m'. (j : ℕ) × (k + 1 ≡ j + 1) × SparedOn l hand after j m')
+spare_tries slots id k l c was hand after a is small free moves moved =
+    subst (λ (x : List (ℕ × Option Edition)). Allows Ruled slots id (View.Loading l, x) (k + 1) (λ n. either (n == 512) 0 n)
+    (λ n m'. (j : ℕ) × (k + 1 ≡ j + 1) × SparedOn l hand after j m')) (sym is)
     (λ table r full at fits.
-    let s = r.course.state in let n = get_or table.words (k + 1) 0 in
-    let is_free : IsFree s k = shelf_is table r id l at k Shelf.Free may.0 in
-    let home = spares_home table.homes s.shelves s.workers r.course.images l.hand k may.1 is_free (loader_slots table r id l at) in
-    let z = tries_free id k l [] (Some k) (take_block nothings (16 * k) 16) table r at small may.0
-    (slots_block table.homes (homes_after table.homes [] (take_block nothings (16 * k) 16)) s.shelves s.shelves s.workers r.course.images r.course.images l.hand (Some k) k Shelf.Free is_free (λ j ne. refl)
-    (λ i h. block_else table.homes [] nothings (16 * k) 16 i h) (prefix_same r.course.images)
-    (λ j ne q. let y : None ≡ Some j = sym may.1 ∙ q in absurd (cc)) (λ j ne q. absurd (ne (cc)))
-    (λ w less. inr (refl, block_out table.homes [] nothings (16 * k) 16 (16 * k + w) (omega arith) (omega arith) (omega arith))) (loader_slots table r id l at)) (n == 512) refl in (
-      View.Loading (with_hand l (Some k) z.0),
-      take_block nothings (16 * k) 16,
-      block_valid table.homes [] nothings (16 * k) 16 home,
-      z.1,
-      (k, refl, (z.0, (λ i. (View.Loading (with_hand l (Some k) z.0), carried_down nothings (16 * k) 16 [] i)), z.2)),
-    ))
+    let m = moved table r full at (shelf_is table r id l at k Shelf.Free free) in
+    let z = tries_free id k l was (hand k) a table r at small free m.1 (get_or table.words (k + 1) 0 == 512) refl in
+    (View.Loading (with_hand l (hand k) z.0), a, m.0, z.1, (k, refl, (z.0, (λ i. (View.Loading (with_hand l (hand k) z.0), moves i)), z.2))))
 
 pub gatherings : (slots id k : ℕ) (me : Mine) → slots ≡ 128 → k < 8 → MayGather k me.0 me.1 → Allows Ruled slots id me (k + 1) (λ n. either (n == 512) 0 n) (Gathers (step slots (k + 1) 512 0 none) me)
-gatherings slots id k me many small may = gatherings_as slots id k me.0 me.1 many small may
-
-puttings_as : (slots id k : ℕ) (u : View) (c : List (ℕ × Option Edition)) → slots ≡ 128 → k < 8 → MayPutBack k u c
-    → Allows Ruled slots id (u, c) (k + 1) (λ n. either (n == 512) 0 n) (PutsBack (step slots (k + 1) 512 0 none) (u, c))
-puttings_as slots id k (View.Working v) c many small may = absurd may
-puttings_as slots id k (View.Noting x') c many small may = absurd may
-puttings_as slots id k View.Spent c many small may = absurd may
-puttings_as slots id k (View.Loading l) c many small may =
-    subst (λ (x : List (ℕ × Option Edition)). Allows Ruled slots id (View.Loading l, x) (k + 1) (λ n. either (n == 512) 0 n) (PutsBack (step slots (k + 1) 512 0 none) (View.Loading l, x))) (sym may.2)
-    (λ table r full at fits.
-    let s = r.course.state in let n = get_or table.words (k + 1) 0 in
-    let is_free : IsFree s k = shelf_is table r id l at k Shelf.Free may.0 in
-    let c = down_from nothings (16 * k) 16 [] in
-    let z = tries_free id k l (down_from nothings (16 * k) 16 []) None (give_block 16) table r at small may.0
-    (slots_block table.homes (homes_after table.homes (down_from nothings (16 * k) 16 []) (give_block 16)) s.shelves s.shelves s.workers r.course.images r.course.images l.hand None k Shelf.Free is_free (λ j ne. refl)
-    (λ i h. given_else table.homes [] nothings (16 * k) 16 i h) (prefix_same r.course.images)
-    (λ j ne q. let y : Some k ≡ Some j = sym may.1 ∙ q in absurd (ne (cc))) (λ j ne q. absurd (cc))
-    (λ w less. inl ((λ q. cc), given_home table.homes [] nothings (16 * k) 16 (16 * k + w) (omega arith) (omega arith) (omega arith))) (loader_slots table r id l at)) (n == 512) refl in (
-      View.Loading (with_hand l None z.0),
-      give_block 16,
-      gives_valid table.homes (down_from nothings (16 * k) 16 []) 16,
-      z.1,
-      (k, refl, (z.0, (λ i. (View.Loading (with_hand l None z.0), given_rest nothings (16 * k) 16 [] i)), z.2)),
-    ))
+gatherings slots id k me many small may =
+    of_loader (λ l. MayGather k (View.Loading l) me.1) (λ u. Allows Ruled slots id (u, me.1) (k + 1) (λ n. either (n == 512) 0 n) (Gathers (step slots (k + 1) 512 0 none) (u, me.1))) me.0
+    (λ l free. spare_tries slots id k l me.1 [] (λ j. Some j) (λ j. down_from nothings (16 * j) 16 []) (take_block nothings (16 * k) 16) free.2 small free.0 (carried_down nothings (16 * k) 16 [])
+    (λ table r full at is_free.
+    let s = r.course.state in (
+      block_valid table.homes [] nothings (16 * k) 16 (spares_home table.homes s.shelves s.workers r.course.images l.hand k free.1 is_free (loader_slots table r id l at)),
+      slots_block table.homes (homes_after table.homes [] (take_block nothings (16 * k) 16)) s.shelves s.shelves s.workers r.course.images r.course.images l.hand (Some k) k Shelf.Free is_free (λ j ne. refl)
+          (λ i h. block_else table.homes [] nothings (16 * k) 16 i h) (prefix_same r.course.images)
+          (λ j ne q. let y : None ≡ Some j = sym free.1 ∙ q in absurd (cc)) (λ j ne q. absurd (ne (cc)))
+          (λ w less. inr (refl, block_out table.homes [] nothings (16 * k) 16 (16 * k + w) (omega arith) (omega arith) (omega arith))) (loader_slots table r id l at),
+    ))) may
 
 pub puttings : (slots id k : ℕ) (me : Mine) → slots ≡ 128 → k < 8 → MayPutBack k me.0 me.1 → Allows Ruled slots id me (k + 1) (λ n. either (n == 512) 0 n) (PutsBack (step slots (k + 1) 512 0 none) me)
-puttings slots id k me many small may = puttings_as slots id k me.0 me.1 many small may
+puttings slots id k me many small may =
+    of_loader (λ l. MayPutBack k (View.Loading l) me.1) (λ u. Allows Ruled slots id (u, me.1) (k + 1) (λ n. either (n == 512) 0 n) (PutsBack (step slots (k + 1) 512 0 none) (u, me.1))) me.0
+    (λ l free. let c = down_from nothings (16 * k) 16 [] in
+    spare_tries slots id k l me.1 c (λ j. None) (λ j. []) (give_block 16) free.2 small free.0 (given_rest nothings (16 * k) 16 [])
+    (λ table r full at is_free.
+    let s = r.course.state in (
+      gives_valid table.homes c 16,
+      slots_block table.homes (homes_after table.homes c (give_block 16)) s.shelves s.shelves s.workers r.course.images r.course.images l.hand None k Shelf.Free is_free (λ j ne. refl)
+          (λ i h. given_else table.homes [] nothings (16 * k) 16 i h) (prefix_same r.course.images)
+          (λ j ne q. let y : Some k ≡ Some j = sym free.1 ∙ q in absurd (ne (cc))) (λ j ne q. absurd (cc))
+          (λ w less. inl ((λ q. cc), given_home table.homes [] nothings (16 * k) 16 (16 * k + w) (omega arith) (omega arith) (omega arith))) (loader_slots table r id l at),
+    ))) may
 
 -- an image stays while others come
 pub image_of-append : (images more : List ImageValue) (v : ℕ) (image : ImageValue) → image_of images v ≡ Some image → image_of (images ++ more) v ≡ Some image

@@ -134,16 +134,26 @@ words_counted words k new count ws s kept shown small is =
     (λ j ne. (refl, get_or-set_other s.counts k j count 0 ne))
     (λ x at. is x at ∙ ap (λ m. shelf_word x m) (sym (get_or-set_same s.counts k count 0 (omega arith))))
 
+-- what is known of a worker that has looked at a shelf
+record Looker (s : State) (d : Course) (v : WorkerView) (version k : ℕ) : Type 0 where
+  fits : WorkerFits d v
+  has : HasLookedAt s v.number version k
+  within : v.number < length s.workers
+  shelf : (v.number < 16) × (k < 8) × (get_or s.seen v.number 0 ≡ version) × (version ≤ s.current) × (version ≡ s.current → k ≡ s.current_shelf)
+
+looker : (id k : ℕ) (v : WorkerView) (version : ℕ) (table : Table (Option Edition) View) (r : Ruled table) → get_elem? table.views id ≡ some (View.Working v) → v.now ≡ Worker.Looked version k → Looker r.course.state r.course v version k
+looker id k v version table r at now =
+    let s = r.course.state in let f : WorkerFits r.course v = (r.seats.each id (View.Working v) at).2 in
+    let has : HasLookedAt s v.number version k = f.shows.now ∙ ap (λ (x : Worker). Some x) now in
+    record { fits = f; has = has; within = slice_get_within s.workers v.number _ has; shelf = looked_fits s v.number version k (kept_of r.course r.goes) has }
+
 takes_found : (id k : ℕ) (v : WorkerView) (version : ℕ) (c : List (ℕ × Option Edition)) (table : Table (Option Edition) View) (r : Ruled table) → get_elem? table.views id ≡ some (View.Working v) → v.now ≡ Worker.Looked version k
     → (b : Bool) → MatchBool b (IsOpen r.course.state k version) (¬ (IsOpen r.course.state k version))
     → (w : View) × (a : Act (Option Edition)) × Valid table.homes c a × Ruled (stepped table (k + 1) ((get_or table.words (k + 1) 0 + 1) % 18446744073709551616) id c w a) × TakesFound v c version k (get_or table.words (k + 1) 0) b (w, carried_after c a)
 takes_found id k v version c table r at now true stands =
     let s = r.course.state in let w = v.number in let n = get_or table.words (k + 1) 0 in
-    let kept : Kept s = kept_of r.course r.goes in
-    let f : WorkerFits r.course v = (r.seats.each id (View.Working v) at).2 in
-    let has : HasLookedAt s w version k = f.shows.now ∙ ap (λ (x : Worker). Some x) now in
-    let within = slice_get_within s.workers w _ has in
-    let z = looked_fits s w version k kept has in
+    let kept : Kept s = kept_of r.course r.goes in let l = looker id k v version table r at now in
+    let f = l.fits in let has = l.has in let within = l.within in let z = l.shelf in
     let t : State = arrived s w k (Worker.Holding k version) in
     let e : Event = Event.Take w in let reply : Reply = Reply.Holds version in
     let is_step : Step s e reply t = (k, has, stands, refl) in
@@ -182,11 +192,8 @@ takes_found id k v version c table r at now true stands =
     )
 takes_found id k v version c table r at now false shut =
     let s = r.course.state in let w = v.number in let n = get_or table.words (k + 1) 0 in
-    let kept : Kept s = kept_of r.course r.goes in
-    let f : WorkerFits r.course v = (r.seats.each id (View.Working v) at).2 in
-    let has : HasLookedAt s w version k = f.shows.now ∙ ap (λ (x : Worker). Some x) now in
-    let within = slice_get_within s.workers w _ has in
-    let z = looked_fits s w version k kept has in
+    let kept : Kept s = kept_of r.course r.goes in let l = looker id k v version table r at now in
+    let f = l.fits in let has = l.has in let within = l.within in let z = l.shelf in
     let t : State = arrived s w k (Worker.Late k) in
     let e : Event = Event.Take w in let reply : Reply = Reply.Late in
     let is_step : Step s e reply t = (version, k, has, shut, refl) in

@@ -1,15 +1,12 @@
-use Rattle.std.proofs.Common.{◌≡◌, arith, ap, sym, subst, ◌∙◌}
+use Rattle.std.proofs.Common.{◌≡◌, arith, subst}
 use Rattle.shelf_steps.specs.Plays.{PlaceValue, MayCollect, CollectsOn}
 use Rattle.shelf_steps.proofs.Loads.{collectings}
+use Rattle.shelf_steps.proofs.PlaceLemmas.{at_word}
 use Rattle.shelf_steps.proofs.loader_steps.collect.Goals as goal
 
 pub compare_exchange-requires : goal.compare_exchange-requires
-compare_exchange-requires c = (
-  ap (λ (p : PlaceValue). p.table) c.loader.view_is ∙ (c.requires.table ∙ sym c.shelves.view_is),
-  (let n = c.shelves.invariant.0 in let k = c.requires.numbers in omega arith),
-  collectings _ c.loader.inside.seat.id c.args.shelf c.args.version c.loader.inside.seat.me c.shelves.invariant.1 c.requires.numbers.0
-      (subst (λ (p : PlaceValue). MayCollect c.args.shelf c.args.version p.me.0 p.me.1) (sym c.loader.view_is) c.requires.ready),
-)
+compare_exchange-requires c = at_word _ _ _ _ c.args.shelf (λ (p : PlaceValue). MayCollect c.args.shelf c.args.version p.me.0 p.me.1) _ c.loader.view_is c.requires.table c.shelves.view_is c.shelves.invariant.0 c.requires.numbers.0 c.requires.ready
+    (collectings _ c.loader.inside.seat.id c.args.shelf c.args.version c.loader.inside.seat.me c.shelves.invariant.1 c.requires.numbers.0)
 
 pub returns-clause-collect : goal.returns-clause-collect
 returns-clause-collect c =

@@ -1,17 +1,11 @@
-use Rattle.std.proofs.Common.{◌≡◌, arith, ap, sym, subst, ◌∙◌}
 use Rattle.shelf_steps.specs.Plays.{PlaceValue, MayGather, GathersOn}
 use Rattle.shelf_steps.proofs.Loads.{gatherings}
+use Rattle.shelf_steps.proofs.PlaceLemmas.{at_word, at_shelf}
 use Rattle.shelf_steps.proofs.loader_steps.gather.Goals as goal
 
 pub compare_exchange-requires : goal.compare_exchange-requires
-compare_exchange-requires c = (
-  ap (λ (p : PlaceValue). p.table) c.loader.view_is ∙ (c.requires.table ∙ sym c.shelves.view_is),
-  (let n = c.shelves.invariant.0 in let k = c.requires.numbers in omega arith),
-  gatherings _ c.loader.inside.seat.id c.args.shelf c.loader.inside.seat.me c.shelves.invariant.1 c.requires.numbers
-      (subst (λ (p : PlaceValue). MayGather c.args.shelf p.me.0 p.me.1) (sym c.loader.view_is) c.requires.ready),
-)
+compare_exchange-requires c = at_word _ _ _ _ c.args.shelf (λ (p : PlaceValue). MayGather c.args.shelf p.me.0 p.me.1) _ c.loader.view_is c.requires.table c.shelves.view_is c.shelves.invariant.0 c.requires.numbers c.requires.ready
+    (gatherings _ c.loader.inside.seat.id c.args.shelf c.loader.inside.seat.me c.shelves.invariant.1 c.requires.numbers)
 
 pub returns-clause-gather : goal.returns-clause-gather
-returns-clause-gather c =
-    let h = c.compare_exchange.ensures.2 in let e = h.1 in let same : h.0 ≡ c.args.shelf = omega arith in
-    subst (λ (p : PlaceValue). GathersOn c.args.shelf p.me c.compare_exchange.new.seat.me) c.loader.view_is (subst (λ k. GathersOn k c.loader.inside.seat.me c.compare_exchange.new.seat.me) same h.2)
+returns-clause-gather c = at_shelf _ _ c.args.shelf (λ k m m'. GathersOn k m m') _ c.loader.view_is c.compare_exchange.ensures.2
