@@ -97,11 +97,37 @@ three_run : (s t : State) (e v k : ℕ) (second third : Reply) → ThreeSteps s 
     → Run s (Event.Open e ∷ Event.Publish ∷ Event.Close s.current_shelf ∷ []) (Reply.Opened v k ∷ second ∷ third ∷ []) t
 three_run s t e v k second third h = (h.opened, h.first, (h.published, h.then, (t, h.last, refl)))
 
+three_more : {X : Type 0} (before one two three : List X) (a b d : X) → one ≡ before ++ a ∷ [] → two ≡ one ++ b ∷ [] → three ≡ two ++ d ∷ [] → three ≡ before ++ a ∷ b ∷ d ∷ []
+three_more before one two three a b d first second third =
+    third ∙ (ap (λ l. l ++ d ∷ []) (second ∙ (ap (λ l. l ++ b ∷ []) first ∙ append_assoc before (a ∷ []) (b ∷ []))) ∙ append_assoc before (a ∷ b ∷ []) (d ∷ []))
+
+-- what the calls of a load tell: its three steps, and what is added to events and images
+pub record LoadTold (s t : State) (e v k : ℕ) (second third : Reply) (before events : List Event) (images now : List ImageValue) (image : ImageValue) : Type 0 where
+  pub steps : ThreeSteps s t e v k second third
+  pub noted : events ≡ before ++ Event.Open e ∷ Event.Publish ∷ Event.Close s.current_shelf ∷ []
+  pub added : now ≡ images ++ image ∷ []
+
+pub load_told : (s opened published t : State) (e v k shelf : ℕ) (first second third : Reply) (before one two events : List Event) (images now : List ImageValue) (shared image : ImageValue) → shelf ≡ s.current_shelf → first ≡ Reply.Opened v k → shared ≡ image
+    → OpenStep s e first opened → PublishStep opened second published → CloseStep published shelf third t
+    → one ≡ before ++ Event.Open e ∷ [] → two ≡ one ++ Event.Publish ∷ [] → events ≡ two ++ Event.Close shelf ∷ [] → now ≡ images ++ shared ∷ []
+    → LoadTold s t e v k second third before events images now image
+load_told s opened published t e v k shelf first second third before one two events images now shared image at reply same opens publishes closes a b d added = record {
+  steps = record {
+    opened = opened;
+    published = published;
+    first = subst (λ (r : Reply). OpenStep s e r opened) reply opens;
+    then = publishes;
+    last = subst (λ i. CloseStep published i third t) at closes;
+  };
+  noted = three_more before one two events _ _ _ a b d ∙ ap (λ i. before ++ Event.Open e ∷ Event.Publish ∷ Event.Close i ∷ []) at;
+  added = added ∙ ap (λ x. images ++ x ∷ []) same;
+}
+
 pub load_kept : (s t : State) (e v k : ℕ) (second third : Reply) (before events : List Event) (editions : List (Option Edition)) (images now : List ImageValue) (new : Edition) → LoadLaws → Kept s → IsHistory s before images → AreShelved s.shelves editions images
-    → ThreeSteps s t e v k second third → e ≡ s.current → new.version ≡ v → events ≡ before ++ Event.Open e ∷ Event.Publish ∷ Event.Close s.current_shelf ∷ [] → now ≡ images ++ arc_value new.image ∷ []
+    → LoadTold s t e v k second third before events images now (arc_value new.image) → e ≡ s.current → new.version ≡ v
     → IsHistory t events now × AreShelved t.shelves (set editions k (Some new)) now
-load_kept s t e v k second third before events editions images now new laws kept h shelved steps number version more added =
-    let run = three_run s t e v k second third steps in
+load_kept s t e v k second third before events editions images now new laws kept h shelved told number version =
+    let steps = told.steps in let more = told.noted in let added = told.added in let run = three_run s t e v k second third steps in
     let rest = laws.loads s t e v k second third kept h.rest run in
     let last : e ≡ newest s = number ∙ sym h.rest.published in
     let is : t ≡ loaded s k e = rest.3 in
@@ -118,10 +144,10 @@ load_kept s t e v k second third before events editions images now new laws kept
     )
 
 pub load_publishes : (s t : State) (e v k : ℕ) (second third : Reply) (before events : List Event) (images now : List ImageValue) (image : ImageValue) → LoadsRest → Kept s → IsHistory s before images
-    → ThreeSteps s t e v k second third → ((j : ℕ) → j < k → ¬ (IsFree s j)) → e ≡ s.current → events ≡ before ++ Event.Open e ∷ Event.Publish ∷ Event.Close s.current_shelf ∷ [] → now ≡ images ++ image ∷ []
+    → LoadTold s t e v k second third before events images now image → ((j : ℕ) → j < k → ¬ (IsFree s j)) → e ≡ s.current
     → Publishes (record { state = s; events = before; images = images }) image v (record { state = t; events = events; images = now })
-load_publishes s t e v k second third before events images now image law kept h steps least number more added =
-    let run = three_run s t e v k second third steps in
+load_publishes s t e v k second third before events images now image law kept h told least number =
+    let steps = told.steps in let run = three_run s t e v k second third steps in
     let rest = law s t e v k second third kept h.rest run in
     let last : e ≡ newest s = number ∙ sym h.rest.published in
     record {
@@ -132,11 +158,7 @@ load_publishes s t e v k second third before events images now image law kept h 
       run = subst (λ i. Run s (Event.Open i ∷ Event.Publish ∷ Event.Close s.current_shelf ∷ []) (Reply.Opened v k ∷ Reply.Published v ∷ Reply.Closing ∷ []) t) last
           (subst (λ (r : Reply). Run s (Event.Open e ∷ Event.Publish ∷ Event.Close s.current_shelf ∷ []) (Reply.Opened v k ∷ Reply.Published v ∷ r ∷ []) t) rest.2
           (subst (λ (r : Reply). Run s (Event.Open e ∷ Event.Publish ∷ Event.Close s.current_shelf ∷ []) (Reply.Opened v k ∷ r ∷ third ∷ []) t) rest.1 run));
-      events = more ∙ ap (λ i. before ++ Event.Open i ∷ Event.Publish ∷ Event.Close s.current_shelf ∷ []) last;
-      images = added;
+      events = told.noted ∙ ap (λ i. before ++ Event.Open i ∷ Event.Publish ∷ Event.Close s.current_shelf ∷ []) last;
+      images = told.added;
       current = ap (λ (x : State). x.current) rest.3 ∙ sym rest.0;
     }
-
-pub three_more : {X : Type 0} (before one two three : List X) (a b d : X) → one ≡ before ++ a ∷ [] → two ≡ one ++ b ∷ [] → three ≡ two ++ d ∷ [] → three ≡ before ++ a ∷ b ∷ d ∷ []
-three_more before one two three a b d first second third =
-    third ∙ (ap (λ l. l ++ d ∷ []) (second ∙ (ap (λ l. l ++ b ∷ []) first ∙ append_assoc before (a ∷ []) (b ∷ []))) ∙ append_assoc before (a ∷ b ∷ []) (d ∷ []))
