@@ -2,22 +2,4 @@
 #![tactic(auto)]
 
 #[cfg(test)]
-mod answering;
-#[cfg(test)]
-mod dominating;
-#[cfg(test)]
-mod examples;
-#[cfg(test)]
-mod images;
-#[cfg(test)]
-mod in_turn;
-#[cfg(test)]
-mod judging;
-#[cfg(test)]
-mod listing;
-#[cfg(test)]
-mod reading;
-#[cfg(test)]
-mod valuing;
-#[cfg(test)]
-mod wrong_steps;
+mod tests;

@@ -5,7 +5,7 @@ use Rattle.reasoning.proofs.ListLemmas.{not_in_nil}
 use Rattle.criteria.specs.Laws.{time_limit}
 use Rattle.criteria.specs.declared.arrival_trips.TimeTrips.{TimeTrips}
 use Rattle.fronts.specs.declared.entry.Ridden.{Ridden}
-use Rattle.scan_tests.proofs.listing.take.Goals as goal
+use Rattle.scan_tests.proofs.tests.listing.take.Goals as goal
 
 of_one : (x r : Ridden TimeTrips) → Contains (x ∷ []) r → (nat_lt x.value.time time_limit && nat_le x.value.trips 65535) ≡ true → (nat_lt r.value.time time_limit && nat_le r.value.trips 65535) ≡ true
 of_one x r h a = elim (Contains-push_cases [] x r h) [

@@ -1,6 +1,6 @@
 use Rattle.std.proofs.Common.{Contains, refl, arith, rules}
 use Rattle.scan_tests.specs.Examples.{footpath, with_chain}
-use Rattle.scan_tests.proofs.examples.walks_count.Goals as goal
+use Rattle.scan_tests.proofs.tests.examples.walks_count.Goals as goal
 
 to_target : Contains with_chain.footpaths (footpath 1 2 60)
 to_target = (4, omega arith, refl)

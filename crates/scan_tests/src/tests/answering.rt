@@ -4,8 +4,8 @@
 ghost use Rattle.std.specs.Prelude.{◌<◌, length};
 ghost use Rattle.profile_scan.specs.Found.{listed};
 
-use crate::images::{REPEATED, image};
-use crate::in_turn::InTurn;
+use super::images::{REPEATED, image};
+use super::in_turn::InTurn;
 use criteria::{Arrival, ArrivalTrips, Criterion, Told, ToldValue};
 use image_layout::{sample_words, second_sample_words};
 use image_verifier::Verified;

@@ -2,7 +2,7 @@
 
 ghost use Rattle.std.specs.Prelude.{◌<◌};
 
-use crate::images::image;
+use super::images::image;
 use image_layout::sample_words;
 use image_verifier::{Departures, Verified, first_departure};
 use sources::{ConnSource, Decoded, InPlace};

@@ -1,6 +1,6 @@
 use Rattle.std.proofs.Common.{refl}
 use Rattle.profile_scan.specs.Nodes.{spelled_on}
-use Rattle.scan_tests.proofs.examples.nodes_spell.Goals as goal
+use Rattle.scan_tests.proofs.tests.examples.nodes_spell.Goals as goal
 
 pub returns-clause-change : goal.returns-clause-change
 unfolding spelled_on

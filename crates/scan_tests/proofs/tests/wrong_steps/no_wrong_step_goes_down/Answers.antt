@@ -1,6 +1,6 @@
 use Rattle.scan_tests.proofs.Refutations.{bag_cut_is_wrong, loop_start_is_wrong, no_change_is_wrong}
 use Rattle.scan_tests.proofs.LabelsForgotten.{forgotten_labels_are_wrong}
-use Rattle.scan_tests.proofs.wrong_steps.no_wrong_step_goes_down.Goals as goal
+use Rattle.scan_tests.proofs.tests.wrong_steps.no_wrong_step_goes_down.Goals as goal
 
 pub returns-clause-bag_cut : goal.returns-clause-bag_cut
 returns-clause-bag_cut g c = bag_cut_is_wrong (g.C.Criterion.rules c.args._criterion.now) (g.met.C.Criterion.laws c.args._criterion.now)

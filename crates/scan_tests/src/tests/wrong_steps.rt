@@ -7,7 +7,7 @@ ghost use Rattle.scan_tests.specs.WrongSteps.{CountsLegByLeg, IsStepWithBagCut, 
 ghost use Rattle.profile_scan.specs.LawStatements.{CutIsTheSources, OneIndexDown};
 ghost use Rattle.scan_tests.specs.Examples.{asked, one_hop, over_one_hop, with_walk};
 
-use crate::examples::a_start_on_foot_counts;
+use super::examples::a_start_on_foot_counts;
 use criteria::{Arrival, ArrivalTripsWalk, Criterion};
 
 fn no_wrong_step_goes_down<C: Criterion>(_criterion: &C)

@@ -1,6 +1,6 @@
 // Journeys as texts, judged against images. More of them are judged by transcripts of the whole program.
 
-use crate::images::{REPEATED, image};
+use super::images::{REPEATED, image};
 use image_verifier::Verified;
 use journeys::JourneyFault::*;
 use journeys::{JourneyFault, TextFault, check, journey_parse, journey_text};
