@@ -43,6 +43,16 @@ none_tried : (walks : List Footpath) (begin : ℕ) (y : Option Footpath) → IsT
 none_tried walks begin None s = inr refl
 none_tried walks begin (Some f) s = absurd (omega (arith, s.1, s.2))
 
+-- no footpath yet
+pub walks_first : {A V : Type 0} (rules : Rules V) (walks : List Footpath) (offer : Footpath → Offer A V) (begin : ℕ) (old : List (Point V)) → TakesIn rules (each_of (StandsBetween walks begin begin) offer) old old
+walks_first rules walks offer begin old = takes_none rules (each_of (StandsBetween walks begin begin) offer) old (λ way opened. absurd (omega (arith, opened.0.1, opened.0.2)))
+
+-- no start, and no footpath yet
+pub starts_first : {A V : Type 0} (rules : Rules V) (walks : List Footpath) (offer : Option Footpath → Offer A V) (begin : ℕ) (old new : List (Point V)) → TakesIn rules (offer None) old new → TakesIn rules (each_of (IsTried walks begin begin) offer) old new
+starts_first rules walks offer begin old new takes =
+    takes_more rules (λ _. ⊥) (IsTried walks begin begin) offer None old old new (λ y no. absurd no) tt (none_tried walks begin) (λ y way no opened. absurd no)
+    (takes_none rules (each_of (λ _. ⊥) offer) old (λ way opened. opened.0)) takes
+
 module _ {V : Type 0} (rules : Rules V) (laws : Laws rules) (t : TimetableValue) (limits : IsWithinLimits t) (labels : List (Point V)) (admitted : AreAdmitted rules labels) where
   walk_secs_allowed : (begin end : ℕ) (walk : Footpath) → StandsBetween t.footpaths begin end walk → IsSecs walk.secs
   walk_secs_allowed begin end walk s = limits.walks s.0 walk s.3
@@ -53,16 +63,6 @@ module _ {V : Type 0} (rules : Rules V) (laws : Laws rules) (t : TimetableValue)
   start_secs_allowed : (begin end : ℕ) (start : Option Footpath) (v : V) → IsTried t.footpaths begin end start → Admits rules v → Admits rules (started rules start v)
   start_secs_allowed begin end None v s a = a
   start_secs_allowed begin end (Some f) v s a = laws.walk_admits f.secs v (walk_secs_allowed begin end f s) a
-
-  -- no footpath yet
-  pub walks_first : {A : Type 0} (offer : Footpath → Offer A V) (begin : ℕ) (old : List (Point V)) → TakesIn rules (each_of (StandsBetween t.footpaths begin begin) offer) old old
-  walks_first offer begin old = takes_none rules (each_of (StandsBetween t.footpaths begin begin) offer) old (λ way opened. absurd (omega (arith, opened.0.1, opened.0.2)))
-
-  -- no start, and no footpath yet
-  pub starts_first : {A : Type 0} (offer : Option Footpath → Offer A V) (begin : ℕ) (old new : List (Point V)) → TakesIn rules (offer None) old new → TakesIn rules (each_of (IsTried t.footpaths begin begin) offer) old new
-  starts_first offer begin old new takes =
-      takes_more rules (λ _. ⊥) (IsTried t.footpaths begin begin) offer None old old new (λ y no. absurd no) tt (none_tried t.footpaths begin) (λ y way no opened. absurd no)
-      (takes_none rules (each_of (λ _. ⊥) offer) old (λ way opened. opened.0)) takes
 
   -- one footpath more
   pub walks_next : (tags : Spellings) (i : ℕ) (c : Connection) (stop begin place : ℕ) (x : Footpath) (old mid new : List (Point V)) → begin ≤ place → At t.footpaths place x
@@ -81,11 +81,7 @@ module _ {V : Type 0} (rules : Rules V) (laws : Laws rules) (t : TimetableValue)
       (tried_more t.footpaths begin place) (place, low, omega arith, at) (λ y. tried_split t.footpaths begin place x y at)
       (λ y label s opened. start_secs_allowed begin place y (rules.ride label.value) s (laws.ride_admits label.value (admitted label opened.1))) before here
 
--- a start that leads to the connection
-leads_there : (q : Query) (c : Connection) (start : Option Footpath) → StartsFrom q c start → ((f : Footpath) → start ≡ Some f → f.to ≡ c.from) → start_end q.source start ≡ c.from
-leads_there q c None s to = sym s
-leads_there q c (Some f) s to = to f refl
-
+-- a start from the source
 is_start : (t : TimetableValue) (q : Query) (c : Connection) (begin end : ℕ) (start : Option Footpath) → IsTried t.footpaths begin end start → StartsFrom q c start → IsStart t q.source start
 is_start t q c begin end None tried s = tt
 is_start t q c begin end (Some f) tried s = (Contains-At t.footpaths tried.0 f tried.3, s.0, s.1)
@@ -96,64 +92,70 @@ starts_from t q c (Some f) is leads = (is.1, is.2)
 
 -- all footpaths into the connection's start
 module _ {V : Type 0} (rules : Rules V) (t : TimetableValue) (tags : Spellings) (i : ℕ) (c : Connection) (is : c ≡ connection_at t i) (boards : c.board ≡ true) (begin end : ℕ) (into : (k : ℕ) (f : Footpath) → At t.footpaths k f → (f.to ≡ c.from) ↔ ((begin ≤ k) × (k < end))) (labels : List (Point V)) where
+  boards_there : (connection_at t i).board ≡ true
+  boards_there = subst (λ (x : Connection). x.board ≡ true) is boards
+
+  into_there : (k : ℕ) (f : Footpath) → At t.footpaths k f → (f.to ≡ (connection_at t i).from) ↔ ((begin ≤ k) × (k < end))
+  into_there = subst (λ (x : Connection). (k : ℕ) (f : Footpath) → At t.footpaths k f → (f.to ≡ x.from) ↔ ((begin ≤ k) × (k < end))) is into
+
   between : (f : Footpath) → Contains t.footpaths f → f.to ≡ (connection_at t i).from → StandsBetween t.footpaths begin end f
   between f in_f to =
       let at = At-Contains t.footpaths f in_f in
-      let place = (into at.0 f at.1).0 (to ∙ ap (λ (x : Connection). x.from) (sym is)) in
+      let place = (into_there at.0 f at.1).0 to in
       (at.0, place.0, place.1, at.1)
+
+  leads_into : (f : Footpath) → StandsBetween t.footpaths begin end f → f.to ≡ (connection_at t i).from
+  leads_into f at = (into_there at.0 f at.3).1 (at.1, at.2)
 
   tried : (q : Query) (start : Option Footpath) → IsStart t q.source start → start_end q.source start ≡ (connection_at t i).from → IsTried t.footpaths begin end start
   tried q None starts leads = tt
   tried q (Some f) starts leads = between f starts.0 leads
 
-  leads_into : (start : Option Footpath) → IsTried t.footpaths begin end start → (f : Footpath) → start ≡ Some f → f.to ≡ c.from
-  leads_into start s f e =
-      let at = subst (IsTried t.footpaths begin end) e s in
-      (into at.0 f at.3).1 (at.1, at.2)
+  -- a start that leads to the connection
+  leads_there : (q : Query) (start : Option Footpath) → IsTried t.footpaths begin end start → StartsFrom q (connection_at t i) start → start_end q.source start ≡ (connection_at t i).from
+  leads_there q None at s = sym s
+  leads_there q (Some f) at s = leads_into f at
 
   pub boardings_taken : (stop : ℕ) (old new : List (Point V)) → TakesIn rules (each_of (StandsBetween t.footpaths begin end) (boardings_by rules tags i c stop labels)) old new → TakesIn rules (boardings rules t tags i stop labels) old new
   boardings_taken stop old new takes =
-      takes_as rules (each_of (StandsBetween t.footpaths begin end) (boardings_by rules tags i c stop labels)) (boardings rules t tags i stop labels) old new
+      let here = subst (λ (x : Connection). TakesIn rules (each_of (StandsBetween t.footpaths begin end) (boardings_by rules tags i x stop labels)) old new) is takes in
+      takes_as rules (each_of (StandsBetween t.footpaths begin end) (boardings_by rules tags i (connection_at t i) stop labels)) (boardings rules t tags i stop labels) old new
       (λ way opened.
-      let f = way.0 in
       let at = opened.0 in
       let may : MayBoard t i stop labels (record { walk = way.0; label = way.1 }) = record {
-        boards = ap (λ (x : Connection). x.board) (sym is) ∙ boards;
-        is_footpath = Contains-At t.footpaths at.0 f at.3;
+        boards = boards_there;
+        is_footpath = Contains-At t.footpaths at.0 way.0 at.3;
         leaves = opened.1.0.0;
-        leads = (into at.0 f at.3).1 (at.1, at.2) ∙ ap (λ (x : Connection). x.from) is;
-        fits = subst (λ (x : Connection). f.secs ≤ x.dep) is opened.1.0.1;
+        leads = leads_into way.0 at;
+        fits = opened.1.0.1;
         is_label = opened.1.1;
       } in
-      record { there = record { walk = way.0; label = way.1 }; is_open = may; departs = ap (λ (x : Connection). x.dep - f.secs) is; worth = refl; fits = λ tag h. h })
-      (λ way opened. subst (λ (x : Connection). Covers rules new (x.dep - way.walk.secs) (rules.walk way.walk.secs (rules.ride way.label.value))) is
-      (takes.covered (way.walk, way.label) (between way.walk opened.is_footpath opened.leads, ((opened.leaves, subst (λ (x : Connection). way.walk.secs ≤ x.dep) (sym is) opened.fits), opened.is_label))))
-      takes
+      record { there = record { walk = way.0; label = way.1 }; is_open = may; departs = refl; worth = refl; fits = λ tag h. h })
+      (λ way opened. here.covered (way.walk, way.label) (between way.walk opened.is_footpath opened.leads, ((opened.leaves, opened.fits), opened.is_label)))
+      here
 
   pub settings_out_taken : (q : Query) (old new : List (Point V)) → TakesIn rules (each_of (IsTried t.footpaths begin end) (settings_out_by rules tags i c q labels)) old new → TakesIn rules (settings_out rules t q tags i labels) old new
   settings_out_taken q old new takes =
-      takes_as rules (each_of (IsTried t.footpaths begin end) (settings_out_by rules tags i c q labels)) (settings_out rules t q tags i labels) old new
+      let here = subst (λ (x : Connection). TakesIn rules (each_of (IsTried t.footpaths begin end) (settings_out_by rules tags i x q labels)) old new) is takes in
+      takes_as rules (each_of (IsTried t.footpaths begin end) (settings_out_by rules tags i (connection_at t i) q labels)) (settings_out rules t q tags i labels) old new
       (λ way opened.
-      let start = way.0 in
       let m = opened.1.0 in
       let may : MaySetOut t q i labels (record { start = way.0; label = way.1 }) = record {
-        boards = ap (λ (x : Connection). x.board) (sym is) ∙ boards;
-        is_start = is_start t q c begin end start opened.0 m.starts;
-        leads = leads_there q c start m.starts (leads_into start opened.0) ∙ ap (λ (x : Connection). x.from) is;
-        fits = subst (λ (x : Connection). start_secs start ≤ x.dep) is m.fits;
-        not_early = subst (λ (x : Connection). q.from ≤ x.dep - start_secs start) is m.not_early;
-        not_late = subst (λ (x : Connection). x.dep - start_secs start ≤ q.until) is m.not_late;
+        boards = boards_there;
+        is_start = is_start t q (connection_at t i) begin end way.0 opened.0 m.starts;
+        leads = leads_there q way.0 opened.0 m.starts;
+        fits = m.fits;
+        not_early = m.not_early;
+        not_late = m.not_late;
         is_label = opened.1.1;
       } in
-      record { there = record { start = way.0; label = way.1 }; is_open = may; departs = ap (λ (x : Connection). x.dep - start_secs start) is; worth = refl; fits = λ tag h. h })
+      record { there = record { start = way.0; label = way.1 }; is_open = may; departs = refl; worth = refl; fits = λ tag h. h })
       (λ way opened.
-      let start = way.start in
-      let may : MayStart q c start = record {
-        starts = starts_from t q c start opened.is_start (opened.leads ∙ ap (λ (x : Connection). x.from) (sym is));
-        fits = subst (λ (x : Connection). start_secs start ≤ x.dep) (sym is) opened.fits;
-        not_early = subst (λ (x : Connection). q.from ≤ x.dep - start_secs start) (sym is) opened.not_early;
-        not_late = subst (λ (x : Connection). x.dep - start_secs start ≤ q.until) (sym is) opened.not_late;
+      let may : MayStart q (connection_at t i) way.start = record {
+        starts = starts_from t q (connection_at t i) way.start opened.is_start opened.leads;
+        fits = opened.fits;
+        not_early = opened.not_early;
+        not_late = opened.not_late;
       } in
-      subst (λ (x : Connection). Covers rules new (x.dep - start_secs start) (started rules start (rules.ride way.label.value))) is
-      (takes.covered (start, way.label) (tried q start opened.is_start opened.leads, (may, opened.is_label))))
-      takes
+      here.covered (way.start, way.label) (tried q way.start opened.is_start opened.leads, (may, opened.is_label)))
+      here

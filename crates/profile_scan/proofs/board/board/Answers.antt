@@ -3,9 +3,6 @@ use Rattle.criteria.specs.Laws.{Admits}
 use Rattle.fronts.specs.declared.entry.Ridden.{Ridden}
 use Rattle.fronts.specs.Lists.{steps_of}
 use Rattle.bags.specs.Bag.{points_of}
-use Rattle.timetable.specs.declared.network.Connection.{Connection}
-use Rattle.timetable.specs.Journeys.{connection_at}
-use Rattle.timetable.proofs.LegalFacts.{connection_at-stands}
 use Rattle.profile_scan.specs.Matching.{from_to}
 use Rattle.profile_scan.specs.Story.{story, told}
 use Rattle.profile_scan.specs.Steps.{boardings}
@@ -17,22 +14,23 @@ use Rattle.profile_scan.proofs.StoryLemmas.{grows_on, steps_grow, set_outs_grow}
 use Rattle.profile_scan.proofs.BoundLemmas.{from_carried}
 use Rattle.profile_scan.proofs.RideLemmas.{ridden_admitted, no_ridden}
 use Rattle.profile_scan.proofs.BoardLemmas.{boardings_taken, settings_out_taken}
+use Rattle.profile_scan.proofs.StepFacts.{begins_in}
+use Rattle.profile_scan.proofs.board.board.Given as given
+use Rattle.profile_scan.proofs.board.board.Goals.{Start}
 use Rattle.profile_scan.proofs.board.board.Goals as goal
 
+-- the connection begins at a stop
+begins : (g : given.Over) (c : goal.Start g) → c.args.connection.now.from < (g.S.ConnSource.timetable c.args.source.now).stops
+begins g c = begins_in (g.S.ConnSource.timetable c.args.source.now) (g.met.S.ConnSource.legal c.args.source.now) c.args.first c.requires.place c.args.connection.now c.requires.connection
+
 pub walks_into-begin-requires : goal.walks_into-begin-requires
-walks_into-begin-requires g c =
-    let t = g.S.ConnSource.timetable c.args.source.now in
-    subst (λ (x : Connection). x.from < t.stops) (sym c.requires.connection) ((g.met.S.ConnSource.legal c.args.source.now).stops_in_range c.args.first (connection_at t c.args.first) (connection_at-stands t c.args.first c.requires.place)).0
+walks_into-begin-requires g c = begins g (goal.at.walks_into-begin-requires g c).Start
 
 pub set_out_walks-requires-clause-from : goal.set_out_walks-requires-clause-from
-set_out_walks-requires-clause-from g c =
-    let t = g.S.ConnSource.timetable c.args.source.now in
-    subst (λ (x : Connection). x.from < t.stops) (sym c.requires.connection) ((g.met.S.ConnSource.legal c.args.source.now).stops_in_range c.args.first (connection_at t c.args.first) (connection_at-stands t c.args.first c.requires.place)).0
+set_out_walks-requires-clause-from g c = begins g (goal.at.set_out_walks-requires-clause-from g c).Start
 
 pub board_walks-requires-clause-from : goal.board_walks-requires-clause-from
-board_walks-requires-clause-from g c =
-    let t = g.S.ConnSource.timetable c.args.source.now in
-    subst (λ (x : Connection). x.from < t.stops) (sym c.requires.connection) ((g.met.S.ConnSource.legal c.args.source.now).stops_in_range c.args.first (connection_at t c.args.first) (connection_at-stands t c.args.first c.requires.place)).0
+board_walks-requires-clause-from g c = begins g (goal.at.board_walks-requires-clause-from g c).Start
 
 pub board_walks-requires-clause-ridden : goal.board_walks-requires-clause-ridden
 board_walks-requires-clause-ridden g c =

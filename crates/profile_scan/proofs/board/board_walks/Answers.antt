@@ -12,14 +12,11 @@ use Rattle.profile_scan.proofs.board.board_walks.Goals as goal
 
 pub loop-place-init : goal.loop-place-init
 loop-place-init g c =
-    let rules = g.C.Criterion.rules c.args.criterion.now in
-    let laws = g.met.C.Criterion.laws c.args.criterion.now in
-    let t = g.S.ConnSource.timetable c.args.source.now in
-    let limits = g.met.S.ConnSource.limits c.args.source.now in
+    let walks = (g.S.ConnSource.timetable c.args.source.now).footpaths in
     record {
       stops = c.requires.stops;
       steps = extends_none (steps_of c.args.stops.now.lists);
-      takes = λ labels are admitted exits set_outs stop before all ext_before ext. walks_first rules laws t limits labels admitted (boardings_by rules (from_to (told t.footpaths before) (told t.footpaths all)) c.args.first c.args.connection.now stop labels) c.args.begin (points_at c.args.stops.now stop);
+      takes = λ labels are admitted exits set_outs stop before all ext_before ext. walks_first (g.C.Criterion.rules c.args.criterion.now) walks (boardings_by (g.C.Criterion.rules c.args.criterion.now) (from_to (told walks before) (told walks all)) c.args.first c.args.connection.now stop labels) c.args.begin (points_at c.args.stops.now stop);
     }
 
 pub board_from-requires-clause-stop : goal.board_from-requires-clause-stop
@@ -34,10 +31,7 @@ board_from-requires-clause-stops g c =
 
 pub loop-place-preserved : goal.loop-place-preserved
 loop-place-preserved g c =
-    let rules = g.C.Criterion.rules c.args.criterion.now in
-    let laws = g.met.C.Criterion.laws c.args.criterion.now in
     let t = g.S.ConnSource.timetable c.args.source.now in
-    let limits = g.met.S.ConnSource.limits c.args.source.now in
     let inv = c.loop-place.invariant in
     let walk = c.footpath_into-walk.result in
     let old_steps = steps_of c.args.stops.now.lists in
@@ -50,7 +44,7 @@ loop-place-preserved g c =
           let s0 = story exits old_steps set_outs in
           let s1 = story exits mid_steps set_outs in
           let s2 = story exits new_steps set_outs in
-          walks_next rules laws t limits labels admitted (from_to (told t.footpaths before) (told t.footpaths all)) c.args.first c.args.connection.now stop c.args.begin c.loop-place.place walk (points_at c.args.stops.now stop) (points_at c.loop-place.stops stop) (points_at c.board_from.new.stops stop)
+          walks_next (g.C.Criterion.rules c.args.criterion.now) (g.met.C.Criterion.laws c.args.criterion.now) t (g.met.S.ConnSource.limits c.args.source.now) labels admitted (from_to (told t.footpaths before) (told t.footpaths all)) c.args.first c.args.connection.now stop c.args.begin c.loop-place.place walk (points_at c.args.stops.now stop) (points_at c.loop-place.stops stop) (points_at c.board_from.new.stops stop)
           c.loop-place.auto.place c.footpath_into-walk.ensures
           (inv.takes labels are admitted exits set_outs stop before all ext_before (grows_on s1 s2 all (steps_grow exits mid_steps new_steps set_outs c.in_ok-board_from.ensures.steps) ext))
           (c.in_ok-board_from.ensures.takes labels are t.footpaths exits set_outs c.footpath_into-walk.ensures stop before all (grows_on before s0 s1 ext_before (steps_grow exits old_steps mid_steps set_outs inv.steps)) ext);
