@@ -102,34 +102,46 @@ pub fn ride_labels<C: Criterion>(
     Ok(())
 }
 
-/// Offers the points found each label of a trip that is boarded after a start.
-pub fn set_out_after<C: Criterion>(
-    criterion: &C,
-    found: &mut Bag<C>,
-    set_outs: &mut Vec<SetOut>,
-    labels: &[Label<C::V>],
+// How one sets out: the start, and when one leaves the source.
+#[derive(Clone, Copy)]
+struct Departure {
     start: Option<Footpath>,
-    first: u32,
-    departure: u32,
-) -> Result<(), AllocError>
-    requires secs { IfSome start (λ walk. IsSecs walk.secs) }
-    requires found { criterion_of found.old ≡ criterion.now }
-    requires labels { (l : Point _) → Contains (label_points labels.now) l → Admits (C.rules criterion.now) l.value }
-    ensures same { criterion_of found.new ≡ criterion.now }
-    ensures set_outs { Extends set_outs.old.items set_outs.new.items }
-    ensures takes { OnOk result ((walks : List Footpath) (exits : List Exit) (steps : List Step) → Takes (C.rules criterion.now) walks (story exits steps set_outs.old.items) (story exits steps set_outs.new.items) (λ tags. settings_out_after (C.rules criterion.now) tags first departure start (label_points labels.now)) (points_of found.old) (points_of found.new)) }
+    time: u32,
+}
+
+// How one sets out from the source by a start to board a connection, if that departs in the window. Hardly a start is from the source,
+// so that is asked first.
+#[inline(always)]
+fn departure_by(
+    query: &Query,
+    connection: &Connection,
+    start: Option<Footpath>,
+) -> Option<Departure>
+    ensures { MatchOption result (MayStart query.now connection.now start → ⊥)
+        (λ departure. MayStart query.now connection.now start × (departure.start ≡ start) × (departure.time ≡ connection.now.dep - start_secs start)) }
 {
-    for place in 0..labels.len() {
-        let label = label_at(labels, place);
-        let value = value_after(criterion, start, &label.value);
-        let set_out = SetOut {
-            start,
-            first,
-            label: label.tag,
-        };
-        add_found(criterion, found, set_outs, departure, value, set_out)?;
+    let secs = match start {
+        None => {
+            if connection.from != query.source {
+                return None;
+            }
+            0
+        },
+        Some(walk) => {
+            if walk.from != query.source || walk.to == query.source {
+                return None;
+            }
+            walk.secs
+        },
+    };
+    if secs > connection.dep {
+        return None;
     }
-    Ok(())
+    let time = connection.dep - secs;
+    if time < query.from || time > query.until {
+        return None;
+    }
+    Some(Departure { start, time })
 }
 
 // The value of a start and a ride, with a label's value after them.
@@ -145,29 +157,39 @@ fn value_after<C: Criterion>(criterion: &C, start: Option<Footpath>, value: &C::
     }
 }
 
-// When one sets out from the source by a start to board a connection, if that departs in the window.
-fn departure_by(query: &Query, connection: &Connection, start: Option<Footpath>) -> Option<u32>
-    ensures { MatchOption result (MayStart query.now connection.now start → ⊥) (λ departure. MayStart query.now connection.now start × (departure ≡ connection.now.dep - start_secs start)) }
+// Offers the points found each label of a trip that is boarded by a way of setting out.
+#[inline(never)]
+fn set_out_after<C: Criterion>(
+    criterion: &C,
+    departure: Departure,
+    first: u32,
+    found: &mut Bag<C>,
+    set_outs: &mut Vec<SetOut>,
+    labels: &[Label<C::V>],
+) -> Result<(), AllocError>
+    requires secs { IfSome departure.start (λ walk. IsSecs walk.secs) }
+    requires found { criterion_of found.old ≡ criterion.now }
+    requires labels { (l : Point _) → Contains (label_points labels.now) l → Admits (C.rules criterion.now) l.value }
+    ensures same { criterion_of found.new ≡ criterion.now }
+    ensures set_outs { Extends set_outs.old.items set_outs.new.items }
+    ensures takes { OnOk result ((walks : List Footpath) (exits : List Exit) (steps : List Step) → Takes (C.rules criterion.now) walks (story exits steps set_outs.old.items) (story exits steps set_outs.new.items) (λ tags. settings_out_after (C.rules criterion.now) tags first departure.time departure.start (label_points labels.now)) (points_of found.old) (points_of found.new)) }
 {
-    let (starts, secs) = match start {
-        None => (connection.from == query.source, 0),
-        Some(walk) => (
-            walk.from == query.source && walk.to != query.source,
-            walk.secs,
-        ),
-    };
-    if !starts || secs > connection.dep {
-        return None;
+    for place in 0..labels.len() {
+        let label = label_at(labels, place);
+        let value = value_after(criterion, departure.start, &label.value);
+        let set_out = SetOut {
+            start: departure.start,
+            first,
+            label: label.tag,
+        };
+        add_found(criterion, found, set_outs, departure.time, value, set_out)?;
     }
-    let departure = connection.dep - secs;
-    if departure < query.from || departure > query.until {
-        return None;
-    }
-    Some(departure)
+    Ok(())
 }
 
-// Offers the points found each label of a trip that is boarded after a start, where that is one from the source in the window.
-fn set_out_in_window<C: Criterion>(
+/// Offers the points found each label of a trip that is boarded after a start, where that is one from the source in the window.
+#[inline(always)]
+pub fn set_out<C: Criterion>(
     criterion: &C,
     query: &Query,
     connection: &Connection,
@@ -186,48 +208,8 @@ fn set_out_in_window<C: Criterion>(
 {
     match departure_by(query, connection, start) {
         None => Ok(()),
-        Some(departure) => set_out_after(
-            criterion, found, set_outs, labels, start, first, departure,
-        ),
-    }
-}
-
-/// The same. Hardly a start is from the source, so that is asked first, where one goes over the footpaths.
-pub fn set_out<C: Criterion>(
-    criterion: &C,
-    query: &Query,
-    connection: &Connection,
-    first: u32,
-    start: Option<Footpath>,
-    found: &mut Bag<C>,
-    set_outs: &mut Vec<SetOut>,
-    labels: &[Label<C::V>],
-) -> Result<(), AllocError>
-    requires secs { IfSome start (λ walk. IsSecs walk.secs) }
-    requires found { criterion_of found.old ≡ criterion.now }
-    requires labels { (l : Point _) → Contains (label_points labels.now) l → Admits (C.rules criterion.now) l.value }
-    ensures same { criterion_of found.new ≡ criterion.now }
-    ensures set_outs { Extends set_outs.old.items set_outs.new.items }
-    ensures takes { OnOk result ((walks : List Footpath) (exits : List Exit) (steps : List Step) → Takes (C.rules criterion.now) walks (story exits steps set_outs.old.items) (story exits steps set_outs.new.items) (λ tags. only_if (MayStart query.now connection.now start) (settings_out_after (C.rules criterion.now) tags first (connection.now.dep - start_secs start) start (label_points labels.now))) (points_of found.old) (points_of found.new)) }
-{
-    match start {
-        None => {
-            if connection.from != query.source {
-                return Ok(());
-            }
-            let boarded = *connection;
-            set_out_in_window(
-                criterion, query, &boarded, first, start, found, set_outs, labels,
-            )
-        },
-        Some(walk) => {
-            if walk.from != query.source {
-                return Ok(());
-            }
-            let boarded = *connection;
-            set_out_in_window(
-                criterion, query, &boarded, first, start, found, set_outs, labels,
-            )
+        Some(departure) => {
+            set_out_after(criterion, departure, first, found, set_outs, labels)
         },
     }
 }

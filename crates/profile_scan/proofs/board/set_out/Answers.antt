@@ -1,21 +1,30 @@
-use Rattle.std.proofs.Common.{◌-◌, List, Option, OnOk, subst, sym}
+use Rattle.std.proofs.Common.{◌-◌, ℕ, Option, IfSome, sym, subst}
+use Rattle.criteria.specs.Laws.{IsSecs}
 use Rattle.bags.specs.Bag.{points_of}
 use Rattle.timetable.specs.declared.network.Footpath.{Footpath}
 use Rattle.timetable.specs.Journeys.{start_secs}
-use Rattle.fronts.specs.declared.entry.Step.{Step}
-use Rattle.profile_scan.specs.Story.{story}
-use Rattle.profile_scan.specs.declared.story.Exit.{Exit}
-use Rattle.profile_scan.specs.Adding.{label_points, Takes, only_if, MayStart, settings_out_after}
+use Rattle.profile_scan.specs.Steps.{TakesIn}
+use Rattle.profile_scan.specs.Matching.{from_to}
+use Rattle.profile_scan.specs.Story.{told}
+use Rattle.profile_scan.specs.Adding.{label_points, MayStart, settings_out_after}
+use Rattle.profile_scan.proofs.Offers.{on_ok_more, takes_if}
 use Rattle.profile_scan.proofs.board.set_out.Goals as goal
 
-pub returns-else-walk-query-clause-takes : goal.returns-else-walk-query-clause-takes
-returns-else-walk-query-clause-takes g c =
+pub set_out_after-requires-clause-secs : goal.set_out_after-requires-clause-secs
+set_out_after-requires-clause-secs g c = subst (λ (start : Option Footpath). IfSome start (λ walk. IsSecs walk.secs)) (sym c.in-Some.ensures.1) c.requires.secs
+
+pub returns-in-Some-clause-takes : goal.returns-in-Some-clause-takes
+returns-in-Some-clause-takes g c =
     let rules = g.C.Criterion.rules c.args.criterion.now in
-    let old_outs = c.args.set_outs.now.items in
-    let new_outs = c.set_out_in_window-in-Some.new.set_outs.items in
-    subst (λ (start : Option Footpath). OnOk c.set_out_in_window-in-Some.result
-    ((walks : List Footpath) (exits : List Exit) (steps : List Step) → Takes rules walks (story exits steps old_outs) (story exits steps new_outs)
-    (λ tags. only_if (MayStart c.args.query.now c.args.connection.now start)
-    (settings_out_after rules tags c.args.first (c.args.connection.now.dep - start_secs start) start (label_points c.args.labels.now)))
-    (points_of c.args.found.now) (points_of c.set_out_in_window-in-Some.new.found)))
-    (sym c.in-Some.is) c.set_out_in_window-in-Some.ensures.takes
+    let is = c.in-Some.ensures in
+    let old = points_of c.args.found.now in
+    let new = points_of c.set_out_after.new.found in
+    let labels = label_points c.args.labels.now in
+    on_ok_more c.set_out_after.result _ _
+    (λ takes walks exits steps before all ext_before ext.
+    let tags = from_to (told walks before) (told walks all) in
+    takes_if rules (MayStart c.args.query.now c.args.connection.now c.args.start)
+    (settings_out_after rules tags c.args.first (c.args.connection.now.dep - start_secs c.args.start) c.args.start labels) old new is.0
+    (subst (λ (start : Option Footpath). TakesIn rules (settings_out_after rules tags c.args.first (c.args.connection.now.dep - start_secs c.args.start) start labels) old new) is.1
+    (subst (λ (n : ℕ). TakesIn rules (settings_out_after rules tags c.args.first n c.in-Some.departure.start labels) old new) is.2 (takes walks exits steps before all ext_before ext))))
+    c.set_out_after.ensures.takes

@@ -27,7 +27,7 @@ add_found-requires-clause-admitted g c =
     let laws = g.met.C.Criterion.laws c.args.criterion.now in
     let x = c.label_at-label.result in
     subst (Admits rules) (sym (c.value_after-value.ensures))
-    (start_admits rules laws c.args.start (rules.ride x.value) c.requires.secs (laws.ride_admits x.value (c.requires.labels x (Contains-At (label_points c.args.labels.now) c.loop-place.place x c.label_at-label.ensures))))
+    (start_admits rules laws c.args.departure.start (rules.ride x.value) c.requires.secs (laws.ride_admits x.value (c.requires.labels x (Contains-At (label_points c.args.labels.now) c.loop-place.place x c.label_at-label.ensures))))
 
 pub loop-place-preserved : goal.loop-place-preserved
 loop-place-preserved g c =
@@ -43,13 +43,13 @@ loop-place-preserved g c =
           let mid = story exits steps c.loop-place.set_outs.items in
           let now = story exits steps c.add_found.new.set_outs.items in
           let tags = from_to (told walks before) (told walks all) in
-          let set_out : SetOut = record { start = c.args.start; first = c.args.first; label = x.tag } in
+          let set_out : SetOut = record { start = c.args.departure.start; first = c.args.first; label = x.tag } in
           takes_next rules (label_points c.args.labels.now)
-          (λ (label : Point g.row.C-V.Denot). set_out_way tags c.args.departure (started rules c.args.start (rules.ride label.value)) (record { start = c.args.start; first = c.args.first; label = label.tag }))
+          (λ (label : Point g.row.C-V.Denot). set_out_way tags c.args.departure.time (started rules c.args.departure.start (rules.ride label.value)) (record { start = c.args.departure.start; first = c.args.first; label = label.tag }))
           c.loop-place.place x (points_of c.args.found.now) (points_of c.loop-place.found) (points_of c.add_found.new.found) c.label_at-label.ensures
-          (λ y way is opened. start_admits rules laws c.args.start (rules.ride y.value) c.requires.secs (laws.ride_admits y.value (c.requires.labels y is)))
+          (λ y way is opened. start_admits rules laws c.args.departure.start (rules.ride y.value) c.requires.secs (laws.ride_admits y.value (c.requires.labels y is)))
           (c.loop-place.invariant.takes walks exits steps before all ext_before (grows_on mid now all (set_outs_grow exits steps c.loop-place.set_outs.items c.add_found.new.set_outs.items c.in_ok-add_found.ensures.set_outs) ext))
-          (takes_worth rules c.args.departure c.value_after-value.result (started rules c.args.start (rules.ride x.value)) ((set_out_way tags c.args.departure x.value set_out).fits_tag tt) (points_of c.loop-place.found) (points_of c.add_found.new.found) worth
+          (takes_worth rules c.args.departure.time c.value_after-value.result (started rules c.args.departure.start (rules.ride x.value)) ((set_out_way tags c.args.departure.time x.value set_out).fits_tag tt) (points_of c.loop-place.found) (points_of c.add_found.new.found) worth
           (c.in_ok-add_found.ensures.takes walks exits steps before all (grows_on before was mid ext_before (set_outs_grow exits steps c.args.set_outs.now.items c.loop-place.set_outs.items c.loop-place.invariant.set_outs)) ext));
     }
 
@@ -60,6 +60,6 @@ returns-clause-takes g c walks exits steps before all ext_before ext =
     let labels = c.args.labels.now in
     let long : length (label_points labels) ≡ length labels = length-map labels _ in
     let over = c.loop-place-test.false in
-    takes_all rules (label_points c.args.labels.now) c.args.departure (λ label. started rules c.args.start (rules.ride label.value)) (λ label. (set_out_way tags c.args.departure label.value (record { start = c.args.start; first = c.args.first; label = label.tag })).fits_tag tt) _ c.loop-place.place (points_of c.args.found.now) (points_of c.loop-place.found) (omega arith)
+    takes_all rules (label_points c.args.labels.now) c.args.departure.time (λ label. started rules c.args.departure.start (rules.ride label.value)) (λ label. (set_out_way tags c.args.departure.time label.value (record { start = c.args.departure.start; first = c.args.first; label = label.tag })).fits_tag tt) _ c.loop-place.place (points_of c.args.found.now) (points_of c.loop-place.found) (omega arith)
     (λ label tag h. h)
     (c.loop-place.invariant.takes walks exits steps before all ext_before ext)

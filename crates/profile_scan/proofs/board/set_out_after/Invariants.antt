@@ -15,5 +15,5 @@ invariant-loop-place g l =
     record {
       same : criterion_of l.found ≡ l.criterion;
       set_outs : Extends l.fn.set_outs.items l.set_outs.items;
-      takes : (walks : List Footpath) (exits : List Exit) (steps : List Step) → Takes rules walks (story exits steps l.fn.set_outs.items) (story exits steps l.set_outs.items) (λ tags. each_of (StandsBefore (label_points l.labels) l.place) (λ label. set_out_way tags l.departure (started rules l.start (rules.ride label.value)) (record { start = l.start; first = l.first; label = label.tag }))) (points_of l.fn.found) (points_of l.found);
+      takes : (walks : List Footpath) (exits : List Exit) (steps : List Step) → Takes rules walks (story exits steps l.fn.set_outs.items) (story exits steps l.set_outs.items) (λ tags. each_of (StandsBefore (label_points l.labels) l.place) (λ label. set_out_way tags l.departure.time (started rules l.departure.start (rules.ride label.value)) (record { start = l.departure.start; first = l.first; label = label.tag }))) (points_of l.fn.found) (points_of l.found);
     }
