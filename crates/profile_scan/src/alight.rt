@@ -137,7 +137,7 @@ fn value_at_end<C: Criterion>(criterion: &C, walk: Option<Footpath>, time: u32) 
     }
 }
 
-/// Offers the labels of a trip the way to end where a connection ends, if there is one.
+/// Offers the labels of a connection's trip the way to end where the connection ends, if there is one.
 pub fn end<C: Criterion>(
     criterion: &C,
     query: &Query,
@@ -145,17 +145,16 @@ pub fn end<C: Criterion>(
     connection: &Connection,
     last: u32,
     labels: &mut Labels<C::V>,
-    trip: u32,
     exits: &mut Vec<Exit>,
 ) -> Result<(), AllocError>
     requires arrival { IsTime connection.now.arr }
     requires by { IsTime query.now.by }
     requires secs { IfSome way (λ secs. IsSecs secs) }
-    requires trip { trip < length (runs_of labels.old) }
+    requires trip { connection.now.trip < length (runs_of labels.old) }
     requires labels { AreLabels (C.rules criterion.now) labels.old }
-    ensures labels { OnOk result (IsRelabelled (C.rules criterion.now) trip labels.old labels.new) }
+    ensures labels { OnOk result (IsRelabelled (C.rules criterion.now) connection.now.trip labels.old labels.new) }
     ensures exits { Extends exits.old.items exits.new.items }
-    ensures takes { OnOk result ((walks : List Footpath) (steps : List Step) (set_outs : List SetOut) → Takes (C.rules criterion.now) walks (story exits.old.items steps set_outs) (story exits.new.items steps set_outs) (λ tags. endings (C.rules criterion.now) tags last connection.now query.now way) (trip_points labels.old trip) (trip_points labels.new trip)) }
+    ensures takes { OnOk result ((walks : List Footpath) (steps : List Step) (set_outs : List SetOut) → Takes (C.rules criterion.now) walks (story exits.old.items steps set_outs) (story exits.new.items steps set_outs) (λ tags. endings (C.rules criterion.now) tags last connection.now query.now way) (trip_points labels.old connection.now.trip) (trip_points labels.new connection.now.trip)) }
 {
     match end_of(connection, query, way) {
         None => Ok(()),
@@ -165,12 +164,12 @@ pub fn end<C: Criterion>(
                 last,
                 walk: end.walk,
             };
-            add_label(criterion, labels, trip, exits, value, exit)
+            add_label(criterion, labels, connection.trip, exits, value, exit)
         }
     }
 }
 
-/// Leaves a trip where a connection ends, if passengers may get off there: offers its labels the end, and the changes by the list of
+/// Leaves a connection's trip where the connection ends, if passengers may get off there: offers its labels the end, and the changes by the list of
 /// that stop that aren't bettered.
 pub fn alight<C: Criterion>(
     criterion: &C,
@@ -180,7 +179,6 @@ pub fn alight<C: Criterion>(
     last: u32,
     bound: &[C::V],
     labels: &mut Labels<C::V>,
-    trip: u32,
     exits: &mut Vec<Exit>,
     lists: &FrontLists<C>,
     head: u32,
@@ -189,24 +187,24 @@ pub fn alight<C: Criterion>(
     requires by { IsTime query.now.by }
     requires secs { IfSome way (λ secs. IsSecs secs) }
     requires bound { (b : _) → Contains bound.now b → Admits (C.rules criterion.now) b }
-    requires trip { trip < length (runs_of labels.old) }
+    requires trip { connection.now.trip < length (runs_of labels.old) }
     requires labels { AreLabels (C.rules criterion.now) labels.old }
     requires under { lists_criterion lists.now ≡ criterion.now }
     requires sound { IsSound C.rules lists.now }
     requires head { head < length (entries_of lists.now) }
-    ensures labels { OnOk result (IsRelabelled (C.rules criterion.now) trip labels.old labels.new) }
+    ensures labels { OnOk result (IsRelabelled (C.rules criterion.now) connection.now.trip labels.old labels.new) }
     ensures exits { Extends exits.old.items exits.new.items }
-    ensures takes { OnOk result ((walks : List Footpath) (steps : List Step) (set_outs : List SetOut) → Takes (C.rules criterion.now) walks (story exits.old.items steps set_outs) (story exits.new.items steps set_outs) (λ tags. only_if (connection.now.alight ≡ true) (endings_and_changes (C.rules criterion.now) tags last connection.now query.now way (carried (C.rules criterion.now) bound.now (list_points lists.now head)))) (trip_points labels.old trip) (trip_points labels.new trip)) }
+    ensures takes { OnOk result ((walks : List Footpath) (steps : List Step) (set_outs : List SetOut) → Takes (C.rules criterion.now) walks (story exits.old.items steps set_outs) (story exits.new.items steps set_outs) (λ tags. only_if (connection.now.alight ≡ true) (endings_and_changes (C.rules criterion.now) tags last connection.now query.now way (carried (C.rules criterion.now) bound.now (list_points lists.now head)))) (trip_points labels.old connection.now.trip) (trip_points labels.new connection.now.trip)) }
 {
     if !connection.alight {
         return Ok(());
     }
-    end(criterion, query, way, connection, last, labels, trip, exits)?;
+    end(criterion, query, way, connection, last, labels, exits)?;
     change(
         criterion,
         bound,
         labels,
-        trip,
+        connection.trip,
         exits,
         lists,
         head,

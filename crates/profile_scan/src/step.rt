@@ -72,7 +72,6 @@ fn step_in<S: ConnSource, C: Criterion>(
         place,
         bound,
         labels,
-        connection.trip,
         exits,
         &stops.lists,
         head,
