@@ -38,18 +38,38 @@ module _ {V : Type 0} (rules : Rules V) (old mid : List (Entry V)) (old_items mi
 late_covers : {V : Type 0} (rules : Rules V) (entries : List (Entry V)) (items : List (Item V)) → AreEntries rules entries items → (departure m : ℕ) (v : V) → departure ≤ departure_of entries m → Betters rules (front entries items m) v → Covers rules (points_from entries items m) departure v
 late_covers rules entries items are departure m v early (p, h, w) = (let late = (are.each m).late p h in (p, of_front rules entries items are m p h, omega arith, w))
 
-module _ {V : Type 0} (rules : Rules V) (laws : Laws rules) (head departure first walk secs after : ℕ) (ridden : List (Ridden V)) (entries : List (Entry V)) (items : List (Item V)) (steps : List Step) (kept : List (Item V)) (short : IsSecs secs) (fair : (r : Ridden V) → Contains ridden r → Admits rules r.value)
-    (are : AreEntries rules entries items) (late : IsLate entries items head departure after)
-    (boarded : AreBoardings rules steps departure first walk secs ridden kept) (all : AllWalked rules (front entries items after) secs ridden (length ridden) kept) where
+-- what is known of an insertion once its values are walked: those that no point of the list's front betters are kept
+pub record AreWalked {V : Type 0} (rules : Rules V) (entries : List (Entry V)) (items : List (Item V)) (head departure first walk secs after : ℕ) (ridden : List (Ridden V)) (steps : List Step) (kept : List (Item V)) : Type 0 where
+  pub short : IsSecs secs
+  pub fair : (r : Ridden V) → Contains ridden r → Admits rules r.value
+  pub are : AreEntries rules entries items
+  pub late : IsLate entries items head departure after
+  pub boarded : AreBoardings rules steps departure first walk secs ridden kept
+  pub all : AllWalked rules (front entries items after) secs ridden (length ridden) kept
+
+-- the same, where the list was passed and the values were walked in what was read of it
+pub walked : {V : Type 0} (rules : Rules V) (entries : List (Entry V)) (items : List (Item V)) (head departure first walk secs after : ℕ) (ridden : List (Ridden V)) (steps : List Step) (kept : List (Item V)) (passed met : List (Entry V)) (passed_items met_items : List (Item V))
+    → passed ≡ entries → passed_items ≡ items → met ≡ entries → met_items ≡ items → IsSecs secs → ((r : Ridden V) → Contains ridden r → Admits rules r.value) → AreEntries rules entries items → IsLate passed passed_items head departure after → AreBoardings rules steps departure first walk secs ridden kept → AllWalked rules (front met met_items after) secs ridden (length ridden) kept
+    → AreWalked rules entries items head departure first walk secs after ridden steps kept
+walked {V} rules entries items head departure first walk secs after ridden steps kept passed met passed_items met_items passed_is passed_items_is met_is met_items_is short fair are late boarded all = record {
+  short = short;
+  fair = fair;
+  are = are;
+  late = subst (λ es. IsLate es items head departure after) passed_is (subst (λ ps. IsLate passed ps head departure after) passed_items_is late);
+  boarded = boarded;
+  all = subst (λ es. AllWalked rules (front es items after) secs ridden (length ridden) kept) met_is (subst (λ ps. AllWalked rules (front met ps after) secs ridden (length ridden) kept) met_items_is all);
+}
+
+module _ {V : Type 0} (rules : Rules V) (laws : Laws rules) (entries : List (Entry V)) (items : List (Item V)) (head departure first walk secs after : ℕ) (ridden : List (Ridden V)) (steps : List Step) (kept : List (Item V)) (are : AreWalked rules entries items head departure first walk secs after ridden steps kept) where
   kept_admitted : (p : Item V) → Contains kept p → Admits rules p.value
-  kept_admitted p h = let b = boarded p h in subst (Admits rules) (sym b.worth) (laws.walk_admits secs b.by.value short (fair b.by b.is_ridden))
+  kept_admitted p h = let b = are.boarded p h in subst (Admits rules) (sym b.worth) (laws.walk_admits secs b.by.value are.short (are.fair b.by b.is_ridden))
 
   -- each of the values is bettered by what is kept, or covered already
   bettered : (r : Ridden V) → Contains ridden r → Betters rules kept (rules.walk secs r.value) ⊎ Covers rules (points_from entries items after) departure (rules.walk secs r.value)
   bettered r h = subst (λ (z : Ridden V). Betters rules kept (rules.walk secs z.value) ⊎ Covers rules (points_from entries items after) departure (rules.walk secs z.value)) h.2
-      (elim (all h.0 r h.1) [
+      (elim (are.all h.0 r h.1) [
         | inl b ↦ inl b
-        | inr b ↦ inr (late_covers rules entries items are departure after (rules.walk secs (get_or ridden h.0 r).value) late.late b)
+        | inr b ↦ inr (late_covers rules entries items are.are departure after (rules.walk secs (get_or ridden h.0 r).value) are.late.late b)
       ])
 
   -- nothing is kept
@@ -59,38 +79,38 @@ module _ {V : Type 0} (rules : Rules V) (laws : Laws rules) (head departure firs
     kept = λ d v a c. c;
     covered = λ r h. elim (bettered r h) [
       | inl b ↦ (let lt = b.1.1 in absurd (omega arith))
-      | inr c ↦ (c.0, late.only c.0 c.1, c.2, c.3)
+      | inr c ↦ (c.0, are.late.only c.0 c.1, c.2, c.3)
     ];
   }
 
   pub takes_may : 0 < length kept → MayPut rules entries departure after kept
   takes_may some = record {
-    within = late.within;
-    early = late.late;
+    within = are.late.within;
+    early = are.late.late;
     some = some;
-    departs = λ p h. (boarded p h).departs;
+    departs = λ p h. (are.boarded p h).departs;
     admitted = kept_admitted;
   }
 
   pub takes_covers : (two : List (Entry V)) (two_items : List (Item V)) (put : List (Item V)) → Extends entries two → Extends items two_items → IsUnion rules kept (points_from entries items after) put → CoversAll rules (points_from two two_items after) put
   takes_covers two two_items put ext ext_items union d v a c =
-      union.kept_second d v a (subst (λ ps. Covers rules ps d v) (same_points rules entries two items two_items are ext ext_items after late.within) c)
+      union.kept_second d v a (subst (λ ps. Covers rules ps d v) (same_points rules entries two items two_items are.are ext ext_items after are.late.within) c)
 
   pub takes_all : (two : List (Entry V)) (two_items put new : List (Item V)) → Extends entries two → Extends items two_items → head < length entries → IsUnion rules kept (points_from entries items after) put → IsUnion rules (points_from two two_items head) put new
       → TakesBoardings rules steps departure first walk secs ridden (points_from entries items head) new
   takes_all two two_items put new ext ext_items head_in union joined =
-      let same = same_points rules entries two items two_items are ext ext_items head head_in in
+      let same = same_points rules entries two items two_items are.are ext ext_items head head_in in
       record {
         only = λ p h. elim (joined.only p h) [
           | inl a ↦ inl (subst (λ ps. Contains ps p) same a)
-          | inr b ↦ elim (union.only p b) [ inl k ↦ inr (boarded p k) | inr a ↦ inl (late.only p a) ]
+          | inr b ↦ elim (union.only p b) [ inl k ↦ inr (are.boarded p k) | inr a ↦ inl (are.late.only p a) ]
         ];
         kept = λ d v a c. joined.kept_first d v a (subst (λ ps. Covers rules ps d v) (sym same) c);
         covered = λ r h.
             let v = rules.walk secs r.value in
-            let a = laws.walk_admits secs r.value short (fair r h) in
+            let a = laws.walk_admits secs r.value are.short (are.fair r h) in
             joined.kept_second departure v a (elim (bettered r h) [
-              | inl k ↦ (let at = (boarded k.0 k.1).departs in union.kept_first departure v a (k.0, k.1, omega arith, k.2))
+              | inl k ↦ (let at = (are.boarded k.0 k.1).departs in union.kept_first departure v a (k.0, k.1, omega arith, k.2))
               | inr c ↦ union.kept_second departure v a c
             ]);
       }

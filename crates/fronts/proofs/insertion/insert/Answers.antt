@@ -1,115 +1,60 @@
-use Rattle.std.proofs.Common.{length, sym, subst, arith}
+use Rattle.std.proofs.Common.{sym, subst, arith}
 use Rattle.reasoning.proofs.ListLemmas.{extends_on}
-use Rattle.fronts.specs.Front.{front, departure_of, points_from}
-use Rattle.fronts.specs.Putting.{IsLate, IsPath, DepartBefore, MayPut, IsUnion}
-use Rattle.fronts.specs.Walking.{AllWalked}
+use Rattle.fronts.specs.Front.{departure_of, points_from}
+use Rattle.fronts.specs.Putting.{IsPath, DepartBefore, MayPut, IsUnion}
 use Rattle.fronts.proofs.Growth.{extends_long}
-use Rattle.fronts.proofs.Inserted.{path_more, before_more, takes_none, takes_may, takes_covers, takes_all}
+use Rattle.fronts.proofs.Inserted.{AreWalked, walked, path_more, before_more, takes_none, takes_may, takes_covers, takes_all}
+use Rattle.fronts.proofs.insertion.insert.Given as given
+use Rattle.fronts.proofs.insertion.insert.Goals.{After-deref-5, After-join-arg-4-1}
 use Rattle.fronts.proofs.insertion.insert.Goals as goal
+
+-- what is known before the put
+known : (g : given.Over) (c : goal.After-deref-5 g) → AreWalked (g.C.Criterion.rules c.args.criterion.now) c.args.entries.now.items c.args.items.now.items c.args.head c.args.departure c.args.first c.args.walk c.args.secs c.in_ok-after.after c.args.ridden.now c.keep_walked.new.steps.items c.keep_walked.new.kept.items
+known g c =
+    walked (g.C.Criterion.rules c.args.criterion.now) c.args.entries.now.items c.args.items.now.items c.args.head c.args.departure c.args.first c.args.walk c.args.secs c.in_ok-after.after c.args.ridden.now c.keep_walked.new.steps.items c.keep_walked.new.kept.items c.deref.result.now c.deref-3.result.now c.deref-2.result.now c.deref-4.result.now
+    c.deref.ensures.value c.deref-2.ensures.value c.deref-3.ensures.value c.deref-4.ensures.value c.requires.secs c.requires.ridden c.requires.entries c.in_ok-after.ensures.late c.in_ok-keep_walked.ensures.boarded c.in_ok-keep_walked.ensures.all
+
+-- the entries that are passed, as they stand before the put
+path : (g : given.Over) (c : goal.After-join-arg-4-1 g) → IsPath c.args.entries.now.items c.args.head c.pass.new.passed.items c.in_ok-after.after
+path g c = subst (λ es. IsPath es c.args.head c.pass.new.passed.items c.in_ok-after.after) c.deref.ensures.value c.in_ok-after.ensures.path
+
+-- what the put list is made of
+union : (g : given.Over) (c : goal.After-join-arg-4-1 g) → IsUnion (g.C.Criterion.rules c.args.criterion.now) c.keep_walked.new.kept.items (points_from c.args.entries.now.items c.args.items.now.items c.in_ok-after.after) (points_from c.put.new.entries.items c.put.new.items.items c.in_ok-place.place)
+union g c =
+    subst (λ ps. IsUnion (g.C.Criterion.rules c.args.criterion.now) ps (points_from c.args.entries.now.items c.args.items.now.items c.in_ok-after.after) (points_from c.put.new.entries.items c.put.new.items.items c.in_ok-place.place))
+    c.deref-5.ensures.value c.in_ok-place.ensures.union
 
 pub returns-then-len-eq0-clause-takes : goal.returns-then-len-eq0-clause-takes
 returns-then-len-eq0-clause-takes g c =
-    let rules = g.C.Criterion.rules c.args.criterion.now in
-    let laws = g.met.C.Criterion.laws c.args.criterion.now in
-    let entries = c.args.entries.now.items in
-    let items = c.args.items.now.items in
-    let steps = c.keep_walked.new.steps.items in
-    let kept = c.keep_walked.new.kept.items in
-    let after = c.in_ok-after.after in
-    let late = subst (λ es. IsLate es items c.args.head c.args.departure after) c.deref.ensures.value (subst (λ ps. IsLate c.deref.result.now ps c.args.head c.args.departure after) c.deref-2.ensures.value c.in_ok-after.ensures.late) in
-    let all = subst (λ es. AllWalked rules (front es items after) c.args.secs c.args.ridden.now (length c.args.ridden.now) kept) c.deref-3.ensures.value (subst (λ ps. AllWalked rules (front c.deref-3.result.now ps after) c.args.secs c.args.ridden.now (length c.args.ridden.now) kept) c.deref-4.ensures.value c.in_ok-keep_walked.ensures.all) in
-    takes_none rules laws c.args.head c.args.departure c.args.first c.args.walk c.args.secs after c.args.ridden.now entries items steps kept c.requires.secs c.requires.ridden c.requires.entries late c.in_ok-keep_walked.ensures.boarded all (omega arith)
+    takes_none (g.C.Criterion.rules c.args.criterion.now) (g.met.C.Criterion.laws c.args.criterion.now) c.args.entries.now.items c.args.items.now.items c.args.head c.args.departure c.args.first c.args.walk c.args.secs c.in_ok-after.after c.args.ridden.now c.keep_walked.new.steps.items c.keep_walked.new.kept.items
+    (walked (g.C.Criterion.rules c.args.criterion.now) c.args.entries.now.items c.args.items.now.items c.args.head c.args.departure c.args.first c.args.walk c.args.secs c.in_ok-after.after c.args.ridden.now c.keep_walked.new.steps.items c.keep_walked.new.kept.items c.deref.result.now c.deref-3.result.now c.deref-2.result.now c.deref-4.result.now
+    c.deref.ensures.value c.deref-2.ensures.value c.deref-3.ensures.value c.deref-4.ensures.value c.requires.secs c.requires.ridden c.requires.entries c.in_ok-after.ensures.late c.in_ok-keep_walked.ensures.boarded c.in_ok-keep_walked.ensures.all)
+    (omega arith)
 
 pub put-requires-clause-may : goal.put-requires-clause-may
 put-requires-clause-may g c =
-    let rules = g.C.Criterion.rules c.args.criterion.now in
-    let laws = g.met.C.Criterion.laws c.args.criterion.now in
-    let entries = c.args.entries.now.items in
-    let items = c.args.items.now.items in
-    let steps = c.keep_walked.new.steps.items in
-    let kept = c.keep_walked.new.kept.items in
-    let after = c.in_ok-after.after in
-    let late = subst (λ es. IsLate es items c.args.head c.args.departure after) c.deref.ensures.value (subst (λ ps. IsLate c.deref.result.now ps c.args.head c.args.departure after) c.deref-2.ensures.value c.in_ok-after.ensures.late) in
-    let all = subst (λ es. AllWalked rules (front es items after) c.args.secs c.args.ridden.now (length c.args.ridden.now) kept) c.deref-3.ensures.value (subst (λ ps. AllWalked rules (front c.deref-3.result.now ps after) c.args.secs c.args.ridden.now (length c.args.ridden.now) kept) c.deref-4.ensures.value c.in_ok-keep_walked.ensures.all) in
-    subst (λ ps. MayPut rules entries c.args.departure after ps) (sym c.deref-5.ensures.value) (takes_may rules laws c.args.head c.args.departure c.args.first c.args.walk c.args.secs after c.args.ridden.now entries items steps kept c.requires.secs c.requires.ridden c.requires.entries late c.in_ok-keep_walked.ensures.boarded all (omega arith))
+    subst (λ ps. MayPut (g.C.Criterion.rules c.args.criterion.now) c.args.entries.now.items c.args.departure c.in_ok-after.after ps) (sym c.deref-5.ensures.value)
+    (takes_may (g.C.Criterion.rules c.args.criterion.now) (g.met.C.Criterion.laws c.args.criterion.now) c.args.entries.now.items c.args.items.now.items c.args.head c.args.departure c.args.first c.args.walk c.args.secs c.in_ok-after.after c.args.ridden.now c.keep_walked.new.steps.items c.keep_walked.new.kept.items (known g c) (omega arith))
 
 pub join-requires-clause-path : goal.join-requires-clause-path
 join-requires-clause-path g c =
-    let rules = g.C.Criterion.rules c.args.criterion.now in
-    let laws = g.met.C.Criterion.laws c.args.criterion.now in
-    let entries = c.args.entries.now.items in
-    let items = c.args.items.now.items in
-    let steps = c.keep_walked.new.steps.items in
-    let kept = c.keep_walked.new.kept.items in
-    let after = c.in_ok-after.after in
-    let late = subst (λ es. IsLate es items c.args.head c.args.departure after) c.deref.ensures.value (subst (λ ps. IsLate c.deref.result.now ps c.args.head c.args.departure after) c.deref-2.ensures.value c.in_ok-after.ensures.late) in
-    let all = subst (λ es. AllWalked rules (front es items after) c.args.secs c.args.ridden.now (length c.args.ridden.now) kept) c.deref-3.ensures.value (subst (λ ps. AllWalked rules (front c.deref-3.result.now ps after) c.args.secs c.args.ridden.now (length c.args.ridden.now) kept) c.deref-4.ensures.value c.in_ok-keep_walked.ensures.all) in
-    let two = c.put.new.entries.items in
-    let two_items = c.put.new.items.items in
-    let put = points_from two two_items c.in_ok-place.place in
-    let union = subst (λ ps. IsUnion rules ps (points_from entries items after) put) c.deref-5.ensures.value c.in_ok-place.ensures.union in
-    let path = subst (λ es. IsPath es c.args.head c.pass.new.passed.items after) c.deref.ensures.value c.in_ok-after.ensures.path in
-    let early = subst (λ es. DepartBefore es c.args.departure c.pass.new.passed.items) c.deref.ensures.value c.in_ok-after.ensures.early in
-    path_more rules entries two items two_items c.requires.entries c.in_ok-place.ensures.more_entries c.in_ok-place.ensures.more_items c.args.head c.pass.new.passed.items after path
+    path_more (g.C.Criterion.rules c.args.criterion.now) c.args.entries.now.items c.put.new.entries.items c.args.items.now.items c.put.new.items.items c.requires.entries c.in_ok-place.ensures.more_entries c.in_ok-place.ensures.more_items c.args.head c.pass.new.passed.items c.in_ok-after.after (path g c)
 
 pub join-requires-clause-after : goal.join-requires-clause-after
 join-requires-clause-after g c =
-    let rules = g.C.Criterion.rules c.args.criterion.now in
-    let laws = g.met.C.Criterion.laws c.args.criterion.now in
-    let entries = c.args.entries.now.items in
-    let items = c.args.items.now.items in
-    let steps = c.keep_walked.new.steps.items in
-    let kept = c.keep_walked.new.kept.items in
-    let after = c.in_ok-after.after in
-    let late = subst (λ es. IsLate es items c.args.head c.args.departure after) c.deref.ensures.value (subst (λ ps. IsLate c.deref.result.now ps c.args.head c.args.departure after) c.deref-2.ensures.value c.in_ok-after.ensures.late) in
-    let all = subst (λ es. AllWalked rules (front es items after) c.args.secs c.args.ridden.now (length c.args.ridden.now) kept) c.deref-3.ensures.value (subst (λ ps. AllWalked rules (front c.deref-3.result.now ps after) c.args.secs c.args.ridden.now (length c.args.ridden.now) kept) c.deref-4.ensures.value c.in_ok-keep_walked.ensures.all) in
-    let two = c.put.new.entries.items in
-    let two_items = c.put.new.items.items in
-    let put = points_from two two_items c.in_ok-place.place in
-    let union = subst (λ ps. IsUnion rules ps (points_from entries items after) put) c.deref-5.ensures.value c.in_ok-place.ensures.union in
-    let path = subst (λ es. IsPath es c.args.head c.pass.new.passed.items after) c.deref.ensures.value c.in_ok-after.ensures.path in
-    let early = subst (λ es. DepartBefore es c.args.departure c.pass.new.passed.items) c.deref.ensures.value c.in_ok-after.ensures.early in
-    let within = late.within in
-    let grows = extends_long entries two c.in_ok-place.ensures.more_entries in
+    let within = (known g (goal.at.join-requires-clause-after g c).After-deref-5).late.within in
+    let grows = extends_long c.args.entries.now.items c.put.new.entries.items c.in_ok-place.ensures.more_entries in
     omega arith
 
 pub join-requires-clause-early : goal.join-requires-clause-early
 join-requires-clause-early g c =
-    let rules = g.C.Criterion.rules c.args.criterion.now in
-    let laws = g.met.C.Criterion.laws c.args.criterion.now in
-    let entries = c.args.entries.now.items in
-    let items = c.args.items.now.items in
-    let steps = c.keep_walked.new.steps.items in
-    let kept = c.keep_walked.new.kept.items in
-    let after = c.in_ok-after.after in
-    let late = subst (λ es. IsLate es items c.args.head c.args.departure after) c.deref.ensures.value (subst (λ ps. IsLate c.deref.result.now ps c.args.head c.args.departure after) c.deref-2.ensures.value c.in_ok-after.ensures.late) in
-    let all = subst (λ es. AllWalked rules (front es items after) c.args.secs c.args.ridden.now (length c.args.ridden.now) kept) c.deref-3.ensures.value (subst (λ ps. AllWalked rules (front c.deref-3.result.now ps after) c.args.secs c.args.ridden.now (length c.args.ridden.now) kept) c.deref-4.ensures.value c.in_ok-keep_walked.ensures.all) in
-    let two = c.put.new.entries.items in
-    let two_items = c.put.new.items.items in
-    let put = points_from two two_items c.in_ok-place.place in
-    let union = subst (λ ps. IsUnion rules ps (points_from entries items after) put) c.deref-5.ensures.value c.in_ok-place.ensures.union in
-    let path = subst (λ es. IsPath es c.args.head c.pass.new.passed.items after) c.deref.ensures.value c.in_ok-after.ensures.path in
     let early = subst (λ es. DepartBefore es c.args.departure c.pass.new.passed.items) c.deref.ensures.value c.in_ok-after.ensures.early in
-    before_more rules entries two items two_items c.requires.entries c.in_ok-place.ensures.more_entries c.in_ok-place.ensures.more_items c.args.head c.pass.new.passed.items after c.args.departure (departure_of two c.in_ok-place.place) path early c.in_ok-place.ensures.departs
+    before_more (g.C.Criterion.rules c.args.criterion.now) c.args.entries.now.items c.put.new.entries.items c.args.items.now.items c.put.new.items.items c.requires.entries c.in_ok-place.ensures.more_entries c.in_ok-place.ensures.more_items c.args.head c.pass.new.passed.items c.in_ok-after.after c.args.departure (departure_of c.put.new.entries.items c.in_ok-place.place) (path g c) early c.in_ok-place.ensures.departs
 
 pub join-requires-clause-covers : goal.join-requires-clause-covers
 join-requires-clause-covers g c =
-    let rules = g.C.Criterion.rules c.args.criterion.now in
-    let laws = g.met.C.Criterion.laws c.args.criterion.now in
-    let entries = c.args.entries.now.items in
-    let items = c.args.items.now.items in
-    let steps = c.keep_walked.new.steps.items in
-    let kept = c.keep_walked.new.kept.items in
-    let after = c.in_ok-after.after in
-    let late = subst (λ es. IsLate es items c.args.head c.args.departure after) c.deref.ensures.value (subst (λ ps. IsLate c.deref.result.now ps c.args.head c.args.departure after) c.deref-2.ensures.value c.in_ok-after.ensures.late) in
-    let all = subst (λ es. AllWalked rules (front es items after) c.args.secs c.args.ridden.now (length c.args.ridden.now) kept) c.deref-3.ensures.value (subst (λ ps. AllWalked rules (front c.deref-3.result.now ps after) c.args.secs c.args.ridden.now (length c.args.ridden.now) kept) c.deref-4.ensures.value c.in_ok-keep_walked.ensures.all) in
-    let two = c.put.new.entries.items in
-    let two_items = c.put.new.items.items in
-    let put = points_from two two_items c.in_ok-place.place in
-    let union = subst (λ ps. IsUnion rules ps (points_from entries items after) put) c.deref-5.ensures.value c.in_ok-place.ensures.union in
-    let path = subst (λ es. IsPath es c.args.head c.pass.new.passed.items after) c.deref.ensures.value c.in_ok-after.ensures.path in
-    let early = subst (λ es. DepartBefore es c.args.departure c.pass.new.passed.items) c.deref.ensures.value c.in_ok-after.ensures.early in
-    takes_covers rules laws c.args.head c.args.departure c.args.first c.args.walk c.args.secs after c.args.ridden.now entries items steps kept c.requires.secs c.requires.ridden c.requires.entries late c.in_ok-keep_walked.ensures.boarded all two two_items put c.in_ok-place.ensures.more_entries c.in_ok-place.ensures.more_items union
+    takes_covers (g.C.Criterion.rules c.args.criterion.now) (g.met.C.Criterion.laws c.args.criterion.now) c.args.entries.now.items c.args.items.now.items c.args.head c.args.departure c.args.first c.args.walk c.args.secs c.in_ok-after.after c.args.ridden.now c.keep_walked.new.steps.items c.keep_walked.new.kept.items (known g (goal.at.join-requires-clause-covers g c).After-deref-5)
+    c.put.new.entries.items c.put.new.items.items (points_from c.put.new.entries.items c.put.new.items.items c.in_ok-place.place) c.in_ok-place.ensures.more_entries c.in_ok-place.ensures.more_items (union g c)
 
 pub returns-in_err-new-clause-more_entries : goal.returns-in_err-new-clause-more_entries
 returns-in_err-new-clause-more_entries g c = extends_on c.args.entries.now.items c.put.new.entries.items c.join.new.entries.items c.in_ok-place.ensures.more_entries c.in_err-new.ensures.more_entries
@@ -125,19 +70,6 @@ returns-clause-more_items g c = extends_on c.args.items.now.items c.put.new.item
 
 pub returns-clause-takes : goal.returns-clause-takes
 returns-clause-takes g c =
-    let rules = g.C.Criterion.rules c.args.criterion.now in
-    let laws = g.met.C.Criterion.laws c.args.criterion.now in
-    let entries = c.args.entries.now.items in
-    let items = c.args.items.now.items in
-    let steps = c.keep_walked.new.steps.items in
-    let kept = c.keep_walked.new.kept.items in
-    let after = c.in_ok-after.after in
-    let late = subst (λ es. IsLate es items c.args.head c.args.departure after) c.deref.ensures.value (subst (λ ps. IsLate c.deref.result.now ps c.args.head c.args.departure after) c.deref-2.ensures.value c.in_ok-after.ensures.late) in
-    let all = subst (λ es. AllWalked rules (front es items after) c.args.secs c.args.ridden.now (length c.args.ridden.now) kept) c.deref-3.ensures.value (subst (λ ps. AllWalked rules (front c.deref-3.result.now ps after) c.args.secs c.args.ridden.now (length c.args.ridden.now) kept) c.deref-4.ensures.value c.in_ok-keep_walked.ensures.all) in
-    let two = c.put.new.entries.items in
-    let two_items = c.put.new.items.items in
-    let put = points_from two two_items c.in_ok-place.place in
-    let union = subst (λ ps. IsUnion rules ps (points_from entries items after) put) c.deref-5.ensures.value c.in_ok-place.ensures.union in
-    let path = subst (λ es. IsPath es c.args.head c.pass.new.passed.items after) c.deref.ensures.value c.in_ok-after.ensures.path in
-    let early = subst (λ es. DepartBefore es c.args.departure c.pass.new.passed.items) c.deref.ensures.value c.in_ok-after.ensures.early in
-    takes_all rules laws c.args.head c.args.departure c.args.first c.args.walk c.args.secs after c.args.ridden.now entries items steps kept c.requires.secs c.requires.ridden c.requires.entries late c.in_ok-keep_walked.ensures.boarded all two two_items put (points_from c.join.new.entries.items c.join.new.items.items c.in_ok-new.new) c.in_ok-place.ensures.more_entries c.in_ok-place.ensures.more_items c.requires.head union c.in_ok-new.ensures.joined
+    takes_all (g.C.Criterion.rules c.args.criterion.now) (g.met.C.Criterion.laws c.args.criterion.now) c.args.entries.now.items c.args.items.now.items c.args.head c.args.departure c.args.first c.args.walk c.args.secs c.in_ok-after.after c.args.ridden.now c.keep_walked.new.steps.items c.keep_walked.new.kept.items (known g (goal.at.returns-clause-takes g c).After-deref-5)
+    c.put.new.entries.items c.put.new.items.items (points_from c.put.new.entries.items c.put.new.items.items c.in_ok-place.place) (points_from c.join.new.entries.items c.join.new.items.items c.in_ok-new.new)
+    c.in_ok-place.ensures.more_entries c.in_ok-place.ensures.more_items c.requires.head (union g (goal.at.returns-clause-takes g c).After-join-arg-4-1) c.in_ok-new.ensures.joined

@@ -4,6 +4,8 @@ use Rattle.fronts.specs.Entries.{AreEntries}
 use Rattle.fronts.proofs.Growth.{are_more, extends_long}
 use Rattle.fronts.proofs.Points.{departs_at}
 use Rattle.fronts.proofs.OnePut.{IsPut, put_all}
+use Rattle.fronts.proofs.putting.put.Given as given
+use Rattle.fronts.proofs.putting.put.Goals.{In_ok-push}
 use Rattle.fronts.proofs.putting.put.Goals as goal
 
 pub returns-in_err-fill-clause-entries : goal.returns-in_err-fill-clause-entries
@@ -26,8 +28,9 @@ returns-in_err-push-clause-entries g c =
 pub returns-in_err-push-clause-more_entries : goal.returns-in_err-push-clause-more_entries
 returns-in_err-push-clause-more_entries g c = ([], c.in_err-push.ensures.items ∙ sym (append-nil c.args.entries.now.items))
 
-pub returns-clause-entries : goal.returns-clause-entries
-returns-clause-entries g c =
+-- what the put does
+made : (g : given.Over) (c : goal.In_ok-push g) → IsPut (g.C.Criterion.rules c.args.criterion.now) c.args.entries.now.items c.push.new.self.items c.args.items.now.items c.fill.new.items.items c.args.departure c.args.place c.args.points.now c.in_ok-new.new
+made g c =
     let rules = g.C.Criterion.rules c.args.criterion.now in
     let x = c.index-points-0.result in
     let e : Entry g.row.C-V.Denot = record { departure = c.args.departure; next = c.follow-next.result; rest = c.in_ok-rest.rest; count = c.in_ok-count.count; tag = x.tag; value = x.value } in
@@ -35,49 +38,17 @@ returns-clause-entries g c =
     let new_is = c.in_ok-new.ensures in
     let rest_is = c.in_ok-rest.ensures in
     let count_is = c.in_ok-count.ensures in
-    let put : IsPut rules c.args.entries.now.items c.push.new.self.items c.args.items.now.items c.fill.new.items.items c.args.departure c.args.place c.args.points.now c.in_ok-new.new =
     put_all rules (g.met.C.Criterion.laws c.args.criterion.now) c.args.entries.now.items c.deref.result.now c.push.new.self.items c.args.items.now.items c.fill.new.items.items c.args.departure c.args.place c.in_ok-new.new c.args.points.now e c.index.result.now x
-    c.requires.entries c.requires.may c.deref.ensures.value c.index-points-0.is refl refl refl c.index.ensures c.follow-next.ensures c.in_ok-fill.ensures.filled (omega arith) (omega arith) c.in_ok-push.ensures.items (omega arith) in
-    put.are
+    c.requires.entries c.requires.may c.deref.ensures.value c.index-points-0.is refl refl refl c.index.ensures c.follow-next.ensures c.in_ok-fill.ensures.filled (omega arith) (omega arith) c.in_ok-push.ensures.items (omega arith)
+
+pub returns-clause-entries : goal.returns-clause-entries
+returns-clause-entries g c = (made g c).are
 
 pub returns-clause-within : goal.returns-clause-within
-returns-clause-within g c =
-    let rules = g.C.Criterion.rules c.args.criterion.now in
-    let x = c.index-points-0.result in
-    let e : Entry g.row.C-V.Denot = record { departure = c.args.departure; next = c.follow-next.result; rest = c.in_ok-rest.rest; count = c.in_ok-count.count; tag = x.tag; value = x.value } in
-    let grows = extends_long c.args.items.now.items c.fill.new.items.items c.in_ok-fill.ensures.extends in
-    let new_is = c.in_ok-new.ensures in
-    let rest_is = c.in_ok-rest.ensures in
-    let count_is = c.in_ok-count.ensures in
-    let put : IsPut rules c.args.entries.now.items c.push.new.self.items c.args.items.now.items c.fill.new.items.items c.args.departure c.args.place c.args.points.now c.in_ok-new.new =
-    put_all rules (g.met.C.Criterion.laws c.args.criterion.now) c.args.entries.now.items c.deref.result.now c.push.new.self.items c.args.items.now.items c.fill.new.items.items c.args.departure c.args.place c.in_ok-new.new c.args.points.now e c.index.result.now x
-    c.requires.entries c.requires.may c.deref.ensures.value c.index-points-0.is refl refl refl c.index.ensures c.follow-next.ensures c.in_ok-fill.ensures.filled (omega arith) (omega arith) c.in_ok-push.ensures.items (omega arith) in
-    put.within
+returns-clause-within g c = (made g c).within
 
 pub returns-clause-departs : goal.returns-clause-departs
-returns-clause-departs g c =
-    let rules = g.C.Criterion.rules c.args.criterion.now in
-    let x = c.index-points-0.result in
-    let e : Entry g.row.C-V.Denot = record { departure = c.args.departure; next = c.follow-next.result; rest = c.in_ok-rest.rest; count = c.in_ok-count.count; tag = x.tag; value = x.value } in
-    let grows = extends_long c.args.items.now.items c.fill.new.items.items c.in_ok-fill.ensures.extends in
-    let new_is = c.in_ok-new.ensures in
-    let rest_is = c.in_ok-rest.ensures in
-    let count_is = c.in_ok-count.ensures in
-    let put : IsPut rules c.args.entries.now.items c.push.new.self.items c.args.items.now.items c.fill.new.items.items c.args.departure c.args.place c.args.points.now c.in_ok-new.new =
-    put_all rules (g.met.C.Criterion.laws c.args.criterion.now) c.args.entries.now.items c.deref.result.now c.push.new.self.items c.args.items.now.items c.fill.new.items.items c.args.departure c.args.place c.in_ok-new.new c.args.points.now e c.index.result.now x
-    c.requires.entries c.requires.may c.deref.ensures.value c.index-points-0.is refl refl refl c.index.ensures c.follow-next.ensures c.in_ok-fill.ensures.filled (omega arith) (omega arith) c.in_ok-push.ensures.items (omega arith) in
-    put.departs
+returns-clause-departs g c = (made g c).departs
 
 pub returns-clause-union : goal.returns-clause-union
-returns-clause-union g c =
-    let rules = g.C.Criterion.rules c.args.criterion.now in
-    let x = c.index-points-0.result in
-    let e : Entry g.row.C-V.Denot = record { departure = c.args.departure; next = c.follow-next.result; rest = c.in_ok-rest.rest; count = c.in_ok-count.count; tag = x.tag; value = x.value } in
-    let grows = extends_long c.args.items.now.items c.fill.new.items.items c.in_ok-fill.ensures.extends in
-    let new_is = c.in_ok-new.ensures in
-    let rest_is = c.in_ok-rest.ensures in
-    let count_is = c.in_ok-count.ensures in
-    let put : IsPut rules c.args.entries.now.items c.push.new.self.items c.args.items.now.items c.fill.new.items.items c.args.departure c.args.place c.args.points.now c.in_ok-new.new =
-    put_all rules (g.met.C.Criterion.laws c.args.criterion.now) c.args.entries.now.items c.deref.result.now c.push.new.self.items c.args.items.now.items c.fill.new.items.items c.args.departure c.args.place c.in_ok-new.new c.args.points.now e c.index.result.now x
-    c.requires.entries c.requires.may c.deref.ensures.value c.index-points-0.is refl refl refl c.index.ensures c.follow-next.ensures c.in_ok-fill.ensures.filled (omega arith) (omega arith) c.in_ok-push.ensures.items (omega arith) in
-    put.union
+returns-clause-union g c = (made g c).union
