@@ -6,8 +6,9 @@ use Rattle.criteria.specs.Laws.{Rules}
 use Rattle.fronts.specs.declared.entry.Item.{Item}
 use Rattle.fronts.specs.declared.entry.Entry.{Entry}
 use Rattle.fronts.specs.Front.{own, front, Extends}
+use Rattle.fronts.specs.Entries.{AreEntries}
 use Rattle.fronts.specs.Putting.{betters, left_by}
-use Rattle.fronts.proofs.Growth.{same_part}
+use Rattle.fronts.proofs.Growth.{front_more, same_part}
 use Rattle.fronts.proofs.Points.{front_at}
 
 -- an item that is read among those that came after it
@@ -61,6 +62,13 @@ module _ {V : Type 0} (rules : Rules V) (points : List (Item V)) where
       then_items ∙ ap₂ (λ xs ys. xs ++ left_by rules points ys) first same
       ∙ append_assoc old own_left (left_by rules points part)
       ∙ ap (λ xs. old ++ xs) (sym (left_append (own e ∷ []) part) ∙ ap (left_by rules points) (sym (front_at entries old m e some lt is)))
+
+  -- other items, and then what the points leave of a front
+  pub leave_behind : (entries : List (Entry V)) (old mid new first : List (Item V)) → AreEntries rules entries old → (m : ℕ) → mid ≡ old ++ first → new ≡ mid ++ left_by rules points (front entries mid m) → new ≡ old ++ (first ++ left_by rules points (front entries old m))
+  leave_behind entries old mid new first are m first_is then_front =
+      let left = left_by rules points (front entries old m) in
+      then_front ∙ ap₂ (λ xs ys. xs ++ left_by rules points ys) first_is (front_more rules entries old mid are (first, first_is) m)
+      ∙ append_assoc old first left
 
   pub leave_nothing : (entries : List (Entry V)) (old : List (Item V)) (m : ℕ) → m ≡ 0 → old ≡ old ++ left_by rules points (front entries old m)
   leave_nothing entries old m e = sym (append-nil old) ∙ ap (λ n. old ++ left_by rules points (front entries old n)) (sym e)
