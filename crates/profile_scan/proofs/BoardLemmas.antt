@@ -1,5 +1,5 @@
 -- Boarding, over the footpaths into a connection's start.
-use Rattle.std.proofs.Common.{◌≡◌, ◌⊎◌, ◌↔◌, ℕ, ◌+◌, ◌-◌, ◌<◌, ◌≤◌, true, List, Contains, slice_get, Option, Some, None, refl, sym, ◌∙◌, ap, subst, inl, inr, arith}
+use Rattle.std.proofs.Common.{◌≡◌, ◌⊎◌, ◌↔◌, ℕ, ◌+◌, ◌-◌, ◌<◌, ◌≤◌, true, List, Contains, length, slice_get, Option, Some, None, refl, sym, ◌∙◌, ap, subst, inl, inr, arith}
 use Rattle.std.proofs.lemmas.Bool.{cases_lt}
 use Rattle.std.proofs.lemmas.Option.{same_Some}
 use Rattle.criteria.specs.Laws.{Rules, Laws, Admits, IsSecs}
@@ -16,7 +16,7 @@ use Rattle.profile_scan.specs.Values.{started}
 use Rattle.profile_scan.specs.Points.{Covers}
 use Rattle.profile_scan.specs.Matching.{Spellings}
 use Rattle.profile_scan.specs.Steps.{Offer, TakesIn, boardings, settings_out, MayBoard, MaySetOut}
-use Rattle.profile_scan.specs.Adding.{each_of, StandsBetween, IsTried, StartsFrom, MayStart, boardings_by, settings_out_by}
+use Rattle.profile_scan.specs.Adding.{each_of, StandsBetween, AreWalksInto, IsTried, StartsFrom, MayStart, boardings_by, settings_out_by}
 use Rattle.profile_scan.proofs.Admitted.{AreAdmitted}
 use Rattle.profile_scan.proofs.Offers.{takes_none, takes_more, takes_as}
 
@@ -90,6 +90,10 @@ starts_from : (t : TimetableValue) (q : Query) (c : Connection) (start : Option 
 starts_from t q c None is leads = sym leads
 starts_from t q c (Some f) is leads = (is.1, is.2)
 
+-- where exactly the footpaths into a stop stand
+pub walks_into_it : (t : TimetableValue) (stop begin end : ℕ) → stop < t.stops → begin ≤ end → end ≤ length t.footpaths → ((k : ℕ) (f : Footpath) → At t.footpaths k f → (f.to ≡ stop) ↔ ((begin ≤ k) × (k < end))) → AreWalksInto t stop begin end
+walks_into_it t stop begin end stop_in order within exact = record { stop_in = stop_in; into = λ k f at low high. (exact k f at).1 (low, high); order = order; within = within }
+
 -- all footpaths into the connection's start
 module _ {V : Type 0} (rules : Rules V) (t : TimetableValue) (tags : Spellings) (i : ℕ) (c : Connection) (is : c ≡ connection_at t i) (boards : c.board ≡ true) (begin end : ℕ) (into : (k : ℕ) (f : Footpath) → At t.footpaths k f → (f.to ≡ c.from) ↔ ((begin ≤ k) × (k < end))) (labels : List (Point V)) where
   boards_there : (connection_at t i).board ≡ true
@@ -116,40 +120,40 @@ module _ {V : Type 0} (rules : Rules V) (t : TimetableValue) (tags : Spellings) 
   leads_there q None at s = sym s
   leads_there q (Some f) at s = leads_into f at
 
+  may_board : (stop : ℕ) (walk : Footpath) (label : Point V) → StandsBetween t.footpaths begin end walk → (boardings_by rules tags i (connection_at t i) stop labels walk).is_open label → MayBoard t i stop labels (record { walk = walk; label = label })
+  may_board stop walk label at opened = record {
+    boards = boards_there;
+    is_footpath = Contains-At t.footpaths at.0 walk at.3;
+    leaves = opened.0.0;
+    leads = leads_into walk at;
+    fits = opened.0.1;
+    is_label = opened.1;
+  }
+
   pub boardings_taken : (stop : ℕ) (old new : List (Point V)) → TakesIn rules (each_of (StandsBetween t.footpaths begin end) (boardings_by rules tags i c stop labels)) old new → TakesIn rules (boardings rules t tags i stop labels) old new
   boardings_taken stop old new takes =
       let here = subst (λ (x : Connection). TakesIn rules (each_of (StandsBetween t.footpaths begin end) (boardings_by rules tags i x stop labels)) old new) is takes in
       takes_as rules (each_of (StandsBetween t.footpaths begin end) (boardings_by rules tags i (connection_at t i) stop labels)) (boardings rules t tags i stop labels) old new
-      (λ way opened.
-      let at = opened.0 in
-      let may : MayBoard t i stop labels (record { walk = way.0; label = way.1 }) = record {
-        boards = boards_there;
-        is_footpath = Contains-At t.footpaths at.0 way.0 at.3;
-        leaves = opened.1.0.0;
-        leads = leads_into way.0 at;
-        fits = opened.1.0.1;
-        is_label = opened.1.1;
-      } in
-      record { there = record { walk = way.0; label = way.1 }; is_open = may; departs = refl; worth = refl; fits = λ tag h. h })
+      (λ way opened. record { there = record { walk = way.0; label = way.1 }; is_open = may_board stop way.0 way.1 opened.0 opened.1; departs = refl; worth = refl; fits = λ tag h. h })
       (λ way opened. here.covered (way.walk, way.label) (between way.walk opened.is_footpath opened.leads, ((opened.leaves, opened.fits), opened.is_label)))
       here
+
+  may_set_out : (q : Query) (start : Option Footpath) (label : Point V) → IsTried t.footpaths begin end start → MayStart q (connection_at t i) start → Contains labels label → MaySetOut t q i labels (record { start = start; label = label })
+  may_set_out q start label at may is = record {
+    boards = boards_there;
+    is_start = is_start t q (connection_at t i) begin end start at may.starts;
+    leads = leads_there q start at may.starts;
+    fits = may.fits;
+    not_early = may.not_early;
+    not_late = may.not_late;
+    is_label = is;
+  }
 
   pub settings_out_taken : (q : Query) (old new : List (Point V)) → TakesIn rules (each_of (IsTried t.footpaths begin end) (settings_out_by rules tags i c q labels)) old new → TakesIn rules (settings_out rules t q tags i labels) old new
   settings_out_taken q old new takes =
       let here = subst (λ (x : Connection). TakesIn rules (each_of (IsTried t.footpaths begin end) (settings_out_by rules tags i x q labels)) old new) is takes in
       takes_as rules (each_of (IsTried t.footpaths begin end) (settings_out_by rules tags i (connection_at t i) q labels)) (settings_out rules t q tags i labels) old new
-      (λ way opened.
-      let m = opened.1.0 in
-      let may : MaySetOut t q i labels (record { start = way.0; label = way.1 }) = record {
-        boards = boards_there;
-        is_start = is_start t q (connection_at t i) begin end way.0 opened.0 m.starts;
-        leads = leads_there q way.0 opened.0 m.starts;
-        fits = m.fits;
-        not_early = m.not_early;
-        not_late = m.not_late;
-        is_label = opened.1.1;
-      } in
-      record { there = record { start = way.0; label = way.1 }; is_open = may; departs = refl; worth = refl; fits = λ tag h. h })
+      (λ way opened. record { there = record { start = way.0; label = way.1 }; is_open = may_set_out q way.0 way.1 opened.0 opened.1.0 opened.1.1; departs = refl; worth = refl; fits = λ tag h. h })
       (λ way opened.
       let may : MayStart q (connection_at t i) way.start = record {
         starts = starts_from t q (connection_at t i) way.start opened.is_start opened.leads;

@@ -6,12 +6,14 @@ use Rattle.bags.specs.declared.point.Point.{Point}
 use Rattle.timetable.specs.declared.network.Connection.{Connection}
 use Rattle.timetable.specs.declared.network.Footpath.{Footpath}
 use Rattle.timetable.specs.declared.query.Query.{Query}
+use Rattle.timetable.specs.TimetableValue.{TimetableValue}
+use Rattle.timetable.specs.Legal.{At}
 use Rattle.timetable.specs.Journeys.{start_secs}
 use Rattle.profile_scan.specs.Values.{started}
 use Rattle.profile_scan.specs.Continuations.{Onward, Aboard}
 use Rattle.profile_scan.specs.Matching.{Spellings, from_to}
 use Rattle.profile_scan.specs.Steps.{Offer, TakesIn, boarded}
-use Rattle.profile_scan.specs.Nodes.{walk_of}
+use Rattle.profile_scan.specs.Nodes.{SpellsEnd, SpellsChange}
 use Rattle.profile_scan.specs.Story.{Story, Grows, told}
 use Rattle.profile_scan.specs.declared.story.SetOut.{SetOut}
 use Rattle.fronts.specs.declared.entry.Ridden.{Ridden}
@@ -93,7 +95,7 @@ changes_from tags i time bag = record {
   is_open = λ p. Contains bag p × (time ≤ p.departure);
   departure = λ _. 0;
   value = λ p. p.value;
-  fits_tag = λ p tag. (x : Onward) → tags.earlier.onward p.tag ≡ Some x → tags.later.aboard tag ≡ Some (record { last = i; walk = x.walk; rides = x.rides });
+  fits_tag = λ p tag. SpellsChange tags i p.tag tag;
 }
 
 -- two offers together
@@ -131,7 +133,7 @@ endings rules tags i c q way = record {
   is_open = IsEnding c q way;
   departure = λ _. 0;
   value = λ walk. started rules walk (rules.arrive (c.arr + start_secs walk));
-  fits_tag = λ walk tag. tags.later.aboard tag ≡ Some (record { last = i; walk = walk_of walk; rides = [] });
+  fits_tag = λ walk tag. SpellsEnd tags i walk tag;
 }
 
 -- the two ways to leave a trip where a connection ends: to end, or to change
@@ -152,6 +154,13 @@ pub record MayStart (q : Query) (c : Connection) (start : Option Footpath) : Typ
 -- a footpath stands at a place from a first one up to before another
 abbrev pub StandsBetween : List Footpath → ℕ → ℕ → Footpath → Type 0
 StandsBetween walks begin end walk = (k : ℕ) × (begin ≤ k) × (k < end) × (slice_get walks k ≡ Some walk)
+
+-- the footpaths from a first place up to before another lead to a stop
+pub record AreWalksInto (t : TimetableValue) (stop begin end : ℕ) : Type 0 where
+  pub stop_in : stop < t.stops
+  pub into : (k : ℕ) (f : Footpath) → At t.footpaths k f → begin ≤ k → k < end → f.to ≡ stop
+  pub order : begin ≤ end
+  pub within : end ≤ length t.footpaths
 
 -- no start, or one of these footpaths
 abbrev pub IsTried : List Footpath → ℕ → ℕ → Option Footpath → Type 0

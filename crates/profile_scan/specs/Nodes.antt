@@ -59,12 +59,20 @@ spelled nodes k = at_number (spelled_on [] nodes) k
 abbrev pub spelling : List Node → Spelling
 spelling nodes = record { onward = λ k. (spelled nodes k).onward; aboard = λ k. (spelled nodes k).aboard; journey = λ k. (spelled nodes k).journey }
 
--- a tag spells what a node says, by what earlier tags spelled
-abbrev pub IsSpelled : Spellings → Node → ℕ → Type 0
-IsSpelled tags (Ends last walk) tag = tags.later.aboard tag ≡ Some (record { last = last; walk = walk_of walk; rides = [] })
-IsSpelled tags (Changes last next) tag =
+-- a tag spells that one leaves a trip for good after a connection, by a footpath or none
+abbrev pub SpellsEnd : Spellings → ℕ → Option Footpath → ℕ → Type 0
+SpellsEnd tags last walk tag = tags.later.aboard tag ≡ Some (record { last = last; walk = walk_of walk; rides = [] })
+
+-- a tag spells that one leaves a trip after a connection, and then goes on as an earlier tag spelled
+abbrev pub SpellsChange : Spellings → ℕ → ℕ → ℕ → Type 0
+SpellsChange tags last next tag =
     (x : Onward) → tags.earlier.onward next ≡ Some x
     → tags.later.aboard tag ≡ Some (record { last = last; walk = x.walk; rides = x.rides })
+
+-- a tag spells what a node says, by what earlier tags spelled
+abbrev pub IsSpelled : Spellings → Node → ℕ → Type 0
+IsSpelled tags (Ends last walk) tag = SpellsEnd tags last walk tag
+IsSpelled tags (Changes last next) tag = SpellsChange tags last next tag
 IsSpelled tags (Boards walk first next) tag =
     (x : Aboard) → tags.earlier.aboard next ≡ Some x
     → tags.later.onward tag ≡ Some (record { walk = walk ∷ []; rides = boarded first x })

@@ -6,7 +6,7 @@ use Rattle.fronts.specs.declared.entry.Step.{Step}
 use Rattle.fronts.specs.Front.{Extends}
 use Rattle.profile_scan.specs.Continuations.{Onward, Aboard}
 use Rattle.profile_scan.specs.Matching.{Spelling, Spellings}
-use Rattle.profile_scan.specs.Nodes.{walk_of, changed_at, boarded_after, set_out_by}
+use Rattle.profile_scan.specs.Nodes.{walk_of, SpellsEnd, SpellsChange, changed_at, boarded_after, set_out_by}
 use Rattle.profile_scan.specs.declared.story.Exit.{Exit}
 use Rattle.profile_scan.specs.declared.story.Exit.TheVariants.{Ends, Changes}
 use Rattle.profile_scan.specs.declared.story.SetOut.{SetOut}
@@ -61,7 +61,5 @@ told walks s = record {
 
 -- a tag tells what an exit says, by what earlier tags told
 abbrev pub IsExit : Spellings → Exit → ℕ → Type 0
-IsExit tags (Ends last walk) tag = tags.later.aboard tag ≡ Some (record { last = last; walk = walk_of walk; rides = [] })
-IsExit tags (Changes last step) tag =
-    (x : Onward) → tags.earlier.onward step ≡ Some x
-    → tags.later.aboard tag ≡ Some (record { last = last; walk = x.walk; rides = x.rides })
+IsExit tags (Ends last walk) tag = SpellsEnd tags last walk tag
+IsExit tags (Changes last step) tag = SpellsChange tags last step tag

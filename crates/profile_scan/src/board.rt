@@ -4,7 +4,6 @@ ghost use Rattle.std.specs.Prelude.{◌≡◌, ◌-◌, ◌≤◌, ◌<◌, ℕ,
 ghost use Rattle.criteria.specs.Laws.{Admits, IsSecs};
 ghost use Rattle.bags.specs.Bag.{criterion_of, points_of};
 ghost use Rattle.timetable.specs.declared.network.Footpath.{Footpath};
-ghost use Rattle.timetable.specs.Legal.{At};
 ghost use Rattle.timetable.specs.Journeys.{connection_at, start_secs};
 ghost use Rattle.profile_scan.specs.Values.{started};
 ghost use Rattle.fronts.specs.declared.entry.Step.{Step};
@@ -13,7 +12,7 @@ ghost use Rattle.fronts.specs.Lists.{steps_of};
 ghost use Rattle.profile_scan.specs.Story.{Grows, story};
 ghost use Rattle.profile_scan.specs.declared.story.Exit.{Exit};
 ghost use Rattle.profile_scan.specs.declared.story.SetOut.{SetOut};
-ghost use Rattle.profile_scan.specs.Adding.{Takes, label_points, only_if, each_of, boardings_after, settings_out_after, MayStart, StandsBetween, IsTried, boardings_by, settings_out_by, AreRidden};
+ghost use Rattle.profile_scan.specs.Adding.{Takes, label_points, only_if, each_of, boardings_after, settings_out_after, MayStart, StandsBetween, AreWalksInto, IsTried, boardings_by, settings_out_by, AreRidden};
 ghost use Rattle.profile_scan.specs.Steps.{boardings, settings_out};
 ghost use Rattle.profile_scan.specs.Bound.{carried, RidesLabel};
 ghost use Rattle.bags.specs.declared.point.Point.{Point};
@@ -208,9 +207,7 @@ pub fn set_out<C: Criterion>(
 {
     match departure_by(query, connection, start) {
         None => Ok(()),
-        Some(departure) => {
-            set_out_after(criterion, departure, first, found, set_outs, labels)
-        },
+        Some(departure) => { set_out_after(criterion, departure, first, found, set_outs, labels) },
     }
 }
 
@@ -258,10 +255,7 @@ fn set_out_walks<S: ConnSource, C: Criterion>(
     begin: usize,
     end: usize,
 ) -> Result<(), AllocError>
-    requires from { connection.now.from < (S.timetable source.now).stops }
-    requires into { (k : ℕ) (f : Footpath) → At (S.timetable source.now).footpaths k f → begin ≤ k → k < end → f.to ≡ connection.now.from }
-    requires within { end ≤ length (S.timetable source.now).footpaths }
-    requires order { begin ≤ end }
+    requires walks { AreWalksInto (S.timetable source.now) connection.now.from begin end }
     requires found { criterion_of found.old ≡ criterion.now }
     requires labels { (l : Point _) → Contains (label_points labels.now) l → Admits (C.rules criterion.now) l.value }
     ensures found { OnOk result (criterion_of found.new ≡ criterion.now) }
@@ -298,10 +292,7 @@ fn board_walks<S: ConnSource, C: Criterion>(
     begin: usize,
     end: usize,
 ) -> Result<(), AllocError>
-    requires from { connection.now.from < (S.timetable source.now).stops }
-    requires into { (k : ℕ) (f : Footpath) → At (S.timetable source.now).footpaths k f → begin ≤ k → k < end → f.to ≡ connection.now.from }
-    requires within { end ≤ length (S.timetable source.now).footpaths }
-    requires order { begin ≤ end }
+    requires walks { AreWalksInto (S.timetable source.now) connection.now.from begin end }
     requires stops { AreStops C.rules criterion.now (S.timetable source.now).stops stops.old }
     requires ridden { (r : _) → Contains ridden.now r → Admits (C.rules criterion.now) r.value }
     ensures stops { OnOk result (AreStops C.rules criterion.now (S.timetable source.now).stops stops.new) }

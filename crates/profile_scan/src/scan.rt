@@ -7,10 +7,9 @@ ghost use Rattle.sources.specs.FirstAt.{IsFirstAt};
 ghost use Rattle.profile_scan.specs.Values.{journey_value};
 ghost use Rattle.profile_scan.specs.Continuations.{CountsFrom};
 ghost use Rattle.profile_scan.specs.Plain.{IsPlain};
-ghost use Rattle.profile_scan.specs.Matching.{Matches};
+ghost use Rattle.profile_scan.specs.Matching.{Matches, ScanValue};
 ghost use Rattle.profile_scan.specs.Story.{told};
 ghost use Rattle.profile_scan.specs.Kept.{AreWays, IsScan, kept_by, story_of, ways_of};
-ghost use Rattle.profile_scan.specs.Matching.{ScanValue};
 ghost use Rattle.profile_scan.specs.Window.{falling};
 
 use crate::bound::Bound;

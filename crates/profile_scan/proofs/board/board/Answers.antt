@@ -13,7 +13,7 @@ use Rattle.profile_scan.proofs.Offers.{takes_none}
 use Rattle.profile_scan.proofs.StoryLemmas.{grows_on, steps_grow, set_outs_grow}
 use Rattle.profile_scan.proofs.BoundLemmas.{from_carried}
 use Rattle.profile_scan.proofs.RideLemmas.{ridden_admitted, no_ridden}
-use Rattle.profile_scan.proofs.BoardLemmas.{boardings_taken, settings_out_taken}
+use Rattle.profile_scan.proofs.BoardLemmas.{walks_into_it, boardings_taken, settings_out_taken}
 use Rattle.profile_scan.proofs.StepFacts.{begins_in}
 use Rattle.profile_scan.proofs.board.board.Given as given
 use Rattle.profile_scan.proofs.board.board.Goals.{Start}
@@ -26,11 +26,15 @@ begins g c = begins_in (g.S.ConnSource.timetable c.args.source.now) (g.met.S.Con
 pub walks_into-begin-requires : goal.walks_into-begin-requires
 walks_into-begin-requires g c = begins g (goal.at.walks_into-begin-requires g c).Start
 
-pub set_out_walks-requires-clause-from : goal.set_out_walks-requires-clause-from
-set_out_walks-requires-clause-from g c = begins g (goal.at.set_out_walks-requires-clause-from g c).Start
+pub set_out_walks-requires-clause-walks : goal.set_out_walks-requires-clause-walks
+set_out_walks-requires-clause-walks g c =
+    walks_into_it (g.S.ConnSource.timetable c.args.source.now) c.args.connection.now.from c.walks_into-begin.result.0 c.walks_into-begin.result.1 (begins g (goal.at.set_out_walks-requires-clause-walks g c).Start)
+    c.walks_into-begin.ensures.order c.walks_into-begin.ensures.within c.walks_into-begin.ensures.exact
 
-pub board_walks-requires-clause-from : goal.board_walks-requires-clause-from
-board_walks-requires-clause-from g c = begins g (goal.at.board_walks-requires-clause-from g c).Start
+pub board_walks-requires-clause-walks : goal.board_walks-requires-clause-walks
+board_walks-requires-clause-walks g c =
+    walks_into_it (g.S.ConnSource.timetable c.args.source.now) c.args.connection.now.from c.walks_into-begin.result.0 c.walks_into-begin.result.1 (begins g (goal.at.board_walks-requires-clause-walks g c).Start)
+    c.walks_into-begin.ensures.order c.walks_into-begin.ensures.within c.walks_into-begin.ensures.exact
 
 pub board_walks-requires-clause-ridden : goal.board_walks-requires-clause-ridden
 board_walks-requires-clause-ridden g c =

@@ -55,7 +55,7 @@ returns-clause-takes g c labels are admitted exits set_outs stop before all ext_
     let rules = g.C.Criterion.rules c.args.criterion.now in
     let t = g.S.ConnSource.timetable c.args.source.now in
     let over = c.loop-place-test.false in
-    let within = c.loop-place.auto.place-end c.requires.order in
+    let within = c.loop-place.auto.place-end c.requires.walks.order in
     let at_end : c.loop-place.place ≡ c.args.end = omega arith in
     subst (λ (n : ℕ). TakesIn rules (each_of (StandsBetween t.footpaths c.args.begin n) (boardings_by rules (from_to (told t.footpaths before) (told t.footpaths all)) c.args.first c.args.connection.now stop labels)) (points_at c.args.stops.now stop) (points_at c.loop-place.stops stop)) at_end
     (c.loop-place.invariant.takes labels are admitted exits set_outs stop before all ext_before ext)

@@ -45,7 +45,7 @@ returns-clause-takes g c exits steps before all ext_before ext =
     let rules = g.C.Criterion.rules c.args.criterion.now in
     let t = g.S.ConnSource.timetable c.args.source.now in
     let over = c.loop-place-test.false in
-    let within = c.loop-place.auto.place-end c.requires.order in
+    let within = c.loop-place.auto.place-end c.requires.walks.order in
     let at_end : c.loop-place.place ≡ c.args.end = omega arith in
     subst (λ (n : ℕ). TakesIn rules (each_of (IsTried t.footpaths c.args.begin n) (settings_out_by rules (from_to (told t.footpaths before) (told t.footpaths all)) c.args.first c.args.connection.now c.args.query.now (label_points c.args.labels.now))) (points_of c.args.found.now) (points_of c.loop-place.found)) at_end
     (c.loop-place.invariant.takes exits steps before all ext_before ext)
