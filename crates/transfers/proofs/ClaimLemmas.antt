@@ -76,18 +76,16 @@ module _ (all : List Stop) (to : ℕ) (row : Transfer) (froms : List ℕ) (from_
         (λ (n : ℕ). word_of row (from == n) ≡ Some c.word) (sym p.to_is) p.word_is);
   }
 
+  own_pair : (c : Claim) → IsRowInto all to row c → IsPairClaim row c.from to c
+  own_pair c h = record {
+    from_is = refl;
+    to_is = h.to_is;
+    source_is = h.source_is;
+    word_is = subst (λ (n : ℕ). word_of row (c.from == n) ≡ Some c.word) h.to_is h.word_is;
+  }
+
   into_back : (c : Claim) → IsRowInto all to row c → ForOneOf froms (λ from. IsPairClaim row from to) c
-  into_back c h = (
-    c.from,
-    from_stops.each c.from h.from_stands,
-    record {
-      from_is = refl;
-      to_is = h.to_is;
-      source_is = h.source_is;
-      word_is = subst
-          (λ (n : ℕ). word_of row (c.from == n) ≡ Some c.word) h.to_is h.word_is;
-    },
-  )
+  into_back c h = (c.from, from_stops.each c.from h.from_stands, own_pair c h)
 
   -- what a transfer says of the ways into a stop
   pub adds_into : (rows : List Transfer) (number : ℕ) (old new : List Claim) → At rows number row
@@ -143,19 +141,17 @@ module _ (all : List Stop) (station to : ℕ) (children : List ℕ) (they_are : 
     word_is = p.word_is;
   }
 
+  own_siblings : (c : Claim) → IsSiblingInto all station to c → IsSiblingPair c.from to c
+  own_siblings c h = record {
+    from_is = refl;
+    to_is = h.to_is;
+    differ = λ e. h.differ (e ∙ sym h.to_is);
+    source_is = h.source_is;
+    word_is = h.word_is;
+  }
+
   sibling_back : (c : Claim) → IsSiblingInto all station to c → ForOneOf children (λ from. IsSiblingPair from to) c
-  sibling_back c h = (
-    c.from,
-    they_are.each c.from h.child,
-    record {
-      from_is = refl;
-      to_is = h.to_is;
-      differ = λ e. h.differ (e
-          ∙ sym h.to_is);
-      source_is = h.source_is;
-      word_is = h.word_is;
-    },
-  )
+  sibling_back c h = (c.from, they_are.each c.from h.child, own_siblings c h)
 
   -- what holds of the ways from the stops of a station
   pub adds_siblings : (old new : List Claim) → Adds old new (ForOneOf children (λ from. IsSiblingPair from to)) → Adds old new (IsSiblingInto all station to)

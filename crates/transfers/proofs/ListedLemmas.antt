@@ -8,7 +8,7 @@ use Rattle.reasoning.proofs.ListLemmas.{at_contains, slice_get-append}
 use Rattle.timetable.specs.declared.network.Footpath.{Footpath}
 use Rattle.timetable.specs.Legal.{At, HasFootpath, AreInOrder}
 use Rattle.gtfs_tables.specs.declared.tables.Feed.{Feed}
-use Rattle.transfers.specs.Listed.{NamesStops, AreListed, LeadBelow, ListsMore, ListsMoreBelow, listed_secs}
+use Rattle.transfers.specs.Listed.{NamesStops, AreAllListed, AreListed, LeadBelow, ListsMore, ListsMoreBelow, listed_secs}
 use Rattle.transfers.specs.Lookup.{EndsBelow}
 use Rattle.transfers.proofs.PathLemmas.{footpath_of}
 use Rattle.transfers.proofs.RangeLemmas.{listed_below, loop_listed}
@@ -157,7 +157,7 @@ module _ (feed : Feed) where
         )
 
     -- all of them
-    pub all_times : (paths : List Footpath) → AreListed feed (LeadBelow end) paths → (from to secs : ℕ)
+    all_times : (paths : List Footpath) → AreListed feed (LeadBelow end) paths → (from to secs : ℕ)
         → HasFootpath paths from to secs ↔ (listed_secs feed from to ≡ Some secs)
     all_times paths h from to secs = (λ is_in. (h.has from to secs is_in).1, λ is. h.each from to secs (listed_below feed end ends from to secs is).1 is)
 
@@ -168,7 +168,7 @@ module _ (feed : Feed) where
         record { paths = ys; in_order = whole.in_order; times = all_times ys whole; more = omega (arith, more, longer) }
 
 -- they join stops of the feed, where its transfers name such
-pub in_range : (feed : Feed) (paths : List Footpath) → ((from to secs : ℕ) → HasFootpath paths from to secs ↔ (listed_secs feed from to ≡ Some secs))
+in_range : (feed : Feed) (paths : List Footpath) → ((from to secs : ℕ) → HasFootpath paths from to secs ↔ (listed_secs feed from to ≡ Some secs))
     → NamesStops feed
     → All (λ (f : Footpath). (f.from < length feed.stops.items) × (f.to < length feed.stops.items)) paths
 in_range feed paths times names = All-weaker (Contains paths) (λ (f : Footpath). (f.from < length feed.stops.items) × (f.to < length feed.stops.items))
@@ -176,9 +176,18 @@ in_range feed paths times names = All-weaker (Contains paths) (λ (f : Footpath)
     ((times f.from f.to f.secs).0 (at_contains paths f is_in))) paths (All-contains_itself paths)
 
 -- each stop has a loop
-pub has_loops : (feed : Feed) (paths : List Footpath) → ((from to secs : ℕ) → HasFootpath paths from to secs ↔ (listed_secs feed from to ≡ Some secs))
+has_loops : (feed : Feed) (paths : List Footpath) → ((from to secs : ℕ) → HasFootpath paths from to secs ↔ (listed_secs feed from to ≡ Some secs))
     → (stop : ℕ) → stop < length feed.stops.items → (secs : ℕ) × HasFootpath paths stop stop secs
 has_loops feed paths times stop below = let (secs, is) = loop_listed feed stop below in (secs, (times stop stop secs).1 is)
+
+-- all are listed where those below a number are that ends all
+pub all_listed : (feed : Feed) (end : ℕ) → EndsBelow feed end → (paths : List Footpath) → AreListed feed (LeadBelow end) paths → AreAllListed feed paths
+all_listed feed end ends paths h = record {
+  times = all_times feed end ends paths h;
+  in_order = h.in_order;
+  in_range = in_range feed paths (all_times feed end ends paths h);
+  loops = has_loops feed paths (all_times feed end ends paths h);
+}
 
 -- more than that many into the first stops
 pub more_below : (feed : Feed) (few end most : ℕ) (paths : List Footpath) → few < end

@@ -1,6 +1,6 @@
 -- The footpaths that a feed lists. (GTFS Schedule Reference, stops.txt and transfers.txt; the times where none is given are our own.)
 use Rattle.std.specs.Prelude.{◌≡◌, ◌==◌, ◌&&◌, ◌<◌, ◌≤◌, ◌↔◌, ℕ, min, nat_lt, Bool, true, false, if◌then◌else◌, List, [], ◌∷◌, length, slice_get, Option}
-use Rattle.std.specs.Prelude.{Some, None}
+use Rattle.std.specs.Prelude.{All, Some, None}
 pub use Rattle.reasoning.specs.Options.{is_that_number as is_station}
 use Rattle.timetable.specs.First.{or_else}
 use Rattle.timetable.specs.Legal.{HasFootpath, AreInOrder}
@@ -121,6 +121,13 @@ pub record AreListed (feed : Feed) (meant : ℕ → ℕ → Type 0) (paths : Lis
   pub in_order : AreInOrder paths
   pub has : (from to secs : ℕ) → HasFootpath paths from to secs → meant from to × (listed_secs feed from to ≡ Some secs)
   pub each : (from to secs : ℕ) → meant from to → listed_secs feed from to ≡ Some secs → HasFootpath paths from to secs
+
+-- these are all that the feed lists: where its transfers name its own stops they join its stops, and each stop has a loop
+pub record AreAllListed (feed : Feed) (paths : List Footpath) : Type 0 where
+  pub times : (from to secs : ℕ) → HasFootpath paths from to secs ↔ (listed_secs feed from to ≡ Some secs)
+  pub in_order : AreInOrder paths
+  pub in_range : NamesStops feed → All (λ f. (f.from < length feed.stops.items) × (f.to < length feed.stops.items)) paths
+  pub loops : (stop : ℕ) → stop < length feed.stops.items → (secs : ℕ) × HasFootpath paths stop stop secs
 
 -- from whatever stop to one below a number
 abbrev pub LeadBelow : ℕ → ℕ → ℕ → Type 0

@@ -4,10 +4,10 @@ ghost use Rattle.std.specs.Prelude.{◌≡◌, ◌≤◌, ◌+◌, ◌↔◌, le
 ghost use Rattle.transfers.specs.declared.claims.Claim.{Claim};
 ghost use Rattle.transfers.specs.Listed.{source_of, given_or, word_of};
 ghost use Rattle.transfers.specs.Claims.{Adds, ForOneOf, IsPairClaim, IsNumberedClaim, IsSiblingPair, IsStationClaim, IsLoopOf, IsStopClaim, IsClaimInto};
-ghost use Rattle.transfers.specs.Lookup.{IsLookup};
+ghost use Rattle.transfers.specs.Lookup.{IsKnown, stops_in, transfers_in};
 
-use crate::lookup::Lookup;
-use gtfs_tables::{Feed, Place, Transfer, TransferKind};
+use crate::lookup::Known;
+use gtfs_tables::{Place, Transfer, TransferKind};
 use std::alloc::AllocError;
 
 /// The time of a transfer where none is given, in seconds.
@@ -43,6 +43,13 @@ pub struct Claim {
     pub from: u32,
     pub source: Source,
     pub word: Word,
+}
+
+/// What is claimed so far, and room for how many claims more.
+#[derive(Drop)]
+pub(crate) struct Claims {
+    pub made: Vec<Claim>,
+    pub room: usize,
 }
 
 // Who speaks by a transfer.
@@ -126,49 +133,6 @@ fn claim_into(
     Ok(())
 }
 
-// Adds what the transfer of a number says of the ways into a stop.
-fn claim_row(
-    claims: &mut Vec<Claim>,
-    feed: &Feed,
-    lookup: &Lookup,
-    number: u32,
-    to: u32,
-    room: &mut usize,
-) -> Result<(), AllocError>
-    requires { IsLookup feed.now.stops.items feed.now.transfers.items lookup.now }
-    ensures room { OnOk result (length claims.new.items + room.new ≤ length claims.old.items + room.old) }
-    ensures adds { OnOk result (Adds claims.old.items claims.new.items (IsNumberedClaim feed.now.stops.items feed.now.transfers.items to number)) }
-{
-    match feed.transfers.get(number as usize) {
-        Some(row) => {
-            let froms = lookup.stood_for(&row.from);
-            take_room(room, froms.len())?;
-            claim_into(claims, row, froms, to)
-        }
-        None => Ok(()),
-    }
-}
-
-// Adds what transfers say of the ways into a stop.
-fn claim_rows(
-    claims: &mut Vec<Claim>,
-    feed: &Feed,
-    lookup: &Lookup,
-    numbers: &[u32],
-    to: u32,
-    room: &mut usize,
-) -> Result<(), AllocError>
-    requires { IsLookup feed.now.stops.items feed.now.transfers.items lookup.now }
-    ensures room { OnOk result (length claims.new.items + room.new ≤ length claims.old.items + room.old) }
-    ensures adds { OnOk result (Adds claims.old.items claims.new.items (ForOneOf numbers.now (IsNumberedClaim feed.now.stops.items feed.now.transfers.items to))) }
-{
-    take_room(room, numbers.len())?;
-    for number in numbers {
-        claim_row(claims, feed, lookup, *number, to, room)?;
-    }
-    Ok(())
-}
-
 // Adds what holds of a way from a stop to one of the same station, where no transfer counts.
 fn claim_sibling(claims: &mut Vec<Claim>, from: u32, to: u32) -> Result<(), AllocError>
     ensures one { OnOk result (length claims.new.items ≤ length claims.old.items + 1) }
@@ -196,85 +160,90 @@ fn claim_siblings_of(claims: &mut Vec<Claim>, children: &[u32], to: u32) -> Resu
     Ok(())
 }
 
-// Adds what is said of the ways into a stop as one of a station.
-fn claim_station(
-    claims: &mut Vec<Claim>,
-    feed: &Feed,
-    lookup: &Lookup,
-    station: u32,
-    to: u32,
-    room: &mut usize,
-) -> Result<(), AllocError>
-    requires { IsLookup feed.now.stops.items feed.now.transfers.items lookup.now }
-    ensures room { OnOk result (length claims.new.items + room.new ≤ length claims.old.items + room.old) }
-    ensures adds { OnOk result (Adds claims.old.items claims.new.items (IsStationClaim feed.now.stops.items feed.now.transfers.items station to)) }
-{
-    claim_rows(
-        claims,
-        feed,
-        lookup,
-        lookup.into_stations.group(station),
-        to,
-        room,
-    )?;
-    let siblings = lookup.children_of(station);
-    take_room(room, siblings.len())?;
-    claim_siblings_of(claims, siblings, to)
-}
-
-// Adds what holds of the loop of a stop, where no transfer counts.
-fn claim_loop(claims: &mut Vec<Claim>, stop: u32, room: &mut usize) -> Result<(), AllocError>
-    ensures room { OnOk result (length claims.new.items + room.new ≤ length claims.old.items + room.old) }
-    ensures adds { OnOk result (Adds claims.old.items claims.new.items (IsLoopOf stop)) }
-{
-    take_room(room, 1)?;
-    claims.push(Claim {
-        to: stop,
-        from: stop,
-        source: Source::Default,
-        word: Word::Takes(0),
-    })?;
-    Ok(())
-}
-
-// Adds what is said of the ways into a stop of the feed, beside the transfers that lead to the stop itself.
-fn claim_stop(
-    claims: &mut Vec<Claim>,
-    feed: &Feed,
-    lookup: &Lookup,
-    station: Option<u32>,
-    to: u32,
-    room: &mut usize,
-) -> Result<(), AllocError>
-    requires { IsLookup feed.now.stops.items feed.now.transfers.items lookup.now }
-    ensures room { OnOk result (length claims.new.items + room.new ≤ length claims.old.items + room.old) }
-    ensures adds { OnOk result (Adds claims.old.items claims.new.items (IsStopClaim feed.now.stops.items feed.now.transfers.items station to)) }
-{
-    match station {
-        Some(station) => {
-            claim_station(claims, feed, lookup, station, to, room)?;
-            claim_loop(claims, to, room)
+impl Claims {
+    // Adds what the transfer of a number says of the ways into a stop.
+    fn add_row(&mut self, known: &Known, number: u32, to: u32) -> Result<(), AllocError>
+        requires { IsKnown known.now }
+        ensures room { OnOk result (length self.new.made.items + self.new.room ≤ length self.old.made.items + self.old.room) }
+        ensures adds { OnOk result (Adds self.old.made.items self.new.made.items (IsNumberedClaim (stops_in known.now) (transfers_in known.now) to number)) }
+    {
+        match known.feed.transfers.get(number as usize) {
+            Some(row) => {
+                let froms = known.lookup.stood_for(&row.from);
+                take_room(&mut self.room, froms.len())?;
+                claim_into(&mut self.made, row, froms, to)
+            }
+            None => Ok(()),
         }
-        None => claim_loop(claims, to, room),
     }
-}
 
-/// Adds all that is said of the ways into a stop, where there is room: each transfer that leads there and each stop that it leaves
-/// takes room for a claim, and so do each stop of the same station and the stop's loop. Room is taken before the claims are made.
-pub(crate) fn claim_ways(
-    claims: &mut Vec<Claim>,
-    feed: &Feed,
-    lookup: &Lookup,
-    to: u32,
-    room: &mut usize,
-) -> Result<(), AllocError>
-    requires { IsLookup feed.now.stops.items feed.now.transfers.items lookup.now }
-    ensures room { OnOk result (length claims.new.items + room.new ≤ length claims.old.items + room.old) }
-    ensures adds { OnOk result (Adds claims.old.items claims.new.items (IsClaimInto feed.now.stops.items feed.now.transfers.items to)) }
-{
-    claim_rows(claims, feed, lookup, lookup.into_stops.group(to), to, room)?;
-    match feed.stops.get(to as usize) {
-        Some(stop) => claim_stop(claims, feed, lookup, stop.station, to, room),
-        None => Ok(()),
+    // Adds what transfers say of the ways into a stop.
+    fn add_rows(&mut self, known: &Known, numbers: &[u32], to: u32) -> Result<(), AllocError>
+        requires { IsKnown known.now }
+        ensures room { OnOk result (length self.new.made.items + self.new.room ≤ length self.old.made.items + self.old.room) }
+        ensures adds { OnOk result (Adds self.old.made.items self.new.made.items
+            (ForOneOf numbers.now (IsNumberedClaim (stops_in known.now) (transfers_in known.now) to))) }
+    {
+        take_room(&mut self.room, numbers.len())?;
+        for number in numbers {
+            self.add_row(known, *number, to)?;
+        }
+        Ok(())
+    }
+
+    // Adds what is said of the ways into a stop as one of a station.
+    fn add_station(&mut self, known: &Known, station: u32, to: u32) -> Result<(), AllocError>
+        requires { IsKnown known.now }
+        ensures room { OnOk result (length self.new.made.items + self.new.room ≤ length self.old.made.items + self.old.room) }
+        ensures adds { OnOk result (Adds self.old.made.items self.new.made.items (IsStationClaim (stops_in known.now) (transfers_in known.now) station to)) }
+    {
+        self.add_rows(known, known.lookup.into_stations.group(station), to)?;
+        let siblings = known.lookup.children_of(station);
+        take_room(&mut self.room, siblings.len())?;
+        claim_siblings_of(&mut self.made, siblings, to)
+    }
+
+    // Adds what holds of the loop of a stop, where no transfer counts.
+    fn add_loop(&mut self, stop: u32) -> Result<(), AllocError>
+        ensures room { OnOk result (length self.new.made.items + self.new.room ≤ length self.old.made.items + self.old.room) }
+        ensures adds { OnOk result (Adds self.old.made.items self.new.made.items (IsLoopOf stop)) }
+    {
+        take_room(&mut self.room, 1)?;
+        self.made.push(Claim {
+            to: stop,
+            from: stop,
+            source: Source::Default,
+            word: Word::Takes(0),
+        })?;
+        Ok(())
+    }
+
+    // Adds what is said of the ways into a stop of the feed, beside the transfers that lead to the stop itself.
+    fn add_stop(&mut self, known: &Known, station: Option<u32>, to: u32) -> Result<(), AllocError>
+        requires { IsKnown known.now }
+        ensures room { OnOk result (length self.new.made.items + self.new.room ≤ length self.old.made.items + self.old.room) }
+        ensures adds { OnOk result (Adds self.old.made.items self.new.made.items (IsStopClaim (stops_in known.now) (transfers_in known.now) station to)) }
+    {
+        match station {
+            Some(station) => {
+                self.add_station(known, station, to)?;
+                self.add_loop(to)
+            }
+            None => self.add_loop(to),
+        }
+    }
+
+    /// Adds all that is said of the ways into a stop, where there is room: each transfer that leads there and each stop that it leaves
+    /// takes room for a claim, and so do each stop of the same station and the stop's loop. Room is taken before the claims are made.
+    pub fn add_ways(&mut self, known: &Known, to: u32) -> Result<(), AllocError>
+        requires { IsKnown known.now }
+        ensures room { OnOk result (length self.new.made.items + self.new.room ≤ length self.old.made.items + self.old.room) }
+        ensures adds { OnOk result (Adds self.old.made.items self.new.made.items (IsClaimInto (stops_in known.now) (transfers_in known.now) to)) }
+    {
+        self.add_rows(known, known.lookup.into_stops.group(to), to)?;
+        match known.feed.stops.get(to as usize) {
+            Some(stop) => self.add_stop(known, stop.station, to),
+            None => Ok(()),
+        }
     }
 }

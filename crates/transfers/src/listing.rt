@@ -1,15 +1,15 @@
 //! The footpaths that a feed lists: for each pair of stops the time of the first claim that is heard, in the order of a timetable.
 
-ghost use Rattle.std.specs.Prelude.{◌≡◌, ◌<◌, ◌≤◌, ◌↔◌, ◌++◌, ◌+◌, ◌^◌, ℕ, All, length, Some, IfOk, IfErr, OnOk, true, false};
-ghost use Rattle.timetable.specs.Legal.{HasFootpath, AreInOrder};
-ghost use Rattle.transfers.specs.Listed.{NamesStops, AreListed, LeadBelow, ListsMore, ListsMoreBelow, listed_secs};
+ghost use Rattle.std.specs.Prelude.{◌≡◌, ◌<◌, ◌≤◌, ◌++◌, ◌+◌, ◌^◌, length, IfOk, IfErr, OnOk, true, false};
+ghost use Rattle.timetable.specs.Legal.{AreInOrder};
+ghost use Rattle.transfers.specs.Listed.{AreAllListed, AreListed, LeadBelow, ListsMore, ListsMoreBelow};
 ghost use Rattle.transfers.specs.Claims.{AreSorted, IsFirstAt, ArePathsBelow, path_of};
-ghost use Rattle.transfers.specs.Lookup.{IsLookup};
+ghost use Rattle.transfers.specs.Lookup.{IsKnown};
 ghost use Rattle.transfers.specs.declared.fault.ListingFault.TheVariants.{TooMany};
 
-use crate::claims::{Claim, Word, claim_ways};
+use crate::claims::{Claim, Claims, Word};
 use crate::fault::ListingFault;
-use crate::lookup::{Lookup, end_of_stops};
+use crate::lookup::{Known, Lookup, end_of_stops};
 use gtfs_tables::Feed;
 use std::alloc::{AllocError, Global};
 use timetable::Footpath;
@@ -74,19 +74,23 @@ fn paths_of(alloc: Global, claims: &[Claim]) -> Result<Vec<Footpath>, AllocError
 fn add_ways(
     alloc: Global,
     paths: &mut Vec<Footpath>,
-    feed: &Feed,
-    lookup: &Lookup,
+    known: &Known,
     to: u32,
     room: &mut usize,
 ) -> Result<(), AllocError>
-    requires { IsLookup feed.now.stops.items feed.now.transfers.items lookup.now }
+    requires { IsKnown known.now }
     ensures room { OnOk result (length paths.new.items + room.new ≤ length paths.old.items + room.old) }
-    ensures listed { AreListed feed.now (LeadBelow to) paths.old.items → OnOk result (AreListed feed.now (LeadBelow (to + 1)) paths.new.items) }
+    ensures listed { AreListed known.now.feed.now (LeadBelow to) paths.old.items
+        → OnOk result (AreListed known.now.feed.now (LeadBelow (to + 1)) paths.new.items) }
 {
-    let mut claims = Vec::new(alloc);
-    claim_ways(&mut claims, feed, lookup, to, room)?;
-    claims.sort()?;
-    let ways = paths_of(alloc, &claims)?;
+    let mut claims = Claims {
+        made: Vec::new(alloc),
+        room: *room,
+    };
+    claims.add_ways(known, to)?;
+    *room = claims.room;
+    claims.made.sort()?;
+    let ways = paths_of(alloc, &claims.made)?;
     paths.extend_from_slice(&ways)
 }
 
@@ -94,20 +98,20 @@ fn add_ways(
 fn add_within(
     alloc: Global,
     paths: &mut Vec<Footpath>,
-    feed: &Feed,
-    lookup: &Lookup,
+    known: &Known,
     to: u32,
     most: usize,
     room: &mut usize,
 ) -> Result<(), ListingFault>
-    requires lookup { IsLookup feed.now.stops.items feed.now.transfers.items lookup.now }
-    requires before { AreListed feed.now (LeadBelow to) paths.old.items }
-    ensures listed { OnOk result (AreListed feed.now (LeadBelow (to + 1)) paths.new.items) }
+    requires lookup { IsKnown known.now }
+    requires before { AreListed known.now.feed.now (LeadBelow to) paths.old.items }
+    ensures listed { OnOk result (AreListed known.now.feed.now (LeadBelow (to + 1)) paths.new.items) }
     ensures few { OnOk result (length paths.new.items ≤ most) }
     ensures room { OnOk result (length paths.new.items + room.new ≤ length paths.old.items + room.old) }
-    ensures many { IfErr result (λ fault. fault ≡ TooMany → AreListed feed.now (LeadBelow (to + 1)) paths.new.items × (most < length paths.new.items)) }
+    ensures many { IfErr result (λ fault. fault ≡ TooMany
+        → AreListed known.now.feed.now (LeadBelow (to + 1)) paths.new.items × (most < length paths.new.items)) }
 {
-    add_ways(alloc, paths, feed, lookup, to, room)?;
+    add_ways(alloc, paths, known, to, room)?;
     if paths.len() > most {
         return Err(ListingFault::TooMany);
     }
@@ -117,25 +121,22 @@ fn add_within(
 // The footpaths into the stops below a number, unless there are more than that many.
 fn paths_below(
     alloc: Global,
-    feed: &Feed,
-    lookup: &Lookup,
+    known: &Known,
     end: usize,
     most: usize,
     room: usize,
 ) -> Result<Vec<Footpath>, ListingFault>
-    requires lookup { IsLookup feed.now.stops.items feed.now.transfers.items lookup.now }
+    requires lookup { IsKnown known.now }
     requires small { end ≤ 2 ^ 32 }
-    ensures listed { IfOk result (λ v. AreListed feed.now (LeadBelow end) v.items) }
+    ensures listed { IfOk result (λ v. AreListed known.now.feed.now (LeadBelow end) v.items) }
     ensures few { IfOk result (λ v. length v.items ≤ most) }
     ensures room { IfOk result (λ v. length v.items ≤ room) }
-    ensures many { IfErr result (λ fault. fault ≡ TooMany → ListsMoreBelow feed.now end most) }
+    ensures many { IfErr result (λ fault. fault ≡ TooMany → ListsMoreBelow known.now.feed.now end most) }
 {
     let mut paths = Vec::new(alloc);
     let mut left = room;
     for to in 0..end {
-        if let Err(fault) = add_within(
-            alloc, &mut paths, feed, lookup, to as u32, most, &mut left,
-        ) {
+        if let Err(fault) = add_within(alloc, &mut paths, known, to as u32, most, &mut left) {
             return Err(fault);
         }
     }
@@ -166,11 +167,7 @@ pub const MAX_CLAIMS: usize = 100_000_000;
 /// room for more than those and the footpaths into one stop. `OutOfMemory` where memory was wanting; more stops than a `u32` can
 /// number count as that, and so do more claims than [`MAX_CLAIMS`].
 pub fn listed_within(alloc: Global, feed: &Feed, most: usize) -> Result<Vec<Footpath>, ListingFault>
-    ensures times { IfOk result (λ v. (from to secs : ℕ) → HasFootpath v.items from to secs ↔ (listed_secs feed.now from to ≡ Some secs)) }
-    ensures order { IfOk result (λ v. AreInOrder v.items) }
-    ensures in_range { NamesStops feed.now
-        → IfOk result (λ v. All (λ f. (f.from < length feed.now.stops.items) × (f.to < length feed.now.stops.items)) v.items) }
-    ensures loops { IfOk result (λ v. (stop : ℕ) → stop < length feed.now.stops.items → (secs : ℕ) × HasFootpath v.items stop stop secs) }
+    ensures all { IfOk result (λ v. AreAllListed feed.now v.items) }
     ensures few { IfOk result (λ v. length v.items ≤ most) }
     ensures many { IfErr result (λ fault. fault ≡ TooMany → ListsMore feed.now most) }
 {
@@ -192,11 +189,7 @@ pub fn listed_in_room(
     most: usize,
     room: usize,
 ) -> Result<Vec<Footpath>, ListingFault>
-    ensures times { IfOk result (λ v. (from to secs : ℕ) → HasFootpath v.items from to secs ↔ (listed_secs feed.now from to ≡ Some secs)) }
-    ensures order { IfOk result (λ v. AreInOrder v.items) }
-    ensures in_range { NamesStops feed.now
-        → IfOk result (λ v. All (λ f. (f.from < length feed.now.stops.items) × (f.to < length feed.now.stops.items)) v.items) }
-    ensures loops { IfOk result (λ v. (stop : ℕ) → stop < length feed.now.stops.items → (secs : ℕ) × HasFootpath v.items stop stop secs) }
+    ensures all { IfOk result (λ v. AreAllListed feed.now v.items) }
     ensures few { IfOk result (λ v. length v.items ≤ most) }
     ensures room { IfOk result (λ v. length v.items ≤ room) }
     ensures many { IfErr result (λ fault. fault ≡ TooMany → ListsMore feed.now most) }
@@ -206,17 +199,17 @@ pub fn listed_in_room(
     }
     let lookup = Lookup::new(alloc, feed)?;
     let end = end_of_stops(feed);
-    paths_below(alloc, feed, &lookup, end, most, room)
+    let known = Known {
+        feed,
+        lookup: &lookup,
+    };
+    paths_below(alloc, &known, end, most, room)
 }
 
 /// The footpaths that a feed lists, as [`listed_within`] gives them, however many they are. Want of memory is the only error; more
 /// claims than [`MAX_CLAIMS`] count as that.
 pub fn listed(alloc: Global, feed: &Feed) -> Result<Vec<Footpath>, AllocError>
-    ensures times { IfOk result (λ v. (from to secs : ℕ) → HasFootpath v.items from to secs ↔ (listed_secs feed.now from to ≡ Some secs)) }
-    ensures order { IfOk result (λ v. AreInOrder v.items) }
-    ensures in_range { NamesStops feed.now
-        → IfOk result (λ v. All (λ f. (f.from < length feed.now.stops.items) × (f.to < length feed.now.stops.items)) v.items) }
-    ensures loops { IfOk result (λ v. (stop : ℕ) → stop < length feed.now.stops.items → (secs : ℕ) × HasFootpath v.items stop stop secs) }
+    ensures all { IfOk result (λ v. AreAllListed feed.now v.items) }
 {
     match listed_within(alloc, feed, usize::MAX) {
         Ok(paths) => Ok(paths),

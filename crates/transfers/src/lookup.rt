@@ -23,6 +23,13 @@ pub(crate) struct Lookup {
     pub into_stations: Groups,
 }
 
+/// A feed, and what its stops and transfers are looked up by.
+#[derive(Drop)]
+pub(crate) struct Known<'a> {
+    pub feed: &'a Feed,
+    pub lookup: &'a Lookup,
+}
+
 // The station of each stop.
 fn stations(alloc: Global, stops: &[Stop]) -> Result<Vec<Option<u32>>, AllocError>
     ensures { IfOk result (λ v. v.items ≡ map (λ stop. stop.station) stops.now) }

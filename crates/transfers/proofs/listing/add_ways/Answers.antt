@@ -15,19 +15,19 @@ paths_of-requires c =
 
 pub returns-clause-listed : goal.returns-clause-listed
 returns-clause-listed c = λ before.
-    let stops = c.args.feed.now.stops.items in
-    let rows = c.args.feed.now.transfers.items in
+    let stops = c.args.known.now.feed.now.stops.items in
+    let rows = c.args.known.now.feed.now.transfers.items in
     let claims = c.deref.result.now in
     let sorted : AreSorted claims = subst
     (λ (claims : List Claim). AreSorted claims) (sym c.deref.ensures.value) (sorted_claims c.sort.new.self.items c.in_ok-sort.ensures.sorted) in
     let all : (x : Claim) → Contains claims x ↔ IsClaimInto stops rows c.args.to x = λ x. subst
     (λ (xs : List Claim). Contains xs x ↔ IsClaimInto stops rows c.args.to x) (sym c.deref.ensures.value)
-    (moved_claims c.new-claims.result.items c.claim_ways.new.claims.items c.sort.new.self.items
-    (IsClaimInto stops rows c.args.to) c.new-claims.ensures.items c.in_ok-claim_ways.ensures.adds c.in_ok-sort.ensures.permutation x) in
-    let ways : AreListed c.args.feed.now (λ a b. b ≡ c.args.to) c.in_ok-ways.ways.items =
-    ways_listed c.args.feed.now c.args.to claims c.in_ok-ways.ways.items sorted all c.in_ok-ways.ensures.paths c.in_ok-ways.ensures.order in
-    let next : AreListed c.args.feed.now (LeadBelow (c.args.to + 1))
-    (c.args.paths.now.items ++ c.in_ok-ways.ways.items) = listed_next c.args.feed.now c.args.to c.args.paths.now.items c.in_ok-ways.ways.items before
+    (moved_claims c.new.result.items c.add_ways.new.self.made.items c.sort.new.self.items
+    (IsClaimInto stops rows c.args.to) c.new.ensures.items c.in_ok-add_ways.ensures.adds c.in_ok-sort.ensures.permutation x) in
+    let ways : AreListed c.args.known.now.feed.now (λ a b. b ≡ c.args.to) c.in_ok-ways.ways.items =
+    ways_listed c.args.known.now.feed.now c.args.to claims c.in_ok-ways.ways.items sorted all c.in_ok-ways.ensures.paths c.in_ok-ways.ensures.order in
+    let next : AreListed c.args.known.now.feed.now (LeadBelow (c.args.to + 1))
+    (c.args.paths.now.items ++ c.in_ok-ways.ways.items) = listed_next c.args.known.now.feed.now c.args.to c.args.paths.now.items c.in_ok-ways.ways.items before
     ways in
     let added : OnOk c.extend_from_slice.result (c.extend_from_slice.new.self.items ≡ c.args.paths.now.items ++ c.in_ok-ways.ways.items) = search rules in
-    on_ok_weaker c.extend_from_slice.result (λ is. subst (λ (xs : List Footpath). AreListed c.args.feed.now (LeadBelow (c.args.to + 1)) xs) (sym is) next) added
+    on_ok_weaker c.extend_from_slice.result (λ is. subst (λ (xs : List Footpath). AreListed c.args.known.now.feed.now (LeadBelow (c.args.to + 1)) xs) (sym is) next) added

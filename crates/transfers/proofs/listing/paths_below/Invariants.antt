@@ -4,7 +4,7 @@ use Rattle.transfers.proofs.listing.paths_below.Given as goal
 
 abbrev pub invariant-loop-to : goal.invariant-loop-to
 invariant-loop-to l = record {
-  listed : AreListed l.feed (LeadBelow l.to) l.paths.items;
+  listed : AreListed l.known.feed.now (LeadBelow l.to) l.paths.items;
   few : length l.paths.items ≤ l.most;
   room : length l.paths.items + l.left ≤ l.room;
 }
