@@ -1,14 +1,12 @@
 //! From words to a request, or to what is said of them.
 
-ghost use Rattle.std.specs.Prelude.{◌≤◌, IfSome};
-
 use crate::commands::program;
 use crate::values::{clock, count, day, named_folder, number, port, zone};
 use clap::error::ErrorKind;
 use clap::{ArgMatches, Error};
 use command_requests::{
     AnswerForm, BuildRequest, JourneyRequest, NamedFolder, PlanText, ProfileRequest, Question,
-    Request, ServeRequest, StopsRequest, UpgradeRequest, days_of, workers_of,
+    Request, ServeRequest, StopsRequest, UpgradeRequest, Workers, days_of,
 };
 use criteria::CriterionName;
 use std::alloc::Global;
@@ -186,10 +184,8 @@ fn serve_request<'a>(alloc: Global, matches: &ArgMatches<'a>) -> Result<Request<
     }))
 }
 
-fn workers(matches: &ArgMatches<'_>) -> Option<usize>
-    ensures { IfSome result (λ workers. (1 ≤ workers) × (workers ≤ 16)) }
-{
-    workers_of(number(matches.get_str("workers")?)?)
+fn workers(matches: &ArgMatches<'_>) -> Option<Workers> {
+    Workers::of(number(matches.get_str("workers")?)?)
 }
 
 fn named_folders<'a>(

@@ -1,12 +1,13 @@
-//! What a command line asks for: each command with its arguments, whose numbers lie within their limits.
+//! What a command line asks for: each command with its arguments, whose numbers lie within their limits. And what commands end with.
 #![tactic(auto)]
 
+mod ends;
 mod plans;
 mod requests;
+pub mod statuses;
 
-pub use plans::{
-    Ahead, MOST_AHEAD, MOST_DAYS, MOST_WORKERS, PlanText, ZoneText, days_of, workers_of,
-};
+pub use ends::Ends;
+pub use plans::{Ahead, MOST_AHEAD, MOST_DAYS, MOST_WORKERS, PlanText, Workers, ZoneText, days_of};
 pub use requests::{
     AnswerForm, BuildRequest, JourneyRequest, NamedFolder, ProfileRequest, Question, Request,
     ServeRequest, StopsRequest, UpgradeRequest,

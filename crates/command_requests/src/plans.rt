@@ -16,14 +16,26 @@ pub const MOST_DAYS: u32 = 14;
 /// How many seconds a zone may be ahead of UTC, or behind it.
 pub const MOST_AHEAD: i32 = 86_399;
 
-/// How many sessions are served at once, 1 to 16; none of another number.
-pub fn workers_of(number: u32) -> Option<usize>
-    ensures { SomeIff result ((1 ≤ number) × (number ≤ MOST_WORKERS)) number }
-{
-    if number < 1 || number > MOST_WORKERS {
-        return None;
+/// How many sessions are served at once: 1 to 16.
+#[derive(Drop)]
+pub struct Workers {
+    pub number: usize,
+    ghost some: { 1 ≤ number },
+    ghost few: { number ≤ MOST_WORKERS },
+}
+
+impl Workers {
+    /// As many as are asked for; none beyond the limits.
+    pub fn of(asked: u32) -> Option<Workers>
+        ensures { MatchOption result (¬ ((1 ≤ asked) × (asked ≤ MOST_WORKERS))) (λ workers. workers.number ≡ asked) }
+    {
+        if asked < 1 || asked > MOST_WORKERS {
+            return None;
+        }
+        Some(Workers {
+            number: asked as usize,
+        })
     }
-    Some(number as usize)
 }
 
 /// How many service days there are, 1 to 14; none of another number.

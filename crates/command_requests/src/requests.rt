@@ -1,9 +1,6 @@
 //! What a command line asks for.
 
-ghost use Rattle.std.specs.Prelude.{◌≤◌};
-ghost use Rattle.command_requests.specs.declared.plans.TheConstants.{MOST_WORKERS};
-
-use crate::plans::PlanText;
+use crate::plans::{PlanText, Workers};
 use criteria::CriterionName;
 
 /// A command with its arguments.
@@ -106,9 +103,7 @@ pub struct NamedFolder<'a> {
 pub struct ServeRequest<'a> {
     pub image: &'a str,
     pub port: u16,
-    pub workers: usize,
-    ghost some: { 1 ≤ workers },
-    ghost few: { workers ≤ MOST_WORKERS },
+    pub workers: Workers,
     /// How many sessions are served in all, 0 for no end.
     pub sessions: u64,
     pub plan: PlanText<'a>,

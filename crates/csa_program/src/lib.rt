@@ -5,6 +5,7 @@ mod asked;
 mod bases;
 mod build;
 mod journey;
+mod machine;
 mod naming;
 mod opening;
 mod pictured;
@@ -24,16 +25,13 @@ mod verify;
 mod writing;
 
 use crate::asked::{Asked, answer};
+pub use crate::machine::Machine;
 use command_line::{Unread, read};
 use command_requests::Request;
 pub use feed_files::Disk;
 use std::convert::AsStr;
 use std::io::{Read, Write};
 use std::net::{Net, TcpListener, TcpStream};
-use std::random::RandomSource;
-use std::rt::Files;
-use std::sync::Wait;
-use std::thread::Threads;
 
 /// Runs the command that the words ask for; the first word is the program's name.
 ///
@@ -42,14 +40,7 @@ use std::thread::Threads;
 /// of memory, and 64 for a command line that asks for nothing. Where `errors` is a terminal, what takes long also tells there what is
 /// done.
 pub fn run<
-    H: Files
-        + RandomSource
-        + Disk
-        + AllocGlobal
-        + Net<Listener = TcpListener, Stream = TcpStream>
-        + Threads
-        + Wait
-        + Sync,
+    H: Machine + Net<Listener = TcpListener, Stream = TcpStream>,
     S: AsStr,
     I: Read,
     O: Write,

@@ -2,15 +2,16 @@
 
 ghost use Rattle.std.specs.Prelude.{◌≡◌, ◌≤◌, All, length, IfOk};
 ghost use Rattle.connections.specs.declared.days.TheConstants.{MAX_DAYS};
-ghost use Rattle.csa_program.specs.Serving.{sessions_in, status_of_ends};
+ghost use Rattle.csa_program.specs.Serving.{counts_of};
 
 use crate::bases::tell_bases;
+use crate::machine::Machine;
 use crate::opening::open_image;
 use crate::planning::{PlanFailure, plan_of};
 use crate::refusal::refuse_feed;
 use crate::sockets::Door;
 use crate::status;
-use command_requests::{NamedFolder, ServeRequest};
+use command_requests::{Ends, NamedFolder, ServeRequest};
 use epochs::{ShelfLoader, ShelfSeat, Shelves};
 use feed_files::{Disk, FolderFiles};
 use feed_loader::Plan;
@@ -20,7 +21,6 @@ use std::alloc::{AllocError, Global};
 use std::io::{Read, Write};
 use std::marker::Brand;
 use std::net::{Ipv4Addr, Net, TcpListener, TcpStream};
-use std::rt::Files;
 use std::sync::{Arc, Wait};
 use std::thread::Threads;
 use workers::{Feeds, Served, run_shelves};
@@ -60,13 +60,7 @@ impl<'a, H: Disk + Sync> Feeds for Folders<'a, H> {
 
 /// Serves sessions until as many were served as are asked for, or tells the first thing that is wrong.
 pub fn run<
-    H: Files
-        + Disk
-        + AllocGlobal
-        + Net<Listener = TcpListener, Stream = TcpStream>
-        + Threads
-        + Wait
-        + Sync,
+    H: Machine + Net<Listener = TcpListener, Stream = TcpStream>,
     I: Read,
     O: Write,
     E: Write + Send,
@@ -121,7 +115,7 @@ fn listen<
     output: &mut O,
     errors: &mut E,
 ) -> u8 {
-    let Ok((shelves, loader, seats)) = shelves_of(alloc, image, request.workers) else {
+    let Ok((shelves, loader, seats)) = shelves_of(alloc, image, request.workers.number) else {
         return status::OUT_OF_MEMORY;
     };
     let Ok(listener) = TcpListener::bind(rt, (Ipv4Addr::LOCALHOST, request.port)) else {
@@ -179,30 +173,19 @@ fn unheard<E: Write>(alloc: Global, errors: &mut E, port: u16) -> u8 {
 
 // Tells how many sessions there were.
 fn tell_served<O: Write>(alloc: Global, served: &Served, is_deaf: bool, output: &mut O) -> u8 {
-    let sessions = sessions_of(served);
-    let status = status_of(served, is_deaf);
+    let ends = ends_of(served);
+    let sessions = ends.sessions();
+    let status = ends.status(is_deaf);
     status::line_written(output, format!(in alloc; "served {sessions}\n"), status)
 }
 
-// How many sessions there were.
-fn sessions_of(served: &Served) -> u64
-    ensures { result ≡ sessions_in served.now }
+// How many sessions ended in each way.
+fn ends_of(served: &Served) -> Ends
+    ensures { result ≡ counts_of served.now }
 {
-    served
-        .ended()
-        .saturating_add(served.failed())
-        .saturating_add(served.spent())
-}
-
-// The status of a server whose sessions ended so, and which may have failed to accept one.
-fn status_of(served: &Served, is_deaf: bool) -> u8
-    ensures { result ≡ status_of_ends is_deaf served.now }
-{
-    if is_deaf || served.failed() > 0 {
-        status::INPUT_OUTPUT
-    } else if served.spent() > 0 {
-        status::REFUSED
-    } else {
-        status::ACCEPTED
+    Ends {
+        ended: served.ended(),
+        failed: served.failed(),
+        spent: served.spent(),
     }
 }

@@ -1,0 +1,13 @@
+//! What the program runs on.
+
+use feed_files::Disk;
+use std::random::RandomSource;
+use std::rt::Files;
+use std::sync::Wait;
+use std::thread::Threads;
+
+/// What the program needs of the machine that it runs on, beside sockets: a bound on their types can't stand in a bundle, since callers
+/// wouldn't know the types.
+pub trait Machine: Files + RandomSource + Disk + AllocGlobal + Threads + Wait + Sync {}
+
+impl<H: Files + RandomSource + AllocGlobal + Threads + Wait + Sync> Machine for H {}
