@@ -1,5 +1,5 @@
 -- Boarding, over the footpaths into a connection's start.
-use Rattle.std.proofs.Common.{◌≡◌, ◌⊎◌, ◌↔◌, ℕ, ◌+◌, ◌-◌, ◌<◌, ◌≤◌, true, List, Contains, length, slice_get, Option, Some, None, refl, sym, ◌∙◌, ap, subst, inl, inr, arith}
+use Rattle.std.proofs.Common.{◌≡◌, ◌⊎◌, ◌↔◌, ℕ, ◌+◌, ◌<◌, ◌≤◌, true, List, Contains, length, slice_get, Option, Some, None, refl, sym, ◌∙◌, ap, subst, inl, inr, arith}
 use Rattle.std.proofs.lemmas.Bool.{cases_lt}
 use Rattle.std.proofs.lemmas.Option.{same_Some}
 use Rattle.criteria.specs.Laws.{Rules, Laws, Admits, IsSecs}
@@ -10,10 +10,9 @@ use Rattle.timetable.specs.declared.query.Query.{Query}
 use Rattle.timetable.specs.TimetableValue.{TimetableValue}
 use Rattle.timetable.specs.Legal.{At}
 use Rattle.timetable.specs.Limits.{IsWithinLimits}
-use Rattle.timetable.specs.Journeys.{connection_at, IsStart, start_end, start_secs}
+use Rattle.timetable.specs.Journeys.{connection_at, IsStart, start_end}
 use Rattle.timetable.proofs.LegalFacts.{Contains-At, At-Contains}
 use Rattle.profile_scan.specs.Values.{started}
-use Rattle.profile_scan.specs.Points.{Covers}
 use Rattle.profile_scan.specs.Matching.{Spellings}
 use Rattle.profile_scan.specs.Steps.{Offer, TakesIn, boardings, settings_out, MayBoard, MaySetOut}
 use Rattle.profile_scan.specs.Adding.{each_of, StandsBetween, AreWalksInto, IsTried, StartsFrom, MayStart, boardings_by, settings_out_by}

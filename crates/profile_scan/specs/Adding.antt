@@ -10,7 +10,7 @@ use Rattle.timetable.specs.TimetableValue.{TimetableValue}
 use Rattle.timetable.specs.Legal.{At}
 use Rattle.timetable.specs.Journeys.{start_secs}
 use Rattle.profile_scan.specs.Values.{started}
-use Rattle.profile_scan.specs.Continuations.{Onward, Aboard}
+use Rattle.profile_scan.specs.Continuations.{Aboard}
 use Rattle.profile_scan.specs.Matching.{Spellings, from_to}
 use Rattle.profile_scan.specs.Steps.{Offer, TakesIn, boarded}
 use Rattle.profile_scan.specs.Nodes.{SpellsEnd, SpellsChange}
