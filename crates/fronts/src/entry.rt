@@ -37,3 +37,12 @@ pub struct Ridden<V> {
     pub value: V,
     pub label: u32,
 }
+
+/// How a footpath leads to a connection: the latest departure, the connection, the place of the footpath and its seconds.
+#[derive(Clone, Copy, Drop)]
+pub struct Boarding {
+    pub departure: u32,
+    pub first: u32,
+    pub walk: u32,
+    pub secs: u32,
+}

@@ -1,6 +1,6 @@
 //! The lists of fronts: the front from a time on, its points, and the list that comes of an insertion.
 
-use crate::entry::{Entry, Item, Ridden, Step};
+use crate::entry::{Boarding, Entry, Item, Ridden, Step};
 use crate::insertion::insert;
 use crate::search::late;
 use bags::Point;
@@ -133,10 +133,12 @@ impl<C: Criterion> FrontLists<C> {
             &mut self.passed,
             &mut self.kept,
             head,
-            departure,
-            first,
-            walk,
-            secs,
+            Boarding {
+                departure,
+                first,
+                walk,
+                secs,
+            },
             ridden,
         )
     }

@@ -7,7 +7,7 @@ ghost use Rattle.fronts.specs.Entries.{AreEntries};
 ghost use Rattle.fronts.specs.Putting.{IsPath, DepartBefore, CoversAll, IsUnion};
 ghost use Rattle.fronts.specs.Walking.{TakesBoardings};
 
-use crate::entry::{Entry, Item, Ridden, Step};
+use crate::entry::{Boarding, Entry, Item, Ridden, Step};
 use crate::keeping::{keep_front, keep_walked};
 use crate::putting::put;
 use crate::search::pass;
@@ -84,31 +84,28 @@ pub fn insert<C: Criterion>(
     passed: &mut Vec<u32>,
     kept: &mut Vec<Item<C::V>>,
     head: u32,
-    departure: u32,
-    first: u32,
-    walk: u32,
-    secs: u32,
+    boarding: Boarding,
     ridden: &[Ridden<C::V>],
 ) -> Result<u32, AllocError>
     requires entries { AreEntries (C.rules criterion.now) entries.old.items items.old.items }
     requires head { head < length entries.old.items }
-    requires secs { IsSecs secs }
+    requires secs { IsSecs boarding.secs }
     requires ridden { (r : _) → Contains ridden.now r → Admits (C.rules criterion.now) r.value }
     ensures entries { AreEntries (C.rules criterion.now) entries.new.items items.new.items }
     ensures more_entries { Extends entries.old.items entries.new.items }
     ensures more_items { Extends items.old.items items.new.items }
     ensures more_steps { Extends steps.old.items steps.new.items }
     ensures within { IfOk result (λ new. new < length entries.new.items) }
-    ensures takes { IfOk result (λ new. TakesBoardings (C.rules criterion.now) steps.new.items departure first walk secs ridden.now (points_from entries.old.items items.old.items head) (points_from entries.new.items items.new.items new)) }
+    ensures takes { IfOk result (λ new. TakesBoardings (C.rules criterion.now) steps.new.items boarding.departure boarding.first boarding.walk boarding.secs ridden.now (points_from entries.old.items items.old.items head) (points_from entries.new.items items.new.items new)) }
 {
-    let after = pass(criterion, entries, items, head, departure, passed)?;
+    let after = pass(criterion, entries, items, head, boarding.departure, passed)?;
     keep_walked(
-        criterion, entries, items, after, steps, kept, departure, first, walk, secs, ridden,
+        criterion, entries, items, after, steps, kept, boarding, ridden,
     )?;
     if kept.len() == 0 {
         return Ok(head);
     }
-    let place = put(criterion, entries, items, kept, after, departure)?;
+    let place = put(criterion, entries, items, kept, after, boarding.departure)?;
     let new = join(criterion, entries, items, kept, passed, head, after, place)?;
     Ok(new)
 }

@@ -7,7 +7,7 @@ ghost use Rattle.fronts.specs.Entries.{AreEntries};
 ghost use Rattle.fronts.specs.Putting.{left_by};
 ghost use Rattle.fronts.specs.Walking.{IsKept, AreBoardings, AllWalked};
 
-use crate::entry::{Entry, Item, Ridden, Step};
+use crate::entry::{Boarding, Entry, Item, Ridden, Step};
 use crate::putting::place_of;
 use crate::search::front_betters;
 use criteria::Criterion;
@@ -121,31 +121,28 @@ pub fn keep_walked<C: Criterion>(
     place: u32,
     steps: &mut Vec<Step>,
     kept: &mut Vec<Item<C::V>>,
-    departure: u32,
-    first: u32,
-    walk: u32,
-    secs: u32,
+    boarding: Boarding,
     ridden: &[Ridden<C::V>],
 ) -> Result<(), AllocError>
     requires entries { AreEntries (C.rules criterion.now) entries.now items.now }
     requires place { place < length entries.now }
-    requires secs { IsSecs secs }
+    requires secs { IsSecs boarding.secs }
     requires ridden { (r : _) → Contains ridden.now r → Admits (C.rules criterion.now) r.value }
     ensures more { Extends steps.old.items steps.new.items }
-    ensures boarded { OnOk result (AreBoardings (C.rules criterion.now) steps.new.items departure first walk secs ridden.now kept.new.items) }
-    ensures all { OnOk result (AllWalked (C.rules criterion.now) (front entries.now items.now place) secs ridden.now (length ridden.now) kept.new.items) }
+    ensures boarded { OnOk result (AreBoardings (C.rules criterion.now) steps.new.items boarding.departure boarding.first boarding.walk boarding.secs ridden.now kept.new.items) }
+    ensures all { OnOk result (AllWalked (C.rules criterion.now) (front entries.now items.now place) boarding.secs ridden.now (length ridden.now) kept.new.items) }
 {
     kept.clear();
     for i in 0..ridden.len() {
         let ride = ridden[i];
-        let value = criterion.walk(secs, &ride.value);
+        let value = criterion.walk(boarding.secs, &ride.value);
         if !front_betters(criterion, entries, items, place, &value) {
             let step = Step {
-                first,
+                first: boarding.first,
                 label: ride.label,
-                walk,
+                walk: boarding.walk,
             };
-            keep_value(steps, kept, departure, value, step)?;
+            keep_value(steps, kept, boarding.departure, value, step)?;
         }
     }
     Ok(())

@@ -101,26 +101,6 @@ fn push_others<V: Copy>(items: &mut Vec<Item<V>>, points: &[Item<V>]) -> Result<
     Ok(())
 }
 
-// Pushes all points but the first, and what they leave of the front at a place.
-fn fill<C: Criterion>(
-    criterion: &C,
-    entries: &[Entry<C::V>],
-    items: &mut Vec<Item<C::V>>,
-    points: &[Item<C::V>],
-    place: u32,
-) -> Result<(), AllocError>
-    requires entries { AreEntries (C.rules criterion.now) entries.now items.old.items }
-    requires place { place < length entries.now }
-    requires some { 0 < length points.now }
-    requires points { (p : _) → Contains points.now p → Admits (C.rules criterion.now) p.value }
-    ensures extends { Extends items.old.items items.new.items }
-    ensures filled { OnOk result (items.new.items ≡ items.old.items ++ (drop 1 points.now ++ left_by (C.rules criterion.now) points.now (front entries.now items.old.items place))) }
-{
-    push_others(items, points)?;
-    leave_front(criterion, entries, items, points, place)?;
-    Ok(())
-}
-
 // What comes after a front of some departure that is put before the list of an entry: that entry, or the next one if it departs then.
 fn follow<V: Copy>(entry: &Entry<V>, place: u32, departure: u32) -> u32
     requires { departure ≤ entry.now.departure }
@@ -153,7 +133,8 @@ pub fn put<C: Criterion>(
 {
     let new = place_of(entries.len())?;
     let rest = place_of(items.len())?;
-    fill(criterion, entries, items, points, place)?;
+    push_others(items, points)?;
+    leave_front(criterion, entries, items, points, place)?;
     let count = place_of(items.len() - rest as usize)?;
     let next = follow(&entries[place as usize], place, departure);
     let first = points[0];
