@@ -125,6 +125,13 @@ index_more listed stop first paths new adds old = subst (λ (xs : List Footpath)
     at_first : (s : ℕ) → s < stop + 1 → get_or (first ++ length (paths ++ adds.added) ∷ []) s 0 ≡ get_or first s 0
     at_first s below = get_or_append_left first (length (paths ++ adds.added) ∷ []) 0 s (omega (arith, below, old.count))
 
+    -- where the stop's footpaths begin and end
+    low_at : (s : ℕ) → s ≡ stop → get_or (first ++ length (paths ++ adds.added) ∷ []) s 0 ≡ length paths
+    low_at s same = at_first s (omega (arith, same)) ∙ ap (λ (n : ℕ). get_or first n 0) same ∙ old.end
+
+    high_at : (s : ℕ) → s ≡ stop → get_or (first ++ length (paths ++ adds.added) ∷ []) (s + 1) 0 ≡ length (paths ++ adds.added)
+    high_at s same = ap (λ (n : ℕ). get_or (first ++ length (paths ++ adds.added) ∷ []) (n + 1) 0) same ∙ at_end
+
     longer : length (first ++ length (paths ++ adds.added) ∷ []) ≡ stop + 2
     longer = omega (arith, length-append first (length (paths ++ adds.added) ∷ []), old.count)
 
@@ -134,11 +141,7 @@ index_more listed stop first paths new adds old = subst (λ (xs : List Footpath)
       end = at_end;
       ranges = λ s below. elim (cases_eq s stop) [
         | inl same ↦
-            let low : get_or (first ++ length (paths ++ adds.added) ∷ []) s 0 ≡ length paths = at_first s (omega (arith, same))
-            ∙ ap (λ (n : ℕ). get_or first n 0) same ∙ old.end in
-            let high : get_or (first ++ length (paths ++ adds.added) ∷ []) (s + 1) 0 ≡ length (paths ++ adds.added) =
-            ap (λ (n : ℕ). get_or (first ++ length (paths ++ adds.added) ∷ []) (n + 1) 0) same ∙ at_end in
-            (omega (arith, low, high, length-append paths adds.added), omega (arith, high))
+            (omega (arith, low_at s same, high_at s same, length-append paths adds.added), omega (arith, high_at s same))
         | inr differ ↦
             let inside : s + 1 < stop + 1 = omega (arith, below, longer, differ) in
             let low = at_first s (omega (arith, inside)) in
@@ -148,14 +151,10 @@ index_more listed stop first paths new adds old = subst (λ (xs : List Footpath)
       ];
       index = λ s below. elim (cases_eq s stop) [
         | inl same ↦
-            let low : get_or (first ++ length (paths ++ adds.added) ∷ []) s 0 ≡ length paths = at_first s (omega (arith, same))
-            ∙ ap (λ (n : ℕ). get_or first n 0) same ∙ old.end in
-            let high : get_or (first ++ length (paths ++ adds.added) ∷ []) (s + 1) 0 ≡ length (paths ++ adds.added) =
-            ap (λ (n : ℕ). get_or (first ++ length (paths ++ adds.added) ∷ []) (n + 1) 0) same ∙ at_end in
             let is : slice_range (paths ++ adds.added) (get_or (first ++ length (paths ++ adds.added) ∷ []) s 0)
             (get_or (first ++ length (paths ++ adds.added) ∷ []) (s + 1) 0) ≡ adds.added =
             range_added paths adds.added (get_or (first ++ length (paths ++ adds.added) ∷ []) s 0)
-            (get_or (first ++ length (paths ++ adds.added) ∷ []) (s + 1) 0) low high in
+            (get_or (first ++ length (paths ++ adds.added) ∷ []) (s + 1) 0) (low_at s same) (high_at s same) in
             subst (λ (xs : List Footpath). AreThoseInto listed s xs) (sym is)
             (subst (λ (n : ℕ). AreThoseInto listed n adds.added) (sym same) (those_added listed paths new stop adds))
         | inr differ ↦
