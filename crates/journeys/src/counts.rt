@@ -12,43 +12,34 @@ use crate::ends::{ends_fault, times_fault, times_inside};
 use crate::fault::JourneyFault;
 use crate::legs::legs_fault;
 use crate::walks::walks_fault;
+use crate::way::Way;
 use image_verifier::Verified;
-use timetable::{Footpath, Journey, Query, Ride, Times};
+use timetable::{Journey, Query, Times};
 
 /// The first fault of the journey itself, and of where it leads.
 #[tactic(auto, unfolding(crate::specs::Faults::path_fault))]
-fn path_fault(
-    image: &Verified,
-    query: &Query,
-    start: Option<Footpath>,
-    rides: &[Ride],
-) -> Option<JourneyFault>
-    ensures { result ≡ path_fault image.now.timetable query.now start rides.now }
+fn path_fault(image: &Verified, query: &Query, way: &Way<'_>) -> Option<JourneyFault>
+    ensures { result ≡ path_fault image.now.timetable query.now way.now.start way.now.rides.now }
 {
-    if let Some(fault) = legs_fault(image, rides) {
+    if let Some(fault) = legs_fault(image, way.rides) {
         return Some(fault);
     }
-    if let Some(fault) = walks_fault(image, start, rides) {
+    if let Some(fault) = walks_fault(image, way) {
         return Some(fault);
     }
-    if let Some(fault) = times_fault(image, rides) {
+    if let Some(fault) = times_fault(image, way.rides) {
         return Some(fault);
     }
-    ends_fault(image, query, start, rides)
+    ends_fault(image, query, way)
 }
 
-fn judge(
-    image: &Verified,
-    query: &Query,
-    start: Option<Footpath>,
-    rides: &[Ride],
-) -> Result<Times, JourneyFault>
-    ensures { IsJudged image.now.timetable query.now (record { start = start; rides = rides.now }) result }
+fn judge(image: &Verified, query: &Query, way: &Way<'_>) -> Result<Times, JourneyFault>
+    ensures { IsJudged image.now.timetable query.now (record { start = way.now.start; rides = way.now.rides.now }) result }
 {
-    if let Some(fault) = path_fault(image, query, start, rides) {
+    if let Some(fault) = path_fault(image, query, way) {
         return Err(fault);
     }
-    times_inside(image, query, start, rides)
+    times_inside(image, query, way)
 }
 
 /// The departure and final time of a journey that holds in the image and counts for the query; else its first fault.
@@ -63,7 +54,11 @@ pub fn check(image: &Verified, query: &Query, journey: &Journey) -> Result<Times
     // Which fault it is.
     ensures fault { IfErr result (λ e. first_fault image.now.timetable query.now journey.now ≡ Some e) }
 {
-    judge(image, query, journey.start, &journey.rides)
+    let way = Way {
+        start: journey.start,
+        rides: &journey.rides,
+    };
+    judge(image, query, &way)
 }
 
 /// A journey has no fault just where it counts, at some departure.

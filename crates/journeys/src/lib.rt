@@ -14,6 +14,7 @@ mod reading;
 mod text;
 mod text_fault;
 mod walks;
+mod way;
 
 pub use answering::{Answer, Departure, answer_query};
 pub use counts::{check, faultless_counts};

@@ -5,7 +5,7 @@ ghost use Rattle.journeys.specs.Numbers.{text_name, text_number};
 ghost use Rattle.journeys.specs.declared.text_fault.TextFault.TheVariants.{OutOfMemory};
 
 use reasoning::variant_name;
-use std::alloc::{AllocError, AllocFailed};
+use std::alloc::AllocFailed;
 
 /// Why a text is read as no journey.
 #[derive(Clone, Copy, Debug, PartialEq, Eq)]
@@ -31,14 +31,6 @@ impl TextFault {
         ensures { result.now ≡ text_name self }
     {
         variant_name!(self, TextFault: BadText, OutOfMemory)
-    }
-}
-
-impl From<AllocError> for TextFault {
-    ghost from_gives = { λ _ e. e ≡ OutOfMemory };
-
-    fn from(_e: AllocError) -> TextFault {
-        TextFault::OutOfMemory
     }
 }
 

@@ -8,6 +8,7 @@ ghost use Rattle.journeys.specs.Faults.{has_footpath, led_to, is_elsewhere, is_n
 use crate::fault::JourneyFault;
 use crate::footpaths::has_footpath;
 use crate::legs::connection_at;
+use crate::way::Way;
 use image_verifier::Verified;
 use timetable::{Footpath, Ride};
 
@@ -105,15 +106,12 @@ fn walk_after_fault(image: &Verified, rides: &[Ride], i: usize) -> Option<Journe
 
 /// The first fault of the walks, where the legs have none.
 #[tactic(auto, using(timetable::proofs::FirstLemmas::searches), unfolding(crate::specs::Faults::walks_fault))]
-pub fn walks_fault(
-    image: &Verified,
-    start: Option<Footpath>,
-    rides: &[Ride],
-) -> Option<JourneyFault>
-    requires legs { AreLegs image.now.timetable rides.now }
-    requires some { 0 < length rides.now }
-    ensures { result ≡ walks_fault image.now.timetable start rides.now }
+pub fn walks_fault(image: &Verified, way: &Way<'_>) -> Option<JourneyFault>
+    requires legs { AreLegs image.now.timetable way.now.rides.now }
+    requires some { 0 < length way.now.rides.now }
+    ensures { result ≡ walks_fault image.now.timetable way.now.start way.now.rides.now }
 {
+    let Way { start, rides } = *way;
     let first = &rides[0];
     let stop = connection_at(image, first.leg.first).from;
     if let Some(fault) = start_fault(image, start, stop) {

@@ -1,0 +1,10 @@
+//! What is judged of a journey.
+
+use timetable::{Footpath, Ride};
+
+/// The start and the rides of a journey.
+#[derive(Clone, Copy)]
+pub struct Way<'a> {
+    pub start: Option<Footpath>,
+    pub rides: &'a [Ride],
+}
