@@ -1,17 +1,8 @@
 //! One run of the program: words and input in, what it wrote and a status out.
 
-use csa_program::{Disk, run};
+pub(crate) use csa_program::Machine;
+use csa_program::run;
 use std::net::{Net, TcpListener, TcpStream};
-use std::random::RandomSource;
-use std::rt::Files;
-use std::sync::Wait;
-use std::thread::Threads;
-
-/// What the program needs of the machine that it runs on, beside sockets: a bound on their types can't stand in a bundle, since the
-/// tests' functions wouldn't know the types.
-pub(crate) trait Machine: Files + RandomSource + Disk + AllocGlobal + Threads + Wait + Sync {}
-
-impl<H: Files + RandomSource + AllocGlobal + Threads + Wait + Sync> Machine for H {}
 
 /// What a command wrote, and its status.
 #[derive(Drop)]
