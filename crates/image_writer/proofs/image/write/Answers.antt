@@ -14,12 +14,14 @@ use Rattle.image_writer.proofs.image.write.Goals as goal
 with_days : (c : goal.In_ok-write_text) → List ℕ
 with_days c = c.write_name_index.new.words.items ++ map (λ (trip : TripNameValue). trip.day) c.args.names.now.trips
 
-written : (c : goal.In_ok-write_text) → c.write_days_and_repeats.new.words.items ≡ with_days c ++ map (λ (trip : TripNameValue). trip.repeat) c.args.names.now.trips
+written : (c : goal.In_ok-write_text)
+    → c.write_days_and_repeats.new.words.items ≡ with_days c ++ map (λ (trip : TripNameValue). trip.repeat) c.args.names.now.trips
 unfolding with_days
 written c =
+    let front = c.write_name_index.new.words.items in
     let trips : c.deref-4.result.now ≡ c.args.names.now.trips = c.deref-4.ensures.value ∙ ap (λ (v : NamesValue). v.trips) c.names.view_is in
     c.in_ok-write_days_and_repeats.ensures.written
-    ∙ ap (λ (ts : List TripNameValue). (c.write_name_index.new.words.items ++ map (λ (trip : TripNameValue). trip.day) ts) ++ map (λ (trip : TripNameValue). trip.repeat) ts) trips
+    ∙ ap (λ (ts : List TripNameValue). (front ++ map (λ (trip : TripNameValue). trip.day) ts) ++ map (λ (trip : TripNameValue). trip.repeat) ts) trips
 
 names_fit : (c : goal.In_ok-write_text) → NamesFit c.args.timetable.now c.args.names.now
 unfolding with_days
