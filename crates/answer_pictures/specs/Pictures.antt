@@ -50,16 +50,19 @@ told_text s = codes "><title>" ++ escaped s.words ++ codes "</title></rect>\n"
 unfoldable pub stretch_text : Axis → StretchValue → List ℕ
 stretch_text axis s = way_text s.way ++ extent_text axis s ++ told_text s
 
+-- the beginning of a journey's group, at a height
+unfoldable pub group_text : ℕ → List ℕ
+group_text y = codes "<g transform=\"translate(0 " ++ decimal y ++ codes ")\">\n"
+
 abbrev pub label_text : LineValue → List ℕ
-label_text line = codes ")\">\n<text x=\"16\" y=\"5\">" ++ escaped line.label ++ codes "</text>\n"
+label_text line = codes "<text x=\"16\" y=\"5\">" ++ escaped line.label ++ codes "</text>\n"
 
 abbrev pub note_text : LineValue → List ℕ
 note_text line = codes "<text class=\"note\" x=\"190\" y=\"23\">" ++ escaped line.note ++ codes "</text>\n</g>\n"
 
 -- a journey at a height: a group of its label, its parts and its note
 unfoldable pub line_text : Axis → ℕ → LineValue → List ℕ
-line_text axis y line =
-    codes "<g transform=\"translate(0 " ++ decimal y ++ label_text line ++ flat_map (stretch_text axis) line.stretches ++ note_text line
+line_text axis y line = group_text y ++ label_text line ++ flat_map (stretch_text axis) line.stretches ++ note_text line
 
 -- the journeys one after another, each a group of its own
 abbrev pub AreDrawn : Axis → List LineValue → List ℕ → Type 0

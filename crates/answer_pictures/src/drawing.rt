@@ -2,7 +2,7 @@
 
 ghost use Rattle.std.specs.Prelude.{◌≡◌, ◌++◌, ℕ, List, codes, decimal, IfOk, OnOk, string_bytes};
 ghost use Rattle.std.specs.List.{flat_map};
-ghost use Rattle.answer_pictures.specs.Pictures.{AreDrawn, IsPicture, extent_text, grid_text, heading_text, label_text, line_text, mark_text, note_text, size_text, stretch_text, tick_text, told_text, view_text, way_text};
+ghost use Rattle.answer_pictures.specs.Pictures.{AreDrawn, IsPicture, extent_text, grid_text, group_text, heading_text, label_text, line_text, mark_text, note_text, size_text, stretch_text, tick_text, told_text, view_text, way_text};
 
 use crate::axis::Axis;
 use crate::lines::{JourneyLine, Stretch, Way};
@@ -158,15 +158,20 @@ fn put_stretches(out: &mut String, axis: Axis, stretches: &[Stretch]) -> Result<
     Ok(())
 }
 
+/// Begins the group of a journey, at a height.
+fn put_group(out: &mut String, y: u64) -> Result<(), AllocError>
+    ensures { OnOk result (string_bytes out.new ≡ string_bytes out.old ++ group_text y) }
+{
+    put_text(out, "<g transform=\"translate(0 ")?;
+    put_number(out, y)?;
+    put_text(out, ")\">\n")?;
+    Ok(())
+}
+
 fn put_label(out: &mut String, line: &JourneyLine) -> Result<(), AllocError>
     ensures { OnOk result (string_bytes out.new ≡ string_bytes out.old ++ label_text line.now) }
 {
-    put_element(
-        out,
-        ")\">\n<text x=\"16\" y=\"5\">",
-        &line.label,
-        "</text>\n",
-    )
+    put_element(out, "<text x=\"16\" y=\"5\">", &line.label, "</text>\n")
 }
 
 fn put_parts(out: &mut String, axis: Axis, line: &JourneyLine) -> Result<(), AllocError>
@@ -189,8 +194,7 @@ fn put_note(out: &mut String, line: &JourneyLine) -> Result<(), AllocError>
 fn put_line(out: &mut String, axis: Axis, y: u64, line: &JourneyLine) -> Result<(), AllocError>
     ensures { OnOk result (string_bytes out.new ≡ string_bytes out.old ++ line_text axis y line.now) }
 {
-    put_text(out, "<g transform=\"translate(0 ")?;
-    put_number(out, y)?;
+    put_group(out, y)?;
     put_label(out, line)?;
     put_parts(out, axis, line)?;
     put_note(out, line)?;

@@ -52,14 +52,18 @@ whole gone q h past wait is below waits =
           ap (λ n. n % h) place ∙ mod-mul-add (suc q) h 0 (omega (arith, below))
     ]
 
-module _ (row : Frequency) (from past wait start : ℕ) (some : 0 < row.headway) (passed : past ≡ (from - row.start) % row.headway)
-    (waits : wait ≡ wait_of past row.headway)
-    (starts : start ≡ max from row.start + wait) where
+-- so much has passed since a row's last start, and so much is left until its next
+pub record IsAwaited (row : Frequency) (from past wait : ℕ) : Type 0 where
+  pub some : 0 < row.headway
+  pub passed : past ≡ (from - row.start) % row.headway
+  pub waits : wait ≡ wait_of past row.headway
+
+module _ (row : Frequency) (from past wait start : ℕ) (known : IsAwaited row from past wait) (starts : start ≡ max from row.start + wait) where
   gone : from - row.start ≡ (from - row.start) / row.headway * row.headway + past
-  gone = sym (div-add-mod' (from - row.start) row.headway) ∙ ap (λ n. (from - row.start) / row.headway * row.headway + n) (sym passed)
+  gone = sym (div-add-mod' (from - row.start) row.headway) ∙ ap (λ n. (from - row.start) / row.headway * row.headway + n) (sym known.passed)
 
   below : past < row.headway
-  below = (let less = mod_below (from - row.start) row.headway some in omega (arith, passed, less))
+  below = (let passed = known.passed in let less = mod_below (from - row.start) row.headway known.some in omega (arith, passed, less))
 
   pub row_before : (s : ℕ) → from ≤ s → s < start → leaves_at s row ≡ false
   row_before s low high = elim (cases_lt s row.start) [
@@ -70,7 +74,7 @@ module _ (row : Frequency) (from past wait start : ℕ) (some : 0 < row.headway)
     | inr late ↦
         and_right (nat_lt 0 row.headway && nat_le row.start s && nat_lt s row.end) ((s - row.start) % row.headway == 0)
         (ne_eqb ((s - row.start) % row.headway) 0
-        (between (from - row.start) ((from - row.start) / row.headway) row.headway past wait (s - row.start) gone below waits (omega (arith, low, late))
+        (between (from - row.start) ((from - row.start) / row.headway) row.headway past wait (s - row.start) gone below known.waits (omega (arith, low, late))
         (omega (arith, starts, high, late))))
   ]
 
@@ -78,12 +82,12 @@ module _ (row : Frequency) (from past wait start : ℕ) (some : 0 < row.headway)
   row_next lt =
       let far : start - row.start ≡ from - row.start + wait = omega (arith, starts) in
       let at : (start - row.start) % row.headway ≡ 0 = ap (λ n. n % row.headway) far
-      ∙ whole (from - row.start) ((from - row.start) / row.headway) row.headway past wait gone below waits in
+      ∙ whole (from - row.start) ((from - row.start) / row.headway) row.headway past wait gone below known.waits in
       record {
         after = omega (arith, starts);
         is = and_from (nat_lt 0 row.headway && nat_le row.start start && nat_lt start row.end) ((start - row.start) % row.headway == 0)
             (and_from (nat_lt 0 row.headway && nat_le row.start start) (nat_lt start row.end)
-            (and_from (nat_lt 0 row.headway) (nat_le row.start start) (lt-ltb 0 row.headway some) (le-leb row.start start (omega (arith, starts))))
+            (and_from (nat_lt 0 row.headway) (nat_le row.start start) (lt-ltb 0 row.headway known.some) (le-leb row.start start (omega (arith, starts))))
             (lt-ltb start row.end lt))
             (eq-eqb ((start - row.start) % row.headway) 0 at);
         first = row_before;
@@ -106,6 +110,10 @@ row_without row from none s low =
 
 -- ---- rows
 
+-- what is next under one name is so under the other
+next_at : (r : ℕ → Bool) (from n a : ℕ) → n ≡ a → from ≤ a → r a ≡ true → ((s : ℕ) → from ≤ s → s < a → r s ≡ false) → IsNext r from n
+next_at r from n a same after is first = rw same (record { after = after; is = is; first = first })
+
 -- of two tests, the one or the other
 pub next_of_both : (p q r : ℕ → Bool) (from : ℕ) (a b : Option ℕ) → ((s : ℕ) → r s ≡ (p s || q s)) → MatchOption a (IsNever p from) (IsNext p from)
     → MatchOption b (IsNever q from) (IsNext q from)
@@ -122,22 +130,10 @@ next_of_both p q r from (Some a) None e x y = record {
   first = λ s low high. e s ∙ or_from (p s) (q s) (x.first s low high) (y s low);
 }
 next_of_both p q r from (Some a) (Some b) e x y = elim (cases_lt a b) [
-  | inl less ↦
-      let is : min a b ≡ a = omega (arith, less) in
-      rw is (record {
-        after = x.after;
-        is = e a ∙ or_left (p a) (q a) x.is;
-        first = λ s low high. e s
-            ∙ or_from (p s) (q s) (x.first s low high) (y.first s low (omega (arith, high, less)));
-      })
-  | inr more ↦
-      let is : min a b ≡ b = omega (arith, more) in
-      rw is (record {
-        after = y.after;
-        is = e b ∙ or_right (p b) (q b) y.is;
-        first = λ s low high. e s
-            ∙ or_from (p s) (q s) (x.first s low (omega (arith, high, more))) (y.first s low high);
-      })
+  | inl less ↦ next_at r from (min a b) a (omega (arith, less)) x.after (e a ∙ or_left (p a) (q a) x.is)
+      (λ s low high. e s ∙ or_from (p s) (q s) (x.first s low high) (y.first s low (omega (arith, high, less))))
+  | inr more ↦ next_at r from (min a b) b (omega (arith, more)) y.after (e b ∙ or_right (p b) (q b) y.is)
+      (λ s low high. e s ∙ or_from (p s) (q s) (x.first s low (omega (arith, high, more))) (y.first s low high))
 ]
 
 pub room_of_both : (a b : Option ℕ) (most : ℕ) → IfSome a (λ n. n < most) → IfSome b (λ n. n < most) → IfSome (earlier_of a b) (λ n. n < most)

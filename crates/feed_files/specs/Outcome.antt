@@ -1,5 +1,5 @@
 -- How the reading of files ends.
-use Rattle.std.specs.Prelude.{ℕ, ◌++◌, ◌∷◌, List, [], Result, Ok, Err}
+use Rattle.std.specs.Prelude.{ℕ, ◌++◌, ◌∷◌, List, [], length, Result, Ok, Err}
 use Rattle.gtfs_rows.specs.Told.{file_name}
 use Rattle.gtfs_rows.specs.declared.fault.Table.{Table}
 use Rattle.gtfs_rows.specs.declared.fault.TableFault.{TableFault}
@@ -11,14 +11,12 @@ abbrev pub RefusedOrFailed : (TableFault → Type 0) → (Table → Type 0) → 
 RefusedOrFailed Refused Failed (faults.Table fault) = Refused fault
 RefusedOrFailed Refused Failed (faults.FileFailed table) = Failed table
 
--- how many reads failed
-abbrev pub failed_in : {T : Type 0} → Result T ReadFault → ℕ
-failed_in (Ok t) = 0
-failed_in (Err (faults.Table fault)) = 0
-failed_in (Err (faults.FileFailed table)) = 1
-
 -- the names of the files whose reads failed: those from before, and that of the file that is told
 abbrev pub failed_by : {T : Type 0} → List (List ℕ) → Result T ReadFault → List (List ℕ)
 failed_by before (Ok t) = before
 failed_by before (Err (faults.Table fault)) = before
 failed_by before (Err (faults.FileFailed table)) = before ++ file_name table ∷ []
+
+-- how many reads failed
+abbrev pub failed_in : {T : Type 0} → Result T ReadFault → ℕ
+failed_in result = length (failed_by [] result)

@@ -1,6 +1,7 @@
 -- How what is known of the walks into a stop changes.
 use Rattle.std.proofs.Common.{◌≡◌, ◌≢◌, ℕ, ◌+◌, ◌<◌, ◌≤◌, inl, inr, false, List, [], ◌∷◌, ◌++◌, length, Option, Some, None, All, Contains, get_or, set}
 use Rattle.std.proofs.Common.{sum_by, is_none, true≢false, refl, sym, subst, ◌∙◌, arith}
+use Rattle.std.specs.BinaryHeap.{heap_items, heap_len}
 use Rattle.std.specs.List.Sorted.{IsPermutation}
 use Rattle.std.proofs.Math.ListN.{length-set}
 use Rattle.std.proofs.lemmas.Bool.{cases_eq}
@@ -12,7 +13,8 @@ use Rattle.std.proofs.lemmas.List.Sums.{sum_by-set}
 use Rattle.reasoning.proofs.ListLemmas.{contains_first, contains_rest}
 use Rattle.timetable.specs.declared.network.Footpath.{Footpath}
 use Rattle.footpaths.specs.declared.search.Found.{Found}
-use Rattle.footpaths.specs.Search.{time_at, found_at, IsWithin, IsUndercut, IsToldTime, AreWalked, AreReached, Grows, weight_of, weight}
+use Rattle.footpaths.specs.declared.search.Search.{Search}
+use Rattle.footpaths.specs.Search.{time_at, found_at, IsWithin, IsUndercut, IsToldTime, AreWalked, AreReached, Grows, TakesTime, weight_of, weight}
 
 pub Grows-trans : (a b c : List (Option ℕ)) (p q r : List Found) → Grows a p b q → Grows b q c r → Grows a p c r
 Grows-trans a b c p q r first second = record {
@@ -106,6 +108,22 @@ module _ (times : List (Option ℕ)) (pending pending' : List Found) (stop secs 
           times + secs → weight cap (set times stop (Some secs)) + 1 ≤ weight cap times
       lighter None is e = omega (arith, e, small)
       lighter (Some d) is e = let less : secs < d = undercut d is in omega (arith, e, less)
+
+-- a time that is written down and pending is taken in
+pub takes_time : (old new : Search) (stop secs : ℕ) → stop < length old.times.items
+    → IsJoinedBy (heap_items old.pending) (found_at secs stop) (heap_items new.pending) → new.times.items ≡ set old.times.items stop (Some secs)
+    → heap_len new.pending ≡ heap_len old.pending + 1 → IsUndercut old.times.items stop secs
+    → (AreReached old.times.items old.reached.items → AreReached (set old.times.items stop (Some secs)) new.reached.items)
+    → TakesTime old stop secs new
+takes_time old new stop secs inside joined now longer lower reached = record {
+  grows = rw now (Grows-set old.times.items (heap_items old.pending) (heap_items new.pending) stop secs inside joined lower);
+  within = rw now (secs, time_now old.times.items (heap_items old.pending) (heap_items new.pending) stop secs inside joined, omega arith);
+  walked = rw now (AreWalked-set old.times.items (heap_items old.pending) (heap_items new.pending) stop secs inside joined);
+  reached = rw now reached;
+  falls = λ cap small.
+      let lighter = weight-set old.times.items (heap_items old.pending) (heap_items new.pending) stop secs inside joined cap small lower in
+      rw now (omega (arith, lighter, longer));
+}
 
 -- a time that is there is known
 pub known_time : (o : Option ℕ) → is_none o ≡ false → (d : ℕ) × (o ≡ Some d)

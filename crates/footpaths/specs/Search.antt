@@ -1,9 +1,11 @@
 -- What is known while the least walks into one stop are sought.
-use Rattle.std.specs.Prelude.{◌≡◌, ℕ, ◌+◌, ◌<◌, ◌≤◌, ◌⊎◌, suc, List, length, min, Option, Some, None, Contains, All, slice_index_or, sum_by}
+use Rattle.std.specs.Prelude.{◌≡◌, ℕ, ◌+◌, ◌*◌, ◌<◌, ◌≤◌, ◌⊎◌, suc, List, length, min, Option, Some, None, Contains, All, slice_index_or, sum_by}
+use Rattle.std.specs.BinaryHeap.{heap_items, heap_len}
 use Rattle.timetable.specs.declared.network.Footpath.{Footpath}
 use Rattle.timetable.specs.Journeys.{walk_secs}
 use Rattle.footpaths.specs.Walks.{IsWalkBetween}
 use Rattle.footpaths.specs.declared.search.Found.{Found}
+use Rattle.footpaths.specs.declared.search.Search.{Search}
 
 -- the time that a table has for a stop
 abbrev pub time_at : List (Option ℕ) → ℕ → Option ℕ
@@ -70,6 +72,16 @@ weight_of cap (Some secs) = secs
 
 abbrev pub weight : ℕ → List (Option ℕ) → ℕ
 weight cap times = sum_by (weight_of cap) times
+
+-- that a walk from a stop takes so many seconds is taken in: the table has that time or a lesser one, and what was known stays so
+pub record TakesTime (old : Search) (stop secs : ℕ) (new : Search) : Type 0 where
+  pub grows : Grows old.times.items (heap_items old.pending) new.times.items (heap_items new.pending)
+  pub within : IsWithin new.times.items stop secs
+  pub walked : (listed : List Footpath) (cap target : ℕ) → IsToldTime listed cap stop target secs → AreWalked listed cap target old.times.items
+      → AreWalked listed cap target new.times.items
+  pub reached : AreReached old.times.items old.reached.items → AreReached new.times.items new.reached.items
+  pub falls : (cap : ℕ) → secs ≤ cap
+      → 2 * weight cap new.times.items + heap_len new.pending ≤ 2 * weight cap old.times.items + heap_len old.pending
 
 -- the table tells the least time of a walk from each stop to the target
 abbrev pub IsToldLeast : List Footpath → ℕ → ℕ → ℕ → Option ℕ → Type 0

@@ -22,18 +22,18 @@ pub enum FootFault {
 
 impl FootFault {
     ghost use Rattle.std.specs.Prelude.{codes};
-    ghost use Rattle.footpaths.specs.FaultNumber.{fault_number, fault_name};
+    ghost use Rattle.footpaths.specs.FaultNumber.{fault_told};
 
     /// The number by which the fault is told, from 41 to 43.
     pub fn number(self) -> u8
-        ensures { result ≡ fault_number self }
+        ensures { result ≡ (fault_told self).0 }
     {
         self as u8
     }
 
     /// The name by which the fault is told.
     pub fn name(self) -> &'static str
-        ensures { result.now ≡ fault_name self }
+        ensures { result.now ≡ (fault_told self).1 }
     {
         variant_name!(self, FootFault: WalkTooLong, TooManyFootpaths, OutOfMemory)
     }

@@ -5,7 +5,7 @@ ghost use Rattle.std.specs.BinaryHeap.{heap_items, heap_len};
 ghost use Rattle.std.specs.List.Sorted.{IsNonDecreasing};
 ghost use Rattle.timetable.specs.declared.network.Footpath.{Footpath};
 ghost use Rattle.footpaths.specs.Index.{IsIndex, IsOver};
-ghost use Rattle.footpaths.specs.Search.{time_at, IsWithin, IsUndercut, IsToldTime, IsBackFrom, AreWalked, AreReached, ArePendingInside, Grows, IsFollowed};
+ghost use Rattle.footpaths.specs.Search.{time_at, IsWithin, IsUndercut, IsBackFrom, TakesTime, AreWalked, AreReached, ArePendingInside, Grows, IsFollowed};
 ghost use Rattle.footpaths.specs.Search.{AreFollowed, ArePendingOrFollowed, weight, AreToldLeast};
 
 use crate::index::Index;
@@ -63,13 +63,7 @@ impl Search {
     #[inline(always)]
     fn offer(&mut self, stop: u32, secs: u32) -> Result<(), AllocError>
         requires in_table { stop < length self.old.times.items }
-        ensures grows { OnOk result (Grows self.old.times.items (heap_items self.old.pending) self.new.times.items (heap_items self.new.pending)) }
-        ensures within { OnOk result (IsWithin self.new.times.items stop secs) }
-        ensures walked { (listed : _) (cap target : ℕ) → IsToldTime listed cap stop target secs → AreWalked listed cap target self.old.times.items
-            → OnOk result (AreWalked listed cap target self.new.times.items) }
-        ensures reached { AreReached self.old.times.items self.old.reached.items → OnOk result (AreReached self.new.times.items self.new.reached.items) }
-        ensures falls { (cap : ℕ) → secs ≤ cap → OnOk result
-            (2 * weight cap self.new.times.items + heap_len self.new.pending ≤ 2 * weight cap self.old.times.items + heap_len self.old.pending) }
+        ensures { OnOk result (TakesTime self.old stop secs self.new) }
     {
         let known = self.times[stop as usize];
         if is_lower(known, secs) {
@@ -84,13 +78,7 @@ impl Search {
         requires in_table { stop < length self.old.times.items }
         requires lower { IsUndercut self.old.times.items stop secs }
         requires new { is_new ≡ is_none (time_at self.old.times.items stop) }
-        ensures grows { OnOk result (Grows self.old.times.items (heap_items self.old.pending) self.new.times.items (heap_items self.new.pending)) }
-        ensures within { OnOk result (IsWithin self.new.times.items stop secs) }
-        ensures walked { (listed : _) (cap target : ℕ) → IsToldTime listed cap stop target secs → AreWalked listed cap target self.old.times.items
-            → OnOk result (AreWalked listed cap target self.new.times.items) }
-        ensures reached { AreReached self.old.times.items self.old.reached.items → OnOk result (AreReached self.new.times.items self.new.reached.items) }
-        ensures falls { (cap : ℕ) → secs ≤ cap → OnOk result
-            (2 * weight cap self.new.times.items + heap_len self.new.pending ≤ 2 * weight cap self.old.times.items + heap_len self.old.pending) }
+        ensures { OnOk result (TakesTime self.old stop secs self.new) }
     {
         self.times[stop as usize] = Some(secs);
         self.pending.push(Found {

@@ -1,9 +1,12 @@
 -- Two small timetables with their names, and words of the second, in each layout.
-use Rattle.std.specs.Prelude.{ℕ, List, [], ◌∷◌, ◌++◌, true, false, pos, negsuc, codes}
+use Rattle.std.specs.Prelude.{◌≡◌, ℕ, List, [], ◌∷◌, ◌++◌, true, false, pos, negsuc, codes}
 use Rattle.timetable.specs.TimetableValue.{TimetableValue}
 use Rattle.timetable.specs.declared.network.Connection.{Connection}
 use Rattle.timetable.specs.declared.network.Footpath.{Footpath}
 use Rattle.timetable.specs.NamesValue.{NamesValue}
+use Rattle.image_layout.specs.Fields.{layout_of}
+use Rattle.image_layout.specs.Image.{IsImage}
+use Rattle.image_layout.specs.Shown.{names_of, timetable_of}
 
 -- a connection where all may board and alight
 abbrev open_connection : ℕ → ℕ → ℕ → ℕ → ℕ → Connection
@@ -29,6 +32,13 @@ sample_names = record {
   stops = codes "A" ∷ codes "B" ∷ codes "C" ∷ [];
   trips = record { name = codes "T1"; day = 20240115; repeat = 0 } ∷ record { name = codes "T2"; day = 20240115; repeat = 0 } ∷ [];
 }
+
+-- the words are their image in this layout, and show them
+pub record IsSampleIn (number : ℕ) (words : List ℕ) : Type 0 where
+  pub image : IsImage words sample_timetable sample_names
+  pub layout : layout_of words ≡ number
+  pub timetable : timetable_of words ≡ sample_timetable
+  pub names : names_of words ≡ sample_names
 
 -- connections for boarding alone, for alighting alone and for both, and walks between the two stops
 abbrev pub early_timetable : TimetableValue

@@ -1,5 +1,5 @@
 -- A number of a trip that was written is a word.
-use Rattle.std.proofs.Common.{◌≡◌, ℕ, zero, suc, ◌+◌, ◌<◌, ◌^◌, List, [], ◌∷◌, ◌++◌, length, get_or, map, ap, ◌∙◌, arith}
+use Rattle.std.proofs.Common.{◌≡◌, ℕ, zero, suc, ◌+◌, ◌<◌, ◌^◌, List, [], ◌∷◌, ◌++◌, length, get_or, map, ap, subst, ◌∙◌, arith}
 use Rattle.std.specs.Prelude.{slice_index}
 use Rattle.std.proofs.lemmas.List.{get_or-append-add}
 use Rattle.std.proofs.lemmas.Option.{same_Some}
@@ -17,3 +17,12 @@ numbers_fit number front trips words is fit i trip at =
     let here : get_or words (length front + i) 0 ≡ number trip =
     ap (λ (ws : List ℕ). get_or ws (length front + i) 0) is ∙ get_or-append-add front (map number trips) i 0 ∙ number_at number trips i trip at in
     omega (arith, here, fit (length front + i))
+
+-- what fits fits in front
+those_in_front : (front rest : List ℕ) → ((i : ℕ) → slice_index (front ++ rest) i < 2 ^ 32) → (i : ℕ) → slice_index front i < 2 ^ 32
+those_in_front [] rest fit i = omega arith
+those_in_front (w ∷ front) rest fit zero = fit zero
+those_in_front (w ∷ front) rest fit (suc i) = those_in_front front rest (λ k. fit (suc k)) i
+
+pub front_fits : (front rest words : List ℕ) → words ≡ front ++ rest → ((i : ℕ) → slice_index words i < 2 ^ 32) → (i : ℕ) → slice_index front i < 2 ^ 32
+front_fits front rest words is fit = those_in_front front rest (subst (λ (ws : List ℕ). (i : ℕ) → slice_index ws i < 2 ^ 32) is fit)

@@ -9,7 +9,7 @@ ghost use Rattle.image_layout.specs.Image.{IsImage};
 ghost use Rattle.image_writer.specs.Writable.{IsWritable};
 ghost use Rattle.image_writer.specs.Header.{counts_of};
 
-use crate::names::{text_len, write_days, write_name_index, write_repeats};
+use crate::names::{text_len, write_days_and_repeats, write_name_index};
 use crate::network::{write_connections, write_foot_index, write_footpaths};
 use crate::text::write_text;
 use image_layout::Header;
@@ -34,8 +34,7 @@ pub fn write(alloc: Global, timetable: &Timetable, names: &Names) -> Result<Vec<
     write_foot_index(&mut words, timetable.stops, &timetable.footpaths)?;
     write_footpaths(&mut words, &timetable.footpaths)?;
     write_name_index(&mut words, names)?;
-    write_days(&mut words, &names.trips)?;
-    write_repeats(&mut words, &names.trips)?;
+    write_days_and_repeats(&mut words, &names.trips)?;
     write_text(&mut words, names)?;
     Ok(words)
 }

@@ -1,7 +1,7 @@
 //! What can be wrong with a zone or with a day.
 
 ghost use Rattle.std.specs.Prelude.{◌≡◌};
-ghost use Rattle.service_days.specs.Faults.{name_of, number_of};
+ghost use Rattle.service_days.specs.Faults.{fault_told};
 
 use reasoning::variant_name;
 use thiserror::Error;
@@ -20,14 +20,14 @@ pub enum DayFault {
 impl DayFault {
     /// The number by which refusals are told.
     pub fn number(self) -> u8
-        ensures { result ≡ number_of self }
+        ensures { result ≡ (fault_told self).0 }
     {
         self as u8
     }
 
     /// The name by which refusals are told, as `BadZone`.
     pub fn name(self) -> &'static str
-        ensures { result.now ≡ name_of self }
+        ensures { result.now ≡ (fault_told self).1 }
     {
         variant_name!(self, DayFault: BadZone, DayOutOfRange, OutOfMemory)
     }

@@ -1,9 +1,11 @@
 //! On which days a service runs: its weekly calendar within its dates, and the days that are added and taken out.
 
-ghost use Rattle.std.specs.Prelude.{◌≡◌, ◌<◌, ℕ, List, [], IfOk};
+ghost use Rattle.std.specs.Prelude.{◌≡◌, ◌<◌, ◌++◌, ◌∷◌, if◌then◌else◌, ℕ, List, [], IfOk, OnOk};
 ghost use Rattle.std.specs.List.{list_any};
 ghost use Rattle.std.specs.Option.{option_map_or};
 ghost use Rattle.std.specs.HashMap.{get_by_text};
+ghost use Rattle.std.specs.Str.{bytes_eq};
+ghost use Rattle.std.specs.String.{string_bytes};
 ghost use Rattle.gtfs_rows.specs.declared.rows.CalendarRow.{CalendarRow};
 ghost use Rattle.gtfs_rows.specs.declared.rows.CalendarDateRow.{CalendarDateRow};
 ghost use Rattle.service_days.specs.Services.{HoldsServices, adds, exceptions_in, is_active, is_not_after, is_same_day, removes, runs_in, weeks_in};
@@ -57,6 +59,20 @@ impl Services {
     }
 }
 
+// Adds what is said of a service.
+fn add<T: Drop>(
+    alloc: Global,
+    held: &mut IndexMap<String, Vec<T>, IdHash>,
+    service: String,
+    said: T,
+) -> Result<(), AllocError>
+    ensures { OnOk result ((q : List ℕ) → option_map_or (λ group. group.items) (get_by_text held.new q) []
+        ≡ option_map_or (λ group. group.items) (get_by_text held.old q) [] ++ (if bytes_eq q (string_bytes service) then said ∷ [] else [])) }
+{
+    held.entry(service)?.or_insert(Vec::new(alloc)).push(said)?;
+    Ok(())
+}
+
 fn weeks_of(
     alloc: Global,
     hash: IdHash,
@@ -71,10 +87,7 @@ fn weeks_of(
             start: row.start,
             end: row.end,
         };
-        weeks
-            .entry(row.service.clone()?)?
-            .or_insert(Vec::new(alloc))
-            .push(week)?;
+        add(alloc, &mut weeks, row.service.clone()?, week)?;
     }
     Ok(weeks)
 }
@@ -93,10 +106,7 @@ fn exceptions_of(
             day: row.day,
             exception: row.exception,
         };
-        exceptions
-            .entry(row.service.clone()?)?
-            .or_insert(Vec::new(alloc))
-            .push(exception)?;
+        add(alloc, &mut exceptions, row.service.clone()?, exception)?;
     }
     Ok(exceptions)
 }

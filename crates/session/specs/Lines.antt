@@ -2,7 +2,7 @@
 use Rattle.std.specs.Prelude.{◌<◌, ◌≤◌, ℕ, List, length, string_bytes}
 use Rattle.serde_json.specs.Data.{Data}
 use Rattle.timetable.specs.declared.query.QueryFault.{QueryFault}
-use Rattle.timetable.specs.Queries.{fault_name, fault_number}
+use Rattle.timetable.specs.Queries.{fault_told}
 use Rattle.epochs.specs.declared.faults.PinFault.{PinFault}
 use Rattle.epochs.specs.FaultNumber.{pin_fault_name, pin_fault_number}
 use Rattle.orders.specs.declared.fault.OrderFault.{OrderFault}
@@ -42,7 +42,7 @@ pin_fault_line PinFault.SeatLost = error_line (pin_fault_number PinFault.SeatLos
 pin_fault_line PinFault.OutOfMemory = memory_line
 
 abbrev pub query_fault_line : QueryFault → List ℕ
-query_fault_line fault = error_line (fault_number fault) (fault_name fault)
+query_fault_line fault = error_line (fault_told fault).0 (fault_told fault).1
 
 abbrev pub order_fault_line : OrderFault → List ℕ
 order_fault_line (OrderFault.LoadRefused refusal) = load_refused_text refusal

@@ -24,13 +24,8 @@ IsFirstFault stops q UnknownStop = (stops ≤ q.source) ⊎ (stops ≤ q.target)
 IsFirstFault stops q SameStop = (q.source < stops) × (q.target < stops) × (q.source ≡ q.target)
 IsFirstFault stops q BadWindow = (q.source < stops) × (q.target < stops) × (q.source ≢ q.target) × HasBadWindow q
 
--- the numbers and names by which faults are told
-abbrev pub fault_number : QueryFault → ℕ
-fault_number UnknownStop = 31
-fault_number SameStop = 32
-fault_number BadWindow = 33
-
-abbrev pub fault_name : QueryFault → List ℕ
-fault_name UnknownStop = codes "UnknownStop"
-fault_name SameStop = codes "SameStop"
-fault_name BadWindow = codes "BadWindow"
+-- the number and the name by which a fault is told
+abbrev pub fault_told : QueryFault → ℕ × List ℕ
+fault_told UnknownStop = (31, codes "UnknownStop")
+fault_told SameStop = (32, codes "SameStop")
+fault_told BadWindow = (33, codes "BadWindow")

@@ -33,18 +33,18 @@ pub enum QueryFault {
 
 impl QueryFault {
     ghost use Rattle.std.specs.Prelude.{◌≡◌};
-    ghost use Rattle.timetable.specs.Queries.{fault_number, fault_name};
+    ghost use Rattle.timetable.specs.Queries.{fault_told};
 
     /// The number by which the fault is told, from 31 to 33.
     pub fn number(self) -> u8
-        ensures { result ≡ fault_number self }
+        ensures { result ≡ (fault_told self).0 }
     {
         self as u8
     }
 
     /// The name by which the fault is told, as `UnknownStop`.
     pub fn name(self) -> &'static str
-        ensures { result.now ≡ fault_name self }
+        ensures { result.now ≡ (fault_told self).1 }
     {
         variant_name!(self, QueryFault: UnknownStop, SameStop, BadWindow)
     }

@@ -10,17 +10,29 @@ use std::alloc::AllocError;
 use std::test::*;
 use timetable::Connection;
 
+// The words of a small image in a layout, with what it has of repeats before the text.
+macro_rules! words_in {
+    ($layout:literal $(, $repeat:literal)*) => {
+        [
+            0x50415343, $layout, 2, 2, 3, 4, 9, 4294880896, 4294967295,
+            0, 1, 10, 20, 1, 1, 1, 0, 30, 50, 1, 2, 1, 0, 40, 60, 0, 3,
+            0, 2, 4,
+            0, 120, 1, 300, 0, 240, 1, 90,
+            0, 0, 4, 6, 9,
+            19691231, 19700101,
+            $($repeat,)*
+            0x74726f50, 0x42413231, 0x43,
+        ]
+    };
+}
+
 /// An image of two stops: its connections are flagged 1, 2 and 3, its base is before 1970, and one of its names is empty.
 fn early_words() -> [u32; 48]
     ensures whole { IsWhole result }
     ensures counts { header_of result ≡ record { layout = 1; stops = 2; trips = 2; connections = 3; footpaths = 4; name_bytes = 9 } }
     ensures port { length (name_of result 1) ≡ 4 }
 {
-    [
-        0x50415343, 1, 2, 2, 3, 4, 9, 4294880896, 4294967295, 0, 1, 10, 20, 1, 1, 1, 0, 30, 50, 1,
-        2, 1, 0, 40, 60, 0, 3, 0, 2, 4, 0, 120, 1, 300, 0, 240, 1, 90, 0, 0, 4, 6, 9, 19691231,
-        19700101, 0x74726f50, 0x42413231, 0x43,
-    ]
+    words_in!(1)
 }
 
 /// The same in the layout that is written, with repeats 5 and 0.
@@ -29,11 +41,7 @@ fn repeated_words() -> [u32; 50]
     ensures counts { header_of result ≡ record { layout = 2; stops = 2; trips = 2; connections = 3; footpaths = 4; name_bytes = 9 } }
     ensures port { length (name_of result 1) ≡ 4 }
 {
-    [
-        0x50415343, 2, 2, 2, 3, 4, 9, 4294880896, 4294967295, 0, 1, 10, 20, 1, 1, 1, 0, 30, 50, 1,
-        2, 1, 0, 40, 60, 0, 3, 0, 2, 4, 0, 120, 1, 300, 0, 240, 1, 90, 0, 0, 4, 6, 9, 19691231,
-        19700101, 5, 0, 0x74726f50, 0x42413231, 0x43,
-    ]
+    words_in!(2, 5, 0)
 }
 
 /// Its connections.

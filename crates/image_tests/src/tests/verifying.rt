@@ -102,21 +102,17 @@ fn first_departures_are_found(rt: HostRuntime) -> Result<(), Fail> {
 }
 
 fn assert_footpaths<R: Abort>(rt: &R, image: &Verified) {
-    let paths = [
-        (0, 0, 60),
-        (1, 0, 45),
-        (0, 1, 30),
-        (1, 1, 0),
-        (2, 2, 20),
-        (3, 3, 15),
-    ];
+    let froms = [0, 1, 0, 1, 2, 3];
+    let targets = [0, 0, 1, 1, 2, 3];
+    let times = [60, 45, 30, 0, 20, 15];
     assert!(rt; image.footpath_count() == 6);
     for place in 0..6 {
-        let (from, to, secs) = paths[place];
-        assert!(rt;
-            image.footpath(place) == Footpath { from, to, secs },
-            "place {place}"
-        );
+        let wanted = Footpath {
+            from: froms[place],
+            to: targets[place],
+            secs: times[place],
+        };
+        assert!(rt; image.footpath(place) == wanted, "place {place}");
     }
 }
 

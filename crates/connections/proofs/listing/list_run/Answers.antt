@@ -4,7 +4,7 @@ use Rattle.gtfs_tables.specs.Joined.{rows_of}
 use Rattle.service_days.specs.Zones.{IsDayStart}
 use Rattle.service_days.specs.declared.zone.Zone.{Zone}
 use Rattle.connections.specs.Building.{AreRunRows}
-use Rattle.connections.specs.Hops.{HaveClocks, zero_of}
+use Rattle.connections.specs.Hops.{AreInside, HasOutside, HaveClocks, LackClocks, zero_of}
 use Rattle.connections.specs.Times.{departs}
 use Rattle.connections.specs.declared.hops.RunClock.{RunClock}
 use Rattle.connections.specs.declared.times.RowTimes.{RowTimes}
@@ -30,6 +30,16 @@ are_its_rows c zone starts =
     ∙ first_departs c.args.feed.now c.args.run.now c.rows_of-rows.result.now c.deref-2.result.now c.index.result.now (is_ready c) in
     run_rows c.args.feed.now zone c.args.run.now (clock_of c) c.rows_of-rows.result.now c.deref-2.result.now (is_ready c) starts refl own
 
+are_all_inside : (c : goal.After-are_inside) → HaveClocks c.args.day.base (zero_of (clock_of c)) c.args.run.now.start c.deref-2.result.now
+    → AreInside c.args.day.base (zero_of (clock_of c)) c.args.run.now.start c.rows_of-rows.result.now
+are_all_inside c = all_inside c.args.feed.now c.args.run.now c.args.day.base (zero_of (clock_of c)) c.args.run.now.start c.rows_of-rows.result.now
+    c.deref-2.result.now (is_ready c)
+
+are_some_outside : (c : goal.After-are_inside) → LackClocks c.args.day.base (zero_of (clock_of c)) c.args.run.now.start c.deref-2.result.now
+    → HasOutside c.args.day.base (zero_of (clock_of c)) c.args.run.now.start c.rows_of-rows.result.now
+are_some_outside c = some_outside c.args.feed.now c.args.run.now c.args.day.base (zero_of (clock_of c)) c.args.run.now.start c.rows_of-rows.result.now
+    c.deref-2.result.now (is_ready c)
+
 pub returns-then-not-are_inside-clause-err : goal.returns-then-not-are_inside-clause-err
 returns-then-not-are_inside-clause-err c zone starts =
     let known = (goal.at.returns-then-not-are_inside-clause-err c).After-are_inside in
@@ -39,8 +49,7 @@ returns-then-not-are_inside-clause-err c zone starts =
         start = zero_of (clock_of known);
         rows = c.rows_of-rows.result.now;
         rows_are = are_its_rows known zone starts;
-        outside = some_outside c.args.feed.now c.args.run.now c.args.day.base (zero_of (clock_of known)) c.args.run.now.start c.rows_of-rows.result.now
-            c.deref-2.result.now (is_ready known) c.if-not-are_inside.ensures;
+        outside = are_some_outside known c.if-not-are_inside.ensures;
       },
     )
 
@@ -74,7 +83,6 @@ returns-in-Ok-clause-ok c zone starts =
       start = zero_of (clock_of known);
       rows = c.rows_of-rows.result.now;
       rows_are = are_its_rows known zone starts;
-      inside = all_inside c.args.feed.now c.args.run.now c.args.day.base (zero_of (clock_of known)) c.args.run.now.start c.rows_of-rows.result.now
-          c.deref-2.result.now (is_ready known) c.if-not-are_inside.ensures;
+      inside = are_all_inside known c.if-not-are_inside.ensures;
       adds = c.in-Ok.ensures;
     }

@@ -4,10 +4,11 @@ use Rattle.image_layout.specs.Shown.{connections_of, footpaths_of}
 use Rattle.image_layout.proofs.SampleImage.{sample_has_image}
 use Rattle.image_layout.proofs.sample.second_sample_words.Goals as goal
 
-pub returns-clause-image : goal.returns-clause-image
-unfolding image_in text_words
-returns-clause-image c = record { can_be = sample_has_image; layout = refl; first = λ same. absurd (omega (arith, same)); spelled = refl }
-
-pub returns-clause-timetable : goal.returns-clause-timetable
-unfolding connections_of footpaths_of
-returns-clause-timetable c = refl
+pub returns : goal.returns
+unfolding image_in text_words connections_of footpaths_of
+returns c = record {
+  image = record { can_be = sample_has_image; layout = refl; first = λ same. absurd (omega (arith, same)); spelled = refl };
+  layout = refl;
+  timetable = refl;
+  names = refl;
+}

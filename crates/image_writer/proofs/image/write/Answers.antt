@@ -1,4 +1,4 @@
-use Rattle.std.proofs.Common.{◌≡◌, ℕ, ◌+◌, List, ◌++◌, map, ap, ◌∙◌}
+use Rattle.std.proofs.Common.{◌≡◌, ℕ, ◌+◌, List, ◌++◌, map, refl, ap, ◌∙◌}
 use Rattle.std.specs.List.{flat_map, range_with_len}
 use Rattle.timetable.specs.declared.network.Connection.{Connection}
 use Rattle.timetable.specs.declared.network.Footpath.{Footpath}
@@ -6,33 +6,39 @@ use Rattle.timetable.specs.TimetableValue.{TimetableValue}
 use Rattle.timetable.specs.NamesValue.{NamesValue, TripNameValue}
 use Rattle.image_layout.specs.Spelling.{connection_words, footpath_words, footpath_count_below, image}
 use Rattle.image_layout.specs.Image.{NamesFit}
-use Rattle.image_writer.proofs.Fits.{numbers_fit}
+use Rattle.image_writer.proofs.Fits.{front_fits, numbers_fit}
 use Rattle.image_writer.proofs.Sections.{sections_are_image, is_image, names_the_layout}
 use Rattle.image_writer.proofs.image.write.Goals as goal
 
-days : (c : goal.In_ok-write_text) → c.write_days.new.words.items ≡ c.write_name_index.new.words.items ++ map (λ (trip : TripNameValue). trip.day) c.args.names.now.trips
-days c =
-    let trips : c.deref-4.result.now ≡ c.args.names.now.trips = c.deref-4.ensures.value ∙ ap (λ (v : NamesValue). v.trips) c.names.view_is in
-    c.in_ok-write_days.ensures.written ∙ ap (λ (ts : List TripNameValue). c.write_name_index.new.words.items ++ map (λ (trip : TripNameValue). trip.day) ts) trips
+-- the words behind the days
+with_days : (c : goal.In_ok-write_text) → List ℕ
+with_days c = c.write_name_index.new.words.items ++ map (λ (trip : TripNameValue). trip.day) c.args.names.now.trips
 
-repeats : (c : goal.In_ok-write_text) → c.write_repeats.new.words.items ≡ c.write_days.new.words.items ++ map (λ (trip : TripNameValue). trip.repeat) c.args.names.now.trips
-repeats c =
-    let trips : c.deref-5.result.now ≡ c.args.names.now.trips = c.deref-5.ensures.value ∙ ap (λ (v : NamesValue). v.trips) c.names.view_is in
-    c.in_ok-write_repeats.ensures.written ∙ ap (λ (ts : List TripNameValue). c.write_days.new.words.items ++ map (λ (trip : TripNameValue). trip.repeat) ts) trips
+written : (c : goal.In_ok-write_text)
+    → c.write_days_and_repeats.new.words.items ≡ with_days c ++ map (λ (trip : TripNameValue). trip.repeat) c.args.names.now.trips
+unfolding with_days
+written c =
+    let front = c.write_name_index.new.words.items in
+    let trips : c.deref-4.result.now ≡ c.args.names.now.trips = c.deref-4.ensures.value ∙ ap (λ (v : NamesValue). v.trips) c.names.view_is in
+    c.in_ok-write_days_and_repeats.ensures.written
+    ∙ ap (λ (ts : List TripNameValue). (front ++ map (λ (trip : TripNameValue). trip.day) ts) ++ map (λ (trip : TripNameValue). trip.repeat) ts) trips
 
 names_fit : (c : goal.In_ok-write_text) → NamesFit c.args.timetable.now c.args.names.now
+unfolding with_days
 names_fit c = record {
   stop_names = c.requires.stop_names;
   trip_names = c.requires.trip_names;
   utf8 = c.in_ok-write_text.ensures.utf8;
   bytes = c.requires.bytes;
-  days = numbers_fit (λ (trip : TripNameValue). trip.day) c.write_name_index.new.words.items c.args.names.now.trips _ (days c) c.in_ok-write_days.ensures.fits;
-  repeats = numbers_fit (λ (trip : TripNameValue). trip.repeat) c.write_days.new.words.items c.args.names.now.trips _ (repeats c) c.in_ok-write_repeats.ensures.fits;
+  days = numbers_fit (λ (trip : TripNameValue). trip.day) c.write_name_index.new.words.items c.args.names.now.trips (with_days c) refl
+      (front_fits (with_days c) _ _ (written c) c.in_ok-write_days_and_repeats.ensures.fits);
+  repeats = numbers_fit (λ (trip : TripNameValue). trip.repeat) (with_days c) c.args.names.now.trips _ (written c) c.in_ok-write_days_and_repeats.ensures.fits;
   base = c.write_header.ensures.fits;
 }
 
 -- what was written is spelled
 spelled : (c : goal.In_ok-write_text) → c.write_text.new.words.items ≡ image c.args.timetable.now c.args.names.now
+unfolding with_days
 spelled c =
     let t = c.args.timetable.now in
     let n = c.args.names.now in
@@ -52,8 +58,8 @@ spelled c =
     ∙ ap (λ (count : ℕ). w2 ++ map (footpath_count_below t.footpaths) (range_with_len 0 (count + 1))) stops)
     (c.in_ok-write_footpaths.ensures ∙ ap (λ (fs : List Footpath). w3 ++ flat_map footpath_words fs) footpaths)
     c.in_ok-write_name_index.ensures
-    (days c)
-    (repeats c)
+    refl
+    (written c)
     c.in_ok-write_text.ensures.written
 
 pub returns-clause-image : goal.returns-clause-image
