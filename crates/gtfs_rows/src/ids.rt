@@ -1,9 +1,9 @@
 //! Sets of ids, in the order in which they were first seen.
 
-ghost use Rattle.std.specs.Prelude.{◌≡◌, ◌≢◌, ◌++◌, ◌∷◌, [], map, option_map, true, false, IfErr, IfOk, IfSome, IsUtf8, OnOk};
+ghost use Rattle.std.specs.Prelude.{◌≡◌, ◌≢◌, ◌++◌, ◌∷◌, [], map, true, false, IfErr, IfOk, IfSome, IsUtf8, OnOk};
 ghost use Rattle.std.specs.String.{string_bytes};
-ghost use Rattle.std.specs.Option.{option_to_list};
-ghost use Rattle.gtfs_rows.specs.Faults.{is_among};
+ghost use Rattle.std.specs.List.{list_any};
+ghost use Rattle.std.specs.Str.{bytes_eq};
 ghost use Rattle.gtfs_rows.specs.Ids.{seen_also};
 ghost use Rattle.gtfs_rows.specs.Rows.{StandsAt};
 
@@ -12,19 +12,13 @@ use crate::id_hash::IdHash;
 use indexmap::IndexSet;
 use std::alloc::Global;
 
-// Adds a key, if there is one, that isn't there yet.
-pub(crate) fn add_key(
-    keys: &mut IndexSet<String, IdHash>,
-    key: Option<String>,
-) -> Result<(), FaultKind>
-    ensures new { OnOk result (is_among (option_map string_bytes key) (map string_bytes keys.old.keys) ≡ false) }
-    ensures last { OnOk result (map string_bytes keys.new.keys ≡ map string_bytes keys.old.keys ++ option_to_list (option_map string_bytes key)) }
+// Adds a key that isn't there yet.
+pub(crate) fn add_key(keys: &mut IndexSet<String, IdHash>, key: String) -> Result<(), FaultKind>
+    ensures new { OnOk result (list_any (bytes_eq (string_bytes key)) (map string_bytes keys.old.keys) ≡ false) }
+    ensures last { OnOk result (map string_bytes keys.new.keys ≡ map string_bytes keys.old.keys ++ string_bytes key ∷ []) }
     ensures err { IfErr result (λ kind. kind ≢ FaultKind.OutOfMemory
-        → (kind ≡ FaultKind.IdTwice) × (is_among (option_map string_bytes key) (map string_bytes keys.old.keys) ≡ true)) }
+        → (kind ≡ FaultKind.IdTwice) × (list_any (bytes_eq (string_bytes key)) (map string_bytes keys.old.keys) ≡ true)) }
 {
-    let Some(key) = key else {
-        return Ok(());
-    };
     let Ok((_, added)) = keys.insert_full(key) else {
         return Err(FaultKind::OutOfMemory);
     };
