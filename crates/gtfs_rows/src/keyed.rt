@@ -15,7 +15,7 @@ use crate::cells::Cells;
 use crate::columns::Key;
 use crate::fault::{FaultKind, Table, TableFault};
 use crate::id_hash::IdHash;
-use crate::ids::add_key;
+use crate::ids::{Ids, add_key};
 use crate::reader::{TableRows, add_row, read_table};
 use crate::table_file::TableFile;
 use indexmap::IndexSet;
@@ -39,12 +39,7 @@ pub trait Row: Sized + Drop {
 }
 
 // Keeps what a record has of the columns of the key, or tells what is wrong with it beside the records before it.
-fn keep(
-    alloc: Global,
-    kept: &mut IndexSet<String, IdHash>,
-    key: Key,
-    cells: &Cells,
-) -> Result<(), FaultKind>
+fn keep(alloc: Global, kept: &mut Ids, key: Key, cells: &Cells) -> Result<(), FaultKind>
     requires { AllText (fields_of cells.now.fields.now) }
     ensures ok { (before : List Record) → AreKept key cells.now.places.now before kept.old.keys → OnOk result
         ((key_fault key cells.now.places.now before (fields_of cells.now.fields.now) ≡ None) × AreKept key cells.now.places.now (before ++ fields_of cells.now.fields.now ∷ []) kept.new.keys) }
@@ -65,17 +60,12 @@ fn keep(
                 Err(_) => Err(FaultKind::OutOfMemory),
             }
         }
-        Key::Shared(column) => keep_shared(alloc, kept, column, cells),
+        Key::Shared(column) => share(alloc, kept, column, cells),
     }
 }
 
 // Keeps the first record's text in a column, which the others share.
-fn keep_shared(
-    alloc: Global,
-    kept: &mut IndexSet<String, IdHash>,
-    column: usize,
-    cells: &Cells,
-) -> Result<(), FaultKind>
+fn share(alloc: Global, kept: &mut Ids, column: usize, cells: &Cells) -> Result<(), FaultKind>
     requires { AllText (fields_of cells.now.fields.now) }
     ensures ok { (before : List Record) → AreKept (keys.Shared column) cells.now.places.now before kept.old.keys → OnOk result
         ((key_fault (keys.Shared column) cells.now.places.now before (fields_of cells.now.fields.now) ≡ None) × AreKept (keys.Shared column) cells.now.places.now (before ++ fields_of cells.now.fields.now ∷ []) kept.new.keys) }
@@ -97,7 +87,7 @@ fn keep_shared(
 #[derive(Drop)]
 pub(crate) struct Keyed<R> {
     pub(crate) rows: Vec<R>,
-    pub(crate) kept: IndexSet<String, IdHash>,
+    pub(crate) kept: Ids,
 }
 
 impl<R: Row> Keyed<R> {

@@ -14,7 +14,7 @@ ghost use Rattle.gtfs_rows.specs.declared.fault.Table.TheVariants as files;
 use crate::cells::Cells;
 use crate::fault::{FaultKind, Table, TableFault};
 use crate::id_hash::IdHash;
-use crate::ids::place_of;
+use crate::ids::{Ids, place_of};
 use crate::reader::{TableRows, add_row, read_table};
 use crate::rows::StopTimeRow;
 use crate::table_file::TableFile;
@@ -68,7 +68,7 @@ fn available(text: &[u8]) -> bool
 // The place of a stop_id among the ids, unless it is blank. It is first sought at a place where it is likely.
 fn stop_place(
     alloc: Global,
-    stops: &mut IndexSet<String, IdHash>,
+    stops: &mut Ids,
     likely: Option<u32>,
     id: &[u8],
 ) -> Result<Option<u32>, FaultKind>
