@@ -24,7 +24,7 @@ keys_more key [] r = by (key r)
     by (Some x) = refl
 keys_more key (b ∷ bs) r = rw (keys_more key bs r) (sym (append_assoc (option_to_list (key b)) (keys_of key bs) (option_to_list (key r))))
 
--- a key that no earlier record has, and one that an earlier record has
+-- a key that no earlier record has
 pub key_new : (key : Record → Option (List ℕ)) (text : List ℕ) (before : List Record) (r : Record) (old new : List (String Global))
     → key r ≡ Some text → map string_bytes old ≡ keys_of key before → list_any (bytes_eq text) (map string_bytes old) ≡ false → map string_bytes new ≡ map string_bytes old ++ text ∷ []
     → (fault_if (is_among (key r) (keys_of key before)) kinds.IdTwice ≡ None) × (map string_bytes new ≡ keys_of key (before ++ r ∷ []))
@@ -35,27 +35,12 @@ key_new key text before r old new is same fresh last =
           ∙ ap (λ (o : Option (List ℕ)). keys_of key before ++ option_to_list o) (sym is) ∙ sym (keys_more key before r),
     )
 
-pub key_twice : (key : Record → Option (List ℕ)) (text : List ℕ) (before : List Record) (r : Record) (old : List (String Global))
-    → key r ≡ Some text → map string_bytes old ≡ keys_of key before → list_any (bytes_eq text) (map string_bytes old) ≡ true
-    → fault_if (is_among (key r) (keys_of key before)) kinds.IdTwice ≡ Some kinds.IdTwice
-key_twice key text before r old is same found =
-    let one : is_among (key r) (keys_of key before) ≡ true = rw (is, ← same) found in
-    rw one refl
-
 -- no record has a key
 pub no_keys : (before : List Record) (r : Record) → keys_of (λ x. None) before ≡ keys_of (λ x. None) (before ++ r ∷ [])
 no_keys [] r = refl
 no_keys (b ∷ bs) r = no_keys bs r
 
--- the first record's text is kept, and the others are judged by it
-pub shared_first : (k : ℕ) (places : Places) (before : List Record) (r : Record) (old new : List (String Global)) (text : List ℕ) → AreKept (keys.Shared k) places before old
-    → slice_get old 0 ≡ None → text ≡ value places k r → map string_bytes new ≡ map string_bytes old ++ text ∷ []
-    → (key_fault (keys.Shared k) places before r ≡ None) × AreKept (keys.Shared k) places (before ++ r ∷ []) new
-shared_first k places [] r [] new text held none is last = (refl, last ∙ ap (λ (t : List ℕ). t ∷ []) is)
-shared_first k places [] r (x ∷ xs) new text held none is last = cc
-shared_first k places (first ∷ rest) r [] new text held none is last = cc
-shared_first k places (first ∷ rest) r (x ∷ xs) new text held none is last = cc
-
+-- records are judged by the text of the first
 pub shared_with : (k : ℕ) (places : Places) (before : List Record) (r : Record) (old : List (String Global)) (s : String Global) → AreKept (keys.Shared k) places before old
     → slice_get old 0 ≡ Some s
     → (key_fault (keys.Shared k) places before r ≡ fault_if (not (bytes_eq (string_bytes s) (value places k r))) kinds.ZonesDiffer) × AreKept (keys.Shared k) places (before ++ r ∷ []) old
