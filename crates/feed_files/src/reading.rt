@@ -8,8 +8,8 @@ ghost use Rattle.feed_files.specs.Reading.{Content, FineBefore, HoldsCalendars, 
 
 use crate::files::{FeedFiles, FileFault};
 use gtfs_tables::{
-    AgencyRow, CalendarDateRow, CalendarRow, FaultKind, FrequencyRow, IdHash, StopRow, StopTimes,
-    Table, TableFault, TableFile, Tables, TransferRow, TripRow,
+    AgencyRow, CalendarDateRow, CalendarRow, FaultKind, FrequencyRow, IdHash, Limited, StopRow,
+    StopTimes, Table, TableFault, TableFile, Tables, TransferRow, TripRow,
 };
 use std::alloc::Global;
 use thiserror::Error;
@@ -134,8 +134,8 @@ fn calendars<F: FeedFiles>(
 #[derive(Drop)]
 struct RequiredTables {
     agencies: Vec<AgencyRow>,
-    stops: Vec<StopRow>,
-    trips: Vec<TripRow>,
+    stops: Limited<StopRow>,
+    trips: Limited<TripRow>,
     stop_times: StopTimes,
 }
 
@@ -143,7 +143,7 @@ fn required_tables<F: FeedFiles>(alloc: Global, files: &mut F) -> Result<Require
     ensures same { F.holds files.new ≡ F.holds files.old }
     ensures failures { F.failures files.old < 2 ^ 64 - 1 → F.failures files.new ≡ F.failures files.old + failed_in result }
     ensures failed { F.failed files.new ≡ failed_by (F.failed files.old) result }
-    ensures ok { (content : Content) → Tells (F.holds files.old) content → IfOk result (λ t. HoldsRequired content t.agencies.items t.stops.items t.trips.items t.stop_times) }
+    ensures ok { (content : Content) → Tells (F.holds files.old) content → IfOk result (λ t. HoldsRequired content t.agencies.items t.stops.rows.items t.trips.rows.items t.stop_times) }
     ensures err { (content : Content) → Tells (F.holds files.old) content → IfErr result (NoTables content) }
 {
     let agencies = required(alloc, files)?;
@@ -176,8 +176,8 @@ pub fn read_tables<F: FeedFiles>(alloc: Global, files: &mut F) -> Result<Tables,
     let frequencies = rows_or_none(alloc, files)?;
     Ok(Tables {
         agencies: required.agencies,
-        stops: required.stops,
-        trips: required.trips,
+        stops: required.stops.rows,
+        trips: required.trips.rows,
         stop_times: required.stop_times,
         calendar,
         calendar_dates,

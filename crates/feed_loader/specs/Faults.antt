@@ -1,6 +1,6 @@
 -- How the faults of the steps are told.
 use Rattle.std.specs.Prelude.{ℕ, ◌++◌, ◌∷◌, List, [], Result, Ok, Err, codes}
-use Rattle.gtfs_rows.specs.Told.{fault_name as kind_name, fault_number as kind_number, file_name}
+use Rattle.gtfs_rows.specs.Told.{fault_told as kind_told, file_name}
 use Rattle.service_days.specs.Faults.{fault_told as day_told}
 use Rattle.footpaths.specs.FaultNumber.{fault_told as foot_told}
 use Rattle.image_verifier.specs.FaultNumber.{fault_name as image_name, fault_number as image_number}
@@ -45,14 +45,14 @@ failed_by before (Err (faults.FileFailed table)) = before ++ file_name table ∷
 
 -- the number and the name by which a fault is told
 abbrev pub fault_number : LoadFault → ℕ
-fault_number (faults.Table fault) = kind_number fault.kind
+fault_number (faults.Table fault) = (kind_told fault.kind).0
 fault_number (faults.Day fault) = (day_told fault).0
 fault_number (faults.Footpaths fault) = (foot_told fault).0
 fault_number (faults.Image fault) = image_number fault
 fault_number (faults.FileFailed table) = 101
 
 abbrev pub fault_name : LoadFault → List ℕ
-fault_name (faults.Table fault) = kind_name fault.kind
+fault_name (faults.Table fault) = (kind_told fault.kind).1
 fault_name (faults.Day fault) = (day_told fault).1
 fault_name (faults.Footpaths fault) = (foot_told fault).1
 fault_name (faults.Image fault) = image_name fault

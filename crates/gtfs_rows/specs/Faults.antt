@@ -1,11 +1,9 @@
 -- The first fault of a table.
-use Rattle.std.specs.Prelude.{◌≡◌, ◌+◌, ◌<◌, ◌==◌, if◌then◌else◌, ℕ, List, [], ◌∷◌, ◌++◌, length, take, slice_index_or, map, Option, Some, None, Bool, true, false, String, IsUtf8}
+use Rattle.std.specs.Prelude.{◌≡◌, ◌+◌, ◌<◌, ◌==◌, if◌then◌else◌, ℕ, List, [], ◌∷◌, ◌++◌, length, take, slice_index_or, map, Option, Some, None, Bool, true, false, IsUtf8}
 use Rattle.std.specs.Bool.{MatchBool}
 use Rattle.std.specs.List.{AllZip, list_any}
 use Rattle.std.specs.Option.{option_to_list}
 use Rattle.std.specs.Str.{bytes_eq}
-use Rattle.std.specs.String.{string_bytes}
-use Rattle.std.specs.declared.alloc.Global.{Global}
 use Rattle.gtfs_rows.specs.Source.{Record, table_records}
 use Rattle.gtfs_rows.specs.Cells.{Places, has_required, places_of}
 use Rattle.gtfs_rows.specs.declared.fault.FaultKind.{FaultKind}
@@ -101,11 +99,3 @@ is_among (Some text) texts = list_any (bytes_eq text) texts
 abbrev pub keys_of : (Record → Option (List ℕ)) → List Record → List (List ℕ)
 keys_of key [] = []
 keys_of key (r ∷ rest) = option_to_list (key r) ++ keys_of key rest
-
--- a record's values are judged before its key, which no earlier record may have
-abbrev pub values_then_key : (Record → Option FaultKind) → (Record → Option (List ℕ)) → Judge
-values_then_key values key before r = or_fault (values r) (fault_if (is_among (key r) (keys_of key before)) kinds.IdTwice)
-
--- a set holds the keys of the records
-abbrev pub KeysOf : (Record → Option (List ℕ)) → List Record → List (String Global) → Type 0
-KeysOf key records keys = map string_bytes keys ≡ keys_of key records

@@ -1,17 +1,20 @@
 -- What the records of each file spell, and what can be wrong with their values.
-use Rattle.std.specs.Prelude.{◌≡◌, ◌≢◌, ◌==◌, ◌&&◌, not, if◌then◌else◌, ℕ, List, [], ◌∷◌, ◌++◌, filter, length, map, slice_index_or, option_map, Option, Some, None, Bool, true, false}
+use Rattle.std.specs.Prelude.{◌≡◌, ◌≢◌, ◌==◌, ◌&&◌, not, if◌then◌else◌, ℕ, List, [], ◌∷◌, ◌++◌, filter, length, map, slice_index_or, option_map, Option, Some, None, Bool, String, true, false}
 use Rattle.std.specs.List.{AllZip, slice_get}
 use Rattle.std.specs.Str.{bytes_eq}
 use Rattle.std.specs.String.{string_bytes}
+use Rattle.std.specs.declared.alloc.Global.{Global}
 use Rattle.gtfs_rows.specs.Source.{Record}
 use Rattle.gtfs_rows.specs.Cells.{Places, cell}
-use Rattle.gtfs_rows.specs.Faults.{Judge, fault_if, fault_unless, or_fault}
+use Rattle.gtfs_rows.specs.Faults.{Judge, fault_if, fault_unless, is_among, keys_of, or_fault}
 use Rattle.gtfs_rows.specs.Ids.{first_seen, is_given}
 use Rattle.gtfs_rows.specs.Values.{day_of, number_of, time_of}
 use Rattle.gtfs_rows.specs.declared.fault.FaultKind.{FaultKind}
 use Rattle.gtfs_rows.specs.declared.fault.FaultKind.TheVariants as kinds
-use Rattle.gtfs_rows.specs.declared.keyed.Key.{Key}
-use Rattle.gtfs_rows.specs.declared.keyed.Key.TheVariants as keys
+use Rattle.gtfs_rows.specs.declared.fault.Table.{Table}
+use Rattle.gtfs_rows.specs.declared.fault.Table.TheVariants as tables
+use Rattle.gtfs_rows.specs.declared.columns.Key.{Key}
+use Rattle.gtfs_rows.specs.declared.columns.Key.TheVariants as keys
 use Rattle.gtfs_rows.specs.declared.rows.AgencyRow.{AgencyRow}
 use Rattle.gtfs_rows.specs.declared.rows.CalendarDateRow.{CalendarDateRow}
 use Rattle.gtfs_rows.specs.declared.rows.CalendarRow.{CalendarRow}
@@ -32,32 +35,36 @@ use Rattle.gtfs_rows.specs.declared.stop_times.StopTimes.{StopTimes}
 abbrev pub value : Places → ℕ → Record → List ℕ
 value places k r = cell (slice_index_or places k None) r
 
--- a table whose values are always fine, and one without a key
+-- a table whose values are always fine
 abbrev pub no_fault : Places → Record → Option FaultKind
 no_fault places r = None
 
-abbrev pub no_key : Places → Record → Option (List ℕ)
-no_key places r = None
-
--- the key of the columns that tell the records of a table apart: none, the text of one, those of two behind one another
+-- the key of the columns that tell the records of a table apart, where there are such: the text of one, or those of two behind one another
 abbrev pub key_by : Key → Places → Record → Option (List ℕ)
-key_by keys.Nothing places = λ r. None
 key_by (keys.Column k) places = λ r. Some (value places k r)
 key_by (keys.Columns j k) places = λ r. Some (value places j r ++ value places k r)
+key_by _ places = λ r. None
+
+-- a record's key, which no earlier record may have, or the text that it shares with the first
+abbrev pub key_fault : Key → Places → Judge
+key_fault (keys.Shared k) places [] r = None
+key_fault (keys.Shared k) places (first ∷ rest) r = fault_if (not (bytes_eq (value places k first) (value places k r))) kinds.ZonesDiffer
+key_fault key places before r = fault_if (is_among (key_by key places r) (keys_of (key_by key places) before)) kinds.IdTwice
+
+-- the keys of the records, or the text that they share
+abbrev pub texts_kept : Key → Places → List Record → List (List ℕ)
+texts_kept (keys.Shared k) places [] = []
+texts_kept (keys.Shared k) places (first ∷ rest) = value places k first ∷ []
+texts_kept key places records = keys_of (key_by key places) records
+
+-- a set holds them
+abbrev pub AreKept : Key → Places → List Record → List (String Global) → Type 0
+AreKept key places records keys = map string_bytes keys ≡ texts_kept key places records
 
 -- ---- agency.txt: the time zone, which all records share
 
 pub record SpellsAgency (places : Places) (r : Record) (row : AgencyRow) : Type 0 where
   pub zone : string_bytes row.zone ≡ value places 0 r
-
-abbrev pub judge_agency : Places → Judge
-judge_agency places [] r = None
-judge_agency places (first ∷ rest) r = fault_if (not (bytes_eq (value places 0 first) (value places 0 r))) kinds.ZonesDiffer
-
--- the zone is that of the first of the rows, if there is one
-abbrev pub is_first_zone : List AgencyRow → List ℕ → Bool
-is_first_zone [] zone = true
-is_first_zone (row ∷ rest) zone = bytes_eq (string_bytes row.zone) zone
 
 -- ---- stops.txt: id, location_type, parent_station
 
@@ -71,17 +78,11 @@ pub record SpellsStop (places : Places) (r : Record) (row : StopRow) : Type 0 wh
   pub location : row.location ≡ location_of (number_of (value places 1 r))
   pub parent : string_bytes row.parent ≡ value places 2 r
 
-abbrev pub stop_key : Places → Record → Option (List ℕ)
-stop_key places r = Some (value places 0 r)
-
 -- ---- trips.txt: service_id, trip_id
 
 pub record SpellsTrip (places : Places) (r : Record) (row : TripRow) : Type 0 where
   pub service : string_bytes row.service ≡ value places 0 r
   pub id : string_bytes row.id ≡ value places 1 r
-
-abbrev pub trip_key : Places → Record → Option (List ℕ)
-trip_key places r = Some (value places 1 r)
 
 -- ---- stop_times.txt: trip_id, arrival_time, departure_time, stop_id, stop_sequence, pickup_type, drop_off_type
 
@@ -166,9 +167,6 @@ pub record SpellsCalendar (places : Places) (r : Record) (row : CalendarRow) : T
   pub start : day_of (value places 8 r) ≡ Some row.start
   pub end : day_of (value places 9 r) ≡ Some row.end
 
-abbrev pub service_key : Places → Record → Option (List ℕ)
-service_key places r = Some (value places 0 r)
-
 -- ---- calendar_dates.txt: service_id, date, exception_type
 
 abbrev pub exception_of : Option ℕ → Option Exception
@@ -230,3 +228,13 @@ pub record SpellsFrequency (places : Places) (r : Record) (row : FrequencyRow) :
   pub start : time_of (value places 1 r) ≡ Some row.start
   pub end : time_of (value places 2 r) ≡ Some row.end
   pub headway : number_of (value places 3 r) ≡ Some row.headway
+
+-- ---- any table
+
+-- what is wrong with the values of a table's record, if anything
+abbrev pub values_of : Table → Places → Record → Option FaultKind
+values_of tables.StopTimes = stop_time_fault
+values_of tables.Calendar = calendar_fault
+values_of tables.CalendarDates = calendar_date_fault
+values_of tables.Frequencies = frequency_row_fault
+values_of _ = no_fault

@@ -1,9 +1,14 @@
 -- The eight files of a feed, each with its columns, and what their bytes hold.
 use Rattle.std.specs.Prelude.{◌≡◌, ◌<◌, ◌≤◌, ◌⊎◌, List, [], ◌∷◌, ℕ, Bool, true, false, codes, length, count_by}
-use Rattle.gtfs_rows.specs.Faults.{HoldsFile, HoldsRows, IsFaultOf, Shape, values_then_key}
-use Rattle.gtfs_rows.specs.Rows.{AreStopTimes, SpellsAgency, SpellsCalendar, SpellsCalendarDate, SpellsFrequency, SpellsStop, SpellsTransfer, SpellsTrip, calendar_date_fault, calendar_fault, frequency_row_fault, judge_agency, no_fault, no_key, service_day_key, no_key, service_key, stop_key, stop_time_fault, trip_key}
+use Rattle.gtfs_rows.specs.Cells.{Places}
+use Rattle.gtfs_rows.specs.Faults.{HoldsFile, HoldsRows, IsFaultOf, Judge, Shape, or_fault}
+use Rattle.gtfs_rows.specs.Rows.{AreStopTimes, SpellsAgency, SpellsCalendar, SpellsCalendarDate, SpellsFrequency, SpellsStop, SpellsTransfer, SpellsTrip, key_fault, values_of}
+use Rattle.gtfs_rows.specs.declared.columns.Key.{Key}
+use Rattle.gtfs_rows.specs.declared.columns.Key.TheVariants as keys
 use Rattle.gtfs_rows.specs.declared.fault.FaultKind.{FaultKind}
 use Rattle.gtfs_rows.specs.declared.fault.FaultKind.TheVariants as kinds
+use Rattle.gtfs_rows.specs.declared.fault.Table.{Table}
+use Rattle.gtfs_rows.specs.declared.fault.Table.TheVariants as tables
 use Rattle.gtfs_rows.specs.declared.rows.AgencyRow.{AgencyRow}
 use Rattle.gtfs_rows.specs.declared.rows.CalendarDateRow.{CalendarDateRow}
 use Rattle.gtfs_rows.specs.declared.rows.CalendarRow.{CalendarRow}
@@ -15,86 +20,97 @@ use Rattle.gtfs_rows.specs.declared.rows.TransferRow.{TransferRow}
 use Rattle.gtfs_rows.specs.declared.rows.TripRow.{TripRow}
 use Rattle.gtfs_rows.specs.declared.stop_times.StopTimes.{StopTimes}
 
+-- the columns of each file that are read
+abbrev pub columns_of : Table → List (List ℕ)
+columns_of tables.Agency = codes "agency_timezone" ∷ []
+columns_of tables.Stops = codes "stop_id" ∷ codes "location_type" ∷ codes "parent_station" ∷ []
+columns_of tables.Trips = codes "service_id" ∷ codes "trip_id" ∷ []
+columns_of tables.StopTimes = codes "trip_id" ∷ codes "arrival_time" ∷ codes "departure_time" ∷ codes "stop_id" ∷ codes "stop_sequence" ∷ codes "pickup_type" ∷ codes "drop_off_type" ∷ []
+columns_of tables.Calendar = codes "service_id" ∷ codes "monday" ∷ codes "tuesday" ∷ codes "wednesday" ∷ codes "thursday" ∷ codes "friday" ∷ codes "saturday" ∷ codes "sunday" ∷ codes "start_date" ∷ codes "end_date" ∷ []
+columns_of tables.CalendarDates = codes "service_id" ∷ codes "date" ∷ codes "exception_type" ∷ []
+columns_of tables.Transfers = codes "from_stop_id" ∷ codes "to_stop_id" ∷ codes "transfer_type" ∷ codes "min_transfer_time" ∷ codes "from_route_id" ∷ codes "to_route_id" ∷ codes "from_trip_id" ∷ codes "to_trip_id" ∷ []
+columns_of tables.Frequencies = codes "trip_id" ∷ codes "start_time" ∷ codes "end_time" ∷ codes "headway_secs" ∷ []
+
+-- how many of them, the first ones, are required
+abbrev pub required_of : Table → ℕ
+required_of tables.Agency = 1
+required_of tables.Stops = 1
+required_of tables.Trips = 2
+required_of tables.StopTimes = 5
+required_of tables.Calendar = 10
+required_of tables.CalendarDates = 3
+required_of tables.Transfers = 2
+required_of tables.Frequencies = 4
+
+-- what the records have one beside another
+abbrev pub key_of : Table → Key
+key_of tables.Agency = keys.Shared 0
+key_of tables.Stops = keys.Column 0
+key_of tables.Trips = keys.Column 1
+key_of tables.Calendar = keys.Column 0
+key_of tables.CalendarDates = keys.Columns 0 1
+key_of _ = keys.Nothing
+
+-- a record's values are judged before its key
+abbrev pub judge_of : Table → Places → Judge
+judge_of table places before r = or_fault (values_of table places r) (key_fault (key_of table) places before r)
+
+-- how each file is read
+abbrev pub shape_of : Table → Shape
+shape_of table = record { names = columns_of table; required = required_of table; judge = judge_of table }
+
 -- agency.txt
 abbrev pub agency_shape : Shape
-agency_shape = record { names = codes "agency_timezone" ∷ []; required = 1; judge = judge_agency }
+agency_shape = shape_of tables.Agency
 
 abbrev pub HoldsAgencies : List ℕ → List AgencyRow → Type 0
 HoldsAgencies = HoldsRows agency_shape SpellsAgency
 
--- stop_times.txt
-abbrev pub stop_times_shape : Shape
-stop_times_shape = record {
-  names = codes "trip_id" ∷ codes "arrival_time" ∷ codes "departure_time" ∷ codes "stop_id" ∷ codes "stop_sequence" ∷ codes "pickup_type" ∷ codes "drop_off_type" ∷ [];
-  required = 5;
-  judge = λ places before r. stop_time_fault places r;
-}
-
-abbrev pub HoldsStopTimes : List ℕ → StopTimes → Type 0
-HoldsStopTimes = HoldsFile stop_times_shape AreStopTimes
-
 -- stops.txt
 abbrev pub stops_shape : Shape
-stops_shape = record {
-  names = codes "stop_id" ∷ codes "location_type" ∷ codes "parent_station" ∷ [];
-  required = 1;
-  judge = λ places. values_then_key (no_fault places) (stop_key places);
-}
+stops_shape = shape_of tables.Stops
 
 abbrev pub HoldsStops : List ℕ → List StopRow → Type 0
 HoldsStops = HoldsRows stops_shape SpellsStop
 
 -- trips.txt
 abbrev pub trips_shape : Shape
-trips_shape = record {
-  names = codes "service_id" ∷ codes "trip_id" ∷ [];
-  required = 2;
-  judge = λ places. values_then_key (no_fault places) (trip_key places);
-}
+trips_shape = shape_of tables.Trips
 
 abbrev pub HoldsTrips : List ℕ → List TripRow → Type 0
 HoldsTrips = HoldsRows trips_shape SpellsTrip
 
+-- stop_times.txt
+abbrev pub stop_times_shape : Shape
+stop_times_shape = shape_of tables.StopTimes
+
+abbrev pub HoldsStopTimes : List ℕ → StopTimes → Type 0
+HoldsStopTimes = HoldsFile stop_times_shape AreStopTimes
+
 -- calendar.txt
 abbrev pub calendar_shape : Shape
-calendar_shape = record {
-  names = codes "service_id" ∷ codes "monday" ∷ codes "tuesday" ∷ codes "wednesday" ∷ codes "thursday" ∷ codes "friday" ∷ codes "saturday" ∷ codes "sunday" ∷ codes "start_date" ∷ codes "end_date" ∷ [];
-  required = 10;
-  judge = λ places. values_then_key (calendar_fault places) (service_key places);
-}
+calendar_shape = shape_of tables.Calendar
 
 abbrev pub HoldsCalendar : List ℕ → List CalendarRow → Type 0
 HoldsCalendar = HoldsRows calendar_shape SpellsCalendar
 
 -- calendar_dates.txt
 abbrev pub calendar_dates_shape : Shape
-calendar_dates_shape = record {
-  names = codes "service_id" ∷ codes "date" ∷ codes "exception_type" ∷ [];
-  required = 3;
-  judge = λ places. values_then_key (calendar_date_fault places) (service_day_key places);
-}
+calendar_dates_shape = shape_of tables.CalendarDates
 
 abbrev pub HoldsCalendarDates : List ℕ → List CalendarDateRow → Type 0
 HoldsCalendarDates = HoldsRows calendar_dates_shape SpellsCalendarDate
 
 -- transfers.txt
 abbrev pub transfers_shape : Shape
-transfers_shape = record {
-  names = codes "from_stop_id" ∷ codes "to_stop_id" ∷ codes "transfer_type" ∷ codes "min_transfer_time" ∷ codes "from_route_id" ∷ codes "to_route_id" ∷ codes "from_trip_id" ∷ codes "to_trip_id" ∷ [];
-  required = 2;
-  judge = λ places. values_then_key (no_fault places) (no_key places);
-}
+transfers_shape = shape_of tables.Transfers
 
 abbrev pub HoldsTransfers : List ℕ → List TransferRow → Type 0
 HoldsTransfers = HoldsRows transfers_shape SpellsTransfer
 
 -- frequencies.txt
 abbrev pub frequencies_shape : Shape
-frequencies_shape = record {
-  names = codes "trip_id" ∷ codes "start_time" ∷ codes "end_time" ∷ codes "headway_secs" ∷ [];
-  required = 4;
-  judge = λ places. values_then_key (frequency_row_fault places) (no_key places);
-}
+frequencies_shape = shape_of tables.Frequencies
 
 abbrev pub HoldsFrequencies : List ℕ → List FrequencyRow → Type 0
 HoldsFrequencies = HoldsRows frequencies_shape SpellsFrequency
@@ -107,20 +123,25 @@ is_stop_at _ = false
 abbrev pub is_stop : StopRow → Bool
 is_stop row = is_stop_at row.location
 
--- the stops and the trips, no more than there may be
+-- the rows of a table, no more of them than there may be
+abbrev pub HoldsWithin : {R : Type 0} → (List ℕ → List R → Type 0) → (List R → ℕ) → ℕ → List ℕ → List R → Type 0
+HoldsWithin Holds count limit bytes rows = Holds bytes rows × (count rows ≤ limit)
+
+-- too many rows are told of the file once its records are without fault
+abbrev pub IsFaultWithin : {R : Type 0} → Shape → (List ℕ → List R → Type 0) → (List R → ℕ) → ℕ → List ℕ → ℕ → FaultKind → Type 0
+IsFaultWithin {R} s Holds count limit bytes n kind =
+    IsFaultOf s bytes n kind
+    ⊎ ((n ≡ 0) × (kind ≡ kinds.TooMany) × ((rows : List R) × Holds bytes rows × (limit < count rows)))
+
+-- the stops and the trips are limited
 abbrev pub HoldsStopsWithin : ℕ → List ℕ → List StopRow → Type 0
-HoldsStopsWithin limit bytes rows = HoldsStops bytes rows × (count_by is_stop rows ≤ limit)
+HoldsStopsWithin = HoldsWithin HoldsStops (count_by is_stop)
 
 abbrev pub HoldsTripsWithin : ℕ → List ℕ → List TripRow → Type 0
-HoldsTripsWithin limit bytes rows = HoldsTrips bytes rows × (length rows ≤ limit)
+HoldsTripsWithin = HoldsWithin HoldsTrips length
 
--- too many stops, or trips, are told of the file once its records are without fault
 abbrev pub IsStopsFault : ℕ → List ℕ → ℕ → FaultKind → Type 0
-IsStopsFault limit bytes n kind =
-    IsFaultOf stops_shape bytes n kind
-    ⊎ ((n ≡ 0) × (kind ≡ kinds.TooMany) × ((rows : List StopRow) × HoldsStops bytes rows × (limit < count_by is_stop rows)))
+IsStopsFault = IsFaultWithin stops_shape HoldsStops (count_by is_stop)
 
 abbrev pub IsTripsFault : ℕ → List ℕ → ℕ → FaultKind → Type 0
-IsTripsFault limit bytes n kind =
-    IsFaultOf trips_shape bytes n kind
-    ⊎ ((n ≡ 0) × (kind ≡ kinds.TooMany) × ((rows : List TripRow) × HoldsTrips bytes rows × (limit < length rows)))
+IsTripsFault = IsFaultWithin trips_shape HoldsTrips length

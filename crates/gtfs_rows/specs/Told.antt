@@ -26,12 +26,6 @@ fault_told kinds.TooMany = (16, codes "TooMany")
 fault_told kinds.OutOfMemory = (17, codes "OutOfMemory")
 fault_told kinds.BadHeadway = (18, codes "BadHeadway")
 
-abbrev pub fault_number : FaultKind → ℕ
-fault_number kind = (fault_told kind).0
-
-abbrev pub fault_name : FaultKind → List ℕ
-fault_name kind = (fault_told kind).1
-
 -- the name of a table's file
 abbrev pub file_name : Table → List ℕ
 file_name tables.Agency = codes "agency.txt"

@@ -1,16 +1,20 @@
 //! The columns of a table and what a record has in them.
 
-ghost use Rattle.std.specs.Prelude.{◌≡◌, ◌≤◌, length, map, IfErr, IfOk, IsUtf8, true, false};
+ghost use Rattle.std.specs.Prelude.{◌≡◌, ◌≤◌, length, map, IfErr, IfOk, IsUtf8, None, Some, true, false};
 ghost use Rattle.std.specs.String.{string_bytes};
 ghost use Rattle.csv.specs.Records.{AllText, fields_of};
 ghost use Rattle.gtfs_rows.specs.Cells.{cell as cell_of, column as column_of, has_required as are_there, places_of, trim_front, trim_spaces};
+ghost use Rattle.gtfs_rows.specs.Faults.{fault_unless};
+ghost use Rattle.gtfs_rows.specs.Rows.{value};
+ghost use Rattle.gtfs_rows.specs.Values.{time_of};
 
 use crate::fault::FaultKind;
+use crate::values::Time;
 use csv::ByteRecord;
 use std::alloc::{AllocError, Global};
 
 /// Where a header has a column, if it has it.
-pub(crate) type Place = Option<usize>;
+pub type Place = Option<usize>;
 
 // The text without the spaces at its ends.
 fn trim(text: &[u8]) -> &[u8]
@@ -36,7 +40,7 @@ fn trim_start(text: &[u8]) -> &[u8]
 }
 
 // What a record has in a column, blank where the column is absent.
-pub(crate) fn cell<'a>(fields: &'a ByteRecord, place: Place) -> &'a [u8]
+fn cell<'a>(fields: &'a ByteRecord, place: Place) -> &'a [u8]
     ensures { result.now ≡ cell_of place (fields_of fields.entry.now) }
 {
     let Some(place) = place else {
@@ -95,7 +99,7 @@ pub(crate) fn is_text(bytes: &[u8]) -> bool
 }
 
 // A text that is known to be UTF-8.
-pub(crate) fn text_of(alloc: Global, bytes: &[u8]) -> Result<String, AllocError>
+fn text_of(alloc: Global, bytes: &[u8]) -> Result<String, AllocError>
     requires { IsUtf8 bytes.now }
     ensures { IfOk result (λ s. string_bytes s ≡ bytes.now) }
 {
@@ -104,11 +108,40 @@ pub(crate) fn text_of(alloc: Global, bytes: &[u8]) -> Result<String, AllocError>
     String::from_str(alloc, text)
 }
 
-// What a record has in a column, as a text of its own.
-pub(crate) fn text_in(alloc: Global, fields: &ByteRecord, place: Place) -> Result<String, FaultKind>
-    requires { AllText (fields_of fields.now) }
-    ensures ok { IfOk result (λ s. string_bytes s ≡ cell_of place (fields_of fields.now)) }
-    ensures err { IfErr result (λ kind. kind ≡ FaultKind.OutOfMemory) }
-{
-    text_of(alloc, cell(fields, place)).map_err(|_| FaultKind::OutOfMemory)
+/// The fields of a record, and where its header has each of the table's columns.
+#[derive(Clone, Copy)]
+pub struct Cells<'a> {
+    pub(crate) places: &'a [Place],
+    pub(crate) fields: &'a ByteRecord,
+}
+
+impl<'a> Cells<'a> {
+    // What the record has in a column, blank where the column is absent.
+    pub(crate) fn get(&self, column: usize) -> &'a [u8]
+        ensures { result.now ≡ value self.entry.now.places.now column (fields_of self.entry.now.fields.now) }
+    {
+        let place = if column < self.places.len() {
+            self.places[column]
+        } else {
+            None
+        };
+        cell(self.fields, place)
+    }
+
+    // The same as a text of its own.
+    pub(crate) fn text(&self, alloc: Global, column: usize) -> Result<String, FaultKind>
+        requires { AllText (fields_of self.now.fields.now) }
+        ensures ok { IfOk result (λ s. string_bytes s ≡ value self.now.places.now column (fields_of self.now.fields.now)) }
+        ensures err { IfErr result (λ kind. kind ≡ FaultKind.OutOfMemory) }
+    {
+        text_of(alloc, self.get(column)).map_err(|_| FaultKind::OutOfMemory)
+    }
+
+    // The time in a column, which isn't blank.
+    pub(crate) fn time(&self, column: usize) -> Result<u32, FaultKind>
+        ensures ok { IfOk result (λ t. time_of (value self.now.places.now column (fields_of self.now.fields.now)) ≡ Some t) }
+        ensures err { IfErr result (λ kind. fault_unless (time_of (value self.now.places.now column (fields_of self.now.fields.now))) FaultKind.BadTime ≡ Some kind) }
+    {
+        Time::parse(self.get(column)).map_err(|_| FaultKind::BadTime)
+    }
 }

@@ -1,7 +1,7 @@
 //! What can be wrong with a feed: the kinds of faults, their numbers and names, and in which file and record one was found.
 
 ghost use Rattle.std.specs.Prelude.{◌≡◌};
-ghost use Rattle.gtfs_rows.specs.Told.{fault_name, fault_number, file_name as name_of_file};
+ghost use Rattle.gtfs_rows.specs.Told.{fault_told, file_name as name_of_file};
 
 use reasoning::variant_name;
 use std::error::Error;
@@ -54,14 +54,14 @@ pub struct TableFault {
 impl FaultKind {
     /// The number by which the kind is told, from 1 to 18 in the order of the enum.
     pub fn number(self) -> u8
-        ensures { result ≡ fault_number self }
+        ensures { result ≡ (fault_told self).0 }
     {
         self as u8
     }
 
     /// The name by which the kind is told, as `MissingFile`.
     pub fn name(self) -> &'static str
-        ensures { result.now ≡ fault_name self }
+        ensures { result.now ≡ (fault_told self).1 }
     {
         variant_name!(
             self, FaultKind:

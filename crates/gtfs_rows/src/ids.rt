@@ -1,9 +1,9 @@
 //! Sets of ids, in the order in which they were first seen.
 
-ghost use Rattle.std.specs.Prelude.{◌≡◌, ◌≢◌, ◌++◌, ◌∷◌, [], map, option_map, true, false, IfErr, IfOk, IfSome, IsUtf8, OnOk};
+ghost use Rattle.std.specs.Prelude.{◌≡◌, ◌≢◌, ◌++◌, ◌∷◌, [], map, true, false, IfErr, IfOk, IfSome, IsUtf8, OnOk};
 ghost use Rattle.std.specs.String.{string_bytes};
-ghost use Rattle.std.specs.Option.{option_to_list};
-ghost use Rattle.gtfs_rows.specs.Faults.{is_among};
+ghost use Rattle.std.specs.List.{list_any};
+ghost use Rattle.std.specs.Str.{bytes_eq};
 ghost use Rattle.gtfs_rows.specs.Ids.{seen_also};
 ghost use Rattle.gtfs_rows.specs.Rows.{StandsAt};
 
@@ -12,19 +12,16 @@ use crate::id_hash::IdHash;
 use indexmap::IndexSet;
 use std::alloc::Global;
 
-// Adds a key, if there is one, that isn't there yet.
-pub(crate) fn add_key(
-    keys: &mut IndexSet<String, IdHash>,
-    key: Option<String>,
-) -> Result<(), FaultKind>
-    ensures new { OnOk result (is_among (option_map string_bytes key) (map string_bytes keys.old.keys) ≡ false) }
-    ensures last { OnOk result (map string_bytes keys.new.keys ≡ map string_bytes keys.old.keys ++ option_to_list (option_map string_bytes key)) }
+// Texts, each once, in the order in which they were added.
+pub(crate) type Ids = IndexSet<String, IdHash>;
+
+// Adds a key that isn't there yet.
+pub(crate) fn add_key(keys: &mut Ids, key: String) -> Result<(), FaultKind>
+    ensures new { OnOk result (list_any (bytes_eq (string_bytes key)) (map string_bytes keys.old.keys) ≡ false) }
+    ensures last { OnOk result (map string_bytes keys.new.keys ≡ map string_bytes keys.old.keys ++ string_bytes key ∷ []) }
     ensures err { IfErr result (λ kind. kind ≢ FaultKind.OutOfMemory
-        → (kind ≡ FaultKind.IdTwice) × (is_among (option_map string_bytes key) (map string_bytes keys.old.keys) ≡ true)) }
+        → (kind ≡ FaultKind.IdTwice) × (list_any (bytes_eq (string_bytes key)) (map string_bytes keys.old.keys) ≡ true)) }
 {
-    let Some(key) = key else {
-        return Ok(());
-    };
     let Ok((_, added)) = keys.insert_full(key) else {
         return Err(FaultKind::OutOfMemory);
     };
@@ -38,7 +35,7 @@ pub(crate) fn add_key(
 // The place of an id, which goes last where it isn't there yet. It is first sought at a place where it is likely.
 pub(crate) fn place_of(
     alloc: Global,
-    ids: &mut IndexSet<String, IdHash>,
+    ids: &mut Ids,
     likely: Option<u32>,
     id: &[u8],
 ) -> Result<u32, FaultKind>
@@ -63,7 +60,7 @@ pub(crate) fn place_of(
 }
 
 // The place, if the id is there.
-fn id_at(ids: &IndexSet<String, IdHash>, place: Option<u32>, id: &[u8]) -> Option<u32>
+fn id_at(ids: &Ids, place: Option<u32>, id: &[u8]) -> Option<u32>
     ensures { IfSome result (λ place. StandsAt (map string_bytes ids.now.keys) place id.now) }
 {
     let place = place?;
@@ -76,7 +73,7 @@ fn id_at(ids: &IndexSet<String, IdHash>, place: Option<u32>, id: &[u8]) -> Optio
 }
 
 // The place of an id, if it is there.
-fn find_id(ids: &IndexSet<String, IdHash>, id: &str) -> Option<usize>
+fn find_id(ids: &Ids, id: &str) -> Option<usize>
     ensures { IfSome result (λ place. StandsAt (map string_bytes ids.now.keys) place id.now) }
 {
     let (place, _) = ids.get_full(id)?;
@@ -84,7 +81,7 @@ fn find_id(ids: &IndexSet<String, IdHash>, id: &str) -> Option<usize>
 }
 
 // The place of an id, which goes last where it isn't there yet.
-fn add_id(ids: &mut IndexSet<String, IdHash>, id: String) -> Result<usize, FaultKind>
+fn add_id(ids: &mut Ids, id: String) -> Result<usize, FaultKind>
     ensures more { OnOk result (map string_bytes ids.new.keys ≡ seen_also (map string_bytes ids.old.keys) (string_bytes id)) }
     ensures ok { IfOk result (λ place. StandsAt (map string_bytes ids.new.keys) place (string_bytes id)) }
     ensures err { IfErr result (λ kind. kind ≡ FaultKind.OutOfMemory) }

@@ -31,6 +31,7 @@ pub fn one_fault()
 {}
 
 /// A file whose rows are held has no fault.
+#[tactic(auto, using(crate::proofs::OneFault::no_fault))]
 pub fn held_without_fault()
     ensures agency { (bytes : List ℕ) (held : List AgencyRow) (n : ℕ) (kind : Kind) → HoldsAgencies bytes held → ¬ (IsFaultOf agency_shape bytes n kind) }
     ensures stops { (bytes : List ℕ) (held : List StopRow) (n : ℕ) (kind : Kind) → HoldsStops bytes held → ¬ (IsFaultOf stops_shape bytes n kind) }

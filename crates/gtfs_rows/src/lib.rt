@@ -6,11 +6,13 @@
 mod agencies;
 mod cells;
 mod changes;
+mod columns;
 pub mod fault;
 pub mod id_hash;
 mod ids;
 mod keyed;
 pub mod laws;
+pub mod limited;
 pub mod read;
 mod reader;
 pub mod rows;
@@ -23,6 +25,7 @@ pub mod values;
 
 pub use fault::{FaultKind, Table, TableFault};
 pub use id_hash::IdHash;
+pub use limited::{Limited, LimitedRow, rows_up_to};
 pub use read::{
     MAX_STOPS, MAX_TRIPS, read_agency, read_calendar, read_calendar_dates, read_frequencies,
     read_stop_times, read_stops, read_transfers, read_trips,
@@ -32,6 +35,5 @@ pub use rows::{
     StopTimeRow, TransferKind, TransferRow, TripRow,
 };
 pub use stop_times::StopTimes;
-pub use stops::{stops_up_to, trips_up_to};
 pub use table_file::TableFile;
 pub use values::{DateFault, Day, Time, TimeFault};

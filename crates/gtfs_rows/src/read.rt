@@ -6,6 +6,7 @@ ghost use Rattle.gtfs_rows.specs.Tables.{HoldsAgencies, HoldsCalendar, HoldsCale
 
 use crate::fault::{FaultKind, Table, TableFault};
 use crate::id_hash::IdHash;
+use crate::limited::rows_up_to;
 use crate::rows::{
     AgencyRow, CalendarDateRow, CalendarRow, FrequencyRow, StopRow, TransferRow, TripRow,
 };
@@ -85,7 +86,7 @@ pub fn read_stops(alloc: Global, bytes: &[u8]) -> Result<Vec<StopRow>, TableFaul
     ensures file { IfErr result (λ fault. fault.table ≡ Table.Stops) }
     ensures err { IfErr result (λ fault. fault.kind ≢ FaultKind.OutOfMemory → IsStopsFault MAX_STOPS bytes.now fault.row fault.kind) }
 {
-    TableFile::read(alloc, known_key(), bytes)
+    rows_up_to(MAX_STOPS, alloc, known_key(), bytes)
 }
 
 /// The trips of the bytes of `trips.txt`, at most [`MAX_TRIPS`].
@@ -95,5 +96,5 @@ pub fn read_trips(alloc: Global, bytes: &[u8]) -> Result<Vec<TripRow>, TableFaul
     ensures file { IfErr result (λ fault. fault.table ≡ Table.Trips) }
     ensures err { IfErr result (λ fault. fault.kind ≢ FaultKind.OutOfMemory → IsTripsFault MAX_TRIPS bytes.now fault.row fault.kind) }
 {
-    TableFile::read(alloc, known_key(), bytes)
+    rows_up_to(MAX_TRIPS, alloc, known_key(), bytes)
 }

@@ -1,12 +1,14 @@
 //! The reading of any table: its header, then record by record until the first fault.
 
-ghost use Rattle.std.specs.Prelude.{◌≡◌, ◌≢◌, ◌≤◌, ◌+◌, ◌++◌, ◌∷◌, [], ℕ, List, Option, Some, None, length, map, IfOk, IfErr, OnOk, IsUtf8, true, false};
+ghost use Rattle.std.specs.Prelude.{◌≡◌, ◌≢◌, ◌+◌, ◌++◌, ◌∷◌, [], ℕ, List, Some, None, IfOk, IfErr, OnOk};
 ghost use Rattle.csv.specs.Records.{AllText, fields_of};
 ghost use Rattle.gtfs_rows.specs.Source.{AllRecordsText, IsTableReader, Record, left_of};
 ghost use Rattle.gtfs_rows.specs.Cells.{Places};
-ghost use Rattle.gtfs_rows.specs.Faults.{HoldsFile, HoldsUnder, IsFaultOf, IsFaultUnder, IsFaultless, IsFirstFault, Judge, Shape, length_first};
+ghost use Rattle.gtfs_rows.specs.Faults.{HoldsFile, HoldsUnder, IsFaultOf, IsFaultUnder, IsFaultless, IsFirstFault, length_first};
+ghost use Rattle.gtfs_rows.specs.Tables.{judge_of, shape_of};
+ghost use Rattle.gtfs_rows.specs.declared.fault.Table.{Table as File};
 
-use crate::cells::{Place, has_required, is_text, places};
+use crate::cells::{Cells, Place, has_required, is_text, places};
 use crate::fault::{FaultKind, Table, TableFault};
 use crate::source::{open_table, take_record};
 use csv::{ByteRecord, Reader};
@@ -14,21 +16,21 @@ use std::alloc::Global;
 
 // What a table holds of its records.
 pub(crate) trait TableRows: Sized + Drop {
-    // How many columns are read.
-    ghost columns: { ℕ };
-    // What is wrong with a record's values beside the records before it.
-    ghost judge: { Places → Judge };
+    // Which table it is.
+    ghost TABLE: { File };
     // The rows are those of the records.
     ghost holds: { Places → List Record → Self → Type 0 };
 
+    // Which table it is.
+    const TABLE: Table;
+
     // Takes one record more, or tells what is wrong with it.
-    fn add(&mut self, alloc: Global, places: &[Place], fields: &ByteRecord) -> Result<(), FaultKind>
-        requires text { AllText (fields_of fields.now) }
-        requires wide { length places.now ≡ columns }
-        ensures ok { (before : List Record) → holds places.now before self.old → OnOk result
-            ((judge places.now before (fields_of fields.now) ≡ None) × holds places.now (before ++ fields_of fields.now ∷ []) self.new) }
-        ensures err { (before : List Record) → holds places.now before self.old → IfErr result (λ kind. kind ≢ FaultKind.OutOfMemory
-            → judge places.now before (fields_of fields.now) ≡ Some kind) };
+    fn add(&mut self, alloc: Global, cells: &Cells) -> Result<(), FaultKind>
+        requires { AllText (fields_of cells.now.fields.now) }
+        ensures ok { (before : List Record) → holds cells.now.places.now before self.old → OnOk result
+            ((judge_of TABLE cells.now.places.now before (fields_of cells.now.fields.now) ≡ None) × holds cells.now.places.now (before ++ fields_of cells.now.fields.now ∷ []) self.new) }
+        ensures err { (before : List Record) → holds cells.now.places.now before self.old → IfErr result (λ kind. kind ≢ FaultKind.OutOfMemory
+            → judge_of TABLE cells.now.places.now before (fields_of cells.now.fields.now) ≡ Some kind) };
 }
 
 // Adds a row behind the others.
@@ -46,53 +48,53 @@ pub(crate) fn add_row<R: Drop>(rows: &mut Vec<R>, row: R) -> Result<(), FaultKin
 fn add_record<T: TableRows>(
     rows: &mut T,
     alloc: Global,
-    places: &[Place],
+    cells: &Cells,
     width: usize,
-    fields: &ByteRecord,
 ) -> Result<(), FaultKind>
-    requires text { AllText (fields_of fields.now) }
-    requires wide { length places.now ≡ T.columns }
-    ensures ok { (before : List Record) → T.holds places.now before rows.old → OnOk result
-        ((length_first width (T.judge places.now) before (fields_of fields.now) ≡ None) × T.holds places.now (before ++ fields_of fields.now ∷ []) rows.new) }
-    ensures err { (before : List Record) → T.holds places.now before rows.old → IfErr result (λ kind. kind ≢ FaultKind.OutOfMemory
-        → length_first width (T.judge places.now) before (fields_of fields.now) ≡ Some kind) }
+    requires { AllText (fields_of cells.now.fields.now) }
+    ensures ok { (before : List Record) → T.holds cells.now.places.now before rows.old → OnOk result
+        ((length_first width (judge_of T.TABLE cells.now.places.now) before (fields_of cells.now.fields.now) ≡ None) × T.holds cells.now.places.now (before ++ fields_of cells.now.fields.now ∷ []) rows.new) }
+    ensures err { (before : List Record) → T.holds cells.now.places.now before rows.old → IfErr result (λ kind. kind ≢ FaultKind.OutOfMemory
+        → length_first width (judge_of T.TABLE cells.now.places.now) before (fields_of cells.now.fields.now) ≡ Some kind) }
 {
-    if fields.len() != width {
+    if cells.fields.len() != width {
         return Err(FaultKind::RowLength);
     }
-    rows.add(alloc, places, fields)
+    rows.add(alloc, cells)
 }
 
 // Takes the records that a reader has left.
 fn add_records<T: TableRows>(
     mut rows: T,
     alloc: Global,
-    table: Table,
     reader: &mut Reader<&[u8]>,
     places: &[Place],
     width: usize,
 ) -> Result<T, TableFault>
     requires sound { IsTableReader reader.old }
     requires text { AllRecordsText (left_of reader.old) }
-    requires wide { length places.now ≡ T.columns }
     requires starts { T.holds places.now [] rows }
-    ensures ok { IfOk result (λ t. IsFaultless (length_first width (T.judge places.now)) (left_of reader.old) × T.holds places.now (left_of reader.old) t) }
-    ensures file { IfErr result (λ fault. fault.table ≡ table) }
+    ensures ok { IfOk result (λ t. IsFaultless (length_first width (judge_of T.TABLE places.now)) (left_of reader.old) × T.holds places.now (left_of reader.old) t) }
+    ensures file { IfErr result (λ fault. fault.table ≡ T.TABLE) }
     ensures err { IfErr result (λ fault. fault.kind ≢ FaultKind.OutOfMemory
-        → (k : ℕ) × (fault.row ≡ k + 1) × IsFirstFault (length_first width (T.judge places.now)) (left_of reader.old) k fault.kind) }
+        → (k : ℕ) × (fault.row ≡ k + 1) × IsFirstFault (length_first width (judge_of T.TABLE places.now)) (left_of reader.old) k fault.kind) }
 {
     let mut fields = ByteRecord::new(alloc);
     for taken in 0..u64::MAX {
         match take_record(reader, &mut fields) {
-            Err(_) => return Err(table.out_of_memory()),
+            Err(_) => return Err(T::TABLE.out_of_memory()),
             Ok(false) => return Ok(rows),
             Ok(true) => {}
         }
-        if let Err(kind) = add_record(&mut rows, alloc, places, width, &fields) {
-            return Err(table.fault(taken + 1, kind));
+        let cells = Cells {
+            places,
+            fields: &fields,
+        };
+        if let Err(kind) = add_record(&mut rows, alloc, &cells, width) {
+            return Err(T::TABLE.fault(taken + 1, kind));
         }
     }
-    Err(table.out_of_memory())
+    Err(T::TABLE.out_of_memory())
 }
 
 // The rows of a file: the whole file must be UTF-8, then the required columns must be there, then the records
@@ -100,28 +102,22 @@ fn add_records<T: TableRows>(
 pub(crate) fn read_table<T: TableRows>(
     rows: T,
     alloc: Global,
-    table: Table,
     bytes: &[u8],
-    names: &[&str],
-    required: usize,
 ) -> Result<T, TableFault>
-    requires wide { length names.now ≡ T.columns }
-    requires required { required ≤ length names.now }
-    requires starts { (places : Places) → T.holds places [] rows }
-    ensures ok { IfOk result (λ t. HoldsFile (record { names = map (λ name. name.now) names.now; required = required; judge = T.judge }) T.holds bytes.now t) }
-    ensures file { IfErr result (λ fault. fault.table ≡ table) }
-    ensures err { IfErr result (λ fault. fault.kind ≢ FaultKind.OutOfMemory
-        → IsFaultOf (record { names = map (λ name. name.now) names.now; required = required; judge = T.judge }) bytes.now fault.row fault.kind) }
+    requires { (places : Places) → T.holds places [] rows }
+    ensures ok { IfOk result (λ t. HoldsFile (shape_of T.TABLE) T.holds bytes.now t) }
+    ensures file { IfErr result (λ fault. fault.table ≡ T.TABLE) }
+    ensures err { IfErr result (λ fault. fault.kind ≢ FaultKind.OutOfMemory → IsFaultOf (shape_of T.TABLE) bytes.now fault.row fault.kind) }
 {
     if !is_text(bytes) {
-        return Err(table.fault(0, FaultKind::BadUtf8));
+        return Err(T::TABLE.fault(0, FaultKind::BadUtf8));
     }
     let mut reader = open_table(alloc, bytes);
     let mut header = ByteRecord::new(alloc);
     match take_record(&mut reader, &mut header) {
-        Err(_) => Err(table.out_of_memory()),
-        Ok(false) => Err(table.fault(0, FaultKind::MissingColumn)),
-        Ok(true) => read_under(rows, alloc, table, &mut reader, &header, names, required),
+        Err(_) => Err(T::TABLE.out_of_memory()),
+        Ok(false) => Err(T::TABLE.fault(0, FaultKind::MissingColumn)),
+        Ok(true) => read_under(rows, alloc, &mut reader, &header),
     }
 }
 
@@ -129,27 +125,22 @@ pub(crate) fn read_table<T: TableRows>(
 fn read_under<T: TableRows>(
     rows: T,
     alloc: Global,
-    table: Table,
     reader: &mut Reader<&[u8]>,
     header: &ByteRecord,
-    names: &[&str],
-    required: usize,
 ) -> Result<T, TableFault>
-    requires wide { length names.now ≡ T.columns }
-    requires required { required ≤ length names.now }
     requires starts { (places : Places) → T.holds places [] rows }
     requires sound { IsTableReader reader.old }
     requires text { AllRecordsText (left_of reader.old) }
-    ensures ok { IfOk result (λ t. HoldsUnder (record { names = map (λ name. name.now) names.now; required = required; judge = T.judge }) T.holds (fields_of header.now) (left_of reader.old) t) }
-    ensures file { IfErr result (λ fault. fault.table ≡ table) }
+    ensures ok { IfOk result (λ t. HoldsUnder (shape_of T.TABLE) T.holds (fields_of header.now) (left_of reader.old) t) }
+    ensures file { IfErr result (λ fault. fault.table ≡ T.TABLE) }
     ensures err { IfErr result (λ fault. fault.kind ≢ FaultKind.OutOfMemory
-        → IsFaultUnder (record { names = map (λ name. name.now) names.now; required = required; judge = T.judge }) (fields_of header.now) (left_of reader.old) fault.row fault.kind) }
+        → IsFaultUnder (shape_of T.TABLE) (fields_of header.now) (left_of reader.old) fault.row fault.kind) }
 {
-    let Ok(places) = places(alloc, header, names) else {
-        return Err(table.out_of_memory());
+    let Ok(places) = places(alloc, header, T::TABLE.columns()) else {
+        return Err(T::TABLE.out_of_memory());
     };
-    if !has_required(&places, required) {
-        return Err(table.fault(0, FaultKind::MissingColumn));
+    if !has_required(&places, T::TABLE.required()) {
+        return Err(T::TABLE.fault(0, FaultKind::MissingColumn));
     }
-    add_records(rows, alloc, table, reader, &places, header.len())
+    add_records(rows, alloc, reader, &places, header.len())
 }

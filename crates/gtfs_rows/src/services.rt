@@ -1,39 +1,32 @@
 //! calendar.txt and calendar_dates.txt: on which days services run.
 
-ghost use Rattle.std.specs.Prelude.{◌≡◌, ◌+◌, ◌<◌, length, None, Some, IfOk, IfErr};
+ghost use Rattle.std.specs.Prelude.{◌≡◌, ◌+◌, None, Some, IfOk, IfErr};
 ghost use Rattle.csv.specs.Records.{fields_of};
-ghost use Rattle.gtfs_rows.specs.Cells.{cell as cell_of};
-ghost use Rattle.gtfs_rows.specs.Faults.{IsFaultOf, fault_unless};
-ghost use Rattle.gtfs_rows.specs.Rows.{SpellsCalendar, SpellsCalendarDate, calendar_date_fault, calendar_fault, exception_of, flag_of, weekday as weekday_of, weekdays_of};
-ghost use Rattle.gtfs_rows.specs.Tables.{HoldsCalendar, HoldsCalendarDates, calendar_dates_shape, calendar_shape};
+ghost use Rattle.gtfs_rows.specs.Faults.{fault_unless};
+ghost use Rattle.gtfs_rows.specs.Rows.{SpellsCalendar, SpellsCalendarDate, exception_of, flag_of, value, weekday as weekday_of, weekdays_of};
 ghost use Rattle.gtfs_rows.specs.Values.{day_of, number_of};
 ghost use Rattle.gtfs_rows.specs.declared.fault.Table.TheVariants as files;
-ghost use Rattle.gtfs_rows.specs.declared.keyed.Key.TheVariants as keys;
 
-use crate::cells::{Place, cell, text_in};
-use crate::fault::{FaultKind, Table, TableFault};
-use crate::id_hash::IdHash;
-use crate::keyed::{Key, Row, read_rows};
+use crate::cells::Cells;
+use crate::fault::{FaultKind, Table};
+use crate::keyed::Row;
 use crate::rows::{CalendarDateRow, CalendarRow, Exception};
-use crate::table_file::TableFile;
 use crate::values::{Day, number};
-use csv::ByteRecord;
 use std::alloc::Global;
 
 // The date in a column.
-fn day_in(fields: &ByteRecord, place: Option<usize>) -> Result<Day, FaultKind>
-    ensures ok { IfOk result (λ d. day_of (cell_of place (fields_of fields.now)) ≡ Some d) }
-    ensures err { IfErr result (λ kind. fault_unless (day_of (cell_of place (fields_of fields.now))) FaultKind.BadDate ≡ Some kind) }
+fn day_in(cells: &Cells, column: usize) -> Result<Day, FaultKind>
+    ensures ok { IfOk result (λ d. day_of (value cells.now.places.now column (fields_of cells.now.fields.now)) ≡ Some d) }
+    ensures err { IfErr result (λ kind. fault_unless (day_of (value cells.now.places.now column (fields_of cells.now.fields.now))) FaultKind.BadDate ≡ Some kind) }
 {
-    Day::parse(cell(fields, place)).map_err(|_| FaultKind::BadDate)
+    Day::parse(cells.get(column)).map_err(|_| FaultKind::BadDate)
 }
 
 // Whether a service runs on the weekday of a column.
-fn weekday(fields: &ByteRecord, places: &[Place], column: usize) -> Option<bool>
-    requires { column < length places.now }
-    ensures { result ≡ weekday_of places.now (fields_of fields.now) column }
+fn weekday(cells: &Cells, column: usize) -> Option<bool>
+    ensures { result ≡ weekday_of cells.now.places.now (fields_of cells.now.fields.now) column }
 {
-    match number(cell(fields, places[column]))? {
+    match number(cells.get(column))? {
         0 => Some(false),
         1 => Some(true),
         _ => None,
@@ -41,18 +34,17 @@ fn weekday(fields: &ByteRecord, places: &[Place], column: usize) -> Option<bool>
 }
 
 // The weekdays, Monday first.
-fn weekdays(fields: &ByteRecord, places: &[Place]) -> Option<[bool; 7]>
-    requires { 7 < length places.now }
-    ensures { result ≡ weekdays_of places.now (fields_of fields.now) }
+fn weekdays(cells: &Cells) -> Option<[bool; 7]>
+    ensures { result ≡ weekdays_of cells.now.places.now (fields_of cells.now.fields.now) }
 {
     Some([
-        weekday(fields, places, 1)?,
-        weekday(fields, places, 2)?,
-        weekday(fields, places, 3)?,
-        weekday(fields, places, 4)?,
-        weekday(fields, places, 5)?,
-        weekday(fields, places, 6)?,
-        weekday(fields, places, 7)?,
+        weekday(cells, 1)?,
+        weekday(cells, 2)?,
+        weekday(cells, 3)?,
+        weekday(cells, 4)?,
+        weekday(cells, 5)?,
+        weekday(cells, 6)?,
+        weekday(cells, 7)?,
     ])
 }
 
@@ -68,23 +60,19 @@ fn exception(text: &[u8]) -> Option<Exception>
 }
 
 impl Row for CalendarRow {
-    ghost columns = { 10 };
-
-    ghost values = { calendar_fault };
-
-    ghost KEY = { keys.Column 0 };
+    ghost TABLE = { files.Calendar };
 
     ghost spells = { SpellsCalendar };
 
-    const KEY: Key = Key::Column(0);
+    const TABLE: Table = Table::Calendar;
 
-    fn read(alloc: Global, places: &[Place], fields: &ByteRecord) -> Result<Self, FaultKind> {
-        let Some(weekdays) = weekdays(fields, places) else {
+    fn read(alloc: Global, cells: &Cells) -> Result<Self, FaultKind> {
+        let Some(weekdays) = weekdays(cells) else {
             return Err(FaultKind::BadNumber);
         };
-        let start = day_in(fields, places[8])?;
-        let end = day_in(fields, places[9])?;
-        let service = text_in(alloc, fields, places[0])?;
+        let start = day_in(cells, 8)?;
+        let end = day_in(cells, 9)?;
+        let service = cells.text(alloc, 0)?;
         Ok(CalendarRow {
             service,
             weekdays,
@@ -94,68 +82,23 @@ impl Row for CalendarRow {
     }
 }
 
-impl TableFile for Vec<CalendarRow> {
-    ghost TABLE = { files.Calendar };
-
-    ghost holds = { λ bytes rows. HoldsCalendar bytes rows.items };
-
-    ghost tells = { IsFaultOf calendar_shape };
-
-    const TABLE: Table = Table::Calendar;
-
-    fn read(alloc: Global, hash: IdHash, bytes: &[u8]) -> Result<Vec<CalendarRow>, TableFault> {
-        let names = [
-            "service_id",
-            "monday",
-            "tuesday",
-            "wednesday",
-            "thursday",
-            "friday",
-            "saturday",
-            "sunday",
-            "start_date",
-            "end_date",
-        ];
-        read_rows(alloc, hash, Table::Calendar, bytes, &names, 10)
-    }
-}
-
 impl Row for CalendarDateRow {
-    ghost columns = { 3 };
-
-    ghost values = { calendar_date_fault };
-
-    ghost KEY = { keys.Columns 0 1 };
+    ghost TABLE = { files.CalendarDates };
 
     ghost spells = { SpellsCalendarDate };
 
-    const KEY: Key = Key::Columns(0, 1);
+    const TABLE: Table = Table::CalendarDates;
 
-    fn read(alloc: Global, places: &[Place], fields: &ByteRecord) -> Result<Self, FaultKind> {
-        let day = day_in(fields, places[1])?;
-        let Some(exception) = exception(cell(fields, places[2])) else {
+    fn read(alloc: Global, cells: &Cells) -> Result<Self, FaultKind> {
+        let day = day_in(cells, 1)?;
+        let Some(exception) = exception(cells.get(2)) else {
             return Err(FaultKind::BadNumber);
         };
-        let service = text_in(alloc, fields, places[0])?;
+        let service = cells.text(alloc, 0)?;
         Ok(CalendarDateRow {
             service,
             day,
             exception,
         })
-    }
-}
-
-impl TableFile for Vec<CalendarDateRow> {
-    ghost TABLE = { files.CalendarDates };
-
-    ghost holds = { λ bytes rows. HoldsCalendarDates bytes rows.items };
-
-    ghost tells = { IsFaultOf calendar_dates_shape };
-
-    const TABLE: Table = Table::CalendarDates;
-
-    fn read(alloc: Global, hash: IdHash, bytes: &[u8]) -> Result<Vec<CalendarDateRow>, TableFault> {
-        let names = ["service_id", "date", "exception_type"];
-        read_rows(alloc, hash, Table::CalendarDates, bytes, &names, 3)
     }
 }

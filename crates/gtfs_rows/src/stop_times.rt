@@ -3,7 +3,6 @@
 ghost use Rattle.std.specs.Prelude.{◌≡◌, ◌≢◌, ◌<◌, ◌++◌, ◌∷◌, [], List, length, map, IfOk, IfErr, OnOk, IsUtf8, None, Some};
 ghost use Rattle.std.specs.String.{string_bytes};
 ghost use Rattle.csv.specs.Records.{AllText, fields_of};
-ghost use Rattle.gtfs_rows.specs.Cells.{cell as cell_of};
 ghost use Rattle.gtfs_rows.specs.Faults.{IsFaultOf, fault_unless};
 ghost use Rattle.gtfs_rows.specs.Ids.{given_also};
 ghost use Rattle.gtfs_rows.specs.Source.{Record};
@@ -12,15 +11,14 @@ ghost use Rattle.gtfs_rows.specs.Tables.{HoldsStopTimes, stop_times_shape};
 ghost use Rattle.gtfs_rows.specs.Values.{number_of};
 ghost use Rattle.gtfs_rows.specs.declared.fault.Table.TheVariants as files;
 
-use crate::cells::{Place, cell};
+use crate::cells::Cells;
 use crate::fault::{FaultKind, Table, TableFault};
 use crate::id_hash::IdHash;
-use crate::ids::place_of;
+use crate::ids::{Ids, place_of};
 use crate::reader::{TableRows, add_row, read_table};
 use crate::rows::StopTimeRow;
 use crate::table_file::TableFile;
 use crate::values::{Time, number};
-use csv::ByteRecord;
 use indexmap::IndexSet;
 use std::alloc::Global;
 
@@ -34,12 +32,12 @@ pub struct StopTimes {
 }
 
 // The time in a column, which may be blank.
-fn time_in(fields: &ByteRecord, place: Option<usize>) -> Result<Option<u32>, FaultKind>
-    ensures fine { IfOk result (λ t. time_fault (cell_of place (fields_of fields.now)) ≡ None) }
-    ensures ok { IfOk result (λ t. t ≡ given_time (cell_of place (fields_of fields.now))) }
-    ensures err { IfErr result (λ kind. time_fault (cell_of place (fields_of fields.now)) ≡ Some kind) }
+fn time_in(cells: &Cells, column: usize) -> Result<Option<u32>, FaultKind>
+    ensures fine { IfOk result (λ t. time_fault (value cells.now.places.now column (fields_of cells.now.fields.now)) ≡ None) }
+    ensures ok { IfOk result (λ t. t ≡ given_time (value cells.now.places.now column (fields_of cells.now.fields.now))) }
+    ensures err { IfErr result (λ kind. time_fault (value cells.now.places.now column (fields_of cells.now.fields.now)) ≡ Some kind) }
 {
-    let text = cell(fields, place);
+    let text = cells.get(column);
     if text.is_empty() {
         return Ok(None);
     }
@@ -50,11 +48,11 @@ fn time_in(fields: &ByteRecord, place: Option<usize>) -> Result<Option<u32>, Fau
 }
 
 // The number in a column.
-fn number_in(fields: &ByteRecord, place: Option<usize>) -> Result<u32, FaultKind>
-    ensures ok { IfOk result (λ n. number_of (cell_of place (fields_of fields.now)) ≡ Some n) }
-    ensures err { IfErr result (λ kind. fault_unless (number_of (cell_of place (fields_of fields.now))) FaultKind.BadNumber ≡ Some kind) }
+fn number_in(cells: &Cells, column: usize) -> Result<u32, FaultKind>
+    ensures ok { IfOk result (λ n. number_of (value cells.now.places.now column (fields_of cells.now.fields.now)) ≡ Some n) }
+    ensures err { IfErr result (λ kind. fault_unless (number_of (value cells.now.places.now column (fields_of cells.now.fields.now))) FaultKind.BadNumber ≡ Some kind) }
 {
-    number(cell(fields, place)).ok_or(FaultKind::BadNumber)
+    number(cells.get(column)).ok_or(FaultKind::BadNumber)
 }
 
 // Whether a pickup_type or a drop_off_type lets passengers board or alight.
@@ -70,7 +68,7 @@ fn available(text: &[u8]) -> bool
 // The place of a stop_id among the ids, unless it is blank. It is first sought at a place where it is likely.
 fn stop_place(
     alloc: Global,
-    stops: &mut IndexSet<String, IdHash>,
+    stops: &mut Ids,
     likely: Option<u32>,
     id: &[u8],
 ) -> Result<Option<u32>, FaultKind>
@@ -92,31 +90,29 @@ fn add_stop_time(
     times: &mut StopTimes,
     alloc: Global,
     likely: Option<u32>,
-    places: &[Place],
-    fields: &ByteRecord,
+    cells: &Cells,
 ) -> Result<Option<u32>, FaultKind>
-    requires text { AllText (fields_of fields.now) }
-    requires wide { length places.now ≡ 7 }
-    ensures ok { (before : List Record) → AreStopTimes places.now before times.old → OnOk result
-        ((stop_time_fault places.now (fields_of fields.now) ≡ None)
-        × AreStopTimes places.now (before ++ fields_of fields.now ∷ []) times.new) }
+    requires { AllText (fields_of cells.now.fields.now) }
+    ensures ok { (before : List Record) → AreStopTimes cells.now.places.now before times.old → OnOk result
+        ((stop_time_fault cells.now.places.now (fields_of cells.now.fields.now) ≡ None)
+        × AreStopTimes cells.now.places.now (before ++ fields_of cells.now.fields.now ∷ []) times.new) }
     ensures err { IfErr result (λ kind. kind ≢ FaultKind.OutOfMemory
-        → stop_time_fault places.now (fields_of fields.now) ≡ Some kind) }
+        → stop_time_fault cells.now.places.now (fields_of cells.now.fields.now) ≡ Some kind) }
 {
-    let arrival = time_in(fields, places[1])?;
-    let departure = time_in(fields, places[2])?;
-    let sequence = number_in(fields, places[4])?;
+    let arrival = time_in(cells, 1)?;
+    let departure = time_in(cells, 2)?;
+    let sequence = number_in(cells, 4)?;
     let before = times.rows.last().map(|row| row.trip);
-    let trip = place_of(alloc, &mut times.trips, before, cell(fields, places[0]))?;
-    let stop = stop_place(alloc, &mut times.stops, likely, cell(fields, places[3]))?;
+    let trip = place_of(alloc, &mut times.trips, before, cells.get(0))?;
+    let stop = stop_place(alloc, &mut times.stops, likely, cells.get(3))?;
     let row = StopTimeRow {
         trip,
         arrival,
         departure,
         stop,
         sequence,
-        board: available(cell(fields, places[5])),
-        alight: available(cell(fields, places[6])),
+        board: available(cells.get(5)),
+        alight: available(cells.get(6)),
     };
     add_row(&mut times.rows, row)?;
     Ok(stop)
@@ -151,20 +147,15 @@ fn note_follower(followers: &mut Vec<u32>, place: u32, next: u32) -> Result<(), 
 }
 
 impl TableRows for StopTimesRead {
-    ghost columns = { 7 };
-
-    ghost judge = { λ places before r. stop_time_fault places r };
+    ghost TABLE = { files.StopTimes };
 
     ghost holds = { λ places records read. AreStopTimes places records read.times };
 
-    fn add(
-        &mut self,
-        alloc: Global,
-        places: &[Place],
-        fields: &ByteRecord,
-    ) -> Result<(), FaultKind> {
+    const TABLE: Table = Table::StopTimes;
+
+    fn add(&mut self, alloc: Global, cells: &Cells) -> Result<(), FaultKind> {
         let likely = follower(&self.followers, self.last);
-        let stop = add_stop_time(&mut self.times, alloc, likely, places, fields)?;
+        let stop = add_stop_time(&mut self.times, alloc, likely, cells)?;
         let Some(stop) = stop else {
             return Ok(());
         };
@@ -193,16 +184,7 @@ impl TableFile for StopTimes {
             last: 0,
             followers: Vec::new(alloc),
         };
-        let names = [
-            "trip_id",
-            "arrival_time",
-            "departure_time",
-            "stop_id",
-            "stop_sequence",
-            "pickup_type",
-            "drop_off_type",
-        ];
-        match read_table(read, alloc, Table::StopTimes, bytes, &names, 5) {
+        match read_table(read, alloc, bytes) {
             Ok(read) => Ok(read.times),
             Err(fault) => Err(fault),
         }

@@ -14,8 +14,8 @@ ghost use Rattle.gtfs_tables.specs.Feeds.{IsFirstFault, IsJoined, IsLinked, IsNa
 ghost use Rattle.gtfs_tables.specs.declared.names.Named.{Named as NamedBy};
 
 use crate::links::{
-    flex_at, flex_ids, judge_rows, linked_frequencies, linked_rows, out_of_memory, repeating,
-    skipped_in, stations, transfers as linked_transfers,
+    RowNames, flex_at, flex_ids, judge_rows, linked_frequencies, linked_rows, out_of_memory,
+    repeating, skipped_in, stations, transfers as linked_transfers,
 };
 use crate::names::{Named, named_each, stops_by_id, trips_by_id};
 use crate::order::{RowOrder, number_at, order_of_rows, trip_at};
@@ -55,14 +55,6 @@ pub fn join(alloc: Global, tables: Tables, strict: bool) -> Result<Feed, TableFa
         Ok(links) => feed_of(alloc, tables, links, strict),
         Err(fault) => Err(fault),
     }
-}
-
-// What the ids of stop_times.txt name: its trip_ids and its stop_ids, and which of the trip_ids have a row without a stop.
-#[derive(Drop)]
-struct RowNames {
-    trips: Vec<Option<u32>>,
-    stops: Vec<Option<Named>>,
-    flex: Vec<bool>,
 }
 
 // The links of the tables, or the first of their ids that names nothing.
@@ -275,16 +267,7 @@ fn timed_rows(
         → first_below (trip_fault strict (turns_in links.now.names.trips.items links.now.order rows.items)
         (linked_by links.now.names.trips.items links.now.names.stops.items links.now.order rows.items)) (length trips.items) ≡ Some fault) }
 {
-    let names = &links.names;
-    let linked = linked_rows(
-        alloc,
-        rows,
-        &links.order,
-        &names.trips,
-        &names.stops,
-        &names.flex,
-    );
-    let Ok(stop_times) = linked else {
+    let Ok(stop_times) = linked_rows(alloc, rows, &links.order, &links.names) else {
         return Err(out_of_memory());
     };
     match timed_trips(

@@ -17,6 +17,14 @@ use gtfs_rows::{
 use indexmap::IndexMap;
 use std::alloc::{AllocError, Global};
 
+// What the ids of stop_times.txt name: its trip_ids and its stop_ids, and which of the trip_ids have a row without a stop.
+#[derive(Drop)]
+pub(crate) struct RowNames {
+    pub(crate) trips: Vec<Option<u32>>,
+    pub(crate) stops: Vec<Option<Named>>,
+    pub(crate) flex: Vec<bool>,
+}
+
 // The fault of the row at a place: records are numbered from 1.
 pub(crate) fn fault_at(table: Table, place: usize, kind: FaultKind) -> TableFault
     requires { place < usize.MAX }
@@ -202,47 +210,36 @@ pub(crate) fn linked_rows(
     alloc: Global,
     rows: Vec<StopTimeRow>,
     order: &RowOrder,
-    trips: &[Option<u32>],
-    stops: &[Option<Named>],
-    flex: &[bool],
+    names: &RowNames,
 ) -> Result<Vec<StopTimeRow>, AllocError>
-    requires { (id : ℕ) → id < length trips.now → slice_index_or flex.now id false ≡ is_flex_id rows.items id }
+    requires { (id : ℕ) → id < length names.now.trips.items → slice_index_or names.now.flex.items id false ≡ is_flex_id rows.items id }
     ensures { IfOk result (λ ordered. ordered.items ≡ map (λ turn. let row = row_of rows.items turn.number in
-        linked_row trips.now stops.now (is_flex_id rows.items row.trip) row) (turns_in trips.now order.now rows.items)) }
+        linked_row names.now.trips.items names.now.stops.items (is_flex_id rows.items row.trip) row) (turns_in names.now.trips.items order.now rows.items)) }
 {
     match order {
-        RowOrder::Filed => Ok(linked_in_place(rows, trips, stops, flex)),
-        RowOrder::ByTurns(turns) => linked_by_turns(alloc, &rows, turns, trips, stops, flex),
+        RowOrder::Filed => Ok(linked_in_place(rows, names)),
+        RowOrder::ByTurns(turns) => linked_by_turns(alloc, &rows, turns, names),
     }
 }
 
 // The rows, each with its trip's place and its stop's number.
-fn linked_in_place(
-    mut rows: Vec<StopTimeRow>,
-    trips: &[Option<u32>],
-    stops: &[Option<Named>],
-    flex: &[bool],
-) -> Vec<StopTimeRow>
-    requires { (id : ℕ) → id < length trips.now → slice_index_or flex.now id false ≡ is_flex_id rows.items id }
-    ensures { result.items ≡ map (λ row. linked_row trips.now stops.now (is_flex_id rows.items row.trip) row) rows.items }
+fn linked_in_place(mut rows: Vec<StopTimeRow>, names: &RowNames) -> Vec<StopTimeRow>
+    requires { (id : ℕ) → id < length names.now.trips.items → slice_index_or names.now.flex.items id false ≡ is_flex_id rows.items id }
+    ensures { result.items ≡ map (λ row. linked_row names.now.trips.items names.now.stops.items (is_flex_id rows.items row.trip) row) rows.items }
 {
     for at in 0..rows.len() {
         let row = rows[at];
-        rows[at] = linked_marked(&row, trips, stops, flex);
+        rows[at] = linked_marked(&row, names);
     }
     rows
 }
 
 // A row with its trip's place and its stop's number, where flex trips are marked.
-fn linked_marked(
-    row: &StopTimeRow,
-    trips: &[Option<u32>],
-    stops: &[Option<Named>],
-    flex: &[bool],
-) -> StopTimeRow
-    ensures { result ≡ linked_row trips.now stops.now (slice_index_or flex.now row.now.trip false) row.now }
+fn linked_marked(row: &StopTimeRow, names: &RowNames) -> StopTimeRow
+    ensures { result ≡ linked_row names.now.trips.items names.now.stops.items (slice_index_or names.now.flex.items row.now.trip false) row.now }
 {
-    linked(row, trips, stops, flex_at(flex, row.trip as usize))
+    let flex = flex_at(&names.flex, row.trip as usize);
+    linked(row, &names.trips, &names.stops, flex)
 }
 
 // The rows by their turns in a list of their own.
@@ -250,18 +247,16 @@ fn linked_by_turns(
     alloc: Global,
     rows: &[StopTimeRow],
     turns: &[Turn],
-    trips: &[Option<u32>],
-    stops: &[Option<Named>],
-    flex: &[bool],
+    names: &RowNames,
 ) -> Result<Vec<StopTimeRow>, AllocError>
-    requires { (id : ℕ) → id < length trips.now → slice_index_or flex.now id false ≡ is_flex_id rows.now id }
+    requires { (id : ℕ) → id < length names.now.trips.items → slice_index_or names.now.flex.items id false ≡ is_flex_id rows.now id }
     ensures { IfOk result (λ ordered. ordered.items ≡ map (λ turn. let row = row_of rows.now turn.number in
-        linked_row trips.now stops.now (is_flex_id rows.now row.trip) row) turns.now) }
+        linked_row names.now.trips.items names.now.stops.items (is_flex_id rows.now row.trip) row) turns.now) }
 {
     let mut ordered = Vec::with_capacity(alloc, turns.len())?;
     for turn in turns {
         let row = row_numbered(rows, turn.number);
-        ordered.push(linked(&row, trips, stops, flex_at(flex, row.trip as usize)))?;
+        ordered.push(linked_marked(&row, names))?;
     }
     Ok(ordered)
 }

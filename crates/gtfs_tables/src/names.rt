@@ -21,12 +21,11 @@ pub enum Named {
     Elsewhere,
 }
 
+// What each id names, or the want of memory.
+type ById<'a, T> = Result<IndexMap<&'a str, T, IdHash>, AllocError>;
+
 // What each id of stops.txt names.
-pub(crate) fn stops_by_id<'a>(
-    alloc: Global,
-    hash: IdHash,
-    stops: &'a [StopRow],
-) -> Result<IndexMap<&'a str, Named, IdHash>, AllocError>
+pub(crate) fn stops_by_id(alloc: Global, hash: IdHash, stops: &[StopRow]) -> ById<'_, Named>
     requires { length stops.now ≤ u32.MAX }
     ensures { IfOk result (λ names. (id : List ℕ) → held_at names id ≡ stop_named stops.now id) }
 {
@@ -54,11 +53,7 @@ fn named_as(location: Location, number: u32, place: u32) -> Named
 }
 
 // The place of the row of each id of trips.txt.
-pub(crate) fn trips_by_id<'a>(
-    alloc: Global,
-    hash: IdHash,
-    trips: &'a [TripRow],
-) -> Result<IndexMap<&'a str, u32, IdHash>, AllocError>
+pub(crate) fn trips_by_id(alloc: Global, hash: IdHash, trips: &[TripRow]) -> ById<'_, u32>
     requires { length trips.now ≤ u32.MAX }
     ensures { IfOk result (λ places. (id : List ℕ) → held_at places id ≡ trip_named trips.now id) }
 {

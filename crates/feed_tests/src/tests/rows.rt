@@ -2,9 +2,9 @@
 
 use super::texts::{Case, Telling, add_rows, fault_text, file_of, lines_of, number, try_cases};
 use gtfs_rows::{
-    IdHash, StopTimes, TableFault, read_agency, read_calendar, read_calendar_dates,
-    read_frequencies, read_stop_times, read_stops, read_transfers, read_trips, stops_up_to,
-    trips_up_to,
+    IdHash, StopRow, StopTimes, TableFault, TripRow, read_agency, read_calendar,
+    read_calendar_dates, read_frequencies, read_stop_times, read_stops, read_transfers, read_trips,
+    rows_up_to,
 };
 use indexmap::IndexSet;
 use std::alloc::{AllocError, Global};
@@ -85,9 +85,9 @@ fn told_within(
 ) -> Result<String, AllocError> {
     let hash = IdHash::of_key(7);
     if file == "stops.txt" {
-        told(alloc, stops_up_to(limit, alloc, hash, bytes))
+        told(alloc, rows_up_to::<StopRow>(limit, alloc, hash, bytes))
     } else {
-        told(alloc, trips_up_to(limit, alloc, hash, bytes))
+        told(alloc, rows_up_to::<TripRow>(limit, alloc, hash, bytes))
     }
 }
 

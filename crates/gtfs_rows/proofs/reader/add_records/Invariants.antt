@@ -1,6 +1,7 @@
 use Rattle.std.proofs.Common.{◌≡◌, ◌<◌, ℕ, None, drop, take}
 use Rattle.gtfs_rows.specs.Source.{AllRecordsText, IsTableReader, left_of}
 use Rattle.gtfs_rows.specs.Faults.{fault_at, length_first}
+use Rattle.gtfs_rows.specs.Tables.{judge_of}
 use Rattle.gtfs_rows.proofs.reader.add_records.Given as goal
 
 abbrev pub invariant-loop-taken : goal.invariant-loop-taken
@@ -8,6 +9,6 @@ invariant-loop-taken g l = record {
   sound : IsTableReader l.reader;
   text : AllRecordsText (left_of l.reader);
   left : drop l.taken (left_of l.initial.reader) ≡ left_of l.reader;
-  good : (j : ℕ) → j < l.taken → fault_at (length_first l.width (g.T.TableRows.judge l.places)) (left_of l.initial.reader) j ≡ None;
+  good : (j : ℕ) → j < l.taken → fault_at (length_first l.width (judge_of g.T.TableRows.TABLE l.places)) (left_of l.initial.reader) j ≡ None;
   held : g.T.TableRows.holds l.places (take l.taken (left_of l.initial.reader)) l.rows;
 }

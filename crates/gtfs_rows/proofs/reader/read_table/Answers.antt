@@ -1,7 +1,8 @@
-use Rattle.std.proofs.Common.{◌≡◌, ◌∷◌, ◌∙◌, sym, map, List, ℕ, Bor}
+use Rattle.std.proofs.Common.{◌≡◌, ◌∷◌, ◌∙◌, sym}
 use Rattle.std.proofs.lemmas.Result.{IfErr-weaker, IfOk-weaker}
 use Rattle.csv.specs.Records.{fields_of}
 use Rattle.gtfs_rows.specs.Source.{left_of, table_records}
+use Rattle.gtfs_rows.specs.Tables.{shape_of}
 use Rattle.gtfs_rows.proofs.CellFacts.{text_rest}
 use Rattle.gtfs_rows.proofs.FaultFacts.{fault_of_file, held_of_file}
 use Rattle.gtfs_rows.proofs.TextFacts.{records_text}
@@ -15,13 +16,11 @@ read_under-requires-clause-text g c =
 pub returns-in-Ok-true-clause-ok : goal.returns-in-Ok-true-clause-ok
 returns-in-Ok-true-clause-ok g c =
     let e : table_records c.args.bytes.now ≡ fields_of c.take_record.new.fields ∷ left_of c.take_record.new.reader = sym c.open_table-reader.ensures.left ∙ (rw c.in-Ok-true.field-0-test at c.in-Ok-true.ensures.reads) in
-    IfOk-weaker c.read_under.result _ _ (λ t held. held_of_file
-    (record { names = map (λ (name : Bor (List ℕ)). name.now) c.args.names.now; required = c.args.required; judge = g.T.TableRows.judge })
+    IfOk-weaker c.read_under.result _ _ (λ t held. held_of_file (shape_of g.T.TableRows.TABLE)
     c.args.bytes.now (fields_of c.take_record.new.fields) (left_of c.take_record.new.reader) g.T.TableRows.holds t (c.is_text.ensures.yes c.if-not-is_text.false) e held) c.read_under.ensures.ok
 
 pub returns-in-Ok-true-clause-err : goal.returns-in-Ok-true-clause-err
 returns-in-Ok-true-clause-err g c =
     let e : table_records c.args.bytes.now ≡ fields_of c.take_record.new.fields ∷ left_of c.take_record.new.reader = sym c.open_table-reader.ensures.left ∙ (rw c.in-Ok-true.field-0-test at c.in-Ok-true.ensures.reads) in
-    IfErr-weaker c.read_under.result _ _ (λ fault found other. fault_of_file
-    (record { names = map (λ (name : Bor (List ℕ)). name.now) c.args.names.now; required = c.args.required; judge = g.T.TableRows.judge })
+    IfErr-weaker c.read_under.result _ _ (λ fault found other. fault_of_file (shape_of g.T.TableRows.TABLE)
     c.args.bytes.now (fields_of c.take_record.new.fields) (left_of c.take_record.new.reader) (c.is_text.ensures.yes c.if-not-is_text.false) e fault.row fault.kind (found other)) c.read_under.ensures.err

@@ -14,10 +14,10 @@ no_stop_time_fault : (places : Places) (r : Record) (n : ℕ) → time_fault (va
 no_stop_time_fault places r n a d s = rw (a, d, s) refl
 
 pub place_of-requires : goal.place_of-requires
-place_of-requires c = rw c.cell.ensures (cell_text (slice_index_or c.args.places.now 0 None) (fields_of c.args.fields.now) c.requires.text)
+place_of-requires c = rw c.get.ensures (cell_text (slice_index_or c.args.cells.now.places.now 0 None) (fields_of c.args.cells.now.fields.now) c.requires)
 
 pub stop_place-requires : goal.stop_place-requires
-stop_place-requires c = rw c.cell-2.ensures (cell_text (slice_index_or c.args.places.now 3 None) (fields_of c.args.fields.now) c.requires.text)
+stop_place-requires c = rw c.get-2.ensures (cell_text (slice_index_or c.args.cells.now.places.now 3 None) (fields_of c.args.cells.now.fields.now) c.requires)
 
 pub returns-clause-ok : goal.returns-clause-ok
 returns-clause-ok c = λ before held.
@@ -30,28 +30,28 @@ returns-clause-ok c = λ before held.
       board = c.available.result;
       alight = c.available-2.result;
     } in
-    let spelled : SpellsStopTime (map string_bytes c.place_of.new.ids.keys) (map string_bytes c.stop_place.new.stops.keys) c.args.places.now
-    (fields_of c.args.fields.now) row = record {
-      trip = rw c.cell.ensures at c.in_ok-trip.ensures.ok;
+    let spelled : SpellsStopTime (map string_bytes c.place_of.new.ids.keys) (map string_bytes c.stop_place.new.stops.keys) c.args.cells.now.places.now
+    (fields_of c.args.cells.now.fields.now) row = record {
+      trip = rw c.get.ensures at c.in_ok-trip.ensures.ok;
       arrival = c.in_ok-arrival.ensures.ok;
       departure = c.in_ok-departure.ensures.ok;
-      stop = rw c.cell-2.ensures at c.in_ok-stop.ensures.ok;
+      stop = rw c.get-2.ensures at c.in_ok-stop.ensures.ok;
       sequence = c.in_ok-sequence.ensures.ok;
-      board = rw c.cell-3.ensures at c.available.ensures;
-      alight = rw c.cell-4.ensures at c.available-2.ensures;
+      board = rw c.get-3.ensures at c.available.ensures;
+      alight = rw c.get-4.ensures at c.available-2.ensures;
     } in (
-      no_stop_time_fault c.args.places.now (fields_of c.args.fields.now) c.in_ok-sequence.sequence c.in_ok-arrival.ensures.fine c.in_ok-departure.ensures.fine
+      no_stop_time_fault c.args.cells.now.places.now (fields_of c.args.cells.now.fields.now) c.in_ok-sequence.sequence c.in_ok-arrival.ensures.fine c.in_ok-departure.ensures.fine
           c.in_ok-sequence.ensures.ok,
       record {
-        trips = trips_more c.args.places.now before (fields_of c.args.fields.now) (map string_bytes c.args.times.now.trips.keys)
-            (map string_bytes c.place_of.new.ids.keys) held.trips (rw c.cell.ensures at c.in_ok-trip.ensures.more);
-        stops = stops_more c.args.places.now before (fields_of c.args.fields.now) (map string_bytes c.args.times.now.stops.keys)
-            (map string_bytes c.stop_place.new.stops.keys) held.stops (rw c.cell-2.ensures at c.in_ok-stop.ensures.more);
+        trips = trips_more c.args.cells.now.places.now before (fields_of c.args.cells.now.fields.now) (map string_bytes c.args.times.now.trips.keys)
+            (map string_bytes c.place_of.new.ids.keys) held.trips (rw c.get.ensures at c.in_ok-trip.ensures.more);
+        stops = stops_more c.args.cells.now.places.now before (fields_of c.args.cells.now.fields.now) (map string_bytes c.args.times.now.stops.keys)
+            (map string_bytes c.stop_place.new.stops.keys) held.stops (rw c.get-2.ensures at c.in_ok-stop.ensures.more);
         rows = rows_more (map string_bytes c.args.times.now.trips.keys) (map string_bytes c.args.times.now.stops.keys)
             (map string_bytes c.place_of.new.ids.keys) (map string_bytes c.stop_place.new.stops.keys)
-            (value c.args.places.now 0 (fields_of c.args.fields.now)) (value c.args.places.now 3 (fields_of c.args.fields.now)) c.args.places.now before
-            (fields_of c.args.fields.now)
-            c.args.times.now.rows.items c.add_row.new.rows.items row (rw c.cell.ensures at c.in_ok-trip.ensures.more)
-            (rw c.cell-2.ensures at c.in_ok-stop.ensures.more) c.in_ok-add_row.ensures.ok held.rows spelled;
+            (value c.args.cells.now.places.now 0 (fields_of c.args.cells.now.fields.now)) (value c.args.cells.now.places.now 3 (fields_of c.args.cells.now.fields.now)) c.args.cells.now.places.now before
+            (fields_of c.args.cells.now.fields.now)
+            c.args.times.now.rows.items c.add_row.new.rows.items row (rw c.get.ensures at c.in_ok-trip.ensures.more)
+            (rw c.get-2.ensures at c.in_ok-stop.ensures.more) c.in_ok-add_row.ensures.ok held.rows spelled;
       },
     )

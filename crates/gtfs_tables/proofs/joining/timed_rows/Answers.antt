@@ -4,50 +4,48 @@ use Rattle.std.proofs.lemmas.List.{length-map}
 use Rattle.gtfs_tables.specs.Feeds.{linked_by}
 use Rattle.gtfs_tables.specs.Order.{comes_before, turns_by, turns_in}
 use Rattle.gtfs_tables.specs.declared.order.Turn.{Turn}
-use Rattle.gtfs_tables.proofs.JoinFacts.{flex_told, rows_told, trips_made, trips_told, turns_told}
-use Rattle.gtfs_tables.proofs.joining.timed_rows.Goals.{After-deref-5}
+use Rattle.gtfs_tables.proofs.JoinFacts.{trips_made, trips_told, turns_told}
+use Rattle.gtfs_tables.proofs.joining.timed_rows.Goals.{After-deref-2}
 use Rattle.gtfs_tables.proofs.joining.timed_rows.Goals as goal
 
-made : (c : goal.After-deref-5) → c.deref-4.result.now
+made : (c : goal.After-deref-2) → c.deref.result.now
     ≡ linked_by c.args.links.now.names.trips.items c.args.links.now.names.stops.items c.args.links.now.order c.args.rows.items
-made c = c.deref-4.ensures.value ∙ rows_told c.deref.result.now c.args.links.now.names.trips.items c.deref-2.result.now c.args.links.now.names.stops.items
-    c.args.links.now.order c.args.rows.items c.in-Ok.stop_times.items c.deref.ensures.value c.deref-2.ensures.value c.in-Ok.ensures
+made c = c.deref.ensures.value ∙ c.in-Ok.ensures
 
-same : (c : goal.After-deref-5) → turns_by c.args.links.now.order c.deref-4.result.now
+same : (c : goal.After-deref-2) → turns_by c.args.links.now.order c.deref.result.now
     ≡ turns_in c.args.links.now.names.trips.items c.args.links.now.order c.args.rows.items
-same c = turns_told c.args.links.now.names.trips.items c.args.links.now.names.stops.items c.args.links.now.order c.args.rows.items c.deref-4.result.now (made c)
+same c = turns_told c.args.links.now.names.trips.items c.args.links.now.names.stops.items c.args.links.now.order c.args.rows.items c.deref.result.now (made c)
 
-pub linked_rows-linked-requires : goal.linked_rows-linked-requires
-linked_rows-linked-requires c = flex_told c.args.rows.items c.deref.result.now c.args.links.now.names.trips.items c.deref-3.result.now
-    c.args.links.now.names.flex.items c.deref.ensures.value c.deref-3.ensures.value c.requires.flex
+pub linked_rows-requires : goal.linked_rows-requires
+linked_rows-requires c = c.requires.flex
 
 pub returns-in_default-clause-err : goal.returns-in_default-clause-err
 returns-in_default-clause-err c = λ other. absurd (other c.out_of_memory.ensures)
 
 pub timed_trips-requires-clause-len : goal.timed_trips-requires-clause-len
 timed_trips-requires-clause-len c =
-    let from = (goal.at.timed_trips-requires-clause-len c).After-deref-5 in
+    let from = (goal.at.timed_trips-requires-clause-len c).After-deref-2 in
     ap length (made from) ∙ length-map (turns_in c.args.links.now.names.trips.items c.args.links.now.order c.args.rows.items) _
     ∙ sym (ap length (same from))
 
 pub timed_trips-requires-clause-rising : goal.timed_trips-requires-clause-rising
 timed_trips-requires-clause-rising c = subst (λ (turns : List Turn). IsSortedBy comes_before turns)
-    (sym (same (goal.at.timed_trips-requires-clause-rising c).After-deref-5)) c.requires.rising
+    (sym (same (goal.at.timed_trips-requires-clause-rising c).After-deref-2)) c.requires.rising
 
 pub returns-in-Ok-timed_trips-clause-rows : goal.returns-in-Ok-timed_trips-clause-rows
-returns-in-Ok-timed_trips-clause-rows c = sym c.deref-4.ensures.value ∙ made (goal.at.returns-in-Ok-timed_trips-clause-rows c).After-deref-5
+returns-in-Ok-timed_trips-clause-rows c = sym c.deref.ensures.value ∙ made (goal.at.returns-in-Ok-timed_trips-clause-rows c).After-deref-2
 
 pub returns-in-Ok-timed_trips-clause-fine : goal.returns-in-Ok-timed_trips-clause-fine
 returns-in-Ok-timed_trips-clause-fine c =
-    let from = (goal.at.returns-in-Ok-timed_trips-clause-fine c).After-deref-5 in
+    let from = (goal.at.returns-in-Ok-timed_trips-clause-fine c).After-deref-2 in
     trips_told c.args.strict _ _ _ _ _ _ (same from) (made from) c.in-Ok-timed_trips.ensures.fine
 
 pub returns-in-Ok-timed_trips-clause-trips : goal.returns-in-Ok-timed_trips-clause-trips
 returns-in-Ok-timed_trips-clause-trips c =
-    let from = (goal.at.returns-in-Ok-timed_trips-clause-trips c).After-deref-5 in
-    trips_made _ _ _ _ _ _ _ _ (same from) (made from) c.deref-5.ensures.value c.in-Ok-timed_trips.ensures.ok
+    let from = (goal.at.returns-in-Ok-timed_trips-clause-trips c).After-deref-2 in
+    trips_made _ _ _ _ _ _ _ _ (same from) (made from) c.deref-2.ensures.value c.in-Ok-timed_trips.ensures.ok
 
 pub returns-in-Err-clause-err : goal.returns-in-Err-clause-err
 returns-in-Err-clause-err c = λ other.
-    let from = (goal.at.returns-in-Err-clause-err c).After-deref-5 in
+    let from = (goal.at.returns-in-Err-clause-err c).After-deref-2 in
     trips_told c.args.strict _ _ _ _ _ _ (same from) (made from) (c.in-Err.ensures.err other)

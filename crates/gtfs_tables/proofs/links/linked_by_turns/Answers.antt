@@ -8,8 +8,7 @@ use Rattle.gtfs_tables.proofs.links.linked_by_turns.Goals as goal
 pub loop-turn-preserved : goal.loop-turn-preserved
 loop-turn-preserved c =
     let row = c.row_numbered-row.result in
-    let link = λ (row : StopTimeRow). linked_row c.args.trips.now c.args.stops.now (is_flex_id c.args.rows.now row.trip) row in
+    let link = λ (row : StopTimeRow). linked_row c.args.names.now.trips.items c.args.names.now.stops.items (is_flex_id c.args.rows.now row.trip) row in
     c.in_ok-push.ensures.items ∙ mapped_more (λ turn. link (row_of c.args.rows.now turn.number)) c.args.turns.now c.loop-turn.turn-index no_turn
-    c.loop-turn.ordered.items c.linked.result (omega arith) c.loop-turn.invariant
-    (c.linked.ensures ∙ ap (λ flex. linked_row c.args.trips.now c.args.stops.now flex row) c.flex_at.ensures
-    ∙ row_same c.args.trips.now c.args.stops.now c.args.rows.now c.args.flex.now row c.requires ∙ ap link c.row_numbered-row.ensures)
+    c.loop-turn.ordered.items c.linked_marked.result (omega arith) c.loop-turn.invariant
+    (c.linked_marked.ensures ∙ row_same c.args.names.now.trips.items c.args.names.now.stops.items c.args.rows.now c.args.names.now.flex.items row c.requires ∙ ap link c.row_numbered-row.ensures)

@@ -8,8 +8,8 @@ use Rattle.gtfs_tables.proofs.links.linked_in_place.Goals as goal
 pub loop-at-preserved : goal.loop-at-preserved
 loop-at-preserved c =
     let row = c.index.result.now in
-    let link = λ (row : StopTimeRow). linked_row c.args.trips.now c.args.stops.now (is_flex_id c.args.rows.items row.trip) row in
+    let link = λ (row : StopTimeRow). linked_row c.args.names.now.trips.items c.args.names.now.stops.items (is_flex_id c.args.rows.items row.trip) row in
     ap (λ made. slice_set c.loop-at.rows.items c.loop-at.at made)
-    (c.linked_marked.ensures ∙ row_same c.args.trips.now c.args.stops.now c.args.rows.items c.args.flex.now row c.requires)
+    (c.linked_marked.ensures ∙ row_same c.args.names.now.trips.items c.args.names.now.stops.items c.args.rows.items c.args.names.now.flex.items row c.requires)
     ∙ map_over_more link c.args.rows.items c.loop-at.rows.items c.loop-at.at row (omega (arith, c.loop-at-test.true, c.len-at-end.ensures))
     c.loop-at.invariant c.index.ensures

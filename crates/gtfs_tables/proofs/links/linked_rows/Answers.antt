@@ -8,7 +8,7 @@ use Rattle.gtfs_tables.proofs.links.linked_rows.Goals as goal
 
 pub returns-in-Filed : goal.returns-in-Filed
 returns-in-Filed c =
-    let link = λ (row : StopTimeRow). linked_row c.args.trips.now c.args.stops.now (is_flex_id c.args.rows.items row.trip) row in
-    c.linked_in_place.ensures ∙ sym (made_as_filed link c.args.trips.now c.args.rows.items)
-    ∙ ap (λ (order : RowOrder). map (λ turn. link (row_of c.args.rows.items turn.number)) (turns_in c.args.trips.now order c.args.rows.items))
+    let link = λ (row : StopTimeRow). linked_row c.args.names.now.trips.items c.args.names.now.stops.items (is_flex_id c.args.rows.items row.trip) row in
+    c.linked_in_place.ensures ∙ sym (made_as_filed link c.args.names.now.trips.items c.args.rows.items)
+    ∙ ap (λ (order : RowOrder). map (λ turn. link (row_of c.args.rows.items turn.number)) (turns_in c.args.names.now.trips.items order c.args.rows.items))
     (sym c.in-Filed.is)

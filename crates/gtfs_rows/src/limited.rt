@@ -1,0 +1,74 @@
+//! Tables that may have only so many rows.
+
+ghost use Rattle.std.specs.Prelude.{◌≡◌, ◌≢◌, ℕ, List, IfOk, IfErr};
+ghost use Rattle.gtfs_rows.specs.Faults.{HoldsRows};
+ghost use Rattle.gtfs_rows.specs.Tables.{HoldsWithin, IsFaultWithin, shape_of};
+
+use crate::fault::{FaultKind, Table, TableFault};
+use crate::id_hash::IdHash;
+use crate::keyed::Row;
+use crate::table_file::TableFile;
+use std::alloc::Global;
+
+/// A row of a table of which there may be only so many.
+pub trait LimitedRow: Row {
+    // How many there may be.
+    ghost LIMIT: { ℕ };
+    // How many of the rows are counted.
+    ghost count: { List Self → ℕ };
+
+    /// How many there may be.
+    const LIMIT: usize;
+
+    /// How many of the rows are counted.
+    fn count(rows: &[Self]) -> usize
+        ensures { result ≡ count rows.now };
+}
+
+/// The rows of a file, no more of them than there may be.
+#[derive(Drop)]
+pub struct Limited<R> {
+    pub rows: Vec<R>,
+}
+
+/// The rows of the bytes of a file, at most so many of those that are counted: of `stops.txt` the stops, of `trips.txt` all.
+/// Ids are looked up by the hash.
+///
+/// # Errors
+///
+/// The first fault of the file, else `TooMany`, told of the file, where it has more rows.
+pub fn rows_up_to<R: LimitedRow>(
+    limit: usize,
+    alloc: Global,
+    hash: IdHash,
+    bytes: &[u8],
+) -> Result<Vec<R>, TableFault>
+    ensures ok { IfOk result (λ rows. HoldsWithin (HoldsRows (shape_of R.TABLE) R.spells) R.count limit bytes.now rows.items) }
+    ensures file { IfErr result (λ fault. fault.table ≡ R.TABLE) }
+    ensures err { IfErr result (λ fault. fault.kind ≢ FaultKind.OutOfMemory
+        → IsFaultWithin (shape_of R.TABLE) (HoldsRows (shape_of R.TABLE) R.spells) R.count limit bytes.now fault.row fault.kind) }
+{
+    let read: Result<Vec<R>, TableFault> = TableFile::read(alloc, hash, bytes);
+    match read {
+        Ok(rows) if R::count(&rows) > limit => Err(R::TABLE.fault(0, FaultKind::TooMany)),
+        Ok(rows) => Ok(rows),
+        Err(fault) => Err(fault),
+    }
+}
+
+impl<R: LimitedRow> TableFile for Limited<R> {
+    ghost TABLE = { R.TABLE };
+
+    ghost holds = { λ bytes kept. HoldsWithin (HoldsRows (shape_of R.TABLE) R.spells) R.count R.LIMIT bytes kept.rows.items };
+
+    ghost tells = { IsFaultWithin (shape_of R.TABLE) (HoldsRows (shape_of R.TABLE) R.spells) R.count R.LIMIT };
+
+    const TABLE: Table = R::TABLE;
+
+    fn read(alloc: Global, hash: IdHash, bytes: &[u8]) -> Result<Limited<R>, TableFault> {
+        match rows_up_to(R::LIMIT, alloc, hash, bytes) {
+            Ok(rows) => Ok(Limited { rows }),
+            Err(fault) => Err(fault),
+        }
+    }
+}
