@@ -14,18 +14,19 @@ pub struct Point<V> {
     pub tag: usize,
 }
 
-/// Whether one time is before another, or they are equal and the criterion lists one value before another. So points are listed by
-/// departure, whichever of two departures is to come first.
+/// Whether a point comes before another: its time does, or their times are equal and the criterion lists its value first. The times are
+/// told apart from the points, since some lists begin with the first departure and some with the last.
 pub fn comes_first<C: Criterion>(
     criterion: &C,
     time: u32,
     other_time: u32,
-    value: &C::V,
-    other: &C::V,
+    point: &Point<C::V>,
+    other: &Point<C::V>,
 ) -> bool
-    requires value { Admits (C.rules criterion.now) value.now }
-    requires other { Admits (C.rules criterion.now) other.now }
-    ensures { result ≡ (nat_lt time other_time || (time == other_time && is_lt ((C.rules criterion.now).list_order value.now other.now))) }
+    requires point { Admits (C.rules criterion.now) point.now.value }
+    requires other { Admits (C.rules criterion.now) other.now.value }
+    ensures { result ≡ (nat_lt time other_time || (time == other_time && is_lt ((C.rules criterion.now).list_order point.now.value other.now.value))) }
 {
-    time < other_time || (time == other_time && criterion.list_order(value, other).is_lt())
+    time < other_time
+        || (time == other_time && criterion.list_order(&point.value, &other.value).is_lt())
 }
