@@ -3,11 +3,11 @@
 ghost use Rattle.std.specs.Prelude.{◌≡◌, ◌<◌, ◌≤◌, ◌⊎◌, ◌↔◌, ℕ, IfOk, OnOk, Contains, AllPairs, length, slice_get, slice_index_or, Some};
 ghost use Rattle.criteria.specs.Laws.{Admits};
 ghost use Rattle.bags.specs.Bag.{criterion_of, points_of};
-ghost use Rattle.profile_scan.specs.Points.{Before, is_before};
+ghost use Rattle.profile_scan.specs.Points.{Before};
 ghost use Rattle.profile_scan.specs.Answered.{IsAnswered};
 
 use crate::nodes::Node;
-use bags::{Bag, Point};
+use bags::{Bag, Point, comes_first};
 use criteria::Criterion;
 use std::alloc::{AllocError, Global};
 use timetable::{Kept, Query, Timetable};
@@ -110,19 +110,12 @@ fn place_for<C: Criterion>(criterion: &C, points: &[Point<C::V>], point: &Point<
     ensures after { (k : ℕ) (d : _) → result ≤ k → k < length points.now → Before (C.rules criterion.now) point.now (slice_index_or points.now k d) }
 {
     let mut place = points.len();
-    while place > 0 && is_before(criterion, point, &points[place - 1]) {
+    while place > 0 {
+        let last = points[place - 1];
+        if !comes_first(criterion, point.departure, last.departure, point, &last) {
+            return place;
+        }
         place -= 1;
     }
-    place
-}
-
-// Whether a point is listed before another.
-fn is_before<C: Criterion>(criterion: &C, point: &Point<C::V>, other: &Point<C::V>) -> bool
-    requires point { Admits (C.rules criterion.now) point.now.value }
-    requires other { Admits (C.rules criterion.now) other.now.value }
-    ensures { result ≡ is_before (C.rules criterion.now) point.now other.now }
-{
-    point.departure < other.departure
-        || (point.departure == other.departure
-            && criterion.list_order(&point.value, &other.value).is_lt())
+    0
 }
