@@ -17,10 +17,16 @@ goes_back {V} rules entries items are m time e lt is early le =
     subst (λ (f : Entry V). f.next < m) is (subst (λ n. n < m) (next_at entries m e lt is) (next_back rules entries items are m (not_end rules entries items are m time early le)))
 
 -- the same, of an entry read twice
-pub reads_back : {V : Type 0} (rules : Rules V) (entries : List (Entry V)) (items : List (Item V)) → AreEntries rules entries items → (m time : ℕ) (e f : Entry V) → m < length entries → e ≡ get_or entries m e → f ≡ get_or entries m f → (get_or entries m e).departure < time → time ≤ 4294967295 → (get_or entries m f).next < m
-reads_back rules entries items are m time e f lt is again early le = goes_back rules entries items are m time f lt again (departs_early entries m time e lt is early) le
+pub reads_back : {V : Type 0} (rules : Rules V) (entries : List (Entry V)) (items : List (Item V)) → AreEntries rules entries items
+    → (m time : ℕ) (e f : Entry V) → m < length entries → e ≡ get_or entries m e → f ≡ get_or entries m f
+    → (get_or entries m e).departure < time → time ≤ 4294967295 → (get_or entries m f).next < m
+reads_back rules entries items are m time e f lt is again early le =
+    goes_back rules entries items are m time f lt again (departs_early entries m time e lt is early) le
 
 -- and the way to the first late entry goes on by the next one
-pub reads_on : {V : Type 0} (rules : Rules V) (entries : List (Entry V)) (items : List (Item V)) → AreEntries rules entries items → (head m time : ℕ) (e f : Entry V) → LeadsTo entries items head time m → e ≡ get_or entries m e → f ≡ get_or entries m f → (get_or entries m e).departure < time → LeadsTo entries items head time (get_or entries m f).next
+pub reads_on : {V : Type 0} (rules : Rules V) (entries : List (Entry V)) (items : List (Item V)) → AreEntries rules entries items
+    → (head m time : ℕ) (e f : Entry V) → LeadsTo entries items head time m → e ≡ get_or entries m e → f ≡ get_or entries m f
+    → (get_or entries m e).departure < time → LeadsTo entries items head time (get_or entries m f).next
 reads_on {V} rules entries items are head m time e f leads is again early =
-    leads_on rules entries items are head time m _ (departs_early entries m time e leads.within is early) (next_at entries m f leads.within again ∙ ap (λ (x : Entry V). x.next) again) leads
+    leads_on rules entries items are head time m _ (departs_early entries m time e leads.within is early)
+    (next_at entries m f leads.within again ∙ ap (λ (x : Entry V). x.next) again) leads

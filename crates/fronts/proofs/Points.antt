@@ -140,7 +140,8 @@ module _ {V : Type 0} (rules : Rules V) (entries : List (Entry V)) (items : List
   )
 
 -- an entry that is read, read once more
-pub read_again : {V : Type 0} (entries : List (Entry V)) (m : ℕ) (e : Entry V) → e ≡ get_or entries m e → get_or entries m e ≡ get_or entries m (get_or entries m e)
+pub read_again : {V : Type 0} (entries : List (Entry V)) (m : ℕ) (e : Entry V)
+    → e ≡ get_or entries m e → get_or entries m e ≡ get_or entries m (get_or entries m e)
 read_again {V} entries m e is = ap (λ (x : Entry V). get_or entries m x) is
 
 -- what a front has to be tested for, in two parts

@@ -141,9 +141,11 @@ journey_within walks s tag is = go (slice_get s.set_outs tag) refl is.1
     go (Some set_out) at e = slice_get_within s.set_outs tag set_out at
 
 -- where a journey is told, so is the label by which one rides on
-pub first_told : (walks : List Footpath) (s : Story) (tag : ℕ) (x : SetOut) → IsJourneyTold walks s tag → x ≡ get_or s.set_outs tag x → (slice_get s.set_outs tag ≡ Some x) × IsLabelTold walks s x.label
+pub first_told : (walks : List Footpath) (s : Story) (tag : ℕ) (x : SetOut) → IsJourneyTold walks s tag → x ≡ get_or s.set_outs tag x
+    → (slice_get s.set_outs tag ≡ Some x) × IsLabelTold walks s x.label
 first_told walks s tag x is read =
-    let at : slice_get s.set_outs tag ≡ Some x = slice_get-get_or s.set_outs tag x (journey_within walks s tag is) ∙ ap Some (sym read) in
+    let within = journey_within walks s tag is in
+    let at : slice_get s.set_outs tag ≡ Some x = slice_get-get_or s.set_outs tag x within ∙ ap Some (sym read) in
     let t = told_journey walks s tag x is.0 at is.1 in
     (at, (t.0, t.1))
 

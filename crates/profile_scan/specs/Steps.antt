@@ -106,7 +106,8 @@ pub record SettingOut (V : Type 0) : Type 0 where
   pub label : Point V
 
 -- by a start of some kind; here alone the window of departures is asked for
-pub record MaySetOutBy {V : Type 0} (IsOfKind : Option Footpath → Type 0) (t : TimetableValue) (q : Query) (i : ℕ) (labels : List (Point V)) (way : SettingOut V) : Type 0 where
+pub record MaySetOutBy {V : Type 0} (IsOfKind : Option Footpath → Type 0) (t : TimetableValue) (q : Query) (i : ℕ) (labels : List (Point V))
+    (way : SettingOut V) : Type 0 where
   pub boards : (connection_at t i).board ≡ true
   pub is_start : IsOfKind way.start
   pub leads : start_end q.source way.start ≡ (connection_at t i).from

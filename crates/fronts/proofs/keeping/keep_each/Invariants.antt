@@ -4,4 +4,6 @@ use Rattle.fronts.specs.Putting.{left_by}
 use Rattle.fronts.proofs.keeping.keep_each.Given as goal
 
 abbrev pub invariant-loop-k : goal.invariant-loop-k
-invariant-loop-k g l = l.kept.items ≡ l.fn.kept.items ++ left_by (g.C.Criterion.rules l.criterion) (front l.arena.entries.now l.arena.items.now l.place) (take l.k l.points)
+invariant-loop-k g l =
+    let points = front l.arena.entries.now l.arena.items.now l.place in
+    l.kept.items ≡ l.fn.kept.items ++ left_by (g.C.Criterion.rules l.criterion) points (take l.k l.points)

@@ -30,5 +30,6 @@ returns-in_ok-boards-in-Some-clause-says g c =
     let new = c.add-in-Some.new.nodes.items in
     IfOk-weaker c.add-in-Some.result _ _
     (λ number added. subst (SaysLabel walks s c.args.label new) (sym added.0)
-    (says_change walks s c.args.label change.last c.args.next change.step c.footpath-walk.result c.args.nodes.now.items mid new is c.footpath-walk.ensures rides_on boards.1 (added.1 ∙ ap (λ n. mid ++ Changes change.last n ∷ []) boards.0)))
+    (says_change walks s c.args.label change.last c.args.next change.step c.footpath-walk.result c.args.nodes.now.items mid new
+    is c.footpath-walk.ensures rides_on boards.1 (added.1 ∙ ap (λ n. mid ++ Changes change.last n ∷ []) boards.0)))
     c.add-in-Some.ensures.added

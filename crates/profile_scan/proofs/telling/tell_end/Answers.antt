@@ -10,7 +10,8 @@ returns-in-Some-clause-says g c =
     let s = story_of c.args.scan.now in
     let new = c.add.new.nodes.items in
     IfOk-weaker c.add.result _ _
-    (λ number is walks told none. subst (SaysLabel walks s c.args.label new) (sym is.0) (says_end walks s c.args.label c.in-Some.end c.args.nodes.now.items new none (sym c.end_after.ensures ∙ c.in-Some.is) is.1))
+    (λ number is walks told none. subst (SaysLabel walks s c.args.label new) (sym is.0)
+    (says_end walks s c.args.label c.in-Some.end c.args.nodes.now.items new none (sym c.end_after.ensures ∙ c.in-Some.is) is.1))
     c.add.ensures.added
 
 pub returns-in-None-clause-says : goal.returns-in-None-clause-says

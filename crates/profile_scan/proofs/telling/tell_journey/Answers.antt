@@ -16,7 +16,9 @@ loop-label-init g c =
     let route = c.in_ok-last.ensures.route in
     record {
       nodes = c.in_ok-next.ensures.nodes;
-      says = (last, route, c.in_ok-next.ensures.says walks (route_told walks s first c.note_route.new.route.items last route told) (c.in_ok-last.ensures.ends walks told));
+      says =
+          let at_last = route_told walks s first c.note_route.new.route.items last route told in
+          (last, route, c.in_ok-next.ensures.says walks at_last (c.in_ok-last.ensures.ends walks told));
     }
 
 pub tell_change-requires-clause-told : goal.tell_change-requires-clause-told
@@ -34,16 +36,19 @@ tell_change-requires-clause-next g c =
     let walks = (g.S.ConnSource.timetable c.args.source.now).footpaths in
     let s = story_of c.args.scan.now in
     let says = c.loop-label.invariant.says in
-    let p = route_popped s c.index-set_out.result.now.label c.loop-label.route.items c.pop.new.self.items c.in-Some.label says.0 c.in-Some.ensures.items says.1 in
+    let first = c.index-set_out.result.now.label in
+    let p = route_popped s first c.loop-label.route.items c.pop.new.self.items c.in-Some.label says.0 c.in-Some.ensures.items says.1 in
     (p.1.0, p.1.1, subst (λ n. SaysLabel walks s n c.loop-label.nodes.items c.loop-label.next) (sym p.1.2) says.2)
 
 pub loop-label-preserved : goal.loop-label-preserved
 loop-label-preserved g c =
     let s = story_of c.args.scan.now in
     let says = c.loop-label.invariant.says in
-    let p = route_popped s c.index-set_out.result.now.label c.loop-label.route.items c.pop.new.self.items c.in-Some.label says.0 c.in-Some.ensures.items says.1 in
+    let first = c.index-set_out.result.now.label in
+    let p = route_popped s first c.loop-label.route.items c.pop.new.self.items c.in-Some.label says.0 c.in-Some.ensures.items says.1 in
     record {
-      nodes = extends_on c.args.nodes.now.items c.loop-label.nodes.items c.tell_change.new.nodes.items c.loop-label.invariant.nodes c.in_ok-next-2.ensures.nodes;
+      nodes = extends_on c.args.nodes.now.items c.loop-label.nodes.items c.tell_change.new.nodes.items
+          c.loop-label.invariant.nodes c.in_ok-next-2.ensures.nodes;
       says = (c.in-Some.label, p.0, c.in_ok-next-2.ensures.says);
     }
 
@@ -60,5 +65,6 @@ returns-clause-says g c =
     let over = route_over s x.label c.loop-label.route.items says.0 (omega arith) says.1 in
     let rides_on = subst (λ n. SaysLabel walks s n c.loop-label.nodes.items c.loop-label.next) (sym over) says.2 in
     IfOk-weaker c.add.result _ _
-    (λ number added. subst (SaysJourney walks s c.args.tag new) (sym added.0) (says_journey walks s c.args.tag c.loop-label.next x c.loop-label.nodes.items new at rides_on added.1))
+    (λ number added. subst (SaysJourney walks s c.args.tag new) (sym added.0)
+    (says_journey walks s c.args.tag c.loop-label.next x c.loop-label.nodes.items new at rides_on added.1))
     c.add.ensures.added
