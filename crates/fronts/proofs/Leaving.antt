@@ -73,25 +73,7 @@ module _ {V : Type 0} (rules : Rules V) (points : List (Item V)) where
   pub leave_nothing : (entries : List (Entry V)) (old : List (Item V)) (m : ℕ) → m ≡ 0 → old ≡ old ++ left_by rules points (front entries old m)
   leave_nothing entries old m e = sym (append-nil old) ∙ ap (λ n. old ++ left_by rules points (front entries old n)) (sym e)
 
--- the same into a list of its own
-pub keep_more : {V : Type 0} (rules : Rules V) (points items base now new : List (Item V)) (rest count k : ℕ) (x : Item V) → now ≡ base ++ left_by rules points (take (k - rest) (drop rest items)) → rest ≤ k → k < rest + count → rest + count ≤ length items → x ≡ get_or items k x
-    → new ≡ now ++ left_by rules points (x ∷ []) → new ≡ base ++ left_by rules points (take (k + 1 - rest) (drop rest items))
-keep_more rules points items base now new rest count k x was low lt within is e =
-    let len = length-drop rest items in
-    let here : rest + (k - rest) ≡ k = omega arith in
-    let on : k - rest + 1 ≡ k + 1 - rest = omega arith in
-    let read : get_or (drop rest items) (k - rest) x ≡ x = get_or-drop rest items (k - rest) x ∙ ap (λ n. get_or items n x) here ∙ sym is in
-    let parts : take (k + 1 - rest) (drop rest items) ≡ take (k - rest) (drop rest items) ++ x ∷ [] =
-    ap (λ n. take n (drop rest items)) (sym on) ∙ take_more (drop rest items) (k - rest) x (omega arith) ∙ ap (λ y. take (k - rest) (drop rest items) ++ y ∷ []) read in
-    e ∙ ap (λ xs. xs ++ left_by rules points (x ∷ [])) was
-    ∙ append_assoc base (left_by rules points (take (k - rest) (drop rest items))) (left_by rules points (x ∷ []))
-    ∙ ap (λ xs. base ++ xs) (sym (left_append rules points (take (k - rest) (drop rest items)) (x ∷ [])) ∙ ap (left_by rules points) (sym parts))
-
-pub keep_all : {V : Type 0} (rules : Rules V) (points items base now : List (Item V)) (rest count k : ℕ) → now ≡ base ++ left_by rules points (take (k - rest) (drop rest items)) → k ≡ rest + count → now ≡ base ++ left_by rules points (take count (drop rest items))
-keep_all rules points items base now rest count k was end =
-    let e : k - rest ≡ count = omega arith in
-    was ∙ ap (λ n. base ++ left_by rules points (take n (drop rest items))) e
-
+-- the same into an empty list
 pub keep_both : {V : Type 0} (rules : Rules V) (points : List (Item V)) (entries : List (Entry V)) (items start mid new : List (Item V)) (m : ℕ) (e : Entry V) → 0 < m → m < length entries → e ≡ get_or entries m e → start ≡ [] → mid ≡ start ++ left_by rules points (own e ∷ []) → new ≡ mid ++ left_by rules points (take e.count (drop e.rest items))
     → new ≡ left_by rules points (front entries items m)
 keep_both rules points entries items start mid new m e some lt is empty first then_items =

@@ -4,6 +4,7 @@ use Rattle.std.proofs.lemmas.List.Elements.{Contains-append_cases, Contains-appe
 use Rattle.reasoning.proofs.ListLemmas.{not_in_nil}
 use Rattle.criteria.specs.Laws.{Rules, Laws, Admits}
 use Rattle.bags.specs.declared.point.Point.{Point}
+use Rattle.bags.specs.Dominance.{IsCovered}
 use Rattle.fronts.specs.declared.entry.Item.{Item}
 use Rattle.fronts.specs.declared.entry.Entry.{Entry}
 use Rattle.fronts.specs.declared.entry.Ridden.{Ridden}
@@ -12,7 +13,7 @@ use Rattle.fronts.specs.Front.{front, points_from, Covers}
 use Rattle.fronts.specs.Entries.{AreEntries}
 use Rattle.fronts.specs.Putting.{IsLate}
 use Rattle.fronts.specs.Walking.{TakesBoardings}
-use Rattle.fronts.specs.Lists.{point_of, IsBettered, IsCovered, TakesRidden}
+use Rattle.fronts.specs.Lists.{point_of, IsBettered, TakesRidden}
 use Rattle.fronts.proofs.Points.{front_from, points_admitted}
 
 module _ {V : Type 0} where

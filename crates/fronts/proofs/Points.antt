@@ -139,6 +139,11 @@ module _ {V : Type 0} (rules : Rules V) (entries : List (Entry V)) (items : List
     λ p h late. front_betters_all laws m p (is.all p h late),
   )
 
+-- an entry that is read, read once more
+pub read_again : {V : Type 0} (entries : List (Entry V)) (m : ℕ) (e : Entry V)
+    → e ≡ get_or entries m e → get_or entries m e ≡ get_or entries m (get_or entries m e)
+read_again {V} entries m e is = ap (λ (x : Entry V). get_or entries m x) is
+
 -- what a front has to be tested for, in two parts
 pub front_at : {V : Type 0} (entries : List (Entry V)) (items : List (Item V)) (m : ℕ) (e : Entry V) → 0 < m → m < length entries → e ≡ get_or entries m e → front entries items m ≡ own e ∷ take e.count (drop e.rest items)
 front_at entries items zero e some lt is = absurd (omega arith)

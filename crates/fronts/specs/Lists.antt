@@ -1,7 +1,8 @@
 -- What contracts see of lists of entries.
-use Rattle.std.specs.Prelude.{◌≡◌, ◌⊎◌, ℕ, ◌≤◌, List, Contains, map}
+use Rattle.std.specs.Prelude.{◌≡◌, ◌⊎◌, ℕ, List, Contains, map}
 use Rattle.criteria.specs.Laws.{Rules, Admits, NoWorse}
 use Rattle.bags.specs.declared.point.Point.{Point}
+use Rattle.bags.specs.Dominance.{IsCovered}
 use Rattle.fronts.specs.declared.entry.Item.{Item}
 use Rattle.fronts.specs.declared.entry.Entry.{Entry}
 use Rattle.fronts.specs.declared.entry.Step.{Step}
@@ -43,10 +44,6 @@ IsSound rules_of lists = AreEntries (rules_of lists.criterion) lists.entries.ite
 -- a point of a list is no worse than v
 abbrev pub IsBettered : {V : Type 0} → Rules V → List (Point V) → V → Type 0
 IsBettered {V} rules points v = (p : Point V) × Contains points p × NoWorse rules p.value v
-
--- a list has a point that departs no earlier and is no worse
-abbrev pub IsCovered : {V : Type 0} → Rules V → List (Point V) → ℕ → V → Type 0
-IsCovered {V} rules points departure v = (p : Point V) × Contains points p × (departure ≤ p.departure) × NoWorse rules p.value v
 
 -- a list takes the ridden values in: each of its points stood before or is one of them after the footpath, and its tag says so; what was covered stays so, and each of them is covered
 pub record TakesRidden {V : Type 0} (rules : Rules V) (steps : List Step) (departure first walk secs : ℕ) (ridden : List (Ridden V)) (old new : List (Point V)) : Type 0 where

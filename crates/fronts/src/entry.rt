@@ -22,6 +22,13 @@ pub struct Entry<V> {
     pub value: V,
 }
 
+/// All entries, and the items of their fronts, to be read.
+#[derive(Clone, Copy)]
+pub struct Arena<'e, 'i, V> {
+    pub entries: &'e [Entry<V>],
+    pub items: &'i [Item<V>],
+}
+
 /// How one goes on from a point: the connection that is boarded, the label by which one rides on, and the place of the footpath to the
 /// connection.
 #[derive(Clone, Copy, Debug, Drop)]

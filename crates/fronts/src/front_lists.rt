@@ -1,6 +1,6 @@
 //! The lists of fronts: the front from a time on, its points, and the list that comes of an insertion.
 
-use crate::entry::{Boarding, Entry, Item, Ridden, Step};
+use crate::entry::{Arena, Boarding, Entry, Item, Ridden, Step};
 use crate::insertion::insert;
 use crate::search::late;
 use bags::Point;
@@ -63,7 +63,11 @@ impl<C: Criterion> FrontLists<C> {
         ensures made_of { (p : _) → Contains (front_at self.now result) p → Contains (list_points self.now head) p × (time ≤ p.departure) × Admits (C.rules (lists_criterion self.now)) p.value }
         ensures betters { (p : _) → Contains (list_points self.now head) p → time ≤ p.departure → IsBettered (C.rules (lists_criterion self.now)) (front_at self.now result) p.value }
     {
-        late(&self.criterion, &self.entries, &self.items, head, time)
+        let arena = Arena {
+            entries: &self.entries,
+            items: &self.items,
+        };
+        late(&self.criterion, arena, head, time)
     }
 
     /// How many points the front at a place has.

@@ -7,7 +7,7 @@ ghost use Rattle.fronts.specs.Entries.{AreEntries};
 ghost use Rattle.fronts.specs.Putting.{IsPath, DepartBefore, CoversAll, IsUnion};
 ghost use Rattle.fronts.specs.Walking.{TakesBoardings};
 
-use crate::entry::{Boarding, Entry, Item, Ridden, Step};
+use crate::entry::{Arena, Boarding, Entry, Item, Ridden, Step};
 use crate::keeping::{keep_front, keep_walked};
 use crate::putting::put;
 use crate::search::pass;
@@ -36,7 +36,7 @@ fn join_one<C: Criterion>(
     ensures within { IfOk result (λ new. new < length entries.new.items) }
     ensures joined { IfOk result (λ new. IsUnion (C.rules criterion.now) (points_from entries.old.items items.old.items from) (points_from entries.old.items items.old.items place) (points_from entries.new.items items.new.items new)) }
 {
-    keep_front(criterion, entries, items, from, place, kept)?;
+    keep_front(criterion, Arena { entries, items }, from, place, kept)?;
     if kept.len() == 0 {
         return Ok(place);
     }
@@ -98,9 +98,21 @@ pub fn insert<C: Criterion>(
     ensures within { IfOk result (λ new. new < length entries.new.items) }
     ensures takes { IfOk result (λ new. TakesBoardings (C.rules criterion.now) steps.new.items boarding.departure boarding.first boarding.walk boarding.secs ridden.now (points_from entries.old.items items.old.items head) (points_from entries.new.items items.new.items new)) }
 {
-    let after = pass(criterion, entries, items, head, boarding.departure, passed)?;
+    let after = pass(
+        criterion,
+        Arena { entries, items },
+        head,
+        boarding.departure,
+        passed,
+    )?;
     keep_walked(
-        criterion, entries, items, after, steps, kept, boarding, ridden,
+        criterion,
+        Arena { entries, items },
+        after,
+        steps,
+        kept,
+        boarding,
+        ridden,
     )?;
     if kept.len() == 0 {
         return Ok(head);

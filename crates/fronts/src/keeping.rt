@@ -1,33 +1,32 @@
 //! Points kept for a front that is to be put before a list.
 
-ghost use Rattle.std.specs.Prelude.{◌≡◌, ◌⊎◌, ◌+◌, ◌++◌, ◌∷◌, [], ℕ, ◌<◌, ◌≤◌, take, drop, length, Contains, IfOk, OnOk};
+ghost use Rattle.std.specs.Prelude.{◌≡◌, ◌⊎◌, ◌+◌, ◌++◌, ◌∷◌, [], ℕ, ◌<◌, ◌≤◌, length, Contains, IfOk, OnOk};
 ghost use Rattle.criteria.specs.Laws.{Admits, IsSecs};
 ghost use Rattle.fronts.specs.Front.{front, Extends};
 ghost use Rattle.fronts.specs.Entries.{AreEntries};
 ghost use Rattle.fronts.specs.Putting.{left_by};
 ghost use Rattle.fronts.specs.Walking.{IsKept, AreBoardings, AllWalked};
 
-use crate::entry::{Boarding, Entry, Item, Ridden, Step};
+use crate::entry::{Arena, Boarding, Item, Ridden, Step};
 use crate::putting::place_of;
-use crate::search::front_betters;
+use crate::search::{front_betters, part};
 use criteria::Criterion;
 use std::alloc::AllocError;
 
 // Keeps a point that none of the front at a place betters.
 fn keep_point<C: Criterion>(
     criterion: &C,
-    entries: &[Entry<C::V>],
-    items: &[Item<C::V>],
+    arena: Arena<'_, '_, C::V>,
     place: u32,
     kept: &mut Vec<Item<C::V>>,
     point: Item<C::V>,
 ) -> Result<(), AllocError>
-    requires entries { AreEntries (C.rules criterion.now) entries.now items.now }
-    requires place { place < length entries.now }
+    requires entries { AreEntries (C.rules criterion.now) arena.entries.now arena.items.now }
+    requires place { place < length arena.entries.now }
     requires point { Admits (C.rules criterion.now) point.value }
-    ensures { OnOk result (kept.new.items ≡ kept.old.items ++ left_by (C.rules criterion.now) (front entries.now items.now place) (point ∷ [])) }
+    ensures { OnOk result (kept.new.items ≡ kept.old.items ++ left_by (C.rules criterion.now) (front arena.entry.entries.now arena.entry.items.now place) (point ∷ [])) }
 {
-    if !front_betters(criterion, entries, items, place, &point.value) {
+    if !front_betters(criterion, arena, place, &point.value) {
         kept.push(point)?;
     }
     Ok(())
@@ -36,58 +35,46 @@ fn keep_point<C: Criterion>(
 /// Keeps those of the front of an entry that none of the front at another place betters.
 pub fn keep_front<C: Criterion>(
     criterion: &C,
-    entries: &[Entry<C::V>],
-    items: &[Item<C::V>],
+    arena: Arena<'_, '_, C::V>,
     from: u32,
     place: u32,
     kept: &mut Vec<Item<C::V>>,
 ) -> Result<(), AllocError>
-    requires entries { AreEntries (C.rules criterion.now) entries.now items.now }
-    requires place { place < length entries.now }
+    requires entries { AreEntries (C.rules criterion.now) arena.entries.now arena.items.now }
+    requires place { place < length arena.entries.now }
     requires some { 0 < from }
-    requires from { from < length entries.now }
-    ensures { OnOk result (kept.new.items ≡ left_by (C.rules criterion.now) (front entries.now items.now place) (front entries.now items.now from)) }
+    requires from { from < length arena.entries.now }
+    ensures { OnOk result (kept.new.items ≡ left_by (C.rules criterion.now) (front arena.entry.entries.now arena.entry.items.now place) (front arena.entry.entries.now arena.entry.items.now from)) }
 {
     kept.clear();
-    let entry = entries[from as usize];
+    let entry = arena.entries[from as usize];
     let own = Item {
         departure: entry.departure,
         value: entry.value,
         tag: entry.tag,
     };
-    keep_point(criterion, entries, items, place, kept, own)?;
-    keep_part(
-        criterion,
-        entries,
-        items,
-        entry.rest,
-        entry.count,
-        place,
-        kept,
-    )?;
+    keep_point(criterion, arena, place, kept, own)?;
+    let others = part(arena.items, entry.rest, entry.count);
+    keep_each(criterion, arena, others, place, kept)?;
     Ok(())
 }
 
-// Keeps those of so many items from a place on that none of the front at another place betters.
-fn keep_part<C: Criterion>(
+// Keeps those of some points that none of the front at a place betters.
+fn keep_each<C: Criterion>(
     criterion: &C,
-    entries: &[Entry<C::V>],
-    items: &[Item<C::V>],
-    rest: u32,
-    count: u32,
+    arena: Arena<'_, '_, C::V>,
+    points: &[Item<C::V>],
     place: u32,
     kept: &mut Vec<Item<C::V>>,
 ) -> Result<(), AllocError>
-    requires entries { AreEntries (C.rules criterion.now) entries.now items.now }
-    requires place { place < length entries.now }
-    requires part { rest + count ≤ length items.now }
-    requires items { (p : _) → Contains (take count (drop rest items.now)) p → Admits (C.rules criterion.now) p.value }
-    ensures { OnOk result (kept.new.items ≡ kept.old.items ++ left_by (C.rules criterion.now) (front entries.now items.now place) (take count (drop rest items.now))) }
+    requires entries { AreEntries (C.rules criterion.now) arena.entries.now arena.items.now }
+    requires place { place < length arena.entries.now }
+    requires points { (p : _) → Contains points.now p → Admits (C.rules criterion.now) p.value }
+    ensures { OnOk result (kept.new.items ≡ kept.old.items ++ left_by (C.rules criterion.now) (front arena.entry.entries.now arena.entry.items.now place) points.now) }
 {
-    let begin = rest as usize;
-    for k in begin..begin + count as usize {
-        let item = items[k];
-        keep_point(criterion, entries, items, place, kept, item)?;
+    for k in 0..points.len() {
+        let point = points[k];
+        keep_point(criterion, arena, place, kept, point)?;
     }
     Ok(())
 }
@@ -116,27 +103,26 @@ fn keep_value<V: Copy>(
 /// Keeps the ridden values, each after a footpath, that none of the front at a place betters.
 pub fn keep_walked<C: Criterion>(
     criterion: &C,
-    entries: &[Entry<C::V>],
-    items: &[Item<C::V>],
+    arena: Arena<'_, '_, C::V>,
     place: u32,
     steps: &mut Vec<Step>,
     kept: &mut Vec<Item<C::V>>,
     boarding: Boarding,
     ridden: &[Ridden<C::V>],
 ) -> Result<(), AllocError>
-    requires entries { AreEntries (C.rules criterion.now) entries.now items.now }
-    requires place { place < length entries.now }
+    requires entries { AreEntries (C.rules criterion.now) arena.entries.now arena.items.now }
+    requires place { place < length arena.entries.now }
     requires secs { IsSecs boarding.secs }
     requires ridden { (r : _) → Contains ridden.now r → Admits (C.rules criterion.now) r.value }
     ensures more { Extends steps.old.items steps.new.items }
     ensures boarded { OnOk result (AreBoardings (C.rules criterion.now) steps.new.items boarding.departure boarding.first boarding.walk boarding.secs ridden.now kept.new.items) }
-    ensures all { OnOk result (AllWalked (C.rules criterion.now) (front entries.now items.now place) boarding.secs ridden.now (length ridden.now) kept.new.items) }
+    ensures all { OnOk result (AllWalked (C.rules criterion.now) (front arena.entry.entries.now arena.entry.items.now place) boarding.secs ridden.now (length ridden.now) kept.new.items) }
 {
     kept.clear();
     for i in 0..ridden.len() {
         let ride = ridden[i];
         let value = criterion.walk(boarding.secs, &ride.value);
-        if !front_betters(criterion, entries, items, place, &value) {
+        if !front_betters(criterion, arena, place, &value) {
             let step = Step {
                 first: boarding.first,
                 label: ride.label,

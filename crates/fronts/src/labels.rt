@@ -11,6 +11,7 @@ ghost use Rattle.fronts.specs.declared.labels.Run.{Run};
 ghost use Rattle.fronts.specs.Labels.{AreLabels, ArePut, is_beaten, labels_in, labels_at, no_run, others, runs_of};
 
 use crate::putting::place_of;
+use crate::valued::some_no_worse;
 use criteria::Criterion;
 use std::alloc::{AllocError, Global};
 
@@ -94,19 +95,6 @@ fn part<V>(labels: &[Label<V>], run: Run) -> &[Label<V>]
     ensures { result.now ≡ labels_in labels.now run }
 {
     &labels[run.first as usize..run.first as usize + run.count as usize]
-}
-
-// Whether a label is no worse than a value. It goes over all of them, without a branch.
-fn is_beaten<C: Criterion>(criterion: &C, labels: &[Label<C::V>], value: &C::V) -> bool
-    requires labels { (l : Label _) → Contains labels.now l → Admits (C.rules criterion.now) l.value }
-    requires value { Admits (C.rules criterion.now) value.now }
-    ensures { result ≡ is_beaten (C.rules criterion.now) labels.now value.now }
-{
-    let mut any = false;
-    for label in labels {
-        any = criterion.no_worse(&label.value, value) | any;
-    }
-    any
 }
 
 // Keeps a label that a value isn't no worse than.
@@ -201,7 +189,7 @@ pub fn offer_label<C: Criterion>(
     ensures taken { IfOk result (λ stands. labels_at labels.new trip ≡ cond stands (others (C.rules criterion.now) value (labels_at labels.old trip) ++ record { value = value; tag = tag } ∷ []) (labels_at labels.old trip)) }
 {
     let run = labels.runs[trip as usize];
-    if is_beaten(criterion, part(&labels.labels, run), &value) {
+    if some_no_worse(criterion, part(&labels.labels, run), &value) {
         return Ok(false);
     }
     let tag = place_of(tag)?;

@@ -10,7 +10,9 @@ mod keeping;
 pub mod labels;
 mod putting;
 mod search;
+pub mod valued;
 
 pub use entry::{Entry, Item, Ridden, Step};
 pub use front_lists::FrontLists;
 pub use labels::{Label, Labels, offer_label};
+pub use valued::{Valued, some_no_worse};

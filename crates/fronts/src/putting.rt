@@ -7,7 +7,7 @@ ghost use Rattle.fronts.specs.Entries.{AreEntries};
 ghost use Rattle.fronts.specs.Putting.{Follows, left_by, MayPut, IsUnion};
 
 use crate::entry::{Entry, Item};
-use crate::search::some_no_worse;
+use crate::valued::some_no_worse;
 use criteria::Criterion;
 use std::alloc::AllocError;
 

@@ -1,7 +1,7 @@
 -- An answer with its journeys, one point after the other.
 use Rattle.std.proofs.Common.{◌≡◌, ℕ, zero, suc, ◌+◌, ◌-◌, ◌<◌, ◌≤◌, List, [], ◌∷◌, ◌++◌, length, take, map, get_or, Contains, slice_get, Some, Result, OnErr, refl}
 use Rattle.std.proofs.Common.{sym, ◌∙◌, ap, subst, inl, inr, arith}
-use Rattle.std.proofs.lemmas.Option.{slice_get_within, get_or_from_slice_get}
+use Rattle.std.proofs.lemmas.Option.{slice_get_within, slice_get-get_or, get_or_from_slice_get}
 use Rattle.std.proofs.lemmas.List.{map-append, length-map, length-reverse, get_or-map, get_or_default, take_all}
 use Rattle.std.proofs.lemmas.List.Elements.{Contains-push_cases}
 use Rattle.std.proofs.Math.Seq.{take-suc}
@@ -45,8 +45,17 @@ pub record AreTold {V : Type 0} (rules : Rules V) (t : TimetableValue) (q : Quer
   pub first : map point_of told ≡ map tagless (take n points)
   pub each : (departure : Departure V) → Contains told departure → Attains rules t q (point_of departure) departure.journey
 
-pub none_told : {V : Type 0} (rules : Rules V) (t : TimetableValue) (q : Query) (points : List (Point V)) → AreTold rules t q points 0 []
-none_told rules t q points = record { first = refl; each = λ departure h. let lt = h.1 in absurd (omega (arith, lt)) }
+pub none_told : {V : Type 0} (rules : Rules V) (t : TimetableValue) (q : Query) (points : List (Point V)) (told : List (Departure V))
+    → told ≡ [] → AreTold rules t q points 0 told
+none_told rules t q points told none =
+    subst (AreTold rules t q points 0) (sym none)
+    (record { first = refl; each = λ departure h. let lt = h.1 in absurd (omega (arith, lt)) })
+
+-- a point read at a place
+pub point_at : {V : Type 0} (points read : List (Point V)) (i : ℕ) (p : Point V)
+    → read ≡ points → i < length read → p ≡ get_or read i p → slice_get points i ≡ Some p
+point_at {V} points read i p same lt is =
+    subst (λ (ps : List (Point V)). slice_get ps i ≡ Some p) same (slice_get-get_or read i p lt ∙ ap Some (sym is))
 
 pub one_more : {V : Type 0} (rules : Rules V) (t : TimetableValue) (q : Query) (points : List (Point V)) (n : ℕ) (told : List (Departure V)) (p : Point V)
     (j : JourneyValue)

@@ -53,9 +53,10 @@ pub fn answer_query<S: ConnSource, C: Criterion>(
     let end = source.first_at(query.by);
     let read = end.saturating_sub(source.first_at(query.from));
     let found = profile(alloc, source, criterion, query)?;
-    let mut departures = Vec::with_capacity(alloc, found.len())?;
-    for i in 0..found.len() {
-        let point = found.point(i);
+    let points = found.points();
+    let mut departures = Vec::with_capacity(alloc, points.len())?;
+    for i in 0..points.len() {
+        let point = points[i];
         let journey = extract(alloc, &found, i)?;
         departures.push(Departure {
             time: point.departure,

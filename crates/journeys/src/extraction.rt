@@ -175,7 +175,8 @@ pub fn extract<C: Criterion>(
     // So it does in those of which the caller knows that they were answered.
     ensures attains { IfOk result (λ journey. (criterion : _) (t : TimetableValue) (q : Query) (p : _) → Answers criterion (C.rules criterion) t q found.now → slice_get (listed found.now) i ≡ Some p → Attains (C.rules criterion) t q p journey) }
 {
-    let point = found.point(i);
+    let points = found.points();
+    let point = points[i];
     match spelled_at(alloc, found, point.tag)? {
         Some(journey) => Ok(journey),
         None => Ok(Journey {

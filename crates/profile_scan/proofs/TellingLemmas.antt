@@ -1,6 +1,6 @@
 -- What a story tells of a label, node by node.
 use Rattle.std.proofs.Common.{◌≡◌, ℕ, zero, suc, ◌+◌, ◌-◌, ◌<◌, List, [], ◌∷◌, ◌++◌, length, slice_get, get_or, map, take, Contains, Option, Some, None, refl, sym, ◌∙◌, ap, subst, inl, inr, arith}
-use Rattle.std.proofs.lemmas.Option.{same_Some, slice_get_within}
+use Rattle.std.proofs.lemmas.Option.{same_Some, slice_get-get_or, slice_get_within}
 use Rattle.std.proofs.lemmas.List.{map-append, take_more}
 use Rattle.std.proofs.lemmas.List.Elements.{Contains-push_cases}
 use Rattle.reasoning.proofs.ListLemmas.{extends_none}
@@ -140,6 +140,15 @@ journey_within walks s tag is = go (slice_get s.set_outs tag) refl is.1
     go None at e = absurd cc
     go (Some set_out) at e = slice_get_within s.set_outs tag set_out at
 
+-- where a journey is told, so is the label by which one rides on
+pub first_told : (walks : List Footpath) (s : Story) (tag : ℕ) (x : SetOut) → IsJourneyTold walks s tag → x ≡ get_or s.set_outs tag x
+    → (slice_get s.set_outs tag ≡ Some x) × IsLabelTold walks s x.label
+first_told walks s tag x is read =
+    let within = journey_within walks s tag is in
+    let at : slice_get s.set_outs tag ≡ Some x = slice_get-get_or s.set_outs tag x within ∙ ap Some (sym read) in
+    let t = told_journey walks s tag x is.0 at is.1 in
+    (at, (t.0, t.1))
+
 pub says_journey : (walks : List Footpath) (s : Story) (tag next : ℕ) (set_out : SetOut) (old new : List Node) → slice_get s.set_outs tag ≡ Some set_out → SaysLabel walks s set_out.label old next → new ≡ old ++ SetsOut set_out.start set_out.first next ∷ [] → SaysJourney walks s tag new (length old)
 says_journey walks s tag next set_out old new at before pushed j e =
     let t = told_journey walks s tag set_out j at e in
@@ -159,6 +168,11 @@ route_pop s first (l ∷ ls) label last route =
 -- the same, of a route from which its last label was taken
 pub route_popped : (s : Story) (first : ℕ) (route labels : List ℕ) (label last : ℕ) → route ≡ labels ++ label ∷ [] → IsRoute s first route last → IsRoute s first labels label × ((c : Change) × (change s label ≡ Some c) × (c.step.label ≡ last))
 route_popped s first route labels label last is on = route_pop s first labels label last (subst (λ (ls : List ℕ). IsRoute s first ls last) is on)
+
+-- a route without labels leads nowhere else
+pub route_over : (s : Story) (first : ℕ) (route : List ℕ) (last : ℕ) → length route ≡ 0 → IsRoute s first route last → first ≡ last
+route_over s first [] last none on = on
+route_over s first (l ∷ ls) last none on = absurd (omega arith)
 
 -- where the first label of a route is told, the last is
 pub route_told : (walks : List Footpath) (s : Story) (first : ℕ) (labels : List ℕ) (last : ℕ) → IsRoute s first labels last → IsLabelTold walks s first → IsLabelTold walks s last

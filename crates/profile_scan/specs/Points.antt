@@ -4,6 +4,7 @@ use Rattle.std.specs.Ordering.{is_lt}
 use Rattle.std.specs.declared.cmp.Ordering.TheVariants.{Less}
 use Rattle.criteria.specs.Laws.{Rules, NoWorse}
 use Rattle.bags.specs.declared.point.Point.{Point}
+pub use Rattle.bags.specs.Dominance.{IsCovered as Covers}
 use Rattle.timetable.specs.TimetableValue.{TimetableValue}
 use Rattle.timetable.specs.JourneyValue.{JourneyValue}
 use Rattle.timetable.specs.Journeys.{Counts}
@@ -22,10 +23,6 @@ pub record IsUndominated {V : Type 0} (rules : Rules V) (t : TimetableValue) (q 
 -- a list has a point with this departure and value
 abbrev pub Lists : {V : Type 0} → List (Point V) → ℕ → V → Type 0
 Lists {V} points departure v = (p : Point V) × Contains points p × (p.departure ≡ departure) × (p.value ≡ v)
-
--- a list has a point that departs no earlier and is no worse
-abbrev pub Covers : {V : Type 0} → Rules V → List (Point V) → ℕ → V → Type 0
-Covers {V} rules points departure v = (p : Point V) × Contains points p × (departure ≤ p.departure) × NoWorse rules p.value v
 
 -- by departure, then by the criterion's order
 abbrev pub Before : {V : Type 0} → Rules V → Point V → Point V → Type 0

@@ -105,15 +105,20 @@ pub record SettingOut (V : Type 0) : Type 0 where
   pub start : Option Footpath
   pub label : Point V
 
--- the start is none or one footpath to another stop, never a loop; and here alone the window of departures is asked for
-pub record MaySetOut {V : Type 0} (t : TimetableValue) (q : Query) (i : ℕ) (labels : List (Point V)) (way : SettingOut V) : Type 0 where
+-- by a start of some kind; here alone the window of departures is asked for
+pub record MaySetOutBy {V : Type 0} (IsOfKind : Option Footpath → Type 0) (t : TimetableValue) (q : Query) (i : ℕ) (labels : List (Point V))
+    (way : SettingOut V) : Type 0 where
   pub boards : (connection_at t i).board ≡ true
-  pub is_start : IsStart t q.source way.start
+  pub is_start : IsOfKind way.start
   pub leads : start_end q.source way.start ≡ (connection_at t i).from
   pub fits : start_secs way.start ≤ (connection_at t i).dep
   pub not_early : q.from ≤ (connection_at t i).dep - start_secs way.start
   pub not_late : (connection_at t i).dep - start_secs way.start ≤ q.until
   pub is_label : Contains labels way.label
+
+-- the start is none or one footpath to another stop, never a loop
+abbrev pub MaySetOut : {V : Type 0} → TimetableValue → Query → ℕ → List (Point V) → SettingOut V → Type 0
+MaySetOut t q = MaySetOutBy (IsStart t q.source) t q
 
 -- the points found are offered each label after each start
 abbrev pub settings_out : {V : Type 0} → Rules V → TimetableValue → Query → Spellings → ℕ → List (Point V) → Offer (SettingOut V) V

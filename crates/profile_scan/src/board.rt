@@ -27,6 +27,7 @@ use criteria::Criterion;
 use fronts::{Label, Ridden};
 use sources::ConnSource;
 use std::alloc::AllocError;
+use std::ops::Range;
 use timetable::{Connection, Footpath, Query};
 
 // A tag as a number of 32 bits. Past 2^32 - 1 there is no room.
@@ -242,7 +243,7 @@ pub fn board_from<C: Criterion>(
     Ok(())
 }
 
-// Goes over the footpaths into a connection's start, from a place up to before another, and sets out by none and by each.
+// Goes over the footpaths into a connection's start, by their places, and sets out by none and by each.
 fn set_out_walks<S: ConnSource, C: Criterion>(
     source: &S,
     criterion: &C,
@@ -252,20 +253,19 @@ fn set_out_walks<S: ConnSource, C: Criterion>(
     found: &mut Bag<C>,
     set_outs: &mut Vec<SetOut>,
     labels: &[Label<C::V>],
-    begin: usize,
-    end: usize,
+    walks: Range<usize>,
 ) -> Result<(), AllocError>
-    requires walks { AreWalksInto (S.timetable source.now) connection.now.from begin end }
+    requires walks { AreWalksInto (S.timetable source.now) connection.now.from walks.start walks.end }
     requires found { criterion_of found.old ≡ criterion.now }
     requires labels { (l : Point _) → Contains (label_points labels.now) l → Admits (C.rules criterion.now) l.value }
     ensures found { OnOk result (criterion_of found.new ≡ criterion.now) }
     ensures set_outs { OnOk result (Extends set_outs.old.items set_outs.new.items) }
-    ensures takes { OnOk result ((exits : List Exit) (steps : List Step) → Takes (C.rules criterion.now) (S.timetable source.now).footpaths (story exits steps set_outs.old.items) (story exits steps set_outs.new.items) (λ tags. each_of (IsTried (S.timetable source.now).footpaths begin end) (settings_out_by (C.rules criterion.now) tags first connection.now query.now (label_points labels.now))) (points_of found.old) (points_of found.new)) }
+    ensures takes { OnOk result ((exits : List Exit) (steps : List Step) → Takes (C.rules criterion.now) (S.timetable source.now).footpaths (story exits steps set_outs.old.items) (story exits steps set_outs.new.items) (λ tags. each_of (IsTried (S.timetable source.now).footpaths walks.start walks.end) (settings_out_by (C.rules criterion.now) tags first connection.now query.now (label_points labels.now))) (points_of found.old) (points_of found.new)) }
 {
     set_out(
         criterion, query, connection, first, None, found, set_outs, labels,
     )?;
-    for place in begin..end {
+    for place in walks.start..walks.end {
         let walk = source.footpath_into(connection.from as usize, place);
         set_out(
             criterion,
@@ -281,7 +281,7 @@ fn set_out_walks<S: ConnSource, C: Criterion>(
     Ok(())
 }
 
-// Goes over the footpaths into a connection's start, from a place up to before another, and boards after each.
+// Goes over the footpaths into a connection's start, by their places, and boards after each.
 fn board_walks<S: ConnSource, C: Criterion>(
     source: &S,
     criterion: &C,
@@ -289,17 +289,16 @@ fn board_walks<S: ConnSource, C: Criterion>(
     first: u32,
     stops: &mut Stops<C>,
     ridden: &[Ridden<C::V>],
-    begin: usize,
-    end: usize,
+    walks: Range<usize>,
 ) -> Result<(), AllocError>
-    requires walks { AreWalksInto (S.timetable source.now) connection.now.from begin end }
+    requires walks { AreWalksInto (S.timetable source.now) connection.now.from walks.start walks.end }
     requires stops { AreStops C.rules criterion.now (S.timetable source.now).stops stops.old }
     requires ridden { (r : _) → Contains ridden.now r → Admits (C.rules criterion.now) r.value }
     ensures stops { OnOk result (AreStops C.rules criterion.now (S.timetable source.now).stops stops.new) }
     ensures steps { OnOk result (Extends (steps_of stops.old.lists) (steps_of stops.new.lists)) }
-    ensures takes { OnOk result ((labels : _) → AreRidden (C.rules criterion.now) labels ridden.now → ((l : Point _) → Contains labels l → Admits (C.rules criterion.now) l.value) → (exits : List Exit) (set_outs : List SetOut) (stop : ℕ) → Takes (C.rules criterion.now) (S.timetable source.now).footpaths (story exits (steps_of stops.old.lists) set_outs) (story exits (steps_of stops.new.lists) set_outs) (λ tags. each_of (StandsBetween (S.timetable source.now).footpaths begin end) (boardings_by (C.rules criterion.now) tags first connection.now stop labels)) (points_at stops.old stop) (points_at stops.new stop)) }
+    ensures takes { OnOk result ((labels : _) → AreRidden (C.rules criterion.now) labels ridden.now → ((l : Point _) → Contains labels l → Admits (C.rules criterion.now) l.value) → (exits : List Exit) (set_outs : List SetOut) (stop : ℕ) → Takes (C.rules criterion.now) (S.timetable source.now).footpaths (story exits (steps_of stops.old.lists) set_outs) (story exits (steps_of stops.new.lists) set_outs) (λ tags. each_of (StandsBetween (S.timetable source.now).footpaths walks.start walks.end) (boardings_by (C.rules criterion.now) tags first connection.now stop labels)) (points_at stops.old stop) (points_at stops.new stop)) }
 {
-    for place in begin..end {
+    for place in walks.start..walks.end {
         let walk = source.footpath_into(connection.from as usize, place);
         board_from(criterion, stops, ridden, walk, place, first, connection.dep)?;
     }
@@ -341,14 +340,28 @@ pub fn board<S: ConnSource, C: Criterion>(
     }
     let (begin, end) = source.walks_into(connection.from as usize);
     set_out_walks(
-        source, criterion, query, connection, first, found, set_outs, labels, begin, end,
+        source,
+        criterion,
+        query,
+        connection,
+        first,
+        found,
+        set_outs,
+        labels,
+        begin..end,
     )?;
     ride_labels(criterion, bound, labels, ridden)?;
     if ridden.len() == 0 {
         return Ok(());
     }
     board_walks(
-        source, criterion, connection, first, stops, ridden, begin, end,
+        source,
+        criterion,
+        connection,
+        first,
+        stops,
+        ridden,
+        begin..end,
     )?;
     Ok(())
 }

@@ -7,7 +7,9 @@ ghost use Rattle.profile_scan.specs.Bound.{IsLateValue, TakesPoints, TakesValue,
 
 use bags::Bag;
 use criteria::Criterion;
+use fronts::some_no_worse;
 use std::alloc::{AllocError, Global};
+use std::ops::Range;
 
 /// Values of points found that depart no earlier than the connections to come.
 #[derive(Drop)]
@@ -37,17 +39,13 @@ impl<V> Bound<V> {
     }
 }
 
-/// Whether one of some values is no worse than a value. It goes over all of them, without a branch.
+/// Whether one of some values is no worse than a value.
 pub fn is_bettered<C: Criterion>(criterion: &C, values: &[C::V], value: &C::V) -> bool
     requires values { (b : _) → Contains values.now b → Admits (C.rules criterion.now) b }
     requires value { Admits (C.rules criterion.now) value.now }
     ensures { result ≡ is_bettered (C.rules criterion.now) values.now value.now }
 {
-    let mut any = false;
-    for other in values {
-        any = criterion.no_worse(other, value) | any;
-    }
-    any
+    some_no_worse(criterion, values, value)
 }
 
 // Whether a value stays when another comes.
@@ -110,21 +108,20 @@ fn late_until<C: Criterion>(found: &Bag<C>, from: usize, time: u32) -> usize
     found.len()
 }
 
-// Takes the values of the points from one place up to before another.
+// Takes the values of the points at some places.
 fn take_points<C: Criterion>(
     criterion: &C,
     found: &Bag<C>,
-    from: usize,
-    until: usize,
+    places: Range<usize>,
     values: &mut Vec<C::V>,
 ) -> Result<(), AllocError>
     requires found { criterion_of found.now ≡ criterion.now }
-    requires order { from ≤ until }
-    requires until { until ≤ length (points_of found.now) }
+    requires order { places.start ≤ places.end }
+    requires until { places.end ≤ length (points_of found.now) }
     requires values { (b : _) → Contains values.old.items b → Admits (C.rules criterion.now) b }
-    ensures { OnOk result (TakesPoints (C.rules criterion.now) (points_of found.now) from until values.old.items values.new.items) }
+    ensures { OnOk result (TakesPoints (C.rules criterion.now) (points_of found.now) places.start places.end values.old.items values.new.items) }
 {
-    for place in from..until {
+    for place in places.start..places.end {
         let point = found.point(place);
         take_value(criterion, point.value, values)?;
     }
@@ -150,7 +147,7 @@ fn read_late<C: Criterion>(
     ensures rest { IfOk result (λ until. (k : ℕ) (p : _) → until ≤ k → slice_get (points_of found.now) k ≡ Some p → p.departure < time) }
 {
     let until = late_until(found, from, time);
-    take_points(criterion, found, from, until, values)?;
+    take_points(criterion, found, from..until, values)?;
     Ok(until)
 }
 

@@ -70,7 +70,7 @@ pub fn window_is_read_backward()
 pub fn found_answers<C: Criterion>(found: &Found<C>)
     ensures { ∥ IsAnswered (C.rules (criterion_of_found found.now)) (timetable_of found.now) (query_of found.now) (listed found.now) (nodes_of found.now) (walk_of_found found.now) ∥₁ }
 {
-    let _kept = found.len();
+    let _kept = found.points();
 }
 
 /// Two sources of one timetable give a query the same points, tags aside, and each is asked once for each connection of the window.

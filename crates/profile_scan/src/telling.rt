@@ -1,6 +1,6 @@
 //! Journeys told in nodes, of the points found alone.
 
-ghost use Rattle.std.specs.Prelude.{◌≡◌, ℕ, IfOk, Contains, Some, None, length, map};
+ghost use Rattle.std.specs.Prelude.{◌≡◌, ◌++◌, ◌∷◌, [], ℕ, IfOk, Contains, Some, None, length, map};
 ghost use Rattle.bags.specs.declared.point.Point.{Point};
 ghost use Rattle.fronts.specs.Front.{Extends};
 ghost use Rattle.profile_scan.specs.Points.{untagged};
@@ -78,6 +78,16 @@ fn note_route<C: Criterion>(
     Ok(label)
 }
 
+// Adds a node, and tells its number.
+fn add(nodes: &mut Vec<Node>, node: Node) -> Result<usize, AllocError>
+    ensures nodes { Extends nodes.old.items nodes.new.items }
+    ensures added { IfOk result (λ number. (number ≡ length nodes.old.items) × (nodes.new.items ≡ nodes.old.items ++ node ∷ [])) }
+{
+    let number = nodes.len();
+    nodes.push(node)?;
+    Ok(number)
+}
+
 // Adds a node that says how one leaves the trip of a label for good.
 fn tell_end<C: Criterion>(
     scan: &Scan<C>,
@@ -87,16 +97,15 @@ fn tell_end<C: Criterion>(
     ensures nodes { Extends nodes.old.items nodes.new.items }
     ensures says { IfOk result (λ number. (walks : _) → IsLabelTold walks (story_of scan.now) label → change (story_of scan.now) label ≡ None → SaysLabel walks (story_of scan.now) label nodes.new.items number) }
 {
-    let number = nodes.len();
     match end_after(scan, label) {
-        None => Ok(number),
-        Some(end) => {
-            nodes.push(Node::Ends {
+        None => Ok(nodes.len()),
+        Some(end) => add(
+            nodes,
+            Node::Ends {
                 last: end.last,
                 walk: end.walk,
-            })?;
-            Ok(number)
-        },
+            },
+        ),
     }
 }
 
@@ -117,41 +126,23 @@ fn tell_change<S: ConnSource, C: Criterion>(
         None => Ok(next),
         Some(change) => {
             let walk = source.footpath(change.step.walk as usize);
-            let boards = nodes.len();
-            nodes.push(Node::Boards {
-                walk,
-                first: change.step.first,
-                next,
-            })?;
-            let changes = nodes.len();
-            nodes.push(Node::Changes {
-                last: change.last,
-                next: boards,
-            })?;
-            Ok(changes)
+            let boards = add(
+                nodes,
+                Node::Boards {
+                    walk,
+                    first: change.step.first,
+                    next,
+                },
+            )?;
+            add(
+                nodes,
+                Node::Changes {
+                    last: change.last,
+                    next: boards,
+                },
+            )
         },
     }
-}
-
-// Adds the nodes that say how one goes on by a label.
-fn tell_label<S: ConnSource, C: Criterion>(
-    source: &S,
-    scan: &Scan<C>,
-    label: usize,
-    route: &mut Vec<usize>,
-    nodes: &mut Vec<Node>,
-) -> Result<usize, AllocError>
-    requires { IsLabelTold (S.timetable source.now).footpaths (story_of scan.now) label }
-    ensures nodes { Extends nodes.old.items nodes.new.items }
-    ensures says { IfOk result (λ number. SaysLabel (S.timetable source.now).footpaths (story_of scan.now) label nodes.new.items number) }
-{
-    let last = note_route(scan, label, route)?;
-    let end = tell_end(scan, last, nodes)?;
-    let mut number = end;
-    while let Some(earlier) = route.pop() {
-        number = tell_change(source, scan, earlier, number, nodes)?;
-    }
-    Ok(number)
 }
 
 // Adds the nodes of the journey of a point found.
@@ -167,14 +158,19 @@ fn tell_journey<S: ConnSource, C: Criterion>(
     ensures says { IfOk result (λ number. SaysJourney (S.timetable source.now).footpaths (story_of scan.now) tag nodes.new.items number) }
 {
     let set_out = scan.set_outs[tag];
-    let next = tell_label(source, scan, set_out.label, route, nodes)?;
-    let number = nodes.len();
-    nodes.push(Node::SetsOut {
-        start: set_out.start,
-        first: set_out.first,
-        next,
-    })?;
-    Ok(number)
+    let last = note_route(scan, set_out.label, route)?;
+    let mut next = tell_end(scan, last, nodes)?;
+    while let Some(label) = route.pop() {
+        next = tell_change(source, scan, label, next, nodes)?;
+    }
+    add(
+        nodes,
+        Node::SetsOut {
+            start: set_out.start,
+            first: set_out.first,
+            next,
+        },
+    )
 }
 
 /// Points whose tags are the numbers of nodes.

@@ -1,14 +1,19 @@
 use Rattle.std.proofs.Common.{[], drop, refl, sym, ◌∙◌, subst, append-nil, arith}
 use Rattle.reasoning.proofs.ListLemmas.{extends_on}
 use Rattle.fronts.specs.declared.entry.Entry.{Entry}
+use Rattle.fronts.specs.Front.{Extends}
 use Rattle.fronts.specs.Entries.{AreEntries}
 use Rattle.fronts.proofs.Growth.{are_more, extends_long}
 use Rattle.fronts.proofs.Points.{departs_at}
 use Rattle.fronts.proofs.Leaving.{leave_behind}
 use Rattle.fronts.proofs.OnePut.{IsPut, put_all}
 use Rattle.fronts.proofs.putting.put.Given as given
-use Rattle.fronts.proofs.putting.put.Goals.{In_ok-push}
+use Rattle.fronts.proofs.putting.put.Goals.{In_ok-leave_front, In_ok-push}
 use Rattle.fronts.proofs.putting.put.Goals as goal
+
+-- the items when all are pushed
+grown : (g : given.Over) (c : goal.In_ok-leave_front g) → Extends c.args.items.now.items c.leave_front.new.items.items
+grown g c = extends_on c.args.items.now.items c.push_others.new.items.items c.leave_front.new.items.items c.in_ok-push_others.ensures.extends c.in_ok-leave_front.ensures.extends
 
 pub returns-in_err-push_others-clause-entries : goal.returns-in_err-push_others-clause-entries
 returns-in_err-push_others-clause-entries g c = are_more (g.C.Criterion.rules c.args.criterion.now) c.args.entries.now.items c.args.items.now.items c.push_others.new.items.items c.requires.entries c.in_err-push_others.ensures.extends
@@ -24,13 +29,13 @@ pub returns-in_err-leave_front-clause-more_items : goal.returns-in_err-leave_fro
 returns-in_err-leave_front-clause-more_items g c = extends_on c.args.items.now.items c.push_others.new.items.items c.leave_front.new.items.items c.in_ok-push_others.ensures.extends c.in_err-leave_front.ensures.extends
 
 pub returns-in_err-push-clause-more_items : goal.returns-in_err-push-clause-more_items
-returns-in_err-push-clause-more_items g c = extends_on c.args.items.now.items c.push_others.new.items.items c.leave_front.new.items.items c.in_ok-push_others.ensures.extends c.in_ok-leave_front.ensures.extends
+returns-in_err-push-clause-more_items g c = grown g (goal.at.returns-in_err-push-clause-more_items g c).In_ok-leave_front
 
 pub returns-clause-more_items : goal.returns-clause-more_items
-returns-clause-more_items g c = extends_on c.args.items.now.items c.push_others.new.items.items c.leave_front.new.items.items c.in_ok-push_others.ensures.extends c.in_ok-leave_front.ensures.extends
+returns-clause-more_items g c = grown g (goal.at.returns-clause-more_items g c).In_ok-leave_front
 
 pub returns-in_err-count-clause-entries : goal.returns-in_err-count-clause-entries
-returns-in_err-count-clause-entries g c = are_more (g.C.Criterion.rules c.args.criterion.now) c.args.entries.now.items c.args.items.now.items c.leave_front.new.items.items c.requires.entries (extends_on c.args.items.now.items c.push_others.new.items.items c.leave_front.new.items.items c.in_ok-push_others.ensures.extends c.in_ok-leave_front.ensures.extends)
+returns-in_err-count-clause-entries g c = are_more (g.C.Criterion.rules c.args.criterion.now) c.args.entries.now.items c.args.items.now.items c.leave_front.new.items.items c.requires.entries (grown g (goal.at.returns-in_err-count-clause-entries g c).In_ok-leave_front)
 
 pub follow-next-requires : goal.follow-next-requires
 follow-next-requires g c =
@@ -41,7 +46,7 @@ follow-next-requires g c =
 pub returns-in_err-push-clause-entries : goal.returns-in_err-push-clause-entries
 returns-in_err-push-clause-entries g c =
     let rules = g.C.Criterion.rules c.args.criterion.now in
-    subst (λ es. AreEntries rules es c.leave_front.new.items.items) (sym c.in_err-push.ensures.items) (are_more rules c.args.entries.now.items c.args.items.now.items c.leave_front.new.items.items c.requires.entries (extends_on c.args.items.now.items c.push_others.new.items.items c.leave_front.new.items.items c.in_ok-push_others.ensures.extends c.in_ok-leave_front.ensures.extends))
+    subst (λ es. AreEntries rules es c.leave_front.new.items.items) (sym c.in_err-push.ensures.items) (are_more rules c.args.entries.now.items c.args.items.now.items c.leave_front.new.items.items c.requires.entries (grown g (goal.at.returns-in_err-push-clause-entries g c).In_ok-leave_front))
 
 pub returns-in_err-push-clause-more_entries : goal.returns-in_err-push-clause-more_entries
 returns-in_err-push-clause-more_entries g c = ([], c.in_err-push.ensures.items ∙ sym (append-nil c.args.entries.now.items))

@@ -16,7 +16,7 @@ loop-place-init g c =
     record {
       stops = c.requires.stops;
       steps = extends_none (steps_of c.args.stops.now.lists);
-      takes = λ labels are admitted exits set_outs stop before all ext_before ext. walks_first (g.C.Criterion.rules c.args.criterion.now) walks (boardings_by (g.C.Criterion.rules c.args.criterion.now) (from_to (told walks before) (told walks all)) c.args.first c.args.connection.now stop labels) c.args.begin (points_at c.args.stops.now stop);
+      takes = λ labels are admitted exits set_outs stop before all ext_before ext. walks_first (g.C.Criterion.rules c.args.criterion.now) walks (boardings_by (g.C.Criterion.rules c.args.criterion.now) (from_to (told walks before) (told walks all)) c.args.first c.args.connection.now stop labels) c.args.walks.start (points_at c.args.stops.now stop);
     }
 
 pub board_from-requires-clause-stop : goal.board_from-requires-clause-stop
@@ -44,7 +44,7 @@ loop-place-preserved g c =
           let s0 = story exits old_steps set_outs in
           let s1 = story exits mid_steps set_outs in
           let s2 = story exits new_steps set_outs in
-          walks_next (g.C.Criterion.rules c.args.criterion.now) (g.met.C.Criterion.laws c.args.criterion.now) t (g.met.S.ConnSource.limits c.args.source.now) labels admitted (from_to (told t.footpaths before) (told t.footpaths all)) c.args.first c.args.connection.now stop c.args.begin c.loop-place.place walk (points_at c.args.stops.now stop) (points_at c.loop-place.stops stop) (points_at c.board_from.new.stops stop)
+          walks_next (g.C.Criterion.rules c.args.criterion.now) (g.met.C.Criterion.laws c.args.criterion.now) t (g.met.S.ConnSource.limits c.args.source.now) labels admitted (from_to (told t.footpaths before) (told t.footpaths all)) c.args.first c.args.connection.now stop c.args.walks.start c.loop-place.place walk (points_at c.args.stops.now stop) (points_at c.loop-place.stops stop) (points_at c.board_from.new.stops stop)
           c.loop-place.auto.place c.footpath_into-walk.ensures
           (inv.takes labels are admitted exits set_outs stop before all ext_before (grows_on s1 s2 all (steps_grow exits mid_steps new_steps set_outs c.in_ok-board_from.ensures.steps) ext))
           (c.in_ok-board_from.ensures.takes labels are t.footpaths exits set_outs c.footpath_into-walk.ensures stop before all (grows_on before s0 s1 ext_before (steps_grow exits old_steps mid_steps set_outs inv.steps)) ext);
@@ -56,6 +56,6 @@ returns-clause-takes g c labels are admitted exits set_outs stop before all ext_
     let t = g.S.ConnSource.timetable c.args.source.now in
     let over = c.loop-place-test.false in
     let within = c.loop-place.auto.place-end c.requires.walks.order in
-    let at_end : c.loop-place.place ≡ c.args.end = omega arith in
-    subst (λ (n : ℕ). TakesIn rules (each_of (StandsBetween t.footpaths c.args.begin n) (boardings_by rules (from_to (told t.footpaths before) (told t.footpaths all)) c.args.first c.args.connection.now stop labels)) (points_at c.args.stops.now stop) (points_at c.loop-place.stops stop)) at_end
+    let at_end : c.loop-place.place ≡ c.args.walks.end = omega arith in
+    subst (λ (n : ℕ). TakesIn rules (each_of (StandsBetween t.footpaths c.args.walks.start n) (boardings_by rules (from_to (told t.footpaths before) (told t.footpaths all)) c.args.first c.args.connection.now stop labels)) (points_at c.args.stops.now stop) (points_at c.loop-place.stops stop)) at_end
     (c.loop-place.invariant.takes labels are admitted exits set_outs stop before all ext_before ext)

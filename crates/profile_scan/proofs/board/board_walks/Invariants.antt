@@ -18,5 +18,5 @@ invariant-loop-place g l =
     record {
       stops : AreStops g.C.Criterion.rules l.criterion t.stops l.stops;
       steps : Extends (steps_of l.fn.stops.lists) (steps_of l.stops.lists);
-      takes : (labels : List (Point g.row.C-V.Denot)) → AreRidden rules labels l.ridden → AreAdmitted rules labels → (exits : List Exit) (set_outs : List SetOut) (stop : ℕ) → Takes rules walks (story exits (steps_of l.fn.stops.lists) set_outs) (story exits (steps_of l.stops.lists) set_outs) (λ tags. each_of (StandsBetween walks l.begin l.place) (boardings_by rules tags l.first l.connection stop labels)) (points_at l.fn.stops stop) (points_at l.stops stop);
+      takes : (labels : List (Point g.row.C-V.Denot)) → AreRidden rules labels l.ridden → AreAdmitted rules labels → (exits : List Exit) (set_outs : List SetOut) (stop : ℕ) → Takes rules walks (story exits (steps_of l.fn.stops.lists) set_outs) (story exits (steps_of l.stops.lists) set_outs) (λ tags. each_of (StandsBetween walks l.fn.walks.start l.place) (boardings_by rules tags l.first l.connection stop labels)) (points_at l.fn.stops stop) (points_at l.stops stop);
     }

@@ -16,7 +16,7 @@ loop-place-init g c =
     record {
       found = c.in_ok-set_out.ensures.same;
       set_outs = c.in_ok-set_out.ensures.set_outs;
-      takes = λ exits steps before all ext_before ext. starts_first rules walks (settings_out_by rules (from_to (told walks before) (told walks all)) c.args.first c.args.connection.now c.args.query.now (label_points c.args.labels.now)) c.args.begin (points_of c.args.found.now) (points_of c.set_out.new.found) (c.in_ok-set_out.ensures.takes walks exits steps before all ext_before ext);
+      takes = λ exits steps before all ext_before ext. starts_first rules walks (settings_out_by rules (from_to (told walks before) (told walks all)) c.args.first c.args.connection.now c.args.query.now (label_points c.args.labels.now)) c.args.walks.start (points_of c.args.found.now) (points_of c.set_out.new.found) (c.in_ok-set_out.ensures.takes walks exits steps before all ext_before ext);
     }
 
 pub loop-place-preserved : goal.loop-place-preserved
@@ -34,7 +34,7 @@ loop-place-preserved g c =
           let s0 = story exits steps old_outs in
           let s1 = story exits steps mid_outs in
           let s2 = story exits steps new_outs in
-          starts_next (g.C.Criterion.rules c.args.criterion.now) (g.met.C.Criterion.laws c.args.criterion.now) t (g.met.S.ConnSource.limits c.args.source.now) (label_points c.args.labels.now) c.requires.labels (from_to (told t.footpaths before) (told t.footpaths all)) c.args.first c.args.connection.now c.args.query.now c.args.begin c.loop-place.place walk (points_of c.args.found.now) (points_of c.loop-place.found) (points_of c.set_out-in-loop-place.new.found)
+          starts_next (g.C.Criterion.rules c.args.criterion.now) (g.met.C.Criterion.laws c.args.criterion.now) t (g.met.S.ConnSource.limits c.args.source.now) (label_points c.args.labels.now) c.requires.labels (from_to (told t.footpaths before) (told t.footpaths all)) c.args.first c.args.connection.now c.args.query.now c.args.walks.start c.loop-place.place walk (points_of c.args.found.now) (points_of c.loop-place.found) (points_of c.set_out-in-loop-place.new.found)
           c.loop-place.auto.place c.footpath_into-walk.ensures
           (inv.takes exits steps before all ext_before (grows_on s1 s2 all (set_outs_grow exits steps mid_outs new_outs c.in_ok-set_out-2.ensures.set_outs) ext))
           (c.in_ok-set_out-2.ensures.takes t.footpaths exits steps before all (grows_on before s0 s1 ext_before (set_outs_grow exits steps old_outs mid_outs inv.set_outs)) ext);
@@ -46,6 +46,6 @@ returns-clause-takes g c exits steps before all ext_before ext =
     let t = g.S.ConnSource.timetable c.args.source.now in
     let over = c.loop-place-test.false in
     let within = c.loop-place.auto.place-end c.requires.walks.order in
-    let at_end : c.loop-place.place ≡ c.args.end = omega arith in
-    subst (λ (n : ℕ). TakesIn rules (each_of (IsTried t.footpaths c.args.begin n) (settings_out_by rules (from_to (told t.footpaths before) (told t.footpaths all)) c.args.first c.args.connection.now c.args.query.now (label_points c.args.labels.now))) (points_of c.args.found.now) (points_of c.loop-place.found)) at_end
+    let at_end : c.loop-place.place ≡ c.args.walks.end = omega arith in
+    subst (λ (n : ℕ). TakesIn rules (each_of (IsTried t.footpaths c.args.walks.start n) (settings_out_by rules (from_to (told t.footpaths before) (told t.footpaths all)) c.args.first c.args.connection.now c.args.query.now (label_points c.args.labels.now))) (points_of c.args.found.now) (points_of c.loop-place.found)) at_end
     (c.loop-place.invariant.takes exits steps before all ext_before ext)

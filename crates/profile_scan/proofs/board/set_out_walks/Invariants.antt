@@ -14,5 +14,5 @@ invariant-loop-place g l =
     record {
       found : criterion_of l.found ≡ l.criterion;
       set_outs : Extends l.fn.set_outs.items l.set_outs.items;
-      takes : (exits : List Exit) (steps : List Step) → Takes rules walks (story exits steps l.fn.set_outs.items) (story exits steps l.set_outs.items) (λ tags. each_of (IsTried walks l.begin l.place) (settings_out_by rules tags l.first l.connection l.query (label_points l.labels))) (points_of l.fn.found) (points_of l.found);
+      takes : (exits : List Exit) (steps : List Step) → Takes rules walks (story exits steps l.fn.set_outs.items) (story exits steps l.set_outs.items) (λ tags. each_of (IsTried walks l.fn.walks.start l.place) (settings_out_by rules tags l.first l.connection l.query (label_points l.labels))) (points_of l.fn.found) (points_of l.found);
     }

@@ -8,7 +8,7 @@ use Rattle.profile_scan.proofs.BoundLemmas.{points_none, points_more}
 use Rattle.profile_scan.proofs.bound.take_points.Goals as goal
 
 pub loop-place-init : goal.loop-place-init
-loop-place-init g c = points_none (g.C.Criterion.rules c.args.criterion.now) (points_of c.args.found.now) c.args.from c.args.values.now.items
+loop-place-init g c = points_none (g.C.Criterion.rules c.args.criterion.now) (points_of c.args.found.now) c.args.places.start c.args.values.now.items
 
 pub take_value-requires-clause-values : goal.take_value-requires-clause-values
 take_value-requires-clause-values g c b h =
@@ -30,7 +30,7 @@ pub loop-place-preserved : goal.loop-place-preserved
 loop-place-preserved g c =
     let bag = c.args.found.now in
     let found = bag_under g.C.Criterion.rules bag.criterion c.args.criterion.now (points_of bag) c.requires.found bag.kept in
-    points_more (g.C.Criterion.rules c.args.criterion.now) (points_of bag) c.args.from c.loop-place.place c.point-point.result
+    points_more (g.C.Criterion.rules c.args.criterion.now) (points_of bag) c.args.places.start c.loop-place.place c.point-point.result
     c.args.values.now.items c.loop-place.values.items c.take_value.new.values.items
     found.admitted c.point-point.ensures (omega arith) c.loop-place.invariant c.in_ok-take_value.ensures
 
@@ -38,7 +38,7 @@ pub returns : goal.returns
 returns g c =
     let over = c.loop-place-test.false in
     let within = c.loop-place.auto.place-end c.requires.order in
-    let at_end : c.loop-place.place ≡ c.args.until = omega arith in
+    let at_end : c.loop-place.place ≡ c.args.places.end = omega arith in
     let rules = g.C.Criterion.rules c.args.criterion.now in
     let points = points_of c.args.found.now in
-    subst (λ (n : ℕ). TakesPoints rules points c.args.from n c.args.values.now.items c.loop-place.values.items) at_end c.loop-place.invariant
+    subst (λ (n : ℕ). TakesPoints rules points c.args.places.start n c.args.values.now.items c.loop-place.values.items) at_end c.loop-place.invariant

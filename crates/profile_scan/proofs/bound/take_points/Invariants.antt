@@ -3,4 +3,4 @@ use Rattle.profile_scan.specs.Bound.{TakesPoints}
 use Rattle.profile_scan.proofs.bound.take_points.Given as goal
 
 abbrev pub invariant-loop-place : goal.invariant-loop-place
-invariant-loop-place g l = TakesPoints (g.C.Criterion.rules l.criterion) (points_of l.found) l.from l.place l.fn.values.items l.values.items
+invariant-loop-place g l = TakesPoints (g.C.Criterion.rules l.criterion) (points_of l.found) l.fn.places.start l.place l.fn.values.items l.values.items

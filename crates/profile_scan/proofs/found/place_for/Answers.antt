@@ -11,14 +11,14 @@ loop-place-preserved g c =
     record {
       within = omega arith;
       after = after_here rules c.args.points.now c.args.point.now last c.loop-place.place (omega arith) inv.within c.index-points-place.is
-          (told_before rules c.args.point.now last (sym c.is_before.ensures ∙ c.if-is_before.true)) inv.after;
+          (told_before rules c.args.point.now last (sym c.comes_first.ensures ∙ c.if-not-comes_first.false)) inv.after;
     }
 
-pub returns-else-is_before-clause-before : goal.returns-else-is_before-clause-before
-returns-else-is_before-clause-before g c =
+pub returns-then-not-comes_first-clause-before : goal.returns-then-not-comes_first-clause-before
+returns-then-not-comes_first-clause-before g c =
     let rules = g.C.Criterion.rules c.args.criterion.now in
     let last = c.index-points-place.result in
     let inv = c.loop-place.invariant in
-    let not = told_not_before rules c.args.point.now last (sym c.is_before.ensures ∙ c.if-is_before.false) in
+    let not = told_not_before rules c.args.point.now last (sym c.comes_first.ensures ∙ c.if-not-comes_first.true) in
     let is : Before rules last c.args.point.now = elim (c.requires.comparable last (c.loop-place.place - 1, omega arith, sym c.index-points-place.is)) [ inl first ↦ first | inr second ↦ absurd (not second) ] in
     before_here rules (g.met.C.Criterion.laws c.args.criterion.now) c.args.points.now c.args.point.now last c.loop-place.place c.requires.ordered c.requires.admitted c.requires.point (omega arith) inv.within c.index-points-place.is is

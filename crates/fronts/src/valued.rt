@@ -1,0 +1,63 @@
+//! What has a value, and whether some of it is good enough.
+
+ghost use Rattle.std.specs.Prelude.{◌≡◌, Contains};
+ghost use Rattle.std.specs.List.{list_any};
+ghost use Rattle.criteria.specs.Laws.{Admits};
+
+use crate::entry::Item;
+use crate::labels::Label;
+use criteria::Criterion;
+
+/// What has a value.
+pub trait Valued<V> {
+    // the value that it has
+    ghost value_of: { Self → V };
+
+    /// Its value.
+    fn value(&self) -> &V
+        ensures { result.now ≡ value_of self.now };
+}
+
+impl<V> Valued<V> for V {
+    ghost value_of = { λ value. value };
+
+    #[inline(always)]
+    fn value(&self) -> &V {
+        self
+    }
+}
+
+impl<V> Valued<V> for Item<V> {
+    ghost value_of = { λ item. item.value };
+
+    #[inline(always)]
+    fn value(&self) -> &V {
+        &self.value
+    }
+}
+
+impl<V> Valued<V> for Label<V> {
+    ghost value_of = { λ label. label.value };
+
+    #[inline(always)]
+    fn value(&self) -> &V {
+        &self.value
+    }
+}
+
+/// Whether one of some values is no worse than a value. It goes over all of them, without a branch.
+pub fn some_no_worse<C: Criterion, T: Valued<C::V>>(
+    criterion: &C,
+    points: &[T],
+    value: &C::V,
+) -> bool
+    requires points { (p : _) → Contains points.now p → Admits (C.rules criterion.now) (T.value_of p) }
+    requires value { Admits (C.rules criterion.now) value.now }
+    ensures { result ≡ list_any (λ p. (C.rules criterion.now).no_worse (T.value_of p) value.now) points.now }
+{
+    let mut any = false;
+    for point in points {
+        any = criterion.no_worse(point.value(), value) | any;
+    }
+    any
+}
