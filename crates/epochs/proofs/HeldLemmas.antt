@@ -1,12 +1,10 @@
 -- What seats hold stays what was published.
-use Rattle.std.proofs.Common.{◌≡◌, ℕ, List, ◌∷◌, [], Some, ap, sym, ◌∙◌}
+use Rattle.std.proofs.Common.{◌≡◌, ℕ, List, ◌∷◌, [], Some, ap, sym, ◌∙◌, inl, inr}
 use Rattle.image_layout.specs.Image.{ImageValue}
-use Rattle.epochs.specs.declared.collected.Collected.{Collected}
 use Rattle.epochs.specs.Seats.{WorkerSeatValue}
-use Rattle.epochs.specs.Pins.{Pins, Releases}
+use Rattle.epochs.specs.Pins.{Pins}
 use Rattle.epochs.specs.History.{TableValue, image_of}
-use Rattle.epochs.specs.Publishing.{Collects, Publishes}
-use Rattle.epochs.specs.SeatLaws.{HoldsPublished}
+use Rattle.epochs.specs.SeatLaws.{HoldsPublished, TableCall}
 use Rattle.shelf_steps.proofs.Loads.{image_of-append}
 
 same_images : (before after : List ImageValue) (seat : WorkerSeatValue) → after ≡ before → HoldsPublished before seat → HoldsPublished after seat
@@ -20,15 +18,9 @@ pins_hold_published a b seat after h version image held =
     let shown : h.held.0 ≡ image = ap (λ (p : ℕ × ImageValue). p.1) pair in
     ap (λ l. image_of l version) h.images ∙ (ap (λ n. image_of a.images n) number ∙ (h.held.1 ∙ ap (λ i. Some i) shown))
 
-pub pins_keep_published : (a b : TableValue) (seat after other : WorkerSeatValue) → Pins a seat b after → HoldsPublished a.images other → HoldsPublished b.images other
-pins_keep_published a b seat after other h = same_images a.images b.images other h.images
-
-pub releases_keep_published : (a b : TableValue) (seat after other : WorkerSeatValue) → Releases a seat b after → HoldsPublished a.images other → HoldsPublished b.images other
-releases_keep_published a b seat after other h = same_images a.images b.images other h.images
-
-pub publishes_keep_published : (a b : TableValue) (seat : WorkerSeatValue) (image : ImageValue) (version : ℕ) → Publishes a image version b → HoldsPublished a.images seat → HoldsPublished b.images seat
-publishes_keep_published a b seat image version h before v held is =
-    ap (λ l. image_of l v) h.images ∙ image_of-append a.images (image ∷ []) v held (before v held is)
-
-pub collects_keep_published : (a b : TableValue) (seat : WorkerSeatValue) (found : Collected) → Collects a found b → HoldsPublished a.images seat → HoldsPublished b.images seat
-collects_keep_published a b seat found h = same_images a.images b.images seat h.images
+pub calls_keep_published : (a b : TableValue) (seat : WorkerSeatValue) → TableCall a b → HoldsPublished a.images seat → HoldsPublished b.images seat
+calls_keep_published a b seat (inl pin) before v image is = same_images a.images b.images seat pin.2.images before v image is
+calls_keep_published a b seat (inr (inl release)) before v image is = same_images a.images b.images seat release.2.images before v image is
+calls_keep_published a b seat (inr (inr (inl publish))) before v image is =
+    ap (λ l. image_of l v) publish.2.images ∙ image_of-append a.images (publish.0 ∷ []) v image (before v image is)
+calls_keep_published a b seat (inr (inr (inr collect))) before v image is = same_images a.images b.images seat collect.1.images before v image is

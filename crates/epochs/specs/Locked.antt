@@ -9,12 +9,16 @@ use Rattle.epochs.specs.History.{TableValue, IsHistory}
 use Rattle.epochs.specs.Pins.{Pins, RefusesPin, Releases, RefusesRelease}
 use Rattle.epochs.specs.Publishing.{MakesRoom, Publishes, RefusesPublish}
 
+-- the table is where its history leads
+abbrev pub HasHistory : TableValue → Type 0
+HasHistory table = IsHistory table.state table.events table.images
+
 -- two tables, each where its history leads, with the step between them
 pub record UnderLock (step : TableValue → TableValue → Type 0) : Type 0 where
   pub before : TableValue
   pub after : TableValue
-  pub history_before : IsHistory before.state before.events before.images
-  pub history_after : IsHistory after.state after.events after.images
+  pub history_before : HasHistory before
+  pub history_after : HasHistory after
   pub is_step : step before after
 
 -- a pin with this result makes of the table and the seat another table and seat

@@ -39,17 +39,15 @@ HoldsPublished images seat = (version : ℕ) (image : ImageValue) → seat.shown
 abbrev pub PinsHoldPublished : Type 0
 PinsHoldPublished = (a b : TableValue) (seat after : WorkerSeatValue) → LockedPins a seat b after → HoldsPublished b.images after
 
-abbrev pub PinsKeepPublished : Type 0
-PinsKeepPublished = (a b : TableValue) (seat after other : WorkerSeatValue) → LockedPins a seat b after → HoldsPublished a.images other → HoldsPublished b.images other
+-- what is done at a table: a pin, a release, a publish or a collection
+abbrev pub TableCall : TableValue → TableValue → Type 0
+TableCall a b =
+    ((seat after : WorkerSeatValue) × LockedPins a seat b after)
+    ⊎ (((seat after : WorkerSeatValue) × Releases a seat b after)
+    ⊎ (((image : ImageValue) × (version : ℕ) × Publishes a image version b) ⊎ ((found : Collected) × Collects a found b)))
 
-abbrev pub ReleasesKeepPublished : Type 0
-ReleasesKeepPublished = (a b : TableValue) (seat after other : WorkerSeatValue) → Releases a seat b after → HoldsPublished a.images other → HoldsPublished b.images other
-
-abbrev pub PublishesKeepPublished : Type 0
-PublishesKeepPublished = (a b : TableValue) (seat : WorkerSeatValue) (image : ImageValue) (version : ℕ) → Publishes a image version b → HoldsPublished a.images seat → HoldsPublished b.images seat
-
-abbrev pub CollectsKeepPublished : Type 0
-CollectsKeepPublished = (a b : TableValue) (seat : WorkerSeatValue) (found : Collected) → Collects a found b → HoldsPublished a.images seat → HoldsPublished b.images seat
+abbrev pub CallsKeepPublished : Type 0
+CallsKeepPublished = (a b : TableValue) (seat : WorkerSeatValue) → TableCall a b → HoldsPublished a.images seat → HoldsPublished b.images seat
 
 -- what a seat may do: a pin, a release, and to take in a notice
 abbrev pub SeatStep : SeatValue → SeatValue → Type 0

@@ -1,8 +1,7 @@
 //! Laws over what seats do to a table. The functions do nothing: their contracts are the laws.
 
 ghost use Rattle.epochs.specs.SeatLaws.{NewSeatsFit, PinsLeaveOthers, ReleasesLeaveOthers, PublishesLeaveSeats, CollectsLeaveSeats};
-ghost use Rattle.epochs.specs.SeatLaws.{PinsHoldPublished, PinsKeepPublished, ReleasesKeepPublished, PublishesKeepPublished, CollectsKeepPublished};
-ghost use Rattle.epochs.specs.SeatLaws.{JoinedVersionsStay, JoinedVersionsStayAtShelves};
+ghost use Rattle.epochs.specs.SeatLaws.{PinsHoldPublished, CallsKeepPublished, JoinedVersionsStay, JoinedVersionsStayAtShelves};
 
 /// A new seat fits a new table, and what others do leaves it so. After its own pins and releases it fits by their contracts.
 /// So a seat that is used at the table that it was handed out with, and nowhere else, is never lost.
@@ -17,10 +16,7 @@ pub fn seats_keep_fitting()
 /// The image that a pin gave a seat is the one published as that version, and stays so whatever is done at the table.
 pub fn held_images_stay_published()
     ensures held { PinsHoldPublished }
-    ensures pins { PinsKeepPublished }
-    ensures releases { ReleasesKeepPublished }
-    ensures publishes { PublishesKeepPublished }
-    ensures collects { CollectsKeepPublished }
+    ensures keep { CallsKeepPublished }
 {}
 
 /// Once a seat has taken in a notice of a version, each of its pins that isn't refused since it holds one already gives that

@@ -18,7 +18,9 @@ mod versions;
 pub use collected::Collected;
 pub use faults::{PinFault, PublishFault};
 pub use locked::LockedShelves;
-pub use named::{ManySeats, Named, NamedLoader, NamedNotice, NamedSeat, NamedShelves};
+pub use named::{
+    AtTable, ManySeats, Named, NamedLoader, NamedNotice, NamedSeat, NamedShelves, UnderName,
+};
 pub use notice::Notice;
 pub use seats::{Answer, LoaderAnswer, LoaderSeat, WorkerSeat};
 pub use shelf_loader::ShelfLoader;

@@ -2,10 +2,11 @@
 
 ghost use Rattle.std.specs.Prelude.{◌≡◌, [], Ok, Err, None, Some, IfOk, IfErr, OnOk, MatchOption, MatchResult};
 ghost use Rattle.std.specs.Arc.{arc_value};
+ghost use Rattle.std.specs.Sync.Mutex.{mutex_guard_value};
 ghost use Rattle.epochs.specs.Seats.{PinStep, ReleaseStep, PublishStep, RefuseStep, CollectStep, idle_seats};
 ghost use Rattle.epochs.specs.Pins.{HoldsInHistory};
 ghost use Rattle.epochs.specs.Publishing.{Collects};
-ghost use Rattle.epochs.specs.Locked.{UnderLock, PinsAt, ReleasesAt, PublishesAt, IsNew};
+ghost use Rattle.epochs.specs.Locked.{HasHistory, UnderLock, PinsAt, ReleasesAt, PublishesAt, IsNew};
 ghost use Rattle.epochs.specs.declared.faults.PublishFault.{PublishFault};
 
 use crate::collected::Collected;
@@ -16,7 +17,7 @@ use image_verifier::Verified;
 use shelf_steps::Edition;
 use std::alloc::{AllocError, Global};
 use std::snapshot::Snapshot;
-use std::sync::{Arc, Mutex, Wait};
+use std::sync::{Arc, Mutex, MutexGuard, Wait};
 
 /// A table of versions under one lock.
 ///
@@ -65,17 +66,25 @@ impl LockedShelves {
     }
 }
 
-// A publish at a table, whose history is told before and after.
+// The table under the lock is where its history leads.
+fn told<'a>(table: MutexGuard<'a, VersionTable>) -> MutexGuard<'a, VersionTable>
+    ensures { HasHistory (mutex_guard_value result) }
+{
+    table.history();
+    table
+}
+
+// A publish at a table that is where its history leads, and is so afterwards.
 fn publish_at(
     table: &mut VersionTable,
     loader: &mut LoaderSeat,
     image: Arc<Verified, Global>,
 ) -> Result<u64, (Arc<Verified, Global>, PublishFault)>
+    requires { HasHistory table.old }
     ensures back { IfErr result (λ e. e.0 ≡ image) }
     ensures loader { MatchResult result (λ v. PublishStep loader.old (arc_value image) v loader.new) (λ e. RefuseStep loader.old e.1 loader.new) }
     ensures table { MatchResult result (λ v. UnderLock (λ a b. PublishesAt a (arc_value image) (Ok v) b)) (λ e. UnderLock (λ a b. PublishesAt a (arc_value image) (Err e.1) b)) }
 {
-    table.history();
     let answer = table.publish(loader, image);
     table.history();
     answer
@@ -100,8 +109,7 @@ impl LockedShelves {
         ensures known { OnOk result (HoldsInHistory seat.new.number seat.new.shown.held) }
         ensures table { UnderLock (λ a b. PinsAt a seat.old result b seat.new) }
     {
-        let mut table = self.table.lock(rt);
-        table.history();
+        let mut table = told(self.table.lock(rt));
         let answer = table.pin(seat);
         table.history();
         answer
@@ -121,8 +129,7 @@ impl LockedShelves {
         ensures release { ReleaseStep seat.old.shown result seat.new.shown }
         ensures table { UnderLock (λ a b. ReleasesAt a seat.old result b seat.new) }
     {
-        let mut table = self.table.lock(rt);
-        table.history();
+        let mut table = told(self.table.lock(rt));
         let answer = table.release(seat);
         table.history();
         answer
@@ -139,7 +146,7 @@ impl LockedShelves {
         ensures loader { MatchResult result (λ v. PublishStep loader.old (arc_value image) v loader.new) (λ e. RefuseStep loader.old e.1 loader.new) }
         ensures table { MatchResult result (λ v. UnderLock (λ a b. PublishesAt a (arc_value image) (Ok v) b)) (λ e. UnderLock (λ a b. PublishesAt a (arc_value image) (Err e.1) b)) }
     {
-        let mut table = self.table.lock(rt);
+        let mut table = told(self.table.lock(rt));
         publish_at(&mut table, loader, image)
     }
 
@@ -148,8 +155,7 @@ impl LockedShelves {
         ensures loader { CollectStep loader.old result loader.new }
         ensures table { UnderLock (λ a b. Collects a result b) }
     {
-        let mut table = self.table.lock(rt);
-        table.history();
+        let mut table = told(self.table.lock(rt));
         let found = table.collect(loader);
         table.history();
         found

@@ -35,109 +35,79 @@ impl Named for Brand {
     ghost table = { record { words = 9; slots = 128; views_name = 0; atom = 0; block = 0; offset = 0; slot_names = [] } };
 }
 
-/// A worker's seat at the shelves of a name.
+/// What is of shelves, as contracts see it: of which.
+pub trait AtTable {
+    ghost use Rattle.atomic_table.specs.Seated.{TableId};
+
+    ghost table: { Self → TableId };
+}
+
+impl AtTable for ShelfSeat {
+    ghost table = { λ seat. seat.table };
+}
+
+impl AtTable for ShelfLoader {
+    ghost table = { λ loader. loader.table };
+}
+
+impl AtTable for Notice {
+    ghost table = { λ notice. notice.table };
+}
+
+/// What is of the shelves of a name, and is used as it is without one.
 #[derive(Drop)]
-pub struct NamedSeat<B: Named> {
-    seat: ShelfSeat,
+pub struct UnderName<B: Named, S: AtTable + Drop> {
+    inner: S,
     of: PhantomData<B>,
 }
 
-impl<B: Named> Model for NamedSeat<B> {
+impl<B: Named, S: AtTable + Drop> Model for UnderName<B, S> {
     ghost use Rattle.std.specs.Prelude.{◌≡◌};
-    ghost use Rattle.epochs.specs.ShelfSeats.{ShelfSeatValue};
 
-    ghost Value = { ShelfSeatValue };
+    ghost Value = { S };
 
-    ghost view = { λ s. s.seat };
+    ghost view = { λ s. s.inner };
 
-    ghost invariant = { λ s. s.seat.table ≡ B.table };
+    ghost invariant = { λ s. S.table s.inner ≡ B.table };
 }
 
-impl<B: Named> NamedSeat<B> {
-    /// The seat, under its shelves' name.
-    pub fn of(seat: ShelfSeat) -> NamedSeat<B>
-        requires { seat.table ≡ B.table }
-        ensures { result ≡ seat }
+impl<B: Named, S: AtTable + Drop> UnderName<B, S> {
+    /// The same, under its shelves' name.
+    pub fn of(inner: S) -> UnderName<B, S>
+        requires { S.table inner ≡ B.table }
+        ensures { result ≡ inner }
     {
-        NamedSeat {
-            seat,
+        UnderName {
+            inner,
             of: PhantomData,
         }
     }
+}
 
+/// A worker's seat at the shelves of a name.
+pub type NamedSeat<B> = UnderName<B, ShelfSeat>;
+
+impl<B: Named> NamedSeat<B> {
     /// The number of the seat's worker, from 0 to 15.
     pub fn number(&self) -> usize
         ensures { result ≡ self.now.number }
     {
-        self.seat.number()
+        self.inner.number()
     }
 }
 
 /// The loader's seat at the shelves of a name.
-#[derive(Drop)]
-pub struct NamedLoader<B: Named> {
-    loader: ShelfLoader,
-    of: PhantomData<B>,
-}
-
-impl<B: Named> Model for NamedLoader<B> {
-    ghost use Rattle.std.specs.Prelude.{◌≡◌};
-    ghost use Rattle.epochs.specs.ShelfLoads.{ShelfLoaderValue};
-
-    ghost Value = { ShelfLoaderValue };
-
-    ghost view = { λ s. s.loader };
-
-    ghost invariant = { λ s. s.loader.table ≡ B.table };
-}
-
-impl<B: Named> NamedLoader<B> {
-    /// The loader's seat, under its shelves' name.
-    pub fn of(loader: ShelfLoader) -> NamedLoader<B>
-        requires { loader.table ≡ B.table }
-        ensures { result ≡ loader }
-    {
-        NamedLoader {
-            loader,
-            of: PhantomData,
-        }
-    }
-}
+pub type NamedLoader<B> = UnderName<B, ShelfLoader>;
 
 /// Says that a version was published at the shelves of a name.
-#[derive(Drop)]
-pub struct NamedNotice<B: Named> {
-    notice: Notice,
-    of: PhantomData<B>,
-}
-
-impl<B: Named> Model for NamedNotice<B> {
-    ghost use Rattle.std.specs.Prelude.{◌≡◌};
-    ghost use Rattle.epochs.specs.ShelfSeats.{NoticeValue};
-
-    ghost Value = { NoticeValue };
-
-    ghost view = { λ s. s.notice };
-
-    ghost invariant = { λ s. s.notice.table ≡ B.table };
-}
+pub type NamedNotice<B> = UnderName<B, Notice>;
 
 impl<B: Named> NamedNotice<B> {
-    fn of(notice: Notice) -> NamedNotice<B>
-        requires { notice.table ≡ B.table }
-        ensures { result ≡ notice }
-    {
-        NamedNotice {
-            notice,
-            of: PhantomData,
-        }
-    }
-
     /// The version that was published.
     pub fn version(&self) -> u64
         ensures { result ≡ self.now.version }
     {
-        self.notice.version()
+        self.inner.version()
     }
 }
 
@@ -218,11 +188,11 @@ impl<B: Named, K> Versions for NamedShelves<B, K> {
         ensures known { OnOk result (HoldsInHistory seat.new.number seat.new.shown.held) }
         ensures steps { PinsBySteps seat.old result seat.new }
     {
-        self.shelves.pin(&mut seat.seat)
+        self.shelves.pin(&mut seat.inner)
     }
 
     fn edition(seat: &NamedSeat<B>) -> Option<&Edition> {
-        seat.seat.edition()
+        seat.inner.edition()
     }
 
     fn release<R: Wait>(&self, _rt: &R, seat: &mut NamedSeat<B>) -> Result<(), PinFault>
@@ -230,7 +200,7 @@ impl<B: Named, K> Versions for NamedShelves<B, K> {
         ensures release { ReleaseStep seat.old.shown result seat.new.shown }
         ensures steps { ReleasesBySteps seat.old result seat.new }
     {
-        self.shelves.release(&mut seat.seat)
+        self.shelves.release(&mut seat.inner)
     }
 
     fn join<R: Wait>(&self, _rt: &R, seat: &mut NamedSeat<B>, notice: NamedNotice<B>)
@@ -238,7 +208,7 @@ impl<B: Named, K> Versions for NamedShelves<B, K> {
         ensures join { JoinStep seat.old.shown notice.version seat.new.shown }
         ensures step { JoinsByStep seat.old notice.version seat.new }
     {
-        self.shelves.join(&mut seat.seat, notice.notice);
+        self.shelves.join(&mut seat.inner, notice.inner);
     }
 
     fn version_of(notice: &NamedNotice<B>) -> u64 {
@@ -265,7 +235,7 @@ impl<B: Named, K> Loads for NamedShelves<B, K> {
         ensures steps { MatchResult result (λ r. (room : View) × MakesRoomBySteps loader.old.view room × PublishesWithNotice room (arc_value image) r.0 loader.new.view) (λ e. RefusesBySteps loader.old.view e.1 loader.new.view) }
         ensures notice { IfOk result (λ r. r.1 ≡ Some (record { table = self.now; version = r.0 })) }
     {
-        let published = match self.shelves.publish(&mut loader.loader, image) {
+        let published = match self.shelves.publish(&mut loader.inner, image) {
             Ok(published) => published,
             Err(refused) => return Err(refused),
         };
@@ -276,6 +246,6 @@ impl<B: Named, K> Loads for NamedShelves<B, K> {
         ensures loader { CollectStep loader.old.answers result loader.new.answers }
         ensures steps { CollectsBySteps loader.old.view result loader.new.view }
     {
-        self.shelves.collect(&mut loader.loader)
+        self.shelves.collect(&mut loader.inner)
     }
 }

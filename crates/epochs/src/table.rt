@@ -5,6 +5,8 @@ ghost use Rattle.std.specs.Arc.{arc_value};
 ghost use Rattle.version_core.specs.State.{start, newest};
 ghost use Rattle.version_core.specs.Steps.{IsIdle, Holds, IsClosing};
 ghost use Rattle.version_core.specs.Kept.{Kept};
+ghost use Rattle.version_core.specs.Laws.{LooksAndTakesHold, DropsLetGo, RunsGrow};
+ghost use Rattle.version_core.specs.Rest.{RestStays};
 ghost use Rattle.version_core.specs.declared.state.Worker.{Worker};
 ghost use Rattle.epochs.specs.Seats.{PinStep, ReleaseStep, PublishStep, RefuseStep, CollectStep};
 ghost use Rattle.epochs.specs.History.{IsHistory, LeadsTo, HeldHaveImages, TableValue};
@@ -144,15 +146,26 @@ impl VersionTable {
         Ok((shelf, Edition { version, image }))
     }
 
-    // The idle worker looks at the current version and takes it.
-    fn look_and_take(&mut self, worker: usize)
-        requires { IsIdle self.old.state worker }
-        ensures { IsLookAndTake self.old worker self.new }
+    // What a worker's events lead to from this state, and from each. It does nothing.
+    fn laws(&self)
+        ensures kept { Kept self.now.state }
+        ensures takes { LooksAndTakesHold }
+        ensures drops { DropsLetGo }
+        ensures grow { RunsGrow }
+        ensures stays { RestStays }
     {
         holding();
         runs_in_parts();
         at_rest();
         let _ = self.core.current();
+    }
+
+    // The idle worker looks at the current version and takes it.
+    fn look_and_take(&mut self, worker: usize)
+        requires { IsIdle self.old.state worker }
+        ensures { IsLookAndTake self.old worker self.new }
+    {
+        self.laws();
         let _looked = self.core.look(worker);
         self.events.note(&Event::Look { worker });
         let _held = self.core.take(worker);
@@ -189,10 +202,7 @@ impl VersionTable {
         requires { (k v : ℕ) × Holds self.old.state worker k v }
         ensures { IsDrop self.old worker self.new }
     {
-        holding();
-        runs_in_parts();
-        at_rest();
-        let _ = self.core.current();
+        self.laws();
         let _dropped = self.core.leave(worker);
         self.events.note(&Event::Drop { worker });
     }

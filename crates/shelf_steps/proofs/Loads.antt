@@ -299,26 +299,32 @@ is_equal n m e = grind (arith, nat_tests)
 is_other : (n m : ℕ) → (n == m) ≡ false → n ≢ m
 is_other n m e q = grind (arith, nat_tests)
 
-busy_word : (n count version : ℕ) → n ≡ count + 512 + 65536 * version → count ≤ 16 → count ≡ n % 256
-busy_word n count version is few = omega arith
+-- so many are at a closing shelf whose word was found to be n: none, where that is the word without a count
+abbrev IsCountFound : Bool → ℕ → ℕ → Type 0
+IsCountFound true count n = count ≡ 0
+IsCountFound false count n = (count ≡ n % 256) × (0 < n % 256)
 
--- a closing shelf, and the word that it has
+count_found : (n count version : ℕ) → n ≡ count + 512 + 65536 * version → count ≤ 16 → (b : Bool) → (n == 512 + 65536 * version) ≡ b → IsCountFound b count n
+count_found n count version is few true found = let e : n ≡ 512 + 65536 * version = is_equal n (512 + 65536 * version) found in omega arith
+count_found n zero version is few false found = absurd (is_other n (512 + 65536 * version) found (omega arith))
+count_found n (suc count) version is few false found = (omega arith, omega arith)
+
+-- a closing shelf, and how many are there by the word that it has
 closing_at : (id k version : ℕ) (l : LoaderView) (table : Table (Option Edition) View) (r : Ruled table) → get_elem? table.views id ≡ some (View.Loading l)
-    → slice_get l.shelves k ≡ Some (Shelf.Closing version)
-    → IsClosing r.course.state k version × (get_or table.words (k + 1) 0 ≡ shelf_word (Shelf.Closing version) (get_or r.course.state.counts k 0))
-closing_at id k version l table r at shelf =
-    let closing = shelf_is table r id l at k (Shelf.Closing version) shelf in (closing, r.words.each k (Shelf.Closing version) closing)
+    → k < 8 → slice_get l.shelves k ≡ Some (Shelf.Closing version) → (b : Bool) → (get_or table.words (k + 1) 0 == 512 + 65536 * version) ≡ b
+    → IsClosing r.course.state k version × IsCountFound b (get_or r.course.state.counts k 0) (get_or table.words (k + 1) 0)
+closing_at id k version l table r at small shelf b found =
+    let closing = shelf_is table r id l at k (Shelf.Closing version) shelf in let word = r.words.each k (Shelf.Closing version) closing in
+    let few = few_counted r.course.state k (kept_of r.course r.goes) small in
+    (closing, count_found (get_or table.words (k + 1) 0) (get_or r.course.state.counts k 0) version word few b found)
 
 collects_found : (id k version : ℕ) (l : LoaderView) (table : Table (Option Edition) View) (r : Ruled table) → get_elem? table.views id ≡ some (View.Loading l) → length table.homes ≡ 128 → k < 8
     → slice_get l.shelves k ≡ Some (Shelf.Closing version) → l.hand ≡ None → (b : Bool) → (get_or table.words (k + 1) 0 == 512 + 65536 * version) ≡ b
     → (w : View) × (a : Act (Option Edition)) × Valid table.homes [] a × Ruled (stepped table (k + 1) (either b 0 (get_or table.words (k + 1) 0)) id [] w a) × CollectsFound l k version (get_or table.words (k + 1) 0) b (w, carried_after [] a)
 collects_found id k version l table r at many small shelf hand true found =
-    let s = r.course.state in let n = get_or table.words (k + 1) 0 in
-    let kept : Kept s = kept_of r.course r.goes in
+    let s = r.course.state in let kept : Kept s = kept_of r.course r.goes in
     let knows = loader_knows table r id l at in
-    let here = closing_at id k version l table r at shelf in let word = here.1 in
-    let is = is_equal n (512 + 65536 * version) found in
-    let nobody : get_or s.counts k 0 ≡ 0 = omega arith in
+    let here = closing_at id k version l table r at small shelf true found in let nobody = here.1 in
     let t : State = shelved s k Shelf.Free in
     let e : Event = Event.Collect k in let reply : Reply = Reply.Freed in
     let is_step : Step s e reply t = (version, here.0, nobody, refl) in
@@ -350,14 +356,10 @@ collects_found id k version l table r at many small shelf hand true found =
     )
 collects_found id k version l table r at many small shelf hand false found =
     let s = r.course.state in let n = get_or table.words (k + 1) 0 in
-    let kept : Kept s = kept_of r.course r.goes in
     let knows = loader_knows table r id l at in
-    let here = closing_at id k version l table r at shelf in let word = here.1 in
-    let is = is_other n (512 + 65536 * version) found in
-    let count : get_or s.counts k 0 ≡ n % 256 = busy_word n (get_or s.counts k 0) version word (few_counted s k kept small) in
-    let some_one : 0 < n % 256 = some_one_there n (get_or s.counts k 0) version word is count in
+    let here = closing_at id k version l table r at small shelf false found in
     let e : Event = Event.Collect k in let reply : Reply = Reply.Busy (n % 256) in
-    let is_step : Step s e reply s = (version, here.0, count, some_one, refl) in
+    let is_step : Step s e reply s = (version, here.0, here.1.0, here.1.1, refl) in
     let d : Course = extended r.course e reply s r.course.images in
     let l' : LoaderView = with_hand l None (all_of d) in
     let fits' : LoaderFits d l' = loader_next r.course d e l l' knows refl refl refl refl r.goes.as_many knows.shows.current knows.shows.current_shelf
@@ -371,14 +373,10 @@ collects_found id k version l table r at many small shelf hand false found =
         all_of d,
         refl,
         noted table r id l l' at refl e reply s refl is_step refl refl refl refl (omega arith),
-        some_one,
+        here.1.1,
         found_at table.words r.course r.goes r.words k e d refl small,
       ),
     )
-  where
-    some_one_there : (n count version : ℕ) → n ≡ count + 512 + 65536 * version → n ≢ 512 + 65536 * version → count ≡ n % 256 → 0 < n % 256
-    some_one_there n zero version is other c = absurd (other (omega arith))
-    some_one_there n (suc count) version is other c = omega arith
 
 collectings_as : (slots id k version : ℕ) (u : View) (c : List (ℕ × Option Edition)) → slots ≡ 128 → k < 8 → MayCollect k version u c
     → Allows Ruled slots id (u, c) (k + 1) (λ n. either (n == 512 + 65536 * version) 0 n) (Collects (step slots (k + 1) (512 + 65536 * version) 0 none) (u, c))

@@ -7,5 +7,6 @@ pub mod Pinning
 pub mod Blocks
 pub mod Loading
 pub mod Handed
+pub mod Splits
 pub mod Laws
 pub mod Events

@@ -1,6 +1,7 @@
 //! Notices of versions: one is split from the loader's seat, and a worker's seat takes it in.
-ghost use Rattle.std.specs.Prelude.{◌≡◌, ℕ, []};
+ghost use Rattle.std.specs.Prelude.{◌≡◌, ℕ};
 ghost use Rattle.shelf_steps.specs.Plays.{gives_notice, new_notice, joins_notice, IsLoading, IsSettled, IsNotice};
+ghost use Rattle.shelf_steps.specs.Splits.{IsSplit};
 
 use crate::places::{Place, ShelfTable};
 use crate::rule::{Joining, Noting};
@@ -9,9 +10,7 @@ use crate::rule::{Joining, Noting};
 pub fn note(shelves: &ShelfTable, loader: &mut Place) -> Place
     requires table { loader.old.table ≡ shelves.now }
     requires loader { IsLoading loader.old.me.0 }
-    ensures table { loader.new.table ≡ loader.old.table }
-    ensures loader { loader.new.me ≡ (gives_notice loader.old.me.0, loader.old.me.1) }
-    ensures notice { (result.table ≡ loader.old.table) × (result.me ≡ (new_notice loader.old.me.0, [])) }
+    ensures { IsSplit gives_notice new_notice loader.old loader.new result }
 {
     let seat = shelves.table.shared.split_seat::<Noting>(&mut loader.seat);
     Place { seat }

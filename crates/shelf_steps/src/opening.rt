@@ -3,6 +3,7 @@ ghost use Rattle.std.specs.Prelude.{◌≡◌, ◌<◌, [], IfOk};
 ghost use Rattle.std.specs.Arc.{arc_value};
 ghost use Rattle.shelf_steps.specs.Ruled.{first_loader, FirstSlot, FirstSlots};
 ghost use Rattle.shelf_steps.specs.Plays.{keeps_loading, new_worker_view, MayHandOut};
+ghost use Rattle.shelf_steps.specs.Splits.{IsSplit};
 ghost use Rattle.shelf_steps.specs.declared.views.View.{View};
 
 use crate::edition::Edition;
@@ -56,9 +57,7 @@ fn first_slot(place: usize, first: &Arc<Verified, Global>) -> Result<Option<Edit
 pub fn new_worker(shelves: &ShelfTable, loader: &mut Place) -> Place
     requires table { loader.old.table ≡ shelves.now }
     requires room { MayHandOut loader.old.me.0 }
-    ensures table { loader.new.table ≡ loader.old.table }
-    ensures loader { loader.new.me ≡ (keeps_loading loader.old.me.0, loader.old.me.1) }
-    ensures worker { (result.table ≡ loader.old.table) × (result.me ≡ (new_worker_view loader.old.me.0, [])) }
+    ensures { IsSplit keeps_loading new_worker_view loader.old loader.new result }
 {
     let seat = shelves
         .table

@@ -1,12 +1,12 @@
 -- A state and an event have one reply and one next state, but for the free shelf that is opened.
-use Rattle.std.proofs.Common.{◌≡◌, ℕ, ◌<◌, remove, Some, slice_get, refl, ap, sym, ◌∙◌, arith, inl, inr}
+use Rattle.std.proofs.Common.{◌≡◌, ◌⊎◌, ℕ, ◌<◌, Some, slice_get, refl, ap, sym, ◌∙◌, arith, inl, inr}
 use Rattle.version_core.specs.declared.state.Shelf.{Shelf}
 use Rattle.version_core.specs.declared.state.Worker.{Worker}
 use Rattle.version_core.specs.declared.event.Event.{Event}
 use Rattle.version_core.specs.declared.event.Reply.{Reply}
 use Rattle.version_core.specs.State.{State, newest, edition_of, arrived, departed, opened, published, shelved, joined}
-use Rattle.version_core.specs.Steps.{IsUnpublished, OpensLeast, Step, LookStep, TakeStep, DropStep, OpenStep, PublishStep, CloseStep, CollectStep, AskStep}
-use Rattle.version_core.specs.Steps.{NoteStep, JoinStep}
+use Rattle.version_core.specs.Steps.{OpensLeast, Step, LookStep, TakeStep, DropStep, OpenStep, PublishStep, CloseStep, CollectStep, AskStep}
+use Rattle.version_core.specs.Steps.{StaysAt, IsUnpublished, IsOutdated, NoteStep, JoinStep}
 use Rattle.version_core.specs.Kept.{Kept}
 use Rattle.version_core.proofs.Shelves.{version_at}
 use Rattle.version_core.proofs.Pins.{stays_once}
@@ -51,14 +51,26 @@ take_one s t u w Reply.NotNow Reply.NotNow a b = (refl, b.1 ∙ sym a.1)
 take_one s t u w Reply.NotNow _ a b = absurd b
 take_one s t u w _ q a b = absurd a
 
+-- a step that is done in one of these ways, with its reply and its next state, or has no place where there is none
+abbrev DoneOr : State → (Way : Type 0) → (Way → Reply) → (Way → State) → Reply → State → Type 0
+DoneOr s Way told after r t = ((a : Way) × (r ≡ told a) × (t ≡ after a)) ⊎ ((¬ Way) × (r ≡ Reply.NotNow) × (t ≡ s))
+
+-- where all ways are told alike and lead to one state, so do two such steps
+done_alike : (s t u : State) (r q : Reply) (Way : Type 0) (told : Way → Reply) (after : Way → State)
+    → ((a b : Way) → (told b ≡ told a) × (after b ≡ after a)) → DoneOr s Way told after r t → DoneOr s Way told after q u → (q ≡ r) × (u ≡ t)
+done_alike s t u r q Way told after alike (inl a) (inl b) = let same = alike a.0 b.0 in (b.1 ∙ (same.0 ∙ sym a.1), b.2 ∙ (same.1 ∙ sym a.2))
+done_alike s t u r q Way told after alike (inl a) (inr b) = absurd (b.0 a.0)
+done_alike s t u r q Way told after alike (inr a) (inl b) = absurd (a.0 b.0)
+done_alike s t u r q Way told after alike (inr a) (inr b) = (b.1 ∙ sym a.1, b.2 ∙ sym a.2)
+
+drops : (s t : State) (w : ℕ) (r : Reply) → DropStep s w r t → DoneOr s ((k : ℕ) × StaysAt s w k) (λ a. Reply.Dropped) (λ a. departed s w a.0) r t
+drops s t w Reply.Dropped h = inl ((h.0, h.1), refl, h.2)
+drops s t w Reply.NotNow h = inr ((λ a. h.0 a.0 a.1), refl, h.1)
+drops s t w _ h = absurd h
+
 drop_one : (s t u : State) (w : ℕ) (r q : Reply) → DropStep s w r t → DropStep s w q u → (q ≡ r) × (u ≡ t)
-drop_one s t u w Reply.Dropped Reply.Dropped a b = (refl, b.2 ∙ (ap (λ n. departed s w n) (stays_once s w a.0 b.0 a.1 b.1) ∙ sym a.2))
-drop_one s t u w Reply.Dropped Reply.NotNow a b = absurd (b.0 a.0 a.1)
-drop_one s t u w Reply.Dropped _ a b = absurd b
-drop_one s t u w Reply.NotNow Reply.Dropped a b = absurd (a.0 b.0 b.1)
-drop_one s t u w Reply.NotNow Reply.NotNow a b = (refl, b.1 ∙ sym a.1)
-drop_one s t u w Reply.NotNow _ a b = absurd b
-drop_one s t u w _ q a b = absurd a
+drop_one s t u w r q a b = done_alike s t u r q ((k : ℕ) × StaysAt s w k) (λ x. Reply.Dropped) (λ x. departed s w x.0)
+    (λ x y. (refl, ap (λ n. departed s w n) (stays_once s w x.0 y.0 x.1 y.1))) (drops s t w r a) (drops s u w q b)
 
 -- of two numbers neither of which is below the other
 neither_below : (m n : ℕ) → ¬ (m < n) → ¬ (n < m) → n ≡ m
@@ -88,29 +100,37 @@ unpublished_is_newest s k v kept new =
     let known = kept.shelves.known k v (version_at s.shelves k (Shelf.Open v) new.0) in let most = known.1 in let above = new.1 in
     elim kept.shelves.newest_open [ inl a ↦ (omega arith) | inr b ↦ (let next = b.0 in omega arith) ]
 
+publishes : (s t : State) (r : Reply) → PublishStep s r t
+    → DoneOr s ((v k : ℕ) × IsUnpublished s k v) (λ a. Reply.Published a.0) (λ a. published s a.1 a.0) r t
+publishes s t (Reply.Published v) h = inl ((v, h.0, h.1), refl, h.2)
+publishes s t Reply.NotNow h = inr ((λ a. h.0 a.1 a.0 a.2), refl, h.1)
+publishes s t _ h = absurd h
+
+-- no two versions are unpublished
+unpublished_once : (s : State) (v k x j : ℕ) → Kept s → IsUnpublished s k v → IsUnpublished s j x → (x ≡ v) × (j ≡ k)
+unpublished_once s v k x j kept a b =
+    let same : x ≡ v = unpublished_is_newest s j x kept b ∙ sym (unpublished_is_newest s k v kept a) in
+    (same, kept.shelves.apart j k v (version_at s.shelves j (Shelf.Open x) b.0 ∙ ap (λ n. Some n) same) (version_at s.shelves k (Shelf.Open v) a.0))
+
 publish_one : (s t u : State) (r q : Reply) → Kept s → PublishStep s r t → PublishStep s q u → (q ≡ r) × (u ≡ t)
-publish_one s t u (Reply.Published v) (Reply.Published x) kept a b =
-    let p : x ≡ v = unpublished_is_newest s b.0 x kept b.1 ∙ sym (unpublished_is_newest s a.0 v kept a.1) in
-    let q : b.0 ≡ a.0 = kept.shelves.apart b.0 a.0 v (version_at s.shelves b.0 (Shelf.Open x) b.1.0 ∙ ap (λ n. Some n) p) (version_at s.shelves a.0 (Shelf.Open v) a.1.0) in
-    (ap (λ n. Reply.Published n) p, b.2 ∙ (ap (λ n. published s b.0 n) p ∙ (ap (λ n. published s n v) q ∙ sym a.2)))
-publish_one s t u (Reply.Published v) Reply.NotNow kept a b = absurd (b.0 a.0 v a.1)
-publish_one s t u (Reply.Published v) _ kept a b = absurd b
-publish_one s t u Reply.NotNow (Reply.Published x) kept a b = absurd (a.0 b.0 x b.1)
-publish_one s t u Reply.NotNow Reply.NotNow kept a b = (refl, b.1 ∙ sym a.1)
-publish_one s t u Reply.NotNow _ kept a b = absurd b
-publish_one s t u _ q kept a b = absurd a
+publish_one s t u r q kept a b = done_alike s t u r q ((v k : ℕ) × IsUnpublished s k v) (λ x. Reply.Published x.0) (λ x. published s x.1 x.0)
+    (λ x y.
+    let same = unpublished_once s x.0 x.1 y.0 y.1 kept x.2 y.2 in
+    (ap (λ n. Reply.Published n) same.0, ap (λ n. published s y.1 n) same.0 ∙ ap (λ n. published s n x.0) same.1))
+    (publishes s t r a) (publishes s u q b)
+
+closes : (s t : State) (k : ℕ) (r : Reply) → CloseStep s k r t
+    → DoneOr s ((v : ℕ) × IsOutdated s k v) (λ a. Reply.Closing) (λ a. shelved s k (Shelf.Closing a.0)) r t
+closes s t k Reply.Closing h = inl ((h.0, h.1), refl, h.2)
+closes s t k Reply.NotNow h = inr ((λ a. h.0 a.0 a.1), refl, h.1)
+closes s t k _ h = absurd h
 
 close_one : (s t u : State) (k : ℕ) (r q : Reply) → CloseStep s k r t → CloseStep s k q u → (q ≡ r) × (u ≡ t)
-close_one s t u k Reply.Closing Reply.Closing a b =
-    let e : Some (Shelf.Open a.0) ≡ Some (Shelf.Open b.0) = sym a.1.0 ∙ b.1.0 in
-    let p : b.0 ≡ a.0 = cc in
-    (refl, b.2 ∙ (ap (λ n. shelved s k (Shelf.Closing n)) p ∙ sym a.2))
-close_one s t u k Reply.Closing Reply.NotNow a b = absurd (b.0 a.0 a.1)
-close_one s t u k Reply.Closing _ a b = absurd b
-close_one s t u k Reply.NotNow Reply.Closing a b = absurd (a.0 b.0 b.1)
-close_one s t u k Reply.NotNow Reply.NotNow a b = (refl, b.1 ∙ sym a.1)
-close_one s t u k Reply.NotNow _ a b = absurd b
-close_one s t u k _ q a b = absurd a
+close_one s t u k r q a b = done_alike s t u r q ((v : ℕ) × IsOutdated s k v) (λ x. Reply.Closing) (λ x. shelved s k (Shelf.Closing x.0))
+    (λ x y.
+    let e : Some (Shelf.Open x.0) ≡ Some (Shelf.Open y.0) = sym x.1.0 ∙ y.1.0 in let same : y.0 ≡ x.0 = cc in
+    (refl, ap (λ n. shelved s k (Shelf.Closing n)) same))
+    (closes s t k r a) (closes s u k q b)
 
 collect_one : (s t u : State) (k : ℕ) (r q : Reply) → CollectStep s k r t → CollectStep s k q u → (q ≡ r) × (u ≡ t)
 collect_one s t u k Reply.Freed Reply.Freed a b = (refl, b.3 ∙ sym a.3)

@@ -1,5 +1,5 @@
 -- Lists of notices: they rise, and which of two alike is taken out doesn't matter.
-use Rattle.std.proofs.Common.{◌≡◌, ℕ, zero, suc, ◌+◌, ◌<◌, ◌≤◌, max, List, [], ◌∷◌, ◌++◌, take, drop, remove, Some, slice_get, refl, ap, sym, ◌∙◌, arith}
+use Rattle.std.proofs.Common.{◌≡◌, ℕ, zero, suc, ◌+◌, ◌≤◌, max, List, [], ◌∷◌, ◌++◌, remove, Some, slice_get, refl, ap, sym, ◌∙◌, arith}
 use Rattle.version_core.specs.Kept.{RiseWithin}
 
 pub most_left : (a b : ℕ) → a ≤ max a b

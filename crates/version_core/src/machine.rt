@@ -349,17 +349,9 @@ impl Core {
     pub fn collect(&mut self, shelf: usize) -> Reply
         ensures { CollectStep self.old shelf result self.new }
     {
-        if self.is_closing(shelf) {
-            self.free_if_left(shelf)
-        } else {
-            Reply::NotNow
+        if !self.is_closing(shelf) {
+            return Reply::NotNow;
         }
-    }
-
-    fn free_if_left(&mut self, shelf: usize) -> Reply
-        requires { (v : ℕ) × IsClosing self.old shelf v }
-        ensures { CollectStep self.old shelf result self.new }
-    {
         let count = self.counts[shelf];
         if count > 0 {
             return Reply::Busy { count };

@@ -12,12 +12,11 @@ use Rattle.version_core.specs.declared.state.Worker.{Worker}
 use Rattle.version_core.specs.Kept.{version_on, version_of}
 use Rattle.shelf_steps.specs.declared.edition.Edition.{Edition}
 use Rattle.shelf_steps.specs.declared.views.WorkerView.{WorkerView}
-use Rattle.shelf_steps.specs.declared.views.LoaderView.{LoaderView}
 use Rattle.shelf_steps.specs.declared.views.View.{View}
 use Rattle.shelf_steps.specs.Slots.{down_from, nothings}
 use Rattle.shelf_steps.specs.Loading.{Frees, FindsBusy}
-use Rattle.shelf_steps.specs.Plays.{OfWorker, OfLoader, Mine, Looks, Takes, TakesFound, Leaves, GivesBack, IsIdle, HasLooked, IsLate, HoldsOut, is_open, newest_of, with_open, with_current, with_closing, with_hand, IsBlock, AllHave, OpensOn, PublishesOn, ClosesOn, GathersOn, MayOpenOn, MayPublish, MayClose, MayCollect, MayGather}
-use Rattle.shelf_steps.specs.Plays.{IsSettled, IsNotice, IsLoading, joins_notice, with_note, gives_notice, new_notice}
+use Rattle.shelf_steps.specs.Plays.{OfLoader, Mine, Looks, Takes, TakesFound, Leaves, GivesBack, IsIdle, HasLooked, IsLate, HoldsOut, is_open, with_hand, IsBlock, AllHave, OpensOn, PublishesOn, ClosesOn, GathersOn, MayOpenOn, MayPublish, MayClose, MayCollect, MayGather}
+use Rattle.shelf_steps.specs.Plays.{IsSettled, IsNotice, IsLoading, joins_notice, gives_notice, new_notice}
 use Rattle.version_tests.specs.Stepping.{DoesSo, Remembers, RemembersSo}
 
 of_idle : (u : View) (c : List (ℕ × Option Edition)) → DoesSo Worker.Idle (u, c) → IsIdle u
@@ -319,27 +318,12 @@ holding_joined n k version m notice m' h is e =
     subst (λ (x : Mine). DoesSo (Worker.Holding k version) x) (sym (e ∙ ap (λ (x : Mine). (joins_notice m.0 x.0, m.1)) is)) (join_holding n k version m.0 m.1 h)
 
 -- the loader may give a notice of the current version, and remembers what it did
-still_so : (current newest : ℕ) (shelves : List Shelf) (l : LoaderView) → Remembers current newest shelves l → Remembers current newest shelves (with_note l)
-still_so current newest shelves l r = record {
-  empty = r.empty;
-  current_is = r.current_is;
-  newest_is = r.newest_is;
-  shelves_are = r.shelves_are;
-  eight = r.eight;
-  small = r.small;
-  known = r.known;
-}
-
 note_of : (current newest : ℕ) (shelves : List Shelf) (u : View) (c : List (ℕ × Option Edition)) → RemembersSo current newest shelves (u, c)
     → IsLoading u × (new_notice u ≡ View.Noting current) × RemembersSo current newest shelves (gives_notice u, c)
 note_of current newest shelves (View.Working v) c h = absurd h.0
 note_of current newest shelves (View.Noting x') c h = absurd h.0
 note_of current newest shelves View.Spent c h = absurd h.0
-note_of current newest shelves (View.Loading l) c h = (
-  tt,
-  ap (λ n. View.Noting n) h.0.current_is,
-  (still_so current newest shelves l h.0, h.1),
-)
+note_of current newest shelves (View.Loading l) c h = (tt, ap (λ n. View.Noting n) h.0.current_is, h)
 
 pub may_note_so : (current newest : ℕ) (shelves : List Shelf) (m : Mine) → RemembersSo current newest shelves m → IsLoading m.0
 may_note_so current newest shelves m h = (note_of current newest shelves m.0 m.1 h).0

@@ -18,15 +18,18 @@ CarriesSo (Worker.Holding k version) v c = (k < 8) × (c ≡ (16 * k + v.number,
 abbrev pub DoesSo : Worker → Mine → Type 0
 DoesSo now m = OfWorker m.0 (λ v. (v.now ≡ now) × CarriesSo now v m.1)
 
--- the loader between two steps, with no slot out
-pub record Remembers (current newest : ℕ) (shelves : List Shelf) (l : LoaderView) : Type 0 where
-  pub empty : l.hand ≡ None
-  pub current_is : l.current ≡ current
-  pub newest_is : newest_of l ≡ newest
-  pub shelves_are : l.shelves ≡ shelves
+-- the loader between two steps, with no slot out, by what its view has in its hand, as the current version, as the newest, and on the shelves
+pub record RemembersBy (current newest : ℕ) (shelves : List Shelf) (hand : Option ℕ) (now top : ℕ) (standing : List Shelf) : Type 0 where
+  pub empty : hand ≡ None
+  pub current_is : now ≡ current
+  pub newest_is : top ≡ newest
+  pub shelves_are : standing ≡ shelves
   pub eight : length shelves ≡ 8
   pub small : newest ≤ 1000000000
   pub known : (k v : ℕ) → version_on shelves k ≡ Some v → v ≤ newest
+
+abbrev pub Remembers : ℕ → ℕ → List Shelf → LoaderView → Type 0
+Remembers current newest shelves l = RemembersBy current newest shelves l.hand l.current (newest_of l) l.shelves
 
 abbrev pub RemembersSo : ℕ → ℕ → List Shelf → Mine → Type 0
 RemembersSo current newest shelves m = OfLoader m.0 (λ l. Remembers current newest shelves l) × (m.1 ≡ [])

@@ -19,3 +19,17 @@ pub(crate) fn image(alloc: Global, base: u32) -> Result<Arc<Verified, Global>, A
         Err(_) => Err(AllocError),
     }
 }
+
+/// An image that may become versions, and where their slots are made.
+#[derive(Drop)]
+pub(crate) struct Source {
+    pub(crate) alloc: Global,
+    pub(crate) image: Arc<Verified, Global>,
+}
+
+impl Source {
+    pub(crate) fn new(alloc: Global, base: u32) -> Result<Source, AllocError> {
+        let image = image(alloc, base)?;
+        Ok(Source { alloc, image })
+    }
+}

@@ -5,13 +5,18 @@ use std::process::Abort;
 use std::test::*;
 use version_core::*;
 
-/// Events with their replies, from the start on: a block for each course of events, under a title.
-const COURSES: &str = "\
-# a late take and a new look
+/// Worker 1 has looked at version 1, which is then outdated: version 2 is current, and shelf 0 is closing.
+const OUTDATED: &str = "\
 look 1: Looked { version: 1, shelf: 0 }
 open 1: Opened { version: 2, shelf: 1 }
 publish: Published { version: 2 }
-close 0: Closing
+close 0: Closing";
+
+/// Events with their replies, from the start on: a block for each course of events, under a title. A line `outdated` stands for
+/// those of `OUTDATED`, and `load 2..8` for an opening and a publish of each of these versions, on the shelf before its number.
+const COURSES: &str = "\
+# a late take and a new look
+outdated
 collect 0: Freed
 take 1: Late
 drop 1: Dropped
@@ -30,10 +35,7 @@ drop 1: Dropped
 collect 0: Freed
 
 # a shelf that is used again
-look 1: Looked { version: 1, shelf: 0 }
-open 1: Opened { version: 2, shelf: 1 }
-publish: Published { version: 2 }
-close 0: Closing
+outdated
 collect 0: Freed
 open 2: Opened { version: 3, shelf: 0 }
 take 1: Late
@@ -45,10 +47,7 @@ take 1: Holds { version: 3 }
 ask 1: From { version: 3, edition: 2 }
 
 # a late worker is counted when its shelf is opened again
-look 1: Looked { version: 1, shelf: 0 }
-open 1: Opened { version: 2, shelf: 1 }
-publish: Published { version: 2 }
-close 0: Closing
+outdated
 collect 0: Freed
 take 1: Late
 open 2: Opened { version: 3, shelf: 0 }
@@ -62,20 +61,7 @@ collect 0: Busy { count: 1 }
 look 1: Looked { version: 1, shelf: 0 }
 look 2: Looked { version: 1, shelf: 0 }
 take 1: Holds { version: 1 }
-open 2: Opened { version: 2, shelf: 1 }
-publish: Published { version: 2 }
-open 3: Opened { version: 3, shelf: 2 }
-publish: Published { version: 3 }
-open 4: Opened { version: 4, shelf: 3 }
-publish: Published { version: 4 }
-open 5: Opened { version: 5, shelf: 4 }
-publish: Published { version: 5 }
-open 6: Opened { version: 6, shelf: 5 }
-publish: Published { version: 6 }
-open 7: Opened { version: 7, shelf: 6 }
-publish: Published { version: 7 }
-open 8: Opened { version: 8, shelf: 7 }
-publish: Published { version: 8 }
+load 2..8
 close 0: Closing
 take 2: Late
 open 9: NoRoom { counts: [2, 0, 0, 0, 0, 0, 0, 0] }
@@ -158,10 +144,7 @@ collect 0: NotNow
 collect 1: NotNow
 
 # for a late worker and a closing shelf
-look 1: Looked { version: 1, shelf: 0 }
-open 1: Opened { version: 2, shelf: 1 }
-publish: Published { version: 2 }
-close 0: Closing
+outdated
 take 1: Late
 look 1: NotNow
 take 1: NotNow
@@ -208,7 +191,7 @@ fn read_event(text: &str) -> Result<Event, Fail> {
 }
 
 /// An event and its reply; or a title.
-fn play_line<R: Abort>(rt: &R, alloc: Global, core: &mut Core, line: &str) -> Result<(), Fail> {
+fn play_event<R: Abort>(rt: &R, alloc: Global, core: &mut Core, line: &str) -> Result<(), Fail> {
     let Some((event, expected)) = line.split_once(": ") else {
         return Ok(());
     };
@@ -216,6 +199,33 @@ fn play_line<R: Abort>(rt: &R, alloc: Global, core: &mut Core, line: &str) -> Re
     let reply = format!(in alloc; "{reply:?}")?;
     assert_eq!(rt; reply.as_str(), expected, "{line}");
     Ok(())
+}
+
+/// Each of these versions is opened, on the shelf before its number, and published.
+fn load_each<R: Abort>(rt: &R, core: &mut Core, versions: &str) -> Result<(), Fail> {
+    let (first, last) = versions.split_once("..").unwrap_or((versions, ""));
+    for version in number(first)?..number(last)?.saturating_add(1) {
+        let shelf = version.saturating_sub(1) as usize;
+        assert_eq!(rt; core.open(version)?, Reply::Opened { version, shelf });
+        assert_eq!(rt; core.publish(), Reply::Published { version });
+    }
+    Ok(())
+}
+
+fn play_outdated<R: Abort>(rt: &R, alloc: Global, core: &mut Core) -> Result<(), Fail> {
+    for line in OUTDATED.split('\n') {
+        play_event(rt, alloc, core, line)?;
+    }
+    Ok(())
+}
+
+fn play_line<R: Abort>(rt: &R, alloc: Global, core: &mut Core, line: &str) -> Result<(), Fail> {
+    let (word, rest) = line.split_once(' ').unwrap_or((line, ""));
+    match word {
+        "outdated" => play_outdated(rt, alloc, core),
+        "load" => load_each(rt, core, rest),
+        _ => play_event(rt, alloc, core, line),
+    }
 }
 
 fn play_block<R: Abort>(rt: &R, alloc: Global, block: &str) -> Result<(), Fail> {
@@ -226,20 +236,21 @@ fn play_block<R: Abort>(rt: &R, alloc: Global, block: &str) -> Result<(), Fail> 
     Ok(())
 }
 
-#[test]
-fn events_are_answered(rt: HostRuntime) -> Result<(), Fail> {
-    for block in COURSES.split("\n\n") {
-        play_block(&rt, rt.alloc(), block)?;
+fn play_all<R: Abort>(rt: &R, alloc: Global, blocks: &str) -> Result<(), Fail> {
+    for block in blocks.split("\n\n") {
+        play_block(rt, alloc, block)?;
     }
     Ok(())
 }
 
 #[test]
+fn events_are_answered(rt: HostRuntime) -> Result<(), Fail> {
+    play_all(&rt, rt.alloc(), COURSES)
+}
+
+#[test]
 fn what_has_no_place_is_refused(rt: HostRuntime) -> Result<(), Fail> {
-    for block in REFUSALS.split("\n\n") {
-        play_block(&rt, rt.alloc(), block)?;
-    }
-    Ok(())
+    play_all(&rt, rt.alloc(), REFUSALS)
 }
 
 /// What the table tells once worker 1 came late to shelf 0, and worker 15 holds version 2 on shelf 1.

@@ -9,6 +9,7 @@ use crate::tests::images::image;
 use epochs::*;
 use image_verifier::Verified;
 use std::alloc::{AllocError, Global};
+use std::marker::Model;
 use std::process::Abort;
 use std::sync::{Arc, Wait};
 use std::test::*;
@@ -117,92 +118,104 @@ fn open_shelves(alloc: Global) -> Result<(Shelves, ShelfLoader, ShelfSeat), Fail
     }
 }
 
-/// Publishes: the version, or the fault and the second of the image that came back.
-fn publish_openly(
-    shelves: &Shelves,
-    loader: &mut ShelfLoader,
-    image: Arc<Verified, Global>,
-) -> Result<u64, (i64, PublishFault)>
-    requires { loader.old.table ≡ shelves.now }
-{
-    match shelves.publish(loader, image) {
-        Ok((version, _)) => Ok(version),
-        Err((image, fault)) => Err((image.base(), fault)),
+/// Shelves without a lock, with the loader's seat and one worker's. Contracts see which shelves they are.
+#[derive(Drop)]
+struct Solo {
+    shelves: Shelves,
+    loader: ShelfLoader,
+    seat: ShelfSeat,
+}
+
+impl Model for Solo {
+    ghost use Rattle.std.specs.Prelude.{◌≡◌};
+    ghost use Rattle.atomic_table.specs.Seated.{TableId};
+
+    ghost Value = { TableId };
+
+    ghost view = { λ s. s.shelves };
+
+    ghost invariant = { λ s. (s.loader.table ≡ s.shelves) × (s.seat.table ≡ s.shelves) };
+}
+
+impl Solo {
+    fn new(alloc: Global) -> Result<Solo, Fail> {
+        match open_shelves(alloc) {
+            Ok((shelves, loader, seat)) => Ok(Solo {
+                shelves,
+                loader,
+                seat,
+            }),
+            Err(refused) => Err(refused),
+        }
+    }
+
+    /// Publishes: the version, or the fault and the second of the image that came back.
+    fn publish(&mut self, image: Arc<Verified, Global>) -> Result<u64, (i64, PublishFault)> {
+        match self.shelves.publish(&mut self.loader, image) {
+            Ok((version, _)) => Ok(version),
+            Err((image, fault)) => Err((image.base(), fault)),
+        }
+    }
+
+    /// Pins: the version that is held.
+    fn pin(&mut self) -> Option<u64> {
+        self.shelves.pin(&mut self.seat).ok()?;
+        match self.seat.edition() {
+            Some(edition) => Some(edition.version),
+            None => None,
+        }
+    }
+
+    /// The word of the current version, and that of shelf 0.
+    fn two_words(&self) -> (u64, u64) {
+        (self.shelves.word(0), self.shelves.word(1))
     }
 }
 
-/// Pins: the version that is held.
-fn pin_openly(shelves: &Shelves, seat: &mut ShelfSeat) -> Option<u64>
-    requires { seat.old.table ≡ shelves.now }
-{
-    shelves.pin(seat).ok()?;
-    match seat.edition() {
-        Some(edition) => Some(edition.version),
-        None => None,
-    }
-}
-
-/// The word of the current version, and that of shelf 0.
-fn two_words(shelves: &Shelves) -> (u64, u64) {
-    (shelves.word(0), shelves.word(1))
-}
-
-fn words_change<R: Abort>(
-    rt: &R,
-    shelves: &Shelves,
-    loader: &mut ShelfLoader,
-    seat: &mut ShelfSeat,
-    image: Arc<Verified, Global>,
-)
-    requires { (loader.old.table ≡ shelves.now) × (seat.old.table ≡ shelves.now) }
-{
-    assert_eq!(rt; pin_openly(shelves, seat), Some(1));
-    assert!(rt; two_words(shelves) == (8, 65793) && seat.number() == 15);
-    assert_eq!(rt; publish_openly(shelves, loader, image), Ok(2));
-    assert!(rt; two_words(shelves) == (17, 66049));
+fn words_change<R: Abort>(rt: &R, solo: &mut Solo, image: Arc<Verified, Global>) {
+    assert_eq!(rt; solo.pin(), Some(1));
+    assert!(rt; solo.two_words() == (8, 65793) && solo.seat.number() == 15);
+    assert_eq!(rt; solo.publish(image), Ok(2));
+    assert!(rt; solo.two_words() == (17, 66049));
 }
 
 /// The current version on its shelf, and shelf 0 with its count, before a version is published and after.
 #[test]
 fn words_of_shelves(rt: HostRuntime) -> Result<(), Fail> {
     let image = image(rt.alloc(), 2)?;
-    match open_shelves(rt.alloc()) {
-        Ok((shelves, mut loader, mut seat)) => {
-            words_change(&rt, &shelves, &mut loader, &mut seat, image);
-            Ok(())
-        }
-        Err(refused) => Err(refused),
-    }
+    let mut solo = Solo::new(rt.alloc())?;
+    words_change(&rt, &mut solo, image);
+    Ok(())
+}
+
+fn pin_told(fault: PinFault) -> (u8, &'static str) {
+    (fault.number(), fault.name())
+}
+
+fn publish_told(fault: PublishFault) -> (u8, &'static str) {
+    (fault.number(), fault.name())
 }
 
 #[test]
-fn faults_have_numbers_and_names(rt: HostRuntime) -> Result<(), Fail> {
-    let pins = [
-        (PinFault::Moved { newest: 7 }, 91, "Moved"),
-        (PinFault::AlreadyPinned, 92, "AlreadyPinned"),
-        (PinFault::NotPinned, 93, "NotPinned"),
-        (PinFault::SeatLost, 97, "SeatLost"),
-        (PinFault::OutOfMemory, 98, "OutOfMemory"),
-    ];
-    for (fault, number, name) in pins.iter() {
-        assert!(&rt;
-            fault.number() == *number && fault.name() == *name,
-            "{name}"
-        );
-    }
+fn faults_have_numbers_and_names(rt: HostRuntime) {
     let full = PublishFault::ShelvesFull { counts: [1; 8] };
-    let publishes = [
-        (full, 94, "ShelvesFull"),
-        (PublishFault::VersionsSpent, 95, "VersionsSpent"),
-        (PublishFault::OutOfMemory, 96, "OutOfMemory"),
+    let faults = [
+        (pin_told(PinFault::Moved { newest: 7 }), 91, "Moved"),
+        (pin_told(PinFault::AlreadyPinned), 92, "AlreadyPinned"),
+        (pin_told(PinFault::NotPinned), 93, "NotPinned"),
+        (pin_told(PinFault::SeatLost), 97, "SeatLost"),
+        (pin_told(PinFault::OutOfMemory), 98, "OutOfMemory"),
+        (publish_told(full), 94, "ShelvesFull"),
+        (
+            publish_told(PublishFault::VersionsSpent),
+            95,
+            "VersionsSpent",
+        ),
+        (publish_told(PublishFault::OutOfMemory), 96, "OutOfMemory"),
     ];
-    for (fault, number, name) in publishes.iter() {
-        assert!(&rt;
-            fault.number() == *number && fault.name() == *name,
-            "{name}"
-        );
+    for (told, number, name) in faults.iter() {
+        assert!(&rt; told.0 == *number && told.1 == *name, "{name}");
     }
-    Ok(())
 }
 
 /// Whether the image of the next second became the next version. Else it came back for want of memory, and the version that was
@@ -258,29 +271,21 @@ fn refused_growth_gives_the_image_back(rt: HostRuntime) -> Result<(), Fail> {
 /// The same of a publish without a lock.
 fn publishes_openly<R: Abort>(
     rt: &R,
-    shelves: &Shelves,
-    loader: &mut ShelfLoader,
-    seat: &mut ShelfSeat,
+    solo: &mut Solo,
     image: Arc<Verified, Global>,
-) -> Result<(), Fail>
-    requires { (loader.old.table ≡ shelves.now) × (seat.old.table ≡ shelves.now) }
-{
-    let answer = publish_openly(shelves, loader, image);
+) -> Result<(), Fail> {
+    let answer = solo.publish(image);
     if answer == Ok(2) {
         return Ok(());
     }
     assert_eq!(rt; answer, Err((2, PublishFault::OutOfMemory)));
-    assert_eq!(rt; pin_openly(shelves, seat), Some(1));
+    assert_eq!(rt; solo.pin(), Some(1));
     Err(AllocError.into())
 }
 
 #[test]
 fn a_refused_growth_gives_the_image_back(rt: HostRuntime) -> Result<(), Fail> {
     let image = image(rt.alloc(), 2)?;
-    match open_shelves(rt.alloc()) {
-        Ok((shelves, mut loader, mut seat)) => {
-            publishes_openly(&rt, &shelves, &mut loader, &mut seat, image)
-        }
-        Err(refused) => Err(refused),
-    }
+    let mut solo = Solo::new(rt.alloc())?;
+    publishes_openly(&rt, &mut solo, image)
 }

@@ -1,36 +1,102 @@
 mod stepping;
 
-ghost use Rattle.std.specs.Prelude.{◌≡◌, ◌<◌, ◌≤◌, IfOk};
-ghost use Rattle.std.specs.List.{All};
+ghost use Rattle.std.specs.Prelude.{◌≡◌, ◌<◌, ◌≤◌};
 
-use crate::tests::images::image;
-use image_verifier::Verified;
+use crate::tests::images::Source;
 use shelf_steps::laws::{new_shelves, new_worker};
 use shelf_steps::*;
 use std::alloc::{AllocError, Global};
+use std::marker::Model;
 use std::process::Abort;
-use std::sync::Arc;
 use std::test::*;
 use stepping::{LoaderSteps, NoticeSteps, WorkerSteps};
 use version_core::{Core, Reply, Shelf, Worker};
 
-/// A new table, the loader and two workers.
-fn three_seats(
-    alloc: Global,
-    first: &Arc<Verified, Global>,
-) -> Result<(ShelfTable, LoaderSteps, WorkerSteps, WorkerSteps), AllocError>
-    ensures { IfOk result (λ made. (made.1 ≡ made.0) × (made.2 ≡ made.0) × (made.3 ≡ made.0)) }
-{
-    let (table, mut place) = new_shelves(alloc, first)?;
-    let worker = new_worker(&table, &mut place);
-    let other = new_worker(&table, &mut place);
-    let loader = LoaderSteps::of(place);
-    Ok((
-        table,
-        loader,
-        WorkerSteps::of(worker),
-        WorkerSteps::of(other),
-    ))
+/// Shelves with the loader's seat and those of two workers, the notices that are out, and the image that is published.
+#[derive(Drop)]
+struct Scene {
+    table: ShelfTable,
+    source: Source,
+    loader: LoaderSteps,
+    first: WorkerSteps,
+    second: WorkerSteps,
+    notices: Vec<NoticeSteps>,
+}
+
+impl Model for Scene {
+    ghost use Rattle.std.specs.Prelude.{◌≡◌};
+    ghost use Rattle.std.specs.List.{All};
+    ghost use Rattle.atomic_table.specs.Seated.{TableId};
+
+    ghost Value = { TableId };
+
+    ghost view = { λ s. s.table };
+
+    // Each seat and each notice is of these shelves.
+    ghost invariant = { λ s. (s.loader ≡ s.table) × (s.first ≡ s.table) × (s.second ≡ s.table) × All (λ notice. notice ≡ s.table) s.notices.items };
+}
+
+impl Scene {
+    fn new(alloc: Global) -> Result<Scene, AllocError> {
+        let source = Source::new(alloc, 1)?;
+        let (table, mut place) = new_shelves(alloc, &source.image)?;
+        let worker = new_worker(&table, &mut place);
+        let other = new_worker(&table, &mut place);
+        Ok(Scene {
+            table,
+            source,
+            loader: LoaderSteps::of(place),
+            first: WorkerSteps::of(worker),
+            second: WorkerSteps::of(other),
+            notices: Vec::new(alloc),
+        })
+    }
+
+    fn look(&mut self, number: usize) -> Option<u64> {
+        match number {
+            0 => self.first.look(&self.table),
+            _ => self.second.look(&self.table),
+        }
+    }
+
+    fn take(&mut self, number: usize) -> Option<Option<u64>> {
+        match number {
+            0 => self.first.take(&self.table),
+            _ => self.second.take(&self.table),
+        }
+    }
+
+    fn leave(&mut self, number: usize) -> bool {
+        match number {
+            0 => self.first.leave(&self.table),
+            _ => self.second.leave(&self.table),
+        }
+    }
+
+    /// The worker takes in the notice that went out last: its version, and whether it did. Else the notice stays out.
+    fn join(&mut self, number: usize) -> Result<Option<(u64, bool)>, AllocError> {
+        let Some(notice) = self.notices.pop() else {
+            return Ok(None);
+        };
+        let version = notice.version();
+        let back = match number {
+            0 => self.first.join(&self.table, notice),
+            _ => self.second.join(&self.table, notice),
+        };
+        let Some(notice) = back else {
+            return Ok(Some((version, true)));
+        };
+        self.notices.push(notice)?;
+        Ok(Some((version, false)))
+    }
+
+    /// A notice goes out: its version.
+    fn note(&mut self) -> Result<u64, AllocError> {
+        let notice = self.loader.note(&self.table);
+        let version = notice.version();
+        self.notices.push(notice)?;
+        Ok(version)
+    }
 }
 
 /// A worker comes late to a shelf that is opened again before it leaves.
@@ -73,113 +139,64 @@ fn number(text: &str) -> Result<usize, Fail> {
     }
 }
 
-/// What a step of the worker tells.
-fn worker_tells(
-    table: &ShelfTable,
-    alloc: Global,
-    worker: &mut WorkerSteps,
-    step: &str,
-) -> Result<String, AllocError>
-    requires { worker.old ≡ table.now }
-    ensures { worker.new ≡ worker.old }
-{
-    match step {
-        "look" => format!(in alloc; "{:?}", worker.look(table)),
-        "take" => format!(in alloc; "{:?}", worker.take(table)),
-        _ => format!(in alloc; "{}", worker.leave(table)),
-    }
-}
-
-/// What a step of the loader at a shelf tells.
-fn loader_tells(
-    table: &ShelfTable,
-    alloc: Global,
-    loader: &mut LoaderSteps,
-    image: &Arc<Verified, Global>,
-    step: &str,
-    shelf: usize,
-) -> Result<String, AllocError>
-    requires { (loader.old ≡ table.now) × (shelf < 8) }
-    ensures { loader.new ≡ loader.old }
-{
-    match step {
-        "open" => {
-            let is_opened = loader.open(table, alloc, shelf, image)?;
-            format!(in alloc; "{is_opened}")
+impl Scene {
+    /// What a step of the first worker tells.
+    fn worker_tells(&mut self, step: &str) -> Result<String, AllocError> {
+        match step {
+            "look" => format!(in self.source.alloc; "{:?}", self.look(0)),
+            "take" => format!(in self.source.alloc; "{:?}", self.take(0)),
+            _ => format!(in self.source.alloc; "{}", self.leave(0)),
         }
-        "publish" => format!(in alloc; "{}", loader.publish(table, shelf)),
-        "close" => format!(in alloc; "{}", loader.close(table, shelf)),
-        "collect" => format!(in alloc; "{:?}", loader.collect(table, shelf)),
-        _ => format!(in alloc; "{}", table.word(shelf)),
+    }
+
+    /// What a step of the loader at a shelf tells; or `word`, of which the number is below 8 too.
+    fn loader_tells(&mut self, step: &str, shelf: usize) -> Result<String, AllocError>
+        requires { shelf < 8 }
+    {
+        match step {
+            "open" => {
+                let is_opened = self.loader.open(&self.table, shelf, &self.source)?;
+                format!(in self.source.alloc; "{is_opened}")
+            }
+            "publish" => format!(in self.source.alloc;
+                "{}",
+                self.loader.publish(&self.table, shelf)
+            ),
+            "close" => format!(in self.source.alloc; "{}", self.loader.close(&self.table, shelf)),
+            "collect" => format!(in self.source.alloc;
+                "{:?}",
+                self.loader.collect(&self.table, shelf)
+            ),
+            _ => format!(in self.source.alloc; "{}", self.table.word(shelf)),
+        }
     }
 }
 
-/// A step of the worker, or one of the loader at a shelf; or `word`, of which the number is below 8 too.
-fn step_tells(
-    table: &ShelfTable,
-    alloc: Global,
-    loader: &mut LoaderSteps,
-    worker: &mut WorkerSteps,
-    image: &Arc<Verified, Global>,
-    step: &str,
-) -> Result<String, Fail>
-    requires { (loader.old ≡ table.now) × (worker.old ≡ table.now) }
-    ensures loader { loader.new ≡ loader.old }
-    ensures worker { worker.new ≡ worker.old }
-{
+/// A step of the first worker, or one of the loader at a shelf.
+fn step_tells(scene: &mut Scene, step: &str) -> Result<String, Fail> {
     let Some((step, shelf)) = step.split_once(' ') else {
-        return Ok(worker_tells(table, alloc, worker, step)?);
+        return Ok(scene.worker_tells(step)?);
     };
     let shelf = number(shelf)?;
     if shelf < 8 {
-        Ok(loader_tells(table, alloc, loader, image, step, shelf)?)
+        Ok(scene.loader_tells(step, shelf)?)
     } else {
         Err(Fail::new("a shelf of a script"))
     }
 }
 
-fn play_line<R: Abort>(
-    rt: &R,
-    table: &ShelfTable,
-    alloc: Global,
-    loader: &mut LoaderSteps,
-    worker: &mut WorkerSteps,
-    image: &Arc<Verified, Global>,
-    line: &str,
-) -> Result<(), Fail>
-    requires { (loader.old ≡ table.now) × (worker.old ≡ table.now) }
-    ensures loader { loader.new ≡ loader.old }
-    ensures worker { worker.new ≡ worker.old }
-{
-    let (step, expected) = line.split_once(": ").unwrap_or((line, ""));
-    let answer = step_tells(table, alloc, loader, worker, image, step)?;
-    assert_eq!(rt; answer.as_str(), expected, "{line}");
-    Ok(())
-}
-
-fn play<R: Abort>(
-    rt: &R,
-    table: &ShelfTable,
-    alloc: Global,
-    loader: &mut LoaderSteps,
-    worker: &mut WorkerSteps,
-    image: &Arc<Verified, Global>,
-    script: &str,
-) -> Result<(), Fail>
-    requires { (loader.old ≡ table.now) × (worker.old ≡ table.now) }
-{
+fn play<R: Abort>(rt: &R, scene: &mut Scene, script: &str) -> Result<(), Fail> {
     for line in script.split('\n') {
-        play_line(rt, table, alloc, loader, worker, image, line)?;
+        let (step, expected) = line.split_once(": ").unwrap_or((line, ""));
+        let answer = step_tells(scene, step)?;
+        assert_eq!(rt; answer.as_str(), expected, "{line}");
     }
     Ok(())
 }
 
 fn play_at_new_shelves<R: Abort>(rt: &R, alloc: Global, script: &str) -> Result<(), Fail> {
-    let image = image(alloc, 1)?;
-    match three_seats(alloc, &image) {
-        Ok((table, mut loader, mut worker, _)) => {
-            play(rt, &table, alloc, &mut loader, &mut worker, &image, script)
-        }
+    match Scene::new(alloc) {
+        Ok(mut scene) => play(rt, &mut scene, script),
         Err(refused) => Err(refused.into()),
     }
 }
@@ -232,89 +249,122 @@ impl Rare {
     }
 }
 
+/// The state machine beside the shelves, and how often something rare came about.
+#[derive(Drop)]
+struct Beside {
+    core: Core,
+    rare: Rare,
+}
+
+impl Beside {
+    /// A worker took in a notice of this version, or couldn't: whether the state machine does so too.
+    fn joins(&mut self, number: usize, version: u64, is_joined: bool) -> bool {
+        let before = self.core.seen(number).unwrap_or(0);
+        match (is_joined, self.core.join(number, version)) {
+            (true, Reply::Joined { seen }) => {
+                self.rare.joins(&self.core, number, before, version);
+                seen == before.max(version)
+            }
+            (false, Reply::NotNow) => {
+                self.rare.not_joined = self.rare.not_joined.wrapping_add(1);
+                true
+            }
+            _ => false,
+        }
+    }
+}
+
 /// One step of a worker, here and in the state machine: whether both tell the same.
 fn worker_steps(
-    table: &ShelfTable,
-    worker: &mut WorkerSteps,
-    core: &mut Core,
-    rare: &mut Rare,
-    notices: &mut Vec<NoticeSteps>,
+    scene: &mut Scene,
+    beside: &mut Beside,
     number: usize,
     choice: u64,
-) -> Result<bool, AllocError>
-    requires { (worker.old ≡ table.now) × All (λ notice. notice ≡ table.now) notices.old.items }
-    ensures worker { worker.new ≡ worker.old }
-    ensures notices { All (λ notice. notice ≡ table.now) notices.new.items }
-{
+) -> Result<bool, AllocError> {
     match choice {
-        0 => Ok(match (worker.look(table), core.look(number)) {
+        0 => Ok(match (scene.look(number), beside.core.look(number)) {
             (Some(word), Reply::Looked { version, shelf }) => {
                 word / 8 == version && (word % 8) as usize == shelf
             }
             (None, Reply::NotNow) => true,
             _ => false,
         }),
-        1 => Ok(match (worker.take(table), core.take(number)) {
+        1 => Ok(match (scene.take(number), beside.core.take(number)) {
             (Some(Some(held)), Reply::Holds { version }) => held == version,
             (Some(None), Reply::Late) => {
-                rare.came_late(core, number);
+                beside.rare.came_late(&beside.core, number);
                 true
             }
             (None, Reply::NotNow) => true,
             _ => false,
         }),
-        2 => Ok(worker.leave(table) == (core.leave(number) == Reply::Dropped)),
-        _ => join_steps(table, worker, core, rare, notices, number),
+        2 => Ok(scene.leave(number) == (beside.core.leave(number) == Reply::Dropped)),
+        _ => match scene.join(number)? {
+            Some((version, is_joined)) => Ok(beside.joins(number, version, is_joined)),
+            None => Ok(true),
+        },
     }
 }
 
-/// One step of the loader, here and in the state machine, which opens the least free shelf and knows which one to publish. A
-/// version that is published comes with a notice.
-fn loader_steps(
-    table: &ShelfTable,
-    loader: &mut LoaderSteps,
-    core: &mut Core,
-    rare: &mut Rare,
-    notices: &mut Vec<NoticeSteps>,
-    alloc: Global,
-    image: &Arc<Verified, Global>,
-    shelf: usize,
-    choice: u64,
-) -> Result<bool, AllocError>
-    requires loader { (loader.old ≡ table.now) × (shelf < 8) }
-    requires notices { All (λ notice. notice ≡ table.now) notices.old.items }
-    ensures loader { loader.new ≡ loader.old }
-    ensures notices { All (λ notice. notice ≡ table.now) notices.new.items }
-{
-    match choice {
-        0 => match core.free_shelf() {
-            Some(free) => {
-                let opened = free < 8 && loader.open(table, alloc, free, image)?;
-                if opened && table.word(free + 1) % 256 > 0 {
-                    rare.opened_over_late = rare.opened_over_late.wrapping_add(1);
+impl Scene {
+    /// One step of the loader, here and in the state machine, which opens the least free shelf and knows which one to publish. A
+    /// version that is published comes with a notice.
+    fn loader_steps(
+        &mut self,
+        beside: &mut Beside,
+        shelf: usize,
+        choice: u64,
+    ) -> Result<bool, AllocError>
+        requires { shelf < 8 }
+    {
+        match choice {
+            0 => self.opens(beside),
+            1 => match (
+                publish_any(&self.table, &mut self.loader),
+                beside.core.publish(),
+            ) {
+                (true, Reply::Published { .. }) => {
+                    let version = self.note()?;
+                    Ok(beside.core.note()? == Reply::Noted { version })
                 }
-                let reply = core.open(0)?;
-                Ok(opened == (reply != Reply::NotNow))
+                (false, Reply::NotNow) => Ok(true),
+                _ => Ok(false),
+            },
+            2 => {
+                let is_closed = self.loader.close(&self.table, shelf);
+                Ok(is_closed == (beside.core.close(shelf) == Reply::Closing))
             }
-            None => Ok(true),
-        },
-        1 => match (publish_any(table, loader), core.publish()) {
-            (true, Reply::Published { .. }) => note_steps(table, loader, core, notices),
-            (false, Reply::NotNow) => Ok(true),
-            _ => Ok(false),
-        },
-        2 => Ok(loader.close(table, shelf) == (core.close(shelf) == Reply::Closing)),
-        _ => Ok(match (loader.collect(table, shelf), core.collect(shelf)) {
+            _ => Ok(self.collects(beside, shelf)),
+        }
+    }
+
+    fn opens(&mut self, beside: &mut Beside) -> Result<bool, AllocError> {
+        let Some(free) = beside.core.free_shelf() else {
+            return Ok(true);
+        };
+        let opened = free < 8 && self.loader.open(&self.table, free, &self.source)?;
+        if opened && self.table.word(free + 1) % 256 > 0 {
+            beside.rare.opened_over_late = beside.rare.opened_over_late.wrapping_add(1);
+        }
+        let reply = beside.core.open(0)?;
+        Ok(opened == (reply != Reply::NotNow))
+    }
+
+    fn collects(&mut self, beside: &mut Beside, shelf: usize) -> bool
+        requires { shelf < 8 }
+    {
+        let found = self.loader.collect(&self.table, shelf);
+        match (found, beside.core.collect(shelf)) {
             (Some(found), Reply::Freed) => found == 0,
             (Some(found), Reply::Busy { count }) => {
                 if found > 1 {
-                    rare.busy_with_two = rare.busy_with_two.wrapping_add(1);
+                    beside.rare.busy_with_two = beside.rare.busy_with_two.wrapping_add(1);
                 }
                 found == count
             }
             (None, Reply::NotNow) => true,
             _ => false,
-        }),
+        }
     }
 }
 
@@ -328,56 +378,6 @@ fn publish_any(table: &ShelfTable, loader: &mut LoaderSteps) -> bool
         published = loader.publish(table, k) || published;
     }
     published
-}
-
-/// A notice goes out, here and in the state machine: whether both are of one version.
-fn note_steps(
-    table: &ShelfTable,
-    loader: &mut LoaderSteps,
-    core: &mut Core,
-    notices: &mut Vec<NoticeSteps>,
-) -> Result<bool, AllocError>
-    requires { (loader.old ≡ table.now) × All (λ notice. notice ≡ table.now) notices.old.items }
-    ensures loader { loader.new ≡ loader.old }
-    ensures notices { All (λ notice. notice ≡ table.now) notices.new.items }
-{
-    let notice = loader.note(table);
-    let version = notice.version();
-    notices.push(notice)?;
-    Ok(core.note()? == Reply::Noted { version })
-}
-
-/// A worker takes in the notice that went out last, here and in the state machine: whether both do.
-fn join_steps(
-    table: &ShelfTable,
-    worker: &mut WorkerSteps,
-    core: &mut Core,
-    rare: &mut Rare,
-    notices: &mut Vec<NoticeSteps>,
-    number: usize,
-) -> Result<bool, AllocError>
-    requires { (worker.old ≡ table.now) × All (λ notice. notice ≡ table.now) notices.old.items }
-    ensures worker { worker.new ≡ worker.old }
-    ensures notices { All (λ notice. notice ≡ table.now) notices.new.items }
-{
-    let Some(notice) = notices.pop() else {
-        return Ok(true);
-    };
-    let version = notice.version();
-    let before = core.seen(number);
-    match (worker.join(table, notice), core.join(number, version)) {
-        (None, Reply::Joined { seen }) => {
-            let before = before.unwrap_or(0);
-            rare.joins(core, number, before, version);
-            Ok(seen == before.max(version))
-        }
-        (Some(notice), Reply::NotNow) => {
-            rare.not_joined = rare.not_joined.wrapping_add(1);
-            notices.push(notice)?;
-            Ok(true)
-        }
-        _ => Ok(false),
-    }
 }
 
 /// Whether the state machine has the worker at the shelf: 1, or 0.
@@ -425,59 +425,25 @@ impl Rare {
 }
 
 /// A step of either worker or of the loader, as the number says: whether it told what the state machine does.
-fn one_step(
-    table: &ShelfTable,
-    loader: &mut LoaderSteps,
-    first: &mut WorkerSteps,
-    second: &mut WorkerSteps,
-    core: &mut Core,
-    rare: &mut Rare,
-    notices: &mut Vec<NoticeSteps>,
-    alloc: Global,
-    image: &Arc<Verified, Global>,
-    random: u64,
-) -> Result<bool, AllocError>
-    requires seats { (loader.old ≡ table.now) × (first.old ≡ table.now) × (second.old ≡ table.now) }
-    requires notices { All (λ notice. notice ≡ table.now) notices.old.items }
-    ensures seats { (loader.new ≡ loader.old) × (first.new ≡ first.old) × (second.new ≡ second.old) }
-    ensures notices { All (λ notice. notice ≡ table.now) notices.new.items }
-{
+fn one_step(scene: &mut Scene, beside: &mut Beside, random: u64) -> Result<bool, AllocError> {
     let choice = random / 8589934592 % 4;
     let shelf = (random / 1099511627776 % 4) as usize;
     match random / 281474976710656 % 8 {
-        0 => worker_steps(table, first, core, rare, notices, 0, choice),
-        1 => worker_steps(table, second, core, rare, notices, 1, choice),
-        _ => loader_steps(
-            table, loader, core, rare, notices, alloc, image, shelf, choice,
-        ),
+        0 => worker_steps(scene, beside, 0, choice),
+        1 => worker_steps(scene, beside, 1, choice),
+        _ => scene.loader_steps(beside, shelf, choice),
     }
 }
 
 /// Two workers that leave seldom and take in notices, and a loader that closes and collects the first four shelves.
-fn random_steps<R: Abort>(
-    rt: &R,
-    table: &ShelfTable,
-    loader: &mut LoaderSteps,
-    first: &mut WorkerSteps,
-    second: &mut WorkerSteps,
-    core: &mut Core,
-    rare: &mut Rare,
-    notices: &mut Vec<NoticeSteps>,
-    alloc: Global,
-    image: &Arc<Verified, Global>,
-) -> Result<(), Fail>
-    requires seats { (loader.old ≡ table.now) × (first.old ≡ table.now) × (second.old ≡ table.now) }
-    requires notices { All (λ notice. notice ≡ table.now) notices.old.items }
-{
+fn random_steps<R: Abort>(rt: &R, scene: &mut Scene, beside: &mut Beside) -> Result<(), Fail> {
     let mut random = 19u64;
     for _round in 0..2000u32 {
         random = random
             .wrapping_mul(6364136223846793005)
             .wrapping_add(1442695040888963407);
-        let same = one_step(
-            table, loader, first, second, core, rare, notices, alloc, image, random,
-        )?;
-        assert!(rt; same && words_agree(table, core));
+        let same = one_step(scene, beside, random)?;
+        assert!(rt; same && words_agree(&scene.table, &beside.core));
     }
     Ok(())
 }
@@ -485,33 +451,21 @@ fn random_steps<R: Abort>(
 fn random_steps_at_new_shelves<R: Abort>(
     rt: &R,
     alloc: Global,
-    core: &mut Core,
-    rare: &mut Rare,
+    beside: &mut Beside,
 ) -> Result<(), Fail> {
-    let image = image(alloc, 1)?;
-    let mut notices = Vec::new(alloc);
-    match three_seats(alloc, &image) {
-        Ok((table, mut loader, mut first, mut second)) => random_steps(
-            rt,
-            &table,
-            &mut loader,
-            &mut first,
-            &mut second,
-            core,
-            rare,
-            &mut notices,
-            alloc,
-            &image,
-        ),
+    match Scene::new(alloc) {
+        Ok(mut scene) => random_steps(rt, &mut scene, beside),
         Err(refused) => Err(refused.into()),
     }
 }
 
 #[test]
 fn random_steps_beside_the_state_machine(rt: HostRuntime) -> Result<(), Fail> {
-    let mut rare = Rare::default();
-    let mut core = Core::new(rt.alloc())?;
-    random_steps_at_new_shelves(&rt, rt.alloc(), &mut core, &mut rare)?;
-    assert!(&rt; rare.is_seen());
+    let mut beside = Beside {
+        core: Core::new(rt.alloc())?,
+        rare: Rare::default(),
+    };
+    random_steps_at_new_shelves(&rt, rt.alloc(), &mut beside)?;
+    assert!(&rt; beside.rare.is_seen());
     Ok(())
 }

@@ -7,10 +7,10 @@ use Rattle.epochs.proofs.shelves.open.Goals as goal
 pub loop-number-preserved : goal.loop-number-preserved
 loop-number-preserved c =
     let before = c.loop-number.invariant in let made = c.new_worker-worker.ensures in
-    let same = made.worker.0 ∙ before.table in
+    let same = made.2 ∙ before.table in
     record {
-      table = made.table ∙ before.table;
-      me = made.loader ∙ ap (λ (m : Mine). (keeps_loading m.0, m.1)) before.me;
+      table = made.0 ∙ before.table;
+      me = made.1 ∙ ap (λ (m : Mine). (keeps_loading m.0, m.1)) before.me;
       seats = one_more_seat c.table.inside.table.shared.table_id c.loop-number.number c.loop-number.seats.items c.push.new.self.items c.idle.result before.seats
           c.in_ok-push.ensures.items (c.idle.ensures ∙ ap (λ t. new_seat t c.loop-number.number) same);
     }

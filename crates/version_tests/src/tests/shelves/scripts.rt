@@ -7,16 +7,18 @@
 //! | `publish SECOND` | the image that begins at this second becomes the next version |
 //! | `join SEAT` | the seat takes in the oldest notice that is out |
 //! | `collect` | each closing shelf is tried |
+//! | `round SECOND` | seat 0 gives back, the image becomes the next version, each closing shelf is tried, and seat 0 takes in the notice and pins |
+//! | `each 0..6` | each of these seats pins, and the image that begins two seconds after its number is published: each version has the second of its number |
 //!
 //! Version 1 is the image that begins at second 1.
 
 ghost use Rattle.std.specs.Prelude.{◌≡◌};
 ghost use Rattle.std.specs.List.{All};
 
-use super::stages::{LockedStage, NamedStage, Stage, named_stage};
+use super::stages::{Deed, LockedStage, NamedStage, Stage, named_stage};
 use super::{new_shelves, open_shelves};
 use epochs::*;
-use std::alloc::Global;
+use std::alloc::{AllocError, Global};
 use std::marker::Brand;
 use std::process::Abort;
 use std::sync::Wait;
@@ -24,20 +26,7 @@ use std::test::*;
 
 /// Seven versions are held, and an eighth is current: no ninth comes before one of them is given back.
 const EIGHT_VERSIONS: &str = "\
-pin 0: ok, 1 at 1
-publish 2: 2
-pin 1: ok, 2 at 2
-publish 3: 3
-pin 2: ok, 3 at 3
-publish 4: 4
-pin 3: ok, 4 at 4
-publish 5: 5
-pin 4: ok, 5 at 5
-publish 6: 6
-pin 5: ok, 6 at 6
-publish 7: 7
-pin 6: ok, 7 at 7
-publish 8: 8
+each 0..6
 pin 7: ok, 8 at 8
 publish 9: workers are at every shelf: [1, 1, 1, 1, 1, 1, 1, 0]; 9 back
 release 0: ok, nothing
@@ -74,16 +63,10 @@ pin 1: ok, 4 at 4";
 /// One worker, which takes in the notice of each version.
 const ONE_WORKER: &str = "\
 pin 0: ok, 1 at 1
-release 0: ok, nothing
-publish 2: 2
-collect: freed [true, false, false, false, false, false, false, false], busy [0, 0, 0, 0, 0, 0, 0, 0]
-join 0: notice of 2; ok, nothing
-pin 0: ok, 2 at 2
-release 0: ok, nothing
-publish 3: 3
-collect: freed [false, true, false, false, false, false, false, false], busy [0, 0, 0, 0, 0, 0, 0, 0]
-join 0: notice of 3; ok, nothing
-pin 0: ok, 3 at 3";
+round 2: ok, nothing; 2; freed [true, false, false, false, false, false, false, false], busy [0, 0, 0, 0, 0, 0, 0, 0]; \
+notice of 2; ok, nothing; ok, 2 at 2
+round 3: ok, nothing; 3; freed [false, true, false, false, false, false, false, false], busy [0, 0, 0, 0, 0, 0, 0, 0]; \
+notice of 3; ok, nothing; ok, 3 at 3";
 
 /// A seat that pinned elsewhere.
 const OTHER_SHELVES: &str = "\
@@ -116,25 +99,58 @@ fn number(text: &str) -> Result<u32, Fail> {
     }
 }
 
+/// What is told of a round, one answer behind another.
+fn round<S: Stage, R: Wait>(rt: &R, stage: &mut S, second: u32) -> Result<String, AllocError> {
+    let released = stage.call(rt, Deed::Release, 0)?;
+    let published = stage.publish(rt, second)?;
+    let collected = stage.collect(rt)?;
+    let joined = stage.join(rt, 0)?;
+    let pinned = stage.call(rt, Deed::Pin, 0)?;
+    format!(in stage.alloc(); "{released}; {published}; {collected}; {joined}; {pinned}")
+}
+
 /// Does what stands before the colon.
 fn answer_of<S: Stage, R: Wait>(rt: &R, stage: &mut S, deed: &str) -> Result<String, Fail> {
     let (word, rest) = deed.split_once(' ').unwrap_or((deed, "0"));
     let number = number(rest)?;
     let answer = match word {
-        "pin" => stage.pin(rt, number as usize),
-        "release" => stage.release(rt, number as usize),
+        "pin" => stage.call(rt, Deed::Pin, number as usize),
+        "release" => stage.call(rt, Deed::Release, number as usize),
         "join" => stage.join(rt, number as usize),
         "publish" => stage.publish(rt, number),
+        "round" => round(rt, stage, number),
         _ => stage.collect(rt),
     };
     Ok(answer?)
 }
 
-fn play_line<S: Stage, R: Wait + Abort>(rt: &R, stage: &mut S, line: &str) -> Result<(), Fail> {
+fn play_deed<S: Stage, R: Wait + Abort>(rt: &R, stage: &mut S, line: &str) -> Result<(), Fail> {
     let (deed, expected) = line.split_once(": ").unwrap_or((line, ""));
     let answer = answer_of(rt, stage, deed)?;
     assert_eq!(rt; answer.as_str(), expected, "{line}");
     Ok(())
+}
+
+/// Each of these seats pins the version after its number, and the next version is published.
+fn play_each<S: Stage, R: Wait + Abort>(rt: &R, stage: &mut S, seats: &str) -> Result<(), Fail> {
+    let (first, last) = seats.split_once("..").unwrap_or((seats, ""));
+    for seat in number(first)?..number(last)?.saturating_add(1) {
+        let version = seat.saturating_add(1);
+        let next = seat.saturating_add(2);
+        let pinned = format!(in stage.alloc(); "pin {seat}: ok, {version} at {version}")?;
+        play_deed(rt, stage, pinned.as_str())?;
+        let published = format!(in stage.alloc(); "publish {next}: {next}")?;
+        play_deed(rt, stage, published.as_str())?;
+    }
+    Ok(())
+}
+
+fn play_line<S: Stage, R: Wait + Abort>(rt: &R, stage: &mut S, line: &str) -> Result<(), Fail> {
+    let (word, rest) = line.split_once(' ').unwrap_or((line, ""));
+    match word {
+        "each" => play_each(rt, stage, rest),
+        _ => play_deed(rt, stage, line),
+    }
 }
 
 pub(crate) fn play<S: Stage, R: Wait + Abort>(

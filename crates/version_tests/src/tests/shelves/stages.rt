@@ -11,12 +11,19 @@ use std::alloc::{AllocError, Global};
 use std::sync::{Arc, Wait};
 use std::test::*;
 
+/// What a seat does.
+#[derive(Clone, Copy)]
+pub(crate) enum Deed {
+    Pin,
+    Release,
+}
+
 /// Shelves with all their seats. The call of a seat tells the answer and what the seat holds then, as `ok, 2 at 7`: version 2,
 /// whose image begins at second 7.
 pub(crate) trait Stage {
-    fn pin<R: Wait>(&mut self, rt: &R, seat: usize) -> Result<String, AllocError>;
+    fn alloc(&self) -> Global;
 
-    fn release<R: Wait>(&mut self, rt: &R, seat: usize) -> Result<String, AllocError>;
+    fn call<R: Wait>(&mut self, rt: &R, deed: Deed, seat: usize) -> Result<String, AllocError>;
 
     /// The seat takes in the oldest notice that is out.
     fn join<R: Wait>(&mut self, rt: &R, seat: usize) -> Result<String, AllocError>;
@@ -99,24 +106,19 @@ impl LockedStage {
 }
 
 impl Stage for LockedStage {
-    fn pin<R: Wait>(&mut self, rt: &R, seat: usize) -> Result<String, AllocError> {
-        match self.seats.get_mut(seat) {
-            Some(seat) => {
-                let answer = self.shelves.pin(rt, seat);
-                seat_words(self.alloc, answer, seat.edition())
-            }
-            None => word(self.alloc, "no seat"),
-        }
+    fn alloc(&self) -> Global {
+        self.alloc
     }
 
-    fn release<R: Wait>(&mut self, rt: &R, seat: usize) -> Result<String, AllocError> {
-        match self.seats.get_mut(seat) {
-            Some(seat) => {
-                let answer = self.shelves.release(rt, seat);
-                seat_words(self.alloc, answer, seat.edition())
-            }
-            None => word(self.alloc, "no seat"),
-        }
+    fn call<R: Wait>(&mut self, rt: &R, deed: Deed, seat: usize) -> Result<String, AllocError> {
+        let Some(seat) = self.seats.get_mut(seat) else {
+            return word(self.alloc, "no seat");
+        };
+        let answer = match deed {
+            Deed::Pin => self.shelves.pin(rt, seat),
+            Deed::Release => self.shelves.release(rt, seat),
+        };
+        seat_words(self.alloc, answer, seat.edition())
     }
 
     fn join<R: Wait>(&mut self, _rt: &R, _seat: usize) -> Result<String, AllocError> {
@@ -221,18 +223,15 @@ fn publish_noted<B: Named, K, R: Wait>(
 }
 
 impl<B: Named, K> Stage for NamedStage<B, K> {
-    fn pin<R: Wait>(&mut self, rt: &R, seat: usize) -> Result<String, AllocError> {
-        let answer = match self.seats.get_mut(seat) {
-            Some(seat) => self.shelves.pin(rt, seat),
-            None => Ok(()),
-        };
-        self.words(answer, seat)
+    fn alloc(&self) -> Global {
+        self.alloc
     }
 
-    fn release<R: Wait>(&mut self, rt: &R, seat: usize) -> Result<String, AllocError> {
-        let answer = match self.seats.get_mut(seat) {
-            Some(seat) => self.shelves.release(rt, seat),
-            None => Ok(()),
+    fn call<R: Wait>(&mut self, rt: &R, deed: Deed, seat: usize) -> Result<String, AllocError> {
+        let answer = match (self.seats.get_mut(seat), deed) {
+            (Some(seat), Deed::Pin) => self.shelves.pin(rt, seat),
+            (Some(seat), Deed::Release) => self.shelves.release(rt, seat),
+            (None, _) => Ok(()),
         };
         self.words(answer, seat)
     }

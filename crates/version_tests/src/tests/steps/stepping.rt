@@ -6,42 +6,88 @@ ghost use Rattle.shelf_steps.specs.Plays.{newcomer, is_open};
 ghost use Rattle.shelf_steps.specs.Handed.{handed};
 ghost use Rattle.shelf_steps.specs.declared.views.View.{View};
 
-use image_verifier::Verified;
+use crate::tests::images::Source;
 use shelf_steps::laws::{
     close, gather, give_back, join, leave_late, look, note, open, publish, take,
 };
 use shelf_steps::{Place, ShelfTable, editions_of, fill_block, try_shelf};
-use std::alloc::{AllocError, Global};
+use std::alloc::AllocError;
 use std::marker::Model;
-use std::sync::Arc;
 use version_core::{MOST_VERSIONS, Shelf, Worker};
 
-/// A worker, and what it is doing. Contracts see the table.
-#[derive(Drop)]
-pub(crate) struct WorkerSteps {
-    place: Place,
-    now: Worker,
+/// What a seat remembers of itself, so that its steps may be asked for at any time.
+pub(crate) trait Memory {
+    ghost use Rattle.shelf_steps.specs.Plays.{Mine};
+
+    // The seat knows it so, with these slots out.
+    ghost is_so: { Self → Mine → Type 0 };
 }
 
-impl Model for WorkerSteps {
-    ghost use Rattle.atomic_table.specs.Seated.{TableId};
+/// A worker remembers what it is doing.
+impl Memory for Worker {
     ghost use Rattle.version_tests.specs.Stepping.{DoesSo};
+
+    ghost is_so = { DoesSo };
+}
+
+/// The version of a notice.
+#[derive(Drop)]
+pub(crate) struct Noted {
+    version: u64,
+}
+
+impl Memory for Noted {
+    ghost use Rattle.shelf_steps.specs.Plays.{IsNotice};
+
+    ghost is_so = { λ noted. IsNotice noted.version };
+}
+
+/// The loader remembers the current version, the newest, and what each shelf is for.
+#[derive(Drop)]
+pub(crate) struct Loaded {
+    current: u64,
+    newest: u64,
+    shelves: [Shelf; 8],
+}
+
+impl Memory for Loaded {
+    ghost use Rattle.version_tests.specs.Stepping.{RemembersSo};
+
+    ghost is_so = { λ loaded. RemembersSo loaded.current loaded.newest loaded.shelves };
+}
+
+/// A seat, and what it remembers. Contracts see the table.
+#[derive(Drop)]
+pub(crate) struct Steps<M: Memory + Drop> {
+    place: Place,
+    memory: M,
+}
+
+impl<M: Memory + Drop> Model for Steps<M> {
+    ghost use Rattle.atomic_table.specs.Seated.{TableId};
 
     ghost Value = { TableId };
 
     ghost view = { λ s. s.place.table };
 
-    ghost invariant = { λ s. DoesSo s.now s.place.me };
+    ghost invariant = { λ s. M.is_so s.memory s.place.me };
 }
+
+pub(crate) type WorkerSteps = Steps<Worker>;
+
+/// A notice that is out.
+pub(crate) type NoticeSteps = Steps<Noted>;
+
+pub(crate) type LoaderSteps = Steps<Loaded>;
 
 impl WorkerSteps {
     pub(crate) fn of(place: Place) -> WorkerSteps
         requires { (n : ℕ) × (place.me ≡ (View.Working (newcomer n), [])) }
         ensures { result ≡ place.table }
     {
-        WorkerSteps {
+        Steps {
             place,
-            now: Worker::Idle,
+            memory: Worker::Idle,
         }
     }
 
@@ -51,10 +97,10 @@ impl WorkerSteps {
         requires { self.old ≡ shelves.now }
         ensures { self.new ≡ self.old }
     {
-        match self.now {
+        match self.memory {
             Worker::Idle => {
                 let word = look(shelves, &mut self.place);
-                self.now = Worker::Looked {
+                self.memory = Worker::Looked {
                     version: word / 8,
                     shelf: (word % 8) as usize,
                 };
@@ -70,14 +116,14 @@ impl WorkerSteps {
         requires { self.old ≡ shelves.now }
         ensures { self.new ≡ self.old }
     {
-        match self.now {
+        match self.memory {
             Worker::Looked { version, shelf } => {
                 let word = take(shelves, &mut self.place, shelf);
                 if says_open(word, version) {
-                    self.now = Worker::Holding { shelf, version };
+                    self.memory = Worker::Holding { shelf, version };
                     Some(Some(version))
                 } else {
-                    self.now = Worker::Late { shelf };
+                    self.memory = Worker::Late { shelf };
                     Some(None)
                 }
             }
@@ -91,15 +137,15 @@ impl WorkerSteps {
         requires { self.old ≡ shelves.now }
         ensures { self.new ≡ self.old }
     {
-        match self.now {
+        match self.memory {
             Worker::Late { shelf } => {
                 leave_late(shelves, &mut self.place, shelf);
-                self.now = Worker::Idle;
+                self.memory = Worker::Idle;
                 true
             }
             Worker::Holding { shelf, version: _ } => {
                 give_back(shelves, &mut self.place, shelf);
-                self.now = Worker::Idle;
+                self.memory = Worker::Idle;
                 true
             }
             Worker::Idle | Worker::Looked { .. } => false,
@@ -113,7 +159,7 @@ impl WorkerSteps {
         ensures worker { self.new ≡ self.old }
         ensures back { IfSome result (λ back. back ≡ notice) }
     {
-        match self.now {
+        match self.memory {
             Worker::Idle => {
                 join(shelves, &mut self.place, notice.place);
                 None
@@ -127,28 +173,10 @@ impl WorkerSteps {
     }
 }
 
-/// A notice that is out. Contracts see the table.
-#[derive(Drop)]
-pub(crate) struct NoticeSteps {
-    place: Place,
-    version: u64,
-}
-
-impl Model for NoticeSteps {
-    ghost use Rattle.atomic_table.specs.Seated.{TableId};
-    ghost use Rattle.shelf_steps.specs.Plays.{IsNotice};
-
-    ghost Value = { TableId };
-
-    ghost view = { λ s. s.place.table };
-
-    ghost invariant = { λ s. IsNotice s.version s.place.me };
-}
-
 impl NoticeSteps {
     /// The version that the notice is of.
     pub(crate) fn version(&self) -> u64 {
-        self.version
+        self.memory.version
     }
 }
 
@@ -158,26 +186,6 @@ fn says_open(word: u64, version: u64) -> bool
     word / 256 % 4 == 1 && word / 65536 == version
 }
 
-/// The loader, and what each shelf is for. Contracts see the table.
-#[derive(Drop)]
-pub(crate) struct LoaderSteps {
-    place: Place,
-    current: u64,
-    newest: u64,
-    shelves: [Shelf; 8],
-}
-
-impl Model for LoaderSteps {
-    ghost use Rattle.atomic_table.specs.Seated.{TableId};
-    ghost use Rattle.version_tests.specs.Stepping.{RemembersSo};
-
-    ghost Value = { TableId };
-
-    ghost view = { λ s. s.place.table };
-
-    ghost invariant = { λ s. RemembersSo s.current s.newest s.shelves s.place.me };
-}
-
 impl LoaderSteps {
     pub(crate) fn of(place: Place) -> LoaderSteps
         requires { (n : ℕ) × (image : ImageValue) × (place.me ≡ (View.Loading (handed n image), [])) }
@@ -185,12 +193,12 @@ impl LoaderSteps {
     {
         let mut shelves = [Shelf::Free; 8];
         shelves[0] = Shelf::Open { version: 1 };
-        LoaderSteps {
-            place,
+        let memory = Loaded {
             current: 1,
             newest: 1,
             shelves,
-        }
+        };
+        Steps { place, memory }
     }
 
     /// A notice of the current version.
@@ -200,9 +208,10 @@ impl LoaderSteps {
         ensures { (self.new ≡ self.old) × (result ≡ table.now) }
     {
         let place = note(table, &mut self.place);
-        NoticeSteps {
+        let version = self.memory.current;
+        Steps {
             place,
-            version: self.current,
+            memory: Noted { version },
         }
     }
 
@@ -210,26 +219,25 @@ impl LoaderSteps {
     pub(crate) fn open(
         &mut self,
         table: &ShelfTable,
-        alloc: Global,
         shelf: usize,
-        image: &Arc<Verified, Global>,
+        source: &Source,
     ) -> Result<bool, AllocError>
         requires { (self.old ≡ table.now) × (shelf < 8) }
         ensures { self.new ≡ self.old }
     {
-        let Shelf::Free = self.shelves[shelf] else {
+        let Shelf::Free = self.memory.shelves[shelf] else {
             return Ok(false);
         };
-        if self.current != self.newest || self.newest >= MOST_VERSIONS {
+        if self.memory.current != self.memory.newest || self.memory.newest >= MOST_VERSIONS {
             return Ok(false);
         }
-        let version = self.newest + 1;
-        let editions = editions_of(alloc, version, image)?;
+        let version = self.memory.newest + 1;
+        let editions = editions_of(source.alloc, version, &source.image)?;
         gather(table, &mut self.place, shelf);
         fill_block(table, &mut self.place, shelf, editions);
         open(table, &mut self.place, shelf, version);
-        self.shelves[shelf] = Shelf::Open { version };
-        self.newest = version;
+        self.memory.shelves[shelf] = Shelf::Open { version };
+        self.memory.newest = version;
         Ok(true)
     }
 
@@ -238,10 +246,10 @@ impl LoaderSteps {
         requires { (self.old ≡ table.now) × (shelf < 8) }
         ensures { self.new ≡ self.old }
     {
-        match self.shelves[shelf] {
-            Shelf::Open { version } if self.current < version => {
+        match self.memory.shelves[shelf] {
+            Shelf::Open { version } if self.memory.current < version => {
                 publish(table, &mut self.place, version, shelf);
-                self.current = version;
+                self.memory.current = version;
                 true
             }
             Shelf::Open { .. } | Shelf::Free | Shelf::Closing { .. } => false,
@@ -253,10 +261,10 @@ impl LoaderSteps {
         requires { (self.old ≡ table.now) × (shelf < 8) }
         ensures { self.new ≡ self.old }
     {
-        match self.shelves[shelf] {
-            Shelf::Open { version } if version < self.current => {
+        match self.memory.shelves[shelf] {
+            Shelf::Open { version } if version < self.memory.current => {
                 close(table, &mut self.place, shelf);
-                self.shelves[shelf] = Shelf::Closing { version };
+                self.memory.shelves[shelf] = Shelf::Closing { version };
                 true
             }
             Shelf::Open { .. } | Shelf::Free | Shelf::Closing { .. } => false,
@@ -268,12 +276,12 @@ impl LoaderSteps {
         requires { (self.old ≡ table.now) × (shelf < 8) }
         ensures { self.new ≡ self.old }
     {
-        match self.shelves[shelf] {
+        match self.memory.shelves[shelf] {
             Shelf::Closing { version } => {
                 match try_shelf(table, &mut self.place, shelf, version) {
                     Some(count) => Some(count),
                     None => {
-                        self.shelves[shelf] = Shelf::Free;
+                        self.memory.shelves[shelf] = Shelf::Free;
                         Some(0)
                     }
                 }
