@@ -1,6 +1,7 @@
 //! Sessions: lines are read, each is answered from the versions of an image that a worker's seat pins, and the replies are written.
 #![tactic(auto)]
 
+mod desk;
 mod fault;
 pub mod laws;
 mod ordering;
@@ -11,9 +12,10 @@ mod serving;
 mod solo_orders;
 mod turns;
 
+pub use desk::{Desk, Streams};
 pub use fault::{Ended, SessionFault};
 pub use lines::Counted;
 pub use orders::{Gate, OpenGate, OrderFault, Orders};
 pub use profiles::profile_reply;
-pub use serving::{MOST_REQUESTS, serve};
+pub use serving::MOST_REQUESTS;
 pub use solo_orders::{FeedImage, SoloOrders};
