@@ -7,6 +7,7 @@ use lines::Counted;
 use std::alloc::Global;
 
 /// What sessions are answered from: the runtime and its memory, the shelves with the versions, and the gate that hears of scans.
+#[derive(Drop)]
 pub struct Desk<'a, R, T, G> {
     pub rt: &'a R,
     pub alloc: Global,
