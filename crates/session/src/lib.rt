@@ -17,5 +17,5 @@ pub use fault::{Ended, SessionFault};
 pub use lines::Counted;
 pub use orders::{Gate, OpenGate, OrderFault, Orders};
 pub use profiles::profile_reply;
-pub use serving::MOST_REQUESTS;
+pub use serving::{MOST_REQUESTS, serve};
 pub use solo_orders::{FeedImage, SoloOrders};

@@ -13,11 +13,48 @@ use crate::fault::{Ended, SessionFault};
 use epochs::Versions;
 use lines::{Counted, Given, Line, LineReader, WriteFailed};
 use orders::{Gate, Orders};
+use std::alloc::Global;
 use std::io::{Read, Write};
 use std::sync::Wait;
 
 /// How many requests of a session are answered.
 pub const MOST_REQUESTS: u32 = 1_000_000;
+
+/// Serves a session, as [`Desk::serve`] does, with what a desk and its streams have as it is.
+pub fn serve<
+    R: Wait,
+    In: Read,
+    Out: Write,
+    N: Drop,
+    T: Versions<Notice = N>,
+    O: Orders<Notice = N>,
+    G: Gate,
+>(
+    rt: &R,
+    alloc: Global,
+    reader: &mut Counted<In>,
+    writer: &mut Counted<Out>,
+    shelves: &T,
+    seat: &mut T::Seat,
+    orders: &mut O,
+    gate: &G,
+) -> Result<Ended, SessionFault>
+    requires fits { T.fits shelves.now seat.old }
+    requires notices { AgreeOnNotices O.told T.noted }
+    requires reads { failures_of reader.old < 2 ^ 64 - 1 }
+    requires writes { failures_of writer.old < 2 ^ 64 - 1 }
+    ensures fits { T.fits shelves.now seat.new }
+    ensures number { T.number seat.new ≡ T.number seat.old }
+    ensures released { (T.value seat.new).held ≡ None }
+    ensures session { (last : SeatValue) × LastRelease (T.number seat.old) last (T.value seat.new)
+        × Serves (T.number seat.old) result (In.remaining (inner_of reader.old)) (In.remaining (inner_of reader.new)) (Out.contents (inner_of writer.old)) (Out.contents (inner_of writer.new))
+        (failures_of reader.old < failures_of reader.new) (failures_of writer.old < failures_of writer.new) (T.value seat.old) (O.asked orders.old) last (O.asked orders.new) }
+{
+    let desk = Desk::new(rt, alloc, shelves, gate);
+    let outcome = desk.answer_lines(reader, writer, seat, orders);
+    desk.release_last(seat);
+    outcome
+}
 
 impl<'a, R: Wait, N: Drop, T: Versions<Notice = N>, G: Gate> Desk<'a, R, T, G> {
     /// Serves a session.
