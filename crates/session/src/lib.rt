@@ -1,6 +1,7 @@
 //! Sessions: lines are read, each is answered from the versions of an image that a worker's seat pins, and the replies are written.
 #![tactic(auto)]
 
+mod desk;
 mod fault;
 pub mod laws;
 mod ordering;
@@ -11,6 +12,7 @@ mod serving;
 mod solo_orders;
 mod turns;
 
+pub use desk::{Desk, Streams};
 pub use fault::{Ended, SessionFault};
 pub use lines::Counted;
 pub use orders::{Gate, OpenGate, OrderFault, Orders};

@@ -5,53 +5,46 @@ ghost use Rattle.session_texts.specs.Requests.{pin, release};
 ghost use Rattle.session.specs.Lines.{asks, text_of_reply};
 ghost use Rattle.session.specs.Turns.{IsMet};
 
+use crate::desk::Desk;
 use crate::reply::Reply;
 use epochs::Versions;
 use session_texts::{Refusal, pin_line, release_line};
-use std::alloc::Global;
 use std::sync::Wait;
 
-/// Pins the current version and tells it. A version that can't be told is given back.
-pub(crate) fn pin_version<R: Wait, T: Versions>(
-    rt: &R,
-    alloc: Global,
-    shelves: &T,
-    seat: &mut T::Seat,
-) -> Reply
-    requires { T.fits shelves.now seat.old }
-    ensures fits { T.fits shelves.now seat.new }
-    ensures number { T.number seat.new ≡ T.number seat.old }
-    ensures met { IsMet (T.number seat.old) (T.value seat.old) (asks pin) (text_of_reply result) (T.value seat.new) }
-{
-    if let Err(fault) = shelves.pin(rt, seat) {
-        return Reply::pin_fault(fault);
-    }
-    let told = match T::edition(seat) {
-        Some(edition) => pin_line(alloc, edition.image.base(), edition.version),
-        None => unreachable!(),
-    };
-    match told {
-        Ok(line) => Reply::made(line),
-        Err(_) => {
-            let _ = shelves.release(rt, seat);
-            Reply::refusal(Refusal::OutOfMemory)
+impl<'a, R: Wait, T: Versions, G> Desk<'a, R, T, G> {
+    /// Pins the current version and tells it. A version that can't be told is given back.
+    pub(crate) fn pin(&self, seat: &mut T::Seat) -> Reply
+        requires { T.fits self.now.shelves.now seat.old }
+        ensures fits { T.fits self.now.shelves.now seat.new }
+        ensures number { T.number seat.new ≡ T.number seat.old }
+        ensures met { IsMet (T.number seat.old) (T.value seat.old) (asks pin) (text_of_reply result) (T.value seat.new) }
+    {
+        if let Err(fault) = self.shelves.pin(self.rt, seat) {
+            return Reply::pin_fault(fault);
+        }
+        let told = match T::edition(seat) {
+            Some(edition) => pin_line(self.alloc, edition.image.base(), edition.version),
+            None => unreachable!(),
+        };
+        match told {
+            Ok(line) => Reply::made(line),
+            Err(_) => {
+                let _ = self.shelves.release(self.rt, seat);
+                Reply::refusal(Refusal::OutOfMemory)
+            }
         }
     }
-}
 
-/// Gives back what the seat holds.
-pub(crate) fn release_version<R: Wait, T: Versions>(
-    rt: &R,
-    shelves: &T,
-    seat: &mut T::Seat,
-) -> Reply
-    requires { T.fits shelves.now seat.old }
-    ensures fits { T.fits shelves.now seat.new }
-    ensures number { T.number seat.new ≡ T.number seat.old }
-    ensures met { IsMet (T.number seat.old) (T.value seat.old) (asks release) (text_of_reply result) (T.value seat.new) }
-{
-    match shelves.release(rt, seat) {
-        Ok(()) => Reply::fixed(release_line()),
-        Err(fault) => Reply::pin_fault(fault),
+    /// Gives back what the seat holds.
+    pub(crate) fn release(&self, seat: &mut T::Seat) -> Reply
+        requires { T.fits self.now.shelves.now seat.old }
+        ensures fits { T.fits self.now.shelves.now seat.new }
+        ensures number { T.number seat.new ≡ T.number seat.old }
+        ensures met { IsMet (T.number seat.old) (T.value seat.old) (asks release) (text_of_reply result) (T.value seat.new) }
+    {
+        match self.shelves.release(self.rt, seat) {
+            Ok(()) => Reply::fixed(release_line()),
+            Err(fault) => Reply::pin_fault(fault),
+        }
     }
 }

@@ -10,6 +10,7 @@ ghost use Rattle.session.specs.Lines.{asks, memory_line, text_of_reply};
 ghost use Rattle.session.specs.Profiles.{IsAnswered, IsAnsweredBy, IsProfileReply, departure_data};
 ghost use Rattle.session.specs.Turns.{IsMet};
 
+use crate::desk::Desk;
 use crate::reply::Reply;
 use criteria::{Arrival, ArrivalTrips, ArrivalTripsWalk, CriterionName, Told};
 use epochs::{Edition, Versions};
@@ -22,50 +23,38 @@ use std::alloc::{AllocError, Global};
 use std::sync::Wait;
 use timetable::Query;
 
-/// Answers from the version that the seat holds, or else from the current one, which is given back.
-pub(crate) fn answer_profile<R: Wait, T: Versions, G: Gate>(
-    rt: &R,
-    alloc: Global,
-    shelves: &T,
-    seat: &mut T::Seat,
-    gate: &G,
-    ask: &Ask<'_>,
-) -> Reply
-    requires { T.fits shelves.now seat.old }
-    ensures fits { T.fits shelves.now seat.new }
-    ensures number { T.number seat.new ≡ T.number seat.old }
-    ensures met { IsMet (T.number seat.old) (T.value seat.old) (asks (profile (ask_value ask.now))) (text_of_reply result) (T.value seat.new) }
-{
-    if let Some(edition) = T::edition(seat) {
-        return answer_from(alloc, edition, gate, ask);
+impl<'a, R: Wait, T: Versions, G: Gate> Desk<'a, R, T, G> {
+    /// Answers from the version that the seat holds, or else from the current one, which is given back.
+    pub(crate) fn answer_profile(&self, seat: &mut T::Seat, ask: &Ask<'_>) -> Reply
+        requires { T.fits self.now.shelves.now seat.old }
+        ensures fits { T.fits self.now.shelves.now seat.new }
+        ensures number { T.number seat.new ≡ T.number seat.old }
+        ensures met { IsMet (T.number seat.old) (T.value seat.old) (asks (profile (ask_value ask.now))) (text_of_reply result) (T.value seat.new) }
+    {
+        if let Some(edition) = T::edition(seat) {
+            return answer_from(self.alloc, edition, self.gate, ask);
+        }
+        self.answer_once(seat, ask)
     }
-    answer_once(rt, alloc, shelves, seat, gate, ask)
-}
 
-// Answers from the current version, which is given back.
-fn answer_once<R: Wait, T: Versions, G: Gate>(
-    rt: &R,
-    alloc: Global,
-    shelves: &T,
-    seat: &mut T::Seat,
-    gate: &G,
-    ask: &Ask<'_>,
-) -> Reply
-    requires fits { T.fits shelves.now seat.old }
-    requires idle { (T.value seat.old).held ≡ None }
-    ensures fits { T.fits shelves.now seat.new }
-    ensures number { T.number seat.new ≡ T.number seat.old }
-    ensures met { IsMet (T.number seat.old) (T.value seat.old) (asks (profile (ask_value ask.now))) (text_of_reply result) (T.value seat.new) }
-{
-    if let Err(fault) = shelves.pin(rt, seat) {
-        return Reply::pin_fault(fault);
+    // Answers from the current version, which is given back.
+    fn answer_once(&self, seat: &mut T::Seat, ask: &Ask<'_>) -> Reply
+        requires fits { T.fits self.now.shelves.now seat.old }
+        requires idle { (T.value seat.old).held ≡ None }
+        ensures fits { T.fits self.now.shelves.now seat.new }
+        ensures number { T.number seat.new ≡ T.number seat.old }
+        ensures met { IsMet (T.number seat.old) (T.value seat.old) (asks (profile (ask_value ask.now))) (text_of_reply result) (T.value seat.new) }
+    {
+        if let Err(fault) = self.shelves.pin(self.rt, seat) {
+            return Reply::pin_fault(fault);
+        }
+        let reply = match T::edition(seat) {
+            Some(edition) => answer_from(self.alloc, edition, self.gate, ask),
+            None => unreachable!(),
+        };
+        let _ = self.shelves.release(self.rt, seat);
+        reply
     }
-    let reply = match T::edition(seat) {
-        Some(edition) => answer_from(alloc, edition, gate, ask),
-        None => unreachable!(),
-    };
-    let _ = shelves.release(rt, seat);
-    reply
 }
 
 // Answers from an edition. What is asked is judged before anything is scanned.

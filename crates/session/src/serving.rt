@@ -8,8 +8,8 @@ ghost use Rattle.epochs.specs.Seats.{SeatValue};
 ghost use Rattle.session.specs.Sessions.{LastRelease, Serves};
 ghost use Rattle.session.specs.Turns.{AgreeOnNotices, Turn, TurnsTo};
 
+use crate::desk::{Desk, Streams};
 use crate::fault::{Ended, SessionFault};
-use crate::turns::turn;
 use epochs::Versions;
 use lines::{Counted, Given, Line, LineReader, WriteFailed};
 use orders::{Gate, Orders};
@@ -20,7 +20,7 @@ use std::sync::Wait;
 /// How many requests of a session are answered.
 pub const MOST_REQUESTS: u32 = 1_000_000;
 
-/// Serves a session.
+/// Serves a session, as [`Desk::serve`] does, with what a desk and its streams have as it is.
 pub fn serve<
     R: Wait,
     In: Read,
@@ -50,113 +50,117 @@ pub fn serve<
         × Serves (T.number seat.old) result (In.remaining (inner_of reader.old)) (In.remaining (inner_of reader.new)) (Out.contents (inner_of writer.old)) (Out.contents (inner_of writer.new))
         (failures_of reader.old < failures_of reader.new) (failures_of writer.old < failures_of writer.new) (T.value seat.old) (O.asked orders.old) last (O.asked orders.new) }
 {
-    let outcome = answer_lines(rt, alloc, reader, writer, shelves, seat, orders, gate);
-    release_last(rt, shelves, seat);
+    let desk = Desk::new(rt, alloc, shelves, gate);
+    let outcome = desk.answer_lines(reader, writer, seat, orders);
+    desk.release_last(seat);
     outcome
 }
 
-// Gives back what the seat holds, if anything. That it was lost is told to nobody.
-fn release_last<R: Wait, T: Versions>(rt: &R, shelves: &T, seat: &mut T::Seat)
-    requires { T.fits shelves.now seat.old }
-    ensures fits { T.fits shelves.now seat.new }
-    ensures number { T.number seat.new ≡ T.number seat.old }
-    ensures released { (T.value seat.new).held ≡ None }
-    ensures last { LastRelease (T.number seat.old) (T.value seat.old) (T.value seat.new) }
-{
-    if T::edition(seat).is_some() {
-        let _ = shelves.release(rt, seat);
+impl<'a, R: Wait, N: Drop, T: Versions<Notice = N>, G: Gate> Desk<'a, R, T, G> {
+    /// Serves a session.
+    pub fn serve<In: Read, Out: Write, O: Orders<Notice = N>>(
+        &self,
+        streams: &mut Streams<In, Out>,
+        seat: &mut T::Seat,
+        orders: &mut O,
+    ) -> Result<Ended, SessionFault>
+        requires fits { T.fits self.now.shelves.now seat.old }
+        requires notices { AgreeOnNotices O.told T.noted }
+        requires reads { failures_of streams.old.reader < 2 ^ 64 - 1 }
+        requires writes { failures_of streams.old.writer < 2 ^ 64 - 1 }
+        ensures fits { T.fits self.now.shelves.now seat.new }
+        ensures number { T.number seat.new ≡ T.number seat.old }
+        ensures released { (T.value seat.new).held ≡ None }
+        ensures session { (last : SeatValue) × LastRelease (T.number seat.old) last (T.value seat.new)
+            × Serves (T.number seat.old) result (In.remaining (inner_of streams.old.reader)) (In.remaining (inner_of streams.new.reader)) (Out.contents (inner_of streams.old.writer)) (Out.contents (inner_of streams.new.writer))
+            (failures_of streams.old.reader < failures_of streams.new.reader) (failures_of streams.old.writer < failures_of streams.new.writer) (T.value seat.old) (O.asked orders.old) last (O.asked orders.new) }
+    {
+        let outcome = self.answer_lines(&mut streams.reader, &mut streams.writer, seat, orders);
+        self.release_last(seat);
+        outcome
     }
-}
 
-// Answers line after line.
-fn answer_lines<
-    R: Wait,
-    In: Read,
-    Out: Write,
-    N: Drop,
-    T: Versions<Notice = N>,
-    O: Orders<Notice = N>,
-    G: Gate,
->(
-    rt: &R,
-    alloc: Global,
-    reader: &mut Counted<In>,
-    writer: &mut Counted<Out>,
-    shelves: &T,
-    seat: &mut T::Seat,
-    orders: &mut O,
-    gate: &G,
-) -> Result<Ended, SessionFault>
-    requires fits { T.fits shelves.now seat.old }
-    requires notices { AgreeOnNotices O.told T.noted }
-    requires reads { failures_of reader.old < 2 ^ 64 - 1 }
-    requires writes { failures_of writer.old < 2 ^ 64 - 1 }
-    ensures fits { T.fits shelves.now seat.new }
-    ensures number { T.number seat.new ≡ T.number seat.old }
-    ensures session { Serves (T.number seat.old) result (In.remaining (inner_of reader.old)) (In.remaining (inner_of reader.new)) (Out.contents (inner_of writer.old)) (Out.contents (inner_of writer.new))
-        (failures_of reader.old < failures_of reader.new) (failures_of writer.old < failures_of writer.new) (T.value seat.old) (O.asked orders.old) (T.value seat.new) (O.asked orders.new) }
-{
-    let mut lines = LineReader::new(alloc);
-    for _ in 0..MOST_REQUESTS {
-        match lines.next(reader) {
-            Err(_) => return Err(SessionFault::ReadFailed),
-            Ok(Given::Nothing) => return Ok(Ended),
-            Ok(Given::Rest) => {
-                let line = lines.line();
-                match answer_line(rt, alloc, line, writer, shelves, seat, orders, gate) {
-                    Ok(()) => return Ok(Ended),
-                    Err(_) => return Err(SessionFault::WriteFailed),
+    // Gives back what the seat holds, if anything. That it was lost is told to nobody.
+    fn release_last(&self, seat: &mut T::Seat)
+        requires { T.fits self.now.shelves.now seat.old }
+        ensures fits { T.fits self.now.shelves.now seat.new }
+        ensures number { T.number seat.new ≡ T.number seat.old }
+        ensures released { (T.value seat.new).held ≡ None }
+        ensures last { LastRelease (T.number seat.old) (T.value seat.old) (T.value seat.new) }
+    {
+        if T::edition(seat).is_some() {
+            let _ = self.shelves.release(self.rt, seat);
+        }
+    }
+
+    // Answers line after line.
+    fn answer_lines<In: Read, Out: Write, O: Orders<Notice = N>>(
+        &self,
+        reader: &mut Counted<In>,
+        writer: &mut Counted<Out>,
+        seat: &mut T::Seat,
+        orders: &mut O,
+    ) -> Result<Ended, SessionFault>
+        requires fits { T.fits self.now.shelves.now seat.old }
+        requires notices { AgreeOnNotices O.told T.noted }
+        requires counts { (failures_of reader.old < 2 ^ 64 - 1) × (failures_of writer.old < 2 ^ 64 - 1) }
+        ensures fits { T.fits self.now.shelves.now seat.new }
+        ensures number { T.number seat.new ≡ T.number seat.old }
+        ensures session { Serves (T.number seat.old) result (In.remaining (inner_of reader.old)) (In.remaining (inner_of reader.new)) (Out.contents (inner_of writer.old)) (Out.contents (inner_of writer.new))
+            (failures_of reader.old < failures_of reader.new) (failures_of writer.old < failures_of writer.new) (T.value seat.old) (O.asked orders.old) (T.value seat.new) (O.asked orders.new) }
+    {
+        let mut lines = LineReader::new(self.alloc);
+        for _ in 0..MOST_REQUESTS {
+            match lines.next(reader) {
+                Err(_) => return Err(SessionFault::ReadFailed),
+                Ok(Given::Nothing) => return Ok(Ended),
+                Ok(Given::Rest) => {
+                    let line = lines.line();
+                    match self.answer_line(line, writer, seat, orders) {
+                        Ok(()) => return Ok(Ended),
+                        Err(_) => return Err(SessionFault::WriteFailed),
+                    }
                 }
-            }
-            Ok(Given::Ended) => {
-                let line = lines.line();
-                match answer_line(rt, alloc, line, writer, shelves, seat, orders, gate) {
-                    Ok(()) => {}
-                    Err(_) => return Err(SessionFault::WriteFailed),
+                Ok(Given::Ended) => {
+                    let line = lines.line();
+                    match self.answer_line(line, writer, seat, orders) {
+                        Ok(()) => {}
+                        Err(_) => return Err(SessionFault::WriteFailed),
+                    }
                 }
             }
         }
+        match lines.has_byte(reader) {
+            Ok(false) => Ok(Ended),
+            Ok(true) => Err(SessionFault::TooManyRequests),
+            Err(_) => Err(SessionFault::ReadFailed),
+        }
     }
-    match lines.has_byte(reader) {
-        Ok(false) => Ok(Ended),
-        Ok(true) => Err(SessionFault::TooManyRequests),
-        Err(_) => Err(SessionFault::ReadFailed),
-    }
-}
 
-// Answers a line and writes the reply.
-fn answer_line<
-    R: Wait,
-    Out: Write,
-    N: Drop,
-    T: Versions<Notice = N>,
-    O: Orders<Notice = N>,
-    G: Gate,
->(
-    rt: &R,
-    alloc: Global,
-    line: Line<'_>,
-    writer: &mut Counted<Out>,
-    shelves: &T,
-    seat: &mut T::Seat,
-    orders: &mut O,
-    gate: &G,
-) -> Result<(), WriteFailed>
-    requires fits { T.fits shelves.now seat.old }
-    requires notices { AgreeOnNotices O.told T.noted }
-    ensures fits { T.fits shelves.now seat.new }
-    ensures number { T.number seat.new ≡ T.number seat.old }
-    ensures failures { MatchResult result
-        (λ _. failures_of writer.new ≡ failures_of writer.old)
-        (λ _. failures_of writer.new ≡ one_more (failures_of writer.old)) }
-    ensures turn { (l : List ℕ) → ShowsLine line.entry l → (t : Turn) × (t.line ≡ l) × TurnsTo (T.number seat.old) (T.value seat.old) (O.asked orders.old) t (T.value seat.new) (O.asked orders.new) × MatchResult result
-        (λ _. Appends (Out.contents (inner_of writer.old)) (Out.contents (inner_of writer.new)) t.reply)
-        (λ _. (n : ℕ) × Appends (Out.contents (inner_of writer.old)) (Out.contents (inner_of writer.new)) (take n t.reply)) }
-{
-    let reply = turn(rt, alloc, line, shelves, seat, orders, gate);
-    let written = writer.write_line(reply.bytes());
-    if reply.has_scanned() {
-        gate.leave();
+    // Answers a line and writes the reply.
+    fn answer_line<Out: Write, O: Orders<Notice = N>>(
+        &self,
+        line: Line<'_>,
+        writer: &mut Counted<Out>,
+        seat: &mut T::Seat,
+        orders: &mut O,
+    ) -> Result<(), WriteFailed>
+        requires fits { T.fits self.now.shelves.now seat.old }
+        requires notices { AgreeOnNotices O.told T.noted }
+        ensures fits { T.fits self.now.shelves.now seat.new }
+        ensures number { T.number seat.new ≡ T.number seat.old }
+        ensures failures { MatchResult result
+            (λ _. failures_of writer.new ≡ failures_of writer.old)
+            (λ _. failures_of writer.new ≡ one_more (failures_of writer.old)) }
+        ensures turn { (l : List ℕ) → ShowsLine line.entry l → (t : Turn) × (t.line ≡ l) × TurnsTo (T.number seat.old) (T.value seat.old) (O.asked orders.old) t (T.value seat.new) (O.asked orders.new) × MatchResult result
+            (λ _. Appends (Out.contents (inner_of writer.old)) (Out.contents (inner_of writer.new)) t.reply)
+            (λ _. (n : ℕ) × Appends (Out.contents (inner_of writer.old)) (Out.contents (inner_of writer.new)) (take n t.reply)) }
+    {
+        let reply = self.turn(line, seat, orders);
+        let written = writer.write_line(reply.bytes());
+        if reply.has_scanned() {
+            self.gate.leave();
+        }
+        written
     }
-    written
 }

@@ -1,6 +1,6 @@
 use Rattle.std.proofs.Common.{◌∙◌}
 use Rattle.session.proofs.MetLemmas.{release_met, release_refused}
-use Rattle.session.proofs.pinning.release_version.Goals as goal
+use Rattle.session.proofs.desk.Desk.release.Goals as goal
 
 pub returns-in-Ok-clause-met : goal.returns-in-Ok-clause-met
 returns-in-Ok-clause-met g c = release_met _ _ _ _ c.in-Ok.ensures.release (c.fixed.ensures ∙ c.release_line.ensures)

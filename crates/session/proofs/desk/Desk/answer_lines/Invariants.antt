@@ -2,11 +2,11 @@ use Rattle.std.proofs.Common.{◌≡◌}
 use Rattle.lines.specs.Counting.{failures_of, inner_of}
 use Rattle.lines.specs.Reading.{unread_of}
 use Rattle.session.proofs.LineLemmas.{SoFar}
-use Rattle.session.proofs.serving.answer_lines.Given as goal
+use Rattle.session.proofs.desk.Desk.answer_lines.Given as goal
 
 abbrev pub invariant-loop : goal.invariant-loop
 invariant-loop g l = record {
-  fits : g.T.Versions.fits l.shelves l.seat;
+  fits : g.T.Versions.fits l.self.shelves.now l.seat;
   number : g.T.Versions.number l.seat ≡ g.T.Versions.number l.fn.seat;
   reads : failures_of l.reader ≡ failures_of l.fn.reader;
   writes : failures_of l.writer ≡ failures_of l.fn.writer;

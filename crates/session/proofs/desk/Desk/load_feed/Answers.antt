@@ -1,6 +1,6 @@
 use Rattle.std.proofs.Common.{◌∙◌, sym, inl, inr}
 use Rattle.session.proofs.LoadLemmas.{no_version_met, version_met}
-use Rattle.session.proofs.ordering.load_feed.Goals as goal
+use Rattle.session.proofs.desk.Desk.load_feed.Goals as goal
 
 pub returns-in-Ok-loaded_line-clause-met : goal.returns-in-Ok-loaded_line-clause-met
 returns-in-Ok-loaded_line-clause-met g c =

@@ -2,7 +2,7 @@ use Rattle.std.proofs.Common.{◌∙◌, refl, sym, arith, inl}
 use Rattle.reasoning.proofs.BoolLemmas.{where_true, where_false}
 use Rattle.lines.proofs.GivenLemmas.{Gives-ended, Gives-nothing, Gives-rest}
 use Rattle.session.proofs.LineLemmas.{nothing_is_one_line, some_bytes, SoFar-more, SoFar-start, TurnsTo-number, cut_short_at_line, cut_short_at_rest, ends_at_end, ends_with_rest, not_rose, read_fails, rose, too_many, why_failed}
-use Rattle.session.proofs.serving.answer_lines.Goals as goal
+use Rattle.session.proofs.desk.Desk.answer_lines.Goals as goal
 
 pub loop-init : goal.loop-init
 loop-init g c = record { fits = c.requires.fits; number = refl; reads = refl; writes = refl; so_far = SoFar-start _ _ _ _ _ _ c.new-lines.ensures }
@@ -11,7 +11,7 @@ pub returns-in-Err-clause-session : goal.returns-in-Err-clause-session
 returns-in-Err-clause-session g c =
     let e = c.in-Err.ensures in
     read_fails _ _ _ _ _ e.0 _ _ _ _ _ _ _ _ _ (omega (arith, c.loop-test.true, c.loop.auto.counter-end))
-    c.loop.invariant.so_far e.1 e.2.0 (why_failed _ _ _ _ c.requires.reads c.loop.invariant.reads e.2.2) (not_rose _ _ c.loop.invariant.writes)
+    c.loop.invariant.so_far e.1 e.2.0 (why_failed _ _ _ _ c.requires.counts.0 c.loop.invariant.reads e.2.2) (not_rose _ _ c.loop.invariant.writes)
 
 pub returns-in-Ok-Nothing-clause-session : goal.returns-in-Ok-Nothing-clause-session
 returns-in-Ok-Nothing-clause-session g c =
@@ -28,7 +28,7 @@ returns-in-Err-answer_line-2-clause-session g c =
     let turn = TurnsTo-number _ _ _ _ _ _ _ c.loop.invariant.number done.2 in
     cut_short_at_line _ _ _ _ _ e.0 _ _ _ _ _ _ _ _ _ _ _ _ _ (omega (arith, c.loop-test.true, c.loop.auto.counter-end))
     c.loop.invariant.so_far e.1 gives done.0 done.1 turn done.3.0 done.3.1 (not_rose _ _ (e.2.1 ∙ c.loop.invariant.reads))
-    (rose _ _ _ c.requires.writes c.loop.invariant.writes c.in-Err-answer_line-2.ensures.failures)
+    (rose _ _ _ c.requires.counts.1 c.loop.invariant.writes c.in-Err-answer_line-2.ensures.failures)
 
 pub loop-preserved : goal.loop-preserved
 loop-preserved g c =
@@ -61,7 +61,7 @@ returns-in-Err-answer_line-clause-session g c =
     let turn = TurnsTo-number _ _ _ _ _ _ _ c.loop.invariant.number done.2 in
     cut_short_at_rest _ _ _ _ _ e.0 _ _ _ _ _ _ _ _ _ _ _ _ _ (omega (arith, c.loop-test.true, c.loop.auto.counter-end))
     c.loop.invariant.so_far e.1 gives done.0 done.1 turn done.3.0 done.3.1 (not_rose _ _ (e.2.1 ∙ c.loop.invariant.reads))
-    (rose _ _ _ c.requires.writes c.loop.invariant.writes c.in-Err-answer_line.ensures.failures)
+    (rose _ _ _ c.requires.counts.1 c.loop.invariant.writes c.in-Err-answer_line.ensures.failures)
 
 pub returns-in-Ok-true-clause-session : goal.returns-in-Ok-true-clause-session
 returns-in-Ok-true-clause-session g c =
@@ -80,4 +80,4 @@ pub returns-clause-session : goal.returns-clause-session
 returns-clause-session g c =
     let e = c.in-Err-has_byte.ensures in
     read_fails _ _ _ _ _ e.0 _ _ _ _ _ _ _ _ _ (omega (arith, c.loop-test.false, c.loop.auto.counter-end))
-    c.loop.invariant.so_far e.1 (nothing_is_one_line _ (sym e.2 ∙ e.3.0)) (inl (rose _ _ _ c.requires.reads c.loop.invariant.reads e.3.1)) (not_rose _ _ c.loop.invariant.writes)
+    c.loop.invariant.so_far e.1 (nothing_is_one_line _ (sym e.2 ∙ e.3.0)) (inl (rose _ _ _ c.requires.counts.0 c.loop.invariant.reads e.3.1)) (not_rose _ _ c.loop.invariant.writes)

@@ -3,7 +3,7 @@ use Rattle.serde_json.specs.View.{view}
 use Rattle.session_texts.specs.declared.judging.LineFault.{LineFault}
 use Rattle.session.proofs.TurnLemmas.{asks_known, bad_json_turn, bad_request_turn, load_turn, memory_turn}
 use Rattle.session.proofs.TurnLemmas.{order_turn, seat_turn, too_long_turn, waits_for, waits_not, whole}
-use Rattle.session.proofs.turns.turn.Goals as goal
+use Rattle.session.proofs.desk.Desk.turn.Goals as goal
 
 pub returns-in-TooLong-clause-turn : goal.returns-in-TooLong-clause-turn
 returns-in-TooLong-clause-turn g c = λ l shows. too_long_turn _ _ _ c.args.line l _ c.in-TooLong.is shows c.refusal.ensures
@@ -24,11 +24,11 @@ returns-in-None-clause-turn g c = λ l shows.
 
 pub returns-in-Some-Pin-clause-turn : goal.returns-in-Some-Pin-clause-turn
 returns-in-Some-Pin-clause-turn g c = λ l shows.
-    seat_turn _ _ _ _ c.in-Whole.bytes.now l _ (view c.in-Ok.value) _ (whole c.args.line c.in-Whole.bytes l c.in-Whole.is shows) c.in-Ok.ensures.value (asks_known (view c.in-Ok.value) _ _ c.in-Some-Pin.field-0-is c.in-Some-Pin.ensures) c.pin_version.ensures.met
+    seat_turn _ _ _ _ c.in-Whole.bytes.now l _ (view c.in-Ok.value) _ (whole c.args.line c.in-Whole.bytes l c.in-Whole.is shows) c.in-Ok.ensures.value (asks_known (view c.in-Ok.value) _ _ c.in-Some-Pin.field-0-is c.in-Some-Pin.ensures) c.pin.ensures.met
 
 pub returns-in-Some-Release-clause-turn : goal.returns-in-Some-Release-clause-turn
 returns-in-Some-Release-clause-turn g c = λ l shows.
-    seat_turn _ _ _ _ c.in-Whole.bytes.now l _ (view c.in-Ok.value) _ (whole c.args.line c.in-Whole.bytes l c.in-Whole.is shows) c.in-Ok.ensures.value (asks_known (view c.in-Ok.value) _ _ c.in-Some-Release.field-0-is c.in-Some-Release.ensures) c.release_version.ensures.met
+    seat_turn _ _ _ _ c.in-Whole.bytes.now l _ (view c.in-Ok.value) _ (whole c.args.line c.in-Whole.bytes l c.in-Whole.is shows) c.in-Ok.ensures.value (asks_known (view c.in-Ok.value) _ _ c.in-Some-Release.field-0-is c.in-Some-Release.ensures) c.release.ensures.met
 
 pub returns-in-Some-Profile-clause-turn : goal.returns-in-Some-Profile-clause-turn
 returns-in-Some-Profile-clause-turn g c = λ l shows.

@@ -3,7 +3,7 @@ use Rattle.std.specs.Arc.{arc_value}
 use Rattle.epochs.specs.Pins.{HoldsInHistory}
 use Rattle.session_texts.specs.Replies.{pin_text}
 use Rattle.session.proofs.MetLemmas.{pin_met, pin_refused, pin_given_back}
-use Rattle.session.proofs.pinning.pin_version.Goals as goal
+use Rattle.session.proofs.desk.Desk.pin.Goals as goal
 
 pub returns-in-Err-clause-met : goal.returns-in-Err-clause-met
 returns-in-Err-clause-met g c = pin_refused _ _ _ _ _ c.in-Err.ensures.pin c.pin_fault.ensures

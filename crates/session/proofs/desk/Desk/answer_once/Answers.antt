@@ -1,7 +1,7 @@
 use Rattle.std.proofs.Common.{subst}
 use Rattle.epochs.specs.Pins.{HoldsInHistory}
 use Rattle.session.proofs.MetLemmas.{profile_refused, profile_met_once}
-use Rattle.session.proofs.profiles.answer_once.Goals as goal
+use Rattle.session.proofs.desk.Desk.answer_once.Goals as goal
 
 pub returns-in-Err-clause-met : goal.returns-in-Err-clause-met
 returns-in-Err-clause-met g c = profile_refused _ _ _ _ _ _ c.requires.idle c.in-Err.ensures.pin c.pin_fault.ensures

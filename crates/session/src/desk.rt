@@ -1,0 +1,52 @@
+//! What a session is answered from, and where it is read and written.
+
+ghost use Rattle.std.specs.Prelude.{◌≡◌};
+ghost use Rattle.lines.specs.Counting.{failures_of, inner_of};
+
+use lines::Counted;
+use std::alloc::Global;
+
+/// What sessions are answered from: the runtime and its memory, the shelves with the versions, and the gate that hears of scans.
+#[derive(Drop)]
+pub struct Desk<'a, R, T, G> {
+    pub rt: &'a R,
+    pub alloc: Global,
+    pub shelves: &'a T,
+    pub gate: &'a G,
+}
+
+impl<'a, R, T, G> Desk<'a, R, T, G> {
+    /// With these shelves and this gate.
+    pub fn new(rt: &'a R, alloc: Global, shelves: &'a T, gate: &'a G) -> Desk<'a, R, T, G>
+        ensures { result.shelves.now ≡ shelves.now }
+    {
+        Desk {
+            rt,
+            alloc,
+            shelves,
+            gate,
+        }
+    }
+}
+
+/// Where a session's requests are read and its replies are written, each with the number of its calls that failed.
+#[derive(Drop)]
+pub struct Streams<I, O> {
+    pub reader: Counted<I>,
+    pub writer: Counted<O>,
+}
+
+impl<I, O> Streams<I, O> {
+    /// No call has failed yet.
+    pub fn new(reader: I, writer: O) -> Streams<I, O>
+        ensures reader { inner_of result.reader ≡ reader }
+        ensures writer { inner_of result.writer ≡ writer }
+        ensures reads { failures_of result.reader ≡ 0 }
+        ensures writes { failures_of result.writer ≡ 0 }
+    {
+        Streams {
+            reader: Counted::new(reader),
+            writer: Counted::new(writer),
+        }
+    }
+}
