@@ -12,7 +12,7 @@ use Rattle.workers.specs.Sessions.{AreServed, IsServed, IsSession}
 use Rattle.workers.specs.declared.clients.ConnFault.{ConnFault}
 use Rattle.workers.specs.declared.refusal.LoadRefusal.{LoadRefusal}
 use Rattle.workers.specs.declared.served.End.{End}
-use Rattle.workers.specs.declared.streams.Streams.{Streams}
+use Rattle.session.specs.declared.desk.Streams.{Streams}
 
 -- what is served from a new counted reader and writer is served from what they hold, and each failure is counted
 pub session_of : (number : ℕ) (end : End) (result : Result Ended SessionFault)

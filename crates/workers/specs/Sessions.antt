@@ -9,7 +9,7 @@ use Rattle.session.specs.Sessions.{LastRelease, Serves}
 use Rattle.workers.specs.Ends.{end_of}
 use Rattle.workers.specs.declared.clients.ConnFault.{ConnFault}
 use Rattle.workers.specs.declared.served.End.{End}
-use Rattle.workers.specs.declared.streams.Streams.{Streams}
+use Rattle.session.specs.declared.desk.Streams.{Streams}
 
 -- a session is served at this seat, from what was to be read to what is, and ends so
 pub record IsSession (number : ℕ) (end : End) (to_read read_then contents contents_then : Option (List ℕ))

@@ -10,7 +10,6 @@ mod refusal;
 mod running;
 mod served;
 mod serving;
-mod streams;
 
 pub use clients::{Client, Clients, ConnFault};
 pub use feeds::Feeds;
@@ -19,5 +18,5 @@ pub use naming::run_shelves;
 pub use refusal::LoadRefusal;
 pub use running::{WorkersFault, run_workers};
 pub use served::{End, Served};
-pub use serving::serve_client;
-pub use streams::Streams;
+pub use serving::Worker;
+pub use session::{Desk, Streams};

@@ -7,12 +7,13 @@ use crate::carrying::load_all;
 use crate::clients::{Client, Clients};
 use crate::feeds::Feeds;
 use crate::served::Served;
-use crate::serving::work;
+use crate::serving::Worker;
 use crossbeam_channel::Sender;
 use epochs::{Loads, Versions};
 use feed_loader::FeedFiles;
 use load_orders::{WorkerOrders, order_queue};
 use orders::Gate;
+use session::Desk;
 use std::alloc::{AllocError, Global};
 use std::io::{Read, Write};
 use std::sync::Wait;
@@ -93,16 +94,14 @@ pub fn run_workers<
                     move || -> Served
                         requires { T.Versions.fits shelves.now seat }
                     {
-                        work(
+                        let desk = Desk {
                             rt,
                             alloc,
-                            mine,
                             shelves,
-                            seat,
-                            WorkerOrders::new(alloc, feeds.names(), shelves, end),
                             gate,
-                        )
-                        .0
+                        };
+                        let orders = WorkerOrders::new(alloc, feeds.names(), shelves, end);
+                        Worker { desk }.work(mine, seat, orders).0
                     },
                 ) {
                     Ok(worker) => {

@@ -1,6 +1,6 @@
 use Rattle.std.proofs.Common.{◌∙◌}
 use Rattle.workers.proofs.Ending.{served_next}
-use Rattle.workers.proofs.serving.work.Goals as goal
+use Rattle.workers.proofs.serving.Worker.work.Goals as goal
 
 pub loop-preserved : goal.loop-preserved
 loop-preserved g c =
