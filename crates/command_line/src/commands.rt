@@ -144,7 +144,7 @@ const BUILD: [Argument; 2] = [
     ),
 ];
 
-const SERVER: [Argument; 4] = [
+const SERVER: [Argument; 5] = [
     Argument::Option(
         "image",
         "IMAGE",
@@ -165,13 +165,12 @@ const SERVER: [Argument; 4] = [
         "N",
         "How many sessions are served in all; 0 for no end",
     ),
+    Argument::Words(
+        "feeds",
+        "NAME=FOLDER",
+        "A feed that sessions may load by its name",
+    ),
 ];
-
-const FEEDS: [Argument; 1] = [Argument::Words(
-    "feeds",
-    "NAME=FOLDER",
-    "A feed that sessions may load by its name",
-)];
 
 const NEW_IMAGE: [Argument; 1] = [Argument::Word(
     "out",
@@ -226,7 +225,7 @@ const TASKS: [Task; 8] = [
         name: "serve",
         about: "Serves sessions over TCP at 127.0.0.1, and loads feeds beside them",
         example: SERVE_EXAMPLE,
-        arguments: &[&SERVER, &DAYS, &FEEDS],
+        arguments: &[&SERVER, &DAYS],
     },
 ];
 
