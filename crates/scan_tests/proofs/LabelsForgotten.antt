@@ -16,9 +16,9 @@ use Rattle.profile_scan.specs.LawStatements.{CanScan, OneIndexDown}
 use Rattle.scan_tests.specs.Examples.{two_hops, over_one_hop}
 use Rattle.scan_tests.specs.WrongSteps.{IsStepWithoutLabels}
 use Rattle.profile_scan.proofs.Ends.{nothing_follows}
-use Rattle.profile_scan.proofs.Outdone.{all_carried}
 use Rattle.profile_scan.proofs.StepLemmas.{one_index_down}
 use Rattle.scan_tests.proofs.Refutations.{at_two, one_hop_legal, one_hop_within, one_in, takes_none, takes_from_nothing, covers_itself, nothing, at_zero}
+use Rattle.scan_tests.proofs.Refutations.{leaving_nothing_out}
 
 abbrev first_hop : Connection
 first_hop = connection_at two_hops 0
@@ -122,19 +122,16 @@ module _ {V : Type 0} (rules : Rules V) (laws : Laws rules) where
   kept_after_the_second : MatchesFrom rules two_hops (over_one_hop 1000) spoken 1 seated
   kept_after_the_second =
       let q = over_one_hop 1000 in
-      one_index_down rules laws two_hops q can_scan turn 1 (omega arith) (nothing rules laws) seated (nothing_follows rules two_hops q can_scan 2 past_the_end spoken) (record {
+      one_index_down rules laws two_hops q can_scan turn 1 (omega arith) (nothing rules laws) seated (nothing_follows rules two_hops q can_scan 2 past_the_end spoken)
+      (leaving_nothing_out rules two_hops q turn 1 (nothing rules laws) seated (record {
         between = spoken;
         kept_first = spoken_stays;
         kept_then = spoken_stays;
-        changing = [];
-        changing_are = all_carried rules two_hops [] 1 [];
-        boarding = label ∷ [];
-        boarding_are = all_carried rules two_hops [] 1 (label ∷ []);
         leaves = leaves_at_the_target;
         other_trips = other_trips;
         boards = λ stop in_stops. takes_none rules laws (boardings rules two_hops turn 1 stop (label ∷ [])) (λ way may. let nobody = may.boards in cc);
         sets_out = takes_none rules laws (settings_out rules two_hops q turn 1 (label ∷ [])) (λ way may. let nobody = may.boards in cc);
-      })
+      }))
 
   -- forgotten, the label covers nobody who stays seated
   pub forgotten_labels_are_wrong : OneIndexDown rules (IsStepWithoutLabels rules) → ⊥

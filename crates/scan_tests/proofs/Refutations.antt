@@ -21,11 +21,28 @@ use Rattle.profile_scan.specs.Matching.{Spelling, Spellings, Keeps, from_to, Sca
 use Rattle.profile_scan.specs.Steps.{Offer, TakesIn, IsOffered, Leaving, ends, ends_after, changes, MayLeave, leaving_value, leavings, boarded, Boarding, MayBoard, boardings, SettingOut, settings_out, IsStep}
 use Rattle.profile_scan.specs.LawStatements.{CanScan, OneIndexDown, CutIsTheSources}
 use Rattle.scan_tests.specs.Examples.{one_hop, over_one_hop, with_loops, asked, by_change, ride, footpath}
-use Rattle.scan_tests.specs.WrongSteps.{cut_boardings, IsStepWithBagCut, loop_starts, LeavesSource, MayBoardAtOnce, at_once_departure, at_once_value, IsStepWithLoopStart, Unchanged, on_foot, at_once, at_once_boardings, IsStepWithoutChange, CountsLegByLeg}
+use Rattle.scan_tests.specs.WrongSteps.{IsStepWith, cut_boardings, IsStepWithBagCut, loop_starts, LeavesSource, MayBoardAtOnce, at_once_departure, at_once_value, IsStepWithLoopStart, Unchanged, on_foot, at_once, at_once_boardings, IsStepWithoutChange, CountsLegByLeg}
 use Rattle.profile_scan.proofs.Ends.{nothing_follows}
 use Rattle.profile_scan.proofs.StepLemmas.{one_index_down}
 use Rattle.profile_scan.proofs.Outdone.{all_carried}
 use Rattle.profile_scan.proofs.Answer.{match_is_the_answer}
+
+-- a step that leaves nothing out is a right one
+pub leaving_nothing_out : {V : Type 0} (rules : Rules V) (t : TimetableValue) (q : Query) (tags : Spellings) (i : ℕ) (old new : ScanValue V)
+    → IsStepWith rules t q tags i (λ now. boardings rules t now i) (λ now. settings_out rules t q now i) old new → IsStep rules t q tags i old new
+leaving_nothing_out rules t q tags i old new step = record {
+  between = step.between;
+  kept_first = step.kept_first;
+  kept_then = step.kept_then;
+  changing = old.bag (connection_at t i).to;
+  changing_are = all_carried rules t old.found i (old.bag (connection_at t i).to);
+  boarding = new.labels (connection_at t i).trip;
+  boarding_are = all_carried rules t new.found i (new.labels (connection_at t i).trip);
+  leaves = step.leaves;
+  other_trips = step.other_trips;
+  boards = step.boards;
+  sets_out = step.sets_out;
+}
 
 abbrev long_loop : Footpath
 long_loop = record { from = 0; to = 0; secs = 60 }
@@ -232,6 +249,21 @@ module _ {V : Type 0} (rules : Rules V) (laws : Laws rules) where
   other_trips zero other = absurd (other refl)
   other_trips (suc n) other = refl
 
+  -- a step that leaves the trip by its end alone, whatever it offers to the bags and to the points found
+  stepped : {A B : Type 0} (until : ℕ) (to_bag : Spellings → ℕ → List (Point V) → Offer A V) (to_found : Spellings → List (Point V) → Offer B V)
+      (bag : ℕ → List (Point V)) (found : List (Point V))
+      → ((stop : ℕ) → TakesIn rules (to_bag turn stop (label ∷ [])) [] (bag stop)) → TakesIn rules (to_found turn (label ∷ [])) [] found
+      → IsStepWith rules one_hop (over_one_hop until) turn 0 to_bag to_found nothing (record { bag = bag; labels = at_zero (label ∷ []); found = found })
+  stepped until to_bag to_found bag found boards sets_out = record {
+    between = spoken;
+    kept_first = spoken_stays;
+    kept_then = spoken_stays;
+    leaves = leaves_by_end until;
+    other_trips = other_trips;
+    boards = λ stop in_stops. boards stop;
+    sets_out = sets_out;
+  }
+
   -- a law that the steps of one kind keep matches would tell of what such a step makes of nothing
   after_step : (Step : TimetableValue → Query → Spellings → ℕ → ScanValue V → ScanValue V → Type 0) → OneIndexDown rules Step → (until : ℕ) (new : ScanValue V) → Step one_hop (over_one_hop until) turn 0 nothing new → MatchesFrom rules one_hop (over_one_hop until) spoken 0 new
   after_step Step law until new step =
@@ -244,20 +276,16 @@ module _ {V : Type 0} (rules : Rules V) (laws : Laws rules) where
   pub bag_cut_is_wrong : OneIndexDown rules (IsStepWithBagCut rules) → ⊥
   bag_cut_is_wrong law =
       let q = over_one_hop 30 in
-      let matched = after_step (IsStepWithBagCut rules) law 30 cut_bag (record {
-        between = spoken;
-        kept_first = spoken_stays;
-        kept_then = spoken_stays;
-        leaves = leaves_by_end 30;
-        other_trips = other_trips;
-        boards = λ stop in_stops. takes_none (cut_boardings rules one_hop q turn 0 stop (label ∷ [])) (λ way may.
-            let e = only_from_zero way.walk may.0.is_footpath may.0.leads in
-            let secs : way.walk.secs ≡ 60 = ap (λ (f : Footpath). f.secs) e in
-            let stop_is : stop ≡ 0 = sym may.0.leaves ∙ ap (λ (f : Footpath). f.from) e in
-            let late = may.1 stop_is in
-            omega arith);
-        sets_out = takes_none (settings_out rules one_hop q turn 0 (label ∷ [])) (λ way may. by_start way.start may.is_start may.leads may.not_late);
-      }) in
+      let offer : ℕ → Offer (Boarding V) V = λ stop. cut_boardings rules one_hop q turn 0 stop (label ∷ []) in
+      let boards : (stop : ℕ) → TakesIn rules (offer stop) [] [] = λ stop. takes_none (offer stop) (λ way may.
+      let e = only_from_zero way.walk may.0.is_footpath may.0.leads in
+      let secs : way.walk.secs ≡ 60 = ap (λ (f : Footpath). f.secs) e in
+      let stop_is : stop ≡ 0 = sym may.0.leaves ∙ ap (λ (f : Footpath). f.from) e in
+      let late = may.1 stop_is in
+      omega arith) in
+      let sets_out = takes_none (settings_out rules one_hop q turn 0 (label ∷ [])) (λ way may. by_start way.start may.is_start may.leads may.not_late) in
+      let matched = after_step (IsStepWithBagCut rules) law 30 cut_bag
+      (stepped 30 (λ now. cut_boardings rules one_hop q now 0) (λ now. settings_out rules one_hop q now 0) cut_bag.bag [] boards sets_out) in
       let onward : Onward = record { walk = long_loop ∷ []; rides = record { leg = record { first = 0; last = 0 }; walk = [] } ∷ [] } in
       let is_onward : IsOnward one_hop q 0 0 40 onward = record {
         walks = λ e. cc;
@@ -330,20 +358,14 @@ module _ {V : Type 0} (rules : Rules V) (laws : Laws rules) where
   loop_start_is_wrong law =
       let q = over_one_hop 1000 in
       let offer : Offer (SettingOut V) V = loop_starts rules one_hop q turn 0 (label ∷ []) in
-      let matched = after_step (IsStepWithLoopStart rules) law 1000 loop_start (record {
-        between = spoken;
-        kept_first = spoken_stays;
-        kept_then = spoken_stays;
-        leaves = leaves_by_end 1000;
-        other_trips = other_trips;
-        boards = λ stop in_stops. takes_loop stop;
-        sets_out = takes_from_nothing (loop_starts rules one_hop q turn 0 (label ∷ [])) (at_stop ∷ on_loop ∷ [])
-            (λ p is. elim (two_in at_stop on_loop p is) [
-              | inl e ↦ subst (IsOffered (loop_starts rules one_hop q turn 0 (label ∷ []))) e (record { way = record { start = None; label = label }; is_open = record { boards = refl; leaves = tt; leads = refl; fits = omega arith; not_early = omega arith; not_late = omega arith; is_label = (zero, omega arith, refl) }; departs = refl; worth = refl; fits = sets_out None })
-              | inr e ↦ subst (IsOffered (loop_starts rules one_hop q turn 0 (label ∷ []))) e (record { way = record { start = Some long_loop; label = label }; is_open = record { boards = refl; leaves = ((zero, omega arith, refl), refl); leads = refl; fits = omega arith; not_early = omega arith; not_late = omega arith; is_label = (zero, omega arith, refl) }; departs = refl; worth = refl; fits = sets_out (Some long_loop) })
-            ])
-            (λ way may. by_start way.start way.label may.leaves may.leads may.is_label);
-      }) in
+      let sets_out = takes_from_nothing (loop_starts rules one_hop q turn 0 (label ∷ [])) (at_stop ∷ on_loop ∷ [])
+      (λ p is. elim (two_in at_stop on_loop p is) [
+        | inl e ↦ subst (IsOffered (loop_starts rules one_hop q turn 0 (label ∷ []))) e (record { way = record { start = None; label = label }; is_open = record { boards = refl; is_start = tt; leads = refl; fits = omega arith; not_early = omega arith; not_late = omega arith; is_label = (zero, omega arith, refl) }; departs = refl; worth = refl; fits = sets_out None })
+        | inr e ↦ subst (IsOffered (loop_starts rules one_hop q turn 0 (label ∷ []))) e (record { way = record { start = Some long_loop; label = label }; is_open = record { boards = refl; is_start = ((zero, omega arith, refl), refl); leads = refl; fits = omega arith; not_early = omega arith; not_late = omega arith; is_label = (zero, omega arith, refl) }; departs = refl; worth = refl; fits = sets_out (Some long_loop) })
+      ])
+      (λ way may. by_start way.start way.label may.is_start may.leads may.is_label) in
+      let matched = after_step (IsStepWithLoopStart rules) law 1000 loop_start
+      (stepped 1000 (λ now. boardings rules one_hop now 0) (λ now. loop_starts rules one_hop q now 0) loop_start.bag loop_start.found takes_loop sets_out) in
       let attained = matched.at_source.sound on_loop (suc zero, omega arith, refl) in
       no_journey_at_40 1000 attained.way.start attained.way.rides attained.there.counts
     where
@@ -399,15 +421,9 @@ module _ {V : Type 0} (rules : Rules V) (laws : Laws rules) where
 
   pub no_change_is_wrong : OneIndexDown rules (IsStepWithoutChange rules) → ⊥
   no_change_is_wrong law =
-      let matched = after_step (IsStepWithoutChange rules) law 1000 unchanged (record {
-        between = spoken;
-        kept_first = spoken_stays;
-        kept_then = spoken_stays;
-        leaves = leaves_by_end 1000;
-        other_trips = other_trips;
-        boards = λ stop in_stops. takes_at_once stop;
-        sets_out = sets_out_once;
-      }) in
+      let matched = after_step (IsStepWithoutChange rules) law 1000 unchanged
+      (stepped 1000 (λ now. at_once_boardings rules one_hop now 0) (λ now. settings_out rules one_hop (over_one_hop 1000) now 0)
+      unchanged.bag unchanged.found takes_at_once sets_out_once) in
       let attained = (matched.at_stops 0 (omega arith)).sound at_stop (suc zero, omega arith, refl) in
       none_leaves_at_100 attained.way.walk attained.way.rides attained.there
 
@@ -420,19 +436,10 @@ module _ {V : Type 0} (rules : Rules V) (laws : Laws rules) where
 
   pub scan_answers : IsAnswer rules one_hop (over_one_hop 1000) (at_stop ∷ [])
   scan_answers =
-      let matched = after_step (IsStep rules) (one_index_down rules laws) 1000 scanned (record {
-        between = spoken;
-        kept_first = spoken_stays;
-        kept_then = spoken_stays;
-        changing = [];
-        changing_are = all_carried rules one_hop [] 0 [];
-        boarding = label ∷ [];
-        boarding_are = all_carried rules one_hop (at_stop ∷ []) 0 (label ∷ []);
-        leaves = leaves_by_end 1000;
-        other_trips = other_trips;
-        boards = λ stop in_stops. takes_loop stop;
-        sets_out = sets_out_once;
-      }) in
+      let q = over_one_hop 1000 in
+      let step = stepped 1000 (λ now. boardings rules one_hop now 0) (λ now. settings_out rules one_hop q now 0)
+      scanned.bag scanned.found takes_loop sets_out_once in
+      let matched = after_step (IsStep rules) (one_index_down rules laws) 1000 scanned (leaving_nothing_out rules one_hop q turn 0 nothing scanned step) in
       let bag : IsBag rules (at_stop ∷ []) = record { admitted = λ p is. subst (λ (x : Point V). Admits rules x.value) (one_in at_stop p is) ridden_admitted; undominated = λ i j d lt in_j. absurd (omega arith) } in
       match_is_the_answer rules laws one_hop (over_one_hop 1000) (can_scan 1000) 0 from_the_start spoken (at_stop ∷ []) matched.at_source bag (λ i j d lt in_j. absurd (omega arith))
 

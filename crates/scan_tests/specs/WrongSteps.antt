@@ -5,11 +5,11 @@ use Rattle.bags.specs.declared.point.Point.{Point}
 use Rattle.timetable.specs.declared.network.Footpath.{Footpath}
 use Rattle.timetable.specs.declared.query.Query.{Query}
 use Rattle.timetable.specs.JourneyValue.{RideValue, JourneyValue}
-use Rattle.timetable.specs.Journeys.{connection_at, start_end, start_secs, Counts}
+use Rattle.timetable.specs.Journeys.{connection_at, Counts}
 use Rattle.timetable.specs.TimetableValue.{TimetableValue}
 use Rattle.profile_scan.specs.Continuations.{Aboard}
 use Rattle.profile_scan.specs.Matching.{Spelling, Spellings, Keeps, from_to, ScanValue}
-use Rattle.profile_scan.specs.Steps.{Offer, TakesIn, leavings, boarded, Boarding, MayBoard, boardings, SettingOut, settings_out}
+use Rattle.profile_scan.specs.Steps.{Offer, TakesIn, leavings, boarded, Boarding, MayBoard, boardings, SettingOut, MaySetOutBy, settings_out}
 
 -- a step that offers something else to the bags, or to the points found
 pub record IsStepWith {V A B : Type 0} (rules : Rules V) (t : TimetableValue) (q : Query) (tags : Spellings) (i : ℕ) (to_bag : Spellings → ℕ → List (Point V) → Offer A V) (to_found : Spellings → List (Point V) → Offer B V) (old new : ScanValue V) : Type 0 where
@@ -35,17 +35,8 @@ abbrev pub LeavesSource : TimetableValue → ℕ → Option Footpath → Type 0
 LeavesSource t source None = Unit {0}
 LeavesSource t source (Some f) = Contains t.footpaths f × (f.from ≡ source)
 
-pub record MaySetOutByLoop {V : Type 0} (t : TimetableValue) (q : Query) (i : ℕ) (labels : List (Point V)) (way : SettingOut V) : Type 0 where
-  pub boards : (connection_at t i).board ≡ true
-  pub leaves : LeavesSource t q.source way.start
-  pub leads : start_end q.source way.start ≡ (connection_at t i).from
-  pub fits : start_secs way.start ≤ (connection_at t i).dep
-  pub not_early : q.from ≤ (connection_at t i).dep - start_secs way.start
-  pub not_late : (connection_at t i).dep - start_secs way.start ≤ q.until
-  pub is_label : Contains labels way.label
-
 abbrev pub loop_starts : {V : Type 0} → Rules V → TimetableValue → Query → Spellings → ℕ → List (Point V) → Offer (SettingOut V) V
-loop_starts rules t q tags i labels = record (settings_out rules t q tags i labels) { is_open = MaySetOutByLoop t q i labels }
+loop_starts rules t q tags i labels = record (settings_out rules t q tags i labels) { is_open = MaySetOutBy (LeavesSource t q.source) t q i labels }
 
 abbrev pub IsStepWithLoopStart : {V : Type 0} → Rules V → TimetableValue → Query → Spellings → ℕ → ScanValue V → ScanValue V → Type 0
 IsStepWithLoopStart rules t q tags i = IsStepWith rules t q tags i (λ now. boardings rules t now i) (λ now. loop_starts rules t q now i)

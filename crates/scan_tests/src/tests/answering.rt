@@ -76,7 +76,7 @@ fn times_of(image: &Verified, query: &Query, journey: &Journey) -> Result<Times,
 fn told_at<C: Told>(criterion: &C, found: &Found<C>, place: usize) -> (u32, ToldValue)
     requires { place < length (listed found.now) }
 {
-    let point = found.point(place);
+    let point = found.points()[place];
     (point.departure, criterion.tell(&point.value))
 }
 
@@ -138,7 +138,7 @@ fn assert_answer<S: ConnSource, C: Told>(
     let stops = source.stops();
     query.check(stops).ok().ok_or("the query can be asked")?;
     let found = profile(alloc, source, criterion, query)?;
-    assert_eq!(rt; found.len(), expected.len());
+    assert_eq!(rt; found.points().len(), expected.len());
     for (place, point) in expected.iter().enumerate() {
         assert_point(rt, alloc, image, query, criterion, &found, place, *point)?;
     }
@@ -300,10 +300,12 @@ fn both_sources_give_one_answer(rt: HostRuntime) -> Result<(), Fail> {
             .ok_or("the query can be asked")?;
         let (in_place, decoded) = laws::both_sources(alloc, &image, &ArrivalTrips, &ASKED)?;
         laws::found_answers(&in_place);
-        assert_eq!(rt; in_place.len(), 2);
-        assert_eq!(rt; decoded.len(), 2);
+        let points = in_place.points();
+        let others = decoded.points();
+        assert_eq!(rt; points.len(), 2);
+        assert_eq!(rt; others.len(), 2);
         for i in 0..2 {
-            assert_eq!(rt; in_place.point(i).departure, decoded.point(i).departure);
+            assert_eq!(rt; points[i].departure, others[i].departure);
         }
     }
     Ok(())

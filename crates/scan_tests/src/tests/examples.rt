@@ -99,6 +99,7 @@ fn some_are_plain()
 {}
 
 // nodes spell by the ones before them, and by no others
+#[tactic(auto, unfolding(profile_scan::specs::Nodes::spelled_on))]
 fn nodes_spell()
     ensures change { (spelling (Ends 2 None ∷ Boards (footpath 1 1 0) 2 0 ∷ Changes 0 1 ∷ SetsOut None 0 2 ∷ [])).journey 3 ≡ Some (by_change 0) }
     ensures on_foot { (spelling (Ends 2 None ∷ SetsOut (Some (footpath 0 1 120)) 2 0 ∷ [])).journey 1 ≡ Some (on_foot 120 2) }
