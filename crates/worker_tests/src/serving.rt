@@ -50,18 +50,21 @@ const BAD_FILES: [(&str, &[u8]); 2] = [
 const PROFILE: &str =
     "{\"do\":\"profile\",\"from\":\"A\",\"to\":\"C\",\"after\":\"07:00:00\",\"until\":\"09:00:00\",\"by\":\"10:00:00\",\"criterion\":\"arrival\"}\n";
 
-const PIN_LOAD_PROFILE: &str =
-    "{\"do\":\"pin\"}\n{\"do\":\"load\",\"feed\":\"slow\"}\n{\"do\":\"profile\",\"from\":\"A\",\"to\":\"C\",\"after\":\"07:00:00\",\"until\":\"09:00:00\",\"by\":\"10:00:00\",\"criterion\":\"arrival\"}\n";
-
-const REPLIES: &str =
-    "{\"base\":1705276800,\"ok\":\"pin\",\"version\":1}\n{\"feed\":\"slow\",\"ok\":\"load\"}\n{\"ok\":\"profile\",\"points\":[{\"arr\":\"08:20:00\",\"dep\":\"08:00:00\",\"journey\":\"ride 0 0 walk 1 1 0 ride 2 2\"}],\"version\":1,\"walk\":null}\n";
+/// What a session that orders a load asks, and its replies.
+const LOADING: (&str, &str) = (
+    "{\"do\":\"pin\"}\n{\"do\":\"load\",\"feed\":\"slow\"}\n{\"do\":\"profile\",\"from\":\"A\",\"to\":\"C\",\"after\":\"07:00:00\",\"until\":\"09:00:00\",\"by\":\"10:00:00\",\"criterion\":\"arrival\"}\n",
+    "{\"base\":1705276800,\"ok\":\"pin\",\"version\":1}\n{\"feed\":\"slow\",\"ok\":\"load\"}\n{\"ok\":\"profile\",\"points\":[{\"arr\":\"08:20:00\",\"dep\":\"08:00:00\",\"journey\":\"ride 0 0 walk 1 1 0 ride 2 2\"}],\"version\":1,\"walk\":null}\n",
+);
 
 /// What a session that waits for loads asks, and its replies.
-const WAIT: &str =
-    "{\"do\":\"pin\"}\n{\"do\":\"load\",\"feed\":\"slow\",\"wait\":true}\n{\"do\":\"pin\"}\n{\"do\":\"release\"}\n{\"do\":\"pin\"}\n{\"do\":\"load\",\"feed\":\"bad\",\"wait\":true}\n{\"do\":\"load\",\"feed\":\"none\",\"wait\":true}\n{\"do\":\"load\",\"feed\":\"slow\",\"wait\":true}\n";
+const WAITING: (&str, &str) = (
+    "{\"do\":\"pin\"}\n{\"do\":\"load\",\"feed\":\"slow\",\"wait\":true}\n{\"do\":\"pin\"}\n{\"do\":\"release\"}\n{\"do\":\"pin\"}\n{\"do\":\"load\",\"feed\":\"bad\",\"wait\":true}\n{\"do\":\"load\",\"feed\":\"none\",\"wait\":true}\n{\"do\":\"load\",\"feed\":\"slow\",\"wait\":true}\n",
+    "{\"base\":1705276800,\"ok\":\"pin\",\"version\":1}\n{\"feed\":\"slow\",\"ok\":\"load\",\"version\":2}\n{\"error\":92,\"name\":\"AlreadyPinned\"}\n{\"ok\":\"release\"}\n{\"base\":1705276800,\"ok\":\"pin\",\"version\":2}\n{\"error\":120,\"name\":\"LoadRefused\",\"refusal\":1}\n{\"error\":114,\"name\":\"UnknownFeed\"}\n{\"feed\":\"slow\",\"ok\":\"load\",\"version\":3}\n",
+);
 
-const WAITED: &str =
-    "{\"base\":1705276800,\"ok\":\"pin\",\"version\":1}\n{\"feed\":\"slow\",\"ok\":\"load\",\"version\":2}\n{\"error\":92,\"name\":\"AlreadyPinned\"}\n{\"ok\":\"release\"}\n{\"base\":1705276800,\"ok\":\"pin\",\"version\":2}\n{\"error\":120,\"name\":\"LoadRefused\",\"refusal\":1}\n{\"error\":114,\"name\":\"UnknownFeed\"}\n{\"feed\":\"slow\",\"ok\":\"load\",\"version\":3}\n";
+/// What the loader tells of the second.
+const LOADED: &str =
+    "loaded slow version 2\nload bad refused 1 MissingFile stops.txt 0\nloaded slow version 3\n";
 
 /// A writer to bytes that several threads may share, or one that nobody reads any more.
 #[derive(Drop)]
@@ -240,32 +243,63 @@ fn serve_all<R: Threads + Wait + Sync + Abort, G: Gate + Sync>(
     Ok((served, told.into_inner()))
 }
 
+/// What a visitor does with the replies.
+#[derive(Clone, Copy, PartialEq, Eq)]
+enum Manner {
+    Reads,
+    GoesAway,
+    /// It can't be opened.
+    IsShut,
+}
+
+/// Serves visitors who ask so, the last first; how their sessions ended, what was replied, and what was written to the errors.
+fn serve_asking<R: Threads + Wait + Sync + Abort, G: Gate + Sync>(
+    rt: &R,
+    alloc: Global,
+    asking: &[(&'static str, Manner)],
+    two: bool,
+    gate: &G,
+) -> Result<(Served, Vec<u8>, Vec<u8>), Fail> {
+    let bytes = Mutex::new(Vec::new(alloc));
+    let mut visitors = Vec::new(alloc);
+    for (requests, manner) in asking {
+        visitors.push(visitor_of(rt, *requests, *manner, &bytes))?;
+    }
+    let (served, told) = serve_all(rt, alloc, visitors, two, gate)?;
+    Ok((served, bytes.into_inner(), told))
+}
+
+/// A visitor whose replies go to these bytes.
+fn visitor_of<'a, R>(
+    rt: &'a R,
+    requests: &'static str,
+    manner: Manner,
+    bytes: &'a Mutex<Vec<u8>>,
+) -> Visitor<'a, R> {
+    let replies = match manner {
+        Manner::IsShut => None,
+        Manner::Reads | Manner::GoesAway => Some(Shared {
+            rt,
+            bytes,
+            is_gone: manner == Manner::GoesAway,
+        }),
+    };
+    Visitor {
+        requests: requests.as_bytes(),
+        replies,
+    }
+}
+
 /// A session pins, orders a load, and goes on with what it holds; the loader tells of the version that it published.
 #[test]
 fn a_client_is_served(rt: HostRuntime) -> Result<(), Fail> {
-    let alloc: Global = rt.alloc();
-    let replies = Mutex::new(Vec::new(alloc));
-    let visitor = Visitor {
-        requests: PIN_LOAD_PROFILE.as_bytes(),
-        replies: Some(Shared {
-            rt: &rt,
-            bytes: &replies,
-            is_gone: false,
-        }),
-    };
-    let shut = Visitor {
-        requests: b"",
-        replies: None,
-    };
-    let mut visitors = Vec::new(alloc);
-    visitors.push(visitor)?;
-    visitors.push(shut)?;
-    let (served, told) = serve_all(&rt, alloc, visitors, true, &OpenGate)?;
+    let (requests, expected) = LOADING;
+    let asking = [(requests, Manner::Reads), ("", Manner::IsShut)];
+    let (served, replies, told) = serve_asking(&rt, rt.alloc(), &asking, true, &OpenGate)?;
     assert_eq!(&rt; served.ended(), 1);
     assert_eq!(&rt; served.failed(), 1);
     assert_eq!(&rt; served.spent(), 0);
-    let replies = replies.into_inner();
-    assert!(&rt; replies.as_slice() == REPLIES.as_bytes());
+    assert!(&rt; replies.as_slice() == expected.as_bytes());
     assert!(&rt; told.as_slice() == b"loaded slow version 2\n".as_slice());
     Ok(())
 }
@@ -273,54 +307,26 @@ fn a_client_is_served(rt: HostRuntime) -> Result<(), Fail> {
 /// Whoever waits for a load is told its version, and pins it; or it is told the number with which the load was refused.
 #[test]
 fn loads_are_waited_for(rt: HostRuntime) -> Result<(), Fail> {
-    let alloc: Global = rt.alloc();
-    let replies = Mutex::new(Vec::new(alloc));
-    let mut visitors = Vec::new(alloc);
-    visitors.push(Visitor {
-        requests: WAIT.as_bytes(),
-        replies: Some(Shared {
-            rt: &rt,
-            bytes: &replies,
-            is_gone: false,
-        }),
-    })?;
-    let (served, told) = serve_all(&rt, alloc, visitors, false, &OpenGate)?;
+    let (requests, expected) = WAITING;
+    let asking = [(requests, Manner::Reads)];
+    let (served, replies, told) = serve_asking(&rt, rt.alloc(), &asking, false, &OpenGate)?;
     assert_eq!(&rt; served.ended(), 1);
-    let replies = replies.into_inner();
-    assert_eq!(&rt; str::from_utf8(&replies).unwrap_or("?"), WAITED);
-    assert_eq!(&rt;
-        str::from_utf8(&told).unwrap_or("?"),
-        "loaded slow version 2\nload bad refused 1 MissingFile stops.txt 0\nloaded slow version 3\n"
-    );
+    assert_eq!(&rt; str::from_utf8(&replies).unwrap_or("?"), expected);
+    assert_eq!(&rt; str::from_utf8(&told).unwrap_or("?"), LOADED);
     Ok(())
 }
 
 /// A client that waits and goes away: its load is carried out, its session fails, and its worker serves the next client.
 #[test]
 fn whoever_waits_may_go_away(rt: HostRuntime) -> Result<(), Fail> {
-    let alloc: Global = rt.alloc();
-    let replies = Mutex::new(Vec::new(alloc));
-    let mut visitors = Vec::new(alloc);
-    visitors.push(Visitor {
-        requests: b"{\"do\":\"pin\"}\n",
-        replies: Some(Shared {
-            rt: &rt,
-            bytes: &replies,
-            is_gone: false,
-        }),
-    })?;
-    visitors.push(Visitor {
-        requests: b"{\"do\":\"load\",\"feed\":\"slow\",\"wait\":true}\n",
-        replies: Some(Shared {
-            rt: &rt,
-            bytes: &replies,
-            is_gone: true,
-        }),
-    })?;
-    let (served, told) = serve_all(&rt, alloc, visitors, false, &OpenGate)?;
+    let wait = "{\"do\":\"load\",\"feed\":\"slow\",\"wait\":true}\n";
+    let asking = [
+        ("{\"do\":\"pin\"}\n", Manner::Reads),
+        (wait, Manner::GoesAway),
+    ];
+    let (served, replies, told) = serve_asking(&rt, rt.alloc(), &asking, false, &OpenGate)?;
     assert_eq!(&rt; served.ended(), 1);
     assert_eq!(&rt; served.failed(), 1);
-    let replies = replies.into_inner();
     assert!(&rt;
         replies.as_slice() == b"{\"base\":1705276800,\"ok\":\"pin\",\"version\":2}\n".as_slice()
     );
@@ -335,18 +341,6 @@ fn scans_meet<R: Threads + Wait + Sync + Clock + Abort>(
     two: bool,
     sleeps: u32,
 ) -> Result<bool, Fail> {
-    let replies = Mutex::new(Vec::new(alloc));
-    let mut visitors = Vec::new(alloc);
-    for _ in 0..2 {
-        visitors.push(Visitor {
-            requests: PROFILE.as_bytes(),
-            replies: Some(Shared {
-                rt,
-                bytes: &replies,
-                is_gone: false,
-            }),
-        })?;
-    }
     let gate = Meeting {
         rt,
         entered: AtomicU64::new(0),
@@ -354,7 +348,8 @@ fn scans_meet<R: Threads + Wait + Sync + Clock + Abort>(
         missed: AtomicU64::new(0),
         sleeps,
     };
-    let (served, _) = serve_all(rt, alloc, visitors, two, &gate)?;
+    let asking = [(PROFILE, Manner::Reads), (PROFILE, Manner::Reads)];
+    let (served, _, _) = serve_asking(rt, alloc, &asking, two, &gate)?;
     assert_eq!(rt; served.ended(), 2);
     Ok(gate.missed.load(Ordering::SeqCst) == 0)
 }
