@@ -1,6 +1,6 @@
 //! The answer of a query.
 
-ghost use Rattle.std.specs.Prelude.{◌≡◌, ◌<◌, ◌≤◌, ◌⊎◌, ◌↔◌, ℕ, IfOk, OnOk, Contains, AllPairs, length, slice_get, slice_index_or};
+ghost use Rattle.std.specs.Prelude.{◌≡◌, ◌<◌, ◌≤◌, ◌⊎◌, ◌↔◌, ℕ, IfOk, OnOk, Contains, AllPairs, length, slice_get, slice_index_or, Some};
 ghost use Rattle.criteria.specs.Laws.{Admits};
 ghost use Rattle.bags.specs.Bag.{criterion_of, points_of};
 ghost use Rattle.profile_scan.specs.Points.{Before};
@@ -30,7 +30,22 @@ pub struct Found<C: Criterion> {
 impl<C: Criterion> Found<C> {
     ghost use Rattle.profile_scan.specs.Found.{listed, nodes_of, walk_of_found};
 
-    /// The points: each a departure, in seconds after the base, and a value.
+    /// How many points there are.
+    pub fn len(&self) -> usize
+        ensures { result ≡ length (listed self.now) }
+    {
+        self.points.len()
+    }
+
+    /// The point at a place: its departure, in seconds after the base, and its value.
+    pub fn point(&self, i: usize) -> Point<C::V>
+        requires { i < length (listed self.now) }
+        ensures { slice_get (listed self.now) i ≡ Some result }
+    {
+        self.points[i]
+    }
+
+    /// All of them, one after the other.
     pub fn points(&self) -> &[Point<C::V>]
         ensures { result.now ≡ listed self.now }
     {

@@ -76,7 +76,7 @@ fn times_of(image: &Verified, query: &Query, journey: &Journey) -> Result<Times,
 fn told_at<C: Told>(criterion: &C, found: &Found<C>, place: usize) -> (u32, ToldValue)
     requires { place < length (listed found.now) }
 {
-    let point = found.points()[place];
+    let point = found.point(place);
     (point.departure, criterion.tell(&point.value))
 }
 
@@ -138,7 +138,7 @@ fn assert_answer<S: ConnSource, C: Told>(
     let stops = source.stops();
     query.check(stops).ok().ok_or("the query can be asked")?;
     let found = profile(alloc, source, criterion, query)?;
-    assert_eq!(rt; found.points().len(), expected.len());
+    assert_eq!(rt; found.len(), expected.len());
     for (place, point) in expected.iter().enumerate() {
         assert_point(rt, alloc, image, query, criterion, &found, place, *point)?;
     }
