@@ -2,11 +2,11 @@
 
 ghost use Rattle.std.specs.Prelude.{◌≡◌};
 
-use crate::sessions::{feed_of, image, talked};
+use crate::sessions::{Solo, feed_of, image, solo_of, talked};
 use crate::streams::{Pieces, Taker, taker_of};
-use epochs::{Loads, Named, NamedNotice, ShelfLoader, ShelfSeat, Shelves, SoloShelves};
+use epochs::{Loads, Named, NamedNotice, SoloShelves};
 use orders::{Gate, OrderFault, Ordered, Orders};
-use session::{Counted, Ended, FeedImage, OpenGate, SessionFault, serve};
+use session::{Desk, Ended, FeedImage, OpenGate, SessionFault, Streams};
 use std::alloc::{AllocError, Global};
 use std::io;
 use std::io::{Read, Write};
@@ -58,6 +58,9 @@ const SHORT: [Asked; 11] = [
     Asked::Release,
     Asked::Release,
 ];
+
+/// A line that is too long, between two pins.
+const LONG: [Asked; 3] = [Asked::Pin, Asked::Long, Asked::Pin];
 
 // The feeds that may be ordered, each once, in order.
 const FEEDS: [&str; 3] = ["slow", "fast", "slow"];
@@ -213,10 +216,10 @@ impl Script {
     }
 }
 
-fn short_script(alloc: Global) -> Result<Script, AllocError> {
+fn script_of(alloc: Global, lines: &[Asked]) -> Result<Script, AllocError> {
     let mut script = Script::new(alloc)?;
-    for asked in SHORT {
-        script.add(asked)?;
+    for asked in lines {
+        script.add(*asked)?;
     }
     Ok(script)
 }
@@ -310,7 +313,7 @@ impl Read for Halves<'_> {
 
 #[test]
 fn lines_may_be_cut_anywhere(rt: HostRuntime) -> Result<(), Fail> {
-    let script = short_script(rt.alloc())?;
+    let script = script_of(rt.alloc(), &SHORT)?;
     let bytes = script.requests.as_bytes();
     for place in 0..bytes.len() {
         let (front, back) = bytes.split_at(place);
@@ -324,10 +327,7 @@ fn lines_may_be_cut_anywhere(rt: HostRuntime) -> Result<(), Fail> {
 /// A line that is too long may be cut, too: before it, in it, where it becomes too long, and around its end.
 #[test]
 fn a_long_line_may_be_cut(rt: HostRuntime) -> Result<(), Fail> {
-    let mut script = Script::new(rt.alloc())?;
-    for asked in [Asked::Pin, Asked::Long, Asked::Pin] {
-        script.add(asked)?;
-    }
+    let script = script_of(rt.alloc(), &LONG)?;
     let bytes = script.requests.as_bytes();
     for place in [13, 14, 65_548, 65_549, 65_550, 65_551] {
         let (front, back) = bytes.split_at(bytes.len().min(place));
@@ -367,7 +367,7 @@ fn fails_at<R: Abort + Wait>(
 
 #[test]
 fn a_read_may_fail_anywhere(rt: HostRuntime) -> Result<(), Fail> {
-    let script = short_script(rt.alloc())?;
+    let script = script_of(rt.alloc(), &SHORT)?;
     for place in 0..script.requests.len() {
         fails_at(&rt, rt.alloc(), &script, place)?;
     }
@@ -377,10 +377,7 @@ fn a_read_may_fail_anywhere(rt: HostRuntime) -> Result<(), Fail> {
 /// So it may around a line that is too long: before it, in it, where it becomes too long, at its end and behind it.
 #[test]
 fn a_read_may_fail_in_a_long_line(rt: HostRuntime) -> Result<(), Fail> {
-    let mut script = Script::new(rt.alloc())?;
-    for asked in [Asked::Pin, Asked::Long, Asked::Pin] {
-        script.add(asked)?;
-    }
+    let script = script_of(rt.alloc(), &LONG)?;
     for place in [13, 14, 4_096, 65_548, 65_549, 65_550, 65_551, 65_560] {
         fails_at(&rt, rt.alloc(), &script, place)?;
     }
@@ -428,7 +425,7 @@ impl Write for Notes<'_> {
 #[test]
 fn scans_are_left_behind_their_replies(rt: HostRuntime) -> Result<(), Fail> {
     let alloc: Global = rt.alloc();
-    let script = short_script(alloc)?;
+    let script = script_of(alloc, &SHORT)?;
     let scans = Scans {
         open: AtomicU64::new(0),
     };
@@ -525,15 +522,17 @@ impl<B: Named> Orders for OrderCount<B> {
 fn counting_at<B: Named, R: Wait>(
     rt: &R,
     alloc: Global,
-    shelves: Shelves,
-    loader: ShelfLoader,
-    seat: ShelfSeat,
+    solo: Solo,
     requests: &[u8],
     taker: Taker,
 ) -> Result<(Result<Ended, SessionFault>, Taker, usize), Fail>
-    requires { (shelves ≡ B.table) × (loader.table ≡ B.table) × (seat.table ≡ B.table) }
+    requires { (solo.shelves ≡ B.table) × (solo.loader.table ≡ B.table) × (solo.seat.table ≡ B.table) }
 {
-    let (shelves, mut loader, mut seat) = SoloShelves::<B>::of(shelves, loader, seat);
+    let (shelves, mut loader, mut seat) = SoloShelves::<B>::of(
+        solo.shelves,
+        solo.loader,
+        solo.seat,
+    );
     let Ok((_, Some(notice))) = shelves.publish(rt, &mut loader, image(alloc, 121)?) else {
         return Err(AllocError.into());
     };
@@ -542,19 +541,10 @@ fn counting_at<B: Named, R: Wait>(
         notice: Some(notice),
         asked: Trace::new(),
     };
-    let mut reader = Counted::new(requests);
-    let mut writer = Counted::new(taker);
-    let ended = serve(
-        rt,
-        alloc,
-        &mut reader,
-        &mut writer,
-        &shelves,
-        &mut seat,
-        &mut orders,
-        &OpenGate,
-    );
-    Ok((ended, writer.into_inner(), orders.count))
+    let mut streams = Streams::new(requests, taker);
+    let desk = Desk::new(rt, alloc, &shelves, &OpenGate);
+    let ended = desk.serve(&mut streams, &mut seat, &mut orders);
+    Ok((ended, streams.writer.into_inner(), orders.count))
 }
 
 // The same at new shelves.
@@ -565,13 +555,8 @@ fn counting<R: Wait>(
 ) -> Result<(Result<Ended, SessionFault>, Taker, usize), Fail> {
     let mut taker = taker_of(alloc, 10_000, true);
     taker.taken.reserve(10_000)?;
-    let Ok((shelves, loader, mut seats)) = Shelves::new(alloc, image(alloc, 0)?) else {
-        return Err(AllocError.into());
-    };
-    let Some(seat) = seats.pop() else {
-        return Err("a seat".into());
-    };
-    counting_at::<Brand, _>(rt, alloc, shelves, loader, seat, requests, taker)
+    let solo = solo_of(alloc, image(alloc, 0)?)?;
+    counting_at::<Brand, _>(rt, alloc, solo, requests, taker)
 }
 
 // How many loads are told of which nobody waits for a version.

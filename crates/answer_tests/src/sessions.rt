@@ -7,7 +7,7 @@ use epochs::{Named, ShelfLoader, ShelfSeat, Shelves, SoloShelves};
 use image_layout::sample_words;
 use image_verifier::{Verified, verify};
 use orders::{Gate, OrderFault, Ordered, Orders};
-use session::{Counted, Ended, FeedImage, OpenGate, SessionFault, SoloOrders, serve};
+use session::{Desk, Ended, FeedImage, OpenGate, SessionFault, SoloOrders, Streams};
 use std::alloc::{AllocError, Global};
 use std::io;
 use std::io::{Read, Write};
@@ -167,6 +167,31 @@ pub(crate) fn feed_of(
     Ok(FeedImage { name, image })
 }
 
+/// Shelves, the loader's seat and one worker's.
+#[derive(Drop)]
+pub(crate) struct Solo {
+    pub(crate) shelves: Shelves,
+    pub(crate) loader: ShelfLoader,
+    pub(crate) seat: ShelfSeat,
+}
+
+/// New shelves with this image.
+pub(crate) fn solo_of(alloc: Global, first: Arc<Verified, Global>) -> Result<Solo, Fail>
+    ensures { IfOk result (λ solo. (solo.loader.table ≡ solo.shelves) × (solo.seat.table ≡ solo.shelves)) }
+{
+    let Ok((shelves, loader, mut seats)) = Shelves::new(alloc, first) else {
+        return Err(AllocError.into());
+    };
+    let Some(seat) = seats.pop() else {
+        return Err("a seat".into());
+    };
+    Ok(Solo {
+        shelves,
+        loader,
+        seat,
+    })
+}
+
 /// Serves a reader and a writer on new shelves: what came of it, and the writer.
 pub(crate) fn talked<R: Wait, In: Read + Drop, Out: Write + Drop, G: Gate>(
     rt: &R,
@@ -177,46 +202,28 @@ pub(crate) fn talked<R: Wait, In: Read + Drop, Out: Write + Drop, G: Gate>(
     writer: Out,
     gate: &G,
 ) -> Result<(Result<Ended, SessionFault>, Out), Fail> {
-    let Ok((shelves, loader, mut seats)) = Shelves::new(alloc, first) else {
-        return Err(AllocError.into());
-    };
-    let Some(seat) = seats.pop() else {
-        return Err("a seat".into());
-    };
-    Ok(talked_at::<Brand, _, _, _, _>(
-        rt, alloc, shelves, loader, seat, feeds, reader, writer, gate,
-    ))
+    let solo = solo_of(alloc, first)?;
+    Ok(talked_at::<Brand, _, _, _, _>(rt, alloc, solo, feeds, reader, writer, gate))
 }
 
 // The same at these shelves.
 fn talked_at<B: Named, R: Wait, In: Read + Drop, Out: Write + Drop, G: Gate>(
     rt: &R,
     alloc: Global,
-    shelves: Shelves,
-    loader: ShelfLoader,
-    seat: ShelfSeat,
+    solo: Solo,
     feeds: Vec<FeedImage>,
     reader: In,
     writer: Out,
     gate: &G,
 ) -> (Result<Ended, SessionFault>, Out)
-    requires { (shelves ≡ B.table) × (loader.table ≡ B.table) × (seat.table ≡ B.table) }
+    requires { (solo.shelves ≡ B.table) × (solo.loader.table ≡ B.table) × (solo.seat.table ≡ B.table) }
 {
-    let (shelves, loader, mut seat) = SoloShelves::<B>::of(shelves, loader, seat);
+    let (shelves, loader, mut seat) = SoloShelves::<B>::of(solo.shelves, solo.loader, solo.seat);
     let mut orders = SoloOrders::new(&shelves, loader, feeds);
-    let mut reader = Counted::new(reader);
-    let mut writer = Counted::new(writer);
-    let ended = serve(
-        rt,
-        alloc,
-        &mut reader,
-        &mut writer,
-        &shelves,
-        &mut seat,
-        &mut orders,
-        gate,
-    );
-    (ended, writer.into_inner())
+    let mut streams = Streams::new(reader, writer);
+    let desk = Desk::new(rt, alloc, &shelves, gate);
+    let ended = desk.serve(&mut streams, &mut seat, &mut orders);
+    (ended, streams.writer.into_inner())
 }
 
 #[test]
@@ -364,34 +371,23 @@ fn kept_back<N: Drop>(
 fn overtaken_at<B: Named, R: Wait>(
     rt: &R,
     alloc: Global,
-    shelves: Shelves,
-    loader: ShelfLoader,
-    seat: ShelfSeat,
+    solo: Solo,
     feeds: Vec<FeedImage>,
     fault: Option<OrderFault>,
     requests: &[u8],
 ) -> Taker
-    requires { (shelves ≡ B.table) × (loader.table ≡ B.table) × (seat.table ≡ B.table) }
+    requires { (solo.shelves ≡ B.table) × (solo.loader.table ≡ B.table) × (solo.seat.table ≡ B.table) }
 {
-    let (shelves, loader, mut seat) = SoloShelves::<B>::of(shelves, loader, seat);
+    let (shelves, loader, mut seat) = SoloShelves::<B>::of(solo.shelves, solo.loader, solo.seat);
     let mut orders = Overtaken {
         orders: SoloOrders::new(&shelves, loader, feeds),
         fault,
         asked: Trace::new(),
     };
-    let mut reader = Counted::new(requests);
-    let mut writer = Counted::new(taker_of(alloc, 10_000, true));
-    let _ = serve(
-        rt,
-        alloc,
-        &mut reader,
-        &mut writer,
-        &shelves,
-        &mut seat,
-        &mut orders,
-        &OpenGate,
-    );
-    writer.into_inner()
+    let mut streams = Streams::new(requests, taker_of(alloc, 10_000, true));
+    let desk = Desk::new(rt, alloc, &shelves, &OpenGate);
+    let _ = desk.serve(&mut streams, &mut seat, &mut orders);
+    streams.writer.into_inner()
 }
 
 // Waits for a load of the feed, of which there are so many, and pins: what is replied.
@@ -406,13 +402,8 @@ fn waited_and_pinned<R: Wait>(
         feeds.push(feed_of(alloc, "slow", image(alloc, 121)?)?)?;
     }
     let bytes = lines_of(alloc, &[WAIT, PIN])?;
-    let Ok((shelves, loader, mut seats)) = Shelves::new(alloc, image(alloc, 0)?) else {
-        return Err(AllocError.into());
-    };
-    let Some(seat) = seats.pop() else {
-        return Err("a seat".into());
-    };
-    let taker = overtaken_at::<Brand, _>(rt, alloc, shelves, loader, seat, feeds, fault, &bytes);
+    let solo = solo_of(alloc, image(alloc, 0)?)?;
+    let taker = overtaken_at::<Brand, _>(rt, alloc, solo, feeds, fault, &bytes);
     Ok(taker.taken)
 }
 
