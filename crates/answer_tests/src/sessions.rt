@@ -7,7 +7,9 @@ use epochs::{Named, ShelfLoader, ShelfSeat, Shelves, SoloShelves};
 use image_layout::sample_words;
 use image_verifier::{Verified, verify};
 use orders::{Gate, OrderFault, Ordered, Orders};
-use session::{Desk, Ended, FeedImage, OpenGate, SessionFault, SoloOrders, Streams};
+use session::{
+    Counted, Desk, Ended, FeedImage, OpenGate, SessionFault, SoloOrders, Streams, serve,
+};
 use std::alloc::{AllocError, Global};
 use std::io;
 use std::io::{Read, Write};
@@ -384,10 +386,19 @@ fn overtaken_at<B: Named, R: Wait>(
         fault,
         asked: Trace::new(),
     };
-    let mut streams = Streams::new(requests, taker_of(alloc, 10_000, true));
-    let desk = Desk::new(rt, alloc, &shelves, &OpenGate);
-    let _ = desk.serve(&mut streams, &mut seat, &mut orders);
-    streams.writer.into_inner()
+    let mut reader = Counted::new(requests);
+    let mut writer = Counted::new(taker_of(alloc, 10_000, true));
+    let _ = serve(
+        rt,
+        alloc,
+        &mut reader,
+        &mut writer,
+        &shelves,
+        &mut seat,
+        &mut orders,
+        &OpenGate,
+    );
+    writer.into_inner()
 }
 
 // Waits for a load of the feed, of which there are so many, and pins: what is replied.
