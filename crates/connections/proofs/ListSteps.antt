@@ -15,7 +15,7 @@ use Rattle.gtfs_tables.specs.Joined.{rows_of}
 use Rattle.gtfs_tables.specs.declared.tables.Feed.{Feed}
 use Rattle.gtfs_tables.specs.declared.tables.Trip.{Trip}
 use Rattle.service_days.specs.declared.zone.Zone.{Zone}
-use Rattle.service_days.proofs.StartFacts.{same_start}
+use Rattle.service_days.proofs.StartLemmas.{same_start}
 use Rattle.timetable.specs.declared.network.Connection.{Connection}
 use Rattle.connections.specs.Building.{AddsRun, AreByRun, AreRunRows, IsEarlier}
 use Rattle.connections.specs.Hops.{AreInside, IsClock, IsHop, shift_of}

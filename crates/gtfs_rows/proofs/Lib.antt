@@ -1,9 +1,9 @@
-pub mod CellFacts
-pub mod DayKeyFacts
-pub mod FaultFacts
-pub mod KeyFacts
+pub mod CellLemmas
+pub mod DayKeyLemmas
+pub mod FaultLemmas
+pub mod KeyLemmas
 pub mod OneFault
-pub mod SeenFacts
-pub mod SourceFacts
-pub mod TextFacts
-pub mod ValueFacts
+pub mod SeenLemmas
+pub mod SourceLemmas
+pub mod TextLemmas
+pub mod ValueLemmas

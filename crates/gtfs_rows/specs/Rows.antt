@@ -63,6 +63,7 @@ AreKept key places records keys = map string_bytes keys ≡ texts_kept key place
 
 -- ---- agency.txt: the time zone, which all records share
 
+-- the row has the time zone of the record
 pub record SpellsAgency (places : Places) (r : Record) (row : AgencyRow) : Type 0 where
   pub zone : string_bytes row.zone ≡ value places 0 r
 
@@ -73,6 +74,7 @@ abbrev pub location_of : Option ℕ → Location
 location_of None = locations.Stop
 location_of (Some n) = if n == 1 then locations.Station else (if n == 2 then locations.Entrance else (if n == 3 then locations.Node else (if n == 4 then locations.BoardingArea else locations.Stop)))
 
+-- the row has the id of the record, what it stands for, and its parent_station, blank where there is none
 pub record SpellsStop (places : Places) (r : Record) (row : StopRow) : Type 0 where
   pub id : string_bytes row.id ≡ value places 0 r
   pub location : row.location ≡ location_of (number_of (value places 1 r))
@@ -80,6 +82,7 @@ pub record SpellsStop (places : Places) (r : Record) (row : StopRow) : Type 0 wh
 
 -- ---- trips.txt: service_id, trip_id
 
+-- the row has the record's ids of the service and of the trip
 pub record SpellsTrip (places : Places) (r : Record) (row : TripRow) : Type 0 where
   pub service : string_bytes row.service ≡ value places 0 r
   pub id : string_bytes row.id ≡ value places 1 r
@@ -91,10 +94,12 @@ abbrev pub given_time : List ℕ → Option ℕ
 given_time [] = None
 given_time (b ∷ rest) = time_of (b ∷ rest)
 
+-- a text that is not blank is no time
 abbrev pub time_fault : List ℕ → Option FaultKind
 time_fault [] = None
 time_fault (b ∷ rest) = fault_unless (time_of (b ∷ rest)) kinds.BadTime
 
+-- what is wrong with a record: its arrival_time, then its departure_time, then its stop_sequence
 abbrev pub stop_time_fault : Places → Record → Option FaultKind
 stop_time_fault places r =
     or_fault (time_fault (value places 1 r)) (or_fault (time_fault (value places 2 r)) (fault_unless (number_of (value places 4 r)) kinds.BadNumber))
@@ -139,6 +144,7 @@ pub record AreStopTimes (places : Places) (records : List Record) (t : StopTimes
 
 -- ---- calendar.txt: service_id, monday to sunday, start_date, end_date
 
+-- whether a service runs, by a number that is 0 or 1; none for any other
 abbrev pub flag_of : Option ℕ → Option Bool
 flag_of None = None
 flag_of (Some n) = if n == 0 then Some false else (if n == 1 then Some true else None)
@@ -153,14 +159,17 @@ all_some (Some x ∷ rest) = option_map (λ xs. x ∷ xs) (all_some rest)
 abbrev pub weekday : Places → Record → ℕ → Option Bool
 weekday places r k = flag_of (number_of (value places k r))
 
+-- whether it runs on each weekday, Monday first, where all seven columns tell it
 abbrev pub weekdays_of : Places → Record → Option (List Bool)
 weekdays_of places r = all_some (map (weekday places r) (1 ∷ 2 ∷ 3 ∷ 4 ∷ 5 ∷ 6 ∷ 7 ∷ []))
 
+-- what is wrong with a record: its weekdays, then its start_date, then its end_date
 abbrev pub calendar_fault : Places → Record → Option FaultKind
 calendar_fault places r =
     or_fault (fault_unless (weekdays_of places r) kinds.BadNumber)
     (or_fault (fault_unless (day_of (value places 8 r)) kinds.BadDate) (fault_unless (day_of (value places 9 r)) kinds.BadDate))
 
+-- the row has the id of the service, the weekdays on which it runs, and its first and its last date
 pub record SpellsCalendar (places : Places) (r : Record) (row : CalendarRow) : Type 0 where
   pub service : string_bytes row.service ≡ value places 0 r
   pub weekdays : weekdays_of places r ≡ Some row.weekdays
@@ -169,33 +178,34 @@ pub record SpellsCalendar (places : Places) (r : Record) (row : CalendarRow) : T
 
 -- ---- calendar_dates.txt: service_id, date, exception_type
 
+-- what an exception_type says: 1 that a day is added, 2 that one is removed; none for any other
 abbrev pub exception_of : Option ℕ → Option Exception
 exception_of None = None
 exception_of (Some n) = if n == 1 then Some exceptions.Added else (if n == 2 then Some exceptions.Removed else None)
 
+-- what is wrong with a record: its date, then its exception_type
 abbrev pub calendar_date_fault : Places → Record → Option FaultKind
 calendar_date_fault places r =
     or_fault (fault_unless (day_of (value places 1 r)) kinds.BadDate) (fault_unless (exception_of (number_of (value places 2 r))) kinds.BadNumber)
 
+-- the row has the id of the service, the date, and whether that is added or removed
 pub record SpellsCalendarDate (places : Places) (r : Record) (row : CalendarDateRow) : Type 0 where
   pub service : string_bytes row.service ≡ value places 0 r
   pub day : day_of (value places 1 r) ≡ Some row.day
   pub exception : exception_of (number_of (value places 2 r)) ≡ Some row.exception
 
--- the service_id with the date, whose eight digits end the key, so that no two pairs have one key
-abbrev pub service_day_key : Places → Record → Option (List ℕ)
-service_day_key places r = Some (value places 0 r ++ value places 1 r)
-
 -- ---- transfers.txt: from_stop_id, to_stop_id, transfer_type, min_transfer_time, and the routes and trips
 
+-- a text has no bytes
 abbrev pub is_blank : List ℕ → Bool
 is_blank text = length text == 0
 
--- a blank transfer_type is 0, and one that isn't 0 to 3 is skipped
+-- what a transfer_type of this number says; one that isn't 0 to 3, or is no number, is skipped
 abbrev pub transfer_by : Option ℕ → TransferKind
 transfer_by None = transfers.Skipped
 transfer_by (Some n) = if n == 0 then transfers.Recommended else (if n == 1 then transfers.Timed else (if n == 2 then transfers.Minimum else (if n == 3 then transfers.Impossible else transfers.Skipped)))
 
+-- what a transfer_type says; a blank one counts as 0
 abbrev pub typed_transfer : List ℕ → TransferKind
 typed_transfer text = if is_blank text then transfers.Recommended else transfer_by (number_of text)
 
@@ -205,6 +215,7 @@ transfer_of places r =
     if is_blank (value places 4 r) && is_blank (value places 5 r) && is_blank (value places 6 r) && is_blank (value places 7 r)
     then typed_transfer (value places 2 r) else transfers.Skipped
 
+-- the row has the ids of both ends, what the record says, and its min_transfer_time, where that is a number
 pub record SpellsTransfer (places : Places) (r : Record) (row : TransferRow) : Type 0 where
   pub from : string_bytes row.from ≡ value places 0 r
   pub to : string_bytes row.to ≡ value places 1 r
@@ -218,11 +229,13 @@ abbrev pub headway_fault : Option ℕ → Option FaultKind
 headway_fault None = Some kinds.BadNumber
 headway_fault (Some n) = fault_if (n == 0) kinds.BadHeadway
 
+-- what is wrong with a record: its start_time, then its end_time, then its headway_secs
 abbrev pub frequency_row_fault : Places → Record → Option FaultKind
 frequency_row_fault places r =
     or_fault (fault_unless (time_of (value places 1 r)) kinds.BadTime)
     (or_fault (fault_unless (time_of (value places 2 r)) kinds.BadTime) (headway_fault (number_of (value places 3 r))))
 
+-- the row has the id of the trip, the start and the end in seconds, and the seconds from a start to the next
 pub record SpellsFrequency (places : Places) (r : Record) (row : FrequencyRow) : Type 0 where
   pub trip : string_bytes row.trip ≡ value places 0 r
   pub start : time_of (value places 1 r) ≡ Some row.start

@@ -63,6 +63,7 @@ shape_of table = record { names = columns_of table; required = required_of table
 abbrev pub agency_shape : Shape
 agency_shape = shape_of tables.Agency
 
+-- the bytes of agency.txt have no fault, and their records spell these rows, in order
 abbrev pub HoldsAgencies : List ℕ → List AgencyRow → Type 0
 HoldsAgencies = HoldsRows agency_shape SpellsAgency
 
@@ -70,6 +71,7 @@ HoldsAgencies = HoldsRows agency_shape SpellsAgency
 abbrev pub stops_shape : Shape
 stops_shape = shape_of tables.Stops
 
+-- the bytes of stops.txt have no fault, and their records spell these rows, in order
 abbrev pub HoldsStops : List ℕ → List StopRow → Type 0
 HoldsStops = HoldsRows stops_shape SpellsStop
 
@@ -77,6 +79,7 @@ HoldsStops = HoldsRows stops_shape SpellsStop
 abbrev pub trips_shape : Shape
 trips_shape = shape_of tables.Trips
 
+-- the bytes of trips.txt have no fault, and their records spell these rows, in order
 abbrev pub HoldsTrips : List ℕ → List TripRow → Type 0
 HoldsTrips = HoldsRows trips_shape SpellsTrip
 
@@ -84,6 +87,7 @@ HoldsTrips = HoldsRows trips_shape SpellsTrip
 abbrev pub stop_times_shape : Shape
 stop_times_shape = shape_of tables.StopTimes
 
+-- the bytes of stop_times.txt have no fault, and their records spell these rows, in order, with the ids that they name
 abbrev pub HoldsStopTimes : List ℕ → StopTimes → Type 0
 HoldsStopTimes = HoldsFile stop_times_shape AreStopTimes
 
@@ -91,6 +95,7 @@ HoldsStopTimes = HoldsFile stop_times_shape AreStopTimes
 abbrev pub calendar_shape : Shape
 calendar_shape = shape_of tables.Calendar
 
+-- the bytes of calendar.txt have no fault, and their records spell these rows, in order
 abbrev pub HoldsCalendar : List ℕ → List CalendarRow → Type 0
 HoldsCalendar = HoldsRows calendar_shape SpellsCalendar
 
@@ -98,6 +103,7 @@ HoldsCalendar = HoldsRows calendar_shape SpellsCalendar
 abbrev pub calendar_dates_shape : Shape
 calendar_dates_shape = shape_of tables.CalendarDates
 
+-- the bytes of calendar_dates.txt have no fault, and their records spell these rows, in order
 abbrev pub HoldsCalendarDates : List ℕ → List CalendarDateRow → Type 0
 HoldsCalendarDates = HoldsRows calendar_dates_shape SpellsCalendarDate
 
@@ -105,6 +111,7 @@ HoldsCalendarDates = HoldsRows calendar_dates_shape SpellsCalendarDate
 abbrev pub transfers_shape : Shape
 transfers_shape = shape_of tables.Transfers
 
+-- the bytes of transfers.txt have no fault, and their records spell these rows, in order
 abbrev pub HoldsTransfers : List ℕ → List TransferRow → Type 0
 HoldsTransfers = HoldsRows transfers_shape SpellsTransfer
 
@@ -112,9 +119,11 @@ HoldsTransfers = HoldsRows transfers_shape SpellsTransfer
 abbrev pub frequencies_shape : Shape
 frequencies_shape = shape_of tables.Frequencies
 
+-- the bytes of frequencies.txt have no fault, and their records spell these rows, in order
 abbrev pub HoldsFrequencies : List ℕ → List FrequencyRow → Type 0
 HoldsFrequencies = HoldsRows frequencies_shape SpellsFrequency
 
+-- what a row stands for is a stop
 abbrev pub is_stop_at : Location → Bool
 is_stop_at locations.Stop = true
 is_stop_at _ = false
@@ -133,15 +142,18 @@ IsFaultWithin {R} s Holds count limit bytes n kind =
     IsFaultOf s bytes n kind
     ⊎ ((n ≡ 0) × (kind ≡ kinds.TooMany) × ((rows : List R) × Holds bytes rows × (limit < count rows)))
 
--- the stops and the trips are limited
+-- of the rows of stops.txt those are counted that stand for stops
 abbrev pub HoldsStopsWithin : ℕ → List ℕ → List StopRow → Type 0
 HoldsStopsWithin = HoldsWithin HoldsStops (count_by is_stop)
 
+-- all rows of trips.txt are counted
 abbrev pub HoldsTripsWithin : ℕ → List ℕ → List TripRow → Type 0
 HoldsTripsWithin = HoldsWithin HoldsTrips length
 
+-- the first fault of stops.txt, or more stops than there may be
 abbrev pub IsStopsFault : ℕ → List ℕ → ℕ → FaultKind → Type 0
 IsStopsFault = IsFaultWithin stops_shape HoldsStops (count_by is_stop)
 
+-- the first fault of trips.txt, or more trips than there may be
 abbrev pub IsTripsFault : ℕ → List ℕ → ℕ → FaultKind → Type 0
 IsTripsFault = IsFaultWithin trips_shape HoldsTrips length

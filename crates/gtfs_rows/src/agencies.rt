@@ -5,7 +5,7 @@ ghost use Rattle.gtfs_rows.specs.declared.fault.Table.TheVariants as files;
 
 use crate::cells::Cells;
 use crate::fault::{FaultKind, Table};
-use crate::keyed::Row;
+use crate::keyed::{Row, UnlimitedRow};
 use crate::rows::AgencyRow;
 use std::alloc::Global;
 
@@ -20,3 +20,5 @@ impl Row for AgencyRow {
         cells.text(alloc, 0).map(|zone| AgencyRow { zone })
     }
 }
+
+impl UnlimitedRow for AgencyRow {}

@@ -8,7 +8,7 @@ ghost use Rattle.gtfs_rows.specs.declared.fault.Table.TheVariants as files;
 
 use crate::cells::Cells;
 use crate::fault::{FaultKind, Table};
-use crate::keyed::Row;
+use crate::keyed::{Row, UnlimitedRow};
 use crate::rows::{FrequencyRow, TransferKind, TransferRow};
 use crate::values::number;
 use std::alloc::Global;
@@ -63,6 +63,8 @@ impl Row for TransferRow {
     }
 }
 
+impl UnlimitedRow for TransferRow {}
+
 // The headway that a text tells.
 fn headway(text: &[u8]) -> Result<u32, FaultKind>
     ensures fine { IfOk result (λ n. headway_fault (number_of text.now) ≡ None) }
@@ -96,3 +98,5 @@ impl Row for FrequencyRow {
         })
     }
 }
+
+impl UnlimitedRow for FrequencyRow {}

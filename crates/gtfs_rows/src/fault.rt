@@ -20,26 +20,46 @@ pub enum Table {
     Frequencies,
 }
 
-/// What is wrong with a table.
+/// What is wrong with a table. Columns are named as in the GTFS Schedule Reference.
 #[derive(Clone, Copy, Debug, PartialEq, Eq)]
 pub enum FaultKind {
+    /// A file that a feed must have is missing; of `calendar.txt` and `calendar_dates.txt` both are.
     MissingFile = 1,
+    /// The file lacks a required column, or has no header at all.
     MissingColumn = 2,
+    /// The file isn't UTF-8.
     BadUtf8 = 3,
+    /// The record has another number of fields than the header.
     RowLength = 4,
+    /// A field is no time: `H:MM:SS` or `HH:MM:SS`, minutes and seconds below 60. In `stop_times.txt` it may be blank.
     BadTime = 5,
+    /// A field is no date: `YYYYMMDD`, of the years 1 to 9999.
     BadDate = 6,
+    /// A `stop_sequence`, a weekday, an `exception_type` or a `headway_secs` is no number of nine digits at most, or none that is
+    /// allowed there.
     BadNumber = 7,
+    /// An earlier record has the id; of `calendar_dates.txt` the same service on the same date.
     IdTwice = 8,
+    /// No trip or place has the id that the record names, or the place that a `parent_station` names is no station.
     UnknownId = 9,
+    /// The `agency_timezone` differs from that of the first agency.
     ZonesDiffer = 10,
+    /// Two rows of a trip have the same `stop_sequence`.
     SequenceTwice = 11,
+    /// The first or the last row of a trip has no time.
     EndWithoutTime = 12,
+    /// A trip arrives at a stop before its last departure ahead of it, or departs before it arrives there.
     TimeGoesBack = 13,
+    /// A trip arrives no later than it departed from the stop before, its blank rows having their times too. It is a fault only
+    /// where tables are joined strictly.
     HopWithoutDuration = 14,
+    /// The place that the record names is no stop; an end of a transfer may be a station too.
     NotAStop = 15,
+    /// There are more of something than there may be, as stops in `stops.txt` or trips in `trips.txt`.
     TooMany = 16,
+    /// There was no memory.
     OutOfMemory = 17,
+    /// The `headway_secs` is 0.
     BadHeadway = 18,
 }
 

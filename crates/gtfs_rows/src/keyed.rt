@@ -116,7 +116,27 @@ impl<R: Row> TableRows for Keyed<R> {
     }
 }
 
-impl<R: Row> TableFile for Vec<R> {
+// The rows of the bytes of a file, however many there are.
+pub(crate) fn every_row<R: Row>(
+    alloc: Global,
+    hash: IdHash,
+    bytes: &[u8],
+) -> Result<Vec<R>, TableFault>
+    ensures ok { IfOk result (λ rows. HoldsRows (shape_of R.TABLE) R.spells bytes.now rows.items) }
+    ensures file { IfErr result (λ fault. fault.table ≡ R.TABLE) }
+    ensures err { IfErr result (λ fault. fault.kind ≢ FaultKind.OutOfMemory → IsFaultOf (shape_of R.TABLE) bytes.now fault.row fault.kind) }
+{
+    let keyed: Keyed<R> = Keyed::new(alloc, hash);
+    match read_table(keyed, alloc, bytes) {
+        Ok(keyed) => Ok(keyed.rows),
+        Err(fault) => Err(fault),
+    }
+}
+
+/// A row of a table of which there may be any number.
+pub trait UnlimitedRow: Row {}
+
+impl<R: UnlimitedRow> TableFile for Vec<R> {
     ghost TABLE = { R.TABLE };
 
     ghost holds = { λ bytes rows. HoldsRows (shape_of R.TABLE) R.spells bytes rows.items };
@@ -126,10 +146,6 @@ impl<R: Row> TableFile for Vec<R> {
     const TABLE: Table = R::TABLE;
 
     fn read(alloc: Global, hash: IdHash, bytes: &[u8]) -> Result<Vec<R>, TableFault> {
-        let keyed: Keyed<R> = Keyed::new(alloc, hash);
-        match read_table(keyed, alloc, bytes) {
-            Ok(keyed) => Ok(keyed.rows),
-            Err(fault) => Err(fault),
-        }
+        every_row(alloc, hash, bytes)
     }
 }

@@ -4,10 +4,11 @@ ghost use Rattle.std.specs.Prelude.{◌≡◌, ℕ, List, Some};
 ghost use Rattle.gtfs_rows.specs.Cells.{Places};
 ghost use Rattle.gtfs_rows.specs.Source.{Record};
 ghost use Rattle.gtfs_rows.specs.Faults.{IsFaultOf, Shape};
-ghost use Rattle.gtfs_rows.specs.Tables.{HoldsAgencies, HoldsCalendar, HoldsCalendarDates, HoldsFrequencies, HoldsStopTimes, HoldsStops, HoldsTransfers, HoldsTrips, agency_shape, calendar_dates_shape, calendar_shape, frequencies_shape, stop_times_shape, stops_shape, transfers_shape, trips_shape};
-ghost use Rattle.gtfs_rows.specs.Rows.{service_day_key, value};
+ghost use Rattle.gtfs_rows.specs.Tables.{HoldsAgencies, HoldsCalendar, HoldsCalendarDates, HoldsFrequencies, HoldsStopTimes, HoldsStops, HoldsTransfers, HoldsTrips, agency_shape, calendar_dates_shape, calendar_shape, frequencies_shape, key_of, stop_times_shape, stops_shape, transfers_shape, trips_shape};
+ghost use Rattle.gtfs_rows.specs.Rows.{key_by, value};
 ghost use Rattle.gtfs_rows.specs.Values.{day_of};
 ghost use Rattle.gtfs_rows.specs.declared.fault.FaultKind.{FaultKind as Kind};
+ghost use Rattle.gtfs_rows.specs.declared.fault.Table.TheVariants as files;
 ghost use Rattle.gtfs_rows.specs.declared.values.Day.{Day as Date};
 ghost use Rattle.gtfs_rows.specs.declared.rows.AgencyRow.{AgencyRow};
 ghost use Rattle.gtfs_rows.specs.declared.rows.CalendarDateRow.{CalendarDateRow};
@@ -45,6 +46,6 @@ pub fn held_without_fault()
 
 /// Two records of calendar_dates.txt with one key have one service_id and one date.
 pub fn service_day_keys()
-    ensures { (places : Places) (r s : Record) (d e : Date) → day_of (value places 1 r) ≡ Some d → day_of (value places 1 s) ≡ Some e → service_day_key places r ≡ service_day_key places s
+    ensures { (places : Places) (r s : Record) (d e : Date) → day_of (value places 1 r) ≡ Some d → day_of (value places 1 s) ≡ Some e → key_by (key_of files.CalendarDates) places r ≡ key_by (key_of files.CalendarDates) places s
         → (value places 0 r ≡ value places 0 s) × (d ≡ e) }
 {}

@@ -9,7 +9,7 @@ ghost use Rattle.gtfs_rows.specs.declared.fault.Table.TheVariants as files;
 
 use crate::cells::Cells;
 use crate::fault::{FaultKind, Table};
-use crate::keyed::Row;
+use crate::keyed::{Row, UnlimitedRow};
 use crate::rows::{CalendarDateRow, CalendarRow, Exception};
 use crate::values::{Day, number};
 use std::alloc::Global;
@@ -82,6 +82,8 @@ impl Row for CalendarRow {
     }
 }
 
+impl UnlimitedRow for CalendarRow {}
+
 impl Row for CalendarDateRow {
     ghost TABLE = { files.CalendarDates };
 
@@ -102,3 +104,5 @@ impl Row for CalendarDateRow {
         })
     }
 }
+
+impl UnlimitedRow for CalendarDateRow {}

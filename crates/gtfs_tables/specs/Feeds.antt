@@ -48,6 +48,7 @@ linked_by trips stops order rows =
 
 -- ---- the faults, in the order in which they are judged
 
+-- what is wrong with the ids of a row of stop_times.txt
 abbrev pub stop_time_fault : (List ℕ → Option Named) → (List ℕ → Option ℕ) → Tables → StopTimeRow → Option FaultKind
 stop_time_fault named placed t row = linked_fault (trips_by placed t) (stops_by named t) (is_flex_id t.stop_times.rows.items row.trip) row
 
@@ -62,6 +63,7 @@ naming_fault named placed t =
 abbrev pub told_of : List Turn → ℕ × FaultKind → TableFault
 told_of turns wrong = record { table = tables.StopTimes; row = slice_index_or (map (λ turn. turn.number) turns) wrong.0 0; kind = wrong.1 }
 
+-- the first fault of the rows of the trip at a place
 abbrev pub trip_fault : Bool → List Turn → List StopTimeRow → ℕ → Option TableFault
 trip_fault strict turns rows t = option_map (told_of (of_trip turns t turns)) (first_wrong strict (of_trip turns t rows))
 
@@ -74,6 +76,7 @@ first_fault named placed strict t turns =
 
 -- ---- the feed
 
+-- a stop, with its station where it has one
 abbrev pub feed_stop : (List ℕ → Option Named) → StopRow → Stop
 feed_stop named row = record { id = row.id; station = station_of named row }
 
@@ -92,6 +95,8 @@ abbrev pub feed_trips : List Turn → List StopTimeRow → (ℕ → Bool) → �
 feed_trips turns rows repeats t [] = []
 feed_trips turns rows repeats t (row ∷ rest) = feed_trip turns rows repeats t row ∷ feed_trips turns rows repeats (t + 1) rest
 
+-- the feed of tables whose ids name these: its stops, trips, rows in order, frequencies and transfers, how many of these were skipped,
+-- and the two calendars as they are
 pub record IsFeed (named : List ℕ → Option Named) (placed : List ℕ → Option ℕ) (t : Tables) (turns : List Turn) (feed : Feed) : Type 0 where
   pub stops : feed.stops.items ≡ map (feed_stop named) (filter is_stop t.stops.items)
   pub trips : feed.trips.items ≡ feed_trips turns (rows_by named placed t turns) (is_repeated placed t.frequencies.items) 0 t.trips.items

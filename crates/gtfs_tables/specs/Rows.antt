@@ -26,18 +26,22 @@ use Rattle.gtfs_tables.specs.declared.tables.Transfer.{Transfer}
 
 -- ---- stops.txt: the parent of a stop, where it has one, is a station
 
+-- the row stands for a stop and names a parent
 abbrev pub has_parent : StopRow → Bool
 has_parent row = is_stop row && not (is_blank (string_bytes row.parent))
 
+-- the place of the station, where an id names one
 abbrev pub station_place : Option Named → Option ℕ
 station_place (Some (names.Station place)) = Some place
 station_place (Some (names.Stop number)) = None
 station_place (Some names.Elsewhere) = None
 station_place None = None
 
+-- the place of a stop's station, where it has one
 abbrev pub station_of : (List ℕ → Option Named) → StopRow → Option ℕ
 station_of named row = if has_parent row then station_place (named (string_bytes row.parent)) else None
 
+-- the parent of a stop is named, and is no station
 abbrev pub parent_fault : (List ℕ → Option Named) → StopRow → Option FaultKind
 parent_fault named row = if has_parent row then fault_unless (station_place (named (string_bytes row.parent))) kinds.UnknownId else None
 
@@ -51,18 +55,21 @@ is_flex_id rows id = list_any (λ row. is_none row.stop && (row.trip == id)) row
 abbrev pub stop_of : List (Option Named) → StopTimeRow → Option Named
 stop_of stops row = option_and_then (named_at stops) row.stop
 
+-- what is wrong with a stop_id that names this, or nothing: it is unknown, or names no stop
 abbrev pub stop_fault : Option Named → Option FaultKind
 stop_fault None = Some kinds.UnknownId
 stop_fault (Some (names.Stop number)) = None
 stop_fault (Some (names.Station place)) = Some kinds.NotAStop
 stop_fault (Some names.Elsewhere) = Some kinds.NotAStop
 
+-- the number of the stop that is named, where it is one
 abbrev pub stop_number : Option Named → Option ℕ
 stop_number (Some (names.Stop number)) = Some number
 stop_number (Some (names.Station place)) = None
 stop_number (Some names.Elsewhere) = None
 stop_number None = None
 
+-- what is wrong with a row: its trip is unknown, else what is wrong with its stop, unless the trip is a flex trip
 abbrev pub linked_fault : List (Option ℕ) → List (Option Named) → Bool → StopTimeRow → Option FaultKind
 linked_fault trips stops flex row =
     or_fault (fault_unless (named_at trips row.trip) kinds.UnknownId) (if flex then None else stop_fault (stop_of stops row))
@@ -74,6 +81,7 @@ linked_row trips stops flex row =
 
 -- ---- frequencies.txt: the trip is known
 
+-- the trip of a row is unknown
 abbrev pub frequency_fault : (List ℕ → Option ℕ) → FrequencyRow → Option FaultKind
 frequency_fault named row = fault_unless (named (string_bytes row.trip)) kinds.UnknownId
 
@@ -87,6 +95,7 @@ is_repeated named rows t = list_any (λ row. is_place (named (string_bytes row.t
 
 -- ---- transfers.txt: both ends are known, and are stops or stations, unless the row is skipped
 
+-- every kind but the skipped
 abbrev pub is_kept_kind : TransferKind → Bool
 is_kept_kind transfers.Skipped = false
 is_kept_kind transfers.Recommended = true
@@ -94,19 +103,23 @@ is_kept_kind transfers.Timed = true
 is_kept_kind transfers.Minimum = true
 is_kept_kind transfers.Impossible = true
 
+-- a row isn't skipped
 abbrev pub is_kept : TransferRow → Bool
 is_kept row = is_kept_kind row.kind
 
+-- an end is known, and is neither a stop nor a station
 abbrev pub end_fault : Option Named → Option FaultKind
 end_fault (Some names.Elsewhere) = Some kinds.NotAStop
 end_fault (Some (names.Stop number)) = None
 end_fault (Some (names.Station place)) = None
 end_fault None = None
 
+-- what is wrong with two ends: the first is unknown, the second is; the first is neither stop nor station, the second is neither
 abbrev pub ends_fault : Option Named → Option Named → Option FaultKind
 ends_fault from to =
     or_fault (fault_unless from kinds.UnknownId) (or_fault (fault_unless to kinds.UnknownId) (or_fault (end_fault from) (end_fault to)))
 
+-- what is wrong with a row, unless it is skipped
 abbrev pub transfer_fault : (List ℕ → Option Named) → TransferRow → Option FaultKind
 transfer_fault named row = if is_kept row then ends_fault (named (string_bytes row.from)) (named (string_bytes row.to)) else None
 
@@ -115,6 +128,7 @@ abbrev pub named_by : Place → Named
 named_by (places.Stop number) = names.Stop number
 named_by (places.Station place) = names.Station place
 
+-- the transfer of a row: each id replaced by the stop or the station that it names
 pub record IsTransferOf (named : List ℕ → Option Named) (row : TransferRow) (transfer : Transfer) : Type 0 where
   pub from : named (string_bytes row.from) ≡ Some (named_by transfer.from)
   pub to : named (string_bytes row.to) ≡ Some (named_by transfer.to)

@@ -11,7 +11,7 @@ mod names;
 mod order;
 pub mod outcome;
 pub mod spread;
-pub mod tables;
+mod tables;
 mod times;
 
 pub use gtfs_rows::{

@@ -70,7 +70,7 @@ fn wrong_spread(
 }
 
 // The first row with the sequence of the row before.
-#[tactic(auto, using(crate::proofs::FirstFacts::searches))]
+#[tactic(auto, using(crate::proofs::FirstLemmas::searches))]
 fn sequence_twice(rows: &[StopTimeRow]) -> Option<usize>
     ensures { result ≡ first_place (is_twice rows.now) (length rows.now) }
 {
@@ -106,7 +106,7 @@ fn end_without_time(rows: &[StopTimeRow]) -> Option<usize>
 }
 
 // The first row whose arrival is after its departure, or before the last departure given ahead of it.
-#[tactic(auto, using(crate::proofs::FirstFacts::searches))]
+#[tactic(auto, using(crate::proofs::FirstLemmas::searches))]
 fn time_back(rows: &[StopTimeRow]) -> Option<usize>
     ensures { result ≡ first_place (goes_back rows.now) (length rows.now) }
 {
@@ -133,7 +133,7 @@ fn is_back(left: u32, arrives: Option<u32>, departs: Option<u32>) -> bool
 }
 
 // The first row that doesn't arrive after the departure before it.
-#[tactic(auto, using(crate::proofs::FirstFacts::searches))]
+#[tactic(auto, using(crate::proofs::FirstLemmas::searches))]
 fn no_duration(times: &[(u32, u32)]) -> Option<usize>
     ensures { result ≡ first_place (is_short times.now) (length times.now) }
 {

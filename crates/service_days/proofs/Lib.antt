@@ -1,3 +1,3 @@
-pub mod AskedFacts
-pub mod DayFacts
-pub mod StartFacts
+pub mod AskedLemmas
+pub mod DayLemmas
+pub mod StartLemmas

@@ -11,7 +11,7 @@ use Rattle.transfers.specs.declared.claims.Word.{Word}
 use Rattle.transfers.specs.declared.claims.Word.TheVariants.{Never, Takes}
 use Rattle.transfers.specs.declared.claims.Claim.{Claim}
 use Rattle.transfers.specs.Claims.{ComesBefore, AreSorted, IsFirstAt, IsPathAt, ArePathsBelow, path_of}
-use Rattle.timetable.proofs.LegalFacts.{in_order_push}
+use Rattle.timetable.proofs.LegalLemmas.{in_order_push}
 
 abbrev pub secs_in : Word → ℕ
 secs_in Never = 0

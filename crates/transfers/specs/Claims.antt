@@ -116,26 +116,26 @@ pub record AreChildren (all : List Stop) (station : ℕ) (stops : List ℕ) : Ty
   pub has : (stop : ℕ) → Contains stops stop → is_child all station stop ≡ true
   pub each : (stop : ℕ) → is_child all station stop ≡ true → Contains stops stop
 
--- the sources in the order in which they are heard
+-- the sources in order: of a pair of stops the first that says something counts
 abbrev pub source_number : Source → ℕ
 source_number Stops = 0
 source_number Station = 1
 source_number Default = 2
 
--- of two words the first is heard
+-- of two things said by one source the first is the one that counts, or they are the same
 abbrev pub IsHeardBefore : Word → Word → Type 0
 IsHeardBefore Never other = Unit {0}
 IsHeardBefore (Takes secs) Never = ⊥
 IsHeardBefore (Takes secs) (Takes other) = secs ≤ other
 
--- a claim stands before another: by the stop led into, then by the stop left, then by what is heard
+-- a claim stands before another: by the stop led into, then by the stop left, then by its source, then by what it says
 pub record ComesBefore (c d : Claim) : Type 0 where
   pub by_to : c.to ≤ d.to
   pub by_from : c.to ≡ d.to → c.from ≤ d.from
   pub by_source : c.to ≡ d.to → c.from ≡ d.from → source_number c.source ≤ source_number d.source
   pub by_word : c.to ≡ d.to → c.from ≡ d.from → c.source ≡ d.source → IsHeardBefore c.word d.word
 
--- claims stand by the stop led into, the stop left, and what is heard
+-- claims stand by the stop led into, the stop left, their source, and what they say
 abbrev pub AreSorted : List Claim → Type 0
 AreSorted claims = (i j : ℕ) (c d : Claim) → i < j → At claims i c → At claims j d → ComesBefore c d
 

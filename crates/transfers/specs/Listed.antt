@@ -35,7 +35,7 @@ abbrev pub stands_for : List Stop → Place → ℕ → Bool
 stands_for stops (TheStop named) stop = named == stop
 stands_for stops (TheStation station) stop = is_child stops station stop
 
--- who speaks by a transfer: the stops themselves, or a station
+-- whether a transfer names both stops themselves, or a station
 abbrev pub source_by : Place → Place → Source
 source_by (TheStop from) (TheStop to) = Stops
 source_by (TheStop from) (TheStation to) = Station
@@ -79,6 +79,7 @@ least_word Never other = Never
 least_word (Takes secs) Never = Never
 least_word (Takes secs) (Takes other) = Takes (min secs other)
 
+-- what counts of two things said, where each may be none
 abbrev pub heard : Option Word → Option Word → Option Word
 heard None other = other
 heard (Some word) None = Some word

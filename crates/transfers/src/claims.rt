@@ -16,7 +16,7 @@ pub const USUAL_SECS: u32 = 120;
 /// The longest time that a transfer is taken to need, in seconds.
 pub const MOST_SECS: u32 = 86_400;
 
-/// Who says something of an ordered pair of stops. The first of them that does is heard.
+/// Who says something of an ordered pair of stops. Where several do, the first of them, in this order, counts.
 #[derive(Clone, Copy, Debug, PartialEq, Eq, PartialOrd, Ord)]
 pub enum Source {
     /// A transfer that names both stops themselves.
@@ -27,7 +27,7 @@ pub enum Source {
     Default,
 }
 
-/// What is said of an ordered pair of stops. Of several the least is heard.
+/// What is said of an ordered pair of stops. Where one source says several things, the least, in this order, counts.
 #[derive(Clone, Copy, Debug, PartialEq, Eq, PartialOrd, Ord)]
 pub enum Word {
     /// There is no direct footpath.
@@ -36,7 +36,8 @@ pub enum Word {
     Takes(u32),
 }
 
-/// Something that is said of an ordered pair of stops: by the stop led into, then by the stop left, then by what is heard.
+/// Something that is said of an ordered pair of stops. Claims are in order by the stop led into, then by the stop left, then by who
+/// says it, then by what is said: so of each pair the claim that counts comes first.
 #[derive(Clone, Copy, Debug, PartialEq, Eq, PartialOrd, Ord)]
 pub struct Claim {
     pub to: u32,
@@ -52,7 +53,7 @@ pub(crate) struct Claims {
     pub room: usize,
 }
 
-// Who speaks by a transfer.
+// Whether a transfer names both stops themselves, or a station.
 fn source_of(row: &Transfer) -> Source
     ensures { result ≡ source_of row.now }
 {

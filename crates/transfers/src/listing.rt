@@ -1,4 +1,4 @@
-//! The footpaths that a feed lists: for each pair of stops the time of the first claim that is heard, in the order of a timetable.
+//! The footpaths that a feed lists: for each pair of stops the time of the claim that counts, in the order of a timetable.
 
 ghost use Rattle.std.specs.Prelude.{◌≡◌, ◌<◌, ◌≤◌, ◌++◌, ◌+◌, ◌^◌, length, IfOk, IfErr, OnOk, true, false};
 ghost use Rattle.timetable.specs.Legal.{AreInOrder};
@@ -156,8 +156,8 @@ pub const MAX_CLAIMS: usize = 100_000_000;
 /// 120 seconds apart, and a stop's loop takes no time.
 ///
 /// A transfer takes its min_transfer_time, a day at most. Where none is given a timed transfer takes no time, nor does a
-/// recommended one from a stop to itself; any other takes 120 seconds. That no transfer is possible from a stop to itself
-/// isn't heard, and neither are skipped transfers.
+/// recommended one from a stop to itself; any other takes 120 seconds. A transfer that says that none is possible from a stop
+/// to itself is passed over, and so are skipped transfers.
 ///
 /// Where the feed's transfers name its own stops, the footpaths join its stops.
 ///

@@ -1,4 +1,4 @@
-use Rattle.connections.proofs.LegalSteps.{legal_listing}
+use Rattle.connections.proofs.LegalLemmas.{legal_listing}
 use Rattle.connections.proofs.laws.listing_is_legal.Goals as goal
 
 pub returns : goal.returns

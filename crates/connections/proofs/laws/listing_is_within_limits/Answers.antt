@@ -1,4 +1,4 @@
-use Rattle.connections.proofs.LegalSteps.{limits_listing}
+use Rattle.connections.proofs.LegalLemmas.{limits_listing}
 use Rattle.connections.proofs.laws.listing_is_within_limits.Goals as goal
 
 pub returns : goal.returns

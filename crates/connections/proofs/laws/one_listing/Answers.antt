@@ -1,4 +1,4 @@
-use Rattle.connections.proofs.OneSteps.{one_listing}
+use Rattle.connections.proofs.OneLemmas.{one_listing}
 use Rattle.connections.proofs.laws.one_listing.Goals as goal
 
 pub returns : goal.returns

@@ -1,4 +1,4 @@
-use Rattle.connections.proofs.StartSteps.{starts_each, starts_only, starts_rise}
+use Rattle.connections.proofs.StartLemmas.{starts_each, starts_only, starts_rise}
 use Rattle.connections.proofs.laws.starts_are_theirs.Goals as goal
 
 pub returns-clause-only : goal.returns-clause-only

@@ -1,5 +1,5 @@
 use Rattle.std.proofs.Common.{refl}
-use Rattle.connections.proofs.StartSteps.{stands_from}
+use Rattle.connections.proofs.StartLemmas.{stands_from}
 use Rattle.connections.proofs.laws.without_frequencies.Goals as goal
 
 pub returns-clause-once : goal.returns-clause-once

@@ -8,7 +8,7 @@ use Rattle.service_days.specs.declared.zone.Zone.{Zone}
 use Rattle.connections.specs.Building.{AddsRun, AreByRun}
 use Rattle.connections.specs.declared.days.ServiceDay.{ServiceDay}
 use Rattle.connections.specs.declared.runs.Run.{Run}
-use Rattle.connections.proofs.FinalSteps.{fault_told}
+use Rattle.connections.proofs.FinalLemmas.{fault_told}
 use Rattle.connections.proofs.ListSteps.{by_run_more, by_run_none}
 use Rattle.connections.proofs.listing.connections_by_run.Goals.{After-start_of-start}
 use Rattle.connections.proofs.listing.connections_by_run.Goals as goal

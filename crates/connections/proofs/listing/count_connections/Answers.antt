@@ -1,7 +1,7 @@
 use Rattle.std.proofs.Common.{None, get_or}
 use Rattle.std.proofs.lemmas.List.{get_or_default}
 use Rattle.connections.specs.declared.runs.Run.{Run}
-use Rattle.connections.proofs.ReadySteps.{hops_step}
+use Rattle.connections.proofs.ReadyLemmas.{hops_step}
 use Rattle.connections.proofs.listing.count_connections.Goals as goal
 
 pub loop-run-preserved : goal.loop-run-preserved

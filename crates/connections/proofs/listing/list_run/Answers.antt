@@ -9,7 +9,7 @@ use Rattle.connections.specs.Times.{departs}
 use Rattle.connections.specs.declared.hops.RunClock.{RunClock}
 use Rattle.connections.specs.declared.times.RowTimes.{RowTimes}
 use Rattle.connections.specs.declared.times.TripTimes.{TripTimes}
-use Rattle.connections.proofs.ReadySteps.{IsReady, all_inside, first_departs, ready, run_rows, some_outside}
+use Rattle.connections.proofs.ReadyLemmas.{IsReady, all_inside, first_departs, ready, run_rows, some_outside}
 use Rattle.connections.proofs.listing.list_run.Goals.{After-are_inside, After-deref-3}
 use Rattle.connections.proofs.listing.list_run.Goals as goal
 

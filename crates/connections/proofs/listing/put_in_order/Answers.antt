@@ -1,5 +1,5 @@
 use Rattle.std.proofs.Common.{rules}
-use Rattle.connections.proofs.OrderSteps.{sorted_by}
+use Rattle.connections.proofs.OrderLemmas.{sorted_by}
 use Rattle.connections.proofs.listing.put_in_order.Goals as goal
 
 pub returns-clause-sorted : goal.returns-clause-sorted

@@ -12,7 +12,7 @@ use Rattle.connections.specs.Runs.{IsTripRun, count_hops, runs_of_days}
 use Rattle.connections.specs.declared.days.ServiceDay.{ServiceDay}
 use Rattle.connections.specs.declared.runs.Run.{Run}
 use Rattle.connections.proofs.DaySteps.{first_day}
-use Rattle.connections.proofs.FinalSteps.{connections_refused, have_digits, listing_made, runs_are_of, runs_refused, times_refused}
+use Rattle.connections.proofs.FinalLemmas.{connections_refused, have_digits, listing_made, runs_are_of, runs_refused, times_refused}
 use Rattle.connections.proofs.listing.runs_of.Goals.{After-count_connections-count, In-Ok, In-Ok-connections_by_run, In-Ok-runs_on}
 use Rattle.connections.proofs.listing.runs_of.Goals as goal
 

@@ -2,7 +2,7 @@ use Rattle.std.proofs.Common.{◌≡◌, ◌<◌, ◌∙◌, ap, subst, List, le
 use Rattle.gtfs_rows.specs.declared.rows.StopTimeRow.{StopTimeRow}
 use Rattle.gtfs_tables.specs.declared.tables.Trip.{Trip}
 use Rattle.connections.specs.Times.{AreTripTimes}
-use Rattle.connections.proofs.FinalSteps.{times_all, times_more, times_none}
+use Rattle.connections.proofs.FinalLemmas.{times_all, times_more, times_none}
 use Rattle.connections.proofs.listing.times_of_trips.Goals as goal
 
 pub loop-trip-init : goal.loop-trip-init

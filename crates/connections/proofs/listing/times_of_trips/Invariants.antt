@@ -1,4 +1,4 @@
-use Rattle.connections.proofs.FinalSteps.{AreTimesTo}
+use Rattle.connections.proofs.FinalLemmas.{AreTimesTo}
 use Rattle.connections.proofs.listing.times_of_trips.Given as goal
 
 abbrev pub invariant-loop-trip : goal.invariant-loop-trip

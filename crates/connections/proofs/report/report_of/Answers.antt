@@ -1,7 +1,7 @@
 use Rattle.std.proofs.Common.{◌∙◌, ap, refl, List}
 use Rattle.std.specs.Prelude.{count_by}
 use Rattle.gtfs_tables.specs.declared.tables.Trip.{Trip}
-use Rattle.connections.proofs.FinalSteps.{lifted_counted}
+use Rattle.connections.proofs.FinalLemmas.{lifted_counted}
 use Rattle.connections.proofs.report.report_of.Goals as goal
 
 pub returns : goal.returns

@@ -1,7 +1,7 @@
 use Rattle.std.proofs.Common.{◌≡◌, ◌≢◌, ◌<◌, ◌+◌, ◌-◌, ◌∙◌, ℕ, List, length, take, get_or, refl, sym, ap, arith}
 use Rattle.std.proofs.lemmas.List.{take_more, length-take}
 use Rattle.gtfs_rows.specs.Cells.{kept_len}
-use Rattle.gtfs_rows.proofs.CellFacts.{kept-other, kept-space}
+use Rattle.gtfs_rows.proofs.CellLemmas.{kept-other, kept-space}
 use Rattle.gtfs_rows.proofs.cells.trim.Goals as goal
 use Rattle.gtfs_rows.proofs.cells.trim.Goals.{then-loop-kept-test+else-front-kept-eq32, else-loop-kept-test}
 

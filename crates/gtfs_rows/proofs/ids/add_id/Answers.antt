@@ -1,6 +1,6 @@
 use Rattle.std.proofs.Common.{string_bytes}
-use Rattle.gtfs_rows.proofs.KeyFacts.{stands}
-use Rattle.gtfs_rows.proofs.SeenFacts.{seen_insert}
+use Rattle.gtfs_rows.proofs.KeyLemmas.{stands}
+use Rattle.gtfs_rows.proofs.SeenLemmas.{seen_insert}
 use Rattle.gtfs_rows.proofs.ids.add_id.Goals as goal
 
 pub returns-clause-ok : goal.returns-clause-ok

@@ -3,7 +3,7 @@ use Rattle.std.specs.List.{list_any}
 use Rattle.std.specs.Str.{bytes_eq}
 use Rattle.std.specs.String.{string_eq}
 use Rattle.std.proofs.lemmas.Bool.{not-true, not-false}
-use Rattle.gtfs_rows.proofs.KeyFacts.{any-map}
+use Rattle.gtfs_rows.proofs.KeyLemmas.{any-map}
 use Rattle.gtfs_rows.proofs.ids.add_key.Goals as goal
 
 pub returns-then-added-clause-new : goal.returns-then-added-clause-new

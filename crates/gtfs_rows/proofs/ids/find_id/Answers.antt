@@ -1,6 +1,6 @@
 use Rattle.std.proofs.Common.{sym, string_bytes}
 use Rattle.std.specs.Str.{bytes_eq}
-use Rattle.gtfs_rows.proofs.KeyFacts.{find_passes, stands}
+use Rattle.gtfs_rows.proofs.KeyLemmas.{find_passes, stands}
 use Rattle.gtfs_rows.proofs.ids.find_id.Goals as goal
 
 pub returns : goal.returns

@@ -1,6 +1,6 @@
 use Rattle.std.proofs.Common.{◌≡◌, ◌∙◌, true, sym, string_bytes}
 use Rattle.std.specs.Str.{bytes_eq}
-use Rattle.gtfs_rows.proofs.KeyFacts.{stands}
+use Rattle.gtfs_rows.proofs.KeyLemmas.{stands}
 use Rattle.gtfs_rows.proofs.ids.id_at.Goals as goal
 
 pub returns-then-eq : goal.returns-then-eq

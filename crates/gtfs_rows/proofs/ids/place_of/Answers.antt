@@ -1,7 +1,7 @@
 use Rattle.std.proofs.Common.{map, string_bytes}
 use Rattle.std.proofs.lemmas.Result.{IfOk-weaker}
 use Rattle.gtfs_rows.specs.Rows.{StandsAt}
-use Rattle.gtfs_rows.proofs.SeenFacts.{stands_among}
+use Rattle.gtfs_rows.proofs.SeenLemmas.{stands_among}
 use Rattle.gtfs_rows.proofs.ids.place_of.Goals as goal
 
 pub returns-in-Some-clause-more : goal.returns-in-Some-clause-more

@@ -2,7 +2,7 @@ use Rattle.std.proofs.Common.{◌≡◌, ◌∙◌, ◌++◌, Some, ap, refl, sy
 use Rattle.csv.specs.Records.{fields_of}
 use Rattle.gtfs_rows.specs.Rows.{key_by, value}
 use Rattle.gtfs_rows.specs.declared.columns.Key.TheVariants as keys
-use Rattle.gtfs_rows.proofs.KeyFacts.{key_new, no_keys, on_ok_both}
+use Rattle.gtfs_rows.proofs.KeyLemmas.{key_new, no_keys, on_ok_both}
 use Rattle.gtfs_rows.proofs.keyed.keep.Goals as goal
 
 pub returns-in-Nothing-clause-ok : goal.returns-in-Nothing-clause-ok

@@ -4,7 +4,7 @@ use Rattle.csv.specs.Records.{fields_of}
 use Rattle.gtfs_rows.specs.Faults.{fault_if}
 use Rattle.gtfs_rows.specs.Rows.{value}
 use Rattle.gtfs_rows.specs.declared.fault.FaultKind.TheVariants as kinds
-use Rattle.gtfs_rows.proofs.KeyFacts.{shared_with}
+use Rattle.gtfs_rows.proofs.KeyLemmas.{shared_with}
 use Rattle.gtfs_rows.proofs.keyed.share.Goals as goal
 
 pub returns-then-eq-clause-ok : goal.returns-then-eq-clause-ok

@@ -1,5 +1,5 @@
 use Rattle.gtfs_rows.specs.Rows.{value}
-use Rattle.gtfs_rows.proofs.DayKeyFacts.{told_from_key}
+use Rattle.gtfs_rows.proofs.DayKeyLemmas.{told_from_key}
 use Rattle.gtfs_rows.proofs.laws.service_day_keys.Goals as goal
 
 pub returns : goal.returns

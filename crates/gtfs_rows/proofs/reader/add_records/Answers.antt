@@ -3,8 +3,8 @@ use Rattle.csv.specs.Records.{fields_of}
 use Rattle.gtfs_rows.specs.Source.{left_of}
 use Rattle.gtfs_rows.specs.Faults.{length_first}
 use Rattle.gtfs_rows.specs.Tables.{judge_of}
-use Rattle.gtfs_rows.proofs.CellFacts.{text_rest}
-use Rattle.gtfs_rows.proofs.FaultFacts.{closed, faultless_more, first_fault, opened}
+use Rattle.gtfs_rows.proofs.CellLemmas.{text_rest}
+use Rattle.gtfs_rows.proofs.FaultLemmas.{closed, faultless_more, first_fault, opened}
 use Rattle.gtfs_rows.proofs.reader.add_records.Goals as goal
 
 pub returns-in-Ok-false-clause-ok : goal.returns-in-Ok-false-clause-ok

@@ -3,9 +3,9 @@ use Rattle.std.proofs.lemmas.Result.{IfErr-weaker, IfOk-weaker}
 use Rattle.csv.specs.Records.{fields_of}
 use Rattle.gtfs_rows.specs.Source.{left_of, table_records}
 use Rattle.gtfs_rows.specs.Tables.{shape_of}
-use Rattle.gtfs_rows.proofs.CellFacts.{text_rest}
-use Rattle.gtfs_rows.proofs.FaultFacts.{fault_of_file, held_of_file}
-use Rattle.gtfs_rows.proofs.TextFacts.{records_text}
+use Rattle.gtfs_rows.proofs.CellLemmas.{text_rest}
+use Rattle.gtfs_rows.proofs.FaultLemmas.{fault_of_file, held_of_file}
+use Rattle.gtfs_rows.proofs.TextLemmas.{records_text}
 use Rattle.gtfs_rows.proofs.reader.read_table.Goals as goal
 
 pub read_under-requires-clause-text : goal.read_under-requires-clause-text

@@ -3,7 +3,7 @@ use Rattle.std.proofs.lemmas.Result.{IfErr-weaker, IfOk-weaker}
 use Rattle.csv.specs.Records.{fields_of}
 use Rattle.gtfs_rows.specs.Source.{left_of}
 use Rattle.gtfs_rows.specs.Tables.{shape_of}
-use Rattle.gtfs_rows.proofs.FaultFacts.{fault_under, held_under}
+use Rattle.gtfs_rows.proofs.FaultLemmas.{fault_under, held_under}
 use Rattle.gtfs_rows.proofs.reader.read_under.Goals as goal
 
 pub returns-clause-err : goal.returns-clause-err

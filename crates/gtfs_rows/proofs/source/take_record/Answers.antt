@@ -1,7 +1,7 @@
 use Rattle.std.proofs.Common.{inl, inr}
 use Rattle.std.proofs.lemmas.Bool.{cases_Bool}
 use Rattle.csv.specs.Records.{fields_of}
-use Rattle.gtfs_rows.proofs.SourceFacts.{read_found, read_missed}
+use Rattle.gtfs_rows.proofs.SourceLemmas.{read_found, read_missed}
 use Rattle.gtfs_rows.proofs.source.take_record.Goals as goal
 
 pub returns-in-Ok-clause-reads : goal.returns-in-Ok-clause-reads

@@ -5,8 +5,8 @@ use Rattle.gtfs_rows.specs.Rows.{SpellsStopTime, stop_time_fault, time_fault, va
 use Rattle.gtfs_rows.specs.Source.{Record}
 use Rattle.gtfs_rows.specs.Values.{number_of}
 use Rattle.gtfs_rows.specs.declared.rows.StopTimeRow.{StopTimeRow}
-use Rattle.gtfs_rows.proofs.CellFacts.{cell_text}
-use Rattle.gtfs_rows.proofs.SeenFacts.{rows_more, stops_more, trips_more}
+use Rattle.gtfs_rows.proofs.CellLemmas.{cell_text}
+use Rattle.gtfs_rows.proofs.SeenLemmas.{rows_more, stops_more, trips_more}
 use Rattle.gtfs_rows.proofs.stop_times.add_stop_time.Goals as goal
 
 no_stop_time_fault : (places : Places) (r : Record) (n : ℕ) → time_fault (value places 1 r) ≡ None → time_fault (value places 2 r) ≡ None

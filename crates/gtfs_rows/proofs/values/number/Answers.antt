@@ -1,4 +1,4 @@
-use Rattle.gtfs_rows.proofs.ValueFacts.{take_passes}
+use Rattle.gtfs_rows.proofs.ValueLemmas.{take_passes}
 use Rattle.std.specs.Char.{is_ascii_digit}
 use Rattle.gtfs_rows.proofs.values.number.Goals as goal
 

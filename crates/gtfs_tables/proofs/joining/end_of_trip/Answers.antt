@@ -1,6 +1,6 @@
 use Rattle.std.proofs.Common.{◌+◌, arith, length}
 use Rattle.gtfs_tables.specs.Order.{turns_by}
-use Rattle.gtfs_tables.proofs.OrderFacts.{first_turn-is}
+use Rattle.gtfs_tables.proofs.OrderLemmas.{first_turn-is}
 use Rattle.gtfs_tables.proofs.joining.end_of_trip.Goals as goal
 
 pub returns-then-trip_at-trip-clause-end : goal.returns-then-trip_at-trip-clause-end

@@ -7,7 +7,7 @@ use Rattle.gtfs_tables.specs.Names.{stop_named, trip_named}
 use Rattle.gtfs_tables.specs.Order.{comes_before, turns_in}
 use Rattle.gtfs_tables.specs.Rows.{IsTransferOf, is_kept}
 use Rattle.gtfs_tables.specs.declared.tables.Frequency.{Frequency}
-use Rattle.gtfs_tables.proofs.JoinFacts.{flex_told, none_first, of_ok, rows_are, transfer_first, trip_first, trips_are}
+use Rattle.gtfs_tables.proofs.JoinLemmas.{flex_told, none_first, of_ok, rows_are, transfer_first, trip_first, trips_are}
 use Rattle.gtfs_tables.proofs.joining.feed_of.Goals as goal
 
 pub made_of-requires-clause-flex : goal.made_of-requires-clause-flex

@@ -1,6 +1,6 @@
 use Rattle.std.proofs.Common.{◌∙◌, ap}
 use Rattle.gtfs_tables.specs.Names.{held_at, stop_named, trip_named}
-use Rattle.gtfs_tables.proofs.JoinFacts.{fault_told, links_told}
+use Rattle.gtfs_tables.proofs.JoinLemmas.{fault_told, links_told}
 use Rattle.gtfs_tables.proofs.joining.link.Goals as goal
 
 pub stops_by_id-requires : goal.stops_by_id-requires

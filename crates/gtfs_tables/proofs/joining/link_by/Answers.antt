@@ -11,7 +11,7 @@ use Rattle.gtfs_tables.specs.First.{first_fault_of}
 use Rattle.gtfs_tables.specs.Names.{held_at}
 use Rattle.gtfs_tables.specs.Order.{IsInOrder, turns_in}
 use Rattle.gtfs_tables.specs.Rows.{IsTransferOf, frequency_of, is_kept, is_repeated, parent_fault, station_of, transfer_fault}
-use Rattle.gtfs_tables.proofs.JoinFacts.{frequencies_told, of_none, of_three, of_two, flex_told, order_told, stops_told, times_told}
+use Rattle.gtfs_tables.proofs.JoinLemmas.{frequencies_told, of_none, of_three, of_two, flex_told, order_told, stops_told, times_told}
 use Rattle.gtfs_tables.proofs.joining.link_by.Goals.{In-Ok-judged_times, In-Ok-order_of_rows, In-Ok-stations}
 use Rattle.gtfs_tables.proofs.joining.link_by.Goals as goal
 

@@ -4,7 +4,7 @@ use Rattle.std.proofs.lemmas.List.{length-map}
 use Rattle.gtfs_tables.specs.Feeds.{linked_by}
 use Rattle.gtfs_tables.specs.Order.{comes_before, turns_by, turns_in}
 use Rattle.gtfs_tables.specs.declared.order.Turn.{Turn}
-use Rattle.gtfs_tables.proofs.JoinFacts.{trips_made, trips_told, turns_told}
+use Rattle.gtfs_tables.proofs.JoinLemmas.{trips_made, trips_told, turns_told}
 use Rattle.gtfs_tables.proofs.joining.timed_rows.Goals.{After-deref-2}
 use Rattle.gtfs_tables.proofs.joining.timed_rows.Goals as goal
 

@@ -3,8 +3,8 @@ use Rattle.std.proofs.lemmas.Grind.{common_steps}
 use Rattle.reasoning.proofs.FirstLemmas.{first_below-more, first_below-found, first_below-start}
 use Rattle.gtfs_tables.specs.Feeds.{trip_fault}
 use Rattle.gtfs_tables.specs.Order.{turns_by}
-use Rattle.gtfs_tables.proofs.FeedFacts.{feed_trips-more, trip_fault-at}
-use Rattle.gtfs_tables.proofs.OrderFacts.{first_turn-is}
+use Rattle.gtfs_tables.proofs.FeedLemmas.{feed_trips-more, trip_fault-at}
+use Rattle.gtfs_tables.proofs.OrderLemmas.{first_turn-is}
 use Rattle.gtfs_tables.proofs.joining.timed_trips.Goals as goal
 
 pub loop-row-init : goal.loop-row-init

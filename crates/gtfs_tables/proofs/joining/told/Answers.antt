@@ -1,7 +1,7 @@
 use Rattle.std.proofs.Common.{◌∙◌, ◌+◌, ◌<◌, ap, arith, length, sym, ℕ}
 use Rattle.gtfs_rows.specs.declared.fault.Table.TheVariants as tables
 use Rattle.gtfs_tables.specs.Order.{turns_by}
-use Rattle.gtfs_tables.proofs.TurnFacts.{number_in}
+use Rattle.gtfs_tables.proofs.TurnLemmas.{number_in}
 use Rattle.gtfs_tables.proofs.joining.told.Goals as goal
 
 pub returns-then-at-end : goal.returns-then-at-end

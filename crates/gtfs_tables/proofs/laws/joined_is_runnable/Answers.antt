@@ -1,4 +1,4 @@
-use Rattle.gtfs_tables.proofs.JoinedFacts.{joined_trips}
+use Rattle.gtfs_tables.proofs.JoinedLemmas.{joined_trips}
 use Rattle.gtfs_tables.proofs.laws.joined_is_runnable.Goals as goal
 
 pub returns : goal.returns

@@ -1,4 +1,4 @@
-use Rattle.gtfs_tables.proofs.JoinedFacts.{joined_names}
+use Rattle.gtfs_tables.proofs.JoinedLemmas.{joined_names}
 use Rattle.gtfs_tables.proofs.laws.joined_names_its_stops.Goals as goal
 
 pub returns : goal.returns

@@ -1,4 +1,4 @@
-use Rattle.gtfs_tables.proofs.TimeFacts.{spread_at}
+use Rattle.gtfs_tables.proofs.TimeLemmas.{spread_at}
 use Rattle.gtfs_tables.proofs.laws.spread_times.Goals as goal
 
 pub returns : goal.returns

@@ -3,8 +3,8 @@ use Rattle.reasoning.proofs.FirstLemmas.{first_below-start}
 use Rattle.gtfs_rows.specs.declared.fault.Table.TheVariants.{StopTimes}
 use Rattle.gtfs_tables.specs.Order.{no_row}
 use Rattle.gtfs_tables.specs.Rows.{is_flex_id, linked_fault}
-use Rattle.gtfs_tables.proofs.FirstFacts.{copy_fine, copy_wrong}
-use Rattle.gtfs_tables.proofs.RowFacts.{fault_same}
+use Rattle.gtfs_tables.proofs.FirstLemmas.{copy_fine, copy_wrong}
+use Rattle.gtfs_tables.proofs.RowLemmas.{fault_same}
 use Rattle.gtfs_tables.proofs.links.judge_rows.Goals as goal
 
 pub loop-place-init : goal.loop-place-init

@@ -2,7 +2,7 @@ use Rattle.std.proofs.Common.{◌∙◌, ap, arith}
 use Rattle.gtfs_rows.specs.declared.rows.StopTimeRow.{StopTimeRow}
 use Rattle.gtfs_tables.specs.Order.{row_of}
 use Rattle.gtfs_tables.specs.Rows.{is_flex_id, linked_row}
-use Rattle.gtfs_tables.proofs.RowFacts.{mapped_more, no_turn, row_same}
+use Rattle.gtfs_tables.proofs.RowLemmas.{mapped_more, no_turn, row_same}
 use Rattle.gtfs_tables.proofs.links.linked_by_turns.Goals as goal
 
 pub loop-turn-preserved : goal.loop-turn-preserved

@@ -1,7 +1,7 @@
 use Rattle.std.proofs.Common.{◌∙◌, ap, arith}
 use Rattle.gtfs_tables.specs.Names.{held_at}
 use Rattle.gtfs_tables.specs.Rows.{frequency_of}
-use Rattle.gtfs_tables.proofs.RowFacts.{mapped_more}
+use Rattle.gtfs_tables.proofs.RowLemmas.{mapped_more}
 use Rattle.gtfs_tables.proofs.links.linked_frequencies.Goals as goal
 
 pub loop-row-preserved : goal.loop-row-preserved

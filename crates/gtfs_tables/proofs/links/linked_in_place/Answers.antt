@@ -2,7 +2,7 @@ use Rattle.std.proofs.Common.{◌∙◌, ap, arith, slice_set}
 use Rattle.std.proofs.lemmas.List.Edits.{map_over_more}
 use Rattle.gtfs_rows.specs.declared.rows.StopTimeRow.{StopTimeRow}
 use Rattle.gtfs_tables.specs.Rows.{is_flex_id, linked_row}
-use Rattle.gtfs_tables.proofs.RowFacts.{row_same}
+use Rattle.gtfs_tables.proofs.RowLemmas.{row_same}
 use Rattle.gtfs_tables.proofs.links.linked_in_place.Goals as goal
 
 pub loop-at-preserved : goal.loop-at-preserved

@@ -3,7 +3,7 @@ use Rattle.gtfs_rows.specs.declared.rows.StopTimeRow.{StopTimeRow}
 use Rattle.gtfs_tables.specs.Order.{row_of, turns_in}
 use Rattle.gtfs_tables.specs.Rows.{is_flex_id, linked_row}
 use Rattle.gtfs_tables.specs.declared.order.RowOrder.{RowOrder}
-use Rattle.gtfs_tables.proofs.TurnFacts.{made_as_filed}
+use Rattle.gtfs_tables.proofs.TurnLemmas.{made_as_filed}
 use Rattle.gtfs_tables.proofs.links.linked_rows.Goals as goal
 
 pub returns-in-Filed : goal.returns-in-Filed

@@ -6,8 +6,8 @@ use Rattle.gtfs_rows.specs.declared.fault.Table.TheVariants.{Frequencies}
 use Rattle.gtfs_rows.specs.declared.fault.FaultKind.TheVariants.{UnknownId}
 use Rattle.gtfs_tables.specs.Names.{held_at}
 use Rattle.gtfs_tables.specs.Rows.{frequency_fault}
-use Rattle.gtfs_tables.proofs.FirstFacts.{row_fine, row_wrong}
-use Rattle.gtfs_tables.proofs.RowFacts.{marked_more}
+use Rattle.gtfs_tables.proofs.FirstLemmas.{row_fine, row_wrong}
+use Rattle.gtfs_tables.proofs.RowLemmas.{marked_more}
 use Rattle.gtfs_tables.proofs.links.repeating.Goals as goal
 
 pub loop-at-init : goal.loop-at-init

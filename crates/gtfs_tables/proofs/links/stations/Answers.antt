@@ -4,7 +4,7 @@ use Rattle.reasoning.proofs.FirstLemmas.{first_below-start}
 use Rattle.gtfs_rows.specs.declared.fault.Table.TheVariants.{Stops}
 use Rattle.gtfs_tables.specs.Names.{held_at}
 use Rattle.gtfs_tables.specs.Rows.{parent_fault}
-use Rattle.gtfs_tables.proofs.FirstFacts.{row_fine, row_wrong}
+use Rattle.gtfs_tables.proofs.FirstLemmas.{row_fine, row_wrong}
 use Rattle.gtfs_tables.proofs.links.stations.Goals as goal
 
 pub loop-place-init : goal.loop-place-init

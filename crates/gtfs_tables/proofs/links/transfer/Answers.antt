@@ -3,7 +3,7 @@ use Rattle.std.specs.String.{string_bytes}
 use Rattle.std.proofs.lemmas.Grind.{common_steps}
 use Rattle.gtfs_tables.specs.Names.{held_at}
 use Rattle.gtfs_tables.specs.Rows.{ends_fault, is_kept, transfer_fault}
-use Rattle.gtfs_tables.proofs.RowFacts.{transfer_judged}
+use Rattle.gtfs_tables.proofs.RowLemmas.{transfer_judged}
 use Rattle.gtfs_tables.proofs.links.transfer.Goals.{After-copied-to}
 use Rattle.gtfs_tables.proofs.links.transfer.Goals as goal
 

@@ -5,8 +5,8 @@ use Rattle.reasoning.proofs.FirstLemmas.{first_below-start}
 use Rattle.gtfs_rows.specs.declared.fault.Table.TheVariants.{Transfers}
 use Rattle.gtfs_tables.specs.Names.{held_at}
 use Rattle.gtfs_tables.specs.Rows.{transfer_fault}
-use Rattle.gtfs_tables.proofs.FirstFacts.{row_fine, row_wrong}
-use Rattle.gtfs_tables.proofs.RowFacts.{kept_next}
+use Rattle.gtfs_tables.proofs.FirstLemmas.{row_fine, row_wrong}
+use Rattle.gtfs_tables.proofs.RowLemmas.{kept_next}
 use Rattle.gtfs_tables.proofs.links.transfers.Goals as goal
 use Rattle.gtfs_tables.proofs.links.transfers.Goals.{in-Some+else-is_err, in_default}
 

@@ -1,5 +1,5 @@
 use Rattle.std.proofs.Common.{sym, ◌∙◌}
-use Rattle.gtfs_tables.proofs.NameFacts.{held-kept, held-put}
+use Rattle.gtfs_tables.proofs.NameLemmas.{held-kept, held-put}
 use Rattle.gtfs_tables.proofs.names.add_first.Goals as goal
 
 pub returns-in_ok-insert : goal.returns-in_ok-insert

@@ -3,7 +3,7 @@ use Rattle.std.specs.String.{string_bytes}
 use Rattle.std.proofs.Common.{rules}
 use Rattle.std.proofs.lemmas.Map.Iter.{iter_end}
 use Rattle.gtfs_tables.specs.Names.{held_at}
-use Rattle.gtfs_tables.proofs.NameFacts.{named-push, named-end}
+use Rattle.gtfs_tables.proofs.NameLemmas.{named-push, named-end}
 use Rattle.gtfs_tables.proofs.names.named_each.Goals as goal
 
 pub loop-id-preserved : goal.loop-id-preserved

@@ -3,7 +3,7 @@ use Rattle.std.proofs.lemmas.Grind.{common_steps}
 use Rattle.std.proofs.lemmas.List.Sums.{count_by_more_yes, count_by_more_no}
 use Rattle.reasoning.proofs.FirstLemmas.{first_below-start}
 use Rattle.gtfs_rows.specs.Tables.{is_stop}
-use Rattle.gtfs_tables.proofs.NameFacts.{held-none, stop_named-more}
+use Rattle.gtfs_tables.proofs.NameLemmas.{held-none, stop_named-more}
 use Rattle.gtfs_tables.proofs.names.stops_by_id.Goals as goal
 use Rattle.gtfs_tables.proofs.names.stops_by_id.Goals.{then-eq, else-eq}
 

@@ -1,6 +1,6 @@
 use Rattle.std.proofs.Common.{◌∙◌, sym, arith}
 use Rattle.reasoning.proofs.FirstLemmas.{first_below-start}
-use Rattle.gtfs_tables.proofs.NameFacts.{held-none, trip_named-more}
+use Rattle.gtfs_tables.proofs.NameLemmas.{held-none, trip_named-more}
 use Rattle.gtfs_tables.proofs.names.trips_by_id.Goals as goal
 
 pub loop-place-init : goal.loop-place-init

@@ -1,6 +1,6 @@
 use Rattle.std.proofs.Common.{◌≡◌, ◌<◌, length, false, arith, rules}
 use Rattle.gtfs_tables.specs.Order.{comes_before}
-use Rattle.gtfs_tables.proofs.TurnFacts.{rising_all, rising_more, rising_one}
+use Rattle.gtfs_tables.proofs.TurnLemmas.{rising_all, rising_more, rising_one}
 use Rattle.gtfs_tables.proofs.order.are_in_order.Goals as goal
 
 pub loop-at-init : goal.loop-at-init

@@ -1,7 +1,7 @@
 use Rattle.std.proofs.Common.{◌≡◌, ◌+◌, ◌∙◌, ap, sym, arith, get_or, map}
 use Rattle.gtfs_tables.specs.Order.{turns_by}
 use Rattle.gtfs_tables.specs.declared.order.RowOrder.{RowOrder}
-use Rattle.gtfs_tables.proofs.TurnFacts.{filed-number}
+use Rattle.gtfs_tables.proofs.TurnLemmas.{filed-number}
 use Rattle.gtfs_tables.proofs.order.number_at.Goals as goal
 
 pub returns-in-Filed : goal.returns-in-Filed

@@ -1,7 +1,7 @@
 use Rattle.std.proofs.Common.{◌∙◌, ap, sym, get_or}
 use Rattle.gtfs_tables.specs.Order.{no_row, turns_by}
 use Rattle.gtfs_tables.specs.declared.order.RowOrder.{RowOrder}
-use Rattle.gtfs_tables.proofs.TurnFacts.{filed-trip}
+use Rattle.gtfs_tables.proofs.TurnLemmas.{filed-trip}
 use Rattle.gtfs_tables.proofs.order.trip_at.Goals as goal
 
 pub returns-in-Filed : goal.returns-in-Filed

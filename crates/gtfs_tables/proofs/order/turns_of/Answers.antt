@@ -1,6 +1,6 @@
 use Rattle.std.proofs.Common.{◌∙◌, ap, arith, ◌++◌, ◌∷◌, []}
 use Rattle.gtfs_tables.specs.Order.{no_row}
-use Rattle.gtfs_tables.proofs.OrderFacts.{turns-pushed}
+use Rattle.gtfs_tables.proofs.OrderLemmas.{turns-pushed}
 use Rattle.gtfs_tables.proofs.order.turns_of.Goals as goal
 
 pub loop-place-preserved : goal.loop-place-preserved

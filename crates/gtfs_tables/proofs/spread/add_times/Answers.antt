@@ -1,7 +1,7 @@
 use Rattle.std.proofs.Common.{◌∙◌, sym}
 use Rattle.reasoning.proofs.OptionLemmas.{is_some-none}
 use Rattle.gtfs_tables.specs.Spread.{departure_at}
-use Rattle.gtfs_tables.proofs.SpreadFacts.{departs}
+use Rattle.gtfs_tables.proofs.SpreadLemmas.{departs}
 use Rattle.gtfs_tables.proofs.spread.add_times.Goals as goal
 
 pub unreachable-requires-in_default-departure : goal.unreachable-requires-in_default-departure

@@ -1,5 +1,5 @@
 use Rattle.std.proofs.Common.{arith}
-use Rattle.gtfs_tables.proofs.SpreadFacts.{spread_more}
+use Rattle.gtfs_tables.proofs.SpreadLemmas.{spread_more}
 use Rattle.gtfs_tables.proofs.spread.spread.Goals as goal
 
 pub loop-at-preserved : goal.loop-at-preserved

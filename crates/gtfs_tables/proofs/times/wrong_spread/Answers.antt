@@ -2,7 +2,7 @@ use Rattle.std.proofs.Common.{◌∙◌, sym, ap, length}
 use Rattle.gtfs_rows.specs.declared.fault.FaultKind.TheVariants.{HopWithoutDuration}
 use Rattle.gtfs_tables.specs.First.{first_place}
 use Rattle.gtfs_tables.specs.Times.{is_short, wrong_at}
-use Rattle.gtfs_tables.proofs.TimeFacts.{hop_same}
+use Rattle.gtfs_tables.proofs.TimeLemmas.{hop_same}
 use Rattle.gtfs_tables.proofs.times.wrong_spread.Goals as goal
 
 pub returns-in-Some : goal.returns-in-Some

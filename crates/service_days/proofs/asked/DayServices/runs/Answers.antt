@@ -3,7 +3,7 @@ use Rattle.std.specs.HashMap.{get_by_text}
 use Rattle.std.specs.String.{string_bytes}
 use Rattle.std.proofs.lemmas.Map.Text.{hash_map_updates_text}
 use Rattle.service_days.specs.Services.{is_active}
-use Rattle.service_days.proofs.AskedFacts.{asked_known, asked_more}
+use Rattle.service_days.proofs.AskedLemmas.{asked_known, asked_more}
 use Rattle.service_days.proofs.asked.DayServices.runs.Goals as goal
 
 pub returns-in-Some-clause-told : goal.returns-in-Some-clause-told

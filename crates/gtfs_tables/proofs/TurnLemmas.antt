@@ -13,7 +13,7 @@ use Rattle.gtfs_tables.specs.declared.names.Named.{Named}
 use Rattle.gtfs_tables.specs.declared.order.RowOrder.{RowOrder}
 use Rattle.gtfs_tables.specs.declared.order.RowOrder.TheVariants as orders
 use Rattle.gtfs_tables.specs.declared.order.Turn.{Turn}
-use Rattle.gtfs_tables.proofs.RowFacts.{filed_rows, no_turn}
+use Rattle.gtfs_tables.proofs.RowLemmas.{filed_rows, no_turn}
 
 pub length-turns : (trips : List (Option ℕ)) (number : ℕ) (rows : List StopTimeRow) → length (turns_from trips number rows) ≡ length rows
 length-turns trips number [] = refl

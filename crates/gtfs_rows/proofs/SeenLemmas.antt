@@ -16,7 +16,7 @@ use Rattle.gtfs_rows.specs.Cells.{Places}
 use Rattle.gtfs_rows.specs.Ids.{first_seen, given_also, is_given, seen_also}
 use Rattle.gtfs_rows.specs.Rows.{IsStopId, SpellsStopTime, StandsAt, stop_ids, trip_ids, value}
 use Rattle.gtfs_rows.specs.declared.rows.StopTimeRow.{StopTimeRow}
-use Rattle.gtfs_rows.proofs.KeyFacts.{any-map}
+use Rattle.gtfs_rows.proofs.KeyLemmas.{any-map}
 
 equal : (a b : List ℕ) → bytes_eq a b ≡ true → a ≡ b
 equal a b e = (bytes_eq-Decides a b).0 e

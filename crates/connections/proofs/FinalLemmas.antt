@@ -23,7 +23,7 @@ use Rattle.service_days.specs.Zones.{IsDayStart}
 use Rattle.service_days.specs.declared.fault.DayFault.{DayFault}
 use Rattle.service_days.specs.declared.fault.DayFault.TheVariants.{DayOutOfRange, OutOfMemory as DayMemory}
 use Rattle.service_days.specs.declared.zone.Zone.{Zone}
-use Rattle.service_days.proofs.StartFacts.{same_start}
+use Rattle.service_days.proofs.StartLemmas.{same_start}
 use Rattle.timetable.specs.declared.limits.TheConstants.{MAX_CONNECTIONS, MAX_TRIPS}
 use Rattle.timetable.specs.declared.network.Connection.{Connection}
 use Rattle.connections.specs.Building.{AreByRun, AreSorted, HasDigits, IsEarlier, IsNotAfter, LeavesRange}

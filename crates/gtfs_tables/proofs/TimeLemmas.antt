@@ -10,7 +10,7 @@ use Rattle.gtfs_rows.specs.declared.rows.StopTimeRow.{StopTimeRow}
 use Rattle.gtfs_tables.specs.First.{first_below, first_place, place_if}
 use Rattle.gtfs_tables.specs.Spread.{IsGap, IsSpread, arrival_at, departure_at}
 use Rattle.gtfs_tables.specs.Times.{arrives_spread, departed_before, departs_spread, end_without_time, given_before, given_from, goes_back, has_no_duration, is_short, is_twice, wrong_at, wrong_given}
-use Rattle.gtfs_tables.proofs.SpreadFacts.{departs, never_departs}
+use Rattle.gtfs_tables.proofs.SpreadLemmas.{departs, never_departs}
 
 pub departed-next : (rows : List StopTimeRow) (k : ℕ) → departed_before rows (k + 1) ≡ unwrap_or (departure_at rows k) (departed_before rows k)
 departed-next rows k = let e : k + 1 ≡ suc k = omega arith in rw e refl

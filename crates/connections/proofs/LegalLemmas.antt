@@ -25,10 +25,10 @@ use Rattle.connections.specs.Runs.{IsTripRun}
 use Rattle.connections.specs.Times.{arrives, departs}
 use Rattle.connections.specs.declared.runs.Run.{Run}
 use Rattle.connections.proofs.DaySteps.{days_next}
-use Rattle.connections.proofs.FinalSteps.{runs_are_of}
+use Rattle.connections.proofs.FinalLemmas.{runs_are_of}
 use Rattle.connections.proofs.HopSteps.{used_later}
 use Rattle.connections.proofs.ListSteps.{hop_along, hop_within, hops_rise, same_hop, same_run_at}
-use Rattle.connections.proofs.ReadySteps.{runnable_at}
+use Rattle.connections.proofs.ReadyLemmas.{runnable_at}
 
 -- the first of the days starts
 pub base_of : (zone : Zone) (first : Day) (days : ℕ) → 1 ≤ days → HaveStarts zone (days_from first days) → (base : ℤ) × IsDayStart zone first base

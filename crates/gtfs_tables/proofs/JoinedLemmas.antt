@@ -5,11 +5,11 @@ use Rattle.std.specs.List.{AllZip, list_any, slice_get, slice_index_or, slice_ra
 use Rattle.std.specs.Option.{option_or}
 use Rattle.std.specs.Str.{bytes_eq}
 use Rattle.std.specs.String.{string_bytes}
-use Rattle.std.proofs.lemmas.Bool.{and_parts, cases_Bool, cases_eq, false≢true, leb-true, ltb-true, le-ltb, lt-ltb, not-true}
+use Rattle.std.proofs.lemmas.Bool.{and_parts, cases_Bool, false≢true, leb-true, ltb-true, le-ltb, lt-ltb, not-true}
 use Rattle.std.proofs.lemmas.List.{get_or-drop, get_or-take, length-drop, length-map, length-take}
 use Rattle.std.proofs.lemmas.List.Folds.{list_any_at}
 use Rattle.std.proofs.lemmas.List.Sums.{count_by-le-length, length-filter}
-use Rattle.reasoning.proofs.FirstLemmas.{option_or-none, option_or-some}
+use Rattle.reasoning.proofs.FirstLemmas.{option_or-none, option_or-some, option_or_parts, first_below-none}
 use Rattle.reasoning.proofs.OptionLemmas.{option_cases}
 use Rattle.gtfs_rows.specs.Tables.{is_stop}
 use Rattle.gtfs_rows.specs.declared.fault.FaultKind.{FaultKind}
@@ -35,7 +35,7 @@ use Rattle.gtfs_tables.specs.declared.tables.Place.TheVariants as places
 use Rattle.gtfs_tables.specs.declared.tables.Tables.{Tables}
 use Rattle.gtfs_tables.specs.declared.tables.Transfer.{Transfer}
 use Rattle.gtfs_tables.specs.declared.tables.Trip.{Trip}
-use Rattle.gtfs_tables.proofs.TimeFacts.{ends_timed}
+use Rattle.gtfs_tables.proofs.TimeLemmas.{ends_timed}
 
 -- ---- what an id names is one of the stops
 
@@ -159,22 +159,6 @@ trips_counted turns rows repeats from (row ∷ trips) = ap (λ n. suc n) (trips_
 
 -- ---- their times and stops
 
-none_left : {X : Type 0} (x y : Option X) → option_or x y ≡ None → x ≡ None
-none_left None y e = refl
-none_left (Some x) y e = absurd cc
-
-none_right : {X : Type 0} (x y : Option X) → option_or x y ≡ None → y ≡ None
-none_right None y e = e
-none_right (Some x) y e = absurd cc
-
-none_below : {X : Type 0} (f : ℕ → Option X) (n k : ℕ) → first_below f n ≡ None → k < n → f k ≡ None
-unfolding first_below
-none_below f zero k e lt = absurd (omega (arith, lt))
-none_below f (suc n) k e lt = elim (cases_eq k n) [
-  | inl same ↦ rw same (none_right (first_below f n) (f n) e)
-  | inr other ↦ none_below f n k (none_left (first_below f n) (f n) e) (omega arith)
-]
-
 unmapped : {X Y : Type 0} (f : X → Y) (o : Option X) → option_map f o ≡ None → o ≡ None
 unmapped f None e = refl
 unmapped f (Some x) e = absurd cc
@@ -185,7 +169,7 @@ judged short flex x s f e = rw (s, f) at e
 timed_by : (strict : Bool) (rows : List StopTimeRow) → nat_lt (length rows) 2 ≡ false → is_flex rows ≡ false → first_wrong strict rows ≡ None → HasTimedEnds rows
 timed_by strict rows long steady e =
     let fine : wrong_times strict rows ≡ None = judged (nat_lt (length rows) 2) (is_flex rows) (wrong_times strict rows) long steady e in
-    ends_timed rows (none_left (wrong_given rows) _ fine)
+    ends_timed rows (option_or_parts (wrong_given rows) _ fine).0
 
 slice_length : {X : Type 0} (xs : List X) (first end : ℕ) → end ≤ length xs → length (slice_range xs first end) ≡ end - first
 slice_length xs first end le = omega (arith, length-take (end - first) (drop first xs), length-drop first xs)
@@ -252,9 +236,9 @@ fault_none : (strict : Bool) (t : Tables) (turns : List Turn) (k : ℕ) → firs
     → first_wrong strict (of_trip turns k (rows_by (stop_named t.stops.items) (trip_named t.trips.items) t turns)) ≡ None
 fault_none strict t turns k e lt =
     let rows = rows_by (stop_named t.stops.items) (trip_named t.trips.items) t turns in
-    let behind = none_right (naming_fault (stop_named t.stops.items) (trip_named t.trips.items) t) (option_or (first_below (trip_fault strict turns rows) (length t.trips.items)) (first_fault_of tables.Transfers (transfer_fault (stop_named t.stops.items)) t.transfers.items)) e in
-    let trips = none_left (first_below (trip_fault strict turns rows) (length t.trips.items)) (first_fault_of tables.Transfers (transfer_fault (stop_named t.stops.items)) t.transfers.items) behind in
-    unmapped (told_of (of_trip turns k turns)) (first_wrong strict (of_trip turns k rows)) (none_below (trip_fault strict turns rows) (length t.trips.items) k trips lt)
+    let behind = option_or_parts (naming_fault (stop_named t.stops.items) (trip_named t.trips.items) t) (option_or (first_below (trip_fault strict turns rows) (length t.trips.items)) (first_fault_of tables.Transfers (transfer_fault (stop_named t.stops.items)) t.transfers.items)) e in
+    let trips = option_or_parts (first_below (trip_fault strict turns rows) (length t.trips.items)) (first_fault_of tables.Transfers (transfer_fault (stop_named t.stops.items)) t.transfers.items) behind.1 in
+    unmapped (told_of (of_trip turns k turns)) (first_wrong strict (of_trip turns k rows)) (first_below-none (trip_fault strict turns rows) (length t.trips.items) k lt trips.0)
 
 -- the trip at a place, as it is made, is runnable
 made_runnable : (strict : Bool) (t : Tables) (feed : Feed) (joined : IsJoined strict t feed) (k : ℕ) (row : TripRow) → k < length t.trips.items

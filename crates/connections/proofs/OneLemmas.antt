@@ -12,7 +12,7 @@ use Rattle.connections.specs.Hops.{IsHop}
 use Rattle.connections.specs.Listed.{AreListed, IsBefore, IsRunHop}
 use Rattle.connections.specs.Outcome.{IsListing}
 use Rattle.connections.specs.declared.runs.Run.{Run}
-use Rattle.connections.proofs.LegalSteps.{base_of}
+use Rattle.connections.proofs.LegalLemmas.{base_of}
 use Rattle.connections.proofs.ListSteps.{hop_along, hops_rise, same_run_at}
 
 -- ---- lists that rise by a relation that doesn't go both ways

@@ -23,7 +23,7 @@ use Rattle.gtfs_tables.specs.declared.order.Turn.{Turn}
 use Rattle.gtfs_tables.specs.declared.tables.Tables.{Tables}
 use Rattle.gtfs_tables.specs.declared.tables.Transfer.{Transfer}
 use Rattle.gtfs_tables.specs.declared.tables.Trip.{Trip}
-use Rattle.gtfs_tables.proofs.TurnFacts.{turns_kept}
+use Rattle.gtfs_tables.proofs.TurnLemmas.{turns_kept}
 
 pub of_two : {X : Type 0} (a b c : Option X) (x : X) → a ≡ None → b ≡ Some x → option_or a (option_or b c) ≡ Some x
 of_two a b c x e f = rw (e, f) refl
