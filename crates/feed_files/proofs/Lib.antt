@@ -1,1 +1,1 @@
-pub mod ReadingFacts
+pub mod ReadingLemmas

@@ -2,6 +2,7 @@
 
 ghost use Rattle.std.specs.Prelude.{◌≡◌, ◌≤◌, [], length, None, IfOk, IfSome};
 ghost use Rattle.feed_files.specs.Files.{one_more};
+ghost use Rattle.feed_files.specs.declared.files.TheConstants.{LONGEST_FILE};
 
 use crate::failed::FailedNames;
 use crate::files::{FeedFiles, FileFault, LONGEST_FILE};
@@ -16,13 +17,18 @@ use std::rt::Files;
 
 /// A disk with feeds' folders. It asks of a machine no more than that, so that its files can be read from any thread.
 pub trait Disk {
-    /// The bytes of a file of a folder, none where there is no such file.
+    /// The bytes of a file of a folder, at most [`LONGEST_FILE`], none where there is no such file.
+    ///
+    /// # Errors
+    ///
+    /// `Failed` where the file is longer or can't be read, `OutOfMemory` where memory was wanting.
     fn feed_file(
         &self,
         alloc: Global,
         folder: &str,
         name: &str,
-    ) -> Result<Option<Vec<u8>>, FileFault>;
+    ) -> Result<Option<Vec<u8>>, FileFault>
+        ensures { IfOk result (λ file. IfSome file (λ bytes. length bytes.items ≤ LONGEST_FILE)) };
 
     /// A hash of a new random key, by which ids of a feed's files are looked up.
     fn id_hash(&self) -> IdHash;

@@ -2,11 +2,11 @@
 #![tactic(auto)]
 
 mod failed;
-pub mod files;
-pub mod folder;
+mod files;
+mod folder;
 pub mod laws;
-pub mod memory;
-pub mod reading;
+mod memory;
+mod reading;
 
 pub use failed::FailedNames;
 pub use files::{FeedFiles, FileFault, LONGEST_FILE};

@@ -19,7 +19,7 @@ use Rattle.footpaths.specs.Closure.{IsClosure, HasMorePairs, HasLongerWalk, AreI
 use Rattle.footpaths.specs.Search.{time_at, AreReached, IsToldLeast, AreToldLeast}
 use Rattle.footpaths.specs.Collected.{IsClosedInto, taken, IsTakeFault, IsCountFault}
 use Rattle.footpaths.proofs.OrderLemmas.{no_longer}
-use Rattle.timetable.proofs.LegalFacts.{in_order_push}
+use Rattle.timetable.proofs.LegalLemmas.{in_order_push}
 
 -- the times of the first stops reached were taken out of the table, and the others stay
 pub record AreTaken (start : List (Option ℕ)) (reached : List ℕ) (i : ℕ) (times : List (Option ℕ)) : Type 0 where

@@ -11,7 +11,7 @@ use Rattle.footpaths.specs.Closure.{IsClosure, AreInRange}
 use Rattle.footpaths.proofs.OrderLemmas.{at_nothing}
 use Rattle.footpaths.proofs.ClosureLemmas.{HasFootpath-append, HasFootpath-push, joined_in_range}
 use Rattle.footpaths.proofs.LawLemmas.{joined_leads, joined_end, joined_secs, leaves_in_range}
-use Rattle.timetable.proofs.LegalFacts.{in_order_push}
+use Rattle.timetable.proofs.LegalLemmas.{in_order_push}
 
 walk_of_more : (f : Footpath) (fs walk : List Footpath) (a : ℕ) → IsWalk (on_foot fs) a walk → IsWalk (on_foot (f ∷ fs)) a walk
 walk_of_more f fs [] a leads = tt

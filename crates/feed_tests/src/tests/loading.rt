@@ -229,6 +229,44 @@ fn a_day_without_runs_has_an_image(rt: HostRuntime) -> Result<(), Fail> {
     Ok(())
 }
 
+/// A station with two stops, and nothing that runs.
+const STATION: &str = "\
+stops.txt: S,1,|P,0,S|Q,0,S
+trips.txt service_id,trip_id
+stop_times.txt trip_id,arrival_time,departure_time,stop_id,stop_sequence";
+
+/// Its image without transfers, worked out by hand: 120 s lead from either stop to the other, and changing at one takes no time.
+const FREE_LOOPS: [u32; 24] = [
+    0x50415343, 2, 2, 0, 0, 4, 2, 1705276800, 0, 0, 2, 4, 0, 0, 1, 120, 0, 120, 1, 0, 0, 1, 2,
+    0x5150,
+];
+
+/// The same with 180 s within the station: from either stop to the other, and for changing at one.
+const SLOW_LOOPS: [u32; 24] = [
+    0x50415343, 2, 2, 0, 0, 4, 2, 1705276800, 0, 0, 2, 4, 0, 180, 1, 180, 0, 180, 1, 180, 0, 1, 2,
+    0x5150,
+];
+
+/// The same without a way from the first stop to the second.
+const ONE_WAY: [u32; 22] = [
+    0x50415343, 2, 2, 0, 0, 3, 2, 1705276800, 0, 0, 2, 3, 0, 180, 1, 180, 1, 180, 0, 1, 2, 0x5150,
+];
+
+/// The ways within a station, and the loops of its stops.
+#[test]
+fn a_station_has_ways_and_loops(rt: HostRuntime) -> Result<(), Fail> {
+    for (transfers, expected) in [
+        ("", FREE_LOOPS.as_slice()),
+        ("transfers.txt: S,S,2,180", SLOW_LOOPS.as_slice()),
+        ("transfers.txt: S,S,2,180|P,Q,3,", ONE_WAY.as_slice()),
+    ] {
+        let changed = format!(in rt.alloc(); "{}\n{transfers}", STATION)?;
+        let (image, _report) = loaded(rt.alloc(), changed.as_str(), &one_day())?;
+        assert!(rt; image.words() == expected);
+    }
+    Ok(())
+}
+
 #[test]
 fn what_is_wrong_is_told(rt: HostRuntime) {
     let missing = TableFault {

@@ -9,7 +9,7 @@ use Rattle.gtfs_rows.specs.declared.fault.Table.TheVariants as tables
 use Rattle.gtfs_rows.specs.Faults.{IsFaultOf}
 use Rattle.gtfs_rows.specs.Tables.{HoldsCalendar, HoldsCalendarDates, calendar_dates_shape, calendar_shape}
 use Rattle.feed_files.specs.Reading.{Content, FineBefore, NoTables, OptionalFault, Tells, earlier}
-use Rattle.feed_files.proofs.ReadingFacts.{calendar_fault, calendars_missing, fine_more, held_rows, no_file, no_tables, still_tells}
+use Rattle.feed_files.proofs.ReadingLemmas.{calendar_fault, calendars_missing, fine_more, held_rows, no_file, no_tables, still_tells}
 use Rattle.feed_files.proofs.reading.calendars.Goals as goal
 
 pub returns-in_err-calendar-clause-err : goal.returns-in_err-calendar-clause-err

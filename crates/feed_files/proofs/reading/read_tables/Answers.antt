@@ -8,7 +8,7 @@ use Rattle.gtfs_rows.specs.Tables.{HoldsTransfers, frequencies_shape, transfers_
 use Rattle.gtfs_rows.specs.declared.fault.Table.TheVariants as tables
 use Rattle.gtfs_rows.specs.declared.rows.TransferRow.{TransferRow}
 use Rattle.feed_files.specs.Reading.{Content, OptionalFault, Tells, earlier}
-use Rattle.feed_files.proofs.ReadingFacts.{calendars_fine, fine_more, no_tables, optional_rows, required_fine, still_tells}
+use Rattle.feed_files.proofs.ReadingLemmas.{calendars_fine, fine_more, no_tables, optional_rows, required_fine, still_tells}
 use Rattle.feed_files.proofs.reading.read_tables.Goals as goal
 
 pub returns-in_err-calendar-clause-err : goal.returns-in_err-calendar-clause-err

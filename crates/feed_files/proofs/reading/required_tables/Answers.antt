@@ -11,7 +11,7 @@ use Rattle.gtfs_rows.specs.declared.rows.AgencyRow.{AgencyRow}
 use Rattle.gtfs_rows.specs.declared.rows.StopRow.{StopRow}
 use Rattle.gtfs_rows.specs.declared.rows.TripRow.{TripRow}
 use Rattle.feed_files.specs.Reading.{Content, FineBefore, IsFine, RequiredFault, Tells, earlier}
-use Rattle.feed_files.proofs.ReadingFacts.{fine_more, no_tables, required_rows, still_tells}
+use Rattle.feed_files.proofs.ReadingLemmas.{fine_more, no_tables, required_rows, still_tells}
 use Rattle.feed_files.proofs.reading.required_tables.Goals as goal
 
 pub returns-in_err-stops-clause-err : goal.returns-in_err-stops-clause-err

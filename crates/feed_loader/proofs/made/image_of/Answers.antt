@@ -1,7 +1,7 @@
 use Rattle.std.proofs.Common.{arith, refl, subst, ℕ, ◌≤◌}
 use Rattle.std.proofs.lemmas.List.Elements.{All-contains}
 use Rattle.std.proofs.lemmas.Result.{err_from_is_err_and}
-use Rattle.timetable.proofs.LegalFacts.{Contains-At}
+use Rattle.timetable.proofs.LegalLemmas.{Contains-At}
 use Rattle.timetable.specs.declared.limits.TheConstants.{MAX_WALK_SECS}
 use Rattle.timetable.specs.declared.network.Footpath.{Footpath}
 use Rattle.footpaths.specs.Closure.{HasLegalFootpaths}
