@@ -8,7 +8,7 @@ ghost use Rattle.answer_pictures.specs.Words.{escaped};
 use crate::escaping::put_words;
 use std::alloc::AllocError;
 use std::fmt::Write as _;
-use timetable::clocks::Clock;
+use timetable::Clock;
 
 /// Adds a text as it is.
 pub(crate) fn put_text(out: &mut String, text: &str) -> Result<(), AllocError>

@@ -12,8 +12,7 @@ use criteria::ToldValue;
 use image_verifier::Verified;
 use std::alloc::{AllocError, Global};
 use std::fmt::Write as _;
-use timetable::clocks::{Clock, clock_text};
-use timetable::{Connection, Footpath, Journey, Ride};
+use timetable::{Clock, Connection, Footpath, Journey, Ride, clock_text};
 
 /// The title of a picture: from which stop to which.
 pub fn journeys_title(

@@ -9,6 +9,7 @@ use Rattle.fronts.specs.declared.entry.Entry.{Entry}
 abbrev pub own : {V : Type 0} → Entry V → Item V
 own e = record { departure = e.departure; value = e.value; tag = e.tag }
 
+-- the front that an entry carries, if there is one: its own point, then its part of the items
 abbrev pub front_of : {V : Type 0} → List (Item V) → Option (Entry V) → List (Item V)
 front_of items None = []
 front_of items (Some e) = own e ∷ take e.count (drop e.rest items)
@@ -30,6 +31,7 @@ abbrev pub departure_in : {V : Type 0} → Option (Entry V) → ℕ
 departure_in None = 0
 departure_in (Some e) = e.departure
 
+-- the departure of the entry at a place
 abbrev pub departure_of : {V : Type 0} → List (Entry V) → ℕ → ℕ
 departure_of entries m = departure_in (slice_get entries m)
 

@@ -12,12 +12,15 @@ use Rattle.fronts.specs.Entries.{AreEntries}
 use Rattle.fronts.specs.Front.{front, points_from}
 use Rattle.fronts.specs.Walking.{IsBoarding}
 
+-- the criterion by which values are compared
 abbrev pub lists_criterion : {K V : Type 0} → FrontLists K V → K
 lists_criterion lists = lists.criterion
 
+-- the entries of all lists, in one vector
 abbrev pub entries_of : {K V : Type 0} → FrontLists K V → List (Entry V)
 entries_of lists = lists.entries.items
 
+-- the items of the fronts of all entries, in one vector
 abbrev pub items_of : {K V : Type 0} → FrontLists K V → List (Item V)
 items_of lists = lists.items.items
 

@@ -3,14 +3,14 @@
 //! Entries and items are only pushed, never changed, so a place names the same list for ever. Place 0 ends each list.
 #![tactic(auto)]
 
-pub mod entry;
-pub mod front_lists;
+mod entry;
+mod front_lists;
 mod insertion;
 mod keeping;
-pub mod labels;
+mod labels;
 mod putting;
 mod search;
-pub mod valued;
+mod valued;
 
 pub use entry::{Entry, Item, Ridden, Step};
 pub use front_lists::FrontLists;

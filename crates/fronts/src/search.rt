@@ -33,7 +33,7 @@ pub fn front_betters<C: Criterion>(
     some_no_worse(criterion, part(arena.items, entry.rest, entry.count), value)
 }
 
-/// So many items from a place on.
+/// The items from a place on, so many of them.
 pub fn part<V>(items: &[Item<V>], rest: u32, count: u32) -> &[Item<V>]
     requires { rest + count ≤ length items.now }
     ensures { result.now ≡ take count (drop rest items.now) }
@@ -41,7 +41,7 @@ pub fn part<V>(items: &[Item<V>], rest: u32, count: u32) -> &[Item<V>]
     &items[rest as usize..rest as usize + count as usize]
 }
 
-/// The first entry on a list that departs at a time or later.
+/// The place of the first entry on a list, from `head` on, that departs at a time or later; 0 where the list has none.
 pub fn late<C: Criterion>(criterion: &C, arena: Arena<'_, '_, C::V>, head: u32, time: u32) -> u32
     requires entries { AreEntries (C.rules criterion.now) arena.entries.now arena.items.now }
     requires head { head < length arena.entries.now }
@@ -54,7 +54,8 @@ pub fn late<C: Criterion>(criterion: &C, arena: Arena<'_, '_, C::V>, head: u32, 
     place
 }
 
-/// The same, noting the entries that are passed.
+/// The place of the first entry on a list that departs at a time or later, as [`late`] finds it; `passed` has the places of the
+/// entries before it, in the order of the list, and no others.
 pub fn pass<C: Criterion>(
     criterion: &C,
     arena: Arena<'_, '_, C::V>,

@@ -5,4 +5,4 @@ mod fault;
 mod reading;
 
 pub use fault::ImageFileFault;
-pub use reading::image_words;
+pub use reading::{PIECE_WORDS, image_words};

@@ -11,8 +11,8 @@ use std::io::Read;
 use std::rt::Files;
 use std::{fs, io};
 
-/// How many words are read at once: so an image is held once, and not as bytes beside words.
-const PIECE_WORDS: usize = 16_384;
+/// How many words are read or written at once: so an image is held once, and not as bytes beside words.
+pub const PIECE_WORDS: usize = 16_384;
 
 /// The words of the file at the path, or of the input for `-`.
 pub fn image_words<H: Files + AllocGlobal, I: Read>(

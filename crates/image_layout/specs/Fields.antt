@@ -1,11 +1,13 @@
--- The word of each field, at its place.
+-- The word of each field, at its place. w are the words of an image; i, s and k are numbers from 0 on.
 use Rattle.std.specs.Prelude.{ℕ, ◌+◌, ◌*◌, ◌==◌, List, slice_index, if◌then◌else◌}
 use Rattle.image_layout.specs.declared.layout.TheConstants.{LAYOUT}
 use Rattle.image_layout.specs.Places.{header_of, foot_index_place, footpath_place, name_index_place, day_place, repeat_place}
 
+-- the word that all images begin with
 abbrev pub magic_of : List ℕ → ℕ
 magic_of w = slice_index w 0
 
+-- the number of the layout
 abbrev pub layout_of : List ℕ → ℕ
 layout_of w = slice_index w 1
 
@@ -13,39 +15,50 @@ layout_of w = slice_index w 1
 abbrev pub connection_place : ℕ → ℕ
 connection_place i = 9 + 6 * i
 
+-- the stop that connection i leaves
 abbrev pub from_of : List ℕ → ℕ → ℕ
 from_of w i = slice_index w (connection_place i)
 
+-- the stop that it reaches
 abbrev pub to_of : List ℕ → ℕ → ℕ
 to_of w i = slice_index w (connection_place i + 1)
 
+-- its departure, in seconds after the base
 abbrev pub dep_of : List ℕ → ℕ → ℕ
 dep_of w i = slice_index w (connection_place i + 2)
 
+-- its arrival, in seconds after the base
 abbrev pub arr_of : List ℕ → ℕ → ℕ
 arr_of w i = slice_index w (connection_place i + 3)
 
+-- its trip
 abbrev pub trip_of : List ℕ → ℕ → ℕ
 trip_of w i = slice_index w (connection_place i + 4)
 
+-- its flags: bit 0 where passengers may board, bit 1 where they may alight
 abbrev pub flags_of : List ℕ → ℕ → ℕ
 flags_of w i = slice_index w (connection_place i + 5)
 
+-- word s of the foot index: the place of the first footpath into stop s, behind the last into the stop before
 abbrev pub foot_index_of : List ℕ → ℕ → ℕ
 foot_index_of w s = slice_index w (foot_index_place (header_of w) + s)
 
+-- the stop that the footpath at place k leaves
 abbrev pub foot_from_of : List ℕ → ℕ → ℕ
 foot_from_of w k = slice_index w (footpath_place (header_of w) + 2 * k)
 
+-- the seconds that it takes
 abbrev pub foot_secs_of : List ℕ → ℕ → ℕ
 foot_secs_of w k = slice_index w (footpath_place (header_of w) + 2 * k + 1)
 
+-- word i of the name index: where name i begins in the text; the stops' names come first, then the trips'
 abbrev pub name_index_of : List ℕ → ℕ → ℕ
 name_index_of w i = slice_index w (name_index_place (header_of w) + i)
 
+-- the service day of trip i, as a number YYYYMMDD
 abbrev pub day_of : List ℕ → ℕ → ℕ
 day_of w i = slice_index w (day_place (header_of w) + i)
 
--- the first layout has no repeats: there each is 0
+-- which of its day's repeats trip i is. The first layout has no repeats: there each is 0
 abbrev pub repeat_of : List ℕ → ℕ → ℕ
 repeat_of w i = if layout_of w == LAYOUT then slice_index w (repeat_place (header_of w) + i) else 0

@@ -12,6 +12,7 @@ use Rattle.timetable.specs.NamesValue.{NamesValue, TripNameValue}
 abbrev pub flags : Connection → ℕ
 flags c = (if c.board then 1 else 0) + (if c.alight then 2 else 0)
 
+-- the six words of a connection
 abbrev pub connection_words : Connection → List ℕ
 connection_words c = c.from ∷ c.to ∷ c.dep ∷ c.arr ∷ c.trip ∷ flags c ∷ []
 
@@ -19,9 +20,11 @@ connection_words c = c.from ∷ c.to ∷ c.dep ∷ c.arr ∷ c.trip ∷ flags c 
 abbrev pub footpath_count_below : List Footpath → ℕ → ℕ
 footpath_count_below paths s = count_by (λ f. nat_lt f.to s) paths
 
+-- a word for each stop, and one more: how many footpaths lead into the stops before it
 abbrev pub foot_index : TimetableValue → List ℕ
 foot_index p = map (footpath_count_below p.footpaths) (range_with_len 0 (p.stops + 1))
 
+-- the two words of a footpath; the foot index tells the stop that it leads into
 abbrev pub footpath_words : Footpath → List ℕ
 footpath_words f = f.from ∷ f.secs ∷ []
 
@@ -33,9 +36,11 @@ name_list n = n.stops ++ map (λ (t : TripNameValue). t.name) n.trips
 abbrev pub byte_count_before : List (List ℕ) → ℕ → ℕ
 byte_count_before ns i = length (concat (take i ns))
 
+-- a word for each name, and one more: how many bytes stand before it
 abbrev pub name_index : NamesValue → List ℕ
 name_index n = map (byte_count_before (name_list n)) (range_with_len 0 (length (name_list n) + 1))
 
+-- the bytes of all names, one behind another
 abbrev pub text : NamesValue → List ℕ
 text n = concat (name_list n)
 
@@ -47,6 +52,7 @@ text_words (a ∷ b ∷ []) = from_le_bytes w32 (a ∷ b ∷ 0 ∷ 0 ∷ []) ∷
 text_words (a ∷ b ∷ c ∷ []) = from_le_bytes w32 (a ∷ b ∷ c ∷ 0 ∷ []) ∷ []
 text_words (a ∷ b ∷ c ∷ d ∷ rest) = from_le_bytes w32 (a ∷ b ∷ c ∷ d ∷ []) ∷ text_words rest
 
+-- the nine words of the header: magic, layout, five counts, and the base in two words, the low one first
 abbrev pub header : ℕ → TimetableValue → NamesValue → List ℕ
 header layout p n =
     MAGIC ∷ layout ∷ p.stops ∷ p.trips ∷ length p.connections ∷ length p.footpaths ∷ length (text n)

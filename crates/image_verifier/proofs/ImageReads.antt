@@ -5,7 +5,7 @@ use Rattle.timetable.specs.TimetableValue.{TimetableValue}
 use Rattle.timetable.specs.NamesValue.{NamesValue}
 use Rattle.timetable.specs.Legal.{At}
 use Rattle.timetable.specs.Journeys.{connection_at}
-use Rattle.timetable.proofs.LegalFacts.{connection_at-is}
+use Rattle.timetable.proofs.LegalLemmas.{connection_at-is}
 use Rattle.image_layout.specs.Places.{IsWhole, header_of}
 use Rattle.image_layout.specs.Fields.{layout_of, dep_of}
 use Rattle.image_layout.specs.Shown.{connection_of, connections_of}

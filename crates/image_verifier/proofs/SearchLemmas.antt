@@ -8,7 +8,7 @@ use Rattle.timetable.specs.declared.network.Connection.{Connection}
 use Rattle.timetable.specs.TimetableValue.{TimetableValue}
 use Rattle.timetable.specs.Legal.{At, IsLegal}
 use Rattle.timetable.specs.Journeys.{connection_at}
-use Rattle.timetable.proofs.LegalFacts.{connection_at-is, departures_rise}
+use Rattle.timetable.proofs.LegalLemmas.{connection_at-is, departures_rise}
 use Rattle.image_verifier.specs.FirstAt.{IsFirstAt}
 use Rattle.image_verifier.specs.Searches.{HasDigits, FindsByFew}
 

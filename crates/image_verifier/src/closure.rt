@@ -17,7 +17,7 @@ use image_layout::{Header, foot_from_at, foot_index_at, foot_secs_at};
 /// The entry of a stop from where no footpath leads: more seconds than any two footpaths take.
 pub const NEVER: u32 = 4_294_967_295;
 
-/// Puts the seconds of the footpaths into a stop into a table without entries.
+// Puts the seconds of the footpaths into a stop into a table without entries.
 fn enter_row(words: &[u32], into: usize, secs: &mut [u32])
     requires whole { IsWhole words.now }
     requires ranges { HasFootRanges words.now }
@@ -30,7 +30,7 @@ fn enter_row(words: &[u32], into: usize, secs: &mut [u32])
     }
 }
 
-/// Takes them out again.
+// Takes them out again.
 fn clear_row(words: &[u32], into: usize, secs: &mut [u32])
     requires whole { IsWhole words.now }
     requires ranges { HasFootRanges words.now }
@@ -43,7 +43,7 @@ fn clear_row(words: &[u32], into: usize, secs: &mut [u32])
     }
 }
 
-/// The first fault from any stop by way of where a second footpath begins, which leads into a stop.
+// The first fault from any stop by way of where a second footpath begins, which leads into a stop.
 fn way_fault(words: &[u32], into: usize, second: usize, secs: &[u32]) -> Option<ImageFault>
     requires whole { IsWhole words.now }
     requires ranges { HasFootRanges words.now }
@@ -62,8 +62,8 @@ fn way_fault(words: &[u32], into: usize, second: usize, secs: &[u32]) -> Option<
     None
 }
 
-/// The first fault from any stop by way of any stop into a stop. The table has no entries before, and none behind where there
-/// is no fault.
+// The first fault from any stop by way of any stop into a stop. The table has no entries before, and none behind where there
+// is no fault.
 fn into_fault(words: &[u32], into: usize, secs: &mut [u32]) -> Option<ImageFault>
     requires whole { IsWhole words.now }
     requires ranges { HasFootRanges words.now }

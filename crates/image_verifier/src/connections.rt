@@ -8,7 +8,7 @@ use crate::fault::ImageFault;
 use image_layout::{Header, arr_at, dep_at, flags_at, from_at, to_at, trip_at};
 use timetable::limits::TIME_END;
 
-/// The fault of connection i by itself.
+// The fault of connection i by itself.
 fn own_fault(words: &[u32], i: usize) -> Option<ImageFault>
     requires whole { IsWhole words.now }
     requires within { i < (header_of words.now).connections }
@@ -46,7 +46,7 @@ impl TripEnd {
     }
 }
 
-/// Whether connection i doesn't go on from where and when the trip's connection before it ended.
+// Whether connection i doesn't go on from where and when the trip's connection before it ended.
 fn is_break(words: &[u32], i: usize, end: TripEnd) -> bool
     requires whole { IsWhole words.now }
     requires within { i < (header_of words.now).connections }
@@ -55,7 +55,7 @@ fn is_break(words: &[u32], i: usize, end: TripEnd) -> bool
     end.arr != 0 && (end.stop != from_at(words, i) || dep_at(words, i) < end.arr)
 }
 
-/// The fault of connection i beside the one before it, where it is known whether it breaks its trip.
+// The fault of connection i beside the one before it, where it is known whether it breaks its trip.
 fn place_fault(words: &[u32], i: usize, broken: bool) -> Option<ImageFault>
     requires whole { IsWhole words.now }
     requires within { i < (header_of words.now).connections }
@@ -70,7 +70,7 @@ fn place_fault(words: &[u32], i: usize, broken: bool) -> Option<ImageFault>
     }
 }
 
-/// The fault of connection i, over a table of where and when each trip's last connection before i ended.
+// The fault of connection i, over a table of where and when each trip's last connection before i ended.
 fn connection_fault(words: &[u32], i: usize, ends: &[TripEnd]) -> Option<ImageFault>
     requires whole { IsWhole words.now }
     requires within { i < (header_of words.now).connections }

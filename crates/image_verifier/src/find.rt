@@ -16,7 +16,7 @@ pub fn name_len_at(words: &[u32], name: usize) -> usize
     (name_index_at(words, name + 1) - name_index_at(words, name)) as usize
 }
 
-/// Whether a name is these bytes. Its length tells most names apart, and then its first byte.
+// Whether a name is these bytes. Its length tells most names apart, and then its first byte.
 fn is_name(words: &[u32], name: usize, bytes: &[u8]) -> bool
     requires accepted { IsAccepted words.now }
     requires within { name < name_count words.now }

@@ -48,8 +48,8 @@ fn header_fault(words: &[u32]) -> Option<ImageFault>
     None
 }
 
-/// What is judged after all memory was taken: tables with no end for each trip and no
-/// seconds for each stop, and the text of the names.
+// What is judged after all memory was taken: tables with no end for each trip and no
+// seconds for each stop, and the text of the names.
 #[tactic(auto, unfolding(crate::specs::FirstFault::section_fault))]
 fn section_fault(
     words: &[u32],

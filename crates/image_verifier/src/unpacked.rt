@@ -25,7 +25,7 @@ fn unpack_connections(alloc: Global, words: &[u32]) -> Result<Vec<Connection>, A
     Ok(connections)
 }
 
-/// Adds the footpaths into a stop.
+// Adds the footpaths into a stop.
 fn unpack_walks_into(
     words: &[u32],
     stop: usize,
@@ -75,7 +75,7 @@ pub fn unpack_timetable(alloc: Global, words: &[u32]) -> Result<Timetable, Alloc
     })
 }
 
-/// The bytes of a name.
+// The bytes of a name.
 fn unpack_name_bytes(alloc: Global, words: &[u32], name: usize) -> Result<Vec<u8>, AllocError>
     requires accepted { IsAccepted words.now }
     requires within { name < name_count words.now }

@@ -65,7 +65,7 @@ pub fn verify(alloc: Global, words: Vec<u32>) -> Result<Verified, (Vec<u32>, Ima
     }
 }
 
-/// The stop whose footpaths have the place among them.
+// The stop whose footpaths have the place among them.
 fn stop_of(words: &[u32], place: usize) -> usize
     requires whole { IsWhole words.now }
     requires start { foot_index_of words.now 0 ≤ place }
@@ -87,7 +87,7 @@ fn stop_of(words: &[u32], place: usize) -> usize
     low
 }
 
-/// The footpath at a place among those into a stop.
+// The footpath at a place among those into a stop.
 fn footpath_of_stop(words: &[u32], stop: usize, place: usize) -> Footpath
     requires accepted { IsAccepted words.now }
     requires stop { stop < (header_of words.now).stops }
@@ -102,7 +102,7 @@ fn footpath_of_stop(words: &[u32], stop: usize, place: usize) -> Footpath
     }
 }
 
-/// The footpath at a place.
+// The footpath at a place.
 fn footpath_at(words: &[u32], place: usize) -> Footpath
     requires accepted { IsAccepted words.now }
     requires within { place < (header_of words.now).footpaths }
@@ -120,6 +120,7 @@ impl Verified {
         Header::of(&self.words).stops
     }
 
+    /// How many trips there are.
     pub fn trips(&self) -> u32
         ensures { result ≡ self.now.timetable.trips }
     {
@@ -133,6 +134,7 @@ impl Verified {
         Header::of(&self.words).connections as usize
     }
 
+    /// The connection with this number, from 0 on.
     pub fn connection(&self, i: usize) -> Connection
         requires { i < length self.now.timetable.connections }
         ensures { slice_get self.now.timetable.connections i ≡ Some result }

@@ -1,11 +1,12 @@
 -- Reading walks and rides one after the other, as loops do.
-use Rattle.std.proofs.Common.{◌≡◌, ◌≢◌, ℕ, suc, ◌-◌, ◌+◌, ◌≤◌, ◌<◌, Bool, true, false, eqb, cond, List, [], ◌∷◌, ◌++◌, length, codes, Option, Some}
+use Rattle.std.proofs.Common.{◌≡◌, ◌≢◌, ℕ, suc, ◌-◌, ◌+◌, ◌≤◌, ◌<◌, eqb, List, [], ◌∷◌, ◌++◌, length, codes, Option, Some}
 use Rattle.std.proofs.Common.{None, refl, sym, ap, ◌∙◌, append_assoc, arith}
 use Rattle.std.specs.Prelude.{MatchOption}
 use Rattle.std.specs.Option.{option_map}
 use Rattle.std.proofs.lemmas.List.{append-nil}
 use Rattle.std.proofs.lemmas.Bool.{eq-eqb, eqb-true, ne_eqb, cond-true}
 use Rattle.std.proofs.Common.{Bor}
+use Rattle.reasoning.proofs.OptionLemmas.{some_where}
 use Rattle.timetable.specs.declared.network.Footpath.{Footpath}
 use Rattle.timetable.specs.JourneyValue.{RideValue}
 use Rattle.journeys.specs.declared.text_fault.TextFault.{TextFault}
@@ -23,14 +24,10 @@ unfolding after
 after-split [] bytes rest e = cc
 after-split (w ∷ word) [] rest e = absurd cc
 after-split (w ∷ word) (b ∷ bytes) rest e =
-    let parts = when (eqb w b) (after word bytes) rest e in
+    let parts = some_where (eqb w b) (after word bytes) rest e in
     let first : w ≡ b = eqb-true w b parts.0 in
     let others = after-split word bytes rest parts.1 in
     λ i. sym first i ∷ others i
-  where
-    when : (b : Bool) (o : Option (List ℕ)) (x : List ℕ) → cond b o None ≡ Some x → (b ≡ true) × (o ≡ Some x)
-    when true o x e = (refl, e)
-    when false o x e = absurd cc
 
 after-none : (word bytes : List ℕ) → ((rest : List ℕ) → bytes ≢ word ++ rest) → (o : Option (List ℕ)) → after word bytes ≡ o → None ≡ after word bytes
 after-none word bytes never None e = sym e

@@ -9,6 +9,7 @@ use Rattle.timetable.specs.JourneyValue.{RideValue, JourneyValue}
 abbrev pub number_text : ℕ → List ℕ
 number_text n = 32 ∷ decimal n
 
+-- a footpath's numbers: the stop left, the stop led into, the seconds
 abbrev pub footpath_text : Footpath → List ℕ
 footpath_text f = number_text f.from ++ (number_text f.to ++ number_text f.secs)
 
@@ -16,6 +17,7 @@ footpath_text f = number_text f.from ++ (number_text f.to ++ number_text f.secs)
 abbrev pub walk_text : Footpath → List ℕ
 walk_text f = codes " walk" ++ footpath_text f
 
+-- a leg's numbers: its first connection and its last
 abbrev pub leg_text : Leg → List ℕ
 leg_text leg = number_text leg.first ++ number_text leg.last
 
@@ -37,6 +39,7 @@ IsFootpathOfWords f = (f.from < 2 ^ 32) × (f.to < 2 ^ 32) × (f.secs < 2 ^ 32)
 abbrev pub IsRideOfWords : RideValue → Type 0
 IsRideOfWords r = (r.leg.first < 2 ^ 32) × (r.leg.last < 2 ^ 32) × AllByRecursion IsFootpathOfWords r.walk
 
+-- a journey that has a text: it has rides, and all its numbers have 32 bits at most
 pub record HasText (j : JourneyValue) : Type 0 where
   pub some : j.rides ≢ []
   pub start : IfSome j.start IsFootpathOfWords

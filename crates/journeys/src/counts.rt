@@ -16,7 +16,7 @@ use crate::way::Way;
 use image_verifier::Verified;
 use timetable::{Journey, Query, Times};
 
-/// The first fault of the journey itself, and of where it leads.
+// The first fault of the journey itself, and of where it leads.
 #[tactic(auto, unfolding(crate::specs::Faults::path_fault))]
 fn path_fault(image: &Verified, query: &Query, way: &Way<'_>) -> Option<JourneyFault>
     ensures { result ≡ path_fault image.now.timetable query.now way.now.start way.now.rides.now }

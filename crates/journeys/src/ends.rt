@@ -12,7 +12,7 @@ use crate::way::Way;
 use image_verifier::Verified;
 use timetable::{Footpath, Query, Ride, Times};
 
-/// When ride i is over, its walk too, or the greatest number where it is later.
+// When ride i is over, its walk too, or the greatest number where it is later.
 fn over_at(image: &Verified, rides: &[Ride], i: usize) -> u64
     requires legs { AreLegs image.now.timetable rides.now }
     requires within { i < length rides.now }
@@ -50,7 +50,7 @@ pub fn times_fault(image: &Verified, rides: &[Ride]) -> Option<JourneyFault>
     None
 }
 
-/// Where a journey begins, where its first leg departs given.
+// Where a journey begins, where its first leg departs given.
 fn begin_of(start: Option<Footpath>, stop: u32) -> u32
     ensures { result ≡ begin_of start stop }
 {
@@ -60,7 +60,7 @@ fn begin_of(start: Option<Footpath>, stop: u32) -> u32
     }
 }
 
-/// The seconds of a start.
+// The seconds of a start.
 fn start_secs(start: Option<Footpath>) -> u32
     ensures { result ≡ start_secs start }
 {
@@ -70,7 +70,7 @@ fn start_secs(start: Option<Footpath>) -> u32
     }
 }
 
-/// Where a walk from a stop ends.
+// Where a walk from a stop ends.
 fn walk_end(stop: u32, walk: &[Footpath]) -> u32
     ensures { result ≡ walk_end stop walk.now }
 {
@@ -81,7 +81,7 @@ fn walk_end(stop: u32, walk: &[Footpath]) -> u32
     here
 }
 
-/// Where ride i ends, its walk too.
+// Where ride i ends, its walk too.
 fn stop_after(image: &Verified, rides: &[Ride], i: usize) -> u32
     requires legs { AreLegs image.now.timetable rides.now }
     requires within { i < length rides.now }

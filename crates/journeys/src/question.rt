@@ -5,8 +5,7 @@ ghost use Rattle.timetable.specs.Queries.{IsAskable};
 ghost use Rattle.journeys.specs.Questions.{Asks, IsRefused};
 
 use image_verifier::Verified;
-use timetable::Query;
-use timetable::query::QueryFault;
+use timetable::{Query, QueryFault};
 
 /// When one travels, in seconds after the base.
 #[derive(Clone, Copy, Debug, PartialEq, Eq)]

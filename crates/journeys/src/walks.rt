@@ -68,7 +68,7 @@ fn start_fault(image: &Verified, start: Option<Footpath>, stop: u32) -> Option<J
     }
 }
 
-/// Whether footpaths lead elsewhere, or nowhere.
+// Whether footpaths lead elsewhere, or nowhere.
 fn is_elsewhere(led: Option<u32>, goal: u32) -> bool
     ensures { result ≡ is_elsewhere led goal }
 {

@@ -11,7 +11,7 @@ use Rattle.timetable.specs.TimetableValue.{TimetableValue}
 use Rattle.timetable.specs.Legal.{At}
 use Rattle.timetable.specs.Limits.{IsWithinLimits}
 use Rattle.timetable.specs.Journeys.{connection_at, IsStart, start_end}
-use Rattle.timetable.proofs.LegalFacts.{Contains-At, At-Contains}
+use Rattle.timetable.proofs.LegalLemmas.{Contains-At, At-Contains}
 use Rattle.profile_scan.specs.Values.{started}
 use Rattle.profile_scan.specs.Matching.{Spellings}
 use Rattle.profile_scan.specs.Steps.{Offer, TakesIn, boardings, settings_out, MayBoard, MaySetOut}

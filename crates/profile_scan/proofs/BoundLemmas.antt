@@ -13,7 +13,7 @@ use Rattle.bags.proofs.Order.{before_falls}
 use Rattle.timetable.specs.TimetableValue.{TimetableValue}
 use Rattle.timetable.specs.Legal.{IsLegal}
 use Rattle.timetable.specs.Journeys.{connection_at}
-use Rattle.timetable.proofs.LegalFacts.{departures_rise, Contains-At}
+use Rattle.timetable.proofs.LegalLemmas.{departures_rise, Contains-At}
 use Rattle.profile_scan.specs.Steps.{AreCarried}
 use Rattle.profile_scan.specs.Bound.{is_bettered, carried, AreBounds, IsLateValue, TakesPoints, TakesValue}
 use Rattle.profile_scan.proofs.Admitted.{AreAdmitted}

@@ -6,7 +6,7 @@ use Rattle.timetable.specs.TimetableValue.{TimetableValue}
 use Rattle.timetable.specs.Legal.{IsLegal}
 use Rattle.timetable.specs.Limits.{IsWithinLimits}
 use Rattle.timetable.specs.Journeys.{IsWalk, IsStart}
-use Rattle.timetable.proofs.LegalFacts.{closed_footpath, walk_limit}
+use Rattle.timetable.proofs.LegalLemmas.{closed_footpath, walk_limit}
 use Rattle.profile_scan.specs.Values.{walked, started}
 use Rattle.profile_scan.specs.LawStatements.{IsInstead, ChainsGiveWay}
 

@@ -7,7 +7,7 @@ use Rattle.timetable.specs.JourneyValue.{RideValue, JourneyValue}
 use Rattle.timetable.specs.Legal.{IsLegal}
 use Rattle.timetable.specs.Journeys.{connection_at, walk_end, walk_secs, Leads, final_time, time_after, stop_after, first_departure, start_end, start_secs, Counts}
 use Rattle.timetable.specs.declared.query.Query.{Query}
-use Rattle.timetable.proofs.LegalFacts.{hop_takes_time}
+use Rattle.timetable.proofs.LegalLemmas.{hop_takes_time}
 use Rattle.sources.specs.FirstAt.{IsFirstAt}
 use Rattle.profile_scan.specs.Continuations.{Onward, Aboard, BoardsFrom, IsOnward, IsAboard, CountsFrom, time_off}
 use Rattle.profile_scan.specs.Matching.{Matches, MatchesBut}

@@ -9,7 +9,7 @@ use Rattle.timetable.specs.TimetableValue.{TimetableValue}
 use Rattle.timetable.specs.Legal.{IsLegal}
 use Rattle.timetable.specs.Limits.{IsWithinLimits}
 use Rattle.timetable.specs.Journeys.{connection_at}
-use Rattle.timetable.proofs.LegalFacts.{one_footpath, walk_limit}
+use Rattle.timetable.proofs.LegalLemmas.{one_footpath, walk_limit}
 use Rattle.profile_scan.specs.Points.{Covers}
 use Rattle.profile_scan.specs.Matching.{Spellings}
 use Rattle.profile_scan.specs.Steps.{TakesIn, Leaving, ends, ends_after, changes, leaving_value, leavings}

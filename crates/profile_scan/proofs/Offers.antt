@@ -2,7 +2,7 @@
 use Rattle.std.proofs.Common.{◌≡◌, ◌⊎◌, ℕ, ◌+◌, ◌≤◌, Bool, true, false, nat_le, List, length, Contains, slice_get, Option, Some, None, IfSome, Result, Ok, Err, OnOk, refl, sym, ◌∙◌, ap, subst, inl, inr, arith}
 use Rattle.std.proofs.lemmas.Bool.{cases_Bool, cases_lt, leb-true, and_parts, true≢false}
 use Rattle.std.proofs.lemmas.Option.{slice_get_within, same_Some}
-use Rattle.timetable.proofs.LegalFacts.{Contains-At, At-Contains}
+use Rattle.timetable.proofs.LegalLemmas.{Contains-At, At-Contains}
 use Rattle.criteria.specs.Laws.{Rules, Laws, Admits, NoWorse, IsSecs}
 use Rattle.timetable.specs.declared.network.Footpath.{Footpath}
 use Rattle.profile_scan.specs.Values.{started}

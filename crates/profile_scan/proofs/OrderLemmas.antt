@@ -11,7 +11,7 @@ use Rattle.criteria.specs.Laws.{Rules, Laws, Admits, NoWorse}
 use Rattle.bags.specs.Dominance.{Apart, IsBag}
 use Rattle.bags.specs.declared.point.Point.{Point}
 use Rattle.bags.proofs.Lists.{from_insert, into_insert, all_pairs_insert}
-use Rattle.timetable.proofs.LegalFacts.{Contains-At, At-Contains}
+use Rattle.timetable.proofs.LegalLemmas.{Contains-At, At-Contains}
 use Rattle.profile_scan.specs.Points.{Before, is_before}
 use Rattle.profile_scan.specs.Matching.{Matches}
 use Rattle.profile_scan.proofs.Answer.{only_itself, not_before_itself}

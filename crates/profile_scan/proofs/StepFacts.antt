@@ -1,7 +1,7 @@
 -- What is kept alike matches alike, and where nothing is offered all stays.
 use Rattle.std.proofs.Common.{◌≡◌, ◌≢◌, ◌<◌, ℕ, List, [], length, Contains, Option, None, refl, sym, ap, subst, arith}
 use Rattle.timetable.specs.Legal.{IsLegal}
-use Rattle.timetable.proofs.LegalFacts.{connection_at-stands}
+use Rattle.timetable.proofs.LegalLemmas.{connection_at-stands}
 use Rattle.criteria.specs.Laws.{Rules}
 use Rattle.bags.specs.declared.point.Point.{Point}
 use Rattle.timetable.specs.declared.network.Connection.{Connection}

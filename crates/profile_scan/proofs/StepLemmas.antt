@@ -6,7 +6,7 @@ use Rattle.bags.specs.declared.point.Point.{Point}
 use Rattle.timetable.specs.TimetableValue.{TimetableValue}
 use Rattle.timetable.specs.Journeys.{connection_at}
 use Rattle.timetable.specs.declared.query.Query.{Query}
-use Rattle.timetable.proofs.LegalFacts.{connection_at-stands}
+use Rattle.timetable.proofs.LegalLemmas.{connection_at-stands}
 use Rattle.profile_scan.specs.Values.{journey_value}
 use Rattle.profile_scan.specs.Points.{Covers}
 use Rattle.profile_scan.specs.Continuations.{Aboard, IsOnward, IsAboard, CountsFrom, onward_value, aboard_value}

@@ -7,7 +7,7 @@ use Rattle.timetable.specs.TimetableValue.{TimetableValue}
 use Rattle.timetable.specs.JourneyValue.{RideValue}
 use Rattle.timetable.specs.Legal.{IsLegal}
 use Rattle.timetable.specs.Journeys.{connection_at, IsLeg, Leads, final_time, time_after, stop_after}
-use Rattle.timetable.proofs.LegalFacts.{connection_at-stands, connection_at-is, hop_takes_time, departures_rise}
+use Rattle.timetable.proofs.LegalLemmas.{connection_at-stands, connection_at-is, hop_takes_time, departures_rise}
 use Rattle.profile_scan.specs.Continuations.{BoardsFrom}
 use Rattle.profile_scan.specs.LawStatements.{DeparturesRise, TogetherNeverContinue}
 

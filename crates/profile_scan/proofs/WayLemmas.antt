@@ -6,8 +6,9 @@ use Rattle.std.proofs.lemmas.Option.{same_Some}
 use Rattle.reasoning.proofs.OptionLemmas.{some-none}
 use Rattle.timetable.specs.declared.network.Footpath.{Footpath}
 use Rattle.timetable.specs.TimetableValue.{TimetableValue}
+use Rattle.timetable.specs.declared.limits.TheConstants.{MAX_WALK_SECS}
 use Rattle.timetable.specs.Legal.{At}
-use Rattle.timetable.proofs.LegalFacts.{Contains-At, At-Contains}
+use Rattle.timetable.proofs.LegalLemmas.{Contains-At, At-Contains}
 use Rattle.profile_scan.specs.Adding.{StandsBetween}
 use Rattle.profile_scan.specs.Kept.{IsWay, AreWays, way_if, way_in}
 use Rattle.profile_scan.proofs.BoardLemmas.{between_split}
@@ -77,6 +78,6 @@ no_words (suc n) = ap (λ (ways : List (Option ℕ)). None ∷ ways) (no_words n
 pub none_in_words : (n : ℕ) (words : List ℕ) → words ≡ replicate n 4294967295 → map way_in words ≡ replicate n None
 none_in_words n words e = ap (map way_in) e ∙ no_words n
 
-pub one_in_words : (words : List ℕ) (stop secs : ℕ) → secs ≤ 1000000 → set (map way_in words) stop (Some secs) ≡ map way_in (set words stop secs)
+pub one_in_words : (words : List ℕ) (stop secs : ℕ) → secs ≤ MAX_WALK_SECS → set (map way_in words) stop (Some secs) ≡ map way_in (set words stop secs)
 one_in_words words stop secs small =
-    ap (λ (way : Option ℕ). set (map way_in words) stop way) (sym (ap (λ b. way_if b secs) (le-leb secs 1000000 small))) ∙ sym (map-set way_in words stop secs)
+    ap (λ (way : Option ℕ). set (map way_in words) stop way) (sym (ap (λ b. way_if b secs) (le-leb secs MAX_WALK_SECS small))) ∙ sym (map-set way_in words stop secs)

@@ -10,7 +10,7 @@ use Rattle.timetable.specs.TimetableValue.{TimetableValue}
 use Rattle.timetable.specs.Legal.{IsLegal}
 use Rattle.timetable.specs.Journeys.{connection_at}
 use Rattle.timetable.specs.declared.query.Query.{Query}
-use Rattle.timetable.proofs.LegalFacts.{departures_rise}
+use Rattle.timetable.proofs.LegalLemmas.{departures_rise}
 use Rattle.profile_scan.specs.Window.{departs_inside, window, falling}
 use Rattle.sources.specs.FirstAt.{IsFirstAt}
 use Rattle.profile_scan.specs.LawStatements.{WindowIsReadBackward}

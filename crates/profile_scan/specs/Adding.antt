@@ -66,7 +66,7 @@ StandsBefore points n x = (k : ℕ) × (k < n) × (slice_get points k ≡ Some x
 abbrev pub StandsAtOne : {X : Type 0} → List X → List ℕ → X → Type 0
 StandsAtOne points places x = (k : ℕ) × Contains places k × (slice_get points k ≡ Some x)
 
--- a bag is offered each label of a trip, boarded at place i after a footpath
+-- the points of a stop are offered each label of a trip, boarded at place i after a footpath
 abbrev pub boardings_after : {V : Type 0} → Rules V → Spellings → ℕ → ℕ → Footpath → List (Point V) → Offer (Point V) V
 boardings_after rules tags i departure walk labels = record {
   is_open = Contains labels;
@@ -89,7 +89,7 @@ pub record AreRidden {V : Type 0} (rules : Rules V) (labels : List (Point V)) (r
   pub of_label : (r : Ridden V) → Contains ridden r → (l : Point V) × Contains labels l × (r.value ≡ rules.ride l.value) × (r.label ≡ l.tag)
   pub each : (l : Point V) → Contains labels l → (r : Ridden V) × Contains ridden r × (r.value ≡ rules.ride l.value)
 
--- labels are offered each point of a bag that departs at a time or later, the trip being left at place i
+-- labels are offered each point of a stop that departs at a time or later, the trip being left at place i
 abbrev pub changes_from : {V : Type 0} → Spellings → ℕ → ℕ → List (Point V) → Offer (Point V) V
 changes_from tags i time bag = record {
   is_open = λ p. Contains bag p × (time ≤ p.departure);
@@ -167,7 +167,7 @@ abbrev pub IsTried : List Footpath → ℕ → ℕ → Option Footpath → Type 
 IsTried walks begin end None = Unit {0}
 IsTried walks begin end (Some walk) = StandsBetween walks begin end walk
 
--- what one footpath into a connection's start offers the bag of a stop: something, if it begins there and is short enough
+-- what one footpath into a connection's start offers the points of a stop: something, if it begins there and is short enough
 abbrev pub boardings_by : {V : Type 0} → Rules V → Spellings → ℕ → Connection → ℕ → List (Point V) → Footpath → Offer (Point V) V
 boardings_by rules tags i c stop labels walk = only_if ((walk.from ≡ stop) × (walk.secs ≤ c.dep)) (boardings_after rules tags i (c.dep - walk.secs) walk labels)
 

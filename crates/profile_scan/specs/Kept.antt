@@ -3,6 +3,7 @@ use Rattle.std.specs.Prelude.{◌≡◌, ℕ, ◌<◌, List, length, vec_len, Co
 use Rattle.bags.specs.Bag.{criterion_of, points_of}
 use Rattle.bags.specs.declared.point.Point.{Point}
 use Rattle.timetable.specs.declared.network.Footpath.{Footpath}
+use Rattle.timetable.specs.declared.limits.TheConstants.{MAX_WALK_SECS}
 use Rattle.timetable.specs.TimetableValue.{TimetableValue}
 use Rattle.criteria.specs.Laws.{Rules}
 use Rattle.fronts.specs.Lists.{IsSound, lists_criterion, entries_of, steps_of, list_points}
@@ -36,7 +37,7 @@ way_if true word = Some word
 way_if false word = None
 
 abbrev pub way_in : ℕ → Option ℕ
-way_in word = way_if (nat_le word 1000000) word
+way_in word = way_if (nat_le word MAX_WALK_SECS) word
 
 -- the seconds from each stop
 abbrev pub ways_of : Ways → List (Option ℕ)

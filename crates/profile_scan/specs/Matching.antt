@@ -11,7 +11,7 @@ use Rattle.profile_scan.specs.Points.{Covers}
 use Rattle.profile_scan.specs.Continuations.{Onward, Aboard, IsOnward, IsAboard, CountsFrom, onward_value, aboard_value}
 use Rattle.profile_scan.specs.Plain.{IsPlainOnward, IsPlainAboard, IsPlain}
 
--- what the tags of bags, of labels and of the points found spell: how one goes on, or nothing
+-- what the tags of the points of stops, of labels and of the points found spell: how one goes on, or nothing
 pub record Spelling : Type 0 where
   pub onward : ℕ → Option Onward
   pub aboard : ℕ → Option Aboard
@@ -62,7 +62,7 @@ pub record IsLabelled (t : TimetableValue) (q : Query) (i trip departure : ℕ) 
   pub departed : departure ≡ 0
   pub aboard : IsAboard t q i trip x
 
--- what a scan keeps: a bag for each stop, labels for each trip, and the points found at the source
+-- what a scan keeps: the points of each stop (`bag`), the labels of each trip, and the points found at the source
 pub record ScanValue (V : Type 0) : Type 0 where
   pub bag : ℕ → List (Point V)
   pub labels : ℕ → List (Point V)

@@ -17,6 +17,7 @@ HasPlainWalk t target last walk [] =
     ⊎ (((connection_at t last).to ≢ target) × IsOneFootpath walk)
 HasPlainWalk t target last walk (ride ∷ rides) = IsOneFootpath walk
 
+-- rides are plain: so is the walk after each leg
 abbrev pub ArePlain : TimetableValue → ℕ → List RideValue → Type 0
 ArePlain t target [] = Unit {0}
 ArePlain t target (ride ∷ rides) = HasPlainWalk t target ride.leg.last ride.walk rides × ArePlain t target rides

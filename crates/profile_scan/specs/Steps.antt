@@ -34,13 +34,14 @@ pub record TakesIn {A V : Type 0} (rules : Rules V) (offer : Offer A V) (old new
   pub kept : (departure : ℕ) (v : V) → Admits rules v → Covers rules old departure v → Covers rules new departure v
   pub covered : (way : A) → offer.is_open way → Covers rules new (offer.departure way) (offer.value way)
 
--- how one who sits in a trip may leave it where a connection ends: at the target; one footpath before the target; or to change, as a point of that stop's bag does
+-- how one who sits in a trip may leave it where a connection ends: at the target; one footpath before the target; or to change, as a
+-- point of that stop does
 pub data Leaving (V : Type 0) : Type 0 where
   ends : Leaving V
   ends_after : Footpath → Leaving V
   changes : Point V → Leaving V
 
--- whether that way is open, given the stop's bag
+-- whether that way is open, given the points of the stop
 abbrev pub MayLeave : {V : Type 0} → TimetableValue → Query → ℕ → List (Point V) → Leaving V → Type 0
 MayLeave t q i bag ends = ((connection_at t i).to ≡ q.target) × ((connection_at t i).arr ≤ q.by)
 MayLeave t q i bag (ends_after f) =
@@ -83,6 +84,8 @@ pub record Boarding (V : Type 0) : Type 0 where
   pub walk : Footpath
   pub label : Point V
 
+-- one may board connection i so from a stop: passengers may get on there, and the footpath leads there from the stop and begins at
+-- time 0 or later
 pub record MayBoard {V : Type 0} (t : TimetableValue) (i stop : ℕ) (labels : List (Point V)) (way : Boarding V) : Type 0 where
   pub boards : (connection_at t i).board ≡ true
   pub is_footpath : Contains t.footpaths way.walk
@@ -91,7 +94,7 @@ pub record MayBoard {V : Type 0} (t : TimetableValue) (i stop : ℕ) (labels : L
   pub fits : way.walk.secs ≤ (connection_at t i).dep
   pub is_label : Contains labels way.label
 
--- the bag of a stop is offered each label after each footpath from the stop to the connection
+-- the points of a stop are offered each label after each footpath from the stop to the connection
 abbrev pub boardings : {V : Type 0} → Rules V → TimetableValue → Spellings → ℕ → ℕ → List (Point V) → Offer (Boarding V) V
 boardings rules t tags i stop labels = record {
   is_open = MayBoard t i stop labels;
@@ -134,7 +137,9 @@ pub record AreCarried {V : Type 0} (rules : Rules V) (t : TimetableValue) (found
   pub only : (p : Point V) → Contains carried p → Contains points p
   pub all : (p : Point V) → Contains points p → Contains carried p ⊎ IsOutdone rules t found (i + 1) (rules.ride p.value)
 
--- one connection, from what a scan keeps of the later ones: first the labels of its trip, by the bag of the stop where it ends; then, by these labels and what their tags spell between, the points found and every bag. The points found are offered all labels; what they outdo isn't carried on to labels and bags
+-- one connection, from what a scan keeps of the later ones: first the labels of its trip, by the points of the stop where it ends; then,
+-- by these labels and what their tags spell between, the points found and the points of every stop. The points found are offered all
+-- labels; what they outdo isn't carried on to labels and stops
 pub record IsStep {V : Type 0} (rules : Rules V) (t : TimetableValue) (q : Query) (tags : Spellings) (i : ℕ) (old new : ScanValue V) : Type 0 where
   pub between : Spelling
   pub kept_first : Keeps tags.earlier between
@@ -148,7 +153,8 @@ pub record IsStep {V : Type 0} (rules : Rules V) (t : TimetableValue) (q : Query
   pub boards : (stop : ℕ) → stop < t.stops → TakesIn rules (boardings rules t (from_to between tags.later) i stop boarding) (old.bag stop) (new.bag stop)
   pub sets_out : TakesIn rules (settings_out rules t q (from_to between tags.later) i (new.labels (connection_at t i).trip)) old.found new.found
 
--- where nothing is offered at a connection: its trip has no labels, and who gets off can neither be at the target nor go on, by foot or by a point of the stop's bag
+-- where nothing is offered at a connection: its trip has no labels, and who gets off can neither be at the target nor go on, on foot or
+-- by a point of the stop
 pub record IsIdle {V : Type 0} (q : Query) (c : Connection) (way : Option ℕ) (labels bag : List (Point V)) : Type 0 where
   pub no_labels : labels ≡ []
   pub ends_here : c.alight ≡ true → (c.to ≢ q.target) × (way ≡ None) × (bag ≡ [])

@@ -1,4 +1,4 @@
-//! Points taken into a bag, each with what tells how one goes on from it.
+//! Values offered to the labels of a trip, and points to the points found, each with what tells how one goes on from it.
 
 ghost use Rattle.std.specs.Prelude.{◌≡◌, ◌<◌, List, OnOk, IfOk, length};
 ghost use Rattle.criteria.specs.Laws.{Admits};

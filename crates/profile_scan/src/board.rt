@@ -306,7 +306,7 @@ fn board_walks<S: ConnSource, C: Criterion>(
 }
 
 /// Boards a connection, if passengers may get on there and its trip has labels: offers the points found its settings out, and then the
-/// bag of every stop its boardings by the labels that aren't bettered.
+/// list of every stop its boardings by the labels that aren't bettered.
 pub fn board<S: ConnSource, C: Criterion>(
     source: &S,
     criterion: &C,

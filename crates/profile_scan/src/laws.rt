@@ -85,6 +85,8 @@ pub fn two_sources<A: ConnSource, B: ConnSource, C: Criterion>(
     requires alike { B.timetable other.old ≡ A.timetable one.old }
     ensures answers { IfOk result (λ found. Answers criterion.now (C.rules criterion.now) (A.timetable one.old) query.now found.0 × Answers criterion.now (C.rules criterion.now) (A.timetable one.old) query.now found.1) }
     ensures same { IfOk result (λ found. map untagged (listed found.0) ≡ map untagged (listed found.1)) }
+    ensures timetable { A.timetable one.new ≡ A.timetable one.old }
+    ensures other_timetable { B.timetable other.new ≡ B.timetable other.old }
     ensures log { OnOk result (A.log one.new ≡ A.log one.old ++ reverse (window (A.timetable one.old) query.now)) }
     ensures other_log { OnOk result (B.log other.new ≡ B.log other.old ++ reverse (window (A.timetable one.old) query.now)) }
 {

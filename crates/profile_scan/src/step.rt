@@ -1,4 +1,4 @@
-//! One connection: first the labels of its trip, then by them every bag and the points found.
+//! One connection: first the labels of its trip, then by them the points found and the list of every stop.
 
 ghost use Rattle.std.specs.Prelude.{◌≡◌, ◌≢◌, ◌↔◌, ◌<◌, ◌+◌, ℕ, true, List, None, OnOk, Contains, length, vec_len};
 ghost use Rattle.criteria.specs.Laws.{Rules, Admits, IsTime};

@@ -5,6 +5,7 @@ ghost use Rattle.profile_scan.specs.Kept.{AreWays, way_in, ways_of};
 
 use sources::ConnSource;
 use std::alloc::{AllocError, Global};
+use timetable::limits::MAX_WALK_SECS;
 
 /// For each stop the seconds of the footpath from it to the target, if there is one. A word for each, since a scan asks for one at each
 /// connection.
@@ -28,7 +29,7 @@ impl Ways {
 fn way_of(word: u32) -> Option<u32>
     ensures { result ≡ way_in word }
 {
-    if word <= 1_000_000 {
+    if word <= MAX_WALK_SECS {
         return Some(word);
     }
     None

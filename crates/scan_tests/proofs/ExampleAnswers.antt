@@ -1,7 +1,7 @@
 -- Two answers computed from the definitions alone, over every journey: one point, and none.
 use Rattle.std.proofs.Common.{◌≡◌, ◌≢◌, ℕ, zero, suc, ◌+◌, ◌<◌, ◌≤◌, nat_le, List, [], ◌∷◌, Contains, Option, Some, None, arith, refl, sym, ◌∙◌, ap, subst, rules as std_rules}
 use Rattle.std.proofs.lemmas.Bool.{le-leb, leb-true}
-use Rattle.reasoning.proofs.ListLemmas.{not_in_nil}
+use Rattle.reasoning.proofs.ListLemmas.{contains_only, not_in_nil}
 use Rattle.criteria.specs.Laws.{Rules, NoWorse}
 use Rattle.bags.specs.declared.point.Point.{Point}
 use Rattle.timetable.specs.declared.network.Footpath.{Footpath}
@@ -130,7 +130,7 @@ module _ (rules : Rules ℕ) (by_arrival : IsByArrival rules) where
   pub one_point : (tag : ℕ) → IsAnswer rules (with_loops 0 0) (asked 32400 36000) (the_point tag ∷ [])
   one_point tag = record {
     exactly = λ departure v. (
-      (λ listed. let same = one_in listed.0 listed.1 in
+      (λ listed. let same = sym (contains_only (the_point tag) listed.0 listed.1) in
           subst (λ (n : ℕ). IsUndominated rules (with_loops 0 0) (asked 32400 36000) n v) (ap (λ (p : Point ℕ). p.departure) same ∙ listed.2)
           (subst (IsUndominated rules (with_loops 0 0) (asked 32400 36000) 28800) (ap (λ (p : Point ℕ). p.value) same ∙ listed.3) change_is_undominated)),
       (λ undominated.
@@ -142,10 +142,6 @@ module _ (rules : Rules ℕ) (by_arrival : IsByArrival rules) where
     ordered = λ i j d lt in_j. absurd (omega arith);
   }
     where
-      one_in : (p : Point ℕ) → Contains (the_point tag ∷ []) p → the_point tag ≡ p
-      one_in p (zero, lt, is) = is
-      one_in p (suc k, lt, is) = absurd (omega arith)
-
       no_worse : (v w : ℕ) → v ≤ w → NoWorse rules v w
       no_worse v w le = by_arrival.compares v w ∙ le-leb v w le
 

@@ -1,6 +1,6 @@
 -- A timetable of one trip over two connections: a step that forgets the trip's labels is refuted on it.
 use Rattle.std.proofs.Common.{◌≡◌, ◌≢◌, ℕ, zero, suc, ◌+◌, ◌<◌, ◌≤◌, [], ◌∷◌, Some, None, arith, refl, sym, subst, inl, inr}
-use Rattle.reasoning.proofs.ListLemmas.{not_in_nil}
+use Rattle.reasoning.proofs.ListLemmas.{contains_only, not_in_nil}
 use Rattle.criteria.specs.Laws.{Rules, Laws}
 use Rattle.bags.specs.declared.point.Point.{Point}
 use Rattle.timetable.specs.declared.network.Connection.{Connection}
@@ -17,7 +17,7 @@ use Rattle.scan_tests.specs.Examples.{two_hops, over_one_hop}
 use Rattle.scan_tests.specs.WrongSteps.{IsStepWithoutLabels}
 use Rattle.profile_scan.proofs.Ends.{nothing_follows}
 use Rattle.profile_scan.proofs.StepLemmas.{one_index_down}
-use Rattle.scan_tests.proofs.Refutations.{at_two, one_hop_legal, one_hop_within, one_in, takes_none, takes_from_nothing, covers_itself, nothing, at_zero}
+use Rattle.scan_tests.proofs.Refutations.{at_two, one_hop_legal, one_hop_within, takes_none, takes_from_nothing, covers_itself, nothing, at_zero}
 use Rattle.scan_tests.proofs.Refutations.{leaving_nothing_out}
 
 abbrev first_hop : Connection
@@ -111,7 +111,7 @@ module _ {V : Type 0} (rules : Rules V) (laws : Laws rules) where
 
   leaves_at_the_target : TakesIn rules (leavings rules two_hops (over_one_hop 1000) turn 1 []) [] (label ∷ [])
   leaves_at_the_target = takes_from_nothing rules laws (leavings rules two_hops (over_one_hop 1000) turn 1 []) (label ∷ [])
-      (λ p is. subst (IsOffered (leavings rules two_hops (over_one_hop 1000) turn 1 [])) (one_in label p is) (record { way = ends; is_open = (refl, (refl, omega arith)); departs = refl; worth = refl; fits = refl }))
+      (λ p is. subst (IsOffered (leavings rules two_hops (over_one_hop 1000) turn 1 [])) (sym (contains_only label p is)) (record { way = ends; is_open = (refl, (refl, omega arith)); departs = refl; worth = refl; fits = refl }))
       (λ way open_way. by_way way open_way.1)
     where
       by_way : (way : Leaving V) → MayLeave two_hops (over_one_hop 1000) 1 [] way → Covers rules (label ∷ []) 0 (leaving_value rules two_hops 1 way)

@@ -1,7 +1,7 @@
 -- A timetable of one connection: the wrong steps are refuted on it, and the right one leads to its answer.
 use Rattle.std.proofs.Common.{◌≡◌, ◌≢◌, ◌⊎◌, ℕ, zero, suc, ◌+◌, ◌-◌, ◌<◌, ◌≤◌, List, [], ◌∷◌, Contains, Option, Some, None, arith, refl, sym, ◌∙◌, ap, subst, inl, inr, get_or, rules as std_rules}
 use Rattle.std.proofs.lemmas.Option.{same_Some}
-use Rattle.reasoning.proofs.ListLemmas.{not_in_nil}
+use Rattle.reasoning.proofs.ListLemmas.{contains_only, not_in_nil}
 use Rattle.criteria.specs.Laws.{Rules, Laws, Admits}
 use Rattle.bags.specs.Dominance.{IsBag}
 use Rattle.bags.specs.declared.point.Point.{Point}
@@ -175,10 +175,6 @@ goes_on walk x e = ap (λ (z : Aboard). Some (let y : Onward = record { walk = w
 sets_out : (start : Option Footpath) (x : Aboard) → Some one_stop ≡ Some x → Some (let y : JourneyValue = record { start = start; rides = boarded 0 one_stop } in y) ≡ Some (record { start = start; rides = boarded 0 x })
 sets_out start x e = ap (λ (z : Aboard). Some (let y : JourneyValue = record { start = start; rides = boarded 0 z } in y)) (the_label x e)
 
-pub one_in : {X : Type 0} (x y : X) → Contains (x ∷ []) y → x ≡ y
-one_in x y (zero, lt, is) = is
-one_in x y (suc k, lt, is) = absurd (omega arith)
-
 two_in : {X : Type 0} (x y z : X) → Contains (x ∷ y ∷ []) z → (x ≡ z) ⊎ (y ≡ z)
 two_in x y z (zero, lt, is) = inl is
 two_in x y z (suc zero, lt, is) = inr is
@@ -237,7 +233,7 @@ module _ {V : Type 0} (rules : Rules V) (laws : Laws rules) where
 
   leaves_by_end : (until : ℕ) → TakesIn rules (leavings rules one_hop (over_one_hop until) turn 0 []) [] (label ∷ [])
   leaves_by_end until = takes_from_nothing (leavings rules one_hop (over_one_hop until) turn 0 []) (label ∷ [])
-      (λ p is. subst (IsOffered (leavings rules one_hop (over_one_hop until) turn 0 [])) (one_in label p is) (record { way = ends; is_open = (refl, (refl, omega arith)); departs = refl; worth = refl; fits = refl }))
+      (λ p is. subst (IsOffered (leavings rules one_hop (over_one_hop until) turn 0 [])) (sym (contains_only label p is)) (record { way = ends; is_open = (refl, (refl, omega arith)); departs = refl; worth = refl; fits = refl }))
       (λ way open_way. by_way way open_way.1)
     where
       by_way : (way : Leaving V) → MayLeave one_hop (over_one_hop until) 0 [] way → Covers rules (label ∷ []) 0 (leaving_value rules one_hop 0 way)
@@ -319,7 +315,7 @@ module _ {V : Type 0} (rules : Rules V) (laws : Laws rules) where
   loop_covered points is way may =
       let e = only_from_zero way.walk may.is_footpath may.leads in
       subst (λ (f : Footpath). Covers rules points (100 - f.secs) (rules.walk f.secs (rules.ride way.label.value))) (sym e)
-      (subst (λ (l : Point V). Covers rules points 40 (rules.walk 60 (rules.ride l.value))) (one_in label way.label may.is_label) (covers_itself points on_loop is walked_admitted))
+      (subst (λ (l : Point V). Covers rules points 40 (rules.walk 60 (rules.ride l.value))) (sym (contains_only label way.label may.is_label)) (covers_itself points on_loop is walked_admitted))
 
   elsewhere : (n : ℕ) (way : Boarding V) → MayBoard one_hop 0 (suc n) (label ∷ []) way → ⊥
   elsewhere n way may =
@@ -330,12 +326,12 @@ module _ {V : Type 0} (rules : Rules V) (laws : Laws rules) where
   -- a bag that is offered the label after the loop
   takes_loop : (stop : ℕ) → TakesIn rules (boardings rules one_hop turn 0 stop (label ∷ [])) [] (at_zero (on_loop ∷ []) stop)
   takes_loop zero = takes_from_nothing (boardings rules one_hop turn 0 0 (label ∷ [])) (on_loop ∷ [])
-      (λ p is. subst (IsOffered (boardings rules one_hop turn 0 0 (label ∷ []))) (one_in on_loop p is) by_loop)
+      (λ p is. subst (IsOffered (boardings rules one_hop turn 0 0 (label ∷ []))) (sym (contains_only on_loop p is)) by_loop)
       (λ way may. loop_covered (on_loop ∷ []) (zero, omega arith, refl) way may)
   takes_loop (suc n) = takes_none (boardings rules one_hop turn 0 (suc n) (label ∷ [])) (λ way may. elsewhere n way may)
 
   at_stop_covered : (points : List (Point V)) → Contains points at_stop → (l : Point V) → Contains (label ∷ []) l → Covers rules points 100 (rules.ride l.value)
-  at_stop_covered points is l in_labels = subst (λ (k : Point V). Covers rules points 100 (rules.ride k.value)) (one_in label l in_labels) (covers_itself points at_stop is ridden_admitted)
+  at_stop_covered points is l in_labels = subst (λ (k : Point V). Covers rules points 100 (rules.ride k.value)) (sym (contains_only label l in_labels)) (covers_itself points at_stop is ridden_admitted)
 
   -- a start by the loop is found to depart at 40, and no journey does
   no_journey_at_40 : (until : ℕ) (start : Option Footpath) (rides : List RideValue) → Counts one_hop (over_one_hop until) 40 (record { start = start; rides = rides }) → ⊥
@@ -412,7 +408,7 @@ module _ {V : Type 0} (rules : Rules V) (laws : Laws rules) where
   -- the points found are offered the label at the source itself
   sets_out_once : TakesIn rules (settings_out rules one_hop (over_one_hop 1000) turn 0 (label ∷ [])) [] (at_stop ∷ [])
   sets_out_once = takes_from_nothing (settings_out rules one_hop (over_one_hop 1000) turn 0 (label ∷ [])) (at_stop ∷ [])
-      (λ p is. subst (IsOffered (settings_out rules one_hop (over_one_hop 1000) turn 0 (label ∷ []))) (one_in at_stop p is) (record { way = record { start = None; label = label }; is_open = record { boards = refl; is_start = tt; leads = refl; fits = omega arith; not_early = omega arith; not_late = omega arith; is_label = (zero, omega arith, refl) }; departs = refl; worth = refl; fits = sets_out None }))
+      (λ p is. subst (IsOffered (settings_out rules one_hop (over_one_hop 1000) turn 0 (label ∷ []))) (sym (contains_only at_stop p is)) (record { way = record { start = None; label = label }; is_open = record { boards = refl; is_start = tt; leads = refl; fits = omega arith; not_early = omega arith; not_late = omega arith; is_label = (zero, omega arith, refl) }; departs = refl; worth = refl; fits = sets_out None }))
       (λ way may. by_start way.start way.label may.is_start may.leads may.is_label)
     where
       by_start : (start : Option Footpath) (l : Point V) → IsStart one_hop 0 start → start_end 0 start ≡ 0 → Contains (label ∷ []) l → Covers rules (at_stop ∷ []) (100 - start_secs start) (started rules start (rules.ride l.value))
@@ -440,7 +436,7 @@ module _ {V : Type 0} (rules : Rules V) (laws : Laws rules) where
       let step = stepped 1000 (λ now. boardings rules one_hop now 0) (λ now. settings_out rules one_hop q now 0)
       scanned.bag scanned.found takes_loop sets_out_once in
       let matched = after_step (IsStep rules) (one_index_down rules laws) 1000 scanned (leaving_nothing_out rules one_hop q turn 0 nothing scanned step) in
-      let bag : IsBag rules (at_stop ∷ []) = record { admitted = λ p is. subst (λ (x : Point V). Admits rules x.value) (one_in at_stop p is) ridden_admitted; undominated = λ i j d lt in_j. absurd (omega arith) } in
+      let bag : IsBag rules (at_stop ∷ []) = record { admitted = λ p is. subst (λ (x : Point V). Admits rules x.value) (sym (contains_only at_stop p is)) ridden_admitted; undominated = λ i j d lt in_j. absurd (omega arith) } in
       match_is_the_answer rules laws one_hop (over_one_hop 1000) (can_scan 1000) 0 from_the_start spoken (at_stop ∷ []) matched.at_source bag (λ i j d lt in_j. absurd (omega arith))
 
 -- a cut of each leg loses a journey when the window shrinks, although it departs at its end

@@ -1,9 +1,9 @@
 -- Where the footpaths into each stop start.
-use Rattle.std.proofs.Common.{◌≡◌, ◌↔◌, ℕ, suc, ◌+◌, ◌<◌, ◌≤◌, List, [], ◌∷◌, ◌++◌, length, take, get_or, refl, sym, ap, subst, ◌∙◌, arith, inl, inr}
+use Rattle.std.proofs.Common.{◌≡◌, ◌↔◌, ℕ, ◌+◌, ◌<◌, ◌≤◌, List, [], ◌∷◌, ◌++◌, length, get_or, refl, sym, ap, subst, ◌∙◌, arith, inl, inr}
 use Rattle.std.specs.Prelude.{slice_index}
 use Rattle.std.proofs.lemmas.Bool.{cases_lt, cases_eq, cases_order}
 use Rattle.std.proofs.lemmas.List.{take_all, get_or_append_left}
-use Rattle.std.proofs.Math.Seq.{get_or-append_seam, take-suc}
+use Rattle.std.proofs.Math.Seq.{get_or-append_seam}
 use Rattle.std.proofs.lemmas.Option.{slice_get-get_or, get_or_from_slice_get}
 use Rattle.std.specs.List.Sorted.{IsNonDecreasingBy}
 use Rattle.timetable.specs.declared.network.Connection.{Connection}
@@ -12,7 +12,7 @@ use Rattle.timetable.specs.TimetableValue.{TimetableValue}
 use Rattle.timetable.specs.Legal.{At, IsLegal}
 use Rattle.timetable.specs.LegalProp.{in_order_later}
 use Rattle.timetable.specs.Journeys.{connection_at}
-use Rattle.timetable.proofs.LegalFacts.{connection_at-stands, departures_rise}
+use Rattle.timetable.proofs.LegalLemmas.{connection_at-stands, departures_rise}
 use Rattle.sources.specs.FootStarts.{IsStartPlace, HoldsBelow}
 
 no_path : Footpath
@@ -85,16 +85,6 @@ start_of_first t = record { within = omega arith; exact = λ k f at. (λ lt. abs
 
 pub none_below : (t : TimetableValue) → HoldsBelow t 0 []
 none_below t = record { first = refl; start = start_of_first t }
-
--- one element more is taken
-pub taken_more : {X : Type 0} (xs : List X) (place : ℕ) (taken : List X) (x : X) → taken ≡ take place xs → place < length xs → At xs place x → taken ++ x ∷ [] ≡ take (place + 1) xs
-taken_more {X} xs place taken x before lt at =
-    let next : suc place ≡ place + 1 = omega arith in
-    let is : get_or xs place x ≡ x = get_or_from_slice_get xs place x x at in
-    ap (λ (ys : List X). ys ++ x ∷ []) before
-    ∙ ap (λ (y : X). take place xs ++ y ∷ []) (sym is)
-    ∙ sym (take-suc xs place x lt)
-    ∙ ap (λ (n : ℕ). take n xs) next
 
 -- those into the stops below all stops are all
 pub all_held : (t : TimetableValue) (paths : List Footpath) → IsLegal t → HoldsBelow t t.stops paths → paths ≡ t.footpaths

@@ -1,3 +1,3 @@
 pub mod FirstLemmas
-pub mod LegalFacts
+pub mod LegalLemmas
 pub mod ClockLemmas

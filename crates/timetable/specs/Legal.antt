@@ -1,5 +1,5 @@
--- What makes a timetable legal. (Dibbelt, Pajor, Strasser, Wagner: Connection Scan Algorithm, ACM JEA 2018. Loops as change times and hops of positive length
--- are our own.)
+-- What makes a timetable legal. (Dibbelt, Pajor, Strasser, Wagner: Connection Scan Algorithm, ACM JEA 2018. Loops as change times and
+-- hops of positive length are our own.)
 use Rattle.std.specs.Prelude.{◌≡◌, ◌≢◌, ℕ, ◌+◌, ◌<◌, ◌≤◌, List, slice_get, Some}
 use Rattle.timetable.specs.declared.network.Connection.{Connection}
 use Rattle.timetable.specs.declared.network.Footpath.{Footpath}
@@ -25,9 +25,11 @@ pub record IsJustBefore (cs : List Connection) (i j : ℕ) (c d : Connection) : 
 abbrev pub IsOrderedBefore : Footpath → Footpath → Type 0
 IsOrderedBefore d e = (d.to ≤ e.to) × (d.to ≡ e.to → d.from < e.from)
 
+-- so each footpath of a list stands before the next
 abbrev pub AreInOrder : List Footpath → Type 0
 AreInOrder paths = (i : ℕ) (d e : Footpath) → At paths i d → At paths (i + 1) e → IsOrderedBefore d e
 
+-- a legal timetable: all that is said of its journeys rests on this
 pub record IsLegal (t : TimetableValue) : Type 0 where
   -- stops and trips are in range
   pub stops_in_range : (i : ℕ) (c : Connection) → At t.connections i c → (c.from < t.stops) × (c.to < t.stops)

@@ -6,6 +6,7 @@ use Rattle.timetable.specs.declared.limits.TheConstants.{MAX_STOPS, MAX_TRIPS, M
 use Rattle.timetable.specs.TimetableValue.{TimetableValue}
 use Rattle.timetable.specs.Legal.{At}
 
+-- no more of anything than an image may hold
 pub record IsWithinLimits (t : TimetableValue) : Type 0 where
   pub stops : t.stops ≤ MAX_STOPS
   pub trips : t.trips ≤ MAX_TRIPS

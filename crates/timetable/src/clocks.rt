@@ -8,13 +8,13 @@ ghost use Rattle.timetable.specs.Clocks.{SpellsClock, clock_bytes};
 use std::alloc::{AllocError, Global};
 use std::fmt;
 
-/// Clock texts spell times below it, in seconds: hours have six digits at most.
+/// The first time, in seconds, that no clock text spells: a text's hours have six digits at most.
 pub const CLOCK_END: u32 = 3_600_000_000;
 
-// The minutes of a clock text are below it.
+// How many minutes an hour has: those of a clock text are fewer.
 const MINUTES_END: u32 = 60;
 
-// The seconds of a clock text are below it.
+// How many seconds a minute has: those of a clock text are fewer.
 const SECONDS_END: u32 = 60;
 
 /// A time in seconds, which is shown as a clock text.

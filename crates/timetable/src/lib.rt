@@ -1,13 +1,13 @@
 //! Timetables, journeys and queries: the words in which every other crate makes its promises.
 #![tactic(auto)]
 
-pub mod clocks;
-pub mod journey;
+mod clocks;
+mod journey;
 pub mod laws;
 pub mod limits;
-pub mod names;
-pub mod network;
-pub mod query;
+mod names;
+mod network;
+mod query;
 
 pub use clocks::{CLOCK_END, Clock, clock_parse, clock_text};
 pub use journey::{Journey, Leg, Ride, Times};

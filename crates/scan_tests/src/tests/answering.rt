@@ -1,5 +1,5 @@
-// Worked queries from stop 0 to stop 2, over images read in place and decoded: points and journeys were worked out by hand, and each
-// journey is judged again.
+//! Worked queries from stop 0 to stop 2, over images read in place and decoded: points and journeys were worked out by hand, and each
+//! journey is judged again.
 
 ghost use Rattle.std.specs.Prelude.{◌<◌, length};
 ghost use Rattle.profile_scan.specs.Found.{listed};
@@ -15,8 +15,7 @@ use sources::{ConnSource, Decoded, InPlace};
 use std::alloc::Global;
 use std::process::Abort;
 use std::test::*;
-use timetable::query::QueryFault;
-use timetable::{Journey, Query, Times};
+use timetable::{Journey, Query, QueryFault, Times};
 
 /// From 07:00:00 until 09:00:00, by 10:00:00.
 const ASKED: Query = Query {

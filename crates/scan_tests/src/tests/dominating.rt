@@ -1,4 +1,4 @@
-// Bags of points, against what a long history of points leaves.
+//! Bags of points, against what a long history of points leaves.
 
 ghost use Rattle.std.specs.Prelude.{◌<◌, ◌≤◌};
 

@@ -1,4 +1,4 @@
-// The definitions of `profile_scan` at worked examples.
+//! The definitions of `profile_scan` at worked examples.
 
 ghost use Rattle.std.specs.Prelude.{◌≡◌, ℕ, [], ◌∷◌, None, Some, reverse};
 ghost use Rattle.bags.specs.Dominance.{Apart, Dominates};

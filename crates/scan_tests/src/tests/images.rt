@@ -1,4 +1,4 @@
-// Images that several tests read.
+//! Images that several tests read.
 
 use image_verifier::{Verified, verify};
 use std::alloc::{AllocError, Global};

@@ -1,4 +1,4 @@
-// A source that notes in which order its connections are asked for.
+//! A source that notes in which order its connections are asked for.
 
 use sources::ConnSource;
 use timetable::{Connection, Footpath};

@@ -1,4 +1,4 @@
-// Journeys as texts, judged against images. More of them are judged by transcripts of the whole program.
+//! Journeys as texts, judged against images. More of them are judged by transcripts of the whole program.
 
 use super::images::{REPEATED, image};
 use image_verifier::Verified;

@@ -1,4 +1,4 @@
-// Lists of points and their fronts.
+//! Lists of points and their fronts.
 
 ghost use Rattle.std.specs.Prelude.{◌<◌, ◌≤◌, IfOk, length};
 ghost use Rattle.criteria.specs.Laws.{IsTime};

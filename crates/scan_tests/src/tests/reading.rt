@@ -1,4 +1,4 @@
-// Both sources over two small images: what they answer was worked out by hand.
+//! Both sources over two small images: what they answer was worked out by hand.
 
 ghost use Rattle.std.specs.Prelude.{◌<◌};
 

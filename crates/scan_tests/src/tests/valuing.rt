@@ -1,3 +1,5 @@
+//! Values by each criterion: folded from a journey's end, compared, listed and told.
+
 ghost use Rattle.std.specs.Prelude.{◌≡◌};
 ghost use Rattle.criteria.specs.Laws.{IsTime, IsSecs};
 

@@ -1,4 +1,4 @@
-// The laws are false of the definitions that are close to the right ones, and the right ones lead to an answer.
+//! Definitions that are close to the right ones, for which a law is false; and that the right ones lead to an answer.
 
 ghost use Rattle.std.specs.Prelude.{[], ◌∷◌};
 ghost use Rattle.timetable.specs.Journeys.{Counts};

@@ -1,6 +1,6 @@
 use Rattle.std.proofs.Common.{◌<◌, ℕ, sym, subst, arith}
 use Rattle.reasoning.proofs.ListLemmas.{extends_none, extends_on}
-use Rattle.timetable.proofs.LegalFacts.{Contains-At}
+use Rattle.timetable.proofs.LegalLemmas.{Contains-At}
 use Rattle.fronts.specs.Lists.{lists_criterion, front_at, list_points}
 use Rattle.fronts.proofs.Mapped.{list_admitted}
 use Rattle.profile_scan.specs.Matching.{from_to}

@@ -1,6 +1,6 @@
 use Rattle.std.proofs.Common.{◌≡◌, length, arith}
 use Rattle.std.proofs.lemmas.List.{length-map}
-use Rattle.timetable.proofs.LegalFacts.{Contains-At}
+use Rattle.timetable.proofs.LegalLemmas.{Contains-At}
 use Rattle.profile_scan.proofs.RideLemmas.{ridden_none, ridden_more, ridden_all}
 use Rattle.profile_scan.specs.Adding.{label_points}
 use Rattle.profile_scan.proofs.board.ride_labels.Goals as goal

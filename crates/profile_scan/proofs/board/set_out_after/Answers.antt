@@ -1,7 +1,7 @@
 use Rattle.std.proofs.Common.{◌≡◌, length, sym, subst, arith}
 use Rattle.std.proofs.lemmas.List.{length-map}
 use Rattle.reasoning.proofs.ListLemmas.{extends_none, extends_on}
-use Rattle.timetable.proofs.LegalFacts.{Contains-At}
+use Rattle.timetable.proofs.LegalLemmas.{Contains-At}
 use Rattle.criteria.specs.Laws.{Admits}
 use Rattle.bags.specs.Bag.{points_of}
 use Rattle.bags.specs.declared.point.Point.{Point}

@@ -1,5 +1,5 @@
 use Rattle.std.proofs.Common.{◌≡◌, ℕ, inl, inr, subst, arith}
-use Rattle.timetable.proofs.LegalFacts.{Contains-At}
+use Rattle.timetable.proofs.LegalLemmas.{Contains-At}
 use Rattle.criteria.specs.Laws.{Admits}
 use Rattle.bags.specs.Bag.{points_of}
 use Rattle.profile_scan.specs.Bound.{TakesPoints}

@@ -5,7 +5,7 @@ use Rattle.bags.specs.Bag.{points_of}
 use Rattle.bags.specs.declared.point.Point.{Point}
 use Rattle.timetable.specs.declared.network.Connection.{Connection}
 use Rattle.timetable.specs.Journeys.{connection_at}
-use Rattle.timetable.proofs.LegalFacts.{arrival_limit}
+use Rattle.timetable.proofs.LegalLemmas.{arrival_limit}
 use Rattle.profile_scan.specs.Steps.{leavings, boardings, settings_out, TakesIn}
 use Rattle.profile_scan.specs.Adding.{Takes, label_points, trip_points}
 use Rattle.fronts.specs.declared.labels.Label.{Label}

@@ -1,8 +1,9 @@
 use Rattle.std.proofs.Common.{◌≡◌, ◌<◌, ◌+◌, ◌∷◌, [], List, length, take, arith, ap, sym, ◌∙◌, subst}
 use Rattle.std.proofs.lemmas.List.{length-append}
 use Rattle.timetable.specs.declared.network.Footpath.{Footpath}
+use Rattle.image_verifier.proofs.Unpacking.{next_taken}
 use Rattle.sources.specs.FootStarts.{IsStartPlace}
-use Rattle.sources.proofs.StartLemmas.{start_next, start_order, between_starts, taken_more}
+use Rattle.sources.proofs.StartLemmas.{start_next, start_order, between_starts}
 use Rattle.sources.proofs.decoded.decode_walks_into.Goals as goal
 
 pub footpath_into-requires-clause-into : goal.footpath_into-requires-clause-into
@@ -18,7 +19,7 @@ loop-place-preserved c =
     let lt : c.loop-place.place < length paths = omega (arith, c.loop-place-test.true, c.walks_into-end.ensures.within) in
     let long = length-append c.loop-place.footpaths.items (c.footpath_into.result ∷ []) in
     record {
-      first = c.in_ok-push.ensures.items ∙ taken_more paths c.loop-place.place c.loop-place.footpaths.items c.footpath_into.result c.loop-place.invariant.first lt c.footpath_into.ensures;
+      first = c.in_ok-push.ensures.items ∙ next_taken paths c.loop-place.footpaths.items c.loop-place.place c.footpath_into.result lt c.loop-place.invariant.first c.footpath_into.ensures;
       long = ap (λ (fs : List Footpath). length fs) c.in_ok-push.ensures.items ∙ long ∙ ap (λ n. n + 1) c.loop-place.invariant.long;
     }
 
