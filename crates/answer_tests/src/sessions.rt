@@ -2,7 +2,7 @@
 
 ghost use Rattle.std.specs.Prelude.{◌≡◌, IfOk, Ok};
 
-use crate::streams::{Endless, Pieces, Taker, taker_of, whole};
+use crate::streams::{Endless, Pieces, Taker, failing_at, taker_of, whole};
 use epochs::{Named, ShelfLoader, ShelfSeat, Shelves, SoloShelves};
 use image_layout::sample_words;
 use image_verifier::{Verified, verify};
@@ -289,6 +289,35 @@ fn tallied<R: Wait>(
         &OpenGate,
     )?;
     Ok((ended, tally.replies))
+}
+
+/// A session ends at the first read or flush that fails, though the next one would succeed. Nothing is replied behind it.
+#[test]
+fn one_failure_ends_the_session(rt: HostRuntime) -> Result<(), Fail> {
+    let alloc: Global = rt.alloc();
+    let (ended, tally) = talked(
+        &rt,
+        alloc,
+        image(alloc, 0)?,
+        Vec::new(alloc),
+        failing_at(1),
+        Tally { replies: 0 },
+        &OpenGate,
+    )?;
+    assert!(&rt; ended == Err(SessionFault::ReadFailed));
+    assert_eq!(&rt; tally.replies, 0);
+    let (ended, writer) = talked(
+        &rt,
+        alloc,
+        image(alloc, 0)?,
+        Vec::new(alloc),
+        whole(b"\n\n"),
+        failing_at(2),
+        &OpenGate,
+    )?;
+    assert!(&rt; ended == Err(SessionFault::WriteFailed));
+    assert_eq!(&rt; writer.calls, 2);
+    Ok(())
 }
 
 const BY_WALKING: &str =

@@ -86,3 +86,58 @@ pub(crate) fn taker_of(alloc: Global, room: usize, is_failing: bool) -> Taker {
         is_failing,
     }
 }
+
+/// A stream that gives line ends without end, and takes all that is written. Its call of one number, from 1 on, fails, or takes none; those
+/// behind it succeed.
+#[derive(Drop)]
+pub(crate) struct FailsOnce {
+    pub(crate) calls: u64,
+    pub(crate) fails_at: u64,
+    pub(crate) takes_none: bool,
+}
+
+/// A stream whose call of this number fails.
+pub(crate) fn failing_at(fails_at: u64) -> FailsOnce {
+    FailsOnce {
+        calls: 0,
+        fails_at,
+        takes_none: false,
+    }
+}
+
+impl FailsOnce {
+    // Counts a call; whether it is the one that fails.
+    fn fails_now(&mut self) -> bool {
+        self.calls = self.calls.saturating_add(1);
+        self.calls == self.fails_at
+    }
+}
+
+impl Read for FailsOnce {
+    fn read(&mut self, room: &mut [u8]) -> io::Result<usize> {
+        if self.fails_now() {
+            return Err(io::Error::from(io::ErrorKind::Interrupted));
+        }
+        room.fill(b'\n');
+        Ok(room.len())
+    }
+}
+
+impl Write for FailsOnce {
+    fn write(&mut self, piece: &[u8]) -> io::Result<usize> {
+        if !self.fails_now() {
+            return Ok(piece.len());
+        }
+        if self.takes_none {
+            return Ok(0);
+        }
+        Err(io::Error::from(io::ErrorKind::Interrupted))
+    }
+
+    fn flush(&mut self) -> io::Result<()> {
+        if self.fails_now() {
+            return Err(io::Error::from(io::ErrorKind::Interrupted));
+        }
+        Ok(())
+    }
+}

@@ -150,7 +150,8 @@ calls_shown : (n : ℕ) (a b : ShelfSeatValue) → SeatCalls n a b → SeatSteps
 calls_shown zero a b h = ap (λ (x : ShelfSeatValue). x.shown) h
 calls_shown (suc n) a b h = (h.0.shown, call_shown a h.0 h.1, calls_shown n h.0 b h.2)
 
-abbrev version_in : Option (ℕ × ImageValue) → ℕ
+-- the version that is held, and 0 where none is
+abbrev pub version_in : Option (ℕ × ImageValue) → ℕ
 version_in None = 0
 version_in (Some held) = held.0
 

@@ -1,5 +1,5 @@
 -- A load keeps the history.
-use Rattle.std.proofs.Common.{◌≡◌, ◌≢◌, ℕ, zero, suc, ◌+◌, ◌<◌, ◌≤◌, List, [], ◌∷◌, ◌++◌, length, set, Option, Some, slice_get, refl, ap, sym, ◌∙◌, subst, arith, ◌⊎◌, inl, inr, length-append, length-set, append_assoc}
+use Rattle.std.proofs.Common.{◌≡◌, ◌≢◌, ℕ, zero, suc, ◌+◌, ◌<◌, ◌≤◌, List, [], ◌∷◌, ◌++◌, length, set, Option, Some, slice_get, refl, ap, sym, ◌∙◌, subst, arith, inl, inr, length-append, length-set, append_assoc}
 use Rattle.std.specs.Arc.{arc_value}
 use Rattle.std.proofs.lemmas.Option.{slice_get_within}
 use Rattle.reasoning.proofs.ListLemmas.{at_below}
@@ -18,7 +18,7 @@ use Rattle.version_core.proofs.Lists.{slice_get-set}
 use Rattle.shelf_steps.specs.declared.edition.Edition.{Edition}
 use Rattle.epochs.specs.History.{IsHistory, AreShelved, StandsOn, IsEdition, HeldHaveImages, image_of}
 use Rattle.epochs.specs.Publishing.{Publishes}
-use Rattle.shelf_steps.proofs.Loads.{image_of-append, image_last}
+use Rattle.shelf_steps.proofs.Loads.{got_snoc, image_of-append, image_last}
 
 image_there : (images : List ImageValue) (v : ℕ) → 0 < v → v ≤ length images → (image : ImageValue) × (image_of images v ≡ Some image)
 image_there images zero some small = absurd (omega arith)
@@ -38,14 +38,8 @@ stands_still images more Shelf.Free edition h = h
 stands_still images more (Shelf.Open v) edition h = edition_stays images more v edition h
 stands_still images more (Shelf.Closing v) edition h = edition_stays images more v edition h
 
-at_snoc : (xs : List ℕ) (e i x : ℕ) → slice_get (xs ++ e ∷ []) i ≡ Some x → (slice_get xs i ≡ Some x) ⊎ ((i ≡ length xs) × (x ≡ e))
-at_snoc [] e zero x is = inr (refl, (cc))
-at_snoc [] e (suc i) x is = absurd (cc)
-at_snoc (y ∷ ys) e zero x is = inl is
-at_snoc (y ∷ ys) e (suc i) x is = elim (at_snoc ys e i x is) [ inl a ↦ inl a | inr b ↦ inr (ap (λ n. suc n) b.0, b.1) ]
-
 numbered_still : (xs : List ℕ) (e i x : ℕ) → ((j edition : ℕ) → slice_get xs j ≡ Some edition → edition ≡ j) → e ≡ length xs → slice_get (xs ++ e ∷ []) i ≡ Some x → x ≡ i
-numbered_still xs e i x before last is = elim (at_snoc xs e i x is) [ inl a ↦ before i x a | inr b ↦ b.1 ∙ (last ∙ sym b.0) ]
+numbered_still xs e i x before last is = elim (got_snoc xs e x i is) [ inl a ↦ before i x a | inr b ↦ sym b.1 ∙ (last ∙ sym b.0) ]
 
 -- the shelves after a load
 loaded_shelves : (s : State) (k e : ℕ) (editions : List (Option Edition)) (images : List ImageValue) (new : Edition) → Kept s → IsFree s k → AreShelved s.shelves editions images → length images ≡ newest s → new.version ≡ newest s + 1

@@ -22,7 +22,8 @@ use std::alloc::Global;
 use std::marker::{Brand, Model, PhantomData};
 use std::sync::{Arc, Wait};
 
-/// Which shelves they are. Each call of a program picks it.
+/// A name of shelves: a type that stands for one table, so that a seat, a notice or a loader of it is known by its type. `Brand`
+/// gives a fresh one for each call.
 pub trait Named {
     ghost use Rattle.atomic_table.specs.Seated.{TableId};
 
@@ -35,7 +36,7 @@ impl Named for Brand {
     ghost table = { record { words = 9; slots = 128; views_name = 0; atom = 0; block = 0; offset = 0; slot_names = [] } };
 }
 
-/// What is of shelves, as contracts see it: of which.
+/// Something that belongs to one table of shelves; contracts see to which.
 pub trait AtTable {
     ghost use Rattle.atomic_table.specs.Seated.{TableId};
 
@@ -54,7 +55,7 @@ impl AtTable for Notice {
     ghost table = { λ notice. notice.table };
 }
 
-/// What is of the shelves of a name, and is used as it is without one.
+/// A seat, a loader or a notice that belongs to the shelves of a name, and is used as one of shelves without a name.
 #[derive(Drop)]
 pub struct UnderName<B: Named, S: AtTable + Drop> {
     inner: S,

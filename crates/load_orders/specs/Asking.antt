@@ -23,7 +23,7 @@ pub record IsFirst (names : List (List ℕ)) (name : List ℕ) (place : ℕ) : T
 abbrev pub IsNoName : List (List ℕ) → List ℕ → Type 0
 IsNoName names name = (place : ℕ) → ¬ (slice_get names place ≡ Some name)
 
--- why the queue takes no order: as full only where it held four orders at some moment of the call
+-- why the queue takes no order: it can hold four orders, and did
 abbrev pub IsTurnedAway : Type 0 → OrderFault → Type 0
 IsTurnedAway N OrderFault.OrdersFull = Held {T = Order N} 4 AtMostFour
 IsTurnedAway N OrderFault.LoaderGone = ⊤

@@ -74,6 +74,8 @@ impl Split<Known> for Another {
     ghost right = { λ view. nothing };
 }
 
+/// A worker's end of the queue, which puts orders.
 pub type OrderSender<N> = RuledSender<Order<N>, Known, Waiting, Global>;
 
+/// The loader's end of the queue, which takes orders.
 pub type OrderReceiver<N> = RuledReceiver<Order<N>, Known, Waiting, Global>;

@@ -232,8 +232,8 @@ impl<'a, N: Drop, T: Versions<Notice = N>> Orders for WorkerOrders<'a, N, T> {
 
     ghost told = { T.noted };
 
-    /// Puts an order of the first feed of that name: `UnknownFeed` exactly where there is none. `OrdersFull` only where the queue
-    /// held four orders at some moment of the call.
+    /// Puts an order of the first feed of that name: `UnknownFeed` exactly where there is none, `OrdersFull` where four orders stand in
+    /// the queue already. Of a queue that others use, no contract says when it was full.
     fn order<R: Wait>(&mut self, rt: &R, feed: &str) -> Result<(), OrderFault>
         ensures asked { self.new.asked ≡ self.old.asked ++ order_value feed.now result ∷ [] }
         ensures plain { IfErr result IsNotTaken }
@@ -274,8 +274,8 @@ impl<'a, N: Drop, T: Versions<Notice = N>> Orders for WorkerOrders<'a, N, T> {
 }
 
 impl<N: Drop> LoaderOrders<N> {
-    /// Takes the order that waits longest, or waits for one. None comes only where the queue was empty at some moment of the call;
-    /// that the workers' ends are gone then, tests show.
+    /// Takes the order that waits longest, or waits for one. None comes where the queue is empty and the workers' ends are gone; tests
+    /// show that, and no contract.
     pub fn next<R: Wait>(&mut self, rt: &R) -> Option<Order<N>>
         ensures queue { self.new.queue ≡ self.old.queue }
         ensures taken { MatchOption result (self.new.taken ≡ self.old.taken) (λ order. self.new.taken ≡ self.old.taken ++ mark_of order ∷ []) }

@@ -7,11 +7,8 @@ use Rattle.epochs.specs.declared.seats.Answer.{Answer}
 use Rattle.epochs.specs.declared.faults.PinFault.{PinFault}
 use Rattle.epochs.specs.Pins.{HoldsInHistory}
 use Rattle.epochs.specs.Seats.{SeatValue, PinStep, ReleaseStep, JoinStep, pinned}
+use Rattle.epochs.proofs.JoinLemmas.{version_in}
 use Rattle.session.specs.SeatSteps.{AnswerStep, Follows, IsGivenBack, NeverFalls, PinsOnce, SeatMove, answered, joined, answers_in}
-
-abbrev version_in : Option (ℕ × ImageValue) → ℕ
-version_in None = 0
-version_in (Some p) = p.0
 
 abbrev image_in : ImageValue → Option (ℕ × ImageValue) → ImageValue
 image_in i None = i

@@ -7,7 +7,7 @@ use arrayvec::ArrayString;
 use epochs::PinFault;
 use orders::OrderFault;
 use session_texts::{Refusal, load_refused_line, moved_line};
-use timetable::query::QueryFault;
+use timetable::QueryFault;
 
 // A line with its LF.
 #[derive(Drop)]

@@ -103,7 +103,8 @@ words_current words new s t shown shelves counts is = let nine = shown.nine in r
   each = λ k x at. get_or-set_other words 0 (k + 1) new 0 (λ e. omega arith) ∙ (shown.each k x (ap (λ (xs : List Shelf). slice_get xs k) (sym shelves) ∙ at) ∙ ap (λ (xs : List ℕ). shelf_word x (get_or xs k 0)) (sym counts));
 }
 
-got_snoc : {A : Type 0} (l : List A) (a b : A) (i : ℕ) → slice_get (l ++ a ∷ []) i ≡ Some b → (slice_get l i ≡ Some b) ⊎ ((i ≡ length l) × (a ≡ b))
+-- what stands in a list with one more behind it
+pub got_snoc : {A : Type 0} (l : List A) (a b : A) (i : ℕ) → slice_get (l ++ a ∷ []) i ≡ Some b → (slice_get l i ≡ Some b) ⊎ ((i ≡ length l) × (a ≡ b))
 got_snoc [] a b zero e = inr (refl, cc)
 got_snoc [] a b (suc i) e = absurd (cc)
 got_snoc (x ∷ xs) a b zero e = inl e

@@ -13,6 +13,7 @@ use Rattle.version_core.specs.Actors.{actor, NoneOf}
 use Rattle.shelf_steps.specs.declared.edition.Edition.{Edition}
 use Rattle.shelf_steps.specs.declared.views.Known.{Known}
 
+-- a state, the events with their replies that led to it, and the image of each version
 pub record Course : Type 0 where
   pub state : State
   pub events : List Event
@@ -29,9 +30,11 @@ pub record Goes (c : Course) : Type 0 where
 abbrev pub extended : Course → Event → Reply → State → List ImageValue → Course
 extended c e r t images = record { state = t; events = c.events ++ e ∷ []; replies = c.replies ++ r ∷ []; images = images }
 
+-- all of it, as a seat knows such
 abbrev pub all_of : Course → Known
 all_of c = record { events = c.events; replies = c.replies; images = c.images }
 
+-- what is known, as a course that leads to the state
 abbrev pub leading_to : State → Known → Course
 leading_to s k = record { state = s; events = k.events; replies = k.replies; images = k.images }
 

@@ -1,4 +1,7 @@
 -- What each step tells the seat that makes it.
+-- m and m' are what the seat has before the step and after it: its view, and the slots that are out with it. v is a worker's view, l the
+-- loader's, u the view of either; c are the slots that are out, f what each slot has by its number; k is a shelf, n the word that the
+-- step found. st is what the table was asked: which word, and with which number (first).
 use Rattle.image_layout.specs.Image.{ImageValue}
 use Rattle.std.specs.Prelude.{◌≡◌, ℕ, ◌+◌, ◌*◌, ◌/◌, ◌%◌, ◌<◌, ◌≤◌, ◌==◌, ◌&&◌, ◌⊎◌, max, Bool, true, false, List, [], ◌∷◌, ◌++◌, Option, Some, None, length}
 use Rattle.std.specs.Prelude.{slice_get, slice_set}
@@ -41,12 +44,15 @@ looked_at v n known = record v { now = Worker.Looked (n / 8) (n % 8); seen = n /
 abbrev pub is_open : ℕ → ℕ → Bool
 is_open n version = (n / 256 % 4 == 1) && (n / 65536 == version)
 
+-- after a take that found the version: the worker holds it on the shelf k, with its edition
 abbrev pub holding : WorkerView → ℕ → ℕ → Edition → Known → WorkerView
 holding v k version e known = record v { now = Worker.Holding k version; edition = Some e; known = known }
 
+-- after a take that came late: the version last looked at is current no longer
 abbrev pub come_late : WorkerView → ℕ → Known → WorkerView
 come_late v k known = record v { now = Worker.Late k; passed = true; edition = None; known = known }
 
+-- after a drop: the worker is idle
 abbrev pub gone : WorkerView → Known → WorkerView
 gone v known = record v { now = Worker.Idle; edition = None; known = known }
 
@@ -71,20 +77,24 @@ TakesFound v c version k n false m' =
     (known : Known) × (m' ≡ (View.Working (come_late v k known), c)) × Happened v.known (Event.Take v.number) Reply.Late known × ShowsIn (come_late v k known)
     × FoundAt known (Event.Take v.number) k n
 
+-- so does a worker that has looked; no other takes a shelf
 abbrev pub TakesAs : WorkerView → List (ℕ × Option Edition) → Worker → ℕ → Mine → Type 0
 TakesAs v c (Worker.Looked version k) n m' = TakesFound v c version k n (is_open n version) m'
 TakesAs v c _ n m' = ⊥
 
+-- the step `Taking`, which found the word n on the shelf that the worker saw
 abbrev pub Takes : Mine → ℕ → Mine → Type 0
 Takes m n m' = OfWorker m.0 (λ v. TakesAs v m.1 v.now n m')
 
+-- the step `Leaving`: the worker is idle again, and the slots that are out stay so
 abbrev pub Leaves : Mine → Mine → Type 0
 Leaves m m' = OfWorker m.0 (λ v. (known : Known) × (m' ≡ (View.Working (gone v known), m.1)) × Happened v.known (Event.Drop v.number) Reply.Dropped known × ShowsIn (gone v known))
 
--- the slot goes back with it
+-- the step `GivingBack`: the worker is idle again, and its slot is out no longer
 abbrev pub GivesBack : Mine → Mine → Type 0
 GivesBack m m' = OfWorker m.0 (λ v. (known : Known) × (m' ≡ (View.Working (gone v known), [])) × Happened v.known (Event.Drop v.number) Reply.Dropped known × ShowsIn (gone v known))
 
+-- the view is that of an idle worker
 abbrev pub IsIdle : View → Type 0
 IsIdle u = OfWorker u (λ v. v.now ≡ Worker.Idle)
 
@@ -92,6 +102,7 @@ IsIdle u = OfWorker u (λ v. v.now ≡ Worker.Idle)
 abbrev pub HasLooked : ℕ → View → Type 0
 HasLooked k u = OfWorker u (λ v. (version : ℕ) × (v.now ≡ Worker.Looked version k))
 
+-- the worker is late at this shelf
 abbrev pub IsLate : ℕ → View → Type 0
 IsLate k u = OfWorker u (λ v. v.now ≡ Worker.Late k)
 
@@ -108,18 +119,23 @@ OfLoader _ P = ⊥
 abbrev pub newest_of : LoaderView → ℕ
 newest_of l = length l.known.images
 
+-- the shelf is open with the version, and no shelf's slots are out with the loader
 abbrev pub with_open : LoaderView → ℕ → ℕ → Known → LoaderView
 with_open l k version known = record l { shelves = slice_set l.shelves k (Shelf.Open version); hand = None; known = known }
 
+-- the version is current, on the shelf k
 abbrev pub with_current : LoaderView → ℕ → ℕ → Known → LoaderView
 with_current l version k known = record l { current = version; current_shelf = k; known = known }
 
+-- the shelf is closing with the version
 abbrev pub with_closing : LoaderView → ℕ → ℕ → Known → LoaderView
 with_closing l k version known = record l { shelves = slice_set l.shelves k (Shelf.Closing version); known = known }
 
+-- the shelf is free, and its slots are out with the loader
 abbrev pub with_free : LoaderView → ℕ → Known → LoaderView
 with_free l k known = record l { shelves = slice_set l.shelves k Shelf.Free; hand = Some k; known = known }
 
+-- the slots of the free shelf `hand` are out with the loader, or those of none
 abbrev pub with_hand : LoaderView → Option ℕ → Known → LoaderView
 with_hand l hand known = record l { hand = hand; known = known }
 
@@ -131,6 +147,7 @@ HasImage version image edition = (e : Edition) × (edition ≡ Some e) × (e.ver
 abbrev pub IsBlock : (ℕ → Option Edition) → ℕ → List (ℕ × Option Edition) → Type 0
 IsBlock f k c = c ≡ down_from f (16 * k) 16 []
 
+-- the sixteen slots of the shelf k have the version with the image
 abbrev pub AllHave : ℕ → ImageValue → ℕ → (ℕ → Option Edition) → Type 0
 AllHave version image k f = (j : ℕ) → 16 * k ≤ j → j < 16 * k + 16 → HasImage version image (f j)
 
@@ -145,19 +162,24 @@ OpensOn k m m' = OfLoader m.0 (λ l.
     × (m' ≡ (View.Loading (with_open l k (newest_of l + 1) known), []))
     × Happened l.known (Event.Open (newest_of l)) (Reply.Opened (newest_of l + 1) k) known × (known.images ≡ l.known.images ++ image ∷ []))
 
+-- the step `Opening`, on the word of a shelf
 abbrev pub Opens : Step (Option Edition) → Mine → ℕ → Mine → Type 0
 Opens st m n m' = (k : ℕ) × (st.word ≡ k + 1) × OpensOn k m m'
 
+-- the version on the shelf k becomes the current one, and the slots that are out stay so
 abbrev pub PublishesOn : ℕ → ℕ → Mine → Mine → Type 0
 PublishesOn version k m m' = OfLoader m.0 (λ l. (known : Known) × (m' ≡ (View.Loading (with_current l version k known), m.1)) × Noted l Event.Publish (Reply.Published version) known)
 
+-- the step `Publishing`, which stores eight times the version and its shelf
 abbrev pub Publishes : Step (Option Edition) → Mine → ℕ → Mine → Type 0
 Publishes st m n m' = (version k : ℕ) × (st.first ≡ 8 * version + k) × (k < 8) × PublishesOn version k m m'
 
+-- the shelf k, which is open, is closing with its version
 abbrev pub ClosesOn : ℕ → Mine → Mine → Type 0
 ClosesOn k m m' = OfLoader m.0 (λ l.
     (version : ℕ) × (known : Known) × (slice_get l.shelves k ≡ Some (Shelf.Open version)) × (m' ≡ (View.Loading (with_closing l k version known), m.1)) × Noted l (Event.Close k) Reply.Closing known)
 
+-- the step `Closing`, on the word of a shelf
 abbrev pub Closes : Step (Option Edition) → Mine → ℕ → Mine → Type 0
 Closes st m n m' = (k : ℕ) × (st.word ≡ k + 1) × ClosesOn k m m'
 
@@ -170,9 +192,11 @@ CollectsFound l k version n false m' =
     (known : Known) × (m' ≡ (View.Loading (with_hand l None known), [])) × Noted l (Event.Collect k) (Reply.Busy (n % 256)) known × (0 < n % 256)
     × FoundAt known (Event.Collect k) k n
 
+-- it is free where the word n says that it was closing with the version, and its count 0
 abbrev pub CollectsOn : ℕ → ℕ → ℕ → Mine → Mine → Type 0
 CollectsOn k version n m m' = OfLoader m.0 (λ l. CollectsFound l k version n (n == 512 + 65536 * version) m')
 
+-- the step `Collecting`, on the word of a shelf, which asks for just that word
 abbrev pub Collects : Step (Option Edition) → Mine → ℕ → Mine → Type 0
 Collects st m n m' = (k version : ℕ) × (st.word ≡ k + 1) × (st.first ≡ 512 + 65536 * version) × CollectsOn k version n m m'
 
@@ -180,34 +204,42 @@ Collects st m n m' = (k version : ℕ) × (st.word ≡ k + 1) × (st.first ≡ 5
 abbrev pub GathersOn : ℕ → Mine → Mine → Type 0
 GathersOn k m m' = OfLoader m.0 (λ l. (known : Known) × (m' ≡ (View.Loading (with_hand l (Some k) known), down_from nothings (16 * k) 16 [])) × Noted l (Event.Collect k) Reply.NotNow known)
 
+-- the step `Gathering`, on the word of a shelf
 abbrev pub Gathers : Step (Option Edition) → Mine → ℕ → Mine → Type 0
 Gathers st m n m' = (k : ℕ) × (st.word ≡ k + 1) × GathersOn k m m'
 
--- and come home
+-- the empty slots of a free shelf come home, and none are out with the loader
 abbrev pub PutsBackOn : ℕ → Mine → Mine → Type 0
 PutsBackOn k m m' = OfLoader m.0 (λ l. (known : Known) × (m' ≡ (View.Loading (with_hand l None known), [])) × Noted l (Event.Collect k) Reply.NotNow known)
 
+-- the step `PuttingBack`, on the word of a shelf
 abbrev pub PutsBack : Step (Option Edition) → Mine → ℕ → Mine → Type 0
 PutsBack st m n m' = (k : ℕ) × (st.word ≡ k + 1) × PutsBackOn k m m'
 
--- what each step of the loader asks of its view and its slots
+-- what each step of the loader asks of its view and its slots. To open: the shelf is free, its slots are out with the loader, each filled
+-- with the next version and its image, and no version is open and unpublished
 abbrev pub MayOpenOn : ℕ → ℕ → View → List (ℕ × Option Edition) → Type 0
 MayOpenOn k version u c = OfLoader u (λ l.
     (slice_get l.shelves k ≡ Some Shelf.Free) × (l.hand ≡ Some k) × (l.current ≡ newest_of l) × (version ≡ newest_of l + 1) × (version ≤ 1000000000)
     × ((image : ImageValue) × (f : ℕ → Option Edition) × IsBlock f k c × AllHave version image k f))
 
+-- to publish: the shelf is open with the version, which is above the current one
 abbrev pub MayPublish : ℕ → ℕ → View → Type 0
 MayPublish version k u = OfLoader u (λ l. (slice_get l.shelves k ≡ Some (Shelf.Open version)) × (l.current < version))
 
+-- to close: the shelf is open with a version below the current one
 abbrev pub MayClose : ℕ → View → Type 0
 MayClose k u = OfLoader u (λ l. (version : ℕ) × (slice_get l.shelves k ≡ Some (Shelf.Open version)) × (version < l.current))
 
+-- to collect: the shelf is closing with the version, and no slots are out with the loader
 abbrev pub MayCollect : ℕ → ℕ → View → List (ℕ × Option Edition) → Type 0
 MayCollect k version u c = OfLoader u (λ l. (slice_get l.shelves k ≡ Some (Shelf.Closing version)) × (l.hand ≡ None) × (c ≡ []))
 
+-- to gather: the shelf is free, and no slots are out with the loader
 abbrev pub MayGather : ℕ → View → List (ℕ × Option Edition) → Type 0
 MayGather k u c = OfLoader u (λ l. (slice_get l.shelves k ≡ Some Shelf.Free) × (l.hand ≡ None) × (c ≡ []))
 
+-- to put back: the shelf is free, and its slots are out with the loader, empty
 abbrev pub MayPutBack : ℕ → View → List (ℕ × Option Edition) → Type 0
 MayPutBack k u c = OfLoader u (λ l. (slice_get l.shelves k ≡ Some Shelf.Free) × (l.hand ≡ Some k) × IsBlock nothings k c)
 
@@ -224,17 +256,21 @@ newcomer w = record {
   known = record { events = []; replies = []; images = [] };
 }
 
+-- one worker's seat more was handed out
 abbrev pub one_more : LoaderView → LoaderView
 one_more l = record l { handed = l.handed + 1 }
 
+-- what a split that hands out a seat leaves of the loader's view
 abbrev pub keeps_loading : View → View
 keeps_loading (View.Loading l) = View.Loading (one_more l)
 keeps_loading u = u
 
+-- and the view that it gives: that of a newcomer with the next number
 abbrev pub new_worker_view : View → View
 new_worker_view (View.Loading l) = View.Working (newcomer l.handed)
 new_worker_view u = u
 
+-- the view is the loader's, and fewer than sixteen seats were handed out
 abbrev pub MayHandOut : View → Type 0
 MayHandOut u = OfLoader u (λ l. l.handed < 16)
 
@@ -242,6 +278,7 @@ MayHandOut u = OfLoader u (λ l. l.handed < 16)
 abbrev pub with_note : LoaderView → LoaderView
 with_note l = record l { notes = l.notes + 1 }
 
+-- what a split that gives a notice leaves of the loader's view
 abbrev pub gives_notice : View → View
 gives_notice (View.Loading l) = View.Loading (with_note l)
 gives_notice u = u
@@ -251,6 +288,7 @@ abbrev pub new_notice : View → View
 new_notice (View.Loading l) = View.Noting l.current
 new_notice u = View.Spent
 
+-- the view is the loader's
 abbrev pub IsLoading : View → Type 0
 IsLoading u = OfLoader u (λ l. Unit {0})
 
@@ -267,5 +305,6 @@ joins_notice u w = u
 abbrev pub IsSettled : View → Type 0
 IsSettled u = OfWorker u (λ v. (v.now ≡ Worker.Idle) ⊎ ((k x : ℕ) × (v.now ≡ Worker.Holding k x)))
 
+-- what a notice of the version has: its view, and no slot
 abbrev pub IsNotice : ℕ → Mine → Type 0
 IsNotice version m = m ≡ (View.Noting version, [])

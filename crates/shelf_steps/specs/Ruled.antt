@@ -33,6 +33,7 @@ pub record Ruled (table : Table (Option Edition) View) : Type 0 where
   pub notices : notices_of table.views ≡ course.state.notices
   pub slots : SlotsFit table.homes course.state.shelves course.state.workers course.images loader.hand
 
+-- what the loader knows at the start: version 1 with the first image, on shelf 0, and seven free shelves
 abbrev pub first_loader : ImageValue → LoaderView
 first_loader image =
     record {
@@ -53,5 +54,6 @@ first_words = 8 ∷ 65792 ∷ 0 ∷ 0 ∷ 0 ∷ 0 ∷ 0 ∷ 0 ∷ 0 ∷ []
 abbrev pub FirstSlot : ImageValue → ℕ → Option Edition → Type 0
 FirstSlot image j x = (j < 16 → HasImage 1 image x) × (16 ≤ j → x ≡ None)
 
+-- n slots, each as it is at the start
 abbrev pub FirstSlots : ImageValue → ℕ → List (Option Edition) → Type 0
 FirstSlots image n items = (length items ≡ n) × ((j : ℕ) → j < n → (x : Option Edition) × (get_elem? items j ≡ some x) × FirstSlot image j x)

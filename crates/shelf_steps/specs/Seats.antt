@@ -16,6 +16,8 @@ abbrev pub HasEdition : List ImageValue → Worker → Option Edition → Type 0
 HasEdition images (Worker.Holding k v) edition = IsEdition images v edition
 HasEdition images _ edition = edition ≡ None
 
+-- what a worker's seat knows fits: what the worker does and has seen, its edition, a beginning of the events, behind which no step of
+-- its own on a word stands, and the notices that it took in
 pub record WorkerFits (c : Course) (v : WorkerView) : Type 0 where
   pub shows : WorkerShows v.number v.now v.seen c.state
   pub last : (v.last ≤ c.state.current) × (v.last ≤ v.seen)
@@ -24,6 +26,7 @@ pub record WorkerFits (c : Course) (v : WorkerView) : Type 0 where
   pub known : Begins v.known (Some v.number) c
   pub joined : v.joined ≡ joined_by v.number c.events
 
+-- what the loader's seat knows fits: the state, all images, a beginning of the events, and how many notices went out
 pub record LoaderFits (c : Course) (l : LoaderView) : Type 0 where
   pub shows : LoaderShows l.current l.current_shelf l.shelves (length l.known.images) c.state
   pub images : l.known.images ≡ c.images
@@ -36,6 +39,7 @@ SeatFits c loader owner seat (View.Loading l) = (seat ≡ 0) × (l ≡ loader)
 SeatFits c loader owner seat (View.Working v) = (v.number < loader.handed) × (owner v.number ≡ seat) × WorkerFits c v
 SeatFits c loader owner seat _ = Unit {0}
 
+-- all seats fit. Seat 0 is the loader's; each worker that was handed out has one seat, and no other worker has done anything
 pub record SeatsFit (c : Course) (views : List View) (loader : LoaderView) : Type 0 where
   pub owner : ℕ → ℕ
   pub loader_seat : get_elem? views 0 ≡ some (View.Loading loader)

@@ -22,11 +22,13 @@ IsFilled images workers k w v slot =
 abbrev pub IsSpare : Option ℕ → ℕ → Slot → Type 0
 IsSpare hand k slot = ((hand ≢ Some k) × (slot ≡ some (some None))) ⊎ ((hand ≡ Some k) × (slot ≡ some none))
 
+-- a slot is spare where its shelf is free, else filled
 abbrev pub SlotFits : List ImageValue → List Worker → Option ℕ → Shelf → ℕ → ℕ → Slot → Type 0
 SlotFits images workers hand Shelf.Free k w slot = IsSpare hand k slot
 SlotFits images workers hand (Shelf.Open v) k w slot = IsFilled images workers k w v slot
 SlotFits images workers hand (Shelf.Closing v) k w slot = IsFilled images workers k w v slot
 
+-- each slot fits its shelf
 abbrev pub SlotsFit : List (Maybe (Option Edition)) → List Shelf → List Worker → List ImageValue → Option ℕ → Type 0
 SlotsFit homes shelves workers images hand = (k w : ℕ) (x : Shelf) → slice_get shelves k ≡ Some x → w < 16 → SlotFits images workers hand x k w (get_elem? homes (16 * k + w))
 
@@ -35,5 +37,6 @@ abbrev pub down_from : {S : Type 0} → (ℕ → S) → ℕ → ℕ → List (�
 down_from f k zero c = c
 down_from f k (suc n) c = (k + n, f (k + n)) ∷ down_from f k n c
 
+-- an empty slot, whatever its number
 abbrev pub nothings : ℕ → Option Edition
 nothings j = None

@@ -20,6 +20,7 @@ impl TableRule<Option<Edition>, View, Arc<Verified, Global>> for ShelfRule {
     ghost first = { λ image. View.Loading (first_loader (arc_value image)) };
 }
 
+/// The step by which a worker looks at the current version: the event `Look`.
 pub struct Looking;
 
 impl Play<Option<Edition>, View> for Looking {
@@ -28,6 +29,8 @@ impl Play<Option<Edition>, View> for Looking {
     ghost then = { λ _. Looks };
 }
 
+/// The step by which a worker that has looked is counted at the shelf that it saw: the event `Take`. Where the version was still
+/// open there its slot goes out with it, else it is late.
 pub struct Taking;
 
 impl Play<Option<Edition>, View> for Taking {
@@ -36,6 +39,7 @@ impl Play<Option<Edition>, View> for Taking {
     ghost then = { λ _. Takes };
 }
 
+/// The step by which a late worker leaves its shelf: the event `Drop`.
 pub struct Leaving;
 
 impl Play<Option<Edition>, View> for Leaving {
@@ -44,6 +48,7 @@ impl Play<Option<Edition>, View> for Leaving {
     ghost then = { λ _ m _. Leaves m };
 }
 
+/// The step by which a holder leaves its shelf and puts its slot back, with the edition in it: the event `Drop`.
 pub struct GivingBack;
 
 impl Play<Option<Edition>, View> for GivingBack {
@@ -52,6 +57,7 @@ impl Play<Option<Edition>, View> for GivingBack {
     ghost then = { λ _ m _. GivesBack m };
 }
 
+/// The step by which the loader opens a free shelf with the next version and puts its filled slots back: the event `Open`.
 pub struct Opening;
 
 impl Play<Option<Edition>, View> for Opening {
@@ -60,6 +66,7 @@ impl Play<Option<Edition>, View> for Opening {
     ghost then = { Opens };
 }
 
+/// The step by which the loader makes the version that it opened current: the event `Publish`.
 pub struct Publishing;
 
 impl Play<Option<Edition>, View> for Publishing {
@@ -68,6 +75,7 @@ impl Play<Option<Edition>, View> for Publishing {
     ghost then = { Publishes };
 }
 
+/// The step by which the loader closes a shelf whose version is current no longer: the event `Close`.
 pub struct Closing;
 
 impl Play<Option<Edition>, View> for Closing {
@@ -76,6 +84,8 @@ impl Play<Option<Edition>, View> for Closing {
     ghost then = { Closes };
 }
 
+/// The step by which the loader tries a closing shelf: the event `Collect`. Where no worker is at it, it is free, and its slots are
+/// out with the loader.
 pub struct Collecting;
 
 impl Play<Option<Edition>, View> for Collecting {
@@ -84,6 +94,7 @@ impl Play<Option<Edition>, View> for Collecting {
     ghost then = { Collects };
 }
 
+/// The step by which the loader takes out the empty slots of a free shelf: the event `Collect`, answered with `NotNow`.
 pub struct Gathering;
 
 impl Play<Option<Edition>, View> for Gathering {
@@ -92,6 +103,7 @@ impl Play<Option<Edition>, View> for Gathering {
     ghost then = { Gathers };
 }
 
+/// The step by which the loader puts back the empty slots of a free shelf: the event `Collect`, answered with `NotNow`.
 pub struct PuttingBack;
 
 impl Play<Option<Edition>, View> for PuttingBack {
@@ -100,6 +112,7 @@ impl Play<Option<Edition>, View> for PuttingBack {
     ghost then = { PutsBack };
 }
 
+/// The split of the loader's seat that gives the seat of an idle worker, with the next number. It is no event.
 pub struct HandingOut;
 
 impl Split<View> for HandingOut {
@@ -110,6 +123,7 @@ impl Split<View> for HandingOut {
     ghost right = { new_worker_view };
 }
 
+/// The split of the loader's seat that gives a notice of the current version: the event `Note`.
 pub struct Noting;
 
 impl Split<View> for Noting {
@@ -120,6 +134,7 @@ impl Split<View> for Noting {
     ghost right = { new_notice };
 }
 
+/// The join by which a worker's seat takes in a notice, which is spent then: the event `Join`.
 pub struct Joining;
 
 impl Join<View> for Joining {

@@ -14,7 +14,9 @@ pub struct Known {
 
 /// What a worker's seat knows. No value of it is made.
 pub struct WorkerView {
+    /// The worker's number, from 0 to 15.
     pub number: u64,
+    /// What the worker is doing.
     pub now: Worker,
     /// The greatest version seen.
     pub seen: u64,
@@ -26,6 +28,7 @@ pub struct WorkerView {
     pub edition: Option<Edition>,
     /// The versions of the notices that were taken in, as they came.
     pub joined: LinkedList<u64>,
+    /// What happened, up to the worker's last step on a word.
     pub known: Known,
 }
 
@@ -35,17 +38,23 @@ pub struct LoaderView {
     pub handed: u64,
     /// How many notices went out.
     pub notes: u64,
+    /// The current version.
     pub current: u64,
+    /// The shelf on which it stands.
     pub current_shelf: u64,
+    /// What each shelf is for.
     pub shelves: LinkedList<Shelf>,
     /// The free shelf whose slots are out with the loader.
     pub hand: Option<u64>,
+    /// What happened, up to the loader's last step on a word.
     pub known: Known,
 }
 
 /// What a seat knows. No value of it is made.
 pub enum View {
+    /// The loader's.
     Loading(LoaderView),
+    /// A worker's.
     Working(WorkerView),
     /// A notice of this version.
     Noting { version: u64 },

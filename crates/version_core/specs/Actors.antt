@@ -16,6 +16,7 @@ actor (Event.Drop w) = Some w
 actor (Event.Ask w) = Some w
 actor _ = None
 
+-- none of the events is this actor's
 abbrev pub NoneOf : Option ℕ → List Event → Type 0
 NoneOf a [] = Unit {0}
 NoneOf a (e ∷ es) = (actor e ≢ a) × NoneOf a es

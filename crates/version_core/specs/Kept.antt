@@ -11,6 +11,7 @@ version_of Shelf.Free = None
 version_of (Shelf.Open v) = Some v
 version_of (Shelf.Closing v) = Some v
 
+-- the version on shelf k, open or closing, where there is one
 abbrev pub version_on : List Shelf → ℕ → Option ℕ
 version_on shelves k = option_and_then version_of (slice_get shelves k)
 
@@ -25,6 +26,8 @@ abbrev pub NewestIsOpen : ℕ → ℕ → List Shelf → Type 0
 NewestIsOpen current newest shelves =
     (newest ≡ current) ⊎ ((newest ≡ current + 1) × ((k : ℕ) × (slice_get shelves k ≡ Some (Shelf.Open newest))))
 
+-- eight shelves. The current one is open with the current version, and the newest version stands open. Versions are 1 to the newest,
+-- no two shelves have the same, and a closing shelf's is older than the current one
 pub record ShelvesFit (current current_shelf newest : ℕ) (shelves : List Shelf) : Type 0 where
   pub eight : length shelves ≡ 8
   pub current_open : slice_get shelves current_shelf ≡ Some (Shelf.Open current)
@@ -33,17 +36,19 @@ pub record ShelvesFit (current current_shelf newest : ℕ) (shelves : List Shelf
   pub apart : (j k v : ℕ) → version_on shelves j ≡ Some v → version_on shelves k ≡ Some v → j ≡ k
   pub closing_old : (k v : ℕ) → slice_get shelves k ≡ Some (Shelf.Closing v) → v < current
 
+-- each of the eight counts is the number of workers that are late at that shelf or hold it
 pub record CountsFit (counts : List ℕ) (workers : List Worker) : Type 0 where
   pub eight : length counts ≡ 8
   pub each : (k : ℕ) → k < 8 → slice_index counts k ≡ count_by (is_at k) workers
 
--- a worker with the greatest version that it has seen. Who is late has seen a version that is current no longer
+-- a worker fits the shelves and the greatest version that it has seen, which is current no longer where the worker is late
 abbrev pub Fits : ℕ → ℕ → List Shelf → Worker → ℕ → Type 0
 Fits current current_shelf shelves Worker.Idle seen = seen ≤ current
 Fits current current_shelf shelves (Worker.Looked v k) seen = (k < 8) × (seen ≡ v) × (v ≤ current) × (v ≡ current → k ≡ current_shelf)
 Fits current current_shelf shelves (Worker.Late k) seen = (k < 8) × (seen < current)
 Fits current current_shelf shelves (Worker.Holding k v) seen = (k < 8) × (version_on shelves k ≡ Some v) × (v ≤ seen) × (seen ≤ current)
 
+-- sixteen workers, each of which fits the shelves and the greatest version that it has seen
 pub record WorkersFit (current current_shelf : ℕ) (shelves : List Shelf) (workers : List Worker) (seen : List ℕ) : Type 0 where
   pub sixteen : length workers ≡ 16
   pub sixteen_seen : length seen ≡ 16
@@ -54,6 +59,8 @@ abbrev pub RiseWithin : ℕ → List ℕ → ℕ → Type 0
 RiseWithin low [] high = low ≤ high
 RiseWithin low (v ∷ vs) high = (low ≤ v) × RiseWithin v vs high
 
+-- what every state keeps: at most 1,000,000,000 versions; shelves, counts and workers that fit one another; and notices of versions
+-- that never fall and are none above the current one
 pub record Kept (s : State) : Type 0 where
   pub room : newest s ≤ 1000000000
   pub shelves : ShelvesFit s.current s.current_shelf (newest s) s.shelves

@@ -3,6 +3,7 @@ use Rattle.std.specs.Prelude.{ℕ, zero, suc, ◌+◌, ◌-◌, max, List, [], �
 use Rattle.version_core.specs.declared.state.Shelf.{Shelf}
 use Rattle.version_core.specs.declared.state.Worker.{Worker}
 
+-- the current version, what shelves are for, what workers do, and what was opened and noted so far
 pub record State : Type 0 where
   pub current : ℕ  -- the current version
   pub current_shelf : ℕ  -- and its shelf

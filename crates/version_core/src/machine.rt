@@ -92,19 +92,21 @@ impl Core {
         (self.current, self.current_shelf)
     }
 
-    /// The greatest version that the worker has seen: 0 before its first look.
+    /// The greatest version that the worker has seen: 0 before its first look; none where there is no such worker.
     pub fn seen(&self, worker: usize) -> Option<u64>
         ensures { result ≡ slice_get self.now.seen worker }
     {
         self.seen.get(worker).copied()
     }
 
+    /// What the worker is doing; none where there is no such worker.
     pub fn worker(&self, worker: usize) -> Option<Worker>
         ensures { result ≡ slice_get self.now.workers worker }
     {
         self.workers.get(worker).copied()
     }
 
+    /// What the shelf is for; none where there is no such shelf.
     pub fn shelf(&self, shelf: usize) -> Option<Shelf>
         ensures { result ≡ slice_get self.now.shelves shelf }
     {

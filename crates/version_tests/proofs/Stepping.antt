@@ -13,9 +13,9 @@ use Rattle.version_core.specs.Kept.{version_on, version_of}
 use Rattle.shelf_steps.specs.declared.edition.Edition.{Edition}
 use Rattle.shelf_steps.specs.declared.views.WorkerView.{WorkerView}
 use Rattle.shelf_steps.specs.declared.views.View.{View}
-use Rattle.shelf_steps.specs.Slots.{down_from, nothings}
+use Rattle.shelf_steps.specs.Slots.{down_from}
 use Rattle.shelf_steps.specs.Loading.{Frees, FindsBusy}
-use Rattle.shelf_steps.specs.Plays.{OfLoader, Mine, Looks, Takes, TakesFound, Leaves, GivesBack, IsIdle, HasLooked, IsLate, HoldsOut, is_open, with_hand, IsBlock, AllHave, OpensOn, PublishesOn, ClosesOn, GathersOn, MayOpenOn, MayPublish, MayClose, MayCollect, MayGather}
+use Rattle.shelf_steps.specs.Plays.{OfLoader, Mine, Looks, Takes, TakesFound, Leaves, GivesBack, IsIdle, HasLooked, IsLate, HoldsOut, is_open, with_hand, AllHave, OpensOn, PublishesOn, ClosesOn, GathersOn, MayOpenOn, MayPublish, MayClose, MayCollect, MayGather}
 use Rattle.shelf_steps.specs.Plays.{IsSettled, IsNotice, IsLoading, joins_notice, gives_notice, new_notice}
 use Rattle.version_tests.specs.Stepping.{DoesSo, Remembers, RemembersSo}
 
@@ -121,15 +121,6 @@ gather_of k current newest shelves (View.Loading l) c h free = (ap (λ (s : List
 
 pub may_gather_so : (k current newest : ℕ) (shelves : List Shelf) (m : Mine) → RemembersSo current newest shelves m → slice_get shelves k ≡ Some Shelf.Free → MayGather k m.0 m.1
 may_gather_so k current newest shelves m h free = gather_of k current newest shelves m.0 m.1 h free
-
-block_of : (k : ℕ) (u : View) (c : List (ℕ × Option Edition)) (m1 : Mine) → GathersOn k (u, c) m1 → IsBlock nothings k m1.1
-block_of k (View.Working v) c m1 g = absurd g
-block_of k (View.Noting x') c m1 g = absurd g
-block_of k View.Spent c m1 g = absurd g
-block_of k (View.Loading l) c m1 g = ap (λ (m : Mine). m.1) g.1
-
-pub gathered_so : (k : ℕ) (m m1 : Mine) → GathersOn k m m1 → IsBlock nothings k m1.1
-gathered_so k m m1 g = block_of k m.0 m.1 m1 g
 
 filled_of : (k current newest : ℕ) (shelves : List Shelf) (image : ImageValue) (f : ℕ → Option Edition) (u : View) (c : List (ℕ × Option Edition)) (m1 m2 : Mine) → RemembersSo current newest shelves (u, c) → slice_get shelves k ≡ Some Shelf.Free
     → current ≡ newest → newest < 1000000000 → AllHave (newest + 1) image k f → GathersOn k (u, c) m1 → m2 ≡ (m1.0, down_from f (16 * k) 16 []) → MayOpenOn k (newest + 1) m2.0 m2.1

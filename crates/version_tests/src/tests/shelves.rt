@@ -1,3 +1,5 @@
+//! Shelves, and the table of versions behind a lock and without one: what their calls answer, and which refusals have which numbers.
+
 mod scripts;
 mod stages;
 mod threads;

@@ -1,3 +1,5 @@
+//! Steps at shelves: by scripts, and at random beside the machine of versions.
+
 mod stepping;
 
 ghost use Rattle.std.specs.Prelude.{◌≡◌, ◌<◌, ◌≤◌};
