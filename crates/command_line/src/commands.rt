@@ -35,8 +35,9 @@ struct Task {
 }
 
 const STATUSES: &str =
-    "Exit status: 0 accepted, 2 refused (one line `refused NUMBER NAME PLACES`), 3 a file can't be read \
-or written or a line can't be written, 4 no memory, 64 a wrong command line.";
+    "Exit status: 0 accepted, 2 refused (one line `refused NUMBER NAME PLACES`; of serve: a session had too many requests), \
+3 a file can't be read or written, a port can't be listened at, a line can't be written, or a session failed, 4 no memory, \
+64 a wrong command line.";
 
 const JOURNEY_EXAMPLE: &str =
     "Example: csa journey examples/base.csa 'ride 0 0 walk 1 1 0 ride 2 2' \

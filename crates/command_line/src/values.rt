@@ -2,7 +2,7 @@
 
 use command_requests::{Ahead, NamedFolder, ZoneText};
 use gtfs_rows::Day;
-use timetable::clocks::clock_parse;
+use timetable::clock_parse;
 
 /// Seconds of a clock `HH:MM:SS`.
 pub(crate) fn clock(text: &str) -> Option<u32> {

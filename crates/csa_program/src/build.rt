@@ -57,10 +57,10 @@ pub fn run<H: Files + RandomSource + AllocGlobal, O: Write, E: Write>(
         None
     };
     match build(rt, request, log) {
-        Ok(report) => status::line_written(output, counts(alloc, &report), status::ACCEPTED),
+        Ok(report) => status::write_line(output, counts(alloc, &report), status::ACCEPTED),
         Err(Failure::Refused(fault)) => refuse_feed(alloc, output, fault),
-        Err(Failure::Unreadable(path)) => status::unreadable(alloc, errors, path),
-        Err(Failure::Unwritable(path)) => status::unwritable(alloc, errors, path),
+        Err(Failure::Unreadable(path)) => status::tell_unreadable(alloc, errors, path),
+        Err(Failure::Unwritable(path)) => status::tell_unwritable(alloc, errors, path),
         Err(Failure::OutOfMemory) => status::OUT_OF_MEMORY,
     }
 }

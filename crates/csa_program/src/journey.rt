@@ -8,8 +8,7 @@ use image_verifier::Verified;
 use journeys::{TextFault, check, journey_parse};
 use std::alloc::Global;
 use std::io::Write;
-use timetable::Times;
-use timetable::clocks::Clock;
+use timetable::{Clock, Times};
 
 /// Why a journey isn't accepted.
 enum Failure {
@@ -28,9 +27,9 @@ pub fn run<O: Write>(
         Ok(times) => {
             let (dep, arr) = (Clock(times.dep), Clock(times.arr));
             let line = format!(in alloc; "ok dep {dep} arr {arr}\n");
-            status::line_written(output, line, status::ACCEPTED)
+            status::write_line(output, line, status::ACCEPTED)
         }
-        Err(Failure::Refused(refusal)) => status::refused(alloc, output, &refusal),
+        Err(Failure::Refused(refusal)) => status::tell_refusal(alloc, output, &refusal),
         Err(Failure::OutOfMemory) => status::OUT_OF_MEMORY,
     }
 }

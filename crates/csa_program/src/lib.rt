@@ -36,9 +36,9 @@ use std::net::{Net, TcpListener, TcpStream};
 /// Runs the command that the words ask for; the first word is the program's name.
 ///
 /// What a command finds goes to `output`, what is wrong with the command line or with a file to `errors`. The status is 0 for an
-/// accepted request, 2 for a refused one, 3 where a file can't be read or written, a line can't be written or a socket fails, 4 for want
-/// of memory, and 64 for a command line that asks for nothing. Where `errors` is a terminal, what takes long also tells there what is
-/// done.
+/// accepted request, 2 for a refused one and for a server of which a session had too many requests, 3 where a file can't be read or
+/// written, a line can't be written, or a socket or a session fails, 4 for want of memory, and 64 for a command line that asks for
+/// nothing. Where `errors` is a terminal, what takes long also tells there what is done.
 pub fn run<
     H: Machine + Net<Listener = TcpListener, Stream = TcpStream>,
     S: AsStr,
@@ -55,8 +55,10 @@ pub fn run<
         Ok(Request::Build(request)) => build::run(rt, request, output, errors, is_terminal),
         Ok(Request::Upgrade(request)) => answer(rt, Asked::Upgrade(request), input, output, errors),
         Ok(Request::Serve(request)) => serve::run(rt, request, input, output, errors),
-        Err(Unread::Help(text)) => status::written(output, text.as_str(), status::ACCEPTED),
-        Err(Unread::Mistake(text)) => status::written(errors, text.as_str(), status::COMMAND_LINE),
+        Err(Unread::Help(text)) => status::write_text(output, text.as_str(), status::ACCEPTED),
+        Err(Unread::Mistake(text)) => {
+            status::write_text(errors, text.as_str(), status::COMMAND_LINE)
+        }
         Err(Unread::OutOfMemory) => status::OUT_OF_MEMORY,
     }
 }

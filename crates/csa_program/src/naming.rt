@@ -4,8 +4,7 @@ use answer_pictures::{connection_at, stop_name, trip_name};
 use image_verifier::Verified;
 use std::alloc::{AllocError, Global};
 use std::fmt::Write as _;
-use timetable::clocks::Clock;
-use timetable::{Footpath, Journey, Leg};
+use timetable::{Clock, Footpath, Journey, Leg};
 
 /// Adds a journey's rides and walks, each after a space.
 pub fn append_named(

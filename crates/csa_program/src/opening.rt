@@ -23,14 +23,18 @@ pub fn open_image<H: Files + AllocGlobal, I: Read, O: Write, E: Write>(
     let words = match image_words(rt, path, input) {
         Ok(words) => words,
         Err(ImageFileFault::OddLength) => {
-            return Err(status::refused(rt.alloc(), output, &Refusal::OddLength));
+            return Err(status::tell_refusal(rt.alloc(), output, &Refusal::OddLength));
         }
-        Err(ImageFileFault::Unreadable) => return Err(status::unreadable(rt.alloc(), errors, path)),
+        Err(ImageFileFault::Unreadable) => {
+            return Err(status::tell_unreadable(rt.alloc(), errors, path));
+        }
         Err(ImageFileFault::OutOfMemory) => return Err(status::OUT_OF_MEMORY),
     };
     match verify(rt.alloc(), words) {
         Ok(image) => Ok(image),
         Err((_words, ImageFault::OutOfMemory)) => Err(status::OUT_OF_MEMORY),
-        Err((_words, fault)) => Err(status::refused(rt.alloc(), output, &Refusal::Image(fault))),
+        Err((_words, fault)) => {
+            Err(status::tell_refusal(rt.alloc(), output, &Refusal::Image(fault)))
+        }
     }
 }

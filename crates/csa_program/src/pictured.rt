@@ -32,15 +32,15 @@ pub fn draw<'a, H: Files + AllocGlobal, C: Told>(
     departures: &[Departure<C::V>],
     path: &'a str,
 ) -> Result<(), PictureFailure<'a>> {
-    let text = drawn(rt.alloc(), image, criterion, query, departures)?;
-    if is_written(rt, path, text.as_str()) {
+    let text = picture_text(rt.alloc(), image, criterion, query, departures)?;
+    if write_file(rt, path, text.as_str()) {
         Ok(())
     } else {
         Err(PictureFailure::Unwritable(path))
     }
 }
 
-fn drawn<C: Told>(
+fn picture_text<C: Told>(
     alloc: Global,
     image: &Verified,
     criterion: &C,
@@ -73,7 +73,8 @@ fn axis_of<C: Told>(criterion: &C, query: &Query, departures: &[Departure<C::V>]
     }
 }
 
-fn is_written<H: Files>(rt: &H, path: &str, text: &str) -> bool {
+// Writes the text into the file at the path: whether that went well.
+fn write_file<H: Files>(rt: &H, path: &str, text: &str) -> bool {
     match File::create(rt, path) {
         Ok(mut file) => file.write_all(text.as_bytes()).is_ok() && file.flush().is_ok(),
         Err(_) => false,

@@ -17,8 +17,7 @@ use std::alloc::{AllocError, Global};
 use std::fmt::Write as _;
 use std::io::Write;
 use std::rt::Files;
-use timetable::clocks::Clock;
-use timetable::{Journey, Query};
+use timetable::{Clock, Journey, Query};
 
 /// Prints each best departure with a journey, and then how many there are, how many connections were read, and the direct footpath;
 /// or else what a session replies. A picture that is asked for is written before.
@@ -31,22 +30,24 @@ pub fn run<H: Files + AllocGlobal, O: Write, E: Write>(
 ) -> u8 {
     let query = match query_asked(image, &request.question) {
         Ok(query) => query,
-        Err(fault) => return status::refused(rt.alloc(), output, &Refusal::Query(fault)),
+        Err(fault) => return status::tell_refusal(rt.alloc(), output, &Refusal::Query(fault)),
     };
     let lines = match request.criterion {
-        CriterionName::Arrival => answered(rt, image, &Arrival, &query, request),
-        CriterionName::ArrivalTrips => answered(rt, image, &ArrivalTrips, &query, request),
-        CriterionName::ArrivalTripsWalk => answered(rt, image, &ArrivalTripsWalk, &query, request),
+        CriterionName::Arrival => answer_text(rt, image, &Arrival, &query, request),
+        CriterionName::ArrivalTrips => answer_text(rt, image, &ArrivalTrips, &query, request),
+        CriterionName::ArrivalTripsWalk => {
+            answer_text(rt, image, &ArrivalTripsWalk, &query, request)
+        }
     };
     match lines {
-        Ok(lines) => status::written(output, lines.as_str(), status::ACCEPTED),
-        Err(PictureFailure::Unwritable(path)) => status::unwritable(rt.alloc(), errors, path),
+        Ok(lines) => status::write_text(output, lines.as_str(), status::ACCEPTED),
+        Err(PictureFailure::Unwritable(path)) => status::tell_unwritable(rt.alloc(), errors, path),
         Err(PictureFailure::OutOfMemory) => status::OUT_OF_MEMORY,
     }
 }
 
 /// The text that answers a query, once the answer is drawn where that is asked for.
-fn answered<'a, H: Files + AllocGlobal, C: Told>(
+fn answer_text<'a, H: Files + AllocGlobal, C: Told>(
     rt: &H,
     image: &Verified,
     criterion: &C,

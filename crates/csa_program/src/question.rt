@@ -8,8 +8,7 @@ ghost use Rattle.csa_program.specs.Asking.{window_of};
 use command_requests::Question;
 use image_verifier::Verified;
 use journeys::{Window, query_of};
-use timetable::Query;
-use timetable::query::QueryFault;
+use timetable::{Query, QueryFault};
 
 /// The query between the stops of these names, from the earliest departure until the latest and by the latest arrival; or its first fault.
 pub fn query_asked(image: &Verified, question: &Question<'_>) -> Result<Query, QueryFault>

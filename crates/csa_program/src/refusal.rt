@@ -4,11 +4,11 @@ use crate::status;
 use feed_loader::LoadFault;
 use image_layout::WordsFault;
 use image_verifier::ImageFault;
-use journeys::JourneyFault;
+use journeys::{JourneyFault, TextFault};
 use std::alloc::Global;
 use std::fmt;
 use std::io::Write;
-use timetable::query::QueryFault;
+use timetable::QueryFault;
 
 /// Why a request is refused.
 #[derive(Drop)]
@@ -35,7 +35,7 @@ impl fmt::Display for Refusal {
             Refusal::Image(fault) => write_image_fault(*fault, f),
             Refusal::Feed(fault) => write!(f, "refused {fault}"),
             Refusal::Query(fault) => write_fault(fault.number(), fault.name(), f),
-            Refusal::BadText => write!(f, "refused 80 BadText"),
+            Refusal::BadText => write_text_fault(TextFault::BadText, f),
             Refusal::Journey(fault) => write_journey_fault(*fault, f),
         }
     }
@@ -68,6 +68,14 @@ fn write_fault<W: fmt::Write>(number: u8, name: &str, f: &mut fmt::Formatter<W>)
     write!(f, "refused {number} {name}")
 }
 
+// A text's fault. Want of memory has no number, and isn't told.
+fn write_text_fault<W: fmt::Write>(fault: TextFault, f: &mut fmt::Formatter<W>) -> fmt::Result {
+    match fault.number() {
+        Some(number) => write_fault(number, fault.name(), f),
+        None => Ok(()),
+    }
+}
+
 fn write_journey_fault<W: fmt::Write>(
     fault: JourneyFault,
     f: &mut fmt::Formatter<W>,
@@ -90,7 +98,9 @@ pub fn refuse_feed<O: Write>(alloc: Global, output: &mut O, fault: LoadFault) ->
         return status::OUT_OF_MEMORY;
     }
     match fault {
-        LoadFault::FileFailed(_) => status::unread(alloc, output, &Refusal::Feed(fault)),
-        _ => status::refused(alloc, output, &Refusal::Feed(fault)),
+        LoadFault::FileFailed(_) => {
+            status::tell_feed_unreadable(alloc, output, &Refusal::Feed(fault))
+        }
+        _ => status::tell_refusal(alloc, output, &Refusal::Feed(fault)),
     }
 }

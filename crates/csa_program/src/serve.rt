@@ -69,7 +69,7 @@ pub fn run<
     let plan = match plan_of(rt, &request.plan) {
         Ok(plan) => plan,
         Err(PlanFailure::Refused(fault)) => return refuse_feed(alloc, output, fault),
-        Err(PlanFailure::Unreadable(path)) => return status::unreadable(alloc, errors, path),
+        Err(PlanFailure::Unreadable(path)) => return status::tell_unreadable(alloc, errors, path),
         Err(PlanFailure::OutOfMemory) => return status::OUT_OF_MEMORY,
     };
     let image = match open_image(rt, request.image, input, output, errors) {
@@ -124,7 +124,7 @@ fn listen<
     let Ok(address) = listener.local_addr() else {
         return unheard(alloc, errors, request.port);
     };
-    let begun = status::line_written(
+    let begun = status::write_line(
         output,
         format!(in alloc; "listening {}\n", address.port()),
         status::ACCEPTED,
@@ -164,7 +164,7 @@ fn shelves_of(
 
 // Tells that nobody can listen at the port.
 fn unheard<E: Write>(alloc: Global, errors: &mut E, port: u16) -> u8 {
-    status::line_written(
+    status::write_line(
         errors,
         format!(in alloc; "csa: port {port} can't be listened at\n"),
         status::INPUT_OUTPUT,
@@ -176,7 +176,7 @@ fn tell_served<O: Write>(alloc: Global, served: &Served, is_deaf: bool, output: 
     let ends = ends_of(served);
     let sessions = ends.sessions();
     let status = ends.status(is_deaf);
-    status::line_written(output, format!(in alloc; "served {sessions}\n"), status)
+    status::write_line(output, format!(in alloc; "served {sessions}\n"), status)
 }
 
 // How many sessions ended in each way.

@@ -6,13 +6,13 @@ use std::io::ErrorKind;
 use std::net::{TcpListener, TcpStream};
 use workers::{Client, Clients, ConnFault};
 
-/// A connection that was accepted.
+/// A client whose TCP connection was accepted.
 #[derive(Drop)]
-pub struct Connection {
+pub struct Visitor {
     stream: TcpStream,
 }
 
-impl Client for Connection {
+impl Client for Visitor {
     type Reader = TcpStream;
 
     type Writer = TcpStream;
@@ -21,7 +21,7 @@ impl Client for Connection {
 
     /// Each reply is sent at once.
     fn open(self) -> Result<(TcpStream, TcpStream), ConnFault> {
-        let Connection { stream } = self;
+        let Visitor { stream } = self;
         match (stream.set_nodelay(true), stream.try_clone()) {
             (Ok(()), Ok(reader)) => Ok((reader, stream)),
             _ => Err(ConnFault),
@@ -55,12 +55,12 @@ impl<'a> Door<'a> {
     }
 
     // Whoever is gone before it was accepted isn't counted.
-    fn accept(&mut self) -> Option<Connection>
+    fn accept(&mut self) -> Option<Visitor>
         ensures { MatchOption result (self.new.failed ≡ true) (λ _. ⊤) }
     {
         for _ in 0..u64::MAX {
             match self.listener.accept() {
-                Ok((stream, _)) => return Some(Connection { stream }),
+                Ok((stream, _)) => return Some(Visitor { stream }),
                 Err(error) => match error.kind() {
                     ErrorKind::Interrupted
                     | ErrorKind::ConnectionAborted
@@ -74,11 +74,11 @@ impl<'a> Door<'a> {
     }
 }
 
-impl<'a> Clients<Connection> for Door<'a> {
+impl<'a> Clients<Visitor> for Door<'a> {
     // Accepting failed, or as many as are wanted were accepted.
     ghost none_left = { λ door. (door.failed ≡ true) ⊎ ((door.is_endless ≡ false) × (door.left ≡ 0)) };
 
-    fn next(&mut self) -> Option<Connection> {
+    fn next(&mut self) -> Option<Visitor> {
         if !self.is_endless {
             if self.left == 0 {
                 return None;

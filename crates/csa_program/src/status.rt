@@ -8,7 +8,7 @@ use std::alloc::{AllocError, Global};
 use std::io::Write;
 
 /// Writes the text; the status, or that of a failed write.
-pub fn written<W: Write>(writer: &mut W, text: &str, status: u8) -> u8 {
+pub fn write_text<W: Write>(writer: &mut W, text: &str, status: u8) -> u8 {
     match writer.write_all(text.as_bytes()) {
         Ok(()) => status,
         Err(_) => INPUT_OUTPUT,
@@ -16,38 +16,38 @@ pub fn written<W: Write>(writer: &mut W, text: &str, status: u8) -> u8 {
 }
 
 /// Writes a line that may have found no memory.
-pub fn line_written<W: Write>(writer: &mut W, line: Result<String, AllocError>, status: u8) -> u8 {
+pub fn write_line<W: Write>(writer: &mut W, line: Result<String, AllocError>, status: u8) -> u8 {
     match line {
-        Ok(line) => written(writer, line.as_str(), status),
+        Ok(line) => write_text(writer, line.as_str(), status),
         Err(_) => OUT_OF_MEMORY,
     }
 }
 
 /// Tells a refusal.
-pub fn refused<O: Write>(alloc: Global, output: &mut O, refusal: &Refusal) -> u8 {
-    line_written(output, format!(in alloc; "{refusal}\n"), REFUSED)
+pub fn tell_refusal<O: Write>(alloc: Global, output: &mut O, refusal: &Refusal) -> u8 {
+    write_line(output, format!(in alloc; "{refusal}\n"), REFUSED)
 }
 
 /// Tells of a file that can't be read.
-pub fn unreadable<E: Write>(alloc: Global, errors: &mut E, path: &str) -> u8 {
+pub fn tell_unreadable<E: Write>(alloc: Global, errors: &mut E, path: &str) -> u8 {
     file_failed(alloc, errors, path, "read")
 }
 
 /// Tells of a file that can't be written.
-pub fn unwritable<E: Write>(alloc: Global, errors: &mut E, path: &str) -> u8 {
+pub fn tell_unwritable<E: Write>(alloc: Global, errors: &mut E, path: &str) -> u8 {
     file_failed(alloc, errors, path, "written")
 }
 
 // Tells what can't be done to a file.
 fn file_failed<E: Write>(alloc: Global, errors: &mut E, path: &str, what: &str) -> u8 {
-    line_written(
+    write_line(
         errors,
         format!(in alloc; "csa: {path} can't be {what}\n"),
         INPUT_OUTPUT,
     )
 }
 
-/// Tells that a file of a feed can't be read.
-pub fn unread<O: Write>(alloc: Global, output: &mut O, refusal: &Refusal) -> u8 {
-    line_written(output, format!(in alloc; "{refusal}\n"), INPUT_OUTPUT)
+/// Tells that a file of a feed can't be read: by a refusal's line, with the status of a file that can't be read.
+pub fn tell_feed_unreadable<O: Write>(alloc: Global, output: &mut O, refusal: &Refusal) -> u8 {
+    write_line(output, format!(in alloc; "{refusal}\n"), INPUT_OUTPUT)
 }

@@ -15,7 +15,7 @@ pub fn run<O: Write>(
     request: StopsRequest<'_>,
     output: &mut O,
 ) -> u8 {
-    status::line_written(
+    status::write_line(
         output,
         lines_of(alloc, image, request.text),
         status::ACCEPTED,

@@ -18,7 +18,7 @@ pub fn run<H: Files + RandomSource + AllocGlobal, O: Write>(
 ) -> u8 {
     let alloc = rt.alloc();
     match count_records(rt, folder) {
-        Ok(line) => status::line_written(output, line, status::ACCEPTED),
+        Ok(line) => status::write_line(output, line, status::ACCEPTED),
         Err(fault) => refuse_feed(alloc, output, fault),
     }
 }

@@ -27,10 +27,10 @@ pub fn run<H: Files + AllocGlobal, O: Write, E: Write>(
         return status::OUT_OF_MEMORY;
     };
     match put_image(rt, request.out, &words) {
-        Ok(()) => status::line_written(output, counts(rt.alloc(), image), status::ACCEPTED),
+        Ok(()) => status::write_line(output, counts(rt.alloc(), image), status::ACCEPTED),
         Err(error) => match error.kind() {
             ErrorKind::OutOfMemory => status::OUT_OF_MEMORY,
-            _ => status::unwritable(rt.alloc(), errors, request.out),
+            _ => status::tell_unwritable(rt.alloc(), errors, request.out),
         },
     }
 }

@@ -7,7 +7,7 @@ use std::io::Write;
 
 /// Prints the counts of an image, which was judged when it was opened.
 pub fn run<O: Write>(alloc: Global, image: &Verified, output: &mut O) -> u8 {
-    status::line_written(output, counts(alloc, image), status::ACCEPTED)
+    status::write_line(output, counts(alloc, image), status::ACCEPTED)
 }
 
 /// What is printed of an accepted image.

@@ -1,14 +1,12 @@
 //! An image's words into a file.
 
+use image_files::PIECE_WORDS;
 use image_layout::Words;
 use std::alloc::Global;
 use std::fs::File;
 use std::io::Write;
 use std::rt::Files;
 use std::{fs, io};
-
-/// How many words are written at once.
-const PIECE_WORDS: usize = 16_384;
 
 // Whether there is something at the path that isn't a plain file: a device, a pipe, a link.
 fn is_special<H: Files>(rt: &H, path: &str) -> bool {

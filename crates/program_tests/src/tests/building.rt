@@ -113,16 +113,22 @@ run build feed feed.csa --first 20240115 --days 1 --zone fixed:0
 answers stops 2 runs 0 connections 0 footpaths 4 lifted 0 flex 0 frequencies 0 skipped 0
 run profile feed.csa --from P --to Q --after 00:00:00 --until 01:00:00 --by 01:00:00 --criterion arrival
 answers points 0 read 0 walk 120
+run profile feed.csa --from Q --to P --after 00:00:00 --until 01:00:00 --by 01:00:00 --criterion arrival
+answers points 0 read 0 walk 120
 rows feed/transfers.txt from_stop_id,to_stop_id,transfer_type,min_transfer_time | S,S,2,180
 run build feed feed.csa --first 20240115 --days 1 --zone fixed:0
 answers stops 2 runs 0 connections 0 footpaths 4 lifted 0 flex 0 frequencies 0 skipped 0
 run profile feed.csa --from P --to Q --after 00:00:00 --until 01:00:00 --by 01:00:00 --criterion arrival
+answers points 0 read 0 walk 180
+run profile feed.csa --from Q --to P --after 00:00:00 --until 01:00:00 --by 01:00:00 --criterion arrival
 answers points 0 read 0 walk 180
 rows feed/transfers.txt from_stop_id,to_stop_id,transfer_type,min_transfer_time | S,S,2,180 | P,Q,3,
 run build feed feed.csa --first 20240115 --days 1 --zone fixed:0
 answers stops 2 runs 0 connections 0 footpaths 3 lifted 0 flex 0 frequencies 0 skipped 0
 run profile feed.csa --from P --to Q --after 00:00:00 --until 01:00:00 --by 01:00:00 --criterion arrival
 answers points 0 read 0 walk none
+run profile feed.csa --from Q --to P --after 00:00:00 --until 01:00:00 --by 01:00:00 --criterion arrival
+answers points 0 read 0 walk 180
 remove feed.csa
 remove feed
 
