@@ -141,7 +141,7 @@ class CannedReplies(unittest.TestCase):
 
 def program_that_serves() -> str | None:
     """The program, where one stands and has the command `serve`."""
-    places = [os.environ.get("CSA_PROGRAM", ""), TOP / "crates/csa/out/csa", TOP / "release/csa-x86_64-linux-gnu"]
+    places = [os.environ.get("CSA_PROGRAM", ""), TOP / "crates/csa/out/csa", TOP / "release/x86_64-linux-gnu/csa"]
     for program in map(str, places):
         if os.access(program, os.X_OK):
             helped = subprocess.run([program, "--help"], capture_output=True, text=True)
