@@ -62,8 +62,9 @@ impl Criterion for ArrivalTripsWalk {
         }
     }
 
+    // `&`, not `&&`: a scan asks this of each item of a front, and a jump for each part is often guessed wrong.
     fn no_worse(&self, value: &TimeTripsWalk, other: &TimeTripsWalk) -> bool {
-        value.time <= other.time && (value.trips <= other.trips && value.walked <= other.walked)
+        (value.time <= other.time) & ((value.trips <= other.trips) & (value.walked <= other.walked))
     }
 
     fn list_order(&self, value: &TimeTripsWalk, other: &TimeTripsWalk) -> Ordering {
