@@ -1,3 +1,4 @@
 pub mod Asking
 pub mod Opening
+pub mod Planning
 pub mod Serving

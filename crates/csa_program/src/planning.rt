@@ -2,6 +2,7 @@
 
 ghost use Rattle.std.specs.Prelude.{◌≡◌, ◌≤◌, IfOk};
 ghost use Rattle.connections.specs.declared.days.TheConstants.{MAX_DAYS};
+ghost use Rattle.csa_program.specs.Planning.{IsZoneOf};
 
 use command_requests::{PlanText, ZoneText};
 use feed_loader::{LoadFault, Plan};
@@ -35,6 +36,7 @@ pub fn plan_of<'a, H: Files + AllocGlobal>(
     ensures days { IfOk result (λ plan. plan.days ≡ text.now.days) }
     ensures some { IfOk result (λ plan. 1 ≤ plan.days) }
     ensures few { IfOk result (λ plan. plan.days ≤ MAX_DAYS) }
+    ensures zone { IfOk result (λ plan. IsZoneOf text.now.zone plan.zone) }
     ensures strict { IfOk result (λ plan. plan.strict ≡ text.now.strict) }
 {
     match zone_of(rt, &text.zone) {
@@ -48,10 +50,9 @@ pub fn plan_of<'a, H: Files + AllocGlobal>(
     }
 }
 
-fn zone_of<'a, H: Files + AllocGlobal>(
-    rt: &H,
-    text: &ZoneText<'a>,
-) -> Result<Zone, PlanFailure<'a>> {
+fn zone_of<'a, H: Files + AllocGlobal>(rt: &H, text: &ZoneText<'a>) -> Result<Zone, PlanFailure<'a>>
+    ensures { IfOk result (IsZoneOf text.now) }
+{
     match text {
         ZoneText::Fixed(ahead) => Ok(Zone::fixed(ahead.seconds)),
         ZoneText::Posix(rule) => Ok(Zone::posix(rule)?),
