@@ -1,0 +1,75 @@
+//! What the help prints below the arguments of each command.
+
+/// The program's version, as `--version` prints it.
+pub(crate) const VERSION: &str = "1.0.0";
+
+pub(crate) const STATUSES: &str = "Exit status:\n\
+\x20 0   accepted\n\
+\x20 2   refused: standard output has one line `refused NUMBER NAME PLACES`, standard error may explain it;\n\
+\x20     of serve: a session sent too many requests\n\
+\x20 3   a file cannot be read or written, a port cannot be listened on, a line cannot be written,\n\
+\x20     or a session failed\n\
+\x20 4   out of memory\n\
+\x20 64  wrong command line";
+
+pub(crate) const VERIFY: &str = "Example: csa verify examples/base.csa";
+
+pub(crate) const STOPS: &str = "Example: csa stops examples/base.csa";
+
+pub(crate) const TABLES: &str = "Example: csa tables examples/base";
+
+pub(crate) const UPGRADE: &str = "Example: csa upgrade examples/base.csa base.csa";
+
+pub(crate) const JOURNEY: &str =
+    "A journey rides at least once. Its numbers are those of the image, as `csa profile` prints them without\n\
+--names:\n\
+\x20 ride FIRST LAST    from the first to the last of these connections, which are of one trip\n\
+\x20 walk FROM TO SECS  from one stop to another\n\
+A change between two rides is a walk, also at one stop and of 0 seconds: `walk 1 1 0`.\n\
+Clocks are HH:MM:SS after the image's base, the start of its first service day: 55:00:00 is 07:00 on the\n\
+third day.\n\
+\n\
+Example: csa journey examples/base.csa 'ride 0 0 walk 1 1 0 ride 2 2' \
+--from A --to C --after 07:00:00 --until 09:00:00 --by 10:00:00";
+
+pub(crate) const PROFILE: &str =
+    "Each line `dep CLOCK arr CLOCK [trips N] [walked SECS] : JOURNEY` is a best departure: no journey is at least\n\
+as good in departure, arrival and whatever else the criterion counts, and better in one of them.\n\
+The last line `points N read N walk SECS` has the number of these departures, the number of connections that\n\
+were read, and the seconds of the direct walk, or `none`. A journey rides at least once, so this walk is not\n\
+among the departures, and may be quicker than some of them.\n\
+Clocks are HH:MM:SS after the image's base, the start of its first service day: 55:00:00 is 07:00 on the\n\
+third day.\n\
+\n\
+Example: csa profile examples/base.csa --from A --to C --after 07:00:00 --until 09:00:00 \
+--by 10:00:00 --criterion arrival+trips\n\
+With --names a line is: dep 08:00:00 arr 08:30:00 trips 1 : ride T1 08:00:00 A 08:30:00 C\n\
+With --json it is: {\"ok\":\"profile\",\"points\":[{\"arr\":\"08:30:00\",\"dep\":\"08:00:00\",\
+\"journey\":\"ride 0 1\",\"trips\":1}],\"version\":1,\"walk\":null}";
+
+pub(crate) const BUILD: &str = "Standard output has one line of counts:\n\
+\x20 stops        stops and platforms in stops.txt; stations, entrances and the like are not counted\n\
+\x20 runs         trips on the days on which they run, each repetition of frequencies.txt by itself\n\
+\x20 connections  rides of these runs from one stop to the next\n\
+\x20 footpaths    pairs of stops with a walk from one to the other, each stop and itself included\n\
+\x20 lifted       trips of which a time was moved, so that each hop takes at least one second\n\
+\x20 flex         trips left out since one of their rows in stop_times.txt has no stop_id\n\
+\x20 frequencies  trips that frequencies.txt names\n\
+\x20 skipped      rows of transfers.txt left out: between trips or routes, or of a transfer_type beyond 0 to 3\n\
+The counts lifted, flex and frequencies include trips that run on none of the days.\n\
+\n\
+Example: csa build examples/base base.csa --first 20240115 --days 1 --zone fixed:0 --progress";
+
+pub(crate) const SERVE: &str =
+    "The image is version 1. The days and the zone are those of the feeds that are loaded. A warning is printed if\n\
+the image and the feeds use different time bases.\n\
+A session is lines of JSON over TCP:\n\
+\x20 {\"do\":\"pin\"}\n\
+\x20 {\"do\":\"release\"}\n\
+\x20 {\"do\":\"load\",\"feed\":\"slow\"}\n\
+\x20     (with \"wait\":true the reply comes once the feed is loaded, or says why it is not)\n\
+\x20 {\"do\":\"profile\",\"from\":\"A\",\"to\":\"C\",\"after\":\"07:00:00\",\"until\":\"09:00:00\",\
+\"by\":\"10:00:00\",\"criterion\":\"arrival\"}\n\
+\n\
+Example: csa serve --image examples/base.csa --port 7077 --workers 2 --sessions 0 --first 20240115 \
+--days 1 --zone fixed:0 slow=examples/slow";
