@@ -49,7 +49,8 @@ def main() -> int:
         app.run(words.host, words.port, threaded=True)
     else:
         print(f"csa_web: listening at http://{words.host}:{words.port}", flush=True)
-        serve(app, host=words.host, port=words.port, ident="csa_web")
+        # an address of 1 MB comes as far as the gateway, which refuses it as any other that is too long
+        serve(app, host=words.host, port=words.port, ident="csa_web", max_request_header_size=1 << 21)
     return 0
 
 

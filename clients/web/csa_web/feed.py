@@ -13,6 +13,9 @@ from zoneinfo import ZoneInfo
 # routes without a colour of their own take these in turn
 COLOURS = ("#1f5fa8", "#b3432b", "#2e7d4f", "#7a4b9e", "#8a6100", "#00707a", "#a63a72", "#4d5b66")
 
+# a longer name is cut on the page
+LONGEST_NAME = 120
+
 csv.field_size_limit(1 << 24)
 
 
@@ -87,12 +90,18 @@ def _read_stops(folder: Path) -> dict[str, Stop]:
     stops = {}
     for row in rows:
         number, name, platform = row["stop_id"], row.get("stop_name", ""), row.get("platform_code", "")
-        label = name
-        if names[name] > 1 or not name:
-            is_told_apart = platform and platforms[name, platform] == 1
-            label = f"{name}, platform {platform}" if is_told_apart else f"{name} ({number})".strip()
-        stops[number] = Stop(number, name or number, platform, label)
+        stops[number] = Stop(number, name or number, platform, _label(row, names[name], platforms[name, platform]))
     return stops
+
+
+def _label(row: dict[str, str], alike: int, alike_platforms: int) -> str:
+    """A stop's name, with its platform or else its id where more than one stop has the name, or where it is cut."""
+    name, platform = row.get("stop_name", ""), row.get("platform_code", "")
+    if len(name) > LONGEST_NAME:
+        return f"{name[:LONGEST_NAME]}… ({row['stop_id']})"
+    if alike == 1 and name:
+        return name
+    return f"{name}, platform {platform}" if platform and alike_platforms == 1 else f"{name} ({row['stop_id']})".strip()
 
 
 def _read_routes(folder: Path) -> dict[str, Route]:

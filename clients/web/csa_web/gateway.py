@@ -22,9 +22,9 @@ Value = TypeVar("Value")
 LONGEST_QUERY = 4096
 HOURS = (1, 2, 4, 8)
 CRITERIA = {
-    "arrival": "earliest arrival",
-    "arrival+trips": "… with few changes",
-    "arrival+trips+walk": "… and little walking",
+    "arrival": "arrival alone",
+    "arrival+trips": "arrival, changes",
+    "arrival+trips+walk": "arrival, changes, walking",
 }
 assert set(CRITERIA) == set(get_args(Criterion))
 HEADERS = {

@@ -87,6 +87,11 @@ class Feeds(Folder):
         self.assertEqual(labels, {"A": EVIL, "B": "Café & Müller's", "C": "Central, platform 1", "C2": "Central, platform 2", "D": "Central (D)"})
         self.assertEqual(self.feed.zone, BERLIN)
 
+    def test_long_and_empty_names_have_labels(self) -> None:
+        (self.folder / "stops.txt").write_text(f"stop_id,stop_name\nL,{'x' * 60_000}\nE,\n")
+        labels = [stop.label for stop in Feed(self.folder).stops.values()]
+        self.assertEqual(labels, ["x" * 120 + "… (L)", "(E)"])
+
     def test_completes(self) -> None:
         self.assertEqual([stop.id for stop in self.feed.complete("MÜL")], ["B"])
         # the labels that begin with it come first, then those of which a word does, then the others
