@@ -285,7 +285,7 @@ class CannedAsyncReplies(unittest.IsolatedAsyncioTestCase):
 
 
 def program_that_serves() -> str | None:
-    """The program, where one stands and has the command `serve`."""
+    """The program, where one is built or released and has the command `serve`."""
     places = [os.environ.get("CSA_PROGRAM", ""), TOP / "crates/csa/out/csa", TOP / "release/x86_64-linux-gnu/csa"]
     for program in map(str, places):
         if os.access(program, os.X_OK):

@@ -21,7 +21,7 @@ csv.field_size_limit(1 << 24)
 
 @dataclass(frozen=True)
 class Stop:
-    """A place where vehicles stop. Its label is its name, with what tells it from others of the same name."""
+    """A place where vehicles stop. Its label is its name, with its platform or id where others have the same name."""
 
     id: str
     name: str
@@ -109,9 +109,9 @@ def _read_routes(folder: Path) -> dict[str, Route]:
     routes: dict[str, Route] = {}
     if not (folder / "routes.txt").exists():
         return routes
-    for place, row in enumerate(_rows(folder / "routes.txt")):
+    for index, row in enumerate(_rows(folder / "routes.txt")):
         name = row.get("route_short_name") or row.get("route_long_name") or row["route_id"]
-        colour = _colour(row.get("route_color", "")) or COLOURS[place % len(COLOURS)]
+        colour = _colour(row.get("route_color", "")) or COLOURS[index % len(COLOURS)]
         routes[row["route_id"]] = Route(name, colour, _readable(_colour(row.get("route_text_color", "")), colour))
     return routes
 
@@ -146,6 +146,6 @@ def _contrast(one: str, other: str) -> float:
 
 
 def _luminance(colour: str) -> float:
-    parts = [int(colour[place : place + 2], 16) / 255 for place in (1, 3, 5)]
+    parts = [int(colour[index : index + 2], 16) / 255 for index in (1, 3, 5)]
     red, green, blue = (part / 12.92 if part <= 0.04045 else ((part + 0.055) / 1.055) ** 2.4 for part in parts)
     return 0.2126 * red + 0.7152 * green + 0.0722 * blue

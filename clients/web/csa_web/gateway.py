@@ -15,7 +15,7 @@ from flask import Flask, Response, jsonify, render_template, request, url_for
 from .feed import Feed, Stop
 from .image import Image
 from .search import Answer, Departure, Leg, Problem, Query, Sessions, search
-from .words import axis_of, clock, duration
+from .words import axis_of, changes, clock, duration
 
 Value = TypeVar("Value")
 
@@ -68,6 +68,7 @@ def create_app(feed: Callable[[], Feed], image: Callable[[], Image | None], sess
     """The gateway over a feed, the image from which legs are resolved, and the server's sessions."""
     app = Flask(__name__)
     app.jinja_env.filters["duration"] = duration
+    app.jinja_env.globals["changes"] = changes
     app.jinja_env.trim_blocks = app.jinja_env.lstrip_blocks = True
 
     @app.before_request

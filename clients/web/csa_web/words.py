@@ -28,6 +28,11 @@ def duration(span: timedelta) -> str:
     return f"{hours} h {minutes:02} min" if hours else f"{minutes} min"
 
 
+def changes(count: int) -> str:
+    """How many changes there are."""
+    return "direct" if count == 0 else "1 change" if count == 1 else f"{count} changes"
+
+
 @dataclass(frozen=True)
 class Axis:
     """A span of time that all bars of an answer share."""
@@ -50,7 +55,7 @@ class Axis:
         midnight = self.begin.astimezone(self.zone).replace(hour=0, minute=0, second=0, microsecond=0).astimezone(timezone.utc)
         first = midnight + -((midnight - self.begin) // step) * step
         count = int((self.end - first) / step) + 1 if first <= self.end else 0
-        return [first + place * step for place in range(count)]
+        return [first + number * step for number in range(count)]
 
 
 def axis_of(answer: Answer, zone: ZoneInfo) -> Axis | None:
