@@ -1,0 +1,198 @@
+"""The lines of a session: what is sent for each request, and what its reply says. Both clients read and write them by this."""
+
+from __future__ import annotations
+
+import json
+import re
+from collections.abc import Callable
+from dataclasses import dataclass
+from datetime import datetime, timedelta, timezone, tzinfo
+from typing import Any, Generic, Literal, TypeVar
+from zoneinfo import ZoneInfo
+
+Criterion = Literal["arrival", "arrival+trips", "arrival+trips+walk"]
+Reply = dict[str, Any]
+Result = TypeVar("Result")
+
+DEFAULT_PORT = 7077
+
+# A reply is read up to so many bytes.
+LONGEST_REPLY = 256 * 1024 * 1024
+
+LEG = re.compile(r"ride (\d+) (\d+)|walk (\d+) (\d+) (\d+)")
+JOURNEY = re.compile(rf"(?:{LEG.pattern})(?: (?:{LEG.pattern}))*")
+CLOCK = re.compile(r"(\d+):([0-5]\d):([0-5]\d)")
+
+
+class CsaError(Exception):
+    """The base of the exceptions of this client; those of the socket, as TimeoutError, are OSError as ever."""
+
+
+class Refused(CsaError):
+    """The server refused a request; the session goes on as before (after 97 SeatLost nothing is pinned)."""
+
+    def __init__(self, number: int, name: str, newest: int | None = None, refusal: int | None = None) -> None:
+        super().__init__(f"{number} {name}" if refusal is None else f"{number} {name} {refusal}")
+        self.number = number
+        self.name = name
+        #: The newest version that was seen, of 91 Moved alone.
+        self.newest = newest
+        #: The number with which the load was refused, of 120 LoadRefused alone.
+        self.refusal = refusal
+
+
+class SessionEnded(CsaError, ConnectionError):
+    """The server ended the session, or its reply was none. The client is closed."""
+
+
+@dataclass(frozen=True)
+class Pinned:
+    """The version that the session holds, and the instant from which its clocks count, in seconds after 1970."""
+
+    version: int
+    base: int
+
+    def instant(self, clock: str, zone: tzinfo | str = timezone.utc) -> datetime:
+        """The instant of a clock text in this version, in a zone: `"Europe/Berlin"`, or any other tzinfo. ValueError if it is no clock."""
+        start = datetime.fromtimestamp(self.base, timezone.utc)
+        return (start + timedelta(seconds=seconds_of(clock))).astimezone(_zone(zone))
+
+    def clock(self, instant: datetime) -> str:
+        """The clock text of an instant in this version, in whole seconds. ValueError before the base, and without a zone."""
+        if instant.tzinfo is None:
+            raise ValueError("an instant without a zone has no clock")
+        seconds = int(instant.timestamp() // 1) - self.base
+        if seconds < 0:
+            raise ValueError("the instant is before the first second of this version")
+        return f"{seconds // 3600:02}:{seconds // 60 % 60:02}:{seconds % 60:02}"
+
+
+@dataclass(frozen=True)
+class Ride:
+    """A ride: the numbers of the first and the last of its connections in the image of the version that answered."""
+
+    first: int
+    last: int
+
+
+@dataclass(frozen=True)
+class Walk:
+    """A footpath: the numbers of its stops in the image of the version that answered, and its seconds. From a stop to itself it is a change."""
+
+    from_stop: int
+    to_stop: int
+    seconds: int
+
+
+@dataclass(frozen=True)
+class Point:
+    """A best departure: its clocks, its journey's text, and the trips and seconds of walking where the criterion counts them."""
+
+    dep: str
+    arr: str
+    journey: str
+    trips: int | None = None
+    walked: int | None = None
+
+    @property
+    def legs(self) -> tuple[Ride | Walk, ...]:
+        """The journey's rides and walks, in order."""
+        return parse_journey(self.journey)
+
+
+@dataclass(frozen=True)
+class Profile:
+    """An answer: the version that gave it, all best departures in order, and the seconds of the direct footpath, if there is one."""
+
+    version: int
+    points: tuple[Point, ...]
+    walk: int | None
+
+
+def parse_journey(text: str) -> tuple[Ride | Walk, ...]:
+    """The legs of a journey's text, `ride FIRST LAST` and `walk FROM TO SECONDS`, with a space between. ValueError if it is no such text."""
+    if JOURNEY.fullmatch(text) is None:
+        raise ValueError(f"no journey: {text[:80]!r}")
+    return tuple(_leg(*numbers) for numbers in LEG.findall(text))
+
+
+def seconds_of(clock: str) -> int:
+    """The seconds of a clock text `HH:MM:SS`; its hours may pass 24. ValueError if it is none."""
+    matched = CLOCK.fullmatch(clock)
+    if matched is None:
+        raise ValueError(f"no clock: {clock[:80]!r}")
+    hours, minutes, seconds = map(int, matched.groups())
+    return hours * 3600 + minutes * 60 + seconds
+
+
+@dataclass(frozen=True)
+class Request(Generic[Result]):
+    """A line of the session, and how its reply is read."""
+
+    fields: dict[str, Any]
+    read: Callable[[Reply], Result]
+
+    def line(self) -> bytes:
+        """The line that is sent."""
+        return json.dumps(self.fields, ensure_ascii=False).encode() + b"\n"
+
+    def result(self, line: bytes) -> Result:
+        """What the reply says. Refused is what the server says; SessionEnded, that this line is no reply to the request."""
+        try:
+            reply = json.loads(line)
+            if "error" in reply:
+                refused = Refused(_number(reply, "error"), reply["name"], reply.get("newest"), reply.get("refusal"))
+            elif reply["ok"] != self.fields["do"]:
+                raise SessionEnded(f"this is no reply to {self.fields['do']}")
+            else:
+                return self.read(reply)
+        except (ValueError, KeyError, TypeError, AttributeError, RecursionError) as error:
+            raise SessionEnded(f"no reply that can be read: {error}") from error
+        raise refused
+
+
+def pin() -> Request[Pinned]:
+    return Request({"do": "pin"}, lambda reply: Pinned(_number(reply, "version"), _number(reply, "base")))
+
+
+def release() -> Request[None]:
+    return Request({"do": "release"}, lambda _: None)
+
+
+def load(feed: str) -> Request[None]:
+    return Request({"do": "load", "feed": feed}, lambda _: None)
+
+
+def load_and_wait(feed: str) -> Request[int]:
+    return Request({"do": "load", "feed": feed, "wait": True}, lambda reply: _number(reply, "version"))
+
+
+def profile(source: str, target: str, after: str, until: str, by: str, criterion: Criterion) -> Request[Profile]:
+    fields = {"do": "profile", "from": source, "to": target, "after": after, "until": until, "by": by, "criterion": criterion}
+    return Request(fields, _profile)
+
+
+def _profile(reply: Reply) -> Profile:
+    walk = reply["walk"]
+    return Profile(_number(reply, "version"), tuple(map(_point, reply["points"])), None if walk is None else _number(reply, "walk"))
+
+
+def _point(it: Reply) -> Point:
+    if JOURNEY.fullmatch(it["journey"]) is None:
+        raise ValueError("a point without a journey")
+    return Point(it["dep"], it["arr"], it["journey"], it.get("trips"), it.get("walked"))
+
+
+def _leg(first: str, last: str, source: str, target: str, seconds: str) -> Ride | Walk:
+    return Ride(int(first), int(last)) if first else Walk(int(source), int(target), int(seconds))
+
+
+def _number(reply: Reply, key: str) -> int:
+    number = reply[key]
+    if type(number) is not int:
+        raise TypeError(f"{key} is no whole number")
+    return number
+
+
+def _zone(zone: tzinfo | str) -> tzinfo:
+    return ZoneInfo(zone) if isinstance(zone, str) else zone

@@ -1,0 +1,363 @@
+"""Tests of the clients: against a server of canned replies, and against `csa serve` where a built or released program has that command.
+
+    PYTHONPATH=clients/python python3 clients/python/tests/test_csa_client.py
+
+`.ci/client` runs them over the package as pip installs it.
+"""
+
+from __future__ import annotations
+
+import asyncio
+import os
+import shutil
+import socket
+import subprocess
+import tempfile
+import threading
+import time
+import unittest
+from datetime import datetime, timezone
+from pathlib import Path
+
+from csa_client import AsyncCsaClient, CsaClient, CsaError, Pinned, Point, Profile, Refused, Ride, SessionEnded, Walk, parse_journey
+
+TOP = Path(__file__).resolve().parents[3]
+WINDOW = {"after": "07:00:00", "until": "09:00:00", "by": "10:00:00"}
+QUERY = '"from": "A", "to": "C", "after": "07:00:00", "until": "09:00:00", "by": "10:00:00"'
+FAST = Point("08:00:00", "08:20:00", "ride 0 0 walk 1 1 0 ride 2 2")
+SLOW = Point("08:00:00", "08:30:00", "ride 0 1")
+PIN = ('{"do": "pin"}', b'{"base":1705276800,"ok":"pin","version":1}\n')
+RELEASE = ('{"do": "release"}', b'{"ok":"release"}\n')
+PROFILE = (
+    f'{{"do": "profile", {QUERY}, "criterion": "arrival"}}',
+    b'{"ok":"profile","points":[{"arr":"08:20:00","dep":"08:00:00","journey":"ride 0 0 walk 1 1 0 ride 2 2"}],"version":1,"walk":null}\n',
+)
+
+
+class CannedServer:
+    """Answers the lines of one connection by a list of pairs: the line that must come, and the bytes that go back (none: it hangs).
+
+    With a pause, in seconds, each byte of a reply waits for it.
+    """
+
+    def __init__(self, *talk: tuple[str, bytes], pause: float = 0.0) -> None:
+        self.talk = talk
+        self.pause = pause
+        self.mistakes: list[str] = []
+        self.listener = socket.create_server(("127.0.0.1", 0))
+        self.port = self.listener.getsockname()[1]
+        self.ended = threading.Event()
+        self.thread = threading.Thread(target=self.serve)
+        self.thread.start()
+
+    def serve(self) -> None:
+        connection, _ = self.listener.accept()
+        with connection, connection.makefile("rb") as lines:
+            for wanted, reply in self.talk:
+                line = lines.readline().decode()
+                if line != wanted + "\n":
+                    self.mistakes.append(line)
+                self.send(connection, reply)
+                if not reply:
+                    self.ended.wait(5)
+
+    def send(self, connection: socket.socket, reply: bytes) -> None:
+        if not self.pause:
+            connection.sendall(reply)
+            return
+        for byte in reply:
+            if self.ended.wait(self.pause):
+                return
+            try:
+                connection.sendall(bytes([byte]))
+            except OSError:
+                # the client has had enough
+                return
+
+    def close(self) -> None:
+        self.ended.set()
+        self.thread.join()
+        self.listener.close()
+
+
+class Journeys(unittest.TestCase):
+    def test_a_text_is_rides_and_walks(self) -> None:
+        self.assertEqual(FAST.legs, (Ride(0, 0), Walk(1, 1, 0), Ride(2, 2)))
+        self.assertEqual(parse_journey("walk 7 8 60 ride 10 12"), (Walk(7, 8, 60), Ride(10, 12)))
+
+    def test_another_text_is_none(self) -> None:
+        for text in ("", "ride 0", "ride 0 0 ", "ride 0 0  ride 1 1", "ride -1 0", "walk 1 1", "ride 0 0 swim 1 1 0", "ride 0 0\n"):
+            with self.assertRaises(ValueError, msg=text):
+                parse_journey(text)
+
+
+class Instants(unittest.TestCase):
+    # the second at which 2024-03-31 begins in Berlin; an hour is left out in that night
+    PINNED = Pinned(version=1, base=1711839600)
+
+    def test_clocks_count_over_a_change_of_the_clocks(self) -> None:
+        self.assertEqual(self.PINNED.instant("01:59:59", "Europe/Berlin").isoformat(), "2024-03-31T01:59:59+01:00")
+        self.assertEqual(self.PINNED.instant("02:00:00", "Europe/Berlin").isoformat(), "2024-03-31T03:00:00+02:00")
+        self.assertEqual(self.PINNED.instant("25:00:00", "Europe/Berlin").isoformat(), "2024-04-01T02:00:00+02:00")
+        self.assertEqual(self.PINNED.instant("02:00:00"), datetime(2024, 3, 31, 1, tzinfo=timezone.utc))
+
+    def test_an_instant_has_the_clock_that_has_the_instant(self) -> None:
+        for clock in ("00:00:00", "01:59:59", "02:00:00", "25:10:03", "123:00:00"):
+            self.assertEqual(self.PINNED.clock(self.PINNED.instant(clock, "Europe/Berlin")), clock)
+
+    def test_what_has_no_clock(self) -> None:
+        for instant in (datetime(2024, 3, 30, tzinfo=timezone.utc), datetime(2024, 3, 31, 12)):
+            with self.assertRaises(ValueError):
+                self.PINNED.clock(instant)
+        for clock in ("8:60:00", "08:00", "-1:00:00", "08:00:00 "):
+            with self.assertRaises(ValueError, msg=clock):
+                self.PINNED.instant(clock)
+
+
+class CannedReplies(unittest.TestCase):
+    def test_pinned_releases_at_the_end_of_its_block(self) -> None:
+        talk = ('{"do": "pin"}', b'{"base":0,"ok":"pin","version":3}\n'), ('{"do": "release"}', b'{"ok":"release"}\n')
+        with self.session(*talk) as client:
+            with self.assertRaises(KeyError), client.pinned() as pinned:
+                self.assertEqual(pinned.version, 3)
+                raise KeyError("a fault in the block")
+            # the canned talk has ended: a third request finds no server
+            with self.assertRaises(CsaError):
+                client.release()
+
+    def session(self, *talk: tuple[str, bytes], timeout: float = 5.0, pause: float = 0.0) -> CsaClient:
+        server = CannedServer(*talk, pause=pause)
+        client = CsaClient(port=server.port, timeout=timeout)
+        self.addCleanup(lambda: self.assertEqual(server.mistakes, []))
+        self.addCleanup(server.close)
+        self.addCleanup(client.close)
+        return client
+
+    def test_pins_and_releases(self) -> None:
+        client = self.session(
+            ('{"do": "pin"}', b'{"base":1705276800,"ok":"pin","version":1}\n'),
+            ('{"do": "release"}', b'{"ok":"release"}\n'),
+        )
+        pinned = client.pin()
+        self.assertEqual((pinned.version, pinned.base), (1, 1705276800))
+        self.assertEqual(pinned.instant("08:00:00"), datetime(2024, 1, 15, 8, tzinfo=timezone.utc))
+        self.assertEqual(pinned.instant("25:10:00"), datetime(2024, 1, 16, 1, 10, tzinfo=timezone.utc))
+        client.release()
+
+    def test_profiles(self) -> None:
+        client = self.session(
+            (
+                f'{{"do": "profile", {QUERY}, "criterion": "arrival"}}',
+                b'{"ok":"profile","points":[{"arr":"08:20:00","dep":"08:00:00","journey":"ride 0 0 walk 1 1 0 ride 2 2"}],'
+                b'"version":1,"walk":null}\n',
+            ),
+            (
+                f'{{"do": "profile", {QUERY}, "criterion": "arrival+trips"}}',
+                b'{"ok":"profile","points":[{"arr":"08:30:00","dep":"08:00:00","journey":"ride 0 1","trips":1}],"version":2,"walk":90}\n',
+            ),
+        )
+        self.assertEqual(client.profile("A", "C", **WINDOW), Profile(1, (FAST,), None))
+        one_trip = Point("08:00:00", "08:30:00", "ride 0 1", trips=1)
+        self.assertEqual(client.profile("A", "C", **WINDOW, criterion="arrival+trips"), Profile(2, (one_trip,), 90))
+
+    def test_refusals_leave_the_session_open(self) -> None:
+        client = self.session(
+            ('{"do": "pin"}', b'{"error":91,"name":"Moved","newest":7}\n'),
+            ('{"do": "load", "feed": "none"}', b'{"error":114,"name":"UnknownFeed"}\n'),
+            ('{"do": "load", "feed": "slow"}', b'{"feed":"slow","ok":"load"}\n'),
+        )
+        with self.assertRaises(Refused) as moved:
+            client.pin()
+        self.assertEqual((moved.exception.number, moved.exception.name, moved.exception.newest), (91, "Moved", 7))
+        with self.assertRaises(Refused) as unknown:
+            client.load("none")
+        self.assertEqual((unknown.exception.number, unknown.exception.newest), (114, None))
+        client.load("slow")
+
+    def test_a_load_is_waited_for(self) -> None:
+        client = self.session(
+            ('{"do": "load", "feed": "slow", "wait": true}', b'{"feed":"slow","ok":"load","version":2}\n'),
+            ('{"do": "load", "feed": "bad", "wait": true}', b'{"error":120,"name":"LoadRefused","refusal":1}\n'),
+            ('{"do": "load", "feed": "slow", "wait": true}', b""),
+            timeout=5.0,
+        )
+        self.assertEqual(client.load_and_wait("slow", timeout=2.0), 2)
+        with self.assertRaises(Refused) as refused:
+            client.load_and_wait("bad")
+        self.assertEqual((refused.exception.number, refused.exception.refusal), (120, 1))
+        self.assertEqual(str(refused.exception), "120 LoadRefused 1")
+        with self.assertRaises(TimeoutError):
+            client.load_and_wait("slow", timeout=0.2)
+
+    def test_a_reply_in_slow_pieces_is_read_whole(self) -> None:
+        client = self.session(PIN, PROFILE, pause=0.002)
+        self.assertEqual(client.pin(), Pinned(1, 1705276800))
+        self.assertEqual(client.profile("A", "C", **WINDOW), Profile(1, (FAST,), None))
+
+    def test_pieces_do_not_prolong_the_timeout(self) -> None:
+        client = self.session(PIN, timeout=0.3, pause=0.05)
+        began = time.monotonic()
+        with self.assertRaises(TimeoutError):
+            client.pin()
+        self.assertLess(time.monotonic() - began, 1.0)
+        with self.assertRaises(SessionEnded):
+            client.pin()
+
+    def test_replies_that_are_none_close(self) -> None:
+        for reply in (
+            b"[]", b"7", b"", b"{}", b'{"ok":"pin"}', b'{"base":"0","ok":"pin","version":1}', b'{"error":true,"name":"Moved"}', b"\xff", b"[" * 100000
+        ):
+            client = self.session(('{"do": "pin"}', reply + b"\n"))
+            with self.assertRaises(SessionEnded, msg=reply[:40]):
+                client.pin()
+            with self.assertRaises(SessionEnded):
+                client.pin()
+
+    def test_a_point_without_a_journey_closes(self) -> None:
+        client = self.session((PROFILE[0], PROFILE[1].replace(b"ride 2 2", b"fly 2 2")))
+        with self.assertRaises(SessionEnded):
+            client.profile("A", "C", **WINDOW)
+
+    def test_an_ended_session_raises(self) -> None:
+        client = self.session(('{"do": "pin"}', b'{"base":0,'))
+        with self.assertRaises(SessionEnded):
+            client.pin()
+        with self.assertRaises(SessionEnded):
+            client.release()
+
+    def test_a_late_reply_closes(self) -> None:
+        client = self.session(('{"do": "pin"}', b""), timeout=0.2)
+        with self.assertRaises(TimeoutError):
+            client.pin()
+        with self.assertRaises(SessionEnded):
+            client.pin()
+
+    def test_another_reply_closes(self) -> None:
+        client = self.session(('{"do": "pin"}', b'{"ok":"release"}\n'))
+        with self.assertRaises(SessionEnded):
+            client.pin()
+
+
+class CannedAsyncReplies(unittest.IsolatedAsyncioTestCase):
+    def session(self, *talk: tuple[str, bytes], timeout: float = 5.0, pause: float = 0.0) -> AsyncCsaClient:
+        server = CannedServer(*talk, pause=pause)
+        self.addCleanup(lambda: self.assertEqual(server.mistakes, []))
+        self.addCleanup(server.close)
+        return AsyncCsaClient(port=server.port, timeout=timeout)
+
+    async def test_a_session(self) -> None:
+        load = '{"do": "load", "feed": "slow"}', b'{"feed":"slow","ok":"load"}\n'
+        wait = '{"do": "load", "feed": "slow", "wait": true}', b'{"error":120,"name":"LoadRefused","refusal":1}\n'
+        async with self.session(PIN, PROFILE, RELEASE, load, wait) as client:
+            async with client.pinned() as pinned:
+                self.assertEqual(pinned, Pinned(1, 1705276800))
+                self.assertEqual(await client.profile("A", "C", **WINDOW), Profile(1, (FAST,), None))
+            await client.load("slow")
+            with self.assertRaises(Refused) as refused:
+                await client.load_and_wait("slow")
+            self.assertEqual((refused.exception.number, refused.exception.refusal), (120, 1))
+            # the canned talk has ended
+            with self.assertRaises(SessionEnded):
+                await client.pin()
+        with self.assertRaises(SessionEnded):
+            await client.pin()
+
+    async def test_tasks_take_turns(self) -> None:
+        async with self.session(PIN, PIN, PIN, pause=0.002) as client:
+            self.assertEqual(await asyncio.gather(client.pin(), client.pin(), client.pin()), [Pinned(1, 1705276800)] * 3)
+
+    async def test_pieces_do_not_prolong_the_timeout(self) -> None:
+        async with self.session(PIN, timeout=0.3, pause=0.05) as client:
+            with self.assertRaises(TimeoutError):
+                await client.pin()
+            with self.assertRaises(SessionEnded):
+                await client.pin()
+
+    async def test_a_task_that_is_cancelled_closes(self) -> None:
+        async with self.session(('{"do": "pin"}', b"")) as client:
+            task = asyncio.create_task(client.pin())
+            await asyncio.sleep(0.1)
+            task.cancel()
+            with self.assertRaises(asyncio.CancelledError):
+                await task
+            with self.assertRaises(SessionEnded):
+                await client.pin()
+
+
+def program_that_serves() -> str | None:
+    """The program, where one is built or released and has the command `serve`."""
+    places = [os.environ.get("CSA_PROGRAM", ""), TOP / "crates/csa/out/csa", TOP / "release/x86_64-linux-gnu/csa"]
+    for program in map(str, places):
+        if os.access(program, os.X_OK):
+            helped = subprocess.run([program, "--help"], capture_output=True, text=True)
+            return program if "serve" in helped.stdout else None
+    return None
+
+
+@unittest.skipUnless(program_that_serves(), "no program with the command serve is built")
+class RealServer(unittest.TestCase):
+    def setUp(self) -> None:
+        room = tempfile.TemporaryDirectory()
+        self.addCleanup(room.cleanup)
+        shutil.copytree(TOP / "examples/base", f"{room.name}/slow")
+        with open(f"{room.name}/slow/transfers.txt", "w") as transfers:
+            transfers.write("from_stop_id,to_stop_id,transfer_type,min_transfer_time\nB,B,2,121\n")
+        words = [program_that_serves(), "serve", "--image", str(TOP / "examples/base.csa"), "--port", "0", "--workers", "2"]
+        words += ["--sessions", "0", "--first", "20240115", "--days", "1", "--zone", "fixed:0", f"slow={room.name}/slow"]
+        self.server = subprocess.Popen(words, stdout=subprocess.PIPE, text=True)
+        self.addCleanup(self.server.wait)
+        self.addCleanup(self.server.kill)
+        self.addCleanup(self.server.stdout.close)
+        self.port = int(self.server.stdout.readline().split()[1])
+
+    def test_a_load_reaches_who_comes_after_it(self) -> None:
+        with CsaClient(port=self.port) as client:
+            self.assertEqual(client.pin().version, 1)
+            client.load("slow")
+            self.assertEqual(client.profile("A", "C", **WINDOW), Profile(1, (FAST,), None))
+            client.release()
+            deadline = time.monotonic() + 30
+            while client.profile("A", "C", **WINDOW).version == 1 and time.monotonic() < deadline:
+                time.sleep(0.05)
+            self.assertEqual(client.profile("A", "C", **WINDOW), Profile(2, (SLOW,), None))
+
+    def test_asyncio_clients_side_by_side(self) -> None:
+        async def ask() -> Profile:
+            async with AsyncCsaClient(port=self.port, timeout=10) as client, client.pinned():
+                return await client.profile("A", "C", **WINDOW, criterion="arrival+trips+walk")
+
+        async def ask_all() -> list[Profile]:
+            return await asyncio.gather(ask(), ask(), ask())
+
+        first, *others = asyncio.run(ask_all())
+        self.assertEqual(others, [first, first])
+        self.assertEqual([(point.arr, point.trips, point.walked) for point in first.points], [("08:20:00", 2, 0), ("08:30:00", 1, 0)])
+
+    def test_who_comes_when_all_workers_are_taken_waits(self) -> None:
+        with CsaClient(port=self.port) as one, CsaClient(port=self.port) as two:
+            one.pin()
+            two.pin()
+            with CsaClient(port=self.port, timeout=0.3) as third, self.assertRaises(TimeoutError):
+                third.pin()
+
+    def test_refusals(self) -> None:
+        with CsaClient(port=self.port) as client:
+            for call, number in (
+                (client.release, 93),
+                (lambda: client.load("none"), 114),
+                (lambda: client.profile("A", "X", **WINDOW), 31),
+                (lambda: client.profile("A", "A", **WINDOW), 32),
+                (lambda: client.profile("A", "C", after="09:00:00", until="07:00:00", by="10:00:00"), 33),
+                (lambda: client.profile("A", "C", after="7", until="8", by="9"), 112),
+            ):
+                with self.assertRaises(Refused) as refused:
+                    call()
+                self.assertEqual(refused.exception.number, number)
+            client.pin()
+            with self.assertRaises(Refused) as refused:
+                client.pin()
+            self.assertEqual((refused.exception.number, refused.exception.name), (92, "AlreadyPinned"))
+
+
+if __name__ == "__main__":
+    unittest.main()

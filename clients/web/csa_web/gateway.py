@@ -1,0 +1,228 @@
+"""The page and its JSON addresses."""
+
+from __future__ import annotations
+
+import threading
+from collections.abc import Callable
+from datetime import date, datetime, time, timezone
+from pathlib import Path
+from typing import Any, Generic, TypeVar, get_args
+from zoneinfo import ZoneInfo
+
+from csa_client import Criterion
+from flask import Flask, Response, jsonify, render_template, request, url_for
+
+from .feed import Feed, Stop
+from .image import Image
+from .search import Answer, Departure, Leg, Problem, Query, Sessions, search
+from .words import axis_of, changes, clock, duration
+
+Value = TypeVar("Value")
+
+LONGEST_QUERY = 4096
+HOURS = (1, 2, 4, 8)
+CRITERIA = {
+    "arrival": "arrival alone",
+    "arrival+trips": "arrival, changes",
+    "arrival+trips+walk": "arrival, changes, walking",
+}
+assert set(CRITERIA) == set(get_args(Criterion))
+HEADERS = {
+    "Content-Security-Policy": "default-src 'none'; style-src 'self'; script-src 'self'; connect-src 'self'; form-action 'self'; "
+    "base-uri 'none'; frame-ancestors 'none'",
+    "X-Content-Type-Options": "nosniff",
+    "Referrer-Policy": "no-referrer",
+}
+
+
+class Kept(Generic[Value]):
+    """What is read from a path, read anew when another file has taken its name; where that fails, the old one is kept."""
+
+    def __init__(self, read: Callable[[Path], Value], path: Path, mark: Path) -> None:
+        """`mark` is the file by which it is seen that there is another one. What `read` raises at first is raised."""
+        self._read, self._path, self._mark = read, path, mark
+        self._turn = threading.Lock()
+        self._seen = self._signature()
+        self._value = read(path)
+
+    def __call__(self) -> Value:
+        with self._turn:
+            seen = self._signature()
+            if seen is not None and seen != self._seen:
+                self._seen = seen
+                try:
+                    self._value = self._read(self._path)
+                except (OSError, ValueError, KeyError):
+                    pass
+            return self._value
+
+    def _signature(self) -> tuple[int, ...] | None:
+        try:
+            status = self._mark.stat()
+        except OSError:
+            return None
+        return status.st_dev, status.st_ino, status.st_mtime_ns
+
+
+def create_app(feed: Callable[[], Feed], image: Callable[[], Image | None], sessions: Sessions) -> Flask:
+    """The gateway over a feed, the image from which legs are resolved, and the server's sessions."""
+    app = Flask(__name__)
+    app.jinja_env.filters["duration"] = duration
+    app.jinja_env.globals["changes"] = changes
+    app.jinja_env.trim_blocks = app.jinja_env.lstrip_blocks = True
+
+    @app.before_request
+    def refuse_long() -> tuple[Response, int] | None:
+        if len(request.query_string) <= LONGEST_QUERY:
+            return None
+        return jsonify(error="The address is too long.", status=414), 414
+
+    @app.after_request
+    def add_headers(response: Response) -> Response:
+        response.headers.update(HEADERS)
+        return response
+
+    @app.get("/")
+    def page() -> tuple[str, int]:
+        words, current = request.args, feed()
+        fields = _fields(words, current, image())
+        answer = query = problem = None
+        if words.get("from", "").strip() or words.get("to", "").strip():
+            try:
+                query = _page_query(fields, current)
+                answer = search(sessions, image(), query)
+            except Problem as it:
+                problem = it
+        if query is not None:
+            fields |= {"from": query.source.label, "to": query.target.label}
+        return _show(current, fields, query, answer, problem)
+
+    @app.get("/api/stops")
+    def stops() -> Response | tuple[Response, int]:
+        text = request.args.get("q", "").strip()
+        if not text:
+            return _refuse(Problem(400, "q is missing: a part of a stop's name."))
+        return jsonify([_stop(stop) for stop in feed().complete(text)])
+
+    @app.get("/api/profile")
+    def profile() -> Response | tuple[Response, int]:
+        current = feed()
+        try:
+            query = _api_query(request.args, current)
+            return jsonify(_answer(search(sessions, image(), query), query, current))
+        except Problem as problem:
+            return _refuse(problem)
+
+    return app
+
+
+def _fields(words: Any, feed: Feed, image: Image | None) -> dict[str, str]:
+    """What the form shows: what was asked for, else now, or the nearest day of the timetable."""
+    now = datetime.now(feed.zone)
+    days = image.days() if image else None
+    day = min(max(now.date(), days[0]), days[1]) if days else now.date()
+    defaults = {"from": "", "to": "", "day": day.isoformat(), "time": now.strftime("%H:%M"), "hours": "2", "criterion": "arrival+trips"}
+    fields = {name: words.get(name, default).strip() for name, default in defaults.items()}
+    return fields | {"first": days[0].isoformat() if days else "", "last": days[1].isoformat() if days else ""}
+
+
+def _page_query(fields: dict[str, str], feed: Feed) -> Query:
+    return Query(_find(feed, fields["from"], "from"), _find(feed, fields["to"], "to"), *_when(fields, feed.zone))
+
+
+def _find(feed: Feed, text: str, field: str) -> Stop:
+    """The stop that is meant by what was typed."""
+    if not text:
+        raise Problem(400, f"Please enter a stop in “{field.title()}”.", field)
+    found = feed.find(text)
+    if not found:
+        raise Problem(404, f"No stop is called “{text[:80]}”.", field)
+    if len(found) > 1:
+        raise Problem(400, f"Which stop is “{text[:80]}”?", field, found)
+    return found[0]
+
+
+def _api_query(words: Any, feed: Feed) -> Query:
+    ends = []
+    for field in ("from", "to"):
+        if field not in words:
+            raise Problem(400, f"{field} is missing: a stop_id.", field)
+        if words[field] not in feed.stops:
+            raise Problem(404, f"{field} is no stop_id of the timetable.", field)
+        ends.append(feed.stops[words[field]])
+    for field in ("day", "time"):
+        if field not in words:
+            raise Problem(400, f"{field} is missing.", field)
+    return Query(*ends, *_when({"hours": "2", "criterion": "arrival", **words.to_dict()}, feed.zone))
+
+
+def _when(fields: dict[str, str], zone: ZoneInfo) -> tuple[datetime, int, Criterion]:
+    """The instant, the hours and the criterion that are asked for."""
+    try:
+        after = datetime.combine(date.fromisoformat(fields["day"]), time.fromisoformat(fields["time"]).replace(tzinfo=zone))
+        instant = after.astimezone(timezone.utc)
+    except (ValueError, OverflowError) as error:
+        raise Problem(400, "The day is YYYY-MM-DD, and the time HH:MM.", "day") from error
+    if fields["hours"] not in map(str, HOURS):
+        raise Problem(400, f"hours is one of {', '.join(map(str, HOURS))}.", "hours")
+    if fields["criterion"] not in CRITERIA:
+        raise Problem(400, f"criterion is one of {', '.join(CRITERIA)}.", "criterion")
+    return instant, int(fields["hours"]), fields["criterion"]
+
+
+def _show(feed: Feed, fields: dict[str, str], query: Query | None, answer: Answer | None, problem: Problem | None) -> tuple[str, int]:
+    """The page with its status."""
+    day = query.after.astimezone(feed.zone).date() if query else None
+    asked = {name: fields[name] for name in ("from", "to", "day", "time", "hours", "criterion")}
+    page = render_template(
+        "page.html",
+        fields=fields,
+        hours=HOURS,
+        criteria=CRITERIA,
+        query=query,
+        answer=answer,
+        axis=axis_of(answer, feed.zone) if answer else None,
+        problem=problem,
+        feed=feed,
+        clock=lambda instant: clock(instant, feed.zone, day),
+        hour=lambda instant: clock(instant, feed.zone),
+        link=lambda field, meant: url_for("page", **{**asked, field: meant.label}),
+        stop=lambda number: feed.stops[number].label if number in feed.stops else number,
+    )
+    return page, problem.status if problem else 200
+
+
+def _refuse(problem: Problem) -> tuple[Response, int]:
+    return jsonify(error=problem.reason, status=problem.status), problem.status
+
+
+def _stop(stop: Stop) -> dict[str, str]:
+    return {"id": stop.id, "label": stop.label, "name": stop.name, "platform": stop.platform}
+
+
+def _answer(answer: Answer, query: Query, feed: Feed) -> dict[str, Any]:
+    return {
+        "version": answer.version,
+        "from": _stop(query.source),
+        "to": _stop(query.target),
+        "zone": str(feed.zone),
+        "walk": None if answer.walk is None else int(answer.walk.total_seconds()),
+        "departures": [_departure(it, feed) for it in answer.departures],
+    }
+
+
+def _departure(it: Departure, feed: Feed) -> dict[str, Any]:
+    legs = None if it.legs is None else [_leg(leg, feed) for leg in it.legs]
+    return {**_times(it, feed.zone), "rides": it.rides, "walked": it.walked, "legs": legs}
+
+
+def _leg(leg: Leg, feed: Feed) -> dict[str, Any]:
+    fields = {**_times(leg, feed.zone), "from": leg.source, "to": leg.target}
+    if leg.trip is None:
+        return fields
+    trip = feed.trips.get(leg.trip)
+    return {**fields, "trip": leg.trip, "route": trip and trip.route.name, "headsign": trip and trip.headsign}
+
+
+def _times(it: Departure | Leg, zone: ZoneInfo) -> dict[str, str]:
+    return {"dep": it.departure.astimezone(zone).isoformat(), "arr": it.arrival.astimezone(zone).isoformat()}

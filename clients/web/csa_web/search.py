@@ -1,0 +1,163 @@
+"""A search: what is asked of the csa server, and what its answer is in instants, stops and trips.
+
+All instants are in UTC: in one zone, Python compares and subtracts what the clocks on the wall show, and these go back once a year.
+"""
+
+from __future__ import annotations
+
+import threading
+from collections.abc import Callable, Iterator
+from contextlib import contextmanager
+from dataclasses import dataclass
+from datetime import datetime, timedelta, timezone
+
+from csa_client import Criterion, CsaClient, CsaError, Pinned, Point, Profile, Refused, Ride, Walk
+
+from .feed import Stop
+from .image import Image
+
+# The latest arrival is so long after the latest departure.
+LONGEST_JOURNEY = timedelta(hours=12)
+STATUS_OF_REFUSAL = {31: 404, 32: 400, 33: 400, 112: 400, 113: 400}
+REASON_OF_REFUSAL = {
+    31: "The timetable hasn't got this stop.",
+    32: "Both are the same stop.",
+    33: "The timetable hasn't got this time.",
+}
+
+
+class Problem(Exception):
+    """Why there is no answer: an HTTP status and a sentence, and the stops that could be meant where it isn't clear which."""
+
+    def __init__(self, status: int, reason: str, field: str = "", candidates: list[Stop] | None = None) -> None:
+        super().__init__(reason)
+        self.status, self.reason, self.field, self.candidates = status, reason, field, candidates or []
+
+
+@dataclass(frozen=True)
+class Query:
+    """Departures from one stop to another, from an instant in UTC on for some hours, best by a criterion."""
+
+    source: Stop
+    target: Stop
+    after: datetime
+    hours: int
+    criterion: Criterion
+
+
+@dataclass(frozen=True)
+class Leg:
+    """A part of a journey between two stops, by their ids: a ride of a trip, or a walk where there is none."""
+
+    source: str
+    target: str
+    departure: datetime
+    arrival: datetime
+    trip: str | None = None
+
+    @property
+    def is_change(self) -> bool:
+        """Whether it is the time that a change at one stop takes."""
+        return self.trip is None and self.source == self.target
+
+
+@dataclass(frozen=True)
+class Departure:
+    """A best departure. Its legs are None where the image isn't that of the version that answered."""
+
+    departure: datetime
+    arrival: datetime
+    rides: int
+    walked: int | None
+    legs: tuple[Leg, ...] | None
+
+
+@dataclass(frozen=True)
+class Answer:
+    """All best departures, and how long the direct walk takes, if there is one."""
+
+    version: int
+    departures: tuple[Departure, ...]
+    walk: timedelta | None
+
+
+class Sessions:
+    """The way to the server: few sessions at once, each given back as soon as its answer is there."""
+
+    def __init__(self, connect: Callable[[], CsaClient], most: int, patience: float) -> None:
+        """`connect` opens a session; whoever finds `most` of them open waits for `patience` seconds."""
+        self._connect, self._patience = connect, patience
+        self._free = threading.BoundedSemaphore(most)
+
+    @contextmanager
+    def session(self) -> Iterator[CsaClient]:
+        if not self._free.acquire(timeout=self._patience):
+            raise Problem(503, "Too many are asking at once. Please try again in a moment.")
+        try:
+            with self._connect() as client:
+                yield client
+        except Refused as refused:
+            status = STATUS_OF_REFUSAL.get(refused.number, 503)
+            raise Problem(status, REASON_OF_REFUSAL.get(refused.number, f"The timetable server refused: {refused}.")) from refused
+        except (CsaError, OSError) as error:
+            raise Problem(503, "The timetable server doesn't answer. Please try again in a moment.") from error
+        finally:
+            self._free.release()
+
+
+def search(sessions: Sessions, image: Image | None, query: Query) -> Answer:
+    """Asks the server, and resolves the legs where the image is the one that it answers from. Problem where there is no answer."""
+    if query.source == query.target:
+        raise Problem(400, REASON_OF_REFUSAL[32])
+    with sessions.session() as client, client.pinned() as pinned:
+        profile = client.profile(query.source.id, query.target.id, **_window(pinned, query), criterion=query.criterion)
+    return _answer(pinned, profile, image, query)
+
+
+def _window(pinned: Pinned, query: Query) -> dict[str, str]:
+    """The clocks of a query's window in the version that is pinned."""
+    try:
+        until = query.after + timedelta(hours=query.hours)
+        return {"after": pinned.clock(query.after), "until": pinned.clock(until), "by": pinned.clock(until + LONGEST_JOURNEY)}
+    except (ValueError, OverflowError) as error:
+        raise Problem(400, REASON_OF_REFUSAL[33]) from error
+
+
+def _answer(pinned: Pinned, profile: Profile, image: Image | None, query: Query) -> Answer:
+    departures = []
+    for point in profile.points:
+        legs = None if image is None else legs_of(point, image, pinned, query.source.id, query.target.id)
+        rides = sum(isinstance(leg, Ride) for leg in point.legs)
+        ends = pinned.instant(point.dep), pinned.instant(point.arr)
+        departures.append(Departure(*ends, rides, point.walked, legs))
+    return Answer(profile.version, tuple(departures), None if profile.walk is None else timedelta(seconds=profile.walk))
+
+
+def legs_of(point: Point, image: Image, pinned: Pinned, source: str, target: str) -> tuple[Leg, ...] | None:
+    """The legs of a point in an image. None where they don't lead from the source to the target in its times: the image is another one."""
+    legs = []
+    here, now = source, pinned.instant(point.dep)
+    try:
+        for part in point.legs:
+            leg = _walk(part, image, now) if isinstance(part, Walk) else _ride(part, image)
+            if leg is None or leg.source != here or leg.departure < now:
+                return None
+            legs.append(leg)
+            here, now = leg.target, leg.arrival
+    except IndexError:
+        return None
+    fits = image.base == pinned.base and here == target and now == pinned.instant(point.arr)
+    return tuple(legs) if fits else None
+
+
+def _walk(walk: Walk, image: Image, now: datetime) -> Leg:
+    return Leg(image.stop_id(walk.from_stop), image.stop_id(walk.to_stop), now, now + timedelta(seconds=walk.seconds))
+
+
+def _ride(ride: Ride, image: Image) -> Leg | None:
+    """The ride of one trip, or None where its ends are of two."""
+    first, last = image.connection(ride.first), image.connection(ride.last)
+    if first.trip != last.trip:
+        return None
+    times = (datetime.fromtimestamp(image.base + seconds, timezone.utc) for seconds in (first.departure, last.arrival))
+    return Leg(image.stop_id(first.source), image.stop_id(last.target), *times, image.trip_id(first.trip))
