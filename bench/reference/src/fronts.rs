@@ -68,64 +68,86 @@ impl<const P: usize> Labels<P> {
     }
 }
 
-/// The front for whoever is ready at this departure, or before it and after the next step's.
+/// The front for whoever is ready at this departure, or before it and after that of the step before.
 struct Step {
     departure: u32,
+    /// One more than the place of the step that departs next, 0 at the last one.
+    next: u32,
     front: Span,
 }
 
-/// A list of steps by falling departure for each stop.
+/// A chain of steps by rising departure for each stop.
 pub struct Lists<const P: usize> {
-    steps: Vec<Vec<Step>>,
+    heads: Vec<u32>,
+    steps: Vec<Step>,
     values: Vec<Value<P>>,
 }
 
 impl<const P: usize> Lists<P> {
     pub fn new(lists: usize) -> Self {
-        Lists { steps: (0..lists).map(|_| Vec::new()).collect(), values: Vec::new() }
+        Lists { heads: vec![0; lists], steps: Vec::new(), values: Vec::new() }
+    }
+
+    fn step(&self, link: u32) -> Option<&Step> {
+        self.steps.get((link as usize).wrapping_sub(1))
+    }
+
+    /// The first step of a list that departs at a time or later, and the link to the one before it, 0 where there is none.
+    fn find(&self, list: u32, ready: u32) -> (u32, Option<&Step>) {
+        let (mut before, mut link) = (0, self.heads[list as usize]);
+        while let Some(step) = self.step(link) {
+            if step.departure >= ready {
+                return (before, Some(step));
+            }
+            (before, link) = (link, step.next);
+        }
+        (before, None)
     }
 
     /// The front of a list for whoever is ready at a time.
     pub fn front(&self, list: u32, ready: u32) -> &[Value<P>] {
-        let found = self.steps[list as usize].iter().rev().find(|step| step.departure >= ready);
-        found.map_or(&[], |step| step.front.of(&self.values))
+        self.find(list, ready).1.map_or(&[], |step| step.front.of(&self.values))
     }
 
     /// Takes in values at a departure: into its own front, and into those of earlier departures as far as they stand there.
     pub fn offer(&mut self, list: u32, departure: u32, offered: &[Value<P>], merged: &mut Vec<Value<P>>) {
-        let steps = &mut self.steps[list as usize];
-        let later = steps.iter().rposition(|step| step.departure >= departure);
-        let standing = later.map_or(&[][..], |place| steps[place].front.of(&self.values));
-        if !merge(standing, offered, merged) {
+        let (before, later) = self.find(list, departure);
+        if !merge(later.map_or(&[], |step| step.front.of(&self.values)), offered, merged) {
             return;
         }
-        let mut next = later.map_or(0, |place| place + 1);
-        match later {
-            Some(place) if steps[place].departure == departure => steps[place].front.put(&mut self.values, merged),
-            _ => {
-                let begin = self.values.len() as u32;
-                self.values.extend_from_slice(merged);
-                let front = Span { begin, end: self.values.len() as u32 };
-                steps.insert(next, Step { departure, front });
-                next += 1;
-            }
+        if later.is_none_or(|step| step.departure > departure) {
+            self.insert(list, before, departure, merged);
         }
-        for step in &mut steps[next..] {
-            if !merge(step.front.of(&self.values), offered, merged) {
-                break;
+        let mut link = self.heads[list as usize];
+        while let Some(step) = self.steps.get_mut((link as usize).wrapping_sub(1)).filter(|step| step.departure <= departure) {
+            if merge(step.front.of(&self.values), offered, merged) {
+                step.front.put(&mut self.values, merged);
             }
-            step.front.put(&mut self.values, merged);
+            link = step.next;
         }
+    }
+
+    fn insert(&mut self, list: u32, before: u32, departure: u32, front: &[Value<P>]) {
+        let begin = self.values.len() as u32;
+        self.values.extend_from_slice(front);
+        let added = self.steps.len() as u32 + 1;
+        let link = match (before as usize).checked_sub(1) {
+            Some(place) => &mut self.steps[place].next,
+            None => &mut self.heads[list as usize],
+        };
+        let next = std::mem::replace(link, added);
+        self.steps.push(Step { departure, next, front: Span { begin, end: begin + front.len() as u32 } });
     }
 
     /// The points of a list by rising departure, those of one departure in the order of their values.
     pub fn points(&self, list: u32) -> Vec<(u32, Value<P>)> {
         let mut points = Vec::new();
-        let mut before: &[Value<P>] = &[];
-        for step in &self.steps[list as usize] {
-            let front = step.front.of(&self.values);
-            points.extend(front.iter().filter(|value| !before.contains(value)).map(|value| (step.departure, *value)));
-            before = front;
+        let mut link = self.heads[list as usize];
+        while let Some(step) = self.step(link) {
+            let later = self.step(step.next).map_or(&[][..], |step| step.front.of(&self.values));
+            let own = step.front.of(&self.values).iter().filter(|value| !later.contains(value));
+            points.extend(own.map(|value| (step.departure, *value)));
+            link = step.next;
         }
         points.sort_unstable();
         points
