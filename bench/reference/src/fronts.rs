@@ -1,5 +1,7 @@
 //! Pareto fronts of values: of each trip, and of each stop by departure.
 
+use std::mem::replace;
+
 use crate::values::Value;
 
 /// Puts into `merged` what no other value of both is no worse than. Says whether something offered stands; if not, `merged` is empty.
@@ -44,26 +46,22 @@ impl Span {
 
 /// What a passenger may reach who sits in a trip.
 pub struct Labels<const P: usize> {
-    spans: Vec<[u32; 2]>,
+    fronts: Vec<Span>,
     values: Vec<Value<P>>,
 }
 
 impl<const P: usize> Labels<P> {
     pub fn new(trips: usize) -> Self {
-        Labels { spans: vec![[0, 0]; trips], values: Vec::new() }
+        Labels { fronts: vec![Span { begin: 0, end: 0 }; trips], values: Vec::new() }
     }
 
     pub fn of(&self, trip: u32) -> &[Value<P>] {
-        let [begin, end] = self.spans[trip as usize];
-        Span { begin, end }.of(&self.values)
+        self.fronts[trip as usize].of(&self.values)
     }
 
     pub fn offer(&mut self, trip: u32, offered: &[Value<P>], merged: &mut Vec<Value<P>>) {
         if merge(self.of(trip), offered, merged) {
-            let [begin, end] = self.spans[trip as usize];
-            let mut span = Span { begin, end };
-            span.put(&mut self.values, merged);
-            self.spans[trip as usize] = [span.begin, span.end];
+            self.fronts[trip as usize].put(&mut self.values, merged);
         }
     }
 }
@@ -135,7 +133,7 @@ impl<const P: usize> Lists<P> {
             Some(place) => &mut self.steps[place].next,
             None => &mut self.heads[list as usize],
         };
-        let next = std::mem::replace(link, added);
+        let next = replace(link, added);
         self.steps.push(Step { departure, next, front: Span { begin, end: begin + front.len() as u32 } });
     }
 

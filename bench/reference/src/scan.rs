@@ -84,9 +84,8 @@ impl<'a, const P: usize> Scan<'a, P> {
         let onward = self.lists.front(connection.to, connection.arrival);
         let seconds = self.to_target[connection.to as usize];
         let time = connection.arrival + seconds.saturating_sub(1);
-        if seconds == 0 || time > self.query.by {
-            self.ways.extend_from_slice(onward);
-        } else if !merge(onward, &[Value::arrive(time).walk(seconds - 1)], &mut self.ways) {
+        let reached = (seconds > 0 && time <= self.query.by).then(|| Value::arrive(time).walk(seconds - 1));
+        if !merge(onward, reached.as_slice(), &mut self.ways) {
             self.ways.extend_from_slice(onward);
         }
     }

@@ -2,6 +2,7 @@
 
 use std::fmt::Write as _;
 use std::io::{self, BufRead, Write};
+use std::mem::replace;
 
 use crate::image::Image;
 use crate::scan::{Query, direct_walk, profile};
@@ -30,16 +31,10 @@ fn reply_to(image: &Image, line: &[u8], pinned: &mut bool) -> Result<String, Ref
     let members = members_of(line).ok_or(BAD_JSON)?;
     let text = |key: &str| members.iter().find(|(name, _)| name == key).map(|(_, value)| value.as_str()).ok_or(BAD_REQUEST);
     match text("do")? {
-        "pin" if *pinned => Err(Refusal(92, "AlreadyPinned")),
-        "pin" => {
-            *pinned = true;
-            Ok(format!(r#"{{"base":{},"ok":"pin","version":1}}"#, image.base))
-        }
-        "release" if !*pinned => Err(Refusal(93, "NotPinned")),
-        "release" => {
-            *pinned = false;
-            Ok(r#"{"ok":"release"}"#.to_owned())
-        }
+        "pin" if replace(pinned, true) => Err(Refusal(92, "AlreadyPinned")),
+        "pin" => Ok(format!(r#"{{"base":{},"ok":"pin","version":1}}"#, image.base)),
+        "release" if !replace(pinned, false) => Err(Refusal(93, "NotPinned")),
+        "release" => Ok(r#"{"ok":"release"}"#.to_owned()),
         "profile" => {
             let clock = |key| text(key).and_then(|it| seconds_of(it).ok_or(BAD_REQUEST));
             let [from, until, by] = [clock("after")?, clock("until")?, clock("by")?];
