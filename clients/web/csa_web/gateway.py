@@ -119,7 +119,7 @@ def create_app(feed: Callable[[], Feed], image: Callable[[], Image | None], sess
 def _fields(words: Any, feed: Feed, image: Image | None) -> dict[str, str]:
     """What the form shows: what was asked for, else now, or the nearest day of the timetable."""
     now = datetime.now(feed.zone)
-    days = image.days() if image else None
+    days = image.days if image else None
     day = min(max(now.date(), days[0]), days[1]) if days else now.date()
     defaults = {"from": "", "to": "", "day": day.isoformat(), "time": now.strftime("%H:%M"), "hours": "2", "criterion": "arrival+trips"}
     fields = {name: words.get(name, default).strip() for name, default in defaults.items()}
