@@ -4,6 +4,7 @@ from __future__ import annotations
 
 import argparse
 import sys
+from collections.abc import Callable
 from pathlib import Path
 
 from csa_client import CsaClient
@@ -37,7 +38,7 @@ def main() -> int:
     words = parser.parse_args()
     try:
         feed = Kept(Feed, words.feed, words.feed / "stops.txt")
-        image = Kept(Image, words.image, words.image) if words.image else lambda: None
+        image: Callable[[], Image | None] = (lambda: None) if words.image is None else Kept(Image, words.image, words.image)
     except (OSError, ValueError, KeyError) as error:
         print(f"csa_web: {error}", file=sys.stderr)
         return 1

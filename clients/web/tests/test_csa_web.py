@@ -19,7 +19,7 @@ from csa_client import Pinned, Point, Profile, Refused, SessionEnded
 from csa_web.feed import Feed, _contrast
 from csa_web.gateway import Kept, create_app
 from csa_web.image import Connection, Image
-from csa_web.search import Departure, Leg, Sessions, legs_of
+from csa_web.search import Leg, Sessions, legs_of
 from csa_web.words import Axis, clock, duration
 
 TOP = Path(__file__).resolve().parents[3]
