@@ -22,7 +22,7 @@ LONGEST_REPLY = 256 * 1024 * 1024
 NUMBER = "([0-9]{1,10})"
 LEG = re.compile(f"ride {NUMBER} {NUMBER}|walk {NUMBER} {NUMBER} {NUMBER}")
 JOURNEY = re.compile(f"(?:{LEG.pattern})(?: (?:{LEG.pattern}))*")
-CLOCK = re.compile(f"{NUMBER}:([0-5][0-9]):([0-5][0-9])")
+CLOCK = re.compile("([0-9]{1,6}):([0-5][0-9]):([0-5][0-9])")
 
 
 class CsaError(Exception):

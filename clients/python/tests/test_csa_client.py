@@ -109,7 +109,7 @@ class Instants(unittest.TestCase):
         for instant in (datetime(2024, 3, 30, tzinfo=timezone.utc), datetime(2024, 3, 31, 12)):
             with self.assertRaises(ValueError):
                 self.PINNED.clock(instant)
-        for clock in ("8:60:00", "08:00", "-1:00:00", "08:00:00 "):
+        for clock in ("8:60:00", "08:00", "-1:00:00", "08:00:00 ", "9999999:00:00"):
             with self.assertRaises(ValueError, msg=clock):
                 self.PINNED.instant(clock)
 
