@@ -10,14 +10,15 @@ import zipfile
 from pathlib import Path
 
 HERE = Path(__file__).resolve().parent
-PROJECT = dict(re.findall(r'^([a-z-]+) = "(.*)"$', (HERE / "pyproject.toml").read_text(), re.MULTILINE))
-VERSION = re.search(r'^__version__ = "(.*)"$', (HERE / "csa_client/__init__.py").read_text(), re.MULTILINE)[1]
+SETTING = re.compile(r'^([a-z_-]+) = "(.*)"$', re.MULTILINE)
+PROJECT: dict[str, str] = dict(SETTING.findall((HERE / "pyproject.toml").read_text()))
+VERSION: str = dict(SETTING.findall((HERE / "csa_client/__init__.py").read_text()))["__version__"]
 STEM = f"{PROJECT['name'].replace('-', '_')}-{VERSION}"
 INFO = f"{STEM}.dist-info"
 WHEEL = "Wheel-Version: 1.0\nGenerator: csa_client build_backend\nRoot-Is-Purelib: true\nTag: py3-none-any\n"
 
 
-def build_wheel(wheel_directory: str, config_settings: dict | None = None, metadata_directory: str | None = None) -> str:
+def build_wheel(wheel_directory: str, config_settings: dict[str, object] | None = None, metadata_directory: str | None = None) -> str:
     """Writes the wheel, the same bytes from the same sources, and returns its name."""
     files = {path: (HERE / path).read_bytes() for path in package()}
     files |= {f"{INFO}/METADATA": metadata().encode(), f"{INFO}/WHEEL": WHEEL.encode()}
@@ -29,7 +30,7 @@ def build_wheel(wheel_directory: str, config_settings: dict | None = None, metad
     return name
 
 
-def build_sdist(sdist_directory: str, config_settings: dict | None = None) -> str:
+def build_sdist(sdist_directory: str, config_settings: dict[str, object] | None = None) -> str:
     """Writes an archive of what the wheel is made of, and returns its name."""
     name = f"{STEM}.tar.gz"
     with tarfile.open(Path(sdist_directory, name), "w:gz", format=tarfile.PAX_FORMAT) as archive:

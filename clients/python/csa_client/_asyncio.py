@@ -3,11 +3,14 @@
 from __future__ import annotations
 
 import asyncio
-from collections.abc import AsyncIterator
+from collections.abc import AsyncIterator, Awaitable
 from contextlib import asynccontextmanager
+from typing import TypeVar
 
 from . import _protocol
 from ._protocol import DEFAULT_PORT, LONGEST_REPLY, Criterion, Pinned, Profile, Refused, Request, Result, SessionEnded
+
+Value = TypeVar("Value")
 
 
 class AsyncCsaClient:
@@ -96,7 +99,7 @@ async def _exchange(reader: asyncio.StreamReader, writer: asyncio.StreamWriter, 
         raise SessionEnded("the reply is too long") from error
 
 
-async def _bounded(awaited, timeout: float):
+async def _bounded(awaited: Awaitable[Value], timeout: float) -> Value:
     """What is awaited, or TimeoutError; that of asyncio is another one before Python 3.11."""
     try:
         return await asyncio.wait_for(awaited, timeout)

@@ -19,9 +19,10 @@ DEFAULT_PORT = 7077
 # A reply is read up to so many bytes.
 LONGEST_REPLY = 256 * 1024 * 1024
 
-LEG = re.compile(r"ride (\d+) (\d+)|walk (\d+) (\d+) (\d+)")
-JOURNEY = re.compile(rf"(?:{LEG.pattern})(?: (?:{LEG.pattern}))*")
-CLOCK = re.compile(r"(\d+):([0-5]\d):([0-5]\d)")
+NUMBER = "([0-9]{1,10})"
+LEG = re.compile(f"ride {NUMBER} {NUMBER}|walk {NUMBER} {NUMBER} {NUMBER}")
+JOURNEY = re.compile(f"(?:{LEG.pattern})(?: (?:{LEG.pattern}))*")
+CLOCK = re.compile("([0-9]{1,6}):([0-5][0-9]):([0-5][0-9])")
 
 
 class CsaError(Exception):

@@ -86,7 +86,7 @@ class Journeys(unittest.TestCase):
         self.assertEqual(parse_journey("walk 7 8 60 ride 10 12"), (Walk(7, 8, 60), Ride(10, 12)))
 
     def test_another_text_is_none(self) -> None:
-        for text in ("", "ride 0", "ride 0 0 ", "ride 0 0  ride 1 1", "ride -1 0", "walk 1 1", "ride 0 0 swim 1 1 0", "ride 0 0\n"):
+        for text in ("", "ride 0", "ride 0 0 ", "ride 0 0  ride 1 1", "ride -1 0", "walk 1 1", "ride 0 0 swim 1 1 0", "ride 0 0\n", "ride 0 ٣", f"ride 0 {10**10}"):
             with self.assertRaises(ValueError, msg=text):
                 parse_journey(text)
 
@@ -109,7 +109,7 @@ class Instants(unittest.TestCase):
         for instant in (datetime(2024, 3, 30, tzinfo=timezone.utc), datetime(2024, 3, 31, 12)):
             with self.assertRaises(ValueError):
                 self.PINNED.clock(instant)
-        for clock in ("8:60:00", "08:00", "-1:00:00", "08:00:00 "):
+        for clock in ("8:60:00", "08:00", "-1:00:00", "08:00:00 ", "9999999:00:00"):
             with self.assertRaises(ValueError, msg=clock):
                 self.PINNED.instant(clock)
 

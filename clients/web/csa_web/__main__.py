@@ -4,6 +4,7 @@ from __future__ import annotations
 
 import argparse
 import sys
+from collections.abc import Callable
 from pathlib import Path
 
 from csa_client import CsaClient
@@ -24,6 +25,10 @@ a network.
 """
 
 
+def no_image() -> None:
+    """There is none, and so there are no legs."""
+
+
 def main() -> int:
     parser = argparse.ArgumentParser("csa_web", description="A page over a csa server.", epilog=EXAMPLE)
     parser.formatter_class = argparse.RawDescriptionHelpFormatter
@@ -37,7 +42,9 @@ def main() -> int:
     words = parser.parse_args()
     try:
         feed = Kept(Feed, words.feed, words.feed / "stops.txt")
-        image = Kept(Image, words.image, words.image) if words.image else lambda: None
+        image: Callable[[], Image | None] = no_image
+        if words.image is not None:
+            image = Kept(Image, words.image, words.image)
     except (OSError, ValueError, KeyError) as error:
         print(f"csa_web: {error}", file=sys.stderr)
         return 1

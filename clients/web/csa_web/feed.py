@@ -48,7 +48,7 @@ class Feed:
     """A feed's folder, read once."""
 
     def __init__(self, folder: Path) -> None:
-        agency = next(_rows(folder / "agency.txt"), {})
+        agency: dict[str, str] = next(_rows(folder / "agency.txt"), {})
         self.zone = ZoneInfo(agency.get("agency_timezone") or "UTC")
         self.stops = _read_stops(folder)
         self.trips = _read_trips(folder, _read_routes(folder))

@@ -21,7 +21,7 @@ Value = TypeVar("Value")
 
 LONGEST_QUERY = 4096
 HOURS = (1, 2, 4, 8)
-CRITERIA = {
+CRITERIA: dict[Criterion, str] = {
     "arrival": "arrival alone",
     "arrival+trips": "arrival, changes",
     "arrival+trips+walk": "arrival, changes, walking",
@@ -119,7 +119,7 @@ def create_app(feed: Callable[[], Feed], image: Callable[[], Image | None], sess
 def _fields(words: Any, feed: Feed, image: Image | None) -> dict[str, str]:
     """What the form shows: what was asked for, else now, or the nearest day of the timetable."""
     now = datetime.now(feed.zone)
-    days = image.days() if image else None
+    days = image.days if image else None
     day = min(max(now.date(), days[0]), days[1]) if days else now.date()
     defaults = {"from": "", "to": "", "day": day.isoformat(), "time": now.strftime("%H:%M"), "hours": "2", "criterion": "arrival+trips"}
     fields = {name: words.get(name, default).strip() for name, default in defaults.items()}
@@ -143,17 +143,18 @@ def _find(feed: Feed, text: str, field: str) -> Stop:
 
 
 def _api_query(words: Any, feed: Feed) -> Query:
-    ends = []
-    for field in ("from", "to"):
-        if field not in words:
-            raise Problem(400, f"{field} is missing: a stop_id.", field)
-        if words[field] not in feed.stops:
-            raise Problem(404, f"{field} is no stop_id of the timetable.", field)
-        ends.append(feed.stops[words[field]])
-    for field in ("day", "time"):
+    for field in ("from", "to", "day", "time"):
         if field not in words:
             raise Problem(400, f"{field} is missing.", field)
-    return Query(*ends, *_when({"hours": "2", "criterion": "arrival", **words.to_dict()}, feed.zone))
+    source, target = (_end(feed, words, field) for field in ("from", "to"))
+    return Query(source, target, *_when({"hours": "2", "criterion": "arrival", **words.to_dict()}, feed.zone))
+
+
+def _end(feed: Feed, words: Any, field: str) -> Stop:
+    """The stop of a stop_id."""
+    if words[field] not in feed.stops:
+        raise Problem(404, f"{field} is no stop_id of the timetable.", field)
+    return feed.stops[words[field]]
 
 
 def _when(fields: dict[str, str], zone: ZoneInfo) -> tuple[datetime, int, Criterion]:
@@ -165,9 +166,10 @@ def _when(fields: dict[str, str], zone: ZoneInfo) -> tuple[datetime, int, Criter
         raise Problem(400, "The day is YYYY-MM-DD, and the time HH:MM.", "day") from error
     if fields["hours"] not in map(str, HOURS):
         raise Problem(400, f"hours is one of {', '.join(map(str, HOURS))}.", "hours")
-    if fields["criterion"] not in CRITERIA:
+    criterion = next((it for it in CRITERIA if it == fields["criterion"]), None)
+    if criterion is None:
         raise Problem(400, f"criterion is one of {', '.join(CRITERIA)}.", "criterion")
-    return instant, int(fields["hours"]), fields["criterion"]
+    return instant, int(fields["hours"]), criterion
 
 
 def _show(feed: Feed, fields: dict[str, str], query: Query | None, answer: Answer | None, problem: Problem | None) -> tuple[str, int]:

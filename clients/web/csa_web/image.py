@@ -5,6 +5,7 @@ from __future__ import annotations
 import mmap
 import struct
 from datetime import date
+from functools import cached_property
 from pathlib import Path
 from typing import NamedTuple
 
@@ -61,11 +62,15 @@ class Image:
             raise IndexError(f"no trip {number}")
         return self._name(self.stops + number)
 
+    @cached_property
     def days(self) -> tuple[date, date] | None:
         """The first and the last service day; None where there is no trip, or a day is no date."""
-        days = struct.unpack_from(f"<{self.trips}I", self._bytes, 4 * self._days)
+        numbers = memoryview(self._bytes)[4 * self._days : 4 * (self._days + self.trips)]
+        first, last = 2**32, 0
+        for (day,) in struct.iter_unpack("<I", numbers):
+            first, last = min(first, day), max(last, day)
         try:
-            return (_date(min(days)), _date(max(days))) if days else None
+            return (_date(first), _date(last)) if self.trips else None
         except ValueError:
             return None
 

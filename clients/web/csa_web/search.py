@@ -159,5 +159,6 @@ def _ride(ride: Ride, image: Image) -> Leg | None:
     first, last = image.connection(ride.first), image.connection(ride.last)
     if first.trip != last.trip:
         return None
-    times = (datetime.fromtimestamp(image.base + seconds, timezone.utc) for seconds in (first.departure, last.arrival))
-    return Leg(image.stop_id(first.source), image.stop_id(last.target), *times, image.trip_id(first.trip))
+    departure = datetime.fromtimestamp(image.base + first.departure, timezone.utc)
+    arrival = datetime.fromtimestamp(image.base + last.arrival, timezone.utc)
+    return Leg(image.stop_id(first.source), image.stop_id(last.target), departure, arrival, image.trip_id(first.trip))

@@ -19,7 +19,7 @@ from csa_client import Pinned, Point, Profile, Refused, SessionEnded
 from csa_web.feed import Feed, _contrast
 from csa_web.gateway import Kept, create_app
 from csa_web.image import Connection, Image
-from csa_web.search import Departure, Leg, Sessions, legs_of
+from csa_web.search import Leg, Sessions, legs_of
 from csa_web.words import Axis, clock, duration
 
 TOP = Path(__file__).resolve().parents[3]
@@ -133,7 +133,7 @@ class Images(unittest.TestCase):
             self.assertEqual(image.connection(2), Connection(1, 2, 29520, 30000, 1, 3))
             self.assertEqual([image.stop_id(number) for number in range(3)], ["A", "B", "C"])
             self.assertEqual([image.trip_id(number) for number in range(2)], ["T1", "T2"])
-            self.assertEqual(image.days(), (date(2024, 1, 15), date(2024, 1, 15)))
+            self.assertEqual(image.days, (date(2024, 1, 15), date(2024, 1, 15)))
             for look_up, number in ((image.connection, 3), (image.stop_id, 3), (image.trip_id, 2)):
                 with self.assertRaises(IndexError):
                     look_up(number)
