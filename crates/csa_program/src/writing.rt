@@ -1,5 +1,9 @@
 //! An image's words into a file.
 
+ghost use Rattle.std.specs.Prelude.{OnOk};
+ghost use Rattle.std.specs.Io.KnownBytes.{Appends};
+ghost use Rattle.image_layout.specs.Text.{bytes_of};
+
 use image_files::PIECE_WORDS;
 use image_layout::Words;
 use std::alloc::Global;
@@ -44,8 +48,10 @@ fn put_by_way_of<H: Files + AllocGlobal>(
     fs::rename(rt, beside, path)
 }
 
-// Writes the words by pieces, so that they aren't held as bytes beside them.
-fn write_words<W: Write>(alloc: Global, file: &mut W, words: &[u32]) -> io::Result<()> {
+// Writes the bytes of all the words, by pieces, so that they aren't held as bytes beside the words.
+fn write_words<W: Write>(alloc: Global, file: &mut W, words: &[u32]) -> io::Result<()>
+    ensures { OnOk result (Appends (W.contents file.old) (W.contents file.new) (bytes_of words.now)) }
+{
     for piece in words.chunks(PIECE_WORDS) {
         let bytes = Words::to_bytes(alloc, piece)?;
         file.write_all(&bytes)?;

@@ -28,6 +28,12 @@ tells csa: writing built.csa
 ends 0
 holds built.csa
 
+# A day begins an hour earlier in the east.
+run build base_feed built.csa --first 20240115 --days 1 --zone fixed:3600
+answers stops 3 runs 2 connections 3 footpaths 3 lifted 0 flex 0 frequencies 0 skipped 0
+set 7 1705273200
+holds built.csa
+
 # A day begins an hour later in the west.
 run build base_feed built.csa --first 20240115 --days 1 --zone fixed:-3600
 answers stops 3 runs 2 connections 3 footpaths 3 lifted 0 flex 0 frequencies 0 skipped 0
@@ -92,6 +98,16 @@ run profile feed.csa --from A --to B --after 25:00:00 --until 32:00:00 --by 32:0
 prints dep 25:10:00 arr 25:20:00 : ride 1 1
 prints dep 31:00:00 arr 31:10:00 : ride 2 2
 answers points 2 read 2 walk none
+
+# Each count is another: a trip that is lifted, two with a row of no stop, three that repeat, and four rows of ways that are skipped.
+rows feed/trips.txt service_id,trip_id | S,L | S,F | S,G | S,P | S,Q | S,R
+rows feed/stop_times.txt trip_id,arrival_time,departure_time,stop_id,stop_sequence | L,08:00:00,08:00:00,A,1 | L,08:00:00,08:00:00,B,2 | F,08:00:00,08:00:00,,1 | G,08:00:00,08:00:00,,1 | P,08:00:00,08:00:00,A,1 | P,08:05:00,08:05:00,B,2 | Q,08:00:00,08:00:00,A,1 | Q,08:05:00,08:05:00,B,2 | R,08:00:00,08:00:00,A,1 | R,08:05:00,08:05:00,B,2
+rows feed/frequencies.txt trip_id,start_time,end_time,headway_secs | P,09:00:00,09:20:00,600 | Q,09:00:00,09:20:00,600 | R,09:00:00,09:20:00,600
+rows feed/transfers.txt from_stop_id,to_stop_id,transfer_type,min_transfer_time | A,B,4, | A,B,5, | A,B,4, | B,A,5,
+run build feed feed.csa --first 20240115 --days 1 --zone fixed:0
+answers stops 2 runs 7 connections 7 footpaths 2 lifted 1 flex 2 frequencies 3 skipped 4
+remove feed/frequencies.txt
+remove feed/transfers.txt
 
 # Two services, of which the one has one day and the other none.
 rows feed/trips.txt service_id,trip_id | X,T | Y,U

@@ -5,6 +5,7 @@
 //! | `# TEXT`, or none | nothing: it tells what the lines below show |
 //! | `image WORD ..` | the input is an image of these words |
 //! | `sample` | the input is the sample image; `sample 2` in the layout that is written |
+//! | `name BYTES` | the input is the image of one stop, whose name has so many bytes, a multiple of four |
 //! | `set PLACE WORD` | the input's word at this place is another |
 //! | `word PLACE WORD | TEXT` | the input is the sample with this word there, and the command answers so |
 //! | `cut BYTES` | of the input so many bytes alone |
@@ -124,6 +125,32 @@ fn image_of(alloc: Global, text: &str) -> Result<Vec<u32>, Fail> {
 
 fn zeros(alloc: Global, count: u32) -> Result<Vec<u32>, AllocError> {
     Ok(vec![in alloc; 0u32; count as usize]?)
+}
+
+/// The image of one stop, whose name has so many bytes, a multiple of four.
+fn named_stop(alloc: Global, bytes: u32) -> Result<Vec<u32>, AllocError> {
+    let head = [
+        1_346_458_435,
+        2,
+        1,
+        0,
+        0,
+        1,
+        bytes,
+        0,
+        0,
+        0,
+        1,
+        0,
+        0,
+        0,
+        bytes,
+    ];
+    let mut image = head.to_vec(alloc)?;
+    for _ in 0..bytes / 4 {
+        image.push(u32::from_le_bytes(*b"stop"))?;
+    }
+    Ok(image)
 }
 
 /// The sample in a layout.
@@ -340,6 +367,7 @@ fn take_input(alloc: Global, stage: &mut Stage<'_>, kind: &str, rest: &str) -> R
         "image" => stage.take_image(image_of(alloc, rest)?),
         "sample" => stage.take_image(sample_of(alloc, rest)?),
         "zeros" => stage.take_image(zeros(alloc, number(rest)?)?),
+        "name" => stage.take_image(named_stop(alloc, number(rest)?)?),
         "set" => set(&mut stage.image, rest)?,
         _ => stage.bytes = number(rest)? as usize,
     }
@@ -355,7 +383,12 @@ fn follow<'a, R: Machine + Net<Listener = TcpListener, Stream = TcpStream> + Abo
     let (kind, rest) = line.split_once(' ').unwrap_or((line, ""));
     match kind {
         "" | "#" => Ok(()),
-        "image" | "sample" | "zeros" | "set" | "cut" => take_input(rt.alloc(), stage, kind, rest),
+        "image" | "sample" | "zeros" | "name" | "set" | "cut" => take_input(
+            rt.alloc(),
+            stage,
+            kind,
+            rest,
+        ),
         "folder" => Ok(fs::create_dir(rt, rest)?),
         "file" | "has" | "crlf" => write(rt, stage, kind, rest),
         "rows" => write_rows(rt, rest),

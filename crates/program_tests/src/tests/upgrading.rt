@@ -19,6 +19,15 @@ run verify new.csa
 answers ok stops 3 trips 2 connections 3 footpaths 3
 remove new.csa
 
+# An image that is written in two pieces, the second of which is short, has both.
+name 65540
+run upgrade - new.csa
+answers ok stops 1 trips 0 connections 0 footpaths 1
+holds new.csa
+run verify new.csa
+answers ok stops 1 trips 0 connections 0 footpaths 1
+remove new.csa
+
 # What is refused leaves the file as it was, and so does an image that can't be read.
 image 7
 saves kept.csa
