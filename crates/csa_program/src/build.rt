@@ -1,7 +1,7 @@
 //! `csa build FOLDER OUT --first DAY --days N --zone ZONE [--strict] [--progress]`.
 
 use crate::planning::{PlanFailure, plan_of};
-use crate::progress::load_told;
+use crate::progress::{ToldFiles, load_told};
 use crate::refusal::refuse_feed;
 use crate::status;
 use crate::writing::put_image;
@@ -71,8 +71,8 @@ fn build<'a, H: Files + RandomSource + AllocGlobal, E: Write>(
     log: Option<&mut E>,
 ) -> Result<Report, Failure<'a>> {
     let plan = plan_of(rt, &request.plan)?;
-    let files = FolderFiles::new(rt, request.folder);
-    let (image, report) = load_told(rt.alloc(), files, &plan, request.out, log)?;
+    let mut files = ToldFiles::new(FolderFiles::new(rt, request.folder), log);
+    let (image, report) = load_told(rt.alloc(), &mut files, &plan, request.out)?;
     match put_image(rt, request.out, image.words()) {
         Ok(()) => Ok(report),
         Err(error) => Err(write_failure(&error, request.out)),

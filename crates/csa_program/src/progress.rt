@@ -1,7 +1,11 @@
-//! What is told while an image is made.
+//! What is reported while an image is made.
 
-ghost use Rattle.std.specs.Prelude.{◌≡◌, ◌≤◌, ◌<◌, ◌-◌, ◌^◌};
+ghost use Rattle.std.specs.Prelude.{◌≡◌, ◌≤◌, ◌<◌, ◌+◌, ◌-◌, ◌^◌, IfOk, IfErr};
+ghost use Rattle.image_layout.specs.declared.layout.TheConstants.{LAYOUT};
 ghost use Rattle.connections.specs.declared.days.TheConstants.{MAX_DAYS};
+ghost use Rattle.feed_files.specs.Reading.{Content, Tells};
+ghost use Rattle.feed_loader.specs.Faults.{failed_by, failed_in};
+ghost use Rattle.feed_loader.specs.Refused.{IsLoadRefusal, IsLoaded, IsWantOfMemory};
 
 use feed_files::{FeedFiles, FileFault};
 use feed_loader::{LoadFault, Plan, Report, load};
@@ -13,39 +17,47 @@ use std::io::Write;
 /// The file of a feed that is read last.
 const LAST_FILE: &str = "frequencies.txt";
 
-/// Loads a feed, and tells each file as it is read, and then that the image is written at a path, if there is anything to tell it to.
-pub fn load_told<F: FeedFiles + Drop, W: Write + Drop>(
+/// Loads a feed as `load` does, and reports each file as it is read, and then that the image is written at a path, if there is
+/// anything to report it to.
+pub fn load_told<F: FeedFiles, W: Write>(
     alloc: Global,
-    files: F,
+    files: &mut ToldFiles<F, W>,
     plan: &Plan,
     out: &str,
-    log: Option<W>,
 ) -> Result<(Verified, Report), LoadFault>
-    requires failures { F.failures files < 2 ^ 64 - 1 }
+    requires failures { F.failures files.old.files < 2 ^ 64 - 1 }
     requires some { 1 ≤ plan.now.days }
     requires few { plan.now.days ≤ MAX_DAYS }
+    ensures same { F.holds files.new.files ≡ F.holds files.old.files }
+    ensures failures { F.failures files.new.files ≡ F.failures files.old.files + failed_in result }
+    ensures failed { F.failed files.new.files ≡ failed_by (F.failed files.old.files) result }
+    ensures layout { IfOk result (λ loaded. loaded.0.layout ≡ LAYOUT) }
+    ensures ok { (content : Content) → Tells (F.holds files.old.files) content → IfOk result (λ loaded. IsLoaded content plan.now loaded.0.timetable loaded.0.names loaded.1) }
+    ensures err { (content : Content) → Tells (F.holds files.old.files) content → IfErr result (λ fault. ¬ (IsWantOfMemory fault) → IsLoadRefusal content plan.now fault) }
 {
-    let mut files = ToldFiles::new(files, log);
-    let loaded = load(alloc, &mut files, plan)?;
-    files.tell(alloc, "writing", out);
-    Ok(loaded)
+    let loaded = load(alloc, files, plan);
+    if loaded.is_ok() {
+        files.tell(alloc, "writing", out);
+    }
+    loaded
 }
 
-/// The files of a feed, each of which is told when it is read, if there is anything to tell it to.
+/// The files of a feed, each of which is reported when it is read, if there is anything to report it to.
 #[derive(Drop)]
-struct ToldFiles<F, W> {
+pub struct ToldFiles<F, W> {
     files: F,
     log: Option<W>,
 }
 
 impl<F: FeedFiles, W: Write> ToldFiles<F, W> {
-    fn new(files: F, log: Option<W>) -> ToldFiles<F, W>
+    /// The files, and where what is done is reported.
+    pub fn new(files: F, log: Option<W>) -> ToldFiles<F, W>
         ensures { result.files ≡ files }
     {
         ToldFiles { files, log }
     }
 
-    /// Tells what is done next. That it can't be told changes nothing.
+    /// Reports what is done next. That it can't be reported changes nothing.
     fn tell(&mut self, alloc: Global, doing: &str, what: &str)
         ensures { self.new.files ≡ self.old.files }
     {
