@@ -45,8 +45,8 @@ pub fn run<O: Write>(
     status::tell_refusal(alloc, output, &refusal)
 }
 
-/// When the journey of a text departs and arrives, as an answer to the question; or the first fault: of the query, of the text, of the
-/// journey. Memory may run out while the text is read.
+/// When the journey of a text departs and arrives, as an answer to the question; or the first fault: of the query,
+/// of the text, of the journey. Memory may run out while the text is read.
 fn judge(alloc: Global, image: &Verified, request: &JourneyRequest<'_>) -> Result<Times, Failure>
     ensures { IsVerdict image.now request.now.question request.now.text.now result }
 {
