@@ -1,4 +1,5 @@
 pub mod Asking
+pub mod Judging
 pub mod Opening
 pub mod Planning
 pub mod Serving

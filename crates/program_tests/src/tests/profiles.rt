@@ -58,6 +58,22 @@ prints dep 08:00:00 arr 08:20:00 trips 1 : ride 1 1
 answers points 1 read 4 walk none
 judge A C 07:00:00 09:00:00 10:00:00 ride 1 1 | ok dep 08:00:00 arr 08:20:00
 
+# Each best departure has a line, however many there are.
+image 1346458435 1 2 5 5 2 12 1705276800 0 0 1 28800 29400 0 3 0 1 29400 30000 1 3 0 1 30000 30600 2 3 0 1 30600 31200 3 3 0 1 31200 31800 4 3 0 1 2 0 0 1 0 0 1 2 4 6 8 10 12 20240115 20240115 20240115 20240115 20240115 827605569 861155924 894710868
+profile A B 07:00:00 09:00:00 10:00:00 arrival
+prints dep 08:00:00 arr 08:10:00 : ride 0 0
+prints dep 08:10:00 arr 08:20:00 : ride 1 1
+prints dep 08:20:00 arr 08:30:00 : ride 2 2
+prints dep 08:30:00 arr 08:40:00 : ride 3 3
+prints dep 08:40:00 arr 08:50:00 : ride 4 4
+answers points 5 read 5 walk none
+run profile - --from A --to B --after 08:10:00 --until 09:00:00 --by 10:00:00 --criterion arrival+trips --names
+prints dep 08:10:00 arr 08:20:00 trips 1 : ride T2 08:10:00 A 08:20:00 B
+prints dep 08:20:00 arr 08:30:00 trips 1 : ride T3 08:20:00 A 08:30:00 B
+prints dep 08:30:00 arr 08:40:00 trips 1 : ride T4 08:30:00 A 08:40:00 B
+prints dep 08:40:00 arr 08:50:00 trips 1 : ride T5 08:40:00 A 08:50:00 B
+answers points 4 read 4 walk none
+
 # Words of a query are judged: its window, and the name of its criterion.
 sample
 profile A C 07:00:00 06:00:00 10:00:00 arrival

@@ -78,6 +78,11 @@ judge B D 00:00:00 00:16:40 00:33:20 ride 2 2 walk 2 2 20 ride 3 3 | refused 83 
 judge A D 00:00:00 00:16:40 00:33:20 ride 1 2 walk 2 2 20 walk 2 2 20 walk 2 2 20 ride 5 5 | refused 84 NoAlighting 1
 judge A D 00:00:00 00:16:40 00:33:20 ride 1 2 walk 2 2 20 walk 2 2 0 ride 3 3 | refused 89 NoFootpath 1
 judge A C 00:00:00 00:16:40 00:33:20 ride 1 2 walk 2 2 20 ride 3 3 | refused 86 TooEarly 1
+
+# A chain of three trips, of which the last departs a minute before the second is over; and a later one, which departs as it is over.
+image 1346458435 1 4 4 4 4 12 1705276800 0 0 1 28800 29400 0 3 1 2 29400 30000 1 3 2 3 29940 30600 2 3 2 3 30000 31200 3 3 0 1 2 3 4 0 0 1 0 2 0 3 0 0 1 2 3 4 6 8 10 12 20240115 20240115 20240115 20240115 1145258561 844378452 877933396
+judge A D 07:00:00 09:00:00 10:00:00 ride 0 0 walk 1 1 0 ride 1 1 walk 2 2 0 ride 2 2 | refused 86 TooEarly 2
+judge A D 07:00:00 09:00:00 10:00:00 ride 0 0 walk 1 1 0 ride 1 1 walk 2 2 0 ride 3 3 | ok dep 08:00:00 arr 08:40:00
 ";
 
 #[test]
