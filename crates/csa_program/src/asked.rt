@@ -1,8 +1,10 @@
 //! What is asked of an image, which is opened first.
 
+use crate::explaining::explain;
 use crate::opening::open_image;
-use crate::{journey, profile, stops, upgrade, verify};
-use command_requests::{JourneyRequest, ProfileRequest, StopsRequest, UpgradeRequest};
+use crate::{journey, profile, status, stops, upgrade, verify};
+use command_requests::{JourneyRequest, ProfileRequest, Question, StopsRequest, UpgradeRequest};
+use image_verifier::Verified;
 use std::io::{Read, Write};
 use std::rt::Files;
 
@@ -26,9 +28,17 @@ impl<'a> Asked<'a> {
             Asked::Upgrade(request) => request.image,
         }
     }
+
+    fn question(self) -> Option<Question<'a>> {
+        match self {
+            Asked::Journey(request) => Some(request.question),
+            Asked::Profile(request) => Some(request.question),
+            Asked::Verify(_) | Asked::Stops(_) | Asked::Upgrade(_) => None,
+        }
+    }
 }
 
-/// Opens the image and does what is asked of it; or tells why it can't be opened, or its first fault.
+/// Opens the image and does what is asked of it; or reports why it can't be opened, or its first fault.
 pub fn answer<H: Files + AllocGlobal, I: Read, O: Write, E: Write>(
     rt: &H,
     asked: Asked<'_>,
@@ -40,11 +50,30 @@ pub fn answer<H: Files + AllocGlobal, I: Read, O: Write, E: Write>(
         Ok(image) => image,
         Err(status) => return status,
     };
-    match asked {
+    let status = match asked {
         Asked::Verify(_) => verify::run(rt.alloc(), &image, output),
         Asked::Journey(request) => journey::run(rt.alloc(), &image, request, output),
         Asked::Profile(request) => profile::run(rt, &image, request, output, errors),
         Asked::Stops(request) => stops::run(rt.alloc(), &image, request, output),
         Asked::Upgrade(request) => upgrade::run(rt, &image, request, output, errors),
+    };
+    if status == status::REFUSED
+        && let Some(question) = asked.question()
+    {
+        explain_ends(&image, &question, errors);
+    }
+    status
+}
+
+/// Says which end of a question is no stop of the image, if one isn't.
+fn explain_ends<E: Write>(image: &Verified, question: &Question<'_>, errors: &mut E) {
+    explain_end(image, "--from", question.from, errors);
+    explain_end(image, "--to", question.to, errors);
+}
+
+fn explain_end<'a, E: Write>(image: &Verified, option: &'a str, stop: &'a str, errors: &mut E) {
+    if image.find(stop.as_bytes()).is_none() {
+        let reason = ": no stop of the image has this stop_id";
+        explain(errors, &["csa: ", option, " ", stop, reason]);
     }
 }

@@ -1,5 +1,6 @@
 //! `csa build FOLDER OUT --first DAY --days N --zone ZONE [--strict] [--progress]`.
 
+use crate::explaining::{explain, explain_refused, reason_of};
 use crate::planning::{PlanFailure, plan_of};
 use crate::progress::{ToldFiles, load_told};
 use crate::refusal::refuse_feed;
@@ -20,8 +21,8 @@ enum Failure<'a> {
     Refused(LoadFault),
     /// The file at the path can't be read.
     Unreadable(&'a str),
-    /// The file at the path can't be written.
-    Unwritable(&'a str),
+    /// The file at the path can't be written, for this reason.
+    Unwritable(&'a str, &'static str),
     OutOfMemory,
 }
 
@@ -41,8 +42,9 @@ impl<'a> From<PlanFailure<'a>> for Failure<'a> {
     }
 }
 
-/// Makes the image of the folder's feed, writes it, and prints what was counted; or tells the first thing that is wrong. The file
-/// is written only where nothing was. Where that is asked for, or `errors` is a terminal, it is told there what is done.
+/// Builds the image of the folder's feed, writes it, and prints its counts; or reports the first thing that is wrong.
+/// The file is written only where nothing was. Warnings and explanations go to `errors`, and so does progress, where it
+/// is asked for or where that is a terminal.
 pub fn run<H: Files + RandomSource + AllocGlobal, O: Write, E: Write>(
     rt: &H,
     request: BuildRequest<'_>,
@@ -51,16 +53,25 @@ pub fn run<H: Files + RandomSource + AllocGlobal, O: Write, E: Write>(
     is_terminal: bool,
 ) -> u8 {
     let alloc = rt.alloc();
+    let folder = request.folder;
     let log = if request.progress || is_terminal {
         Some(&mut *errors)
     } else {
         None
     };
     match build(rt, request, log) {
-        Ok(report) => status::write_line(output, counts(alloc, &report), status::ACCEPTED),
-        Err(Failure::Refused(fault)) => refuse_feed(alloc, output, fault),
-        Err(Failure::Unreadable(path)) => status::tell_unreadable(alloc, errors, path),
-        Err(Failure::Unwritable(path)) => status::tell_unwritable(alloc, errors, path),
+        Ok(report) => {
+            warn(&report, errors);
+            status::write_line(output, counts(alloc, &report), status::ACCEPTED)
+        }
+        Err(Failure::Refused(fault)) => {
+            explain_refused(rt, folder, &fault, errors);
+            refuse_feed(alloc, output, fault)
+        }
+        Err(Failure::Unreadable(path)) => status::tell_unread(rt, errors, path),
+        Err(Failure::Unwritable(path, reason)) => {
+            status::tell_unwritten(alloc, errors, path, reason)
+        }
         Err(Failure::OutOfMemory) => status::OUT_OF_MEMORY,
     }
 }
@@ -82,7 +93,21 @@ fn build<'a, H: Files + RandomSource + AllocGlobal, E: Write>(
 fn write_failure<'a>(error: &io::Error, path: &'a str) -> Failure<'a> {
     match error.kind() {
         ErrorKind::OutOfMemory => Failure::OutOfMemory,
-        _ => Failure::Unwritable(path),
+        kind => Failure::Unwritable(path, reason_of(kind)),
+    }
+}
+
+/// Warns of an image that answers nothing, and of transfers that it doesn't have.
+fn warn<E: Write>(report: &Report, errors: &mut E) {
+    if report.runs == 0 {
+        let line = "csa: warning: no trip runs on these days, so no query has a departure";
+        explain(errors, &[line]);
+    }
+    if report.skipped > 0 {
+        let line =
+            "csa: warning: rows of transfers.txt were left out (`skipped`): between trips or routes, \
+or of a transfer_type beyond 0 to 3; a change there may need more time than answers give it";
+        explain(errors, &[line]);
     }
 }
 

@@ -4,6 +4,7 @@
 mod asked;
 mod bases;
 mod build;
+mod explaining;
 mod journey;
 mod machine;
 mod naming;
@@ -25,6 +26,7 @@ mod verify;
 mod writing;
 
 use crate::asked::{Asked, answer};
+use crate::explaining::explain;
 pub use crate::machine::Machine;
 use command_line::{Unread, read};
 use command_requests::Request;
@@ -37,9 +39,24 @@ use std::net::{Net, TcpListener, TcpStream};
 ///
 /// What a command finds goes to `output`, what is wrong with the command line or with a file to `errors`. The status is 0 for an
 /// accepted request, 2 for a refused one and for a server of which a session had too many requests, 3 where a file can't be read or
-/// written, a line can't be written, or a socket or a session fails, 4 for want of memory, and 64 for a command line that asks for
-/// nothing. Where `errors` is a terminal, what takes long also tells there what is done.
+/// written, a line can't be written, or a socket or a session fails, 4 where memory ran out, which is also said in `errors`, and 64
+/// for a command line that asks for nothing. Where `errors` is a terminal, progress is shown there.
 pub fn run<
+    H: Machine + Net<Listener = TcpListener, Stream = TcpStream>,
+    S: AsStr,
+    I: Read,
+    O: Write,
+    E: Write + Send,
+>(rt: &H, words: &[S], input: &mut I, output: &mut O, errors: &mut E, is_terminal: bool) -> u8 {
+    let status = run_command(rt, words, input, output, errors, is_terminal);
+    if status == status::OUT_OF_MEMORY {
+        explain(errors, &["csa: out of memory"]);
+    }
+    status
+}
+
+// Runs the command; the status says where memory ran out.
+fn run_command<
     H: Machine + Net<Listener = TcpListener, Stream = TcpStream>,
     S: AsStr,
     I: Read,
@@ -51,7 +68,7 @@ pub fn run<
         Ok(Request::Journey(request)) => answer(rt, Asked::Journey(request), input, output, errors),
         Ok(Request::Profile(request)) => answer(rt, Asked::Profile(request), input, output, errors),
         Ok(Request::Stops(request)) => answer(rt, Asked::Stops(request), input, output, errors),
-        Ok(Request::Tables(folder)) => tables::run(rt, folder, output),
+        Ok(Request::Tables(folder)) => tables::run(rt, folder, output, errors),
         Ok(Request::Build(request)) => build::run(rt, request, output, errors, is_terminal),
         Ok(Request::Upgrade(request)) => answer(rt, Asked::Upgrade(request), input, output, errors),
         Ok(Request::Serve(request)) => serve::run(rt, request, input, output, errors),

@@ -26,7 +26,7 @@ pub fn open_image<H: Files + AllocGlobal, I: Read, O: Write, E: Write>(
             return Err(status::tell_refusal(rt.alloc(), output, &Refusal::OddLength));
         }
         Err(ImageFileFault::Unreadable) => {
-            return Err(status::tell_unreadable(rt.alloc(), errors, path));
+            return Err(status::tell_unread(rt, errors, path));
         }
         Err(ImageFileFault::OutOfMemory) => return Err(status::OUT_OF_MEMORY),
     };

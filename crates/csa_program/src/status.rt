@@ -1,11 +1,13 @@
 //! Exit statuses, and what is written with them.
 
+use crate::explaining::unread_reason;
 use crate::refusal::Refusal;
 pub use command_requests::statuses::{
     ACCEPTED, COMMAND_LINE, INPUT_OUTPUT, OUT_OF_MEMORY, REFUSED,
 };
 use std::alloc::{AllocError, Global};
 use std::io::Write;
+use std::rt::Files;
 
 /// Writes the text; the status, or that of a failed write.
 pub fn write_text<W: Write>(writer: &mut W, text: &str, status: u8) -> u8 {
@@ -33,6 +35,17 @@ pub fn tell_unreadable<E: Write>(alloc: Global, errors: &mut E, path: &str) -> u
     file_failed(alloc, errors, path, "read")
 }
 
+/// Reports a file that can't be read, with the system's reason.
+pub fn tell_unread<H: Files + AllocGlobal, E: Write>(rt: &H, errors: &mut E, path: &str) -> u8 {
+    let reason = unread_reason(rt, path);
+    file_failed_since(rt.alloc(), errors, path, "read", reason)
+}
+
+/// Reports a file that can't be written, with the system's reason.
+pub fn tell_unwritten<E: Write>(alloc: Global, errors: &mut E, path: &str, reason: &str) -> u8 {
+    file_failed_since(alloc, errors, path, "written", reason)
+}
+
 /// Tells of a file that can't be written.
 pub fn tell_unwritable<E: Write>(alloc: Global, errors: &mut E, path: &str) -> u8 {
     file_failed(alloc, errors, path, "written")
@@ -43,6 +56,21 @@ fn file_failed<E: Write>(alloc: Global, errors: &mut E, path: &str, what: &str) 
     write_line(
         errors,
         format!(in alloc; "csa: {path} can't be {what}\n"),
+        INPUT_OUTPUT,
+    )
+}
+
+// Reports what can't be done to a file, and why.
+fn file_failed_since<E: Write>(
+    alloc: Global,
+    errors: &mut E,
+    path: &str,
+    what: &str,
+    reason: &str,
+) -> u8 {
+    write_line(
+        errors,
+        format!(in alloc; "csa: {path} can't be {what}: {reason}\n"),
         INPUT_OUTPUT,
     )
 }

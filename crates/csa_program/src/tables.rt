@@ -1,5 +1,6 @@
 //! `csa tables FOLDER`.
 
+use crate::explaining::explain_refused;
 use crate::refusal::refuse_feed;
 use crate::status;
 use feed_files::{FolderFiles, read_tables};
@@ -11,15 +12,19 @@ use std::random::RandomSource;
 use std::rt::Files;
 
 /// Reads and joins the tables of the folder's files, and prints how many records each has, or the first thing that is wrong.
-pub fn run<H: Files + RandomSource + AllocGlobal, O: Write>(
+pub fn run<H: Files + RandomSource + AllocGlobal, O: Write, E: Write>(
     rt: &H,
     folder: &str,
     output: &mut O,
+    errors: &mut E,
 ) -> u8 {
     let alloc = rt.alloc();
     match count_records(rt, folder) {
         Ok(line) => status::write_line(output, line, status::ACCEPTED),
-        Err(fault) => refuse_feed(alloc, output, fault),
+        Err(fault) => {
+            explain_refused(rt, folder, &fault, errors);
+            refuse_feed(alloc, output, fault)
+        }
     }
 }
 

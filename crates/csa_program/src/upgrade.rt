@@ -5,6 +5,7 @@ ghost use Rattle.image_layout.specs.declared.layout.TheConstants.{LAYOUT};
 ghost use Rattle.image_layout.specs.Fields.{layout_of};
 ghost use Rattle.image_layout.specs.Image.{IsImage};
 
+use crate::explaining::reason_of;
 use crate::status;
 use crate::verify::counts;
 use crate::writing::put_image;
@@ -30,12 +31,12 @@ pub fn run<H: Files + AllocGlobal, O: Write, E: Write>(
         Ok(()) => status::write_line(output, counts(rt.alloc(), image), status::ACCEPTED),
         Err(error) => match error.kind() {
             ErrorKind::OutOfMemory => status::OUT_OF_MEMORY,
-            _ => status::tell_unwritable(rt.alloc(), errors, request.out),
+            kind => { status::tell_unwritten(rt.alloc(), errors, request.out, reason_of(kind)) }
         },
     }
 }
 
-/// The image of the same timetable and names in the layout that is written. Want of memory is the one error.
+/// The image of the same timetable and names in the layout that is written. Running out of memory is the only error.
 fn upgraded(alloc: Global, image: &Verified) -> Result<Vec<u32>, AllocError>
     ensures image { IfOk result (λ words. IsImage words.items image.now.timetable image.now.names) }
     ensures layout { IfOk result (λ words. layout_of words.items ≡ LAYOUT) }

@@ -45,7 +45,15 @@ run build base_feed built.csa --first 99991231 --days 2 --zone fixed:0
 answers refused 22 DayOutOfRange
 holds built.csa
 run build base_feed no_such_folder/built.csa --first 20240115 --days 1 --zone fixed:0
-complains 3
+tells csa: no_such_folder/built.csa can't be written: no such file or folder
+ends 3
+
+# A transfer that is left out, with a warning.
+rows base_feed/transfers.txt from_stop_id,to_stop_id,transfer_type,min_transfer_time | B,B,4,600
+run build base_feed built.csa --first 20240115 --days 1 --zone fixed:0
+tells csa: warning: rows of transfers.txt were left out (`skipped`): between trips or routes, or of a transfer_type beyond 0 to 3; a change there may need more time than answers give it
+answers stops 3 runs 2 connections 3 footpaths 3 lifted 0 flex 0 frequencies 0 skipped 1
+remove base_feed/transfers.txt
 
 # A trip that repeats every twenty minutes until before ten.
 rows base_feed/frequencies.txt trip_id,start_time,end_time,headway_secs | T1,09:00:00,10:00:00,1200
@@ -126,6 +134,7 @@ rows feed/trips.txt service_id,trip_id
 rows feed/stop_times.txt trip_id,arrival_time,departure_time,stop_id,stop_sequence
 rows feed/transfers.txt from_stop_id,to_stop_id,transfer_type,min_transfer_time
 run build feed feed.csa --first 20240115 --days 1 --zone fixed:0
+tells csa: warning: no trip runs on these days, so no query has a departure
 answers stops 2 runs 0 connections 0 footpaths 4 lifted 0 flex 0 frequencies 0 skipped 0
 run profile feed.csa --from P --to Q --after 00:00:00 --until 01:00:00 --by 01:00:00 --criterion arrival
 answers points 0 read 0 walk 120
@@ -133,6 +142,7 @@ run profile feed.csa --from Q --to P --after 00:00:00 --until 01:00:00 --by 01:0
 answers points 0 read 0 walk 120
 rows feed/transfers.txt from_stop_id,to_stop_id,transfer_type,min_transfer_time | S,S,2,180
 run build feed feed.csa --first 20240115 --days 1 --zone fixed:0
+tells csa: warning: no trip runs on these days, so no query has a departure
 answers stops 2 runs 0 connections 0 footpaths 4 lifted 0 flex 0 frequencies 0 skipped 0
 run profile feed.csa --from P --to Q --after 00:00:00 --until 01:00:00 --by 01:00:00 --criterion arrival
 answers points 0 read 0 walk 180
@@ -140,6 +150,7 @@ run profile feed.csa --from Q --to P --after 00:00:00 --until 01:00:00 --by 01:0
 answers points 0 read 0 walk 180
 rows feed/transfers.txt from_stop_id,to_stop_id,transfer_type,min_transfer_time | S,S,2,180 | P,Q,3,
 run build feed feed.csa --first 20240115 --days 1 --zone fixed:0
+tells csa: warning: no trip runs on these days, so no query has a departure
 answers stops 2 runs 0 connections 0 footpaths 3 lifted 0 flex 0 frequencies 0 skipped 0
 run profile feed.csa --from P --to Q --after 00:00:00 --until 01:00:00 --by 01:00:00 --criterion arrival
 answers points 0 read 0 walk none
@@ -150,13 +161,16 @@ remove feed
 
 # The zone is judged before the folder is looked at; a zone file that can't be read is told too.
 run build no_such_feed none.csa --first 20240115 --days 1 --zone fixed:0
+tells csa: no_such_feed: no such file or folder
 answers refused 1 MissingFile agency.txt 0
 run build no_such_feed none.csa --first 20240115 --days 1 --zone fixed:-86399
+tells csa: no_such_feed: no such file or folder
 answers refused 1 MissingFile agency.txt 0
 run build no_such_feed none.csa --first 20240115 --days 1 --zone posix:CET
 answers refused 21 BadZone
 run build no_such_feed none.csa --first 20240115 --days 1 --zone file:no_such_zone
-complains 3
+tells csa: no_such_zone can't be read: no such file or folder
+ends 3
 
 # A feed's file that can't be read is told with status 3; what is refused is told before the file that can't be written.
 folder unread
@@ -191,6 +205,7 @@ rows east/trips.txt service_id,trip_id
 rows east/stop_times.txt trip_id,arrival_time,departure_time,stop_id,stop_sequence
 rows east/calendar_dates.txt service_id,date,exception_type
 run build east east.csa --first 20240115 --days 1 --zone file:zone_file
+tells csa: warning: no trip runs on these days, so no query has a departure
 answers stops 1 runs 0 connections 0 footpaths 1 lifted 0 flex 0 frequencies 0 skipped 0
 image 1346458435 2 1 0 0 1 1 1705273200 0 0 1 0 0 0 1 65
 holds east.csa

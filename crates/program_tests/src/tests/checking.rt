@@ -80,7 +80,12 @@ judge A C 07:00:00 09:00:00 10:00:00 ride 0 0 walk 1 1 0 ride 2 2 | refused 89 N
 sample
 judge A C 07:00:00 06:00:00 10:00:00 no journey | refused 33 BadWindow
 judge A A 07:00:00 09:00:00 10:00:00 no journey | refused 32 SameStop
-judge A D 07:00:00 09:00:00 10:00:00 no journey | refused 31 UnknownStop
+run journey - 'no journey' --from A --to D --after 07:00:00 --until 09:00:00 --by 10:00:00
+tells csa: --to D: no stop of the image has this stop_id
+answers refused 31 UnknownStop
+run journey - 'no journey' --from d --to C --after 07:00:00 --until 09:00:00 --by 10:00:00
+tells csa: --from d: no stop of the image has this stop_id
+answers refused 31 UnknownStop
 run journey - 'no journey' --from A --to D --after 07:00:00 --until 9:0:0 --by 10:00:00
 complains 64
 ";

@@ -14,7 +14,13 @@ complains 64
 run fly -
 complains 64
 run verify no/such/file
-complains 3
+tells csa: no/such/file can't be read: no such file or folder
+ends 3
+folder a_folder
+run verify a_folder
+tells csa: a_folder can't be read: it is a folder
+ends 3
+remove a_folder
 run tables
 complains 64
 run tables folder more
@@ -39,6 +45,14 @@ run tables --help
 helps
 run build --help
 helps
+run stops --help
+helps
+run upgrade --help
+helps
+run serve --help
+helps
+run --version
+answers csa 1.0.0
 
 # Days, dates and zones of a wrong form.
 run build no_such_feed none.csa --first 20240115 --days 0 --zone fixed:0

@@ -139,7 +139,17 @@ rows base_feed/stops.txt stop_id | A | B | C
 remove base_feed/calendar.txt
 answers refused 1 MissingFile calendar.txt 0
 remove base_feed
+tells csa: base_feed: no such file or folder
 answers refused 1 MissingFile agency.txt 0
+rows base_feed no folder
+tells csa: base_feed: not a folder
+answers refused 1 MissingFile agency.txt 0
+remove base_feed
+rows feed.zip no folder
+run tables feed.zip
+tells csa: feed.zip: a zip file: unpack it, and name the folder
+answers refused 1 MissingFile agency.txt 0
+remove feed.zip
 ";
 
 #[test]
