@@ -32,8 +32,10 @@ pub fn load_told<F: FeedFiles, W: Write>(
     ensures failures { F.failures files.new.files ≡ F.failures files.old.files + failed_in result }
     ensures failed { F.failed files.new.files ≡ failed_by (F.failed files.old.files) result }
     ensures layout { IfOk result (λ loaded. loaded.0.layout ≡ LAYOUT) }
-    ensures ok { (content : Content) → Tells (F.holds files.old.files) content → IfOk result (λ loaded. IsLoaded content plan.now loaded.0.timetable loaded.0.names loaded.1) }
-    ensures err { (content : Content) → Tells (F.holds files.old.files) content → IfErr result (λ fault. ¬ (IsWantOfMemory fault) → IsLoadRefusal content plan.now fault) }
+    ensures ok { (content : Content) → Tells (F.holds files.old.files) content →
+        IfOk result (λ loaded. IsLoaded content plan.now loaded.0.timetable loaded.0.names loaded.1) }
+    ensures err { (content : Content) → Tells (F.holds files.old.files) content →
+        IfErr result (λ fault. ¬ (IsWantOfMemory fault) → IsLoadRefusal content plan.now fault) }
 {
     let loaded = load(alloc, files, plan);
     if loaded.is_ok() {
