@@ -1,5 +1,6 @@
 -- How a session and an order end.
-use Rattle.std.proofs.Common.{◌≡◌, ◌<◌, ◌∷◌, ◌++◌, ℕ, List, [], Option, Result, refl, sym, subst, inl}
+use Rattle.std.proofs.Common.{◌≡◌, ◌∙◌, ◌<◌, ◌∷◌, ◌++◌, ℕ, List, [], Option, Result, refl, sym, subst, ap, inl}
+use Rattle.std.proofs.lemmas.List.{append_assoc, append-nil}
 use Rattle.epochs.specs.Seats.{SeatValue}
 use Rattle.epochs.specs.declared.seats.LoaderAnswer.{LoaderAnswer}
 use Rattle.orders.specs.Ordering.{OrderValue}
@@ -40,30 +41,43 @@ session_of number end result counted_to_read to_read read_then counted_contents 
 module _ {C R W : Type 0} (opens : C → Result (R × W) ConnFault → Type 0)
     (remaining : R → Option (List ℕ)) (contents : W → Option (List ℕ)) (number : ℕ) where
   -- one client more is served behind the others
-  pub served_also : (ends : List End) (end : End) (client : C) (now : Option (Streams R W)) (a m b : SeatValue)
+  pub served_also : (clients : List C) (ends : List End) (end : End) (client : C) (now : Option (Streams R W)) (a m b : SeatValue)
       (asked between asked_then : List OrderValue)
-      → AreServed opens remaining contents number ends a asked m between
+      → AreServed opens remaining contents number clients ends a asked m between
       → IsServed opens remaining contents number client now end m between b asked_then
-      → AreServed opens remaining contents number (ends ++ end ∷ []) a asked b asked_then
-  served_also [] end client now a m b asked between asked_then before also =
+      → AreServed opens remaining contents number (clients ++ client ∷ []) (ends ++ end ∷ []) a asked b asked_then
+  served_also [] [] end client now a m b asked between asked_then before also =
       let from_seat = subst (λ seat. IsServed opens remaining contents number client now end seat between b asked_then) before.0 also in
       let from_both = subst (λ orders. IsServed opens remaining contents number client now end a orders b asked_then) before.1 from_seat in
-      (client, now, b, asked_then, from_both, (refl, refl))
-  served_also (first ∷ ends) end client now a m b asked between asked_then before also =
-      let rest = served_also ends end client now before.2 m b before.3 between asked_then before.5 also in
-      (before.0, before.1, before.2, before.3, before.4, rest)
+      (now, b, asked_then, from_both, (refl, refl))
+  served_also [] (first ∷ ends) end client now a m b asked between asked_then before also = absurd before
+  served_also (c ∷ clients) [] end client now a m b asked between asked_then before also = absurd before
+  served_also (c ∷ clients) (first ∷ ends) end client now a m b asked between asked_then before also =
+      let rest = served_also clients ends end client now before.1 m b before.2 between asked_then before.4 also in
+      (before.0, before.1, before.2, before.3, rest)
 
-  -- and the ends are those from before with its own
-  pub served_next : (number_then : ℕ) (ends ends_then : List End) (client : C) (now : Option (Streams R W)) (a m b : SeatValue)
-      (asked between asked_then : List OrderValue)
-      → number_then ≡ number → AreServed opens remaining contents number ends a asked m between
+  -- the clients that a worker took since it had taken those are served so
+  abbrev pub Serving : List C → List C → List End → SeatValue → List OrderValue → SeatValue → List OrderValue → Type 0
+  Serving had has ends a asked b asked_then =
+      (taken : List C) × (has ≡ had ++ taken) × AreServed opens remaining contents number taken ends a asked b asked_then
+
+  pub serves_none : (had : List C) (a : SeatValue) (asked : List OrderValue) → Serving had had [] a asked a asked
+  serves_none had a asked = ([], sym (append-nil had), (refl, refl))
+
+  -- and one more, whom it takes and serves
+  pub serves_next : (number_then : ℕ) (had has has_then : List C) (ends ends_then : List End) (client : C) (now : Option (Streams R W))
+      (a m b : SeatValue) (asked between asked_then : List OrderValue)
+      → number_then ≡ number → Serving had has ends a asked m between → has_then ≡ has ++ client ∷ []
       → ((end : End) × (ends_then ≡ ends ++ end ∷ [])
       × IsServed opens remaining contents number_then client now end m between b asked_then)
-      → AreServed opens remaining contents number ends_then a asked b asked_then
-  served_next number_then ends ends_then client now a m b asked between asked_then same before also =
+      → Serving had has_then ends_then a asked b asked_then
+  serves_next number_then had has has_then ends ends_then client now a m b asked between asked_then same before takes also =
       let one = subst (λ n. IsServed opens remaining contents n client now also.0 m between b asked_then) same also.2 in
-      let all = served_also ends also.0 client now a m b asked between asked_then before one in
-      subst (λ list. AreServed opens remaining contents number list a asked b asked_then) (sym also.1) all
+      let all = served_also before.0 ends also.0 client now a m b asked between asked_then before.2 one in (
+        before.0 ++ client ∷ [],
+        takes ∙ ap (λ clients. clients ++ client ∷ []) before.1 ∙ append_assoc had before.0 (client ∷ []),
+        subst (λ list. AreServed opens remaining contents number (before.0 ++ client ∷ []) list a asked b asked_then) (sym also.1) all,
+      )
 
 -- what is told before a publish was tried leaves the loader's seat as it was
 pub not_published : (answers : List LoaderAnswer) (refusal : LoadRefusal) → IsEarly refusal → IsNotPublished answers refusal answers

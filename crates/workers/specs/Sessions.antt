@@ -1,5 +1,5 @@
 -- What clients' sessions do.
-use Rattle.std.specs.Prelude.{◌≡◌, ◌<◌, ◌∷◌, ℕ, Option, Some, None, List, [], Result, Ok, Err}
+use Rattle.std.specs.Prelude.{◌≡◌, ◌<◌, ◌++◌, ◌∷◌, ℕ, Option, Some, None, List, [], Result, Ok, Err}
 use Rattle.epochs.specs.Seats.{SeatValue}
 use Rattle.lines.specs.Counting.{failures_of, inner_of}
 use Rattle.orders.specs.Ordering.{OrderValue}
@@ -36,9 +36,21 @@ module _ {C R W : Type 0} (opens : C → Result (R × W) ConnFault → Type 0) (
       (0 < failures_of now.reader) (0 < failures_of now.writer) a asked b asked_then
   IsServed number client None end a asked b asked_then = (fault : ConnFault) × opens client (Err fault) × IsUnopened end a asked b asked_then
 
-  -- clients are served at this seat one after the other, and their sessions end so
-  abbrev pub AreServed : ℕ → List End → SeatValue → List OrderValue → SeatValue → List OrderValue → Type 0
-  AreServed number [] a asked b asked_then = (b ≡ a) × (asked_then ≡ asked)
-  AreServed number (end ∷ ends) a asked b asked_then =
-      (client : C) × (now : Option (Streams R W)) × (m : SeatValue) × (between : List OrderValue)
-      × IsServed number client now end a asked m between × AreServed number ends m between b asked_then
+  -- the clients are served at this seat one after the other, and the session of each ends so
+  abbrev pub AreServed : ℕ → List C → List End → SeatValue → List OrderValue → SeatValue → List OrderValue → Type 0
+  AreServed number [] [] a asked b asked_then = (b ≡ a) × (asked_then ≡ asked)
+  AreServed number (client ∷ clients) (end ∷ ends) a asked b asked_then =
+      (now : Option (Streams R W)) × (m : SeatValue) × (between : List OrderValue)
+      × IsServed number client now end a asked m between × AreServed number clients ends m between b asked_then
+  AreServed _ _ _ _ _ _ _ = ⊥
+
+  -- a worker's share: these are the ends of its clients' sessions at its seat, from this value of the seat and with no order put before
+  abbrev pub IsShare : ℕ → SeatValue → List End → Type 0
+  IsShare number a ends = (clients : List C) × (b : SeatValue) × (asked : List OrderValue) × AreServed number clients ends a [] b asked
+
+  -- the ends are the workers' shares, one for each of the seats, one behind the other
+  abbrev pub AreShares : {S : Type 0} → (S → ℕ) → (S → SeatValue) → List S → List End → Type 0
+  AreShares number_of value_of [] ends = ends ≡ []
+  AreShares number_of value_of (seat ∷ seats) ends =
+      (share : List End) × (rest : List End) × (ends ≡ share ++ rest)
+      × IsShare (number_of seat) (value_of seat) share × AreShares number_of value_of seats rest

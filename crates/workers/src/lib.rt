@@ -1,6 +1,7 @@
 //! Workers that serve sessions at once, each at a seat of its own, and the one loader beside them.
 #![tactic(auto)]
 
+mod arrivals;
 mod carrying;
 mod clients;
 mod feeds;
@@ -10,6 +11,7 @@ mod refusal;
 mod running;
 mod served;
 mod serving;
+mod shares;
 
 pub use clients::{Client, Clients, ConnFault};
 pub use feeds::Feeds;

@@ -2,12 +2,15 @@
 
 ghost use denote.Param.Send.{IsSend, IsSync};
 ghost use Rattle.std.specs.Prelude.{◌≤◌, All, length, IfOk};
+ghost use Rattle.workers.specs.Sessions.{AreShares, IsShare};
 
+use crate::arrivals::Arrivals;
 use crate::carrying::load_all;
 use crate::clients::{Client, Clients};
 use crate::feeds::Feeds;
 use crate::served::Served;
 use crate::serving::Worker;
+use crate::shares::{ShareAt, join_workers};
 use crossbeam_channel::Sender;
 use epochs::{Loads, Versions};
 use feed_loader::FeedFiles;
@@ -32,9 +35,9 @@ impl From<AllocError> for WorkersFault {
     }
 }
 
-/// Serves all clients, with a worker for each seat, and loads the feeds that they order; what came of a load is told to the
-/// error writer, and to whoever waits for it. It returns when there are no more clients, all sessions have ended, and all orders
-/// were carried out; who asked for clients comes back.
+/// Serves all clients, with a worker for each seat, and loads the feeds that they order. What came of a load is written
+/// to the error writer, and goes to whoever waits for it. It returns when there are no more clients, all sessions have
+/// ended, and all orders were carried out: how the sessions ended, seat after seat, and the clients' source.
 pub fn run_workers<
     I: Read + Send + Drop,
     O: Write + Send + Drop,
@@ -64,7 +67,9 @@ pub fn run_workers<
     requires loader { T.Loads.loads shelves.now loader }
     requires some { 1 ≤ length seats.items }
     requires few { length seats.items ≤ 16 }
-    ensures { IfOk result (λ served. K.none_left served.1) }
+    ensures none_left { IfOk result (λ served. K.none_left served.1) }
+    ensures shares { IfOk result (λ served.
+        AreShares C.opens I.remaining O.contents T.number T.value seats.items served.0) }
 {
     let (to, from) = crossbeam_channel::bounded(alloc, 1)?;
     let (mut asks, orders) = order_queue(alloc)?;
@@ -75,7 +80,9 @@ pub fn run_workers<
             requires { IsSync R.row × IsSync T.row × IsSync F.row × IsSync G.row × IsSend S.row × IsSend L.row × IsSend N.row
                 × IsSend C.row × IsSend I.row × IsSend O.row × IsSend D.row × IsSend E.row
                 × All (T.Versions.fits shelves.now) seats.items × T.Loads.loads shelves.now loader }
-            ensures { IfOk result (λ served. K.none_left served.1) }
+            ensures none_left { IfOk result (λ served. K.none_left served.1) }
+            ensures shares { IfOk result (λ served.
+                AreShares C.opens I.remaining O.contents T.number T.value seats.items served.0) }
         {
             let Ok(loading) = scope.spawn(
                 move || -> ()
@@ -90,9 +97,11 @@ pub fn run_workers<
             for seat in seats {
                 let mine = from.clone()?;
                 let end = asks.another()?;
-                match scope.spawn(
+                match scope.spawn_with(
+                    ShareAt::<C, T>::of(&seat),
                     move || -> Served
                         requires { T.Versions.fits shelves.now seat }
+                        ensures { IsShare C.opens I.remaining O.contents (T.number seat) (T.value seat) result }
                     {
                         let desk = Desk {
                             rt,
@@ -101,23 +110,21 @@ pub fn run_workers<
                             gate,
                         };
                         let orders = WorkerOrders::new(alloc, feeds.names(), shelves, end);
-                        Worker { desk }.work(mine, seat, orders).0
+                        let mut arrivals = Arrivals::of(mine);
+                        Worker { desk }.work(&mut arrivals, seat, orders).0
                     },
                 ) {
                     Ok(worker) => {
-                        if workers.push(worker).is_err() {
+                        let Ok(()) = workers.push(worker) else {
                             return Err(WorkersFault);
-                        }
+                        };
                     }
                     Err(_) => return Err(WorkersFault),
                 }
             }
             drop(from);
             let clients = send_all(rt, clients, to);
-            let mut served = Served::new();
-            for worker in workers {
-                served.join(worker.join(rt));
-            }
+            let served = join_workers(rt, workers);
             // No order is refused for want of a loader before all sessions have ended.
             drop(asks);
             loading.join(rt);

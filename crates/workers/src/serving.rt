@@ -1,13 +1,13 @@
 //! A worker: client after client on its seat.
 
-ghost use Rattle.std.specs.Prelude.{◌≡◌, ◌∷◌, ◌++◌, [], None};
+ghost use Rattle.std.specs.Prelude.{◌≡◌, ◌∷◌, ◌++◌, [], List, None};
 ghost use Rattle.session.specs.Turns.{AgreeOnNotices};
 ghost use Rattle.workers.specs.Sessions.{AreServed, IsServed};
 ghost use Rattle.workers.specs.declared.served.End.{End};
 
+use crate::arrivals::Arrivals;
 use crate::clients::{Client, ConnFault};
 use crate::served::{End, Served, end_of};
-use crossbeam_channel::Receiver;
 use epochs::Versions;
 use orders::{Gate, Orders};
 use session::{Desk, Streams};
@@ -51,20 +51,23 @@ impl<'a, R: Wait, N: Drop, T: Versions<Notice = N>, G: Gate> Worker<'a, R, T, G>
         }
     }
 
-    /// Serves clients until there are no more: how their sessions ended, in turn. The seat and the orders come back.
+    /// Serves each client that it takes, until no more come: how their sessions ended, in turn, the seat, and the
+    /// orders.
     pub(crate) fn work<C: Client + Drop, O: Orders<Notice = N>>(
         &self,
-        clients: Receiver<C>,
+        clients: &mut Arrivals<C>,
         mut seat: T::Seat,
         mut orders: O,
     ) -> (Served, T::Seat, O)
         requires fits { T.fits self.now.desk.shelves.now seat }
         requires notices { AgreeOnNotices O.told T.noted }
-        ensures { AreServed C.opens C.Reader.remaining C.Writer.contents (T.number seat) result.0 (T.value seat) (O.asked orders) (T.value result.1) (O.asked result.2) }
+        ensures { (taken : List C) × (clients.new ≡ clients.old ++ taken)
+            × AreServed C.opens C.Reader.remaining C.Writer.contents (T.number seat) taken result.0
+            (T.value seat) (O.asked orders) (T.value result.1) (O.asked result.2) }
     {
         let mut served = Served::new();
         for _ in self.desk.rt.forever() {
-            let Ok(client) = clients.recv(self.desk.rt) else {
+            let Some(client) = clients.next(self.desk.rt) else {
                 break;
             };
             drop(self.serve_client(client, &mut seat, &mut orders, &mut served));

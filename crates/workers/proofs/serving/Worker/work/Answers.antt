@@ -1,5 +1,5 @@
 use Rattle.std.proofs.Common.{◌∙◌}
-use Rattle.workers.proofs.Ending.{served_next}
+use Rattle.workers.proofs.Ending.{serves_next}
 use Rattle.workers.proofs.serving.Worker.work.Goals as goal
 
 pub loop-preserved : goal.loop-preserved
@@ -13,8 +13,9 @@ loop-preserved g c =
       finite = tt;
       fits = one.ensures.fits;
       number = one.ensures.number ∙ was.number;
-      served = served_next g.C.Client.opens g.C.Reader.Read.remaining g.C.Writer.Write.contents
-          (g.T.Versions.number c.args.seat) (g.T.Versions.number c.loop.seat) c.loop.served one.new.served c.in-Ok.client one.result
+      served = serves_next g.C.Client.opens g.C.Reader.Read.remaining g.C.Writer.Write.contents
+          (g.T.Versions.number c.args.seat) (g.T.Versions.number c.loop.seat) _ _ _
+          c.loop.served one.new.served c.in-Some-next.client one.result
           (value c.args.seat) (value c.loop.seat) (value one.new.seat)
-          (asked c.args.orders) (asked c.loop.orders) (asked one.new.orders) was.number was.served one.ensures.session;
+          (asked c.args.orders) (asked c.loop.orders) (asked one.new.orders) was.number was.served c.in-Some-next.ensures one.ensures.session;
     }

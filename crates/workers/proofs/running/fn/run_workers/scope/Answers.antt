@@ -1,23 +1,52 @@
-use Rattle.std.proofs.Common.{rules, All, ◌∷◌, suc, subst, arith}
+use Rattle.std.proofs.Common.{rules, All, ◌∷◌, ◌∙◌, suc, subst, arith, ap, length, refl}
+use Rattle.std.specs.Vec.Iter.{into_iter_items}
+use Rattle.workers.proofs.Shared.{seated_none, seated_next, seated_all}
 use mathlib.Core.Path.{sym}
+use Rattle.workers.specs.Sessions.{AreShares}
 use Rattle.workers.proofs.running.fn.run_workers.scope.Goals as goal
 
 -- the next seat is one of those that are left
-pub spawn-requires-in-loop-seat-after_bounds : goal.spawn-requires-in-loop-seat-after_bounds
-spawn-requires-in-loop-seat-after_bounds g c κs within =
+pub spawn_with-requires-clause-runs : goal.spawn_with-requires-clause-runs
+spawn_with-requires-clause-runs g c =
     let left : All (g.T.Versions.fits c.captures.shelves.now) (c.in-Some.seat ∷ c.next.new.self.rest.items) =
-    subst (λ items. All (g.T.Versions.fits c.captures.shelves.now) items) c.in-Some.ensures.steps.0 c.loop-seat.invariant.2 in
+    subst (λ items. All (g.T.Versions.fits c.captures.shelves.now) items) c.in-Some.ensures.steps.0 c.loop-seat.invariant.fit in
     let fits : g.T.Versions.fits c.captures.shelves.now c.in-Some.seat = left 0 c.in-Some.seat (omega arith) in
     search rules
 
 pub loop-seat-preserved : goal.loop-seat-preserved
 loop-seat-preserved g c =
+    let was = c.loop-seat.invariant in
+    let step = c.in-Some.ensures.steps in
     let left : All (g.T.Versions.fits c.captures.shelves.now) (c.in-Some.seat ∷ c.next.new.self.rest.items) =
-    subst (λ items. All (g.T.Versions.fits c.captures.shelves.now) items) c.in-Some.ensures.steps.0 c.loop-seat.invariant.2 in
-    (tt, tt, λ k d small. left (suc k) d (omega arith))
+    subst (λ items. All (g.T.Versions.fits c.captures.shelves.now) items) step.0 was.fit in
+    let short = ap length step.0 in
+    record {
+      next = tt;
+      finite = tt;
+      fit = λ k d small. left (suc k) d (omega arith);
+      len = omega (arith, short, step.1, was.len);
+      seated = seated_next _ _ _ _ _ _ c.in-Ok-spawn_with.worker c.in-Some.seat was.seated step.0 c.in-Ok-push.ensures.items
+          (ap (λ promise. promise.seat.value) c.in-Ok-spawn_with.ensures.ok ∙ c.of.ensures);
+    }
 
 -- all seats may be used at the shelves
 pub loop-seat-init : goal.loop-seat-init
 loop-seat-init g c =
     let all : All (g.T.Versions.fits c.captures.shelves.now) c.captures.seats.items = c.requires.12 in
-    (tt, tt, subst (λ items. All (g.T.Versions.fits c.captures.shelves.now) items) (sym c.into_iter-seat-iterator.ensures.into_iter_gives.0) all)
+    record {
+      next = tt;
+      finite = tt;
+      fit = subst (λ items. All (g.T.Versions.fits c.captures.shelves.now) items) (sym c.into_iter-seat-iterator.ensures.into_iter_gives.0) all;
+      len = search rules;
+      seated = seated_none _ _ _ c.new-workers.ensures.items;
+    }
+
+-- there was a worker at each seat, and all were joined
+pub returns : goal.returns
+returns g c =
+    let was = c.loop-seat.invariant in
+    let none = sym was.len ∙ c.in-None.ensures.steps.0 in
+    let seats = seated_all _ _ _ _ was.seated none ∙ c.into_iter-seat-iterator.ensures.into_iter_gives.0 in
+    let shares = subst (λ seats. AreShares g.C.Client.opens g.I.Read.remaining g.O.Write.contents g.T.Versions.number g.T.Versions.value
+    seats c.join_workers-served.result) seats c.join_workers-served.ensures in
+    search rules

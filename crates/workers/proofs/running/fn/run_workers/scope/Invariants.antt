@@ -1,7 +1,13 @@
-use Rattle.std.proofs.Common.{All}
+use Rattle.std.proofs.Common.{◌≡◌, ◌++◌, All, length, map}
+use Rattle.std.specs.Vec.Iter.{into_iter_items, into_iter_len}
 use Rattle.workers.proofs.running.fn.run_workers.scope.Given as goal
 
--- the seats that are left may be used at the shelves
+-- the seats that are left may be used at the shelves, and at each of the others there is a worker
 abbrev pub invariant-loop-seat : goal.invariant-loop-seat
-invariant-loop-seat g l =
-    (goal.iterator-loop-seat g).can_next l.seat-iterator × (goal.iterator-loop-seat g).is_finite l.seat-iterator × All (g.T.Versions.fits l.shelves) l.seat-iterator.rest.items
+invariant-loop-seat g l = record {
+  next : (goal.iterator-loop-seat g).can_next l.seat-iterator;
+  finite : (goal.iterator-loop-seat g).is_finite l.seat-iterator;
+  fit : All (g.T.Versions.fits l.shelves) l.seat-iterator.rest.items;
+  len : into_iter_len l.seat-iterator ≡ length (into_iter_items l.seat-iterator);
+  seated : into_iter_items l.initial.seat-iterator ≡ map (λ worker. worker.promise.seat.value) l.workers.items ++ into_iter_items l.seat-iterator;
+}

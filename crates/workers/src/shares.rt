@@ -1,0 +1,54 @@
+//! Workers' shares of what is served.
+
+ghost use Rattle.std.specs.Prelude.{◌≡◌, map};
+ghost use Rattle.workers.specs.Sessions.{AreShares};
+
+use crate::clients::Client;
+use crate::served::Served;
+use epochs::Versions;
+use std::marker::PhantomData;
+use std::snapshot::Snapshot;
+use std::thread::{Promise, PromisedHandle, Threads};
+
+/// That a worker's share is the ends of sessions at its seat, from what the seat was when the worker began.
+#[derive(Drop)]
+pub(crate) struct ShareAt<C, T: Versions> {
+    pub seat: Snapshot<T::Seat>,
+    clients: PhantomData<C>,
+}
+
+impl<C, T: Versions> ShareAt<C, T> {
+    /// At this seat, as it is now.
+    pub(crate) fn of(seat: &T::Seat) -> ShareAt<C, T>
+        ensures { result.seat.value ≡ seat.now }
+    {
+        ShareAt {
+            seat: Snapshot::of(seat),
+            clients: PhantomData,
+        }
+    }
+}
+
+impl<C: Client, T: Versions> Promise<Served> for ShareAt<C, T> {
+    ghost use Rattle.workers.specs.Sessions.{IsShare};
+
+    ghost kept_by = { λ promise share.
+        IsShare C.opens C.Reader.remaining C.Writer.contents
+        (T.number promise.seat.value) (T.value promise.seat.value) share };
+}
+
+/// Joins the workers in turn: their shares, put together.
+pub(crate) fn join_workers<C: Client, T: Versions, R: Threads>(
+    rt: &R,
+    workers: Vec<PromisedHandle<Served, ShareAt<C, T>>>,
+) -> Served
+    ensures { AreShares C.opens C.Reader.remaining C.Writer.contents T.number T.value
+        (map (λ worker. worker.promise.seat.value) workers.items) result }
+{
+    let mut served = Served::new();
+    for worker in workers {
+        let share = worker.join(rt);
+        served.join(share);
+    }
+    served
+}
