@@ -113,6 +113,7 @@ rows feed/stop_times.txt trip_id,arrival_time,departure_time,stop_id,stop_sequen
 rows feed/frequencies.txt trip_id,start_time,end_time,headway_secs | P,09:00:00,09:20:00,600 | Q,09:00:00,09:20:00,600 | R,09:00:00,09:20:00,600
 rows feed/transfers.txt from_stop_id,to_stop_id,transfer_type,min_transfer_time | A,B,4, | A,B,5, | A,B,4, | B,A,5,
 run build feed feed.csa --first 20240115 --days 1 --zone fixed:0
+tells csa: warning: rows of transfers.txt were left out (`skipped`): between trips or routes, or of a transfer_type beyond 0 to 3; a change there may need more time than answers give it
 answers stops 2 runs 7 connections 7 footpaths 2 lifted 1 flex 2 frequencies 3 skipped 4
 remove feed/frequencies.txt
 remove feed/transfers.txt
