@@ -16,7 +16,7 @@ import unittest
 from datetime import datetime, timezone
 from pathlib import Path
 
-from csa_client import CsaClient, Point, Profile, Refused, SessionEnded
+from csa_client import CsaClient, CsaError, Point, Profile, Refused, SessionEnded
 
 TOP = Path(__file__).resolve().parents[2]
 WINDOW = {"after": "07:00:00", "until": "09:00:00", "by": "10:00:00"}
@@ -55,6 +55,16 @@ class CannedServer:
 
 
 class CannedReplies(unittest.TestCase):
+    def test_pinned_releases_at_the_end_of_its_block(self) -> None:
+        talk = ('{"do": "pin"}', b'{"base":0,"ok":"pin","version":3}\n'), ('{"do": "release"}', b'{"ok":"release"}\n')
+        with self.session(*talk) as client:
+            with self.assertRaises(KeyError), client.pinned() as pinned:
+                self.assertEqual(pinned.version, 3)
+                raise KeyError("a fault in the block")
+            # the canned talk has ended: a third request finds no server
+            with self.assertRaises(CsaError):
+                client.release()
+
     def session(self, *talk: tuple[str, bytes], timeout: float = 5.0) -> CsaClient:
         server = CannedServer(*talk)
         client = CsaClient(port=server.port, timeout=timeout)
