@@ -1,5 +1,0 @@
-use Rattle.answer_tests.proofs.scripted.counting.Given as goal
-
--- the shelves that were just made
-abbrev pub ghosts-counting_at : goal.ghosts-counting_at
-ghosts-counting_at g a = record { table = a.solo.shelves }

@@ -1,5 +1,0 @@
-use Rattle.answer_tests.proofs.sessions.waited_and_pinned.Given as goal
-
--- the shelves that were just made
-abbrev pub ghosts-overtaken_at : goal.ghosts-overtaken_at
-ghosts-overtaken_at g a = record { table = a.solo.shelves }

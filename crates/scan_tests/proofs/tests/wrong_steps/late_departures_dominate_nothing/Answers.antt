@@ -1,5 +1,0 @@
-use Rattle.scan_tests.proofs.ExampleAnswers.{the_first_trip_counts}
-use Rattle.scan_tests.proofs.tests.wrong_steps.late_departures_dominate_nothing.Goals as goal
-
-pub returns : goal.returns
-returns g c = the_first_trip_counts (g.C.Criterion.rules c.args._criterion.now) c.a_start_on_foot_counts.ensures.earlier

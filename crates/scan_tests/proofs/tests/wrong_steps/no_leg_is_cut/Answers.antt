@@ -1,5 +1,0 @@
-use Rattle.scan_tests.proofs.Refutations.{leg_by_leg_is_wrong}
-use Rattle.scan_tests.proofs.tests.wrong_steps.no_leg_is_cut.Goals as goal
-
-pub returns : goal.returns
-returns c = leg_by_leg_is_wrong

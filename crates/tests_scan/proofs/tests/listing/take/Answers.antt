@@ -1,0 +1,19 @@
+use Rattle.std.proofs.Common.{◌≡◌, ◌&&◌, nat_le, nat_lt, true, [], ◌∷◌, Contains, inl, inr, subst, arith}
+use Rattle.std.proofs.lemmas.Bool.{and_from, le-leb, lt-ltb}
+use Rattle.std.proofs.lemmas.List.Elements.{Contains-push_cases}
+use Rattle.reasoning.proofs.ListLemmas.{not_in_nil}
+use Rattle.criteria.specs.Laws.{time_limit}
+use Rattle.criteria.specs.declared.arrival_trips.TimeTrips.{TimeTrips}
+use Rattle.fronts.specs.declared.entry.Ridden.{Ridden}
+use Rattle.tests_scan.proofs.tests.listing.take.Goals as goal
+
+of_one : (x r : Ridden TimeTrips) → Contains (x ∷ []) r → (nat_lt x.value.time time_limit && nat_le x.value.trips 65535) ≡ true → (nat_lt r.value.time time_limit && nat_le r.value.trips 65535) ≡ true
+of_one x r h a = elim (Contains-push_cases [] x r h) [
+  | inl none ↦ absurd (not_in_nil r none)
+  | inr e ↦ subst (λ (z : Ridden TimeTrips). (nat_lt z.value.time time_limit && nat_le z.value.trips 65535) ≡ true) e a
+]
+
+pub insert-requires-clause-ridden : goal.insert-requires-clause-ridden
+insert-requires-clause-ridden c r h =
+    of_one (record { value = record { time = c.args.time; trips = c.args.trips }; label = c.args.label }) r h
+    (and_from (nat_lt c.args.time time_limit) (nat_le c.args.trips 65535) (lt-ltb c.args.time time_limit c.requires.time) (le-leb c.args.trips 65535 (omega arith)))

@@ -1,0 +1,292 @@
+//! Seats whose steps may be asked for at any time: a step that has no place is not made.
+
+ghost use Rattle.std.specs.Prelude.{◌≡◌, ℕ, ◌<◌, [], IfSome};
+ghost use Rattle.image_layout.specs.Image.{ImageValue};
+ghost use Rattle.shelf_steps.specs.Plays.{newcomer, is_open};
+ghost use Rattle.shelf_steps.specs.Handed.{handed};
+ghost use Rattle.shelf_steps.specs.declared.views.View.{View};
+
+use crate::tests::images::Source;
+use shelf_steps::laws::{
+    close, gather, give_back, join, leave_late, look, note, open, publish, take,
+};
+use shelf_steps::{Place, ShelfTable, editions_of, fill_block, try_shelf};
+use std::alloc::AllocError;
+use std::marker::Model;
+use version_core::{MOST_VERSIONS, Shelf, Worker};
+
+/// What a seat remembers of itself, so that its steps may be asked for at any time.
+pub(crate) trait Memory {
+    ghost use Rattle.shelf_steps.specs.Plays.{Mine};
+
+    // The seat knows it so, with these slots out.
+    ghost is_so: { Self → Mine → Type 0 };
+}
+
+/// A worker remembers what it is doing.
+impl Memory for Worker {
+    ghost use Rattle.tests_version.specs.Stepping.{DoesSo};
+
+    ghost is_so = { DoesSo };
+}
+
+/// The version of a notice.
+#[derive(Drop)]
+pub(crate) struct Noted {
+    version: u64,
+}
+
+impl Memory for Noted {
+    ghost use Rattle.shelf_steps.specs.Plays.{IsNotice};
+
+    ghost is_so = { λ noted. IsNotice noted.version };
+}
+
+/// The loader remembers the current version, the newest, and what each shelf is for.
+#[derive(Drop)]
+pub(crate) struct Loaded {
+    current: u64,
+    newest: u64,
+    shelves: [Shelf; 8],
+}
+
+impl Memory for Loaded {
+    ghost use Rattle.tests_version.specs.Stepping.{RemembersSo};
+
+    ghost is_so = { λ loaded. RemembersSo loaded.current loaded.newest loaded.shelves };
+}
+
+/// A seat, and what it remembers. Contracts see the table.
+#[derive(Drop)]
+pub(crate) struct Steps<M: Memory + Drop> {
+    place: Place,
+    memory: M,
+}
+
+impl<M: Memory + Drop> Model for Steps<M> {
+    ghost use Rattle.atomic_table.specs.Seated.{TableId};
+
+    ghost Value = { TableId };
+
+    ghost view = { λ s. s.place.table };
+
+    ghost invariant = { λ s. M.is_so s.memory s.place.me };
+}
+
+pub(crate) type WorkerSteps = Steps<Worker>;
+
+/// A notice that is out.
+pub(crate) type NoticeSteps = Steps<Noted>;
+
+pub(crate) type LoaderSteps = Steps<Loaded>;
+
+impl WorkerSteps {
+    pub(crate) fn of(place: Place) -> WorkerSteps
+        requires { (n : ℕ) × (place.me ≡ (View.Working (newcomer n), [])) }
+        ensures { result ≡ place.table }
+    {
+        Steps {
+            place,
+            memory: Worker::Idle,
+        }
+    }
+
+    /// The word that was found, where the worker was idle.
+    #[tactic(auto, using(crate::proofs::Stepping::idle_now, crate::proofs::Stepping::looked_so))]
+    pub(crate) fn look(&mut self, shelves: &ShelfTable) -> Option<u64>
+        requires { self.old ≡ shelves.now }
+        ensures { self.new ≡ self.old }
+    {
+        match self.memory {
+            Worker::Idle => {
+                let word = look(shelves, &mut self.place);
+                self.memory = Worker::Looked {
+                    version: word / 8,
+                    shelf: (word % 8) as usize,
+                };
+                Some(word)
+            }
+            Worker::Looked { .. } | Worker::Late { .. } | Worker::Holding { .. } => None,
+        }
+    }
+
+    /// The version that the worker holds, or none where it is late, where it had looked at one.
+    #[tactic(auto, using(crate::proofs::Stepping::looked_now, crate::proofs::Stepping::held_so, crate::proofs::Stepping::late_so))]
+    pub(crate) fn take(&mut self, shelves: &ShelfTable) -> Option<Option<u64>>
+        requires { self.old ≡ shelves.now }
+        ensures { self.new ≡ self.old }
+    {
+        match self.memory {
+            Worker::Looked { version, shelf } => {
+                let word = take(shelves, &mut self.place, shelf);
+                if says_open(word, version) {
+                    self.memory = Worker::Holding { shelf, version };
+                    Some(Some(version))
+                } else {
+                    self.memory = Worker::Late { shelf };
+                    Some(None)
+                }
+            }
+            Worker::Idle | Worker::Late { .. } | Worker::Holding { .. } => None,
+        }
+    }
+
+    /// Whether the worker was at a shelf, which it has left.
+    #[tactic(auto, using(crate::proofs::Stepping::late_now, crate::proofs::Stepping::left_so, crate::proofs::Stepping::holding_now, crate::proofs::Stepping::given_so))]
+    pub(crate) fn leave(&mut self, shelves: &ShelfTable) -> bool
+        requires { self.old ≡ shelves.now }
+        ensures { self.new ≡ self.old }
+    {
+        match self.memory {
+            Worker::Late { shelf } => {
+                leave_late(shelves, &mut self.place, shelf);
+                self.memory = Worker::Idle;
+                true
+            }
+            Worker::Holding { shelf, version: _ } => {
+                give_back(shelves, &mut self.place, shelf);
+                self.memory = Worker::Idle;
+                true
+            }
+            Worker::Idle | Worker::Looked { .. } => false,
+        }
+    }
+
+    /// A worker that is idle or holds a version takes in the notice; else it comes back.
+    #[tactic(auto, using(crate::proofs::Stepping::idle_settled, crate::proofs::Stepping::holding_settled, crate::proofs::Stepping::idle_joined, crate::proofs::Stepping::holding_joined))]
+    pub(crate) fn join(&mut self, shelves: &ShelfTable, notice: NoticeSteps) -> Option<NoticeSteps>
+        requires { (self.old ≡ shelves.now) × (notice ≡ shelves.now) }
+        ensures worker { self.new ≡ self.old }
+        ensures back { IfSome result (λ back. back ≡ notice) }
+    {
+        match self.memory {
+            Worker::Idle => {
+                join(shelves, &mut self.place, notice.place);
+                None
+            }
+            Worker::Holding { .. } => {
+                join(shelves, &mut self.place, notice.place);
+                None
+            }
+            Worker::Looked { .. } | Worker::Late { .. } => Some(notice),
+        }
+    }
+}
+
+impl NoticeSteps {
+    /// The version that the notice is of.
+    pub(crate) fn version(&self) -> u64 {
+        self.memory.version
+    }
+}
+
+fn says_open(word: u64, version: u64) -> bool
+    ensures { result ≡ is_open word version }
+{
+    word / 256 % 4 == 1 && word / 65536 == version
+}
+
+impl LoaderSteps {
+    pub(crate) fn of(place: Place) -> LoaderSteps
+        requires { (n : ℕ) × (image : ImageValue) × (place.me ≡ (View.Loading (handed n image), [])) }
+        ensures { result ≡ place.table }
+    {
+        let mut shelves = [Shelf::Free; 8];
+        shelves[0] = Shelf::Open { version: 1 };
+        let memory = Loaded {
+            current: 1,
+            newest: 1,
+            shelves,
+        };
+        Steps { place, memory }
+    }
+
+    /// A notice of the current version.
+    #[tactic(auto, using(crate::proofs::Stepping::may_note_so, crate::proofs::Stepping::notice_so, crate::proofs::Stepping::noted_so))]
+    pub(crate) fn note(&mut self, table: &ShelfTable) -> NoticeSteps
+        requires { self.old ≡ table.now }
+        ensures { (self.new ≡ self.old) × (result ≡ table.now) }
+    {
+        let place = note(table, &mut self.place);
+        let version = self.memory.current;
+        Steps {
+            place,
+            memory: Noted { version },
+        }
+    }
+
+    /// Whether the next version may be opened on this shelf, and was.
+    pub(crate) fn open(
+        &mut self,
+        table: &ShelfTable,
+        shelf: usize,
+        source: &Source,
+    ) -> Result<bool, AllocError>
+        requires { (self.old ≡ table.now) × (shelf < 8) }
+        ensures { self.new ≡ self.old }
+    {
+        let Shelf::Free = self.memory.shelves[shelf] else {
+            return Ok(false);
+        };
+        if self.memory.current != self.memory.newest || self.memory.newest >= MOST_VERSIONS {
+            return Ok(false);
+        }
+        let version = self.memory.newest + 1;
+        let editions = editions_of(source.alloc, version, &source.image)?;
+        gather(table, &mut self.place, shelf);
+        fill_block(table, &mut self.place, shelf, editions);
+        open(table, &mut self.place, shelf, version);
+        self.memory.shelves[shelf] = Shelf::Open { version };
+        self.memory.newest = version;
+        Ok(true)
+    }
+
+    /// Whether an unpublished version stood on this shelf, and is current.
+    pub(crate) fn publish(&mut self, table: &ShelfTable, shelf: usize) -> bool
+        requires { (self.old ≡ table.now) × (shelf < 8) }
+        ensures { self.new ≡ self.old }
+    {
+        match self.memory.shelves[shelf] {
+            Shelf::Open { version } if self.memory.current < version => {
+                publish(table, &mut self.place, version, shelf);
+                self.memory.current = version;
+                true
+            }
+            Shelf::Open { .. } | Shelf::Free | Shelf::Closing { .. } => false,
+        }
+    }
+
+    /// Whether an outdated version stood on this shelf, which is closing.
+    pub(crate) fn close(&mut self, table: &ShelfTable, shelf: usize) -> bool
+        requires { (self.old ≡ table.now) × (shelf < 8) }
+        ensures { self.new ≡ self.old }
+    {
+        match self.memory.shelves[shelf] {
+            Shelf::Open { version } if version < self.memory.current => {
+                close(table, &mut self.place, shelf);
+                self.memory.shelves[shelf] = Shelf::Closing { version };
+                true
+            }
+            Shelf::Open { .. } | Shelf::Free | Shelf::Closing { .. } => false,
+        }
+    }
+
+    /// How many workers were found at this shelf, where it was closing. With none it is free.
+    pub(crate) fn collect(&mut self, table: &ShelfTable, shelf: usize) -> Option<u8>
+        requires { (self.old ≡ table.now) × (shelf < 8) }
+        ensures { self.new ≡ self.old }
+    {
+        match self.memory.shelves[shelf] {
+            Shelf::Closing { version } => {
+                match try_shelf(table, &mut self.place, shelf, version) {
+                    Some(count) => Some(count),
+                    None => {
+                        self.memory.shelves[shelf] = Shelf::Free;
+                        Some(0)
+                    }
+                }
+            }
+            Shelf::Open { .. } | Shelf::Free => None,
+        }
+    }
+}
