@@ -4,6 +4,7 @@
 mod desk;
 mod fault;
 pub mod laws;
+mod legs;
 mod ordering;
 mod pinning;
 mod profiles;
