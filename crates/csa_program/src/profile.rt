@@ -65,9 +65,7 @@ fn answer_text<'a, H: Files + AllocGlobal, C: Told>(
     let text = match request.form {
         AnswerForm::Numbers => answer_lines(rt.alloc(), criterion, &answer, None)?,
         AnswerForm::Names => answer_lines(rt.alloc(), criterion, &answer, Some(image))?,
-        AnswerForm::Json => {
-            reply_line(rt.alloc(), PointForm::Bare, image, criterion, &answer)?
-        }
+        AnswerForm::Json => { reply_line(rt.alloc(), PointForm::Bare, image, criterion, &answer)? }
         AnswerForm::JsonLegs => {
             reply_line(rt.alloc(), PointForm::WithLegs, image, criterion, &answer)?
         }

@@ -134,7 +134,16 @@ fn listen<
     }
     let door = Door::new(&listener, request.sessions);
     match run_shelves::<Brand, _, _, _, _, _, _, _, _, _>(
-        rt, alloc, door, shelves, seats, loader, folders, &OpenGate, form_of(request), errors,
+        rt,
+        alloc,
+        door,
+        shelves,
+        seats,
+        loader,
+        folders,
+        &OpenGate,
+        form_of(request),
+        errors,
     ) {
         Ok((served, door)) => tell_served(alloc, &served, door.has_failed(), output),
         Err(_) => status::OUT_OF_MEMORY,
