@@ -21,7 +21,8 @@ pub fn reply_line<C: Told>(
     criterion: &C,
     answer: &Answer<C>,
 ) -> Result<String, AllocError>
-    ensures { IfOk result (λ line. string_bytes line ≡ line_of (profile_data (departures_data form image.now C.told answer.now.departures.items) 1 answer.now.walk)) }
+    ensures { IfOk result (λ line. string_bytes line ≡ line_of (profile_data
+        (departures_data form image.now C.told answer.now.departures.items) 1 answer.now.walk)) }
 {
     profile_reply(alloc, form, image, FIRST_VERSION, criterion, answer)
 }

@@ -1,4 +1,5 @@
-//! `csa serve --image IMAGE --port P --workers W --sessions N --first DAY --days N --zone ZONE [--legs] [NAME=FOLDER]..`.
+//! `csa serve --image IMAGE --port P --workers W --sessions N [--legs] --first DAY --days N --zone ZONE
+//! [NAME=FOLDER]..`.
 
 ghost use Rattle.std.specs.Prelude.{◌≡◌, ◌≤◌, All, length, IfOk};
 ghost use Rattle.connections.specs.declared.days.TheConstants.{MAX_DAYS};

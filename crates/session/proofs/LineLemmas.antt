@@ -20,7 +20,8 @@ use Rattle.session.specs.Turns.{Turn, TurnsTo}
 use Rattle.session.proofs.TurnLemmas.{AreTurns-more, lines_in-more, text_of-more}
 
 -- the lines that were given are answered, and the replies written
-pub record SoFar (form : PointForm) (number : ℕ) (to_read read_then : Option (List ℕ)) (unread : List ℕ) (contents contents_then : Option (List ℕ)) (a : SeatValue) (asked : List OrderValue) (b : SeatValue) (asked_then : List OrderValue) (count : ℕ) : Type 0 where
+pub record SoFar (form : PointForm) (number : ℕ) (to_read read_then : Option (List ℕ)) (unread : List ℕ) (contents contents_then : Option (List ℕ))
+    (a : SeatValue) (asked : List OrderValue) (b : SeatValue) (asked_then : List OrderValue) (count : ℕ) : Type 0 where
   pub turns : List Turn
   pub given : HasGiven to_read read_then unread (lines_in turns)
   pub writes : Appends contents contents_then (text_of turns)
@@ -28,11 +29,14 @@ pub record SoFar (form : PointForm) (number : ℕ) (to_read read_then : Option (
   pub many : length turns ≡ count
   pub short : AreShort turns
 
-pub SoFar-start : {form : PointForm} (number : ℕ) (known : Option (List ℕ)) (unread : List ℕ) (contents : Option (List ℕ)) (a : SeatValue) (asked : List OrderValue) → unread ≡ [] → SoFar form number known known unread contents contents a asked a asked 0
-SoFar-start {form} number known unread contents a asked none = record { turns = []; given = HasGiven-start known unread none; writes = Appends-nil contents; does = (refl, refl); many = refl; short = tt }
+pub SoFar-start : {form : PointForm} (number : ℕ) (known : Option (List ℕ)) (unread : List ℕ) (contents : Option (List ℕ)) (a : SeatValue)
+    (asked : List OrderValue) → unread ≡ [] → SoFar form number known known unread contents contents a asked a asked 0
+SoFar-start {form} number known unread contents a asked none =
+    record { turns = []; given = HasGiven-start known unread none; writes = Appends-nil contents; does = (refl, refl); many = refl; short = tt }
 
 -- a turn for a line: what it does, and how much of its reply is written
-pub record TurnOf (form : PointForm) (number : ℕ) (line : List ℕ) (b : SeatValue) (between : List OrderValue) (after : SeatValue) (asked_then : List OrderValue) (contents contents_then : Option (List ℕ)) (written : ℕ) : Type 0 where
+pub record TurnOf (form : PointForm) (number : ℕ) (line : List ℕ) (b : SeatValue) (between : List OrderValue) (after : SeatValue)
+    (asked_then : List OrderValue) (contents contents_then : Option (List ℕ)) (written : ℕ) : Type 0 where
   pub turn : Turn
   pub line_is : turn.line ≡ line
   pub does : TurnsTo form number b between turn after asked_then
@@ -57,7 +61,8 @@ first_of : (given rest : List (List ℕ)) (all : List (List ℕ)) → all ≡ gi
 first_of given rest all is = sym (ap (λ (ls : List (List ℕ)). take (length given) ls) is ∙ take-append-le (length given) given rest (omega arith) ∙ take_all (length given) given (omega arith))
 
 -- a line is answered and its reply is written
-pub SoFar-more : {form : PointForm} (number : ℕ) (to_read known later : Option (List ℕ)) (unread bytes : List ℕ) (contents wrote writes : Option (List ℕ)) (a b after : SeatValue) (asked between asked_then : List OrderValue) (count : ℕ) (new : LineReader)
+pub SoFar-more : {form : PointForm} (number : ℕ) (to_read known later : Option (List ℕ)) (unread bytes : List ℕ) (contents wrote writes : Option (List ℕ))
+    (a b after : SeatValue) (asked between asked_then : List OrderValue) (count : ℕ) (new : LineReader)
     → SoFar form number to_read known unread contents wrote a asked b between count → Consumes known later bytes → (gives : GivesEnded (unread ++ bytes) new)
     → (t : Turn) → t.line ≡ gives.line → TurnsTo form number b between t after asked_then → Appends wrote writes t.reply
     → SoFar form number to_read later (unread_of new) contents writes a asked after asked_then (count + 1)
@@ -88,21 +93,24 @@ serves_so_far : {form : PointForm} (number : ℕ) (result : Result Ended Session
     → (more : HasGiven to_read later (unread ++ bytes) (lines_in so_far.turns))
     → EndsSo result more.read (text_of so_far.turns) so_far.turns (IsAtEnd later) read_failed write_failed
     → Serves form number result to_read later contents wrote read_failed write_failed a asked b asked_then
-serves_so_far {form} number result to_read known later unread bytes contents wrote a b asked asked_then count read_failed write_failed few so_far more ends = record {
-  read = more.read;
-  written = text_of so_far.turns;
-  turns = so_far.turns;
-  reads = more.consumed;
-  writes = so_far.writes;
-  does = so_far.does;
-  few = omega (arith, so_far.many, few);
-  short = so_far.short;
-  ends = ends;
-}
+serves_so_far {form} number result to_read known later unread bytes contents wrote a b asked asked_then count read_failed write_failed few so_far more ends =
+    record {
+      read = more.read;
+      written = text_of so_far.turns;
+      turns = so_far.turns;
+      reads = more.consumed;
+      writes = so_far.writes;
+      does = so_far.does;
+      few = omega (arith, so_far.many, few);
+      short = so_far.short;
+      ends = ends;
+    }
 
 -- nothing is left
-pub ends_at_end : {form : PointForm} (number : ℕ) (to_read known later : Option (List ℕ)) (unread bytes : List ℕ) (contents wrote : Option (List ℕ)) (a b : SeatValue) (asked asked_then : List OrderValue) (count : ℕ) (read_failed write_failed : Type 0) (ended : Ended)
-    → count ≤ 1_000_000 → SoFar form number to_read known unread contents wrote a asked b asked_then count → Consumes known later bytes → unread ++ bytes ≡ [] → IsAtEnd later → (¬ read_failed) → (¬ write_failed)
+pub ends_at_end : {form : PointForm} (number : ℕ) (to_read known later : Option (List ℕ)) (unread bytes : List ℕ) (contents wrote : Option (List ℕ))
+    (a b : SeatValue) (asked asked_then : List OrderValue) (count : ℕ) (read_failed write_failed : Type 0) (ended : Ended)
+    → count ≤ 1_000_000 → SoFar form number to_read known unread contents wrote a asked b asked_then count → Consumes known later bytes → unread ++ bytes ≡ []
+    → IsAtEnd later → (¬ read_failed) → (¬ write_failed)
     → Serves form number (Ok ended) to_read later contents wrote read_failed write_failed a asked b asked_then
 ends_at_end {form} number to_read known later unread bytes contents wrote a b asked asked_then count read_failed write_failed ended few so_far came none end no_read no_write =
     let more = HasGiven-read to_read known later unread bytes (lines_in so_far.turns) so_far.given came in
@@ -111,9 +119,12 @@ ends_at_end {form} number to_read known later unread bytes contents wrote a b as
     (end, no_read, no_write, sym (HasGiven-nothing to_read later (unread ++ bytes) (lines_in so_far.turns) more none), refl)
 
 -- the rest was the last line
-pub ends_with_rest : {form : PointForm} (number : ℕ) (to_read known later : Option (List ℕ)) (unread bytes : List ℕ) (contents wrote writes : Option (List ℕ)) (a b after : SeatValue) (asked between asked_then : List OrderValue) (count : ℕ) (new : LineReader) (read_failed write_failed : Type 0) (ended : Ended)
-    → count < 1_000_000 → SoFar form number to_read known unread contents wrote a asked b between count → Consumes known later bytes → GivesRest (unread ++ bytes) new (IsAtEnd later)
-    → (t : Turn) → t.line ≡ unread ++ bytes → TurnsTo form number b between t after asked_then → Appends wrote writes t.reply → (¬ read_failed) → (¬ write_failed)
+pub ends_with_rest : {form : PointForm} (number : ℕ) (to_read known later : Option (List ℕ)) (unread bytes : List ℕ)
+    (contents wrote writes : Option (List ℕ)) (a b after : SeatValue) (asked between asked_then : List OrderValue) (count : ℕ) (new : LineReader) (read_failed write_failed : Type 0) (ended : Ended)
+    → count < 1_000_000 → SoFar form number to_read known unread contents wrote a asked b between count → Consumes known later bytes
+    → GivesRest (unread ++ bytes) new (IsAtEnd later)
+    → (t : Turn) → t.line ≡ unread ++ bytes → TurnsTo form number b between t after asked_then → Appends wrote writes t.reply → (¬ read_failed)
+    → (¬ write_failed)
     → Serves form number (Ok ended) to_read later contents writes read_failed write_failed a asked after asked_then
 ends_with_rest {form} number to_read known later unread bytes contents wrote writes a b after asked between asked_then count new read_failed write_failed ended few so_far came gives t line_is turn written no_read no_write =
     let more = HasGiven-read to_read known later unread bytes (lines_in so_far.turns) so_far.given came in
@@ -132,10 +143,13 @@ ends_with_rest {form} number to_read known later unread bytes contents wrote wri
     }
 
 -- a reply isn't wholly written: these bytes were read, and of all their lines those given are the first
-cut_short : {form : PointForm} (number : ℕ) (to_read later : Option (List ℕ)) (read : List ℕ) (rest : List (List ℕ)) (line : List ℕ) (contents wrote writes : Option (List ℕ)) (a b after : SeatValue) (asked between asked_then : List OrderValue) (read_failed write_failed : Type 0) (turns : List Turn)
-    → Consumes to_read later read → AreTurns form number a asked turns b between → Appends contents wrote (text_of turns) → lines_of read ≡ (lines_in turns ++ line ∷ []) ++ rest
+cut_short : {form : PointForm} (number : ℕ) (to_read later : Option (List ℕ)) (read : List ℕ) (rest : List (List ℕ)) (line : List ℕ)
+    (contents wrote writes : Option (List ℕ)) (a b after : SeatValue) (asked between asked_then : List OrderValue) (read_failed write_failed : Type 0) (turns : List Turn)
+    → Consumes to_read later read → AreTurns form number a asked turns b between → Appends contents wrote (text_of turns)
+    → lines_of read ≡ (lines_in turns ++ line ∷ []) ++ rest
     → length turns < 1_000_000 → AreShort turns → length line ≤ 16_777_216
-    → (t : Turn) → t.line ≡ line → TurnsTo form number b between t after asked_then → (n : ℕ) → Appends wrote writes (take n t.reply) → (¬ read_failed) → write_failed
+    → (t : Turn) → t.line ≡ line → TurnsTo form number b between t after asked_then → (n : ℕ) → Appends wrote writes (take n t.reply) → (¬ read_failed)
+    → write_failed
     → Serves form number (Err SessionFault.WriteFailed) to_read later contents writes read_failed write_failed a asked after asked_then
 cut_short {form} number to_read later read rest line contents wrote writes a b after asked between asked_then read_failed write_failed turns consumed does before all few short short_line t line_is turn n written no_read failed =
     let lines : lines_of read ≡ lines_in (turns ++ t ∷ []) ++ rest = all ∙ ap (λ (ls : List (List ℕ)). ls ++ rest) (sym (more_lines turns t line line_is)) in
@@ -152,9 +166,12 @@ cut_short {form} number to_read later read rest line contents wrote writes a b a
       ends = (failed, no_read, (length (lines_in (turns ++ t ∷ [])), first_of (lines_in (turns ++ t ∷ [])) rest (lines_of read) lines), cut);
     }
 
-pub cut_short_at_line : {form : PointForm} (number : ℕ) (to_read known later : Option (List ℕ)) (unread bytes : List ℕ) (contents wrote writes : Option (List ℕ)) (a b after : SeatValue) (asked between asked_then : List OrderValue) (count : ℕ) (new : LineReader) (read_failed write_failed : Type 0)
-    → count < 1_000_000 → SoFar form number to_read known unread contents wrote a asked b between count → Consumes known later bytes → (gives : GivesEnded (unread ++ bytes) new)
-    → (t : Turn) → t.line ≡ gives.line → TurnsTo form number b between t after asked_then → (n : ℕ) → Appends wrote writes (take n t.reply) → (¬ read_failed) → write_failed
+pub cut_short_at_line : {form : PointForm} (number : ℕ) (to_read known later : Option (List ℕ)) (unread bytes : List ℕ)
+    (contents wrote writes : Option (List ℕ)) (a b after : SeatValue) (asked between asked_then : List OrderValue) (count : ℕ) (new : LineReader) (read_failed write_failed : Type 0)
+    → count < 1_000_000 → SoFar form number to_read known unread contents wrote a asked b between count → Consumes known later bytes
+    → (gives : GivesEnded (unread ++ bytes) new)
+    → (t : Turn) → t.line ≡ gives.line → TurnsTo form number b between t after asked_then → (n : ℕ) → Appends wrote writes (take n t.reply) → (¬ read_failed)
+    → write_failed
     → Serves form number (Err SessionFault.WriteFailed) to_read later contents writes read_failed write_failed a asked after asked_then
 cut_short_at_line {form} number to_read known later unread bytes contents wrote writes a b after asked between asked_then count new read_failed write_failed few so_far came gives t line_is turn n written no_read failed =
     let given = HasGiven-ended to_read known later unread bytes (lines_in so_far.turns) new so_far.given came gives in
@@ -162,9 +179,12 @@ cut_short_at_line {form} number to_read known later unread bytes contents wrote 
     (IsCut-lines given.read (unread_of new) (lines_in so_far.turns ++ gives.line ∷ []) given.cut)
     (omega (arith, few, so_far.many)) so_far.short gives.short t line_is turn n written no_read failed
 
-pub cut_short_at_rest : {form : PointForm} (number : ℕ) (to_read known later : Option (List ℕ)) (unread bytes : List ℕ) (contents wrote writes : Option (List ℕ)) (a b after : SeatValue) (asked between asked_then : List OrderValue) (count : ℕ) (new : LineReader) (read_failed write_failed : Type 0)
-    → count < 1_000_000 → SoFar form number to_read known unread contents wrote a asked b between count → Consumes known later bytes → GivesRest (unread ++ bytes) new (IsAtEnd later)
-    → (t : Turn) → t.line ≡ unread ++ bytes → TurnsTo form number b between t after asked_then → (n : ℕ) → Appends wrote writes (take n t.reply) → (¬ read_failed) → write_failed
+pub cut_short_at_rest : {form : PointForm} (number : ℕ) (to_read known later : Option (List ℕ)) (unread bytes : List ℕ)
+    (contents wrote writes : Option (List ℕ)) (a b after : SeatValue) (asked between asked_then : List OrderValue) (count : ℕ) (new : LineReader) (read_failed write_failed : Type 0)
+    → count < 1_000_000 → SoFar form number to_read known unread contents wrote a asked b between count → Consumes known later bytes
+    → GivesRest (unread ++ bytes) new (IsAtEnd later)
+    → (t : Turn) → t.line ≡ unread ++ bytes → TurnsTo form number b between t after asked_then → (n : ℕ) → Appends wrote writes (take n t.reply)
+    → (¬ read_failed) → write_failed
     → Serves form number (Err SessionFault.WriteFailed) to_read later contents writes read_failed write_failed a asked after asked_then
 cut_short_at_rest {form} number to_read known later unread bytes contents wrote writes a b after asked between asked_then count new read_failed write_failed few so_far came gives t line_is turn n written no_read failed =
     let more = HasGiven-read to_read known later unread bytes (lines_in so_far.turns) so_far.given came in
@@ -173,8 +193,10 @@ cut_short_at_rest {form} number to_read known later unread bytes contents wrote 
     (omega (arith, few, so_far.many)) so_far.short gives.short t line_is turn n written no_read failed
 
 -- a line can't be read: the lines before it are answered
-pub read_fails : {form : PointForm} (number : ℕ) (to_read known later : Option (List ℕ)) (unread bytes : List ℕ) (contents wrote : Option (List ℕ)) (a b : SeatValue) (asked asked_then : List OrderValue) (count : ℕ) (read_failed write_failed : Type 0)
-    → count ≤ 1_000_000 → SoFar form number to_read known unread contents wrote a asked b asked_then count → Consumes known later bytes → IsOneLine (unread ++ bytes) → read_failed ⊎ (length (unread ++ bytes) ≡ 16_777_217) → (¬ write_failed)
+pub read_fails : {form : PointForm} (number : ℕ) (to_read known later : Option (List ℕ)) (unread bytes : List ℕ) (contents wrote : Option (List ℕ))
+    (a b : SeatValue) (asked asked_then : List OrderValue) (count : ℕ) (read_failed write_failed : Type 0)
+    → count ≤ 1_000_000 → SoFar form number to_read known unread contents wrote a asked b asked_then count → Consumes known later bytes
+    → IsOneLine (unread ++ bytes) → read_failed ⊎ (length (unread ++ bytes) ≡ 16_777_217) → (¬ write_failed)
     → Serves form number (Err SessionFault.ReadFailed) to_read later contents wrote read_failed write_failed a asked b asked_then
 read_fails {form} number to_read known later unread bytes contents wrote a b asked asked_then count read_failed write_failed few so_far came one failed no_write =
     let more = HasGiven-read to_read known later unread bytes (lines_in so_far.turns) so_far.given came in
@@ -185,8 +207,10 @@ read_fails {form} number to_read known later unread bytes contents wrote a b ask
     (why, no_write, sym (IsCut-whole more.read (unread ++ bytes) (lines_in so_far.turns) one more.cut), refl)
 
 -- a million lines are answered, and a byte is there
-pub too_many : {form : PointForm} (number : ℕ) (to_read known later : Option (List ℕ)) (unread bytes : List ℕ) (contents wrote : Option (List ℕ)) (a b : SeatValue) (asked asked_then : List OrderValue) (count : ℕ) (read_failed write_failed : Type 0)
-    → count ≡ 1_000_000 → SoFar form number to_read known unread contents wrote a asked b asked_then count → Consumes known later bytes → 0 < length (unread ++ bytes) → (¬ read_failed) → (¬ write_failed)
+pub too_many : {form : PointForm} (number : ℕ) (to_read known later : Option (List ℕ)) (unread bytes : List ℕ) (contents wrote : Option (List ℕ))
+    (a b : SeatValue) (asked asked_then : List OrderValue) (count : ℕ) (read_failed write_failed : Type 0)
+    → count ≡ 1_000_000 → SoFar form number to_read known unread contents wrote a asked b asked_then count → Consumes known later bytes
+    → 0 < length (unread ++ bytes) → (¬ read_failed) → (¬ write_failed)
     → Serves form number (Err SessionFault.TooManyRequests) to_read later contents wrote read_failed write_failed a asked b asked_then
 too_many {form} number to_read known later unread bytes contents wrote a b asked asked_then count read_failed write_failed million so_far came some no_read no_write =
     let more = HasGiven-read to_read known later unread bytes (lines_in so_far.turns) so_far.given came in
@@ -205,7 +229,8 @@ why_failed first before now long below same (inl more) = inl (rose first before 
 why_failed first before now long below same (inr too_long) = inr too_long.1
 
 -- the seat's number stays
-pub TurnsTo-number : {form : PointForm} (n number : ℕ) (b after : SeatValue) (between asked_then : List OrderValue) (t : Turn) → n ≡ number → TurnsTo form n b between t after asked_then → TurnsTo form number b between t after asked_then
+pub TurnsTo-number : {form : PointForm} (n number : ℕ) (b after : SeatValue) (between asked_then : List OrderValue) (t : Turn) → n ≡ number
+    → TurnsTo form n b between t after asked_then → TurnsTo form number b between t after asked_then
 TurnsTo-number {form} n number b after between asked_then t same turn = subst (λ (k : ℕ). TurnsTo form k b between t after asked_then) same turn
 
 pub some_bytes : (new bytes : List ℕ) → new ≡ bytes → 0 < length new → 0 < length bytes

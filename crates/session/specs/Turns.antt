@@ -118,7 +118,8 @@ abbrev pub IsTurn : PointForm → Option (ℕ × ImageValue) → Turn → Type 0
 IsTurn form held t = WantsMemory t.moves t.orders t.reply ⊎ ((asked : Asked) × IsAsked t.line asked × Meets form held asked t.moves t.orders t.reply)
 
 -- by a turn the seat and the orders come from what they were to what they are: their lists grow by the turn's own
-pub record TurnsTo (form : PointForm) (number : ℕ) (a : SeatValue) (asked : List OrderValue) (t : Turn) (b : SeatValue) (asked_then : List OrderValue) : Type 0 where
+pub record TurnsTo (form : PointForm) (number : ℕ) (a : SeatValue) (asked : List OrderValue) (t : Turn) (b : SeatValue)
+    (asked_then : List OrderValue) : Type 0 where
   pub is : IsTurn form a.held t
   pub seat : Follows number a t.moves b
   pub orders : asked_then ≡ asked ++ t.orders

@@ -8,8 +8,8 @@ use crate::point_form::PointForm;
 use lines::Counted;
 use std::alloc::Global;
 
-/// What sessions are answered from: the runtime and its memory, the shelves with the versions, the gate that hears of scans, and the form
-/// in which profiles are replied.
+/// What sessions are answered from: the runtime and its memory, the shelves with the versions, the gate that hears of
+/// scans, and the form in which profiles are replied.
 #[derive(Drop)]
 pub struct Desk<'a, R, T, G> {
     pub rt: &'a R,

@@ -4,7 +4,8 @@ ghost use Rattle.std.specs.Prelude.{◌≡◌, ◌++◌, ◌∷◌, [], slice_ge
 ghost use Rattle.std.specs.List.{flat_map};
 ghost use Rattle.session_texts.specs.Legs.{ride_data, ride_value};
 ghost use Rattle.session_texts.specs.Telling.{legs_of};
-ghost use Rattle.session.specs.Legs.{day_of, legs_data, repeat_of, ride_leg, ride_legs, ride_between, start_legs, walk_leg};
+ghost use Rattle.session.specs.Legs.{day_of, legs_data, repeat_of, ride_between, ride_leg, ride_legs, start_legs};
+ghost use Rattle.session.specs.Legs.{walk_leg};
 
 use answer_pictures::{connection_at, stop_name, trip_name};
 use image_verifier::Verified;
@@ -74,7 +75,8 @@ fn add_leg(
     image: &Verified,
     leg: Leg,
 ) -> Result<(), AllocError>
-    ensures { OnOk result (legs_of legs.new ≡ legs_of legs.old ++ ride_between image.now.names (slice_get image.now.timetable.connections leg.first) (slice_get image.now.timetable.connections leg.last)) }
+    ensures { OnOk result (legs_of legs.new ≡ legs_of legs.old ++ ride_between image.now.names
+        (slice_get image.now.timetable.connections leg.first) (slice_get image.now.timetable.connections leg.last)) }
 {
     let Some(first) = connection_at(image, leg.first) else {
         return Ok(());

@@ -7,7 +7,8 @@ ghost use Rattle.session_texts.specs.Replies.{line_of, profile_data};
 ghost use Rattle.session_texts.specs.Requests.{ask_value, profile};
 ghost use Rattle.session_texts.specs.Telling.{points_of};
 ghost use Rattle.session.specs.Lines.{asks, memory_line, text_of_reply};
-ghost use Rattle.session.specs.Profiles.{IsAnswered, IsAnsweredBy, IsProfileReply, bare_data, data_with_legs, departures_data};
+ghost use Rattle.session.specs.Profiles.{IsAnswered, IsAnsweredBy, IsProfileReply};
+ghost use Rattle.session.specs.Profiles.{bare_data, data_with_legs, departures_data};
 ghost use Rattle.session.specs.Turns.{IsMet};
 
 use crate::desk::Desk;
@@ -67,7 +68,8 @@ fn answer_from<G: Gate>(
     gate: &G,
     ask: &Ask<'_>,
 ) -> Reply
-    ensures { IsProfileReply form (arc_value edition.now.image) edition.now.version (ask_value ask.now) (text_of_reply result) ⊎ (text_of_reply result ≡ memory_line) }
+    ensures { IsProfileReply form (arc_value edition.now.image) edition.now.version (ask_value ask.now) (text_of_reply result)
+        ⊎ (text_of_reply result ≡ memory_line) }
 {
     let image: &Verified = &edition.image;
     // Says of the image what each one keeps: it is one that was accepted.
@@ -124,7 +126,8 @@ fn line_by<C: Told>(
     version: u64,
 ) -> Result<String, AllocError>
     requires { IsAskable image.now.timetable.stops query.now }
-    ensures { IfOk result (λ line. IsAnswered form C.told (C.rules criterion.now) image.now version query.now (string_bytes line)) }
+    ensures { IfOk result (λ line. IsAnswered form C.told (C.rules criterion.now) image.now version query.now
+        (string_bytes line)) }
 {
     let mut source = InPlace::new(image);
     let answer = answer_query(alloc, &mut source, criterion, query)?;
@@ -140,7 +143,8 @@ pub fn profile_reply<C: Told>(
     criterion: &C,
     answer: &Answer<C>,
 ) -> Result<String, AllocError>
-    ensures { IfOk result (λ line. string_bytes line ≡ line_of (profile_data (departures_data form image.now C.told answer.now.departures.items) version answer.now.walk)) }
+    ensures { IfOk result (λ line. string_bytes line ≡ line_of (profile_data
+        (departures_data form image.now C.told answer.now.departures.items) version answer.now.walk)) }
 {
     let points = points_told(alloc, form, image, criterion, &answer.departures)?;
     points.profile_line(alloc, version, answer.walk)

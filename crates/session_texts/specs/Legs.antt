@@ -46,7 +46,8 @@ repeat_member (Some n) rest = member (codes "repeat") (number (unsigned n)) rest
 abbrev pub ride_data : RideValue → Data
 ride_data r =
     object (member (codes "arr") (string (clock_bytes r.arr)) (member (codes "day") (number (unsigned r.day)) (member (codes "dep") (string (clock_bytes r.dep))
-    (member (codes "from") (string r.from) (repeat_member (later_repeat r.repeat) (member (codes "to") (string r.to) (member (codes "trip") (string r.trip) no_members)))))))
+    (member (codes "from") (string r.from) (repeat_member (later_repeat r.repeat)
+    (member (codes "to") (string r.to) (member (codes "trip") (string r.trip) no_members)))))))
 
 abbrev pub walk_data : WalkValue → Data
 walk_data w = object (member (codes "from") (string w.from) (member (codes "secs") (number (unsigned w.secs)) (member (codes "to") (string w.to) no_members)))

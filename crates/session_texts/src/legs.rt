@@ -10,8 +10,8 @@ use serde_json::{Map, Value, put};
 use std::alloc::{AllocError, Global};
 use timetable::clock_text;
 
-/// A ride: the trip, its service day and which of that day's repeats it is; where and when it is boarded, and where and when it is left.
-/// Times are seconds after the base.
+/// A ride: the trip, its service day and which of that day's repeats it is; where and when it is boarded, and where and
+/// when it is left. Times are seconds after the base.
 #[derive(Drop)]
 pub struct RideTold {
     pub trip: String,

@@ -14,7 +14,8 @@ pub(crate) fn add_number(
     name: &str,
     number: Option<u32>,
 ) -> Result<(), AllocError>
-    ensures { OnOk result (members_view members.new.entries ≡ with_number name.now number (members_view members.old.entries)) }
+    ensures { OnOk result (members_view members.new.entries
+        ≡ with_number name.now number (members_view members.old.entries)) }
 {
     match number {
         None => Ok(()),

@@ -63,7 +63,7 @@ const BARE_REPLIES: &str =
 const LEGGED_REPLIES: &str =
     "{\"base\":1705276800,\"ok\":\"pin\",\"version\":1}\n{\"ok\":\"profile\",\"points\":[{\"arr\":\"08:20:00\",\"dep\":\"08:00:00\",\"journey\":\"ride 0 0 walk 1 1 0 ride 2 2\",\"legs\":[{\"arr\":\"08:10:00\",\"day\":20240115,\"dep\":\"08:00:00\",\"from\":\"A\",\"to\":\"B\",\"trip\":\"T1\"},{\"from\":\"B\",\"secs\":0,\"to\":\"B\"},{\"arr\":\"08:20:00\",\"day\":20240115,\"dep\":\"08:12:00\",\"from\":\"B\",\"to\":\"C\",\"trip\":\"T2\"}],\"trips\":2,\"walked\":0},{\"arr\":\"08:30:00\",\"dep\":\"08:00:00\",\"journey\":\"ride 0 1\",\"legs\":[{\"arr\":\"08:30:00\",\"day\":20240115,\"dep\":\"08:00:00\",\"from\":\"A\",\"to\":\"C\",\"trip\":\"T1\"}],\"trips\":1,\"walked\":0}],\"version\":1,\"walk\":null}\n";
 
-/// Each ride by its trip and each walk by its stops, and nothing else changes. A desk replies without them if it isn't told to.
+/// Each ride by its trip and each walk by its stops, and nothing else changes.
 #[test]
 fn legs_are_replied_where_they_are_wanted(rt: HostRuntime) -> Result<(), Fail> {
     let alloc: Global = rt.alloc();
@@ -80,7 +80,8 @@ fn legs_are_replied_where_they_are_wanted(rt: HostRuntime) -> Result<(), Fail> {
     Ok(())
 }
 
-/// The sample with a footpath of 60 seconds from A to the stop that is called B there and `"` here; its second trip is repeat 3.
+/// The sample with a footpath of 60 seconds from A to the stop that is called B there and `"` here; its second trip is
+/// repeat 3.
 fn image_of_a_quote(alloc: Global) -> Result<Arc<Verified, Global>, Fail> {
     let sample = second_sample_words();
     let (front, back) = sample.split_at(33);

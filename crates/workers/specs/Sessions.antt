@@ -28,7 +28,8 @@ pub record IsUnopened (end : End) (a : SeatValue) (asked : List OrderValue) (b :
   pub seat : b ≡ a
   pub orders : asked_then ≡ asked
 
-module _ {C R W : Type 0} (form : PointForm) (opens : C → Result (R × W) ConnFault → Type 0) (remaining : R → Option (List ℕ)) (contents : W → Option (List ℕ)) where
+module _ {C R W : Type 0} (form : PointForm) (opens : C → Result (R × W) ConnFault → Type 0) (remaining : R → Option (List ℕ)) (contents : W → Option
+    (List ℕ)) where
   -- the client's own reader and writer are served, which are so now, counted from no failure; or there are none
   abbrev pub IsServed : ℕ → C → Option (Streams R W) → End → SeatValue → List OrderValue → SeatValue → List OrderValue → Type 0
   IsServed number client (Some now) end a asked b asked_then =

@@ -35,9 +35,10 @@ impl From<AllocError> for WorkersFault {
     }
 }
 
-/// Serves all clients, with a worker for each seat, and loads the feeds that they order. Profiles are replied in this form. What came of a
-/// load is written to the error writer, and goes to whoever waits for it. It returns when there are no more clients, all sessions have
-/// ended, and all orders were carried out: how the sessions ended, seat after seat, and the clients' source.
+/// Serves all clients, with a worker for each seat, and loads the feeds that they order. Profiles are replied in this form.
+/// What came of a load is written to the error writer, and goes to whoever waits for it. It returns when there are no more
+/// clients, all sessions have ended, and all orders were carried out: how the sessions ended, seat after seat, and the
+/// clients' source.
 pub fn run_workers<
     I: Read + Send + Drop,
     O: Write + Send + Drop,

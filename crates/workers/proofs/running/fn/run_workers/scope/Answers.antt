@@ -27,7 +27,8 @@ loop-seat-preserved g c =
       fit = λ k d small. left (suc k) d (omega arith);
       len = omega (arith, short, step.1, was.len);
       forms = subst (λ workers. All (λ worker. worker.promise.form ≡ c.captures.form) workers) (sym c.in-Ok-push.ensures.items)
-          (All-push (λ worker. worker.promise.form ≡ c.captures.form) _ c.in-Ok-spawn_with.worker was.forms (ap (λ promise. promise.form) c.in-Ok-spawn_with.ensures.ok ∙ c.of.ensures.form));
+          (All-push (λ worker. worker.promise.form ≡ c.captures.form) _ c.in-Ok-spawn_with.worker was.forms
+          (ap (λ promise. promise.form) c.in-Ok-spawn_with.ensures.ok ∙ c.of.ensures.form));
       seated = seated_next _ _ _ _ _ _ c.in-Ok-spawn_with.worker c.in-Some.seat was.seated step.0 c.in-Ok-push.ensures.items
           (ap (λ promise. promise.seat.value) c.in-Ok-spawn_with.ensures.ok ∙ c.of.ensures.seat);
     }
