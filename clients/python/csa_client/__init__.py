@@ -11,14 +11,16 @@ open: close it when it isn't needed.
 
 from ._asyncio import AsyncCsaClient
 from ._blocking import CsaClient
-from ._protocol import Criterion, CsaError, Pinned, Point, Profile, Refused, Ride, SessionEnded, Walk, parse_journey
+from ._protocol import Criterion, CsaError, NamedRide, NamedWalk, Pinned, Point, Profile, Refused, Ride, SessionEnded, Walk, parse_journey
 
-__version__ = "0.2.0"
+__version__ = "0.3.0"
 __all__ = [
     "AsyncCsaClient",
     "Criterion",
     "CsaClient",
     "CsaError",
+    "NamedRide",
+    "NamedWalk",
     "Pinned",
     "Point",
     "Profile",

@@ -86,18 +86,45 @@ class Walk:
 
 
 @dataclass(frozen=True)
+class NamedRide:
+    """A ride by its trip_id, the service day as the number YYYYMMDD, and the stop_ids and clocks of its ends, which count from the base as
+    a point's do. `repeat` is which of that day's repeats of the trip it is, from 0 on."""
+
+    trip: str
+    day: int
+    from_stop: str
+    dep: str
+    to_stop: str
+    arr: str
+    repeat: int = 0
+
+
+@dataclass(frozen=True)
+class NamedWalk:
+    """A footpath by the stop_ids of its ends, and its seconds. From a stop to itself it is a change."""
+
+    from_stop: str
+    to_stop: str
+    seconds: int
+
+
+@dataclass(frozen=True)
 class Point:
-    """A best departure: its clocks, its journey's text, and the trips and seconds of walking where the criterion counts them."""
+    """A best departure: its clocks, its journey's text, and the trips and seconds of walking where the criterion counts them.
+
+    `named_legs` are the journey's rides and walks by their ids, in order, from a server that was started with `--legs`; else None.
+    """
 
     dep: str
     arr: str
     journey: str
     trips: int | None = None
     walked: int | None = None
+    named_legs: tuple[NamedRide | NamedWalk, ...] | None = None
 
     @property
     def legs(self) -> tuple[Ride | Walk, ...]:
-        """The journey's rides and walks, in order."""
+        """The journey's rides and walks by their numbers in the image, in order."""
         return parse_journey(self.journey)
 
 
@@ -181,7 +208,15 @@ def _profile(reply: Reply) -> Profile:
 def _point(it: Reply) -> Point:
     if JOURNEY.fullmatch(it["journey"]) is None:
         raise ValueError("a point without a journey")
-    return Point(it["dep"], it["arr"], it["journey"], it.get("trips"), it.get("walked"))
+    legs = tuple(map(_named_leg, it["legs"])) if "legs" in it else None
+    return Point(it["dep"], it["arr"], it["journey"], it.get("trips"), it.get("walked"), legs)
+
+
+def _named_leg(it: Reply) -> NamedRide | NamedWalk:
+    if "trip" not in it:
+        return NamedWalk(_text(it, "from"), _text(it, "to"), _number(it, "secs"))
+    repeat = _number(it, "repeat") if "repeat" in it else 0
+    return NamedRide(_text(it, "trip"), _number(it, "day"), _text(it, "from"), _clock(it, "dep"), _text(it, "to"), _clock(it, "arr"), repeat)
 
 
 def _leg(first: str, last: str, source: str, target: str, seconds: str) -> Ride | Walk:
@@ -193,6 +228,19 @@ def _number(reply: Reply, key: str) -> int:
     if type(number) is not int:
         raise TypeError(f"{key} is no whole number")
     return number
+
+
+def _text(reply: Reply, key: str) -> str:
+    text = reply[key]
+    if not isinstance(text, str):
+        raise TypeError(f"{key} is no text")
+    return text
+
+
+def _clock(reply: Reply, key: str) -> str:
+    clock = _text(reply, key)
+    seconds_of(clock)
+    return clock
 
 
 def _zone(zone: tzinfo | str) -> tzinfo:

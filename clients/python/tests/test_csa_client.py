@@ -16,16 +16,22 @@ import tempfile
 import threading
 import time
 import unittest
+from dataclasses import replace
 from datetime import datetime, timezone
 from pathlib import Path
 
-from csa_client import AsyncCsaClient, CsaClient, CsaError, Pinned, Point, Profile, Refused, Ride, SessionEnded, Walk, parse_journey
+from csa_client import AsyncCsaClient, CsaClient, CsaError, NamedRide, NamedWalk, Pinned, Point, Profile, Refused, Ride, SessionEnded, Walk, parse_journey
 
 TOP = Path(__file__).resolve().parents[3]
 WINDOW = {"after": "07:00:00", "until": "09:00:00", "by": "10:00:00"}
 QUERY = '"from": "A", "to": "C", "after": "07:00:00", "until": "09:00:00", "by": "10:00:00"'
 FAST = Point("08:00:00", "08:20:00", "ride 0 0 walk 1 1 0 ride 2 2")
 SLOW = Point("08:00:00", "08:30:00", "ride 0 1")
+FAST_LEGS = (
+    NamedRide("T1", 20240115, "A", "08:00:00", "B", "08:10:00"),
+    NamedWalk("B", "B", 0),
+    NamedRide("T2", 20240115, "B", "08:12:00", "C", "08:20:00"),
+)
 PIN = ('{"do": "pin"}', b'{"base":1705276800,"ok":"pin","version":1}\n')
 RELEASE = ('{"do": "release"}', b'{"ok":"release"}\n')
 PROFILE = (
@@ -159,6 +165,29 @@ class CannedReplies(unittest.TestCase):
         self.assertEqual(client.profile("A", "C", **WINDOW), Profile(1, (FAST,), None))
         one_trip = Point("08:00:00", "08:30:00", "ride 0 1", trips=1)
         self.assertEqual(client.profile("A", "C", **WINDOW, criterion="arrival+trips"), Profile(2, (one_trip,), 90))
+
+    def legs_of(self, legs: bytes) -> Point:
+        """A point with these legs, as the client reads it."""
+        client = self.session((PROFILE[0], PROFILE[1].replace(b'ride 2 2"', b'ride 2 2","legs":' + legs)))
+        return client.profile("A", "C", **WINDOW).points[0]
+
+    def test_named_legs(self) -> None:
+        point = self.legs_of(
+            b'[{"from":"\\"","secs":60,"to":""},{"arr":"32:20:00","day":20240116,"dep":"32:12:00","from":"","repeat":3,"to":"C","trip":"T2"}]'
+        )
+        self.assertEqual(point.legs, FAST.legs)
+        self.assertEqual(point.named_legs, (NamedWalk('"', "", 60), NamedRide("T2", 20240116, "", "32:12:00", "C", "32:20:00", 3)))
+        self.assertIsNone(FAST.named_legs)
+
+    def test_odd_legs_close(self) -> None:
+        ride = b'{"arr":"08:20:00","day":20240115,"dep":"08:12:00","from":"B","to":"C","trip":"T2"}'
+        self.assertEqual(self.legs_of(b"[%s]" % ride).named_legs, FAST_LEGS[2:])
+        for legs in (
+            b"7", b"[7]", b"[{}]", b'[{"from":"B","to":"B"}]', b'[{"from":"B","secs":"0","to":"B"}]',
+            b"[%s]" % ride.replace(b'"T2"', b"2"), b"[%s]" % ride.replace(b"08:12:00", b"8"), b"[%s]" % ride.replace(b"20240115", b'"1"'),
+        ):
+            with self.assertRaises(SessionEnded, msg=legs):
+                self.legs_of(legs)
 
     def test_refusals_leave_the_session_open(self) -> None:
         client = self.session(
@@ -294,8 +323,16 @@ def program_that_serves() -> str | None:
     return None
 
 
+def has_legs() -> bool:
+    """Whether that program knows `serve --legs`."""
+    program = program_that_serves()
+    return program is not None and "--legs" in subprocess.run([program, "serve", "--help"], capture_output=True, text=True).stdout
+
+
 @unittest.skipUnless(program_that_serves(), "no program with the command serve is built")
 class RealServer(unittest.TestCase):
+    OPTIONS: list[str] = []
+
     def setUp(self) -> None:
         room = tempfile.TemporaryDirectory()
         self.addCleanup(room.cleanup)
@@ -304,6 +341,7 @@ class RealServer(unittest.TestCase):
             transfers.write("from_stop_id,to_stop_id,transfer_type,min_transfer_time\nB,B,2,121\n")
         words = [program_that_serves(), "serve", "--image", str(TOP / "examples/base.csa"), "--port", "0", "--workers", "2"]
         words += ["--sessions", "0", "--first", "20240115", "--days", "1", "--zone", "fixed:0", f"slow={room.name}/slow"]
+        words += self.OPTIONS
         self.server = subprocess.Popen(words, stdout=subprocess.PIPE, text=True)
         self.addCleanup(self.server.wait)
         self.addCleanup(self.server.kill)
@@ -357,6 +395,20 @@ class RealServer(unittest.TestCase):
             with self.assertRaises(Refused) as refused:
                 client.pin()
             self.assertEqual((refused.exception.number, refused.exception.name), (92, "AlreadyPinned"))
+
+
+@unittest.skipUnless(has_legs(), "no program with serve --legs is built")
+class RealServerWithLegs(RealServer):
+    """All that holds without legs, and the legs."""
+
+    OPTIONS = ["--legs"]
+
+    def test_a_load_reaches_who_comes_after_it(self) -> None:
+        with CsaClient(port=self.port) as client:
+            self.assertEqual(client.profile("A", "C", **WINDOW), Profile(1, (replace(FAST, named_legs=FAST_LEGS),), None))
+            client.load_and_wait("slow")
+            ride = NamedRide("T1", 20240115, "A", "08:00:00", "C", "08:30:00")
+            self.assertEqual(client.profile("A", "C", **WINDOW), Profile(2, (replace(SLOW, named_legs=(ride,)),), None))
 
 
 if __name__ == "__main__":

@@ -11,7 +11,7 @@ from contextlib import contextmanager
 from dataclasses import dataclass
 from datetime import datetime, timedelta, timezone
 
-from csa_client import Criterion, CsaClient, CsaError, Pinned, Point, Profile, Refused, Ride, Walk
+from csa_client import Criterion, CsaClient, CsaError, NamedRide, NamedWalk, Pinned, Point, Profile, Refused, Ride, Walk
 
 from .feed import Stop
 from .image import Image
@@ -63,7 +63,7 @@ class Leg:
 
 @dataclass(frozen=True)
 class Departure:
-    """A best departure. Its legs are None where the image isn't that of the version that answered."""
+    """A best departure. Its legs are None where the server sends none and the image isn't that of the version that answered."""
 
     departure: datetime
     arrival: datetime
@@ -106,7 +106,8 @@ class Sessions:
 
 
 def search(sessions: Sessions, image: Image | None, query: Query) -> Answer:
-    """Asks the server, and resolves the legs where the image is the one that it answers from. Problem where there is no answer."""
+    """Asks the server. The legs are those that it sends, or else are resolved where the image is the one that it answers from. Problem where
+    there is no answer."""
     if query.source == query.target:
         raise Problem(400, REASON_OF_REFUSAL[32])
     with sessions.session() as client, client.pinned() as pinned:
@@ -126,11 +127,31 @@ def _window(pinned: Pinned, query: Query) -> dict[str, str]:
 def _answer(pinned: Pinned, profile: Profile, image: Image | None, query: Query) -> Answer:
     departures = []
     for point in profile.points:
-        legs = None if image is None else legs_of(point, image, pinned, query.source.id, query.target.id)
+        legs = _legs(point, image, pinned, query)
         rides = sum(isinstance(leg, Ride) for leg in point.legs)
         ends = pinned.instant(point.dep), pinned.instant(point.arr)
         departures.append(Departure(*ends, rides, point.walked, legs))
     return Answer(profile.version, tuple(departures), None if profile.walk is None else timedelta(seconds=profile.walk))
+
+
+def _legs(point: Point, image: Image | None, pinned: Pinned, query: Query) -> tuple[Leg, ...] | None:
+    """The legs of a point: as the server sends them, or else as the image has them."""
+    if point.named_legs is not None:
+        return named_legs_of(point.named_legs, pinned, pinned.instant(point.dep))
+    return None if image is None else legs_of(point, image, pinned, query.source.id, query.target.id)
+
+
+def named_legs_of(parts: tuple[NamedRide | NamedWalk, ...], pinned: Pinned, now: datetime) -> tuple[Leg, ...]:
+    """The legs that the server sends; a walk begins when what is before it ends."""
+    legs = []
+    for part in parts:
+        if isinstance(part, NamedWalk):
+            leg = Leg(part.from_stop, part.to_stop, now, now + timedelta(seconds=part.seconds))
+        else:
+            leg = Leg(part.from_stop, part.to_stop, pinned.instant(part.dep), pinned.instant(part.arr), part.trip)
+        legs.append(leg)
+        now = leg.arrival
+    return tuple(legs)
 
 
 def legs_of(point: Point, image: Image, pinned: Pinned, source: str, target: str) -> tuple[Leg, ...] | None:

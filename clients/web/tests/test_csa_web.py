@@ -11,15 +11,16 @@ import tempfile
 import unittest
 from collections.abc import Iterator
 from contextlib import contextmanager
+from dataclasses import replace
 from datetime import date, datetime, timedelta, timezone
 from pathlib import Path
 from zoneinfo import ZoneInfo
 
-from csa_client import Pinned, Point, Profile, Refused, SessionEnded
+from csa_client import NamedRide, NamedWalk, Pinned, Point, Profile, Refused, SessionEnded
 from csa_web.feed import Feed, _contrast
 from csa_web.gateway import Kept, create_app
 from csa_web.image import Connection, Image
-from csa_web.search import Leg, Sessions, legs_of
+from csa_web.search import Leg, Sessions, legs_of, named_legs_of
 from csa_web.words import Axis, clock, duration
 
 TOP = Path(__file__).resolve().parents[3]
@@ -152,6 +153,17 @@ class Images(unittest.TestCase):
         self.assertEqual(legs, (Leg("A", "B", at("08:00:00"), at("08:10:00"), "T1"), change, Leg("B", "C", at("08:12:00"), at("08:20:00"), "T2")))
         self.assertEqual([leg.is_change for leg in legs], [False, True, False])
 
+    def test_named_legs_need_no_image(self) -> None:
+        pinned = Pinned(1, BASE)
+        at = lambda clock: pinned.instant(clock)  # noqa: E731
+        parts = NamedWalk("A", "B", 60), NamedRide("T2", 20240115, "B", "08:12:00", "C", "08:20:00"), NamedWalk("C", "D", 30)
+        legs = (
+            Leg("A", "B", at("08:11:00"), at("08:12:00")),
+            Leg("B", "C", at("08:12:00"), at("08:20:00"), "T2"),
+            Leg("C", "D", at("08:20:00"), at("08:20:30")),
+        )
+        self.assertEqual(named_legs_of(parts, pinned, at("08:11:00")), legs)
+
     def test_legs_of_another_image_are_none(self) -> None:
         image, pinned = self.image(self.sample()), Pinned(1, BASE)
         for point, source, target in (
@@ -246,6 +258,12 @@ class Pages(Folder):
         page = self.get("/", 200, **{"from": "A", "to": "C"}, **DAY)
         self.assertIn("another timetable", page)
         self.assertEqual((page.count('class="plain"'), page.count('class="ride"')), (1, 0))
+
+    def test_what_the_server_names_needs_no_image(self) -> None:
+        self.open(Profile(2, (replace(FAST, named_legs=(NamedRide("T1", 20240115, "A", "08:00:00", "C", "08:20:00"),)),), None), base=BASE + 3600)
+        page = self.get("/", 200, **{"from": "A", "to": "C"}, **DAY)
+        self.assertNotIn("another timetable", page)
+        self.assertEqual((page.count('class="plain"'), page.count('class="ride"')), (0, 1))
 
     def test_asks_which_stop_is_meant(self) -> None:
         self.open(Profile(1, (), None))

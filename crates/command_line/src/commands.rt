@@ -24,6 +24,8 @@ enum Argument {
     Flag(&'static str, &'static str),
     /// An option without a value that isn't given beside the one of the id behind.
     OtherFlag(&'static str, &'static str, &'static str),
+    /// An option without a value that is given only beside the one of the id behind.
+    FlagBeside(&'static str, &'static str, &'static str),
 }
 
 /// A command: its word, what it does, what its help prints below the arguments, and these, in groups; commands share
@@ -65,7 +67,7 @@ const JOURNEY: [Argument; 1] = [Argument::Word(
     "The journey: `walk FROM TO SECS` and `ride FIRST LAST`, with a space between",
 )];
 
-const PROFILE: [Argument; 4] = [
+const PROFILE: [Argument; 5] = [
     Argument::Criterion("criterion", "NAME", "What is best"),
     Argument::MaybeOption(
         "picture",
@@ -80,6 +82,11 @@ const PROFILE: [Argument; 4] = [
         "json",
         "Print the answer as a session would reply it: a line of JSON",
         "names",
+    ),
+    Argument::FlagBeside(
+        "legs",
+        "With --json: print each point's legs too, by trip_id, stop_id and clock",
+        "json",
     ),
 ];
 
@@ -123,7 +130,7 @@ const BUILD: [Argument; 2] = [
     ),
 ];
 
-const SERVER: [Argument; 5] = [
+const SERVER: [Argument; 6] = [
     Argument::Option(
         "image",
         "IMAGE",
@@ -143,6 +150,10 @@ const SERVER: [Argument; 5] = [
         "sessions",
         "N",
         "How many sessions are served in all; 0 for no limit",
+    ),
+    Argument::Flag(
+        "legs",
+        "Reply each point of a profile with its legs, by trip_id, stop_id and clock",
     ),
     Argument::Words(
         "feeds",
@@ -242,6 +253,7 @@ fn arg_of<'a>(alloc: Global, argument: Argument) -> Result<Arg<'a>, AllocError> 
         }
         Argument::Flag(id, help) => Ok(flag(alloc, id, help)),
         Argument::OtherFlag(id, help, other) => flag(alloc, id, help).conflicts_with(other),
+        Argument::FlagBeside(id, help, other) => flag(alloc, id, help).requires_arg(other),
     }
 }
 

@@ -125,7 +125,9 @@ fn profile_request<'a>(matches: &ArgMatches<'a>) -> Option<ProfileRequest<'a>> {
 }
 
 fn answer_form(matches: &ArgMatches<'_>) -> AnswerForm {
-    if matches.get_flag("json") {
+    if matches.get_flag("legs") {
+        AnswerForm::JsonLegs
+    } else if matches.get_flag("json") {
         AnswerForm::Json
     } else if matches.get_flag("names") {
         AnswerForm::Names
@@ -179,6 +181,7 @@ fn serve_request<'a>(alloc: Global, matches: &ArgMatches<'a>) -> Result<Request<
         port,
         workers,
         sessions,
+        legs: matches.get_flag("legs"),
         plan,
         feeds: named_folders(alloc, matches)?,
     }))

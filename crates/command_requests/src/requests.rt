@@ -54,6 +54,8 @@ pub enum AnswerForm {
     Names,
     /// The reply of a session.
     Json,
+    /// The reply of a session, each point with its legs.
+    JsonLegs,
 }
 
 /// The image, the query that is asked of it, what is best, and how that is printed.
@@ -106,6 +108,8 @@ pub struct ServeRequest<'a> {
     pub workers: Workers,
     /// How many sessions are served in all, 0 for no end.
     pub sessions: u64,
+    /// Whether profiles are replied with the legs of journeys.
+    pub legs: bool,
     pub plan: PlanText<'a>,
     pub feeds: Vec<NamedFolder<'a>>,
 }

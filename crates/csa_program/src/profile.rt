@@ -1,4 +1,4 @@
-//! `csa profile IMAGE QUERY --criterion NAME [--names | --json] [--picture FILE]`.
+//! `csa profile IMAGE QUERY --criterion NAME [--names | --json [--legs]] [--picture FILE]`.
 
 ghost use Rattle.timetable.specs.Queries.{IsAskable};
 
@@ -13,6 +13,7 @@ use criteria::{Arrival, ArrivalTrips, ArrivalTripsWalk, CriterionName, Told};
 use image_verifier::Verified;
 use journeys::{Answer, Departure, answer_query, journey_string};
 use profile_scan::InPlace;
+use session::PointForm;
 use std::alloc::{AllocError, Global};
 use std::fmt::Write as _;
 use std::io::Write;
@@ -64,7 +65,10 @@ fn answer_text<'a, H: Files + AllocGlobal, C: Told>(
     let text = match request.form {
         AnswerForm::Numbers => answer_lines(rt.alloc(), criterion, &answer, None)?,
         AnswerForm::Names => answer_lines(rt.alloc(), criterion, &answer, Some(image))?,
-        AnswerForm::Json => reply_line(rt.alloc(), criterion, &answer)?,
+        AnswerForm::Json => { reply_line(rt.alloc(), PointForm::Bare, image, criterion, &answer)? }
+        AnswerForm::JsonLegs => {
+            reply_line(rt.alloc(), PointForm::WithLegs, image, criterion, &answer)?
+        }
     };
     Ok(text)
 }

@@ -1,12 +1,13 @@
 //! An answer as a session replies it.
 
-ghost use Rattle.std.specs.Prelude.{◌≡◌, IfOk, map, string_bytes};
-ghost use Rattle.session.specs.Profiles.{departure_data};
+ghost use Rattle.std.specs.Prelude.{◌≡◌, IfOk, string_bytes};
+ghost use Rattle.session.specs.Profiles.{departures_data};
 ghost use Rattle.session_texts.specs.Replies.{line_of, profile_data};
 
 use criteria::Told;
+use image_verifier::Verified;
 use journeys::Answer;
-use session::profile_reply;
+use session::{PointForm, profile_reply};
 use std::alloc::{AllocError, Global};
 
 /// The version that an image is which a server has just opened.
@@ -15,10 +16,13 @@ const FIRST_VERSION: u64 = 1;
 /// The line that a session replies over the image as version 1.
 pub fn reply_line<C: Told>(
     alloc: Global,
+    form: PointForm,
+    image: &Verified,
     criterion: &C,
     answer: &Answer<C>,
 ) -> Result<String, AllocError>
-    ensures { IfOk result (λ line. string_bytes line ≡ line_of (profile_data (map (departure_data C.told) answer.now.departures.items) 1 answer.now.walk)) }
+    ensures { IfOk result (λ line. string_bytes line ≡ line_of (profile_data
+        (departures_data form image.now C.told answer.now.departures.items) 1 answer.now.walk)) }
 {
-    profile_reply(alloc, FIRST_VERSION, criterion, answer)
+    profile_reply(alloc, form, image, FIRST_VERSION, criterion, answer)
 }

@@ -1,4 +1,5 @@
-//! `csa serve --image IMAGE --port P --workers W --sessions N --first DAY --days N --zone ZONE [NAME=FOLDER]..`.
+//! `csa serve --image IMAGE --port P --workers W --sessions N [--legs] --first DAY --days N --zone ZONE
+//! [NAME=FOLDER]..`.
 
 ghost use Rattle.std.specs.Prelude.{◌≡◌, ◌≤◌, All, length, IfOk};
 ghost use Rattle.connections.specs.declared.days.TheConstants.{MAX_DAYS};
@@ -23,7 +24,7 @@ use std::marker::Brand;
 use std::net::{Ipv4Addr, Net, TcpListener, TcpStream};
 use std::sync::{Arc, Wait};
 use std::thread::Threads;
-use workers::{Feeds, Served, run_shelves};
+use workers::{Feeds, PointForm, Served, run_shelves};
 
 /// The folders of the feeds that may be loaded.
 #[derive(Drop)]
@@ -134,10 +135,28 @@ fn listen<
     }
     let door = Door::new(&listener, request.sessions);
     match run_shelves::<Brand, _, _, _, _, _, _, _, _, _>(
-        rt, alloc, door, shelves, seats, loader, folders, &OpenGate, errors,
+        rt,
+        alloc,
+        door,
+        shelves,
+        seats,
+        loader,
+        folders,
+        &OpenGate,
+        form_of(request),
+        errors,
     ) {
         Ok((served, door)) => tell_served(alloc, &served, door.has_failed(), output),
         Err(_) => status::OUT_OF_MEMORY,
+    }
+}
+
+// In which form profiles are replied.
+fn form_of(request: &ServeRequest<'_>) -> PointForm {
+    if request.legs {
+        PointForm::WithLegs
+    } else {
+        PointForm::Bare
     }
 }
 

@@ -12,12 +12,14 @@ use Rattle.journeys.specs.Answer.{point_of}
 use Rattle.journeys.specs.Extracted.{Attains}
 use Rattle.journeys.specs.declared.answering.Departure.{Departure}
 use Rattle.session_texts.specs.Replies.{line_of, profile_data}
-use Rattle.session.specs.Profiles.{IsAnswered, departure_data}
+use Rattle.session.specs.declared.point_form.PointForm.{PointForm}
+use Rattle.session.specs.Profiles.{IsAnswered, departures_data}
 
-pub answered_line : {V : Type 0} (told : V → ToldValue) (rules : Rules V) (image : ImageValue) (t : TimetableValue) (version : ℕ) (q : Query) (departures : List (Departure V)) (walk : Option ℕ) (points : List Data) (line : List ℕ)
+pub answered_line : {V : Type 0} (form : PointForm) (told : V → ToldValue) (rules : Rules V) (image : ImageValue) (t : TimetableValue) (version : ℕ)
+    (q : Query) (departures : List (Departure V)) (walk : Option ℕ) (points : List Data) (line : List ℕ)
     → t ≡ image.timetable → IsAnswer rules t q (map point_of departures) → ((d : Departure V) → Contains departures d → Attains rules t q (point_of d) d.journey) → IsWay t q.target q.source walk
-    → points ≡ map (departure_data told) departures → line ≡ line_of (profile_data points version walk) → IsAnswered told rules image version q line
-answered_line {V} told rules image t version q departures walk points line same answer attained direct points_are line_is = record {
+    → points ≡ departures_data form image told departures → line ≡ line_of (profile_data points version walk) → IsAnswered form told rules image version q line
+answered_line {V} form told rules image t version q departures walk points line same answer attained direct points_are line_is = record {
   departures = departures;
   walk = walk;
   answer = subst (λ (x : TimetableValue). IsAnswer rules x q (map point_of departures)) same answer;

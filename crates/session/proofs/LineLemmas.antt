@@ -12,6 +12,7 @@ use Rattle.lines.specs.declared.reader.LineReader.{LineReader}
 use Rattle.lines.proofs.CutLemmas.{IsCut-lines, IsCut-rest, IsCut-whole, lines_of-some}
 use Rattle.lines.proofs.GivenLemmas.{HasGiven-start, HasGiven-read, HasGiven-ended, HasGiven-rest, HasGiven-nothing}
 use Rattle.orders.specs.Ordering.{OrderValue}
+use Rattle.session.specs.declared.point_form.PointForm.{PointForm}
 use Rattle.session.specs.declared.fault.Ended.{Ended}
 use Rattle.session.specs.declared.fault.SessionFault.{SessionFault}
 use Rattle.session.specs.Sessions.{AreShort, AreTurns, EndsSo, IsCutShort, Serves, lines_in, text_of}
@@ -19,22 +20,26 @@ use Rattle.session.specs.Turns.{Turn, TurnsTo}
 use Rattle.session.proofs.TurnLemmas.{AreTurns-more, lines_in-more, text_of-more}
 
 -- the lines that were given are answered, and the replies written
-pub record SoFar (number : ℕ) (to_read read_then : Option (List ℕ)) (unread : List ℕ) (contents contents_then : Option (List ℕ)) (a : SeatValue) (asked : List OrderValue) (b : SeatValue) (asked_then : List OrderValue) (count : ℕ) : Type 0 where
+pub record SoFar (form : PointForm) (number : ℕ) (to_read read_then : Option (List ℕ)) (unread : List ℕ) (contents contents_then : Option (List ℕ))
+    (a : SeatValue) (asked : List OrderValue) (b : SeatValue) (asked_then : List OrderValue) (count : ℕ) : Type 0 where
   pub turns : List Turn
   pub given : HasGiven to_read read_then unread (lines_in turns)
   pub writes : Appends contents contents_then (text_of turns)
-  pub does : AreTurns number a asked turns b asked_then
+  pub does : AreTurns form number a asked turns b asked_then
   pub many : length turns ≡ count
   pub short : AreShort turns
 
-pub SoFar-start : (number : ℕ) (known : Option (List ℕ)) (unread : List ℕ) (contents : Option (List ℕ)) (a : SeatValue) (asked : List OrderValue) → unread ≡ [] → SoFar number known known unread contents contents a asked a asked 0
-SoFar-start number known unread contents a asked none = record { turns = []; given = HasGiven-start known unread none; writes = Appends-nil contents; does = (refl, refl); many = refl; short = tt }
+pub SoFar-start : {form : PointForm} (number : ℕ) (known : Option (List ℕ)) (unread : List ℕ) (contents : Option (List ℕ)) (a : SeatValue)
+    (asked : List OrderValue) → unread ≡ [] → SoFar form number known known unread contents contents a asked a asked 0
+SoFar-start {form} number known unread contents a asked none =
+    record { turns = []; given = HasGiven-start known unread none; writes = Appends-nil contents; does = (refl, refl); many = refl; short = tt }
 
 -- a turn for a line: what it does, and how much of its reply is written
-pub record TurnOf (number : ℕ) (line : List ℕ) (b : SeatValue) (between : List OrderValue) (after : SeatValue) (asked_then : List OrderValue) (contents contents_then : Option (List ℕ)) (written : ℕ) : Type 0 where
+pub record TurnOf (form : PointForm) (number : ℕ) (line : List ℕ) (b : SeatValue) (between : List OrderValue) (after : SeatValue)
+    (asked_then : List OrderValue) (contents contents_then : Option (List ℕ)) (written : ℕ) : Type 0 where
   pub turn : Turn
   pub line_is : turn.line ≡ line
-  pub does : TurnsTo number b between turn after asked_then
+  pub does : TurnsTo form number b between turn after asked_then
   pub writes : Appends contents contents_then (take written turn.reply)
 
 more_lines : (turns : List Turn) (t : Turn) (line : List ℕ) → t.line ≡ line → lines_in (turns ++ t ∷ []) ≡ lines_in turns ++ line ∷ []
@@ -56,11 +61,12 @@ first_of : (given rest : List (List ℕ)) (all : List (List ℕ)) → all ≡ gi
 first_of given rest all is = sym (ap (λ (ls : List (List ℕ)). take (length given) ls) is ∙ take-append-le (length given) given rest (omega arith) ∙ take_all (length given) given (omega arith))
 
 -- a line is answered and its reply is written
-pub SoFar-more : (number : ℕ) (to_read known later : Option (List ℕ)) (unread bytes : List ℕ) (contents wrote writes : Option (List ℕ)) (a b after : SeatValue) (asked between asked_then : List OrderValue) (count : ℕ) (new : LineReader)
-    → SoFar number to_read known unread contents wrote a asked b between count → Consumes known later bytes → (gives : GivesEnded (unread ++ bytes) new)
-    → (t : Turn) → t.line ≡ gives.line → TurnsTo number b between t after asked_then → Appends wrote writes t.reply
-    → SoFar number to_read later (unread_of new) contents writes a asked after asked_then (count + 1)
-SoFar-more number to_read known later unread bytes contents wrote writes a b after asked between asked_then count new so_far came gives t line_is turn written =
+pub SoFar-more : {form : PointForm} (number : ℕ) (to_read known later : Option (List ℕ)) (unread bytes : List ℕ) (contents wrote writes : Option (List ℕ))
+    (a b after : SeatValue) (asked between asked_then : List OrderValue) (count : ℕ) (new : LineReader)
+    → SoFar form number to_read known unread contents wrote a asked b between count → Consumes known later bytes → (gives : GivesEnded (unread ++ bytes) new)
+    → (t : Turn) → t.line ≡ gives.line → TurnsTo form number b between t after asked_then → Appends wrote writes t.reply
+    → SoFar form number to_read later (unread_of new) contents writes a asked after asked_then (count + 1)
+SoFar-more {form} number to_read known later unread bytes contents wrote writes a b after asked between asked_then count new so_far came gives t line_is turn written =
     let given = HasGiven-ended to_read known later unread bytes (lines_in so_far.turns) new so_far.given came gives in
     let lines : lines_in so_far.turns ++ gives.line ∷ [] ≡ lines_in (so_far.turns ++ t ∷ []) = sym (more_lines so_far.turns t gives.line line_is) in
     let text : text_of so_far.turns ++ t.reply ≡ text_of (so_far.turns ++ t ∷ []) = sym (text_of-more so_far.turns t) in
@@ -81,40 +87,46 @@ pub not_rose : (first now : ℕ) → now ≡ first → ¬ (first < now)
 not_rose first now same up = absurd (omega (arith, same, up))
 
 -- a session that ends so behind the lines that are answered
-serves_so_far : (number : ℕ) (result : Result Ended SessionFault) (to_read known later : Option (List ℕ)) (unread bytes : List ℕ)
+serves_so_far : {form : PointForm} (number : ℕ) (result : Result Ended SessionFault) (to_read known later : Option (List ℕ)) (unread bytes : List ℕ)
     (contents wrote : Option (List ℕ)) (a b : SeatValue) (asked asked_then : List OrderValue) (count : ℕ) (read_failed write_failed : Type 0)
-    → count ≤ 1_000_000 → (so_far : SoFar number to_read known unread contents wrote a asked b asked_then count)
+    → count ≤ 1_000_000 → (so_far : SoFar form number to_read known unread contents wrote a asked b asked_then count)
     → (more : HasGiven to_read later (unread ++ bytes) (lines_in so_far.turns))
     → EndsSo result more.read (text_of so_far.turns) so_far.turns (IsAtEnd later) read_failed write_failed
-    → Serves number result to_read later contents wrote read_failed write_failed a asked b asked_then
-serves_so_far number result to_read known later unread bytes contents wrote a b asked asked_then count read_failed write_failed few so_far more ends = record {
-  read = more.read;
-  written = text_of so_far.turns;
-  turns = so_far.turns;
-  reads = more.consumed;
-  writes = so_far.writes;
-  does = so_far.does;
-  few = omega (arith, so_far.many, few);
-  short = so_far.short;
-  ends = ends;
-}
+    → Serves form number result to_read later contents wrote read_failed write_failed a asked b asked_then
+serves_so_far {form} number result to_read known later unread bytes contents wrote a b asked asked_then count read_failed write_failed few so_far more ends =
+    record {
+      read = more.read;
+      written = text_of so_far.turns;
+      turns = so_far.turns;
+      reads = more.consumed;
+      writes = so_far.writes;
+      does = so_far.does;
+      few = omega (arith, so_far.many, few);
+      short = so_far.short;
+      ends = ends;
+    }
 
 -- nothing is left
-pub ends_at_end : (number : ℕ) (to_read known later : Option (List ℕ)) (unread bytes : List ℕ) (contents wrote : Option (List ℕ)) (a b : SeatValue) (asked asked_then : List OrderValue) (count : ℕ) (read_failed write_failed : Type 0) (ended : Ended)
-    → count ≤ 1_000_000 → SoFar number to_read known unread contents wrote a asked b asked_then count → Consumes known later bytes → unread ++ bytes ≡ [] → IsAtEnd later → (¬ read_failed) → (¬ write_failed)
-    → Serves number (Ok ended) to_read later contents wrote read_failed write_failed a asked b asked_then
-ends_at_end number to_read known later unread bytes contents wrote a b asked asked_then count read_failed write_failed ended few so_far came none end no_read no_write =
+pub ends_at_end : {form : PointForm} (number : ℕ) (to_read known later : Option (List ℕ)) (unread bytes : List ℕ) (contents wrote : Option (List ℕ))
+    (a b : SeatValue) (asked asked_then : List OrderValue) (count : ℕ) (read_failed write_failed : Type 0) (ended : Ended)
+    → count ≤ 1_000_000 → SoFar form number to_read known unread contents wrote a asked b asked_then count → Consumes known later bytes → unread ++ bytes ≡ []
+    → IsAtEnd later → (¬ read_failed) → (¬ write_failed)
+    → Serves form number (Ok ended) to_read later contents wrote read_failed write_failed a asked b asked_then
+ends_at_end {form} number to_read known later unread bytes contents wrote a b asked asked_then count read_failed write_failed ended few so_far came none end no_read no_write =
     let more = HasGiven-read to_read known later unread bytes (lines_in so_far.turns) so_far.given came in
     serves_so_far number (Ok ended) to_read known later unread bytes contents wrote a b asked asked_then count
     read_failed write_failed few so_far more
     (end, no_read, no_write, sym (HasGiven-nothing to_read later (unread ++ bytes) (lines_in so_far.turns) more none), refl)
 
 -- the rest was the last line
-pub ends_with_rest : (number : ℕ) (to_read known later : Option (List ℕ)) (unread bytes : List ℕ) (contents wrote writes : Option (List ℕ)) (a b after : SeatValue) (asked between asked_then : List OrderValue) (count : ℕ) (new : LineReader) (read_failed write_failed : Type 0) (ended : Ended)
-    → count < 1_000_000 → SoFar number to_read known unread contents wrote a asked b between count → Consumes known later bytes → GivesRest (unread ++ bytes) new (IsAtEnd later)
-    → (t : Turn) → t.line ≡ unread ++ bytes → TurnsTo number b between t after asked_then → Appends wrote writes t.reply → (¬ read_failed) → (¬ write_failed)
-    → Serves number (Ok ended) to_read later contents writes read_failed write_failed a asked after asked_then
-ends_with_rest number to_read known later unread bytes contents wrote writes a b after asked between asked_then count new read_failed write_failed ended few so_far came gives t line_is turn written no_read no_write =
+pub ends_with_rest : {form : PointForm} (number : ℕ) (to_read known later : Option (List ℕ)) (unread bytes : List ℕ)
+    (contents wrote writes : Option (List ℕ)) (a b after : SeatValue) (asked between asked_then : List OrderValue) (count : ℕ) (new : LineReader) (read_failed write_failed : Type 0) (ended : Ended)
+    → count < 1_000_000 → SoFar form number to_read known unread contents wrote a asked b between count → Consumes known later bytes
+    → GivesRest (unread ++ bytes) new (IsAtEnd later)
+    → (t : Turn) → t.line ≡ unread ++ bytes → TurnsTo form number b between t after asked_then → Appends wrote writes t.reply → (¬ read_failed)
+    → (¬ write_failed)
+    → Serves form number (Ok ended) to_read later contents writes read_failed write_failed a asked after asked_then
+ends_with_rest {form} number to_read known later unread bytes contents wrote writes a b after asked between asked_then count new read_failed write_failed ended few so_far came gives t line_is turn written no_read no_write =
     let more = HasGiven-read to_read known later unread bytes (lines_in so_far.turns) so_far.given came in
     let lines : lines_in (so_far.turns ++ t ∷ []) ≡ lines_of more.read = more_lines so_far.turns t (unread ++ bytes) line_is ∙ sym (HasGiven-rest to_read later (unread ++ bytes) (lines_in so_far.turns) more gives.one gives.some) in
     let text : text_of so_far.turns ++ t.reply ≡ text_of (so_far.turns ++ t ∷ []) = sym (text_of-more so_far.turns t) in
@@ -131,12 +143,15 @@ ends_with_rest number to_read known later unread bytes contents wrote writes a b
     }
 
 -- a reply isn't wholly written: these bytes were read, and of all their lines those given are the first
-cut_short : (number : ℕ) (to_read later : Option (List ℕ)) (read : List ℕ) (rest : List (List ℕ)) (line : List ℕ) (contents wrote writes : Option (List ℕ)) (a b after : SeatValue) (asked between asked_then : List OrderValue) (read_failed write_failed : Type 0) (turns : List Turn)
-    → Consumes to_read later read → AreTurns number a asked turns b between → Appends contents wrote (text_of turns) → lines_of read ≡ (lines_in turns ++ line ∷ []) ++ rest
+cut_short : {form : PointForm} (number : ℕ) (to_read later : Option (List ℕ)) (read : List ℕ) (rest : List (List ℕ)) (line : List ℕ)
+    (contents wrote writes : Option (List ℕ)) (a b after : SeatValue) (asked between asked_then : List OrderValue) (read_failed write_failed : Type 0) (turns : List Turn)
+    → Consumes to_read later read → AreTurns form number a asked turns b between → Appends contents wrote (text_of turns)
+    → lines_of read ≡ (lines_in turns ++ line ∷ []) ++ rest
     → length turns < 1_000_000 → AreShort turns → length line ≤ 16_777_216
-    → (t : Turn) → t.line ≡ line → TurnsTo number b between t after asked_then → (n : ℕ) → Appends wrote writes (take n t.reply) → (¬ read_failed) → write_failed
-    → Serves number (Err SessionFault.WriteFailed) to_read later contents writes read_failed write_failed a asked after asked_then
-cut_short number to_read later read rest line contents wrote writes a b after asked between asked_then read_failed write_failed turns consumed does before all few short short_line t line_is turn n written no_read failed =
+    → (t : Turn) → t.line ≡ line → TurnsTo form number b between t after asked_then → (n : ℕ) → Appends wrote writes (take n t.reply) → (¬ read_failed)
+    → write_failed
+    → Serves form number (Err SessionFault.WriteFailed) to_read later contents writes read_failed write_failed a asked after asked_then
+cut_short {form} number to_read later read rest line contents wrote writes a b after asked between asked_then read_failed write_failed turns consumed does before all few short short_line t line_is turn n written no_read failed =
     let lines : lines_of read ≡ lines_in (turns ++ t ∷ []) ++ rest = all ∙ ap (λ (ls : List (List ℕ)). ls ++ rest) (sym (more_lines turns t line line_is)) in
     let cut : IsCutShort (text_of turns ++ take n t.reply) (turns ++ t ∷ []) = record { answered = turns; last = t; count = n; turns_are = refl; written_is = refl } in
     record {
@@ -151,31 +166,39 @@ cut_short number to_read later read rest line contents wrote writes a b after as
       ends = (failed, no_read, (length (lines_in (turns ++ t ∷ [])), first_of (lines_in (turns ++ t ∷ [])) rest (lines_of read) lines), cut);
     }
 
-pub cut_short_at_line : (number : ℕ) (to_read known later : Option (List ℕ)) (unread bytes : List ℕ) (contents wrote writes : Option (List ℕ)) (a b after : SeatValue) (asked between asked_then : List OrderValue) (count : ℕ) (new : LineReader) (read_failed write_failed : Type 0)
-    → count < 1_000_000 → SoFar number to_read known unread contents wrote a asked b between count → Consumes known later bytes → (gives : GivesEnded (unread ++ bytes) new)
-    → (t : Turn) → t.line ≡ gives.line → TurnsTo number b between t after asked_then → (n : ℕ) → Appends wrote writes (take n t.reply) → (¬ read_failed) → write_failed
-    → Serves number (Err SessionFault.WriteFailed) to_read later contents writes read_failed write_failed a asked after asked_then
-cut_short_at_line number to_read known later unread bytes contents wrote writes a b after asked between asked_then count new read_failed write_failed few so_far came gives t line_is turn n written no_read failed =
+pub cut_short_at_line : {form : PointForm} (number : ℕ) (to_read known later : Option (List ℕ)) (unread bytes : List ℕ)
+    (contents wrote writes : Option (List ℕ)) (a b after : SeatValue) (asked between asked_then : List OrderValue) (count : ℕ) (new : LineReader) (read_failed write_failed : Type 0)
+    → count < 1_000_000 → SoFar form number to_read known unread contents wrote a asked b between count → Consumes known later bytes
+    → (gives : GivesEnded (unread ++ bytes) new)
+    → (t : Turn) → t.line ≡ gives.line → TurnsTo form number b between t after asked_then → (n : ℕ) → Appends wrote writes (take n t.reply) → (¬ read_failed)
+    → write_failed
+    → Serves form number (Err SessionFault.WriteFailed) to_read later contents writes read_failed write_failed a asked after asked_then
+cut_short_at_line {form} number to_read known later unread bytes contents wrote writes a b after asked between asked_then count new read_failed write_failed few so_far came gives t line_is turn n written no_read failed =
     let given = HasGiven-ended to_read known later unread bytes (lines_in so_far.turns) new so_far.given came gives in
     cut_short number to_read later given.read (lines_of (unread_of new)) gives.line contents wrote writes a b after asked between asked_then read_failed write_failed so_far.turns given.consumed so_far.does so_far.writes
     (IsCut-lines given.read (unread_of new) (lines_in so_far.turns ++ gives.line ∷ []) given.cut)
     (omega (arith, few, so_far.many)) so_far.short gives.short t line_is turn n written no_read failed
 
-pub cut_short_at_rest : (number : ℕ) (to_read known later : Option (List ℕ)) (unread bytes : List ℕ) (contents wrote writes : Option (List ℕ)) (a b after : SeatValue) (asked between asked_then : List OrderValue) (count : ℕ) (new : LineReader) (read_failed write_failed : Type 0)
-    → count < 1_000_000 → SoFar number to_read known unread contents wrote a asked b between count → Consumes known later bytes → GivesRest (unread ++ bytes) new (IsAtEnd later)
-    → (t : Turn) → t.line ≡ unread ++ bytes → TurnsTo number b between t after asked_then → (n : ℕ) → Appends wrote writes (take n t.reply) → (¬ read_failed) → write_failed
-    → Serves number (Err SessionFault.WriteFailed) to_read later contents writes read_failed write_failed a asked after asked_then
-cut_short_at_rest number to_read known later unread bytes contents wrote writes a b after asked between asked_then count new read_failed write_failed few so_far came gives t line_is turn n written no_read failed =
+pub cut_short_at_rest : {form : PointForm} (number : ℕ) (to_read known later : Option (List ℕ)) (unread bytes : List ℕ)
+    (contents wrote writes : Option (List ℕ)) (a b after : SeatValue) (asked between asked_then : List OrderValue) (count : ℕ) (new : LineReader) (read_failed write_failed : Type 0)
+    → count < 1_000_000 → SoFar form number to_read known unread contents wrote a asked b between count → Consumes known later bytes
+    → GivesRest (unread ++ bytes) new (IsAtEnd later)
+    → (t : Turn) → t.line ≡ unread ++ bytes → TurnsTo form number b between t after asked_then → (n : ℕ) → Appends wrote writes (take n t.reply)
+    → (¬ read_failed) → write_failed
+    → Serves form number (Err SessionFault.WriteFailed) to_read later contents writes read_failed write_failed a asked after asked_then
+cut_short_at_rest {form} number to_read known later unread bytes contents wrote writes a b after asked between asked_then count new read_failed write_failed few so_far came gives t line_is turn n written no_read failed =
     let more = HasGiven-read to_read known later unread bytes (lines_in so_far.turns) so_far.given came in
     let lines : lines_of more.read ≡ (lines_in so_far.turns ++ (unread ++ bytes) ∷ []) ++ [] = HasGiven-rest to_read later (unread ++ bytes) (lines_in so_far.turns) more gives.one gives.some ∙ sym (append-nil (lines_in so_far.turns ++ (unread ++ bytes) ∷ [])) in
     cut_short number to_read later more.read [] (unread ++ bytes) contents wrote writes a b after asked between asked_then read_failed write_failed so_far.turns more.consumed so_far.does so_far.writes lines
     (omega (arith, few, so_far.many)) so_far.short gives.short t line_is turn n written no_read failed
 
 -- a line can't be read: the lines before it are answered
-pub read_fails : (number : ℕ) (to_read known later : Option (List ℕ)) (unread bytes : List ℕ) (contents wrote : Option (List ℕ)) (a b : SeatValue) (asked asked_then : List OrderValue) (count : ℕ) (read_failed write_failed : Type 0)
-    → count ≤ 1_000_000 → SoFar number to_read known unread contents wrote a asked b asked_then count → Consumes known later bytes → IsOneLine (unread ++ bytes) → read_failed ⊎ (length (unread ++ bytes) ≡ 16_777_217) → (¬ write_failed)
-    → Serves number (Err SessionFault.ReadFailed) to_read later contents wrote read_failed write_failed a asked b asked_then
-read_fails number to_read known later unread bytes contents wrote a b asked asked_then count read_failed write_failed few so_far came one failed no_write =
+pub read_fails : {form : PointForm} (number : ℕ) (to_read known later : Option (List ℕ)) (unread bytes : List ℕ) (contents wrote : Option (List ℕ))
+    (a b : SeatValue) (asked asked_then : List OrderValue) (count : ℕ) (read_failed write_failed : Type 0)
+    → count ≤ 1_000_000 → SoFar form number to_read known unread contents wrote a asked b asked_then count → Consumes known later bytes
+    → IsOneLine (unread ++ bytes) → read_failed ⊎ (length (unread ++ bytes) ≡ 16_777_217) → (¬ write_failed)
+    → Serves form number (Err SessionFault.ReadFailed) to_read later contents wrote read_failed write_failed a asked b asked_then
+read_fails {form} number to_read known later unread bytes contents wrote a b asked asked_then count read_failed write_failed few so_far came one failed no_write =
     let more = HasGiven-read to_read known later unread bytes (lines_in so_far.turns) so_far.given came in
     let rest : rest_of more.read ≡ unread ++ bytes = IsCut-rest more.read (unread ++ bytes) (lines_in so_far.turns) one more.cut in
     let why : read_failed ⊎ (length (rest_of more.read) ≡ 16_777_217) = subst (λ (xs : List ℕ). read_failed ⊎ (length xs ≡ 16_777_217)) (sym rest) failed in
@@ -184,10 +207,12 @@ read_fails number to_read known later unread bytes contents wrote a b asked aske
     (why, no_write, sym (IsCut-whole more.read (unread ++ bytes) (lines_in so_far.turns) one more.cut), refl)
 
 -- a million lines are answered, and a byte is there
-pub too_many : (number : ℕ) (to_read known later : Option (List ℕ)) (unread bytes : List ℕ) (contents wrote : Option (List ℕ)) (a b : SeatValue) (asked asked_then : List OrderValue) (count : ℕ) (read_failed write_failed : Type 0)
-    → count ≡ 1_000_000 → SoFar number to_read known unread contents wrote a asked b asked_then count → Consumes known later bytes → 0 < length (unread ++ bytes) → (¬ read_failed) → (¬ write_failed)
-    → Serves number (Err SessionFault.TooManyRequests) to_read later contents wrote read_failed write_failed a asked b asked_then
-too_many number to_read known later unread bytes contents wrote a b asked asked_then count read_failed write_failed million so_far came some no_read no_write =
+pub too_many : {form : PointForm} (number : ℕ) (to_read known later : Option (List ℕ)) (unread bytes : List ℕ) (contents wrote : Option (List ℕ))
+    (a b : SeatValue) (asked asked_then : List OrderValue) (count : ℕ) (read_failed write_failed : Type 0)
+    → count ≡ 1_000_000 → SoFar form number to_read known unread contents wrote a asked b asked_then count → Consumes known later bytes
+    → 0 < length (unread ++ bytes) → (¬ read_failed) → (¬ write_failed)
+    → Serves form number (Err SessionFault.TooManyRequests) to_read later contents wrote read_failed write_failed a asked b asked_then
+too_many {form} number to_read known later unread bytes contents wrote a b asked asked_then count read_failed write_failed million so_far came some no_read no_write =
     let more = HasGiven-read to_read known later unread bytes (lines_in so_far.turns) so_far.given came in
     let all : lines_of more.read ≡ lines_in so_far.turns ++ lines_of (unread ++ bytes) = IsCut-lines more.read (unread ++ bytes) (lines_in so_far.turns) more.cut in
     let further : 0 < length (lines_of (unread ++ bytes)) = lines_of-some (unread ++ bytes) some in
@@ -204,8 +229,9 @@ why_failed first before now long below same (inl more) = inl (rose first before 
 why_failed first before now long below same (inr too_long) = inr too_long.1
 
 -- the seat's number stays
-pub TurnsTo-number : (n number : ℕ) (b after : SeatValue) (between asked_then : List OrderValue) (t : Turn) → n ≡ number → TurnsTo n b between t after asked_then → TurnsTo number b between t after asked_then
-TurnsTo-number n number b after between asked_then t same turn = subst (λ (k : ℕ). TurnsTo k b between t after asked_then) same turn
+pub TurnsTo-number : {form : PointForm} (n number : ℕ) (b after : SeatValue) (between asked_then : List OrderValue) (t : Turn) → n ≡ number
+    → TurnsTo form n b between t after asked_then → TurnsTo form number b between t after asked_then
+TurnsTo-number {form} n number b after between asked_then t same turn = subst (λ (k : ℕ). TurnsTo form k b between t after asked_then) same turn
 
 pub some_bytes : (new bytes : List ℕ) → new ≡ bytes → 0 < length new → 0 < length bytes
 some_bytes new bytes same some = subst (λ (xs : List ℕ). 0 < length xs) same some

@@ -7,6 +7,7 @@ use Rattle.epochs.specs.Pins.{HoldsInHistory}
 use Rattle.epochs.specs.Seats.{SeatValue, PinStep, ReleaseStep}
 use Rattle.session_texts.specs.Replies.{pin_text, release_text}
 use Rattle.session_texts.specs.Requests.{AskValue, pin, release, profile}
+use Rattle.session.specs.declared.point_form.PointForm.{PointForm}
 use Rattle.session.specs.Lines.{Asked, asks, memory_line, pin_fault_line}
 use Rattle.session.specs.Profiles.{IsProfileReply}
 use Rattle.session.specs.SeatSteps.{answered}
@@ -14,9 +15,10 @@ use Rattle.session.specs.Turns.{IsMet, ProfileIsMet, ProfileIsMetOnce, PinIsMet,
 use Rattle.session.proofs.SeatLemmas.{is_pinned, is_released, pins_once, some_is_held}
 
 -- a pin is told
-pub pin_met : (number : ℕ) (a m : SeatValue) (v : ℕ) (image : ImageValue) (reply : List ℕ) → PinStep a (Ok tt) m → HoldsInHistory number m.held → m.held ≡ Some (v, image)
-    → reply ≡ pin_text image.names.base v ++ 10 ∷ [] → IsMet number a (asks pin) reply m
-pin_met number a m v image reply step known held told =
+pub pin_met : {form : PointForm} (number : ℕ) (a m : SeatValue) (v : ℕ) (image : ImageValue) (reply : List ℕ) → PinStep a (Ok tt) m
+    → HoldsInHistory number m.held → m.held ≡ Some (v, image)
+    → reply ≡ pin_text image.names.base v ++ 10 ∷ [] → IsMet form number a (asks pin) reply m
+pin_met {form} number a m v image reply step known held told =
     let pinned = is_pinned number a m v image step known held in
     let met : PinIsMet (answered (Answer.Pinned v pinned.shown) ∷ []) reply = record {
       version = v;
@@ -26,16 +28,17 @@ pin_met number a m v image reply step known held told =
     } in
     record { moves = answered (Answer.Pinned v pinned.shown) ∷ []; meets = inr (refl, inl met); seat = (m, pinned.step, refl) }
 
-pub pin_refused : (number : ℕ) (a b : SeatValue) (fault : PinFault) (reply : List ℕ) → PinStep a (Err fault) b → reply ≡ pin_fault_line fault → IsMet number a (asks pin) reply b
-pin_refused number a b fault reply step told =
+pub pin_refused : {form : PointForm} (number : ℕ) (a b : SeatValue) (fault : PinFault) (reply : List ℕ) → PinStep a (Err fault) b → reply ≡ pin_fault_line fault
+    → IsMet form number a (asks pin) reply b
+pin_refused {form} number a b fault reply step told =
     let met : PinIsRefused (answered (Answer.PinRefused fault) ∷ []) reply = record { fault = fault; moves_are = refl; reply_is = told } in
     record { moves = answered (Answer.PinRefused fault) ∷ []; meets = inr (refl, inr met); seat = (b, step, refl) }
 
 -- where memory is wanting, what was pinned is given back
-given_back : (number : ℕ) (asked : Asked) (a m b : SeatValue) (v : ℕ) (image : ImageValue) (r : Result (Unit {0}) PinFault)
+given_back : {form : PointForm} (number : ℕ) (asked : Asked) (a m b : SeatValue) (v : ℕ) (image : ImageValue) (r : Result (Unit {0}) PinFault)
     (reply : List ℕ) → PinStep a (Ok tt) m → HoldsInHistory number m.held → m.held ≡ Some (v, image)
-    → ReleaseStep m r b → reply ≡ memory_line → IsMet number a asked reply b
-given_back number asked a m b v image r reply step known held back told =
+    → ReleaseStep m r b → reply ≡ memory_line → IsMet form number a asked reply b
+given_back {form} number asked a m b v image r reply step known held back told =
     let pinned = is_pinned number a m v image step known held in
     let released = is_released number m b r (some_is_held v image m.held held) back in
     let both = pins_once number a m b v image pinned released in
@@ -46,51 +49,57 @@ given_back number asked a m b v image r reply step known held back told =
     }
 
 -- a pin that can't be told
-pub pin_given_back : (number : ℕ) (a m b : SeatValue) (v : ℕ) (image : ImageValue) (r : Result (Unit {0}) PinFault) (reply : List ℕ)
+pub pin_given_back : {form : PointForm} (number : ℕ) (a m b : SeatValue) (v : ℕ) (image : ImageValue) (r : Result (Unit {0}) PinFault) (reply : List ℕ)
     → PinStep a (Ok tt) m → HoldsInHistory number m.held → m.held ≡ Some (v, image)
-    → ReleaseStep m r b → reply ≡ memory_line → IsMet number a (asks pin) reply b
-pin_given_back number a m b v image r reply step known held back told = given_back number (asks pin) a m b v image r reply step known held back told
+    → ReleaseStep m r b → reply ≡ memory_line → IsMet form number a (asks pin) reply b
+pin_given_back {form} number a m b v image r reply step known held back told = given_back number (asks pin) a m b v image r reply step known held back told
 
-pub release_met : (number : ℕ) (a b : SeatValue) (reply : List ℕ) → ReleaseStep a (Ok tt) b → reply ≡ release_text → IsMet number a (asks release) reply b
-release_met number a b reply step told = record { moves = answered Answer.Released ∷ []; meets = inr (refl, inl (refl, told)); seat = (b, step, refl) }
+pub release_met : {form : PointForm} (number : ℕ) (a b : SeatValue) (reply : List ℕ) → ReleaseStep a (Ok tt) b → reply ≡ release_text
+    → IsMet form number a (asks release) reply b
+release_met {form} number a b reply step told = record { moves = answered Answer.Released ∷ []; meets = inr (refl, inl (refl, told)); seat = (b, step, refl) }
 
-pub release_refused : (number : ℕ) (a b : SeatValue) (fault : PinFault) (reply : List ℕ) → ReleaseStep a (Err fault) b → reply ≡ pin_fault_line fault → IsMet number a (asks release) reply b
-release_refused number a b fault reply step told =
+pub release_refused : {form : PointForm} (number : ℕ) (a b : SeatValue) (fault : PinFault) (reply : List ℕ) → ReleaseStep a (Err fault) b
+    → reply ≡ pin_fault_line fault → IsMet form number a (asks release) reply b
+release_refused {form} number a b fault reply step told =
     let met : ReleaseIsRefused (answered (Answer.ReleaseRefused fault) ∷ []) reply = record { fault = fault; moves_are = refl; reply_is = told } in
     record { moves = answered (Answer.ReleaseRefused fault) ∷ []; meets = inr (refl, inr met); seat = (b, step, refl) }
 
 -- a profile for which no version can be pinned
-pub profile_refused : (number : ℕ) (a b : SeatValue) (fault : PinFault) (ask : AskValue) (reply : List ℕ) → a.held ≡ None → PinStep a (Err fault) b → reply ≡ pin_fault_line fault → IsMet number a (asks (profile ask)) reply b
-profile_refused number a b fault ask reply empty step told =
+pub profile_refused : {form : PointForm} (number : ℕ) (a b : SeatValue) (fault : PinFault) (ask : AskValue) (reply : List ℕ) → a.held ≡ None
+    → PinStep a (Err fault) b → reply ≡ pin_fault_line fault → IsMet form number a (asks (profile ask)) reply b
+profile_refused {form} number a b fault ask reply empty step told =
     let refused : PinIsRefused (answered (Answer.PinRefused fault) ∷ []) reply = record { fault = fault; moves_are = refl; reply_is = told } in
-    let met : ProfileIsMet a.held ask (answered (Answer.PinRefused fault) ∷ []) reply =
-    subst (λ (h : Option (ℕ × ImageValue)). ProfileIsMet h ask (answered (Answer.PinRefused fault) ∷ []) reply) (sym empty) (inr refused) in
+    let met : ProfileIsMet form a.held ask (answered (Answer.PinRefused fault) ∷ []) reply =
+    subst (λ (h : Option (ℕ × ImageValue)). ProfileIsMet form h ask (answered (Answer.PinRefused fault) ∷ []) reply) (sym empty) (inr refused) in
     record { moves = answered (Answer.PinRefused fault) ∷ []; meets = inr (refl, met); seat = (b, step, refl) }
 
 -- a profile from what is held
-pub profile_met : (number : ℕ) (a : SeatValue) (v : ℕ) (image : ImageValue) (ask : AskValue) (reply : List ℕ) → a.held ≡ Some (v, image) → (IsProfileReply image v ask reply ⊎ (reply ≡ memory_line))
-    → IsMet number a (asks (profile ask)) reply a
-profile_met number a v image ask reply held (inl told) =
-    let met : ProfileIsMet a.held ask [] reply = subst (λ (h : Option (ℕ × ImageValue)). ProfileIsMet h ask [] reply) (sym held) (refl, told) in
+pub profile_met : {form : PointForm} (number : ℕ) (a : SeatValue) (v : ℕ) (image : ImageValue) (ask : AskValue) (reply : List ℕ) → a.held ≡ Some (v, image)
+    → (IsProfileReply form image v ask reply ⊎ (reply ≡ memory_line))
+    → IsMet form number a (asks (profile ask)) reply a
+profile_met {form} number a v image ask reply held (inl told) =
+    let met : ProfileIsMet form a.held ask [] reply = subst (λ (h : Option (ℕ × ImageValue)). ProfileIsMet form h ask [] reply) (sym held) (refl, told) in
     record { moves = []; meets = inr (refl, met); seat = refl }
-profile_met number a v image ask reply held (inr memory) = record { moves = []; meets = inl (memory, refl, inl refl); seat = refl }
+profile_met {form} number a v image ask reply held (inr memory) = record { moves = []; meets = inl (memory, refl, inl refl); seat = refl }
 
 -- and from a version that is pinned for it
-pub profile_met_once : (number : ℕ) (a m b : SeatValue) (v : ℕ) (image : ImageValue) (r : Result (Unit {0}) PinFault) (ask : AskValue) (reply : List ℕ) → PinStep a (Ok tt) m → HoldsInHistory number m.held
-    → m.held ≡ Some (v, image) → ReleaseStep m r b → (IsProfileReply image v ask reply ⊎ (reply ≡ memory_line)) → IsMet number a (asks (profile ask)) reply b
-profile_met_once number a m b v image r ask reply step known held back (inl told) =
+pub profile_met_once : {form : PointForm} (number : ℕ) (a m b : SeatValue) (v : ℕ) (image : ImageValue) (r : Result (Unit {0}) PinFault) (ask : AskValue)
+    (reply : List ℕ) → PinStep a (Ok tt) m → HoldsInHistory number m.held
+    → m.held ≡ Some (v, image) → ReleaseStep m r b → (IsProfileReply form image v ask reply ⊎ (reply ≡ memory_line))
+    → IsMet form number a (asks (profile ask)) reply b
+profile_met_once {form} number a m b v image r ask reply step known held back (inl told) =
     let pinned = is_pinned number a m v image step known held in
     let released = is_released number m b r (some_is_held v image m.held held) back in
     let both = pins_once number a m b v image pinned released in
-    let once : ProfileIsMetOnce ask (answered (Answer.Pinned v pinned.shown) ∷ answered released.last ∷ []) reply =
+    let once : ProfileIsMetOnce form ask (answered (Answer.Pinned v pinned.shown) ∷ answered released.last ∷ []) reply =
     record { version = v; image = image; once = both.0; told = told } in
-    let met : ProfileIsMet a.held ask (answered (Answer.Pinned v pinned.shown) ∷ answered released.last ∷ []) reply =
-    subst (λ (h : Option (ℕ × ImageValue)). ProfileIsMet h ask (answered (Answer.Pinned v pinned.shown) ∷ answered released.last ∷ []) reply)
+    let met : ProfileIsMet form a.held ask (answered (Answer.Pinned v pinned.shown) ∷ answered released.last ∷ []) reply =
+    subst (λ (h : Option (ℕ × ImageValue)). ProfileIsMet form h ask (answered (Answer.Pinned v pinned.shown) ∷ answered released.last ∷ []) reply)
     (sym pinned.empty) (inl once) in
     record {
       moves = answered (Answer.Pinned v pinned.shown) ∷ answered released.last ∷ [];
       meets = inr (refl, met);
       seat = both.1;
     }
-profile_met_once number a m b v image r ask reply step known held back (inr memory) =
+profile_met_once {form} number a m b v image r ask reply step known held back (inr memory) =
     given_back number (asks (profile ask)) a m b v image r reply step known held back memory

@@ -10,6 +10,7 @@ use Rattle.session_texts.specs.Judging.{IsJson, IsNoJson}
 use Rattle.session_texts.specs.Requests.{Asks, RequestValue, load, request_value}
 use Rattle.session_texts.specs.declared.requests.Request.{Request}
 use Rattle.session_texts.specs.declared.refusals.Refusal.{Refusal}
+use Rattle.session.specs.declared.point_form.PointForm.{PointForm}
 use Rattle.session.specs.Lines.{Asked, too_long, no_json, no_request, asks, IsAsked, memory_line, refusal_line}
 use Rattle.session.specs.SeatSteps.{Follows, SeatMove}
 use Rattle.session.specs.Sessions.{AreTurns, moves_of, lines_in, orders_of, text_of}
@@ -19,21 +20,24 @@ use Rattle.session.proofs.SeatLemmas.{Follows-append}
 abbrev turn_of : List ℕ → List SeatMove → List OrderValue → List ℕ → Turn
 turn_of line moves orders reply = record { line = line; moves = moves; orders = orders; reply = reply }
 
-has_turn : (number : ℕ) (a b : SeatValue) (asked asked_then : List OrderValue) (t : Turn) → IsTurn a.held t → Follows number a t.moves b
-    → asked_then ≡ asked ++ t.orders → HasTurn number t.line t.reply a asked b asked_then
-has_turn number a b asked asked_then t is seat orders =
-    let turns : TurnsTo number a asked t b asked_then = record { is = is; seat = seat; orders = orders } in
+has_turn : {form : PointForm} (number : ℕ) (a b : SeatValue) (asked asked_then : List OrderValue) (t : Turn) → IsTurn form a.held t → Follows number a t.moves b
+    → asked_then ≡ asked ++ t.orders → HasTurn form number t.line t.reply a asked b asked_then
+has_turn {form} number a b asked asked_then t is seat orders =
+    let turns : TurnsTo form number a asked t b asked_then = record { is = is; seat = seat; orders = orders } in
     (t, refl, refl, turns)
 
 -- nothing was done
-idle_turn : (number : ℕ) (a : SeatValue) (asked : List OrderValue) (line reply : List ℕ) → IsTurn a.held (turn_of line [] [] reply) → HasTurn number line reply a asked a asked
-idle_turn number a asked line reply is = has_turn number a a asked asked (turn_of line [] [] reply) is refl (sym (append-nil asked))
+idle_turn : {form : PointForm} (number : ℕ) (a : SeatValue) (asked : List OrderValue) (line reply : List ℕ) → IsTurn form a.held (turn_of line [] [] reply)
+    → HasTurn form number line reply a asked a asked
+idle_turn {form} number a asked line reply is = has_turn number a a asked asked (turn_of line [] [] reply) is refl (sym (append-nil asked))
 
-pub memory_turn : (number : ℕ) (a : SeatValue) (asked : List OrderValue) (line reply : List ℕ) → reply ≡ memory_line → HasTurn number line reply a asked a asked
-memory_turn number a asked line reply told = idle_turn number a asked line reply (inl (told, refl, inl refl))
+pub memory_turn : {form : PointForm} (number : ℕ) (a : SeatValue) (asked : List OrderValue) (line reply : List ℕ) → reply ≡ memory_line
+    → HasTurn form number line reply a asked a asked
+memory_turn {form} number a asked line reply told = idle_turn number a asked line reply (inl (told, refl, inl refl))
 
-pub too_long_turn : (number : ℕ) (a : SeatValue) (asked : List OrderValue) (shown : Line) (line reply : List ℕ) → shown ≡ TooLong → ShowsLine shown line → reply ≡ refusal_line Refusal.LineTooLong → HasTurn number line reply a asked a asked
-too_long_turn number a asked shown line reply is shows told =
+pub too_long_turn : {form : PointForm} (number : ℕ) (a : SeatValue) (asked : List OrderValue) (shown : Line) (line reply : List ℕ) → shown ≡ TooLong
+    → ShowsLine shown line → reply ≡ refusal_line Refusal.LineTooLong → HasTurn form number line reply a asked a asked
+too_long_turn {form} number a asked shown line reply is shows told =
     let long : ShowsLine TooLong line = subst (λ (x : Line). ShowsLine x line) is shows in
     idle_turn number a asked line reply (inr (too_long, long, (refl, refl, told)))
 
@@ -41,12 +45,15 @@ too_long_turn number a asked shown line reply is shows told =
 pub whole : (shown : Line) (bytes : _) (line : List ℕ) → shown ≡ Whole bytes → ShowsLine shown line → (bytes.now ≡ line) × (length line ≤ 65_536)
 whole shown bytes line is shows = subst (λ (x : Line). ShowsLine x line) is shows
 
-pub bad_json_turn : (number : ℕ) (a : SeatValue) (asked : List OrderValue) (bytes line reply : List ℕ) → (bytes ≡ line) × (length line ≤ 65_536) → IsNoJson bytes → reply ≡ refusal_line Refusal.BadJson → HasTurn number line reply a asked a asked
-bad_json_turn number a asked bytes line reply here bad told = idle_turn number a asked line reply (inr (no_json, (here.1, subst IsNoJson here.0 bad), (refl, refl, told)))
+pub bad_json_turn : {form : PointForm} (number : ℕ) (a : SeatValue) (asked : List OrderValue) (bytes line reply : List ℕ)
+    → (bytes ≡ line) × (length line ≤ 65_536) → IsNoJson bytes → reply ≡ refusal_line Refusal.BadJson → HasTurn form number line reply a asked a asked
+bad_json_turn {form} number a asked bytes line reply here bad told =
+    idle_turn number a asked line reply (inr (no_json, (here.1, subst IsNoJson here.0 bad), (refl, refl, told)))
 
-pub bad_request_turn : (number : ℕ) (a : SeatValue) (asked : List OrderValue) (bytes line reply : List ℕ) (d : Data) → (bytes ≡ line) × (length line ≤ 65_536) → IsJson bytes d → ((request : RequestValue) → ¬ Asks d request)
-    → reply ≡ refusal_line Refusal.BadRequest → HasTurn number line reply a asked a asked
-bad_request_turn number a asked bytes line reply d here json none told =
+pub bad_request_turn : {form : PointForm} (number : ℕ) (a : SeatValue) (asked : List OrderValue) (bytes line reply : List ℕ) (d : Data)
+    → (bytes ≡ line) × (length line ≤ 65_536) → IsJson bytes d → ((request : RequestValue) → ¬ Asks d request)
+    → reply ≡ refusal_line Refusal.BadRequest → HasTurn form number line reply a asked a asked
+bad_request_turn {form} number a asked bytes line reply d here json none told =
     idle_turn number a asked line reply (inr (no_request, (here.1, (d, subst (λ (xs : List ℕ). IsJson xs d) here.0 json, none)), (refl, refl, told)))
 
 -- a request is one of these
@@ -61,35 +68,39 @@ pub waits_not : (d : Data) (feed : List ℕ) (waits : Bool) → waits ≡ false 
 waits_not d feed waits is asks_it = subst (λ (b : Bool). Asks d (load feed b)) is asks_it
 
 -- a request of the seat is met
-meets_turn : (number : ℕ) (a b : SeatValue) (what : Asked) (line reply : List ℕ) → IsAsked line what → (met : IsMet number a what reply b)
-    → IsTurn a.held (turn_of line met.moves [] reply)
-meets_turn number a b what line reply is met =
+meets_turn : {form : PointForm} (number : ℕ) (a b : SeatValue) (what : Asked) (line reply : List ℕ) → IsAsked line what
+    → (met : IsMet form number a what reply b)
+    → IsTurn form a.held (turn_of line met.moves [] reply)
+meets_turn {form} number a b what line reply is met =
     elim met.meets [
       | inl memory ↦ inl memory
       | inr meets ↦ inr (what, is, meets)
     ]
 
-pub seat_turn : (number : ℕ) (a b : SeatValue) (asked : List OrderValue) (bytes line reply : List ℕ) (d : Data) (request : RequestValue) → (bytes ≡ line) × (length line ≤ 65_536) → IsJson bytes d → Asks d request
-    → IsMet number a (asks request) reply b → HasTurn number line reply a asked b asked
-seat_turn number a b asked bytes line reply d request here json asks_it met =
+pub seat_turn : {form : PointForm} (number : ℕ) (a b : SeatValue) (asked : List OrderValue) (bytes line reply : List ℕ) (d : Data) (request : RequestValue)
+    → (bytes ≡ line) × (length line ≤ 65_536) → IsJson bytes d → Asks d request
+    → IsMet form number a (asks request) reply b → HasTurn form number line reply a asked b asked
+seat_turn {form} number a b asked bytes line reply d request here json asks_it met =
     let is : IsAsked line (asks request) = (here.1, (d, subst (λ (xs : List ℕ). IsJson xs d) here.0 json, asks_it)) in
     has_turn number a b asked asked (turn_of line met.moves [] reply) (meets_turn number a b (asks request) line reply is met) met.seat (sym (append-nil asked))
 
 -- a feed is ordered
-pub order_turn : (number : ℕ) (a : SeatValue) (asked asked_then put : List OrderValue) (bytes line reply feed : List ℕ) (d : Data) → (bytes ≡ line)
+pub order_turn : {form : PointForm} (number : ℕ) (a : SeatValue) (asked asked_then put : List OrderValue) (bytes line reply feed : List ℕ) (d : Data)
+    → (bytes ≡ line)
     × (length line ≤ 65_536) → IsJson bytes d → Asks d (load feed false)
-    → asked_then ≡ asked ++ put → OrderIsMet feed put reply ⊎ ((put ≡ []) × (reply ≡ memory_line)) → HasTurn number line reply a asked a asked_then
-order_turn number a asked asked_then put bytes line reply feed d here json asks_it grown (inl met) =
+    → asked_then ≡ asked ++ put → OrderIsMet feed put reply ⊎ ((put ≡ []) × (reply ≡ memory_line)) → HasTurn form number line reply a asked a asked_then
+order_turn {form} number a asked asked_then put bytes line reply feed d here json asks_it grown (inl met) =
     let is : IsAsked line (asks (load feed false)) = (here.1, (d, subst (λ (xs : List ℕ). IsJson xs d) here.0 json, asks_it)) in
     has_turn number a a asked asked_then (turn_of line [] put reply) (inr (asks (load feed false), is, (refl, met))) refl grown
-order_turn number a asked asked_then put bytes line reply feed d here json asks_it grown (inr memory) =
+order_turn {form} number a asked asked_then put bytes line reply feed d here json asks_it grown (inr memory) =
     has_turn number a a asked asked_then (turn_of line [] put reply) (inl (memory.1, memory.0, inl refl)) refl grown
 
 -- and is waited for
-pub load_turn : (number : ℕ) (a b : SeatValue) (asked asked_then put : List OrderValue) (bytes line reply feed : List ℕ) (d : Data) → (bytes ≡ line)
+pub load_turn : {form : PointForm} (number : ℕ) (a b : SeatValue) (asked asked_then put : List OrderValue) (bytes line reply feed : List ℕ) (d : Data)
+    → (bytes ≡ line)
     × (length line ≤ 65_536) → IsJson bytes d → Asks d (load feed true)
-    → asked_then ≡ asked ++ put → IsLoaded number a feed put reply b → HasTurn number line reply a asked b asked_then
-load_turn number a b asked asked_then put bytes line reply feed d here json asks_it grown loaded =
+    → asked_then ≡ asked ++ put → IsLoaded number a feed put reply b → HasTurn form number line reply a asked b asked_then
+load_turn {form} number a b asked asked_then put bytes line reply feed d here json asks_it grown loaded =
     let is : IsAsked line (asks (load feed true)) = (here.1, (d, subst (λ (xs : List ℕ). IsJson xs d) here.0 json, asks_it)) in
     has_turn number a b asked asked_then (turn_of line loaded.moves put reply) (inr (asks (load feed true), is, loaded.meets)) loaded.seat grown
 
@@ -102,20 +113,24 @@ pub text_of-more : (turns : List Turn) (t : Turn) → text_of (turns ++ t ∷ []
 text_of-more [] t = append-nil t.reply
 text_of-more (u ∷ turns) t = ap (λ (xs : List ℕ). u.reply ++ xs) (text_of-more turns t) ∙ sym (append_assoc u.reply (text_of turns) t.reply)
 
-pub AreTurns-more : (number : ℕ) (a m b : SeatValue) (asked between asked_then : List OrderValue) (turns : List Turn) (t : Turn) → AreTurns number a asked turns m between → TurnsTo number m between t b asked_then
-    → AreTurns number a asked (turns ++ t ∷ []) b asked_then
-AreTurns-more number a m b asked between asked_then [] t same turn =
-    (b, asked_then, subst (λ (s : SeatValue). TurnsTo number s asked t b asked_then) same.0 (subst (λ (xs : List OrderValue). TurnsTo number m xs t b asked_then) same.1 turn), (refl, refl))
-AreTurns-more number a m b asked between asked_then (u ∷ turns) t (n, middle, first, rest) turn = (n, middle, first, AreTurns-more number n m b middle between asked_then turns t rest turn)
+pub AreTurns-more : {form : PointForm} (number : ℕ) (a m b : SeatValue) (asked between asked_then : List OrderValue) (turns : List Turn) (t : Turn)
+    → AreTurns form number a asked turns m between → TurnsTo form number m between t b asked_then
+    → AreTurns form number a asked (turns ++ t ∷ []) b asked_then
+AreTurns-more {form} number a m b asked between asked_then [] t same turn =
+    (b, asked_then, subst (λ (s : SeatValue). TurnsTo form number s asked t b asked_then) same.0 (subst (λ (xs : List OrderValue). TurnsTo form number m xs t b asked_then) same.1 turn), (refl, refl))
+AreTurns-more {form} number a m b asked between asked_then (u ∷ turns) t (n, middle, first, rest) turn =
+    (n, middle, first, AreTurns-more number n m b middle between asked_then turns t rest turn)
 
 -- the lists grow by the turns' own
-pub moves_follow : (number : ℕ) (a b : SeatValue) (asked asked_then : List OrderValue) (turns : List Turn) → AreTurns number a asked turns b asked_then
+pub moves_follow : (form : PointForm) (number : ℕ) (a b : SeatValue) (asked asked_then : List OrderValue) (turns : List Turn)
+    → AreTurns form number a asked turns b asked_then
     → Follows number a (moves_of turns) b
-moves_follow number a b asked asked_then [] same = same.0
-moves_follow number a b asked asked_then (t ∷ turns) (m, between, turn, rest) =
-    Follows-append number a m b t.moves (moves_of turns) turn.seat (moves_follow number m b between asked_then turns rest)
+moves_follow form number a b asked asked_then [] same = same.0
+moves_follow form number a b asked asked_then (t ∷ turns) (m, between, turn, rest) =
+    Follows-append number a m b t.moves (moves_of turns) turn.seat (moves_follow form number m b between asked_then turns rest)
 
-pub orders_grow : (number : ℕ) (a b : SeatValue) (asked asked_then : List OrderValue) (turns : List Turn) → AreTurns number a asked turns b asked_then → asked_then ≡ asked ++ orders_of turns
-orders_grow number a b asked asked_then [] same = same.1 ∙ sym (append-nil asked)
-orders_grow number a b asked asked_then (t ∷ turns) (m, between, turn, rest) =
-    orders_grow number m b between asked_then turns rest ∙ ap (λ (xs : List OrderValue). xs ++ orders_of turns) turn.orders ∙ append_assoc asked t.orders (orders_of turns)
+pub orders_grow : (form : PointForm) (number : ℕ) (a b : SeatValue) (asked asked_then : List OrderValue) (turns : List Turn)
+    → AreTurns form number a asked turns b asked_then → asked_then ≡ asked ++ orders_of turns
+orders_grow form number a b asked asked_then [] same = same.1 ∙ sym (append-nil asked)
+orders_grow form number a b asked asked_then (t ∷ turns) (m, between, turn, rest) =
+    orders_grow form number m b between asked_then turns rest ∙ ap (λ (xs : List OrderValue). xs ++ orders_of turns) turn.orders ∙ append_assoc asked t.orders (orders_of turns)

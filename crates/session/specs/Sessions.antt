@@ -5,16 +5,17 @@ use Rattle.epochs.specs.declared.seats.Answer.{Answer}
 use Rattle.epochs.specs.Seats.{SeatValue}
 use Rattle.orders.specs.Ordering.{OrderValue}
 use Rattle.lines.specs.Cutting.{lines_of, rest_of, whole_lines}
+use Rattle.session.specs.declared.point_form.PointForm.{PointForm}
 use Rattle.session.specs.declared.fault.Ended.{Ended}
 use Rattle.session.specs.declared.fault.SessionFault.{SessionFault}
 use Rattle.session.specs.SeatSteps.{AnswerStep, IsGivenBack, SeatMove}
 use Rattle.session.specs.Turns.{Turn, TurnsTo}
 
 -- each turn leaves the seat and the orders to the next
-abbrev pub AreTurns : ℕ → SeatValue → List OrderValue → List Turn → SeatValue → List OrderValue → Type 0
-AreTurns number a asked [] b asked_then = (b ≡ a) × (asked_then ≡ asked)
-AreTurns number a asked (t ∷ turns) b asked_then =
-    (m : SeatValue) × (between : List OrderValue) × TurnsTo number a asked t m between × AreTurns number m between turns b asked_then
+abbrev pub AreTurns : PointForm → ℕ → SeatValue → List OrderValue → List Turn → SeatValue → List OrderValue → Type 0
+AreTurns form number a asked [] b asked_then = (b ≡ a) × (asked_then ≡ asked)
+AreTurns form number a asked (t ∷ turns) b asked_then =
+    (m : SeatValue) × (between : List OrderValue) × TurnsTo form number a asked t m between × AreTurns form number m between turns b asked_then
 
 abbrev pub lines_in : List Turn → List (List ℕ)
 lines_in [] = []
@@ -68,7 +69,7 @@ EndsSo (Err SessionFault.TooManyRequests) read written turns at_end read_failed 
 
 -- what a session reads, does and writes: a million lines at most. Its reader and its writer each have a count of failures, and know
 -- their bytes or don't
-pub record Serves (number : ℕ) (result : Result Ended SessionFault)
+pub record Serves (form : PointForm) (number : ℕ) (result : Result Ended SessionFault)
     (to_read read_then contents contents_then : Option (List ℕ)) (read_failed write_failed : Type 0)
     (a : SeatValue) (asked : List OrderValue) (b : SeatValue) (asked_then : List OrderValue) : Type 0 where
   pub read : List ℕ
@@ -76,7 +77,7 @@ pub record Serves (number : ℕ) (result : Result Ended SessionFault)
   pub turns : List Turn
   pub reads : Consumes to_read read_then read
   pub writes : Appends contents contents_then written
-  pub does : AreTurns number a asked turns b asked_then
+  pub does : AreTurns form number a asked turns b asked_then
   pub few : length turns ≤ 1_000_000
   pub short : AreShort turns
   pub ends : EndsSo result read written turns (IsAtEnd read_then) read_failed write_failed

@@ -10,6 +10,7 @@ use Rattle.orders.specs.Ordering.{IsNotTaken, OrderValue, order_value, waited_va
 use Rattle.session_texts.specs.Replies.{line_of, load_data, loaded_data, pin_text, release_text}
 use Rattle.session_texts.specs.Requests.{AskValue, pin, release, profile, load}
 use Rattle.session_texts.specs.declared.refusals.Refusal.{Refusal}
+use Rattle.session.specs.declared.point_form.PointForm.{PointForm}
 use Rattle.session.specs.Lines.{Asked, too_long, no_json, no_request, asks, IsAsked, memory_line, order_fault_line, pin_fault_line, refusal_line}
 use Rattle.session.specs.Profiles.{IsProfileReply}
 use Rattle.session.specs.SeatSteps.{Follows, PinsOnce, SeatMove, answered, joined}
@@ -64,31 +65,31 @@ LoadIsMet false feed moves orders reply = (moves ≡ []) × OrderIsMet feed orde
 LoadIsMet true feed moves orders reply = VersionIsMet feed moves orders reply ⊎ NoVersionIsMet feed moves orders reply
 
 -- a profile is answered from a version that is pinned for it and given back
-pub record ProfileIsMetOnce (ask : AskValue) (moves : List SeatMove) (reply : List ℕ) : Type 0 where
+pub record ProfileIsMetOnce (form : PointForm) (ask : AskValue) (moves : List SeatMove) (reply : List ℕ) : Type 0 where
   pub version : ℕ
   pub image : ImageValue
   pub once : PinsOnce moves version image
-  pub told : IsProfileReply image version ask reply
+  pub told : IsProfileReply form image version ask reply
 
 -- from what is held, or else from a version that is pinned once
-abbrev pub ProfileIsMet : Option (ℕ × ImageValue) → AskValue → List SeatMove → List ℕ → Type 0
-ProfileIsMet (Some held) ask moves reply = (moves ≡ []) × IsProfileReply held.1 held.0 ask reply
-ProfileIsMet None ask moves reply = ProfileIsMetOnce ask moves reply ⊎ PinIsRefused moves reply
+abbrev pub ProfileIsMet : PointForm → Option (ℕ × ImageValue) → AskValue → List SeatMove → List ℕ → Type 0
+ProfileIsMet form (Some held) ask moves reply = (moves ≡ []) × IsProfileReply form held.1 held.0 ask reply
+ProfileIsMet form None ask moves reply = ProfileIsMetOnce form ask moves reply ⊎ PinIsRefused moves reply
 
 -- nothing was done, and the refusal is told
 abbrev pub IsRefused : Refusal → List SeatMove → List OrderValue → List ℕ → Type 0
 IsRefused refusal moves orders reply = (moves ≡ []) × (orders ≡ []) × (reply ≡ refusal_line refusal)
 
 -- what was asked, at a seat that holds this, is met so
-abbrev pub Meets : Option (ℕ × ImageValue) → Asked → List SeatMove → List OrderValue → List ℕ → Type 0
-Meets held too_long moves orders reply = IsRefused Refusal.LineTooLong moves orders reply
-Meets held no_json moves orders reply = IsRefused Refusal.BadJson moves orders reply
-Meets held no_request moves orders reply = IsRefused Refusal.BadRequest moves orders reply
-Meets held (asks pin) moves orders reply = (orders ≡ []) × (PinIsMet moves reply ⊎ PinIsRefused moves reply)
-Meets held (asks release) moves orders reply =
+abbrev pub Meets : PointForm → Option (ℕ × ImageValue) → Asked → List SeatMove → List OrderValue → List ℕ → Type 0
+Meets form held too_long moves orders reply = IsRefused Refusal.LineTooLong moves orders reply
+Meets form held no_json moves orders reply = IsRefused Refusal.BadJson moves orders reply
+Meets form held no_request moves orders reply = IsRefused Refusal.BadRequest moves orders reply
+Meets form held (asks pin) moves orders reply = (orders ≡ []) × (PinIsMet moves reply ⊎ PinIsRefused moves reply)
+Meets form held (asks release) moves orders reply =
     (orders ≡ []) × (((moves ≡ answered Answer.Released ∷ []) × (reply ≡ release_text)) ⊎ ReleaseIsRefused moves reply)
-Meets held (asks (load feed waits)) moves orders reply = LoadIsMet waits feed moves orders reply
-Meets held (asks (profile ask)) moves orders reply = (orders ≡ []) × ProfileIsMet held ask moves reply
+Meets form held (asks (load feed waits)) moves orders reply = LoadIsMet waits feed moves orders reply
+Meets form held (asks (profile ask)) moves orders reply = (orders ≡ []) × ProfileIsMet form held ask moves reply
 
 -- memory was wanting: nothing was ordered, and what is held is as before
 abbrev pub WantsMemory : List SeatMove → List OrderValue → List ℕ → Type 0
@@ -97,9 +98,9 @@ WantsMemory moves orders reply =
     × ((moves ≡ []) ⊎ (moves ≡ answered (Answer.PinRefused PinFault.OutOfMemory) ∷ []) ⊎ ((version : ℕ) × (image : ImageValue) × PinsOnce moves version image))
 
 -- what was asked of the seat is met so, or want of memory is told: what is done at the seat leads from what it was to what it is
-pub record IsMet (number : ℕ) (a : SeatValue) (asked : Asked) (reply : List ℕ) (b : SeatValue) : Type 0 where
+pub record IsMet (form : PointForm) (number : ℕ) (a : SeatValue) (asked : Asked) (reply : List ℕ) (b : SeatValue) : Type 0 where
   pub moves : List SeatMove
-  pub meets : WantsMemory moves [] reply ⊎ Meets a.held asked moves [] reply
+  pub meets : WantsMemory moves [] reply ⊎ Meets form a.held asked moves [] reply
   pub seat : Follows number a moves b
 
 -- what was waited for is met so, and the seat is led from what it was to what it is
@@ -113,15 +114,16 @@ abbrev pub AgreeOnNotices : {N : Type 0} → (N → ℕ) → (N → ℕ) → Typ
 AgreeOnNotices {N} told noted = (notice : N) → told notice ≡ noted notice
 
 -- a line is answered as what it asks is met; or want of memory is told
-abbrev pub IsTurn : Option (ℕ × ImageValue) → Turn → Type 0
-IsTurn held t = WantsMemory t.moves t.orders t.reply ⊎ ((asked : Asked) × IsAsked t.line asked × Meets held asked t.moves t.orders t.reply)
+abbrev pub IsTurn : PointForm → Option (ℕ × ImageValue) → Turn → Type 0
+IsTurn form held t = WantsMemory t.moves t.orders t.reply ⊎ ((asked : Asked) × IsAsked t.line asked × Meets form held asked t.moves t.orders t.reply)
 
 -- by a turn the seat and the orders come from what they were to what they are: their lists grow by the turn's own
-pub record TurnsTo (number : ℕ) (a : SeatValue) (asked : List OrderValue) (t : Turn) (b : SeatValue) (asked_then : List OrderValue) : Type 0 where
-  pub is : IsTurn a.held t
+pub record TurnsTo (form : PointForm) (number : ℕ) (a : SeatValue) (asked : List OrderValue) (t : Turn) (b : SeatValue)
+    (asked_then : List OrderValue) : Type 0 where
+  pub is : IsTurn form a.held t
   pub seat : Follows number a t.moves b
   pub orders : asked_then ≡ asked ++ t.orders
 
 -- there is such a turn of this line and this reply
-abbrev pub HasTurn : ℕ → List ℕ → List ℕ → SeatValue → List OrderValue → SeatValue → List OrderValue → Type 0
-HasTurn number line reply a asked b asked_then = (t : Turn) × (t.line ≡ line) × (t.reply ≡ reply) × TurnsTo number a asked t b asked_then
+abbrev pub HasTurn : PointForm → ℕ → List ℕ → List ℕ → SeatValue → List OrderValue → SeatValue → List OrderValue → Type 0
+HasTurn form number line reply a asked b asked_then = (t : Turn) × (t.line ≡ line) × (t.reply ≡ reply) × TurnsTo form number a asked t b asked_then

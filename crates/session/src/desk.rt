@@ -2,29 +2,35 @@
 
 ghost use Rattle.std.specs.Prelude.{◌≡◌};
 ghost use Rattle.lines.specs.Counting.{failures_of, inner_of};
+ghost use Rattle.session.specs.declared.point_form.PointForm.TheVariants.{Bare};
 
+use crate::point_form::PointForm;
 use lines::Counted;
 use std::alloc::Global;
 
-/// What sessions are answered from: the runtime and its memory, the shelves with the versions, and the gate that hears of scans.
+/// What sessions are answered from: the runtime and its memory, the shelves with the versions, the gate that hears of
+/// scans, and the form in which profiles are replied.
 #[derive(Drop)]
 pub struct Desk<'a, R, T, G> {
     pub rt: &'a R,
     pub alloc: Global,
     pub shelves: &'a T,
     pub gate: &'a G,
+    pub form: PointForm,
 }
 
 impl<'a, R, T, G> Desk<'a, R, T, G> {
-    /// With these shelves and this gate.
+    /// With these shelves and this gate; its replies are bare.
     pub fn new(rt: &'a R, alloc: Global, shelves: &'a T, gate: &'a G) -> Desk<'a, R, T, G>
-        ensures { result.shelves.now ≡ shelves.now }
+        ensures shelves { result.shelves.now ≡ shelves.now }
+        ensures form { result.form ≡ Bare }
     {
         Desk {
             rt,
             alloc,
             shelves,
             gate,
+            form: PointForm::Bare,
         }
     }
 }

@@ -4,6 +4,7 @@ ghost use Rattle.std.specs.Prelude.{◌≡◌, ◌++◌, ℕ, List};
 ghost use Rattle.epochs.specs.Seats.{SeatValue};
 ghost use Rattle.orders.specs.Ordering.{OrderValue};
 ghost use Rattle.session.specs.Lines.{Asked, IsAsked};
+ghost use Rattle.session.specs.declared.point_form.PointForm.{PointForm};
 ghost use Rattle.session.specs.SeatSteps.{Follows, NeverFalls, SeatMove, answers_in};
 ghost use Rattle.session.specs.Sessions.{AreTurns, moves_of, orders_of};
 ghost use Rattle.session.specs.Turns.{Turn};
@@ -26,8 +27,8 @@ pub fn versions_never_fall()
 /// What all turns did at the seat led it to what it is, and the answers among that are those by which the seat's list grew; the orders
 /// of all turns are those by which the list of orders grew.
 pub fn lists_grow_by_the_turns()
-    ensures seat { (number : ℕ) (a b : SeatValue) (asked asked_then : List OrderValue) (turns : List Turn)
-        → AreTurns number a asked turns b asked_then → Follows number a (moves_of turns) b }
+    ensures seat { (form : PointForm) (number : ℕ) (a b : SeatValue) (asked asked_then : List OrderValue) (turns : List Turn)
+        → AreTurns form number a asked turns b asked_then → Follows number a (moves_of turns) b }
     ensures answers { (number : ℕ) (a b : SeatValue) (moves : List SeatMove) → Follows number a moves b → b.answers ≡ a.answers ++ answers_in moves }
-    ensures orders { (number : ℕ) (a b : SeatValue) (asked asked_then : List OrderValue) (turns : List Turn) → AreTurns number a asked turns b asked_then → asked_then ≡ asked ++ orders_of turns }
+    ensures orders { (form : PointForm) (number : ℕ) (a b : SeatValue) (asked asked_then : List OrderValue) (turns : List Turn) → AreTurns form number a asked turns b asked_then → asked_then ≡ asked ++ orders_of turns }
 {}

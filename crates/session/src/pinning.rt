@@ -17,7 +17,7 @@ impl<'a, R: Wait, T: Versions, G> Desk<'a, R, T, G> {
         requires { T.fits self.now.shelves.now seat.old }
         ensures fits { T.fits self.now.shelves.now seat.new }
         ensures number { T.number seat.new ≡ T.number seat.old }
-        ensures met { IsMet (T.number seat.old) (T.value seat.old) (asks pin) (text_of_reply result) (T.value seat.new) }
+        ensures met { IsMet self.now.form (T.number seat.old) (T.value seat.old) (asks pin) (text_of_reply result) (T.value seat.new) }
     {
         if let Err(fault) = self.shelves.pin(self.rt, seat) {
             return Reply::pin_fault(fault);
@@ -40,7 +40,7 @@ impl<'a, R: Wait, T: Versions, G> Desk<'a, R, T, G> {
         requires { T.fits self.now.shelves.now seat.old }
         ensures fits { T.fits self.now.shelves.now seat.new }
         ensures number { T.number seat.new ≡ T.number seat.old }
-        ensures met { IsMet (T.number seat.old) (T.value seat.old) (asks release) (text_of_reply result) (T.value seat.new) }
+        ensures met { IsMet self.now.form (T.number seat.old) (T.value seat.old) (asks release) (text_of_reply result) (T.value seat.new) }
     {
         match self.shelves.release(self.rt, seat) {
             Ok(()) => Reply::fixed(release_line()),

@@ -7,6 +7,7 @@ ghost use Rattle.lines.specs.Showing.{ShowsLine};
 ghost use Rattle.epochs.specs.Seats.{SeatValue};
 ghost use Rattle.session.specs.Sessions.{LastRelease, Serves};
 ghost use Rattle.session.specs.Turns.{AgreeOnNotices, Turn, TurnsTo};
+ghost use Rattle.session.specs.declared.point_form.PointForm.TheVariants.{Bare};
 
 use crate::desk::{Desk, Streams};
 use crate::fault::{Ended, SessionFault};
@@ -20,7 +21,7 @@ use std::sync::Wait;
 /// How many requests of a session are answered.
 pub const MOST_REQUESTS: u32 = 1_000_000;
 
-/// Serves a session, as [`Desk::serve`] does, with what a desk and its streams have as it is.
+/// Serves a session, as [`Desk::serve`] does, with what a desk and its streams have as it is; its replies are bare.
 pub fn serve<
     R: Wait,
     In: Read,
@@ -47,7 +48,7 @@ pub fn serve<
     ensures number { T.number seat.new ≡ T.number seat.old }
     ensures released { (T.value seat.new).held ≡ None }
     ensures session { (last : SeatValue) × LastRelease (T.number seat.old) last (T.value seat.new)
-        × Serves (T.number seat.old) result (In.remaining (inner_of reader.old)) (In.remaining (inner_of reader.new)) (Out.contents (inner_of writer.old)) (Out.contents (inner_of writer.new))
+        × Serves Bare (T.number seat.old) result (In.remaining (inner_of reader.old)) (In.remaining (inner_of reader.new)) (Out.contents (inner_of writer.old)) (Out.contents (inner_of writer.new))
         (failures_of reader.old < failures_of reader.new) (failures_of writer.old < failures_of writer.new) (T.value seat.old) (O.asked orders.old) last (O.asked orders.new) }
 {
     let desk = Desk::new(rt, alloc, shelves, gate);
@@ -72,7 +73,7 @@ impl<'a, R: Wait, N: Drop, T: Versions<Notice = N>, G: Gate> Desk<'a, R, T, G> {
         ensures number { T.number seat.new ≡ T.number seat.old }
         ensures released { (T.value seat.new).held ≡ None }
         ensures session { (last : SeatValue) × LastRelease (T.number seat.old) last (T.value seat.new)
-            × Serves (T.number seat.old) result (In.remaining (inner_of streams.old.reader)) (In.remaining (inner_of streams.new.reader)) (Out.contents (inner_of streams.old.writer)) (Out.contents (inner_of streams.new.writer))
+            × Serves self.now.form (T.number seat.old) result (In.remaining (inner_of streams.old.reader)) (In.remaining (inner_of streams.new.reader)) (Out.contents (inner_of streams.old.writer)) (Out.contents (inner_of streams.new.writer))
             (failures_of streams.old.reader < failures_of streams.new.reader) (failures_of streams.old.writer < failures_of streams.new.writer) (T.value seat.old) (O.asked orders.old) last (O.asked orders.new) }
     {
         let outcome = self.answer_lines(&mut streams.reader, &mut streams.writer, seat, orders);
@@ -106,7 +107,7 @@ impl<'a, R: Wait, N: Drop, T: Versions<Notice = N>, G: Gate> Desk<'a, R, T, G> {
         requires counts { (failures_of reader.old < 2 ^ 64 - 1) × (failures_of writer.old < 2 ^ 64 - 1) }
         ensures fits { T.fits self.now.shelves.now seat.new }
         ensures number { T.number seat.new ≡ T.number seat.old }
-        ensures session { Serves (T.number seat.old) result (In.remaining (inner_of reader.old)) (In.remaining (inner_of reader.new)) (Out.contents (inner_of writer.old)) (Out.contents (inner_of writer.new))
+        ensures session { Serves self.now.form (T.number seat.old) result (In.remaining (inner_of reader.old)) (In.remaining (inner_of reader.new)) (Out.contents (inner_of writer.old)) (Out.contents (inner_of writer.new))
             (failures_of reader.old < failures_of reader.new) (failures_of writer.old < failures_of writer.new) (T.value seat.old) (O.asked orders.old) (T.value seat.new) (O.asked orders.new) }
     {
         let mut lines = LineReader::new(self.alloc);
@@ -152,7 +153,7 @@ impl<'a, R: Wait, N: Drop, T: Versions<Notice = N>, G: Gate> Desk<'a, R, T, G> {
         ensures failures { MatchResult result
             (λ _. failures_of writer.new ≡ failures_of writer.old)
             (λ _. failures_of writer.new ≡ one_more (failures_of writer.old)) }
-        ensures turn { (l : List ℕ) → ShowsLine line.entry l → (t : Turn) × (t.line ≡ l) × TurnsTo (T.number seat.old) (T.value seat.old) (O.asked orders.old) t (T.value seat.new) (O.asked orders.new) × MatchResult result
+        ensures turn { (l : List ℕ) → ShowsLine line.entry l → (t : Turn) × (t.line ≡ l) × TurnsTo self.now.form (T.number seat.old) (T.value seat.old) (O.asked orders.old) t (T.value seat.new) (O.asked orders.new) × MatchResult result
             (λ _. Appends (Out.contents (inner_of writer.old)) (Out.contents (inner_of writer.new)) t.reply)
             (λ _. (n : ℕ) × Appends (Out.contents (inner_of writer.old)) (Out.contents (inner_of writer.new)) (take n t.reply)) }
     {

@@ -50,7 +50,7 @@ pub(crate) fn image(alloc: Global, change: u32) -> Result<Arc<Verified, Global>,
     image_of(alloc, words)
 }
 
-fn image_of(alloc: Global, words: Vec<u32>) -> Result<Arc<Verified, Global>, Fail> {
+pub(crate) fn image_of(alloc: Global, words: Vec<u32>) -> Result<Arc<Verified, Global>, Fail> {
     match verify(alloc, words) {
         Ok(image) => match Arc::new(alloc, image) {
             Ok(shared) => Ok(shared),
@@ -96,7 +96,7 @@ fn add_line(bytes: &mut Vec<u8>, line: &str) -> Result<(), AllocError> {
 }
 
 // Lines, one after the other.
-fn lines_of(alloc: Global, lines: &[&str]) -> Result<Vec<u8>, AllocError> {
+pub(crate) fn lines_of(alloc: Global, lines: &[&str]) -> Result<Vec<u8>, AllocError> {
     let mut bytes = Vec::new(alloc);
     for line in lines {
         add_line(&mut bytes, *line)?;

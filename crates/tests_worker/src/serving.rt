@@ -236,7 +236,16 @@ fn serve_all<R: Threads + Wait + Sync + Abort, G: Gate + Sync>(
         is_gone: false,
     };
     let Ok((served, _)) = run_shelves::<Brand, _, _, _, _, _, _, _, _, _>(
-        rt, alloc, row, shelves, seats, loader, &feeds, gate, errors,
+        rt,
+        alloc,
+        row,
+        shelves,
+        seats,
+        loader,
+        &feeds,
+        gate,
+        PointForm::Bare,
+        errors,
     ) else {
         return Err(AllocError.into());
     };

@@ -2,6 +2,7 @@
 use Rattle.std.proofs.Common.{◌≡◌, ◌∙◌, ◌++◌, ◌∷◌, ℕ, List, [], Option, Result, length, map, refl, sym, subst, ap, arith}
 use Rattle.std.proofs.lemmas.List.{append_assoc, append-nil, map-append}
 use Rattle.epochs.specs.Seats.{SeatValue}
+use Rattle.session.specs.declared.point_form.PointForm.{PointForm}
 use Rattle.workers.specs.Sessions.{AreShares, IsShare}
 use Rattle.workers.specs.declared.clients.ConnFault.{ConnFault}
 use Rattle.workers.specs.declared.served.End.{End}
@@ -10,13 +11,13 @@ nothing_left : {X : Type 0} (list : List X) → length list ≡ 0 → list ≡ [
 nothing_left [] none = refl
 nothing_left (x ∷ list) none = absurd (omega (arith, none))
 
-module _ {C R W S : Type 0} (opens : C → Result (R × W) ConnFault → Type 0)
+module _ {C R W S : Type 0} (form : PointForm) (opens : C → Result (R × W) ConnFault → Type 0)
     (remaining : R → Option (List ℕ)) (contents : W → Option (List ℕ)) (number_of : S → ℕ) (value_of : S → SeatValue) where
   -- one share more behind the others
   pub shares_also : (seats : List S) (ends : List End) (seat : S) (share : List End)
-      → AreShares opens remaining contents number_of value_of seats ends
-      → IsShare opens remaining contents (number_of seat) (value_of seat) share
-      → AreShares opens remaining contents number_of value_of (seats ++ seat ∷ []) (ends ++ share)
+      → AreShares form opens remaining contents number_of value_of seats ends
+      → IsShare form opens remaining contents (number_of seat) (value_of seat) share
+      → AreShares form opens remaining contents number_of value_of (seats ++ seat ∷ []) (ends ++ share)
   shares_also [] ends seat share before also = (share, [], ap (λ list. list ++ share) before ∙ sym (append-nil share), also, refl)
   shares_also (first ∷ seats) ends seat share before also =
       let rest = shares_also seats before.1 seat share before.4 also in
@@ -26,19 +27,19 @@ module _ {C R W S : Type 0} (opens : C → Result (R × W) ConnFault → Type 0)
   module _ {H : Type 0} (seat_of : H → S) where
     -- of all these workers those that are left weren't joined yet
     abbrev pub Joined : List H → List H → List End → Type 0
-    Joined all left ends = (done : List H) × (all ≡ done ++ left) × AreShares opens remaining contents number_of value_of (map seat_of done) ends
+    Joined all left ends = (done : List H) × (all ≡ done ++ left) × AreShares form opens remaining contents number_of value_of (map seat_of done) ends
 
     pub joined_none : (all left : List H) (ends : List End) → left ≡ all → ends ≡ [] → Joined all left ends
     joined_none all left ends same none = ([], sym same, none)
 
     pub joined_next : (all left left_then : List H) (ends ends_then share : List End) (worker : H)
         → Joined all left ends → left ≡ worker ∷ left_then → ends_then ≡ ends ++ share
-        → IsShare opens remaining contents (number_of (seat_of worker)) (value_of (seat_of worker)) share
+        → IsShare form opens remaining contents (number_of (seat_of worker)) (value_of (seat_of worker)) share
         → Joined all left_then ends_then
     joined_next all left left_then ends ends_then share worker before step grows also =
         let done = before.0 in
         let more = shares_also (map seat_of done) ends (seat_of worker) share before.2 also in
-        let Shares = λ (seats : List S) (list : List End). AreShares opens remaining contents number_of value_of seats list in
+        let Shares = λ (seats : List S) (list : List End). AreShares form opens remaining contents number_of value_of seats list in
         let seats = subst (λ seats. Shares seats (ends ++ share)) (sym (map-append seat_of done (worker ∷ []))) more in (
           done ++ worker ∷ [],
           before.1 ∙ ap (λ list. done ++ list) step ∙ sym (append_assoc done (worker ∷ []) left_then),
@@ -46,10 +47,10 @@ module _ {C R W S : Type 0} (opens : C → Result (R × W) ConnFault → Type 0)
         )
 
     pub joined_all : (all left : List H) (ends : List End) → Joined all left ends → length left ≡ 0
-        → AreShares opens remaining contents number_of value_of (map seat_of all) ends
+        → AreShares form opens remaining contents number_of value_of (map seat_of all) ends
     joined_all all left ends before none =
         let whole : all ≡ before.0 = before.1 ∙ ap (λ list. before.0 ++ list) (nothing_left left none) ∙ append-nil before.0 in
-        subst (λ workers. AreShares opens remaining contents number_of value_of (map seat_of workers) ends) (sym whole) before.2
+        subst (λ workers. AreShares form opens remaining contents number_of value_of (map seat_of workers) ends) (sym whole) before.2
 
 module _ {S H : Type 0} (seat_of : H → S) where
   -- no worker is at a seat yet

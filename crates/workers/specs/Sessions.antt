@@ -5,21 +5,22 @@ use Rattle.lines.specs.Counting.{failures_of, inner_of}
 use Rattle.orders.specs.Ordering.{OrderValue}
 use Rattle.session.specs.declared.fault.Ended.{Ended}
 use Rattle.session.specs.declared.fault.SessionFault.{SessionFault}
+use Rattle.session.specs.declared.point_form.PointForm.{PointForm}
 use Rattle.session.specs.Sessions.{LastRelease, Serves}
 use Rattle.workers.specs.Ends.{end_of}
 use Rattle.workers.specs.declared.clients.ConnFault.{ConnFault}
 use Rattle.workers.specs.declared.served.End.{End}
 use Rattle.session.specs.declared.desk.Streams.{Streams}
 
--- a session is served at this seat, from what was to be read to what is, and ends so
-pub record IsSession (number : ℕ) (end : End) (to_read read_then contents contents_then : Option (List ℕ))
+-- a session is served at this seat, its profiles replied in this form, from what was to be read to what is, and ends so
+pub record IsSession (form : PointForm) (number : ℕ) (end : End) (to_read read_then contents contents_then : Option (List ℕ))
     (read_failed write_failed : Type 0)
     (a : SeatValue) (asked : List OrderValue) (b : SeatValue) (asked_then : List OrderValue) : Type 0 where
   pub result : Result Ended SessionFault
   pub last : SeatValue
   pub end_is : end ≡ end_of result
   pub released : LastRelease number last b
-  pub serves : Serves number result to_read read_then contents contents_then read_failed write_failed a asked last asked_then
+  pub serves : Serves form number result to_read read_then contents contents_then read_failed write_failed a asked last asked_then
 
 -- a client that can't be opened changes nothing
 pub record IsUnopened (end : End) (a : SeatValue) (asked : List OrderValue) (b : SeatValue) (asked_then : List OrderValue) : Type 0 where
@@ -27,12 +28,13 @@ pub record IsUnopened (end : End) (a : SeatValue) (asked : List OrderValue) (b :
   pub seat : b ≡ a
   pub orders : asked_then ≡ asked
 
-module _ {C R W : Type 0} (opens : C → Result (R × W) ConnFault → Type 0) (remaining : R → Option (List ℕ)) (contents : W → Option (List ℕ)) where
+module _ {C R W : Type 0} (form : PointForm) (opens : C → Result (R × W) ConnFault → Type 0) (remaining : R → Option (List ℕ)) (contents : W → Option
+    (List ℕ)) where
   -- the client's own reader and writer are served, which are so now, counted from no failure; or there are none
   abbrev pub IsServed : ℕ → C → Option (Streams R W) → End → SeatValue → List OrderValue → SeatValue → List OrderValue → Type 0
   IsServed number client (Some now) end a asked b asked_then =
       (was : R × W) × opens client (Ok was)
-      × IsSession number end (remaining was.0) (remaining (inner_of now.reader)) (contents was.1) (contents (inner_of now.writer))
+      × IsSession form number end (remaining was.0) (remaining (inner_of now.reader)) (contents was.1) (contents (inner_of now.writer))
       (0 < failures_of now.reader) (0 < failures_of now.writer) a asked b asked_then
   IsServed number client None end a asked b asked_then = (fault : ConnFault) × opens client (Err fault) × IsUnopened end a asked b asked_then
 

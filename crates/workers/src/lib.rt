@@ -21,4 +21,4 @@ pub use refusal::LoadRefusal;
 pub use running::{WorkersFault, run_workers};
 pub use served::{End, Served};
 pub use serving::Worker;
-pub use session::{Desk, Streams};
+pub use session::{Desk, PointForm, Streams};

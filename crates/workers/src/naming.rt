@@ -9,6 +9,7 @@ use crate::served::Served;
 use epochs::{Named, NamedLoader, NamedSeat, NamedShelves, ShelfLoader, ShelfSeat, Shelves};
 use feed_loader::FeedFiles;
 use orders::Gate;
+use session::PointForm;
 use std::alloc::{AllocError, Global};
 use std::io::{Read, Write};
 use std::sync::Wait;
@@ -35,6 +36,7 @@ pub fn run_shelves<
     loader: ShelfLoader,
     feeds: &F,
     gate: &G,
+    form: PointForm,
     errors: E,
 ) -> Result<(Served, K), WorkersFault>
     requires shelves { shelves ≡ B.table }
@@ -48,7 +50,7 @@ pub fn run_shelves<
     let shelves = NamedShelves::<B>::of(shelves);
     let loader = NamedLoader::<B>::of(loader);
     run_workers(
-        rt, alloc, clients, &shelves, seats, loader, feeds, gate, errors,
+        rt, alloc, clients, &shelves, seats, loader, feeds, gate, form, errors,
     )
 }
 

@@ -16,7 +16,7 @@ use epochs::{Loads, Versions};
 use feed_loader::FeedFiles;
 use load_orders::{WorkerOrders, order_queue};
 use orders::Gate;
-use session::Desk;
+use session::{Desk, PointForm};
 use std::alloc::{AllocError, Global};
 use std::io::{Read, Write};
 use std::sync::Wait;
@@ -35,9 +35,10 @@ impl From<AllocError> for WorkersFault {
     }
 }
 
-/// Serves all clients, with a worker for each seat, and loads the feeds that they order. What came of a load is written
-/// to the error writer, and goes to whoever waits for it. It returns when there are no more clients, all sessions have
-/// ended, and all orders were carried out: how the sessions ended, seat after seat, and the clients' source.
+/// Serves all clients, with a worker for each seat, and loads the feeds that they order. Profiles are replied in this form.
+/// What came of a load is written to the error writer, and goes to whoever waits for it. It returns when there are no more
+/// clients, all sessions have ended, and all orders were carried out: how the sessions ended, seat after seat, and the
+/// clients' source.
 pub fn run_workers<
     I: Read + Send + Drop,
     O: Write + Send + Drop,
@@ -61,6 +62,7 @@ pub fn run_workers<
     loader: L,
     feeds: &F,
     gate: &G,
+    form: PointForm,
     errors: E,
 ) -> Result<(Served, K), WorkersFault>
     requires seats { All (T.Versions.fits shelves.now) seats.items }
@@ -69,7 +71,7 @@ pub fn run_workers<
     requires few { length seats.items ≤ 16 }
     ensures none_left { IfOk result (λ served. K.none_left served.1) }
     ensures shares { IfOk result (λ served.
-        AreShares C.opens I.remaining O.contents T.number T.value seats.items served.0) }
+        AreShares form C.opens I.remaining O.contents T.number T.value seats.items served.0) }
 {
     let (to, from) = crossbeam_channel::bounded(alloc, 1)?;
     let (mut asks, orders) = order_queue(alloc)?;
@@ -82,7 +84,7 @@ pub fn run_workers<
                 × All (T.Versions.fits shelves.now) seats.items × T.Loads.loads shelves.now loader }
             ensures none_left { IfOk result (λ served. K.none_left served.1) }
             ensures shares { IfOk result (λ served.
-                AreShares C.opens I.remaining O.contents T.number T.value seats.items served.0) }
+                AreShares form C.opens I.remaining O.contents T.number T.value seats.items served.0) }
         {
             let Ok(loading) = scope.spawn(
                 move || -> ()
@@ -98,16 +100,17 @@ pub fn run_workers<
                 let mine = from.clone()?;
                 let end = asks.another()?;
                 match scope.spawn_with(
-                    ShareAt::<C, T>::of(&seat),
+                    ShareAt::<C, T>::of(&seat, form),
                     move || -> Served
                         requires { T.Versions.fits shelves.now seat }
-                        ensures { IsShare C.opens I.remaining O.contents (T.number seat) (T.value seat) result }
+                        ensures { IsShare form C.opens I.remaining O.contents (T.number seat) (T.value seat) result }
                     {
                         let desk = Desk {
                             rt,
                             alloc,
                             shelves,
                             gate,
+                            form,
                         };
                         let orders = WorkerOrders::new(alloc, feeds.names(), shelves, end);
                         let mut arrivals = Arrivals::of(mine);
@@ -124,7 +127,7 @@ pub fn run_workers<
             }
             drop(from);
             let clients = send_all(rt, clients, to);
-            let served = join_workers(rt, workers);
+            let served = join_workers(rt, form, workers);
             // No order is refused for want of a loader before all sessions have ended.
             drop(asks);
             loading.join(rt);

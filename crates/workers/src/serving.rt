@@ -35,7 +35,7 @@ impl<'a, R: Wait, N: Drop, T: Versions<Notice = N>, G: Gate> Worker<'a, R, T, G>
         ensures number { T.number seat.new ≡ T.number seat.old }
         ensures idle { (T.value seat.old).held ≡ None → (T.value seat.new).held ≡ None }
         ensures session { (end : End) × (served.new ≡ served.old ++ end ∷ [])
-            × IsServed C.opens C.Reader.remaining C.Writer.contents (T.number seat.old) client result end (T.value seat.old) (O.asked orders.old) (T.value seat.new) (O.asked orders.new) }
+            × IsServed self.now.desk.form C.opens C.Reader.remaining C.Writer.contents (T.number seat.old) client result end (T.value seat.old) (O.asked orders.old) (T.value seat.new) (O.asked orders.new) }
     {
         match client.open() {
             Ok((reader, writer)) => {
@@ -62,7 +62,7 @@ impl<'a, R: Wait, N: Drop, T: Versions<Notice = N>, G: Gate> Worker<'a, R, T, G>
         requires fits { T.fits self.now.desk.shelves.now seat }
         requires notices { AgreeOnNotices O.told T.noted }
         ensures { (taken : List C) × (clients.new ≡ clients.old ++ taken)
-            × AreServed C.opens C.Reader.remaining C.Writer.contents (T.number seat) taken result.0
+            × AreServed self.now.desk.form C.opens C.Reader.remaining C.Writer.contents (T.number seat) taken result.0
             (T.value seat) (O.asked orders) (T.value result.1) (O.asked result.2) }
     {
         let mut served = Served::new();

@@ -130,6 +130,14 @@ answers {\"ok\":\"profile\",\"points\":[{\"arr\":\"08:11:00\",\"dep\":\"08:00:00
 run profile - --from A --to C --after 07:00:00 --until 09:00:00 --by 10:00:00 --criterion arrival+trips --json --names
 complains 64
 
+# With the legs of each journey, by their ids; only in that reply.
+run profile - --from A --to C --after 07:00:00 --until 09:00:00 --by 10:00:00 --criterion arrival+trips --json --legs
+answers {\"ok\":\"profile\",\"points\":[{\"arr\":\"08:11:00\",\"dep\":\"08:00:00\",\"journey\":\"ride 0 0 walk 1 2 60\",\"legs\":[{\"arr\":\"08:10:00\",\"day\":20240115,\"dep\":\"08:00:00\",\"from\":\"A\",\"to\":\"B\",\"trip\":\"T1\"},{\"from\":\"B\",\"secs\":60,\"to\":\"C\"}],\"trips\":1},{\"arr\":\"08:20:00\",\"dep\":\"08:11:00\",\"journey\":\"walk 0 1 60 ride 2 2\",\"legs\":[{\"from\":\"A\",\"secs\":60,\"to\":\"B\"},{\"arr\":\"08:20:00\",\"day\":20240115,\"dep\":\"08:12:00\",\"from\":\"B\",\"to\":\"C\",\"trip\":\"T2\"}],\"trips\":1}],\"version\":1,\"walk\":120}
+run profile - --from A --to C --after 07:00:00 --until 09:00:00 --by 10:00:00 --criterion arrival+trips --legs
+complains 64
+run profile - --from A --to C --after 07:00:00 --until 09:00:00 --by 10:00:00 --criterion arrival+trips --names --legs
+complains 64
+
 # A footpath from B to C of a quarter of an hour: each footpath counts; by trips alone the walk is preferred.
 image 1346458435 1 3 2 3 4 7 1705276800 0 0 1 28800 29400 0 3 1 2 29400 30600 0 3 1 2 29520 30000 1 3 0 1 2 4 0 0 1 0 1 900 2 0 0 1 2 3 5 7 20240115 20240115 1413694017 3298353
 profile A C 07:00:00 09:00:00 10:00:00 arrival+trips+walk

@@ -13,7 +13,7 @@ loop-preserved g c =
       finite = tt;
       fits = one.ensures.fits;
       number = one.ensures.number ∙ was.number;
-      served = serves_next g.C.Client.opens g.C.Reader.Read.remaining g.C.Writer.Write.contents
+      served = serves_next c.args.self.now.desk.form g.C.Client.opens g.C.Reader.Read.remaining g.C.Writer.Write.contents
           (g.T.Versions.number c.args.seat) (g.T.Versions.number c.loop.seat) _ _ _
           c.loop.served one.new.served c.in-Some-next.client one.result
           (value c.args.seat) (value c.loop.seat) (value one.new.seat)

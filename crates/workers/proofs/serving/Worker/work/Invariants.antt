@@ -8,7 +8,7 @@ invariant-loop g l = record {
   finite : (goal.iterator-loop g).is_finite l.iterator';
   fits : g.T.Versions.fits l.self.desk.shelves.now l.seat;
   number : g.T.Versions.number l.seat ≡ g.T.Versions.number l.fn.seat;
-  served : Serving g.C.Client.opens g.C.Reader.Read.remaining g.C.Writer.Write.contents (g.T.Versions.number l.fn.seat)
+  served : Serving l.self.desk.form g.C.Client.opens g.C.Reader.Read.remaining g.C.Writer.Write.contents (g.T.Versions.number l.fn.seat)
       l.fn.clients l.clients l.served
       (g.T.Versions.value l.fn.seat) (g.O.Orders.asked l.fn.orders) (g.T.Versions.value l.seat) (g.O.Orders.asked l.orders);
 }

@@ -1,4 +1,5 @@
-use Rattle.std.proofs.Common.{rules, All, ◌∷◌, ◌∙◌, suc, subst, arith, ap, length, refl}
+use Rattle.std.proofs.Common.{rules, ◌≡◌, All, ◌∷◌, ◌∙◌, suc, subst, arith, ap, length, refl}
+use Rattle.std.proofs.lemmas.List.Elements.{All-nil, All-push}
 use Rattle.std.specs.Vec.Iter.{into_iter_items}
 use Rattle.workers.proofs.Shared.{seated_none, seated_next, seated_all}
 use mathlib.Core.Path.{sym}
@@ -25,8 +26,11 @@ loop-seat-preserved g c =
       finite = tt;
       fit = λ k d small. left (suc k) d (omega arith);
       len = omega (arith, short, step.1, was.len);
+      forms = subst (λ workers. All (λ worker. worker.promise.form ≡ c.captures.form) workers) (sym c.in-Ok-push.ensures.items)
+          (All-push (λ worker. worker.promise.form ≡ c.captures.form) _ c.in-Ok-spawn_with.worker was.forms
+          (ap (λ promise. promise.form) c.in-Ok-spawn_with.ensures.ok ∙ c.of.ensures.form));
       seated = seated_next _ _ _ _ _ _ c.in-Ok-spawn_with.worker c.in-Some.seat was.seated step.0 c.in-Ok-push.ensures.items
-          (ap (λ promise. promise.seat.value) c.in-Ok-spawn_with.ensures.ok ∙ c.of.ensures);
+          (ap (λ promise. promise.seat.value) c.in-Ok-spawn_with.ensures.ok ∙ c.of.ensures.seat);
     }
 
 -- all seats may be used at the shelves
@@ -38,6 +42,7 @@ loop-seat-init g c =
       finite = tt;
       fit = subst (λ items. All (g.T.Versions.fits c.captures.shelves.now) items) (sym c.into_iter-seat-iterator.ensures.into_iter_gives.0) all;
       len = search rules;
+      forms = subst (λ workers. All (λ worker. worker.promise.form ≡ c.captures.form) workers) (sym c.new-workers.ensures.items) (All-nil _);
       seated = seated_none _ _ _ c.new-workers.ensures.items;
     }
 
@@ -47,6 +52,6 @@ returns g c =
     let was = c.loop-seat.invariant in
     let none = sym was.len ∙ c.in-None.ensures.steps.0 in
     let seats = seated_all _ _ _ _ was.seated none ∙ c.into_iter-seat-iterator.ensures.into_iter_gives.0 in
-    let shares = subst (λ seats. AreShares g.C.Client.opens g.I.Read.remaining g.O.Write.contents g.T.Versions.number g.T.Versions.value
+    let shares = subst (λ seats. AreShares c.captures.form g.C.Client.opens g.I.Read.remaining g.O.Write.contents g.T.Versions.number g.T.Versions.value
     seats c.join_workers-served.result) seats c.join_workers-served.ensures in
     search rules

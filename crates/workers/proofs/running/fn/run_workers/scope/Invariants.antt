@@ -9,5 +9,6 @@ invariant-loop-seat g l = record {
   finite : (goal.iterator-loop-seat g).is_finite l.seat-iterator;
   fit : All (g.T.Versions.fits l.shelves) l.seat-iterator.rest.items;
   len : into_iter_len l.seat-iterator ≡ length (into_iter_items l.seat-iterator);
+  forms : All (λ worker. worker.promise.form ≡ l.form) l.workers.items;
   seated : into_iter_items l.initial.seat-iterator ≡ map (λ worker. worker.promise.seat.value) l.workers.items ++ into_iter_items l.seat-iterator;
 }

@@ -1,0 +1,9 @@
+use Rattle.session_texts.specs.Legs.{ride_value}
+use Rattle.session_texts.proofs.ReplyLemmas.{points_stay_plain, ride_has_no_float}
+use Rattle.session_texts.proofs.legs.JourneyLegs.add_ride.Goals as goal
+
+pub invariant_of-self : goal.invariant_of-self
+invariant_of-self c = record {
+  plain = points_stay_plain _ _ _ c.in_ok-told.told _ c.args.self.now.plain c.in_ok-told.ensures
+      (ride_has_no_float (ride_value c.args.ride)) c.push.ensures.items;
+}

@@ -1,0 +1,24 @@
+//! Members of an object that are there or aren't.
+
+ghost use Rattle.std.specs.Prelude.{◌≡◌, OnOk};
+ghost use Rattle.serde_json.specs.View.{members_view};
+ghost use Rattle.session_texts.specs.Replies.{with_number};
+
+use serde_json::{Map, Value, put};
+use std::alloc::{AllocError, Global};
+
+/// Puts a number under a name, if there is one.
+pub(crate) fn add_number(
+    alloc: Global,
+    members: &mut Map<String, Value>,
+    name: &str,
+    number: Option<u32>,
+) -> Result<(), AllocError>
+    ensures { OnOk result (members_view members.new.entries
+        ≡ with_number name.now number (members_view members.old.entries)) }
+{
+    match number {
+        None => Ok(()),
+        Some(number) => put(members, alloc, name, Value::from(number)),
+    }
+}

@@ -1,0 +1,182 @@
+//! Replies with the legs of journeys.
+
+use crate::sessions::{Solo, image, image_of, lines_of, solo_of};
+use crate::streams::{taker_of, whole};
+use criteria::ToldValue;
+use epochs::{Named, SoloShelves};
+use image_layout::second_sample_words;
+use image_verifier::Verified;
+use session::{Desk, OpenGate, PointForm, SoloOrders, Streams};
+use session_texts::{JourneyLegs, Points, RideTold, WalkTold};
+use std::alloc::{AllocError, Global};
+use std::marker::Brand;
+use std::sync::{Arc, Wait};
+use std::test::Fail;
+
+const PIN: &str = "{\"do\":\"pin\"}";
+
+const BY_WALKING: &str =
+    "{\"do\":\"profile\",\"from\":\"A\",\"to\":\"C\",\"after\":\"07:00:00\",\"until\":\"09:00:00\",\"by\":\"10:00:00\",\"criterion\":\"arrival+trips+walk\"}";
+
+const BY_ARRIVAL: &str =
+    "{\"do\":\"profile\",\"from\":\"A\",\"to\":\"C\",\"after\":\"07:00:00\",\"until\":\"09:00:00\",\"by\":\"10:00:00\",\"criterion\":\"arrival\"}";
+
+// Serves a session whose profiles are replied in this form: what was written.
+fn replied_at<B: Named, R: Wait>(
+    rt: &R,
+    alloc: Global,
+    solo: Solo,
+    form: PointForm,
+    requests: &[u8],
+) -> Vec<u8>
+    requires { (solo.shelves ≡ B.table) × (solo.loader.table ≡ B.table) × (solo.seat.table ≡ B.table) }
+{
+    let (shelves, loader, mut seat) = SoloShelves::<B>::of(solo.shelves, solo.loader, solo.seat);
+    let mut orders = SoloOrders::new(&shelves, loader, Vec::new(alloc));
+    let mut streams = Streams::new(whole(requests), taker_of(alloc, 10_000, true));
+    let desk = Desk {
+        rt,
+        alloc,
+        shelves: &shelves,
+        gate: &OpenGate,
+        form,
+    };
+    let _ = desk.serve(&mut streams, &mut seat, &mut orders);
+    streams.writer.into_inner().taken
+}
+
+fn replied<R: Wait>(
+    rt: &R,
+    alloc: Global,
+    first: Arc<Verified, Global>,
+    form: PointForm,
+    profile: &str,
+) -> Result<Vec<u8>, Fail> {
+    let requests = lines_of(alloc, &[PIN, profile])?;
+    let solo = solo_of(alloc, first)?;
+    Ok(replied_at::<Brand, _>(rt, alloc, solo, form, &requests))
+}
+
+const BARE_REPLIES: &str =
+    "{\"base\":1705276800,\"ok\":\"pin\",\"version\":1}\n{\"ok\":\"profile\",\"points\":[{\"arr\":\"08:20:00\",\"dep\":\"08:00:00\",\"journey\":\"ride 0 0 walk 1 1 0 ride 2 2\",\"trips\":2,\"walked\":0},{\"arr\":\"08:30:00\",\"dep\":\"08:00:00\",\"journey\":\"ride 0 1\",\"trips\":1,\"walked\":0}],\"version\":1,\"walk\":null}\n";
+
+const LEGGED_REPLIES: &str =
+    "{\"base\":1705276800,\"ok\":\"pin\",\"version\":1}\n{\"ok\":\"profile\",\"points\":[{\"arr\":\"08:20:00\",\"dep\":\"08:00:00\",\"journey\":\"ride 0 0 walk 1 1 0 ride 2 2\",\"legs\":[{\"arr\":\"08:10:00\",\"day\":20240115,\"dep\":\"08:00:00\",\"from\":\"A\",\"to\":\"B\",\"trip\":\"T1\"},{\"from\":\"B\",\"secs\":0,\"to\":\"B\"},{\"arr\":\"08:20:00\",\"day\":20240115,\"dep\":\"08:12:00\",\"from\":\"B\",\"to\":\"C\",\"trip\":\"T2\"}],\"trips\":2,\"walked\":0},{\"arr\":\"08:30:00\",\"dep\":\"08:00:00\",\"journey\":\"ride 0 1\",\"legs\":[{\"arr\":\"08:30:00\",\"day\":20240115,\"dep\":\"08:00:00\",\"from\":\"A\",\"to\":\"C\",\"trip\":\"T1\"}],\"trips\":1,\"walked\":0}],\"version\":1,\"walk\":null}\n";
+
+/// Each ride by its trip and each walk by its stops, and nothing else changes.
+#[test]
+fn legs_are_replied_where_they_are_wanted(rt: HostRuntime) -> Result<(), Fail> {
+    let alloc: Global = rt.alloc();
+    let bare = replied(&rt, alloc, image(alloc, 0)?, PointForm::Bare, BY_WALKING)?;
+    assert_eq!(&rt; str::from_utf8(&bare).unwrap_or("?"), BARE_REPLIES);
+    let legged = replied(
+        &rt,
+        alloc,
+        image(alloc, 0)?,
+        PointForm::WithLegs,
+        BY_WALKING,
+    )?;
+    assert_eq!(&rt; str::from_utf8(&legged).unwrap_or("?"), LEGGED_REPLIES);
+    Ok(())
+}
+
+/// The sample with a footpath of 60 seconds from A to the stop that is called B there and `"` here; its second trip is
+/// repeat 3.
+fn image_of_a_quote(alloc: Global) -> Result<Arc<Verified, Global>, Fail> {
+    let sample = second_sample_words();
+    let (front, back) = sample.split_at(33);
+    let mut words = front.to_vec(alloc)?;
+    words.extend_from_slice(&[0, 60])?;
+    words.extend_from_slice(back)?;
+    for (offset, changed) in [(5, 4), (29, 3), (30, 4), (48, 3), (49, 0x5443_2241)] {
+        if let Some(word) = words.get_mut(offset) {
+            *word = changed;
+        }
+    }
+    image_of(alloc, words)
+}
+
+const QUOTED_REPLIES: &str =
+    "{\"base\":1705276800,\"ok\":\"pin\",\"version\":1}\n{\"ok\":\"profile\",\"points\":[{\"arr\":\"08:20:00\",\"dep\":\"08:11:00\",\"journey\":\"walk 0 1 60 ride 2 2\",\"legs\":[{\"from\":\"A\",\"secs\":60,\"to\":\"\\\"\"},{\"arr\":\"08:20:00\",\"day\":20240115,\"dep\":\"08:12:00\",\"from\":\"\\\"\",\"repeat\":3,\"to\":\"C\",\"trip\":\"T2\"}]}],\"version\":1,\"walk\":null}\n";
+
+/// A walk comes first, a name is a quotation mark, and a trip is a later repeat.
+#[test]
+fn a_walk_a_quote_and_a_repeat(rt: HostRuntime) -> Result<(), Fail> {
+    let alloc: Global = rt.alloc();
+    let first = image_of_a_quote(alloc)?;
+    let replies = replied(&rt, alloc, first, PointForm::WithLegs, BY_ARRIVAL)?;
+    assert_eq!(&rt; str::from_utf8(&replies).unwrap_or("?"), QUOTED_REPLIES);
+    Ok(())
+}
+
+fn ride_of(alloc: Global, trip: &str, from: &str, to: &str) -> Result<RideTold, AllocError> {
+    Ok(RideTold {
+        trip: String::from_str(alloc, trip)?,
+        day: 20_240_115,
+        repeat: 0,
+        from: String::from_str(alloc, from)?,
+        dep: 28_800,
+        to: String::from_str(alloc, to)?,
+        arr: 86_400,
+    })
+}
+
+fn walk_of(alloc: Global, from: &str, to: &str) -> Result<WalkTold, AllocError> {
+    Ok(WalkTold {
+        from: String::from_str(alloc, from)?,
+        to: String::from_str(alloc, to)?,
+        secs: 7,
+    })
+}
+
+// The reply of one point with these legs.
+fn line_of(alloc: Global, legs: JourneyLegs) -> Result<String, AllocError> {
+    let told = ToldValue {
+        arrival: 86_400,
+        trips: None,
+        walked: None,
+    };
+    let mut points = Points::new(alloc);
+    points.add_with_legs(alloc, 28_800, told, String::new(alloc), legs)?;
+    points.profile_line(alloc, 1, None)
+}
+
+const FRONT: &str =
+    "{\"ok\":\"profile\",\"points\":[{\"arr\":\"24:00:00\",\"dep\":\"08:00:00\",\"journey\":\"\",\"legs\":[";
+
+/// Names are JSON as any text: none, quotation marks, control characters.
+#[test]
+fn odd_names_are_texts(rt: HostRuntime) -> Result<(), Fail> {
+    let alloc: Global = rt.alloc();
+    let mut legs = JourneyLegs::new(alloc);
+    legs.add_walk(alloc, walk_of(alloc, "", "\\\"")?)?;
+    legs.add_ride(alloc, ride_of(alloc, "", "\n", "\u{7f}ä")?)?;
+    let line = line_of(alloc, legs)?;
+    assert!(&rt; line.as_str().starts_with(FRONT));
+    assert_eq!(&rt;
+        &line.as_bytes()[FRONT.len()..],
+        "{\"from\":\"\",\"secs\":7,\"to\":\"\\\\\\\"\"},{\"arr\":\"24:00:00\",\"day\":20240115,\"dep\":\"08:00:00\",\"from\":\"\\n\",\"to\":\"\u{7f}ä\",\"trip\":\"\"}]}],\"version\":1,\"walk\":null}\n".as_bytes()
+    );
+    Ok(())
+}
+
+/// A name of 60,000 bytes is told whole.
+#[test]
+fn a_long_name_is_told_whole(rt: HostRuntime) -> Result<(), Fail> {
+    let alloc: Global = rt.alloc();
+    let mut name = String::new(alloc);
+    for _ in 0..60_000 {
+        name.push('n')?;
+    }
+    let mut legs = JourneyLegs::new(alloc);
+    legs.add_walk(alloc, walk_of(alloc, "A", name.as_str())?)?;
+    let line = line_of(alloc, legs)?;
+    assert!(&rt; line.as_str().contains(name.as_str()));
+    assert_eq!(&rt;
+        line.len(),
+        FRONT.len()
+            + 60_000
+            + "{\"from\":\"A\",\"secs\":7,\"to\":\"\"}]}],\"version\":1,\"walk\":null}\n".len()
+    );
+    Ok(())
+}
