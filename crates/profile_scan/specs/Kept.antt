@@ -12,7 +12,9 @@ use Rattle.profile_scan.specs.Adding.{trip_points}
 use Rattle.profile_scan.specs.Matching.{ScanValue}
 use Rattle.profile_scan.specs.Story.{Story, story}
 use Rattle.profile_scan.specs.declared.stops.Stops.{Stops}
+use Rattle.profile_scan.specs.Bound.{AreBounds}
 use Rattle.profile_scan.specs.declared.scan.Scan.{Scan}
+use Rattle.profile_scan.specs.declared.scan.State.{State}
 use Rattle.profile_scan.specs.declared.ways.Ways.{Ways}
 
 -- the points of a stop's list
@@ -48,17 +50,33 @@ pub record AreWays (t : TimetableValue) (target : ℕ) (ways : List (Option ℕ)
   pub long : length ways ≡ t.stops
   pub each : (stop : ℕ) → stop < t.stops → IsWay t target stop (slice_index_or ways stop None)
 
+-- a stop is there, among lists under a criterion
+pub record HasStop {K V : Type 0} (rules_of : K → Rules V) (criterion : K) (stop : ℕ) (kept : Stops K V) : Type 0 where
+  pub there : stop < vec_len kept.heads
+  pub stops : AreStops rules_of criterion (vec_len kept.heads) kept
+
 -- what a scan keeps, as its parts have it
-abbrev pub kept_by : {K V : Type 0} {c : _} → Scan K V c → ScanValue V
-kept_by scan = record { bag = points_at scan.stops; labels = trip_points scan.labels; found = points_of scan.found }
+abbrev pub kept_by : {K V : Type 0} {c : _} → State K V c → ScanValue V
+kept_by state = record {
+  bag = points_at state.stops;
+  labels = trip_points state.trips.labels;
+  found = points_of state.origin.found;
+}
 
 -- what it has written down
-abbrev pub story_of : {K V : Type 0} {c : _} → Scan K V c → Story
-story_of scan = story scan.exits.items (steps_of scan.stops.lists) scan.set_outs.items
+abbrev pub story_of : {K V : Type 0} {c : _} → State K V c → Story
+story_of state = story state.trips.exits.items (steps_of state.stops.lists) state.origin.set_outs.items
 
--- a scan over so many stops and trips, under a criterion
-pub record IsScan {K V : Type 0} {c : _} (rules_of : K → Rules V) (criterion : K) (stops trips : ℕ) (scan : Scan K V c) : Type 0 where
-  pub at_stops : AreStops rules_of criterion stops scan.stops
-  pub long : length (runs_of scan.labels) ≡ trips
-  pub labels : AreLabels (rules_of criterion) scan.labels
-  pub found : criterion_of scan.found ≡ criterion
+-- a state over so many stops and trips, under a criterion
+pub record IsState {K V : Type 0} {c : _} (rules_of : K → Rules V) (criterion : K) (stops trips : ℕ)
+    (state : State K V c) : Type 0 where
+  pub at_stops : AreStops rules_of criterion stops state.stops
+  pub long : length (runs_of state.trips.labels) ≡ trips
+  pub labels : AreLabels (rules_of criterion) state.trips.labels
+  pub found : criterion_of state.origin.found ≡ criterion
+
+-- a scan that has read the connections of a timetable from a place on
+pub record IsScan {K V : Type 0} {c : _} (rules_of : K → Rules V) (criterion : K) (t : TimetableValue) (place : ℕ)
+    (scan : Scan K V c) : Type 0 where
+  pub state : IsState rules_of criterion t.stops t.trips scan.state
+  pub bound : AreBounds (rules_of criterion) t (points_of scan.state.origin.found) place scan.bound.values.items

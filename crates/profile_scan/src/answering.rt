@@ -6,6 +6,7 @@ ghost use Rattle.profile_scan.specs.Window.{window};
 ghost use Rattle.profile_scan.specs.Found.{Answers};
 
 use crate::found::{Found, in_order};
+use crate::hop::Asked;
 use crate::scan::scan_window;
 use crate::telling::tell_journeys;
 use crate::ways::ways_to;
@@ -41,14 +42,19 @@ pub fn profile<S: ConnSource, C: Criterion>(
     let start = source.first_at(query.from);
     let end = source.first_at(query.by);
     let ways = ways_to(alloc, source, query.target)?;
-    let scan = scan_window(alloc, source, criterion, query, &ways, start, end)?;
-    let points = in_order(alloc, criterion, &scan.found)?;
-    let told = tell_journeys(alloc, source, &scan, &points)?;
+    let asked = Asked {
+        criterion: *criterion,
+        query: *query,
+        ways,
+    };
+    let scan = scan_window(alloc, source, &asked, start..end)?;
+    let points = in_order(alloc, criterion, &scan.state.origin.found)?;
+    let told = tell_journeys(alloc, source, &scan.state, &points)?;
     Ok(Found {
         criterion: *criterion,
         points: told.points,
         nodes: told.nodes,
-        walk: ways.secs_from(query.source),
+        walk: asked.ways.secs_from(query.source),
         timetable: timetable_of(source),
         query: Kept::of(query),
     })

@@ -7,19 +7,19 @@
 //! functions of `laws`.
 #![tactic(auto)]
 
-mod adding;
-mod alight;
 mod answering;
-mod board;
 mod bound;
 mod found;
+mod hop;
 pub mod laws;
 mod nodes;
+mod origin;
+mod riding;
 mod scan;
-mod step;
 mod stops;
 mod story;
 mod telling;
+mod trips;
 mod ways;
 
 pub use answering::profile;
