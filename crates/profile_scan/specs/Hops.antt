@@ -15,7 +15,8 @@ pub record IsAsked {K : Type 0} (t : TimetableValue) (asked : Asked K) : Type 0 
   pub by : IsTime asked.query.by
   pub ways : AreWays t asked.query.target (ways_of asked.ways)
 
--- the places from one up to before another, which is the first of a connection that departs at the latest arrival or after it
+-- the places from one up to before another, which is the first of a connection that departs at the latest arrival or
+-- after it
 pub record IsWindow {K : Type 0} (t : TimetableValue) (asked : Asked K) (start end : ℕ) : Type 0 where
   pub can_ask : IsAsked t asked
   pub order : start ≤ end

@@ -1,5 +1,6 @@
 -- What the vectors of a scan keep for each stop and each trip.
-use Rattle.std.specs.Prelude.{◌≡◌, ℕ, ◌<◌, List, length, vec_len, Contains, slice_index, slice_index_or, Option, Some, None, Bool, true, false, nat_le, map}
+use Rattle.std.specs.Prelude.{◌≡◌, ℕ, ◌<◌, List, length, vec_len, Contains, slice_index, slice_index_or, Option, Some}
+use Rattle.std.specs.Prelude.{None, Bool, true, false, nat_le, map}
 use Rattle.bags.specs.Bag.{criterion_of, points_of}
 use Rattle.bags.specs.declared.point.Point.{Point}
 use Rattle.timetable.specs.declared.network.Footpath.{Footpath}
@@ -22,7 +23,8 @@ abbrev pub points_at : {K V : Type 0} → Stops K V → ℕ → List (Point V)
 points_at stops stop = list_points stops.lists (slice_index stops.heads.items stop)
 
 -- so many lists under a criterion
-pub record AreStops {K V : Type 0} (rules_of : K → Rules V) (criterion : K) (count : ℕ) (stops : Stops K V) : Type 0 where
+pub record AreStops {K V : Type 0} (rules_of : K → Rules V) (criterion : K) (count : ℕ)
+    (stops : Stops K V) : Type 0 where
   pub under : lists_criterion stops.lists ≡ criterion
   pub sound : IsSound rules_of stops.lists
   pub long : vec_len stops.heads ≡ count

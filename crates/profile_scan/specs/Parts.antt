@@ -12,12 +12,14 @@ use Rattle.fronts.specs.Labels.{AreLabels, runs_of}
 use Rattle.fronts.specs.Lists.{steps_of}
 use Rattle.fronts.specs.declared.entry.Ridden.{Ridden}
 use Rattle.fronts.specs.declared.entry.Step.{Step}
+use Rattle.fronts.specs.declared.labels.Label.{Label}
 use Rattle.profile_scan.specs.Values.{journey_value}
 use Rattle.profile_scan.specs.Continuations.{CountsFrom}
 use Rattle.profile_scan.specs.Plain.{IsPlain}
 use Rattle.profile_scan.specs.Matching.{Matches, Spellings}
 use Rattle.profile_scan.specs.Steps.{Offer, leavings, boardings, settings_out}
-use Rattle.profile_scan.specs.Adding.{Takes, IsRelabelled, AreRidden, StandsBetween, each_of, boardings_by, label_points, trip_points}
+use Rattle.profile_scan.specs.Adding.{Takes, IsRelabelled, AreRidden, StandsBetween, each_of, boardings_by}
+use Rattle.profile_scan.specs.Adding.{label_points, trip_points}
 use Rattle.profile_scan.specs.Bound.{carried}
 use Rattle.profile_scan.specs.Story.{Story, Grows, story, told}
 use Rattle.profile_scan.specs.Kept.{AreStops, points_at, story_of}
@@ -44,7 +46,11 @@ abbrev pub TripTakes : {A K V : Type 0} → Rules V → ℕ → (Spellings → O
 TripTakes rules trip offer old new =
     (walks : List Footpath) (steps : List Step) (set_outs : List SetOut)
     → Takes rules walks (story old.exits.items steps set_outs) (story new.exits.items steps set_outs)
-        offer (trip_points old.labels trip) (trip_points new.labels trip)
+    offer (trip_points old.labels trip) (trip_points new.labels trip)
+
+-- labels of values that laws speak of
+abbrev pub AdmitsLabels : {V : Type 0} → Rules V → List (Label V) → Type 0
+AdmitsLabels {V} rules labels = (l : Point V) → Contains (label_points labels) l → Admits rules l.value
 
 -- the points found stay under their criterion, and ways to set out are only added
 pub record ChangesOrigin {K V : Type 0} {c : _} (criterion : K) (old new : Origin K V c) : Type 0 where
@@ -57,10 +63,11 @@ abbrev pub OriginTakes : {A K V : Type 0} {c : _}
 OriginTakes rules walks offer old new =
     (exits : List Exit) (steps : List Step)
     → Takes rules walks (story exits steps old.set_outs.items) (story exits steps new.set_outs.items)
-        offer (points_of old.found) (points_of new.found)
+    offer (points_of old.found) (points_of new.found)
 
 -- so many stops, with ridden values that the laws speak of
-pub record AreReady {K V : Type 0} (rules_of : K → Rules V) (criterion : K) (count : ℕ) (kept : Stops K V) : Type 0 where
+pub record AreReady {K V : Type 0} (rules_of : K → Rules V) (criterion : K) (count : ℕ)
+    (kept : Stops K V) : Type 0 where
   pub stops : AreStops rules_of criterion count kept
   pub ridden : (r : Ridden V) → Contains kept.ridden.items r → Admits (rules_of criterion) r.value
 
@@ -83,9 +90,10 @@ abbrev pub StopTakes : {A K V : Type 0}
 StopTakes rules walks stop offer old new =
     (exits : List Exit) (set_outs : List SetOut)
     → Takes rules walks (story exits (steps_of old.lists) set_outs) (story exits (steps_of new.lists) set_outs)
-        offer (points_at old stop) (points_at new stop)
+    offer (points_at old stop) (points_at new stop)
 
--- the points of each stop take in what a footpath offers them that stands at a place; the ridden values are those of the labels
+-- the points of each stop take in what a footpath offers them that stands at a place; the ridden values are those of
+-- the labels
 abbrev pub BoardsAfter : {K V : Type 0} → Rules V → Hop V → ℕ → Footpath → Stops K V → Stops K V → Type 0
 BoardsAfter {K} {V} rules hop place walk old new =
     (labels : List (Point V)) → AreRidden rules labels old.ridden.items
@@ -101,14 +109,15 @@ BoardsAfterEach {K} {V} rules walks begin end hop old new =
     → ((l : Point V) → Contains labels l → Admits rules l.value)
     → (stop : ℕ)
     → StopTakes rules walks stop
-        (λ tags. each_of (StandsBetween walks begin end) (boardings_by rules tags hop.place hop.connection stop labels))
-        old new
+    (λ tags. each_of (StandsBetween walks begin end) (boardings_by rules tags hop.place hop.connection stop labels))
+    old new
 
 -- the labels of a hop's trip as points
 abbrev pub points_of_trip : {K V : Type 0} {c : _} → State K V c → Hop V → List (Point V)
 points_of_trip state hop = trip_points state.trips.labels hop.connection.trip
 
--- a state takes a connection in: first the labels of its trip, and then, by these, the points of every stop and the points found
+-- a state takes a connection in: first the labels of its trip, and then, by these, the points of every stop and the
+-- points found
 pub record TakesConnection {K V : Type 0} {c : _} (rules : Rules V) (t : TimetableValue) (q : Query) (hop : Hop V)
     (old new : State K V c) : Type 0 where
   pub between : Story
@@ -117,7 +126,7 @@ pub record TakesConnection {K V : Type 0} {c : _} (rules : Rules V) (t : Timetab
   pub labels : IsRelabelled rules hop.connection.trip old.trips.labels new.trips.labels
   pub leaves : Takes rules t.footpaths (story_of old) between
       (λ tags. leavings rules t q tags hop.place
-        (carried rules hop.bound.now (points_at old.stops (connection_at t hop.place).to)))
+      (carried rules hop.bound.now (points_at old.stops (connection_at t hop.place).to)))
       (points_of_trip old hop) (points_of_trip new hop)
   pub boards : (stop : ℕ) → Takes rules t.footpaths between (story_of new)
       (λ tags. boardings rules t tags hop.place stop (carried rules hop.bound.now (points_of_trip new hop)))

@@ -33,7 +33,7 @@ impl<C: Criterion> Origin<C> {
     ghost use Rattle.profile_scan.specs.Adding.{label_points, only_if, set_out_way, settings_out_after, MayStart};
     ghost use Rattle.profile_scan.specs.Steps.{settings_out};
     ghost use Rattle.profile_scan.specs.Hops.{IsHopOf};
-    ghost use Rattle.profile_scan.specs.Parts.{ChangesOrigin, OriginTakes};
+    ghost use Rattle.profile_scan.specs.Parts.{AdmitsLabels, ChangesOrigin, OriginTakes};
 
     /// No points.
     pub fn new(alloc: Global, criterion: C) -> Self
@@ -58,8 +58,8 @@ impl<C: Criterion> Origin<C> {
         requires same { criterion_of self.old.found ≡ criterion.now }
         requires admitted { Admits (C.rules criterion.now) value }
         ensures origin { OnOk result (ChangesOrigin criterion.now self.old self.new) }
-        ensures takes { OnOk result ((walks : List Footpath)
-            → OriginTakes (C.rules criterion.now) walks (λ tags. set_out_way tags departure value set_out) self.old self.new) }
+        ensures takes { OnOk result ((walks : List Footpath) → OriginTakes (C.rules criterion.now) walks
+            (λ tags. set_out_way tags departure value set_out) self.old self.new) }
     {
         let tag = self.set_outs.len();
         let stands = self.found.insert(departure, value, tag)?;
@@ -80,12 +80,11 @@ impl<C: Criterion> Origin<C> {
     ) -> Result<(), AllocError>
         requires secs { IfSome departure.start (λ walk. IsSecs walk.secs) }
         requires found { criterion_of self.old.found ≡ asked.now.criterion }
-        requires labels {
-            (l : Point _) → Contains (label_points labels.now) l → Admits (C.rules asked.now.criterion) l.value }
+        requires labels { AdmitsLabels (C.rules asked.now.criterion) labels.now }
         ensures origin { OnOk result (ChangesOrigin asked.now.criterion self.old self.new) }
         ensures takes { OnOk result ((walks : List Footpath) → OriginTakes (C.rules asked.now.criterion) walks
             (λ tags. settings_out_after (C.rules asked.now.criterion) tags hop.now.place
-                departure.time departure.start (label_points labels.now))
+            departure.time departure.start (label_points labels.now))
             self.old self.new) }
     {
         for place in 0..labels.len() {
@@ -101,8 +100,8 @@ impl<C: Criterion> Origin<C> {
         Ok(())
     }
 
-    // Offers the points found each label of the connection's trip, boarded after a start, where that is one from the source in the
-    // window.
+    // Offers the points found each label of the connection's trip, boarded after a start, where that is one from the
+    // source in the window.
     #[inline(always)]
     fn set_out_by(
         &mut self,
@@ -113,13 +112,12 @@ impl<C: Criterion> Origin<C> {
     ) -> Result<(), AllocError>
         requires secs { IfSome start (λ walk. IsSecs walk.secs) }
         requires found { criterion_of self.old.found ≡ asked.now.criterion }
-        requires labels {
-            (l : Point _) → Contains (label_points labels.now) l → Admits (C.rules asked.now.criterion) l.value }
+        requires labels { AdmitsLabels (C.rules asked.now.criterion) labels.now }
         ensures origin { OnOk result (ChangesOrigin asked.now.criterion self.old self.new) }
         ensures takes { OnOk result ((walks : List Footpath) → OriginTakes (C.rules asked.now.criterion) walks
             (λ tags. only_if (MayStart asked.now.query hop.now.connection start)
-                (settings_out_after (C.rules asked.now.criterion) tags hop.now.place
-                    (hop.now.connection.dep - start_secs start) start (label_points labels.now)))
+            (settings_out_after (C.rules asked.now.criterion) tags hop.now.place
+            (hop.now.connection.dep - start_secs start) start (label_points labels.now)))
             self.old self.new) }
     {
         match departure_by(&asked.query, &hop.connection, start) {
@@ -128,8 +126,8 @@ impl<C: Criterion> Origin<C> {
         }
     }
 
-    /// Sets out for a connection, if passengers may get on there: offers the points found each label of its trip, after no start and after
-    /// each footpath into where it begins.
+    /// Sets out for a connection, if passengers may get on there: offers the points found each label of its trip, after
+    /// no start and after each footpath into where it begins.
     pub fn set_out<S: ConnSource>(
         &mut self,
         asked: &Asked<C>,
@@ -139,12 +137,11 @@ impl<C: Criterion> Origin<C> {
     ) -> Result<(), AllocError>
         requires hop { IsHopOf (C.rules asked.now.criterion) (S.timetable source.now) asked.now.query hop.now }
         requires found { criterion_of self.old.found ≡ asked.now.criterion }
-        requires labels {
-            (l : Point _) → Contains (label_points labels.now) l → Admits (C.rules asked.now.criterion) l.value }
+        requires labels { AdmitsLabels (C.rules asked.now.criterion) labels.now }
         ensures origin { OnOk result (ChangesOrigin asked.now.criterion self.old self.new) }
         ensures takes { OnOk result (OriginTakes (C.rules asked.now.criterion) (S.timetable source.now).footpaths
             (λ tags. settings_out (C.rules asked.now.criterion) (S.timetable source.now) asked.now.query tags
-                hop.now.place (label_points labels.now))
+            hop.now.place (label_points labels.now))
             self.old self.new) }
     {
         if !hop.connection.board {
@@ -167,8 +164,8 @@ struct Departure {
     time: u32,
 }
 
-// How one sets out from the source by a start to board a connection, if that departs in the window. Hardly a start is from the source,
-// so that is asked first.
+// How one sets out from the source by a start to board a connection, if that departs in the window. Hardly a start is
+// from the source, so that is asked first.
 #[inline(always)]
 fn departure_by(
     query: &Query,

@@ -74,8 +74,7 @@ pub fn ride_labels<C: Criterion>(
     ridden: &mut Vec<Ridden<C::V>>,
 ) -> Result<(), AllocError>
     requires bound { (b : _) → Contains bound.now b → Admits (C.rules criterion.now) b }
-    requires labels {
-        (l : Point _) → Contains (label_points labels.now) l → Admits (C.rules criterion.now) l.value }
+    requires labels { (l : Point _) → Contains (label_points labels.now) l → Admits (C.rules criterion.now) l.value }
     ensures { OnOk result (AreRidden (C.rules criterion.now)
         (carried (C.rules criterion.now) bound.now (label_points labels.now)) ridden.new.items) }
 {

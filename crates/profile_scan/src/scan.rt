@@ -66,7 +66,8 @@ impl<C: Criterion> State<C> {
         )
     }
 
-    // Takes one connection in: leaves its trip where it ends, and then, the labels of its trip being known, sets out for it and boards it.
+    // Takes one connection in: leaves its trip where it ends, and then, the labels of its trip being known, sets out
+    // for it and boards it.
     fn take<S: ConnSource>(
         &mut self,
         asked: &Asked<C>,
@@ -92,7 +93,8 @@ impl<C: Criterion> State<C> {
     }
 }
 
-// Whether nothing is offered at a connection, by how many labels its trip has and the head of the list of the stop where it ends.
+// Whether nothing is offered at a connection, by how many labels its trip has and the head of the list of the stop
+// where it ends.
 fn offers_nothing(
     labels: u32,
     head: u32,
@@ -147,9 +149,9 @@ impl<C: Criterion> Scan<C> {
         ensures scan { OnOk result (IsScan C.rules asked.now.criterion (S.timetable source.now) place self.new) }
         ensures step { OnOk result
             (IsStep (C.rules asked.now.criterion) (S.timetable source.now) asked.now.query
-                (from_to (told (S.timetable source.now).footpaths (story_of self.old.state))
-                    (told (S.timetable source.now).footpaths (story_of self.new.state)))
-                place (kept_by self.old.state) (kept_by self.new.state)) }
+            (from_to (told (S.timetable source.now).footpaths (story_of self.old.state))
+            (told (S.timetable source.now).footpaths (story_of self.new.state)))
+            place (kept_by self.old.state) (kept_by self.new.state)) }
     {
         let way = asked.ways.secs_from(connection.to);
         if self.state.is_idle(asked, connection, way) {

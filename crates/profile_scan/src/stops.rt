@@ -29,7 +29,9 @@ impl<C: Criterion> Stops<C> {
     ghost use Rattle.profile_scan.specs.Steps.{boardings};
     ghost use Rattle.profile_scan.specs.Kept.{AreStops, points_at};
     ghost use Rattle.profile_scan.specs.Hops.{IsHopOf};
-    ghost use Rattle.profile_scan.specs.Parts.{AreReady, ChangesLists, ChangesStops, StopTakes, BoardsAfter, BoardsAfterEach};
+    ghost use Rattle.profile_scan.specs.Parts.{AdmitsLabels, AreReady, ChangesLists, ChangesStops, StopTakes};
+    ghost use Rattle.profile_scan.specs.Parts.{BoardsAfter};
+    ghost use Rattle.profile_scan.specs.Parts.{BoardsAfterEach};
 
     /// So many stops, whose lists are empty.
     pub fn new(alloc: Global, criterion: &C, count: u32) -> Result<Self, AllocError>
@@ -53,7 +55,8 @@ impl<C: Criterion> Stops<C> {
         self.heads[stop as usize]
     }
 
-    // Offers the list of the stop where a footpath begins each ridden value, boarded after it. `place` is the footpath's.
+    // Offers the list of the stop where a footpath begins each ridden value, boarded after it. `place` is the
+    // footpath's.
     fn board_after(
         &mut self,
         asked: &Asked<C>,
@@ -109,8 +112,8 @@ impl<C: Criterion> Stops<C> {
         Ok(())
     }
 
-    /// Boards a connection, if passengers may get on there: offers the list of every stop its boardings by the labels of the connection's
-    /// trip that aren't bettered after the ride.
+    /// Boards a connection, if passengers may get on there: offers the list of every stop its boardings by the labels
+    /// of the connection's trip that aren't bettered after the ride.
     pub fn board<S: ConnSource>(
         &mut self,
         asked: &Asked<C>,
@@ -120,15 +123,14 @@ impl<C: Criterion> Stops<C> {
     ) -> Result<(), AllocError>
         requires hop { IsHopOf (C.rules asked.now.criterion) (S.timetable source.now) asked.now.query hop.now }
         requires stops { AreStops C.rules asked.now.criterion (S.timetable source.now).stops self.old }
-        requires labels {
-            (l : Point _) → Contains (label_points labels.now) l → Admits (C.rules asked.now.criterion) l.value }
+        requires labels { AdmitsLabels (C.rules asked.now.criterion) labels.now }
         ensures stops { OnOk result
             (ChangesStops C.rules asked.now.criterion (S.timetable source.now).stops self.old self.new) }
         ensures takes { OnOk result ((stop : ℕ)
             → StopTakes (C.rules asked.now.criterion) (S.timetable source.now).footpaths stop
-                (λ tags. boardings (C.rules asked.now.criterion) (S.timetable source.now) tags hop.now.place stop
-                    (carried (C.rules asked.now.criterion) hop.now.bound.now (label_points labels.now)))
-                self.old self.new) }
+            (λ tags. boardings (C.rules asked.now.criterion) (S.timetable source.now) tags hop.now.place stop
+            (carried (C.rules asked.now.criterion) hop.now.bound.now (label_points labels.now)))
+            self.old self.new) }
     {
         if !hop.connection.board {
             return Ok(());

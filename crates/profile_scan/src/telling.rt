@@ -6,7 +6,8 @@ ghost use Rattle.fronts.specs.Front.{Extends};
 ghost use Rattle.profile_scan.specs.Points.{untagged};
 ghost use Rattle.profile_scan.specs.Kept.{story_of};
 ghost use Rattle.profile_scan.specs.declared.telling.Change.{Change};
-ghost use Rattle.profile_scan.specs.Telling.{IsRoute, change, ending, IsLabelTold, SaysLabel, IsJourneyTold, SaysJourney, IsRetold};
+ghost use Rattle.profile_scan.specs.Telling.{IsRoute, change, ending, IsLabelTold, SaysLabel, IsJourneyTold};
+ghost use Rattle.profile_scan.specs.Telling.{SaysJourney, IsRetold};
 
 use crate::nodes::Node;
 use crate::scan::State;
@@ -25,7 +26,8 @@ struct Change {
     step: Step,
 }
 
-// How one ends after a label: the place of the connection that one leaves, and the footpath to the target, if there is one.
+// How one ends after a label: the place of the connection that one leaves, and the footpath to the target, if there is
+// one.
 #[derive(Clone, Copy, Drop)]
 struct End {
     last: u32,
@@ -62,7 +64,8 @@ fn note_route<C: Criterion>(
     route: &mut Vec<usize>,
 ) -> Result<usize, AllocError>
     ensures route { IfOk result (λ last. IsRoute (story_of state.now) first route.new.items last) }
-    ensures ends { IfOk result (λ last. (walks : _) → IsLabelTold walks (story_of state.now) first → change (story_of state.now) last ≡ None) }
+    ensures ends { IfOk result (λ last. (walks : _) → IsLabelTold walks (story_of state.now) first
+        → change (story_of state.now) last ≡ None) }
 {
     route.clear();
     let mut label = first;
@@ -81,7 +84,8 @@ fn note_route<C: Criterion>(
 // Adds a node, and tells its number.
 fn add(nodes: &mut Vec<Node>, node: Node) -> Result<usize, AllocError>
     ensures nodes { Extends nodes.old.items nodes.new.items }
-    ensures added { IfOk result (λ number. (number ≡ length nodes.old.items) × (nodes.new.items ≡ nodes.old.items ++ node ∷ [])) }
+    ensures added { IfOk result (λ number. (number ≡ length nodes.old.items)
+        × (nodes.new.items ≡ nodes.old.items ++ node ∷ [])) }
 {
     let number = nodes.len();
     nodes.push(node)?;
@@ -95,7 +99,9 @@ fn tell_end<C: Criterion>(
     nodes: &mut Vec<Node>,
 ) -> Result<usize, AllocError>
     ensures nodes { Extends nodes.old.items nodes.new.items }
-    ensures says { IfOk result (λ number. (walks : _) → IsLabelTold walks (story_of state.now) label → change (story_of state.now) label ≡ None → SaysLabel walks (story_of state.now) label nodes.new.items number) }
+    ensures says { IfOk result (λ number. (walks : _) → IsLabelTold walks (story_of state.now) label
+        → change (story_of state.now) label ≡ None
+        → SaysLabel walks (story_of state.now) label nodes.new.items number) }
 {
     match end_after(state, label) {
         None => Ok(nodes.len()),
@@ -118,9 +124,11 @@ fn tell_change<S: ConnSource, C: Criterion>(
     nodes: &mut Vec<Node>,
 ) -> Result<usize, AllocError>
     requires told { IsLabelTold (S.timetable source.now).footpaths (story_of state.now) label }
-    requires next { (c : Change) × (change (story_of state.now) label ≡ Some c) × SaysLabel (S.timetable source.now).footpaths (story_of state.now) c.step.label nodes.old.items next }
+    requires next { (c : Change) × (change (story_of state.now) label ≡ Some c)
+        × SaysLabel (S.timetable source.now).footpaths (story_of state.now) c.step.label nodes.old.items next }
     ensures nodes { Extends nodes.old.items nodes.new.items }
-    ensures says { IfOk result (λ number. SaysLabel (S.timetable source.now).footpaths (story_of state.now) label nodes.new.items number) }
+    ensures says { IfOk result
+        (λ number. SaysLabel (S.timetable source.now).footpaths (story_of state.now) label nodes.new.items number) }
 {
     match change_after(state, label) {
         None => Ok(next),
@@ -155,7 +163,8 @@ fn tell_journey<S: ConnSource, C: Criterion>(
 ) -> Result<usize, AllocError>
     requires { IsJourneyTold (S.timetable source.now).footpaths (story_of state.now) tag }
     ensures nodes { Extends nodes.old.items nodes.new.items }
-    ensures says { IfOk result (λ number. SaysJourney (S.timetable source.now).footpaths (story_of state.now) tag nodes.new.items number) }
+    ensures says { IfOk result
+        (λ number. SaysJourney (S.timetable source.now).footpaths (story_of state.now) tag nodes.new.items number) }
 {
     let set_out = state.origin.set_outs[tag];
     let last = note_route(state, set_out.label, route)?;
@@ -187,9 +196,11 @@ pub fn tell_journeys<S: ConnSource, C: Criterion>(
     state: &State<C>,
     points: &[Point<C::V>],
 ) -> Result<Told<C::V>, AllocError>
-    requires { (p : Point _) → Contains points.now p → IsJourneyTold (S.timetable source.now).footpaths (story_of state.now) p.tag }
+    requires { (p : Point _) → Contains points.now p
+        → IsJourneyTold (S.timetable source.now).footpaths (story_of state.now) p.tag }
     ensures same { IfOk result (λ told. map untagged told.points.items ≡ map untagged points.now) }
-    ensures says { IfOk result (λ told. (p : Point _) → Contains told.points.items p → IsRetold (S.timetable source.now).footpaths (story_of state.now) points.now told.nodes.items p) }
+    ensures says { IfOk result (λ told. (p : Point _) → Contains told.points.items p
+        → IsRetold (S.timetable source.now).footpaths (story_of state.now) points.now told.nodes.items p) }
 {
     let mut told = Vec::with_capacity(alloc, points.len())?;
     let mut nodes = Vec::new(alloc);

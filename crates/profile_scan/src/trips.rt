@@ -37,7 +37,8 @@ impl<C: Criterion> Trips<C> {
     ghost use Rattle.profile_scan.specs.Bound.{is_bettered, carried};
     ghost use Rattle.profile_scan.specs.Story.{IsExit};
     ghost use Rattle.profile_scan.specs.declared.story.Exit.TheVariants.{Changes};
-    ghost use Rattle.profile_scan.specs.Adding.{one_way, only_if, changes_from, endings, endings_and_changes, trip_points};
+    ghost use Rattle.profile_scan.specs.Adding.{one_way, only_if, changes_from, endings, endings_and_changes};
+    ghost use Rattle.profile_scan.specs.Adding.{trip_points};
     ghost use Rattle.profile_scan.specs.Kept.{HasStop, points_at};
     ghost use Rattle.profile_scan.specs.Hops.{IsHop};
     ghost use Rattle.profile_scan.specs.Parts.{HasTrip, ChangesTrip, TripTakes};
@@ -56,13 +57,7 @@ impl<C: Criterion> Trips<C> {
     }
 
     // Offers the labels of a trip one value, with how one goes on from it, which is kept where the label stands.
-    fn offer(
-        &mut self,
-        criterion: &C,
-        trip: u32,
-        value: C::V,
-        exit: Exit,
-    ) -> Result<(), AllocError>
+    fn offer(&mut self, criterion: &C, trip: u32, value: C::V, exit: Exit) -> Result<(), AllocError>
         requires trip { HasTrip (C.rules criterion.now) trip self.old }
         requires admitted { Admits (C.rules criterion.now) value }
         ensures trip { OnOk result (ChangesTrip (C.rules criterion.now) trip self.old self.new) }
@@ -77,7 +72,8 @@ impl<C: Criterion> Trips<C> {
         Ok(())
     }
 
-    // Offers the labels of the connection's trip one point of the stop where it ends, unless that is bettered after the ride.
+    // Offers the labels of the connection's trip one point of the stop where it ends, unless that is bettered after the
+    // ride.
     fn change_by(
         &mut self,
         asked: &Asked<C>,
@@ -91,9 +87,9 @@ impl<C: Criterion> Trips<C> {
             (ChangesTrip (C.rules asked.now.criterion) hop.now.connection.trip self.old self.new) }
         ensures takes { OnOk result (TripTakes (C.rules asked.now.criterion) hop.now.connection.trip
             (λ tags. only_if
-                (is_bettered (C.rules asked.now.criterion) hop.now.bound.now
-                    ((C.rules asked.now.criterion).ride point.now.value) ≡ false)
-                (one_way 0 point.now.value (IsExit tags (Changes hop.now.place point.now.tag))))
+            (is_bettered (C.rules asked.now.criterion) hop.now.bound.now
+            ((C.rules asked.now.criterion).ride point.now.value) ≡ false)
+            (one_way 0 point.now.value (IsExit tags (Changes hop.now.place point.now.tag))))
             self.old self.new) }
     {
         let ridden = asked.criterion.ride(&point.value);
@@ -107,8 +103,8 @@ impl<C: Criterion> Trips<C> {
         self.offer(&asked.criterion, hop.connection.trip, point.value, exit)
     }
 
-    // Offers the labels of the connection's trip each point of the stop where it ends that departs then or later and isn't bettered
-    // after the ride. The front from that time on is enough.
+    // Offers the labels of the connection's trip each point of the stop where it ends that departs then or later and
+    // isn't bettered after the ride. The front from that time on is enough.
     fn change(
         &mut self,
         asked: &Asked<C>,
@@ -122,7 +118,7 @@ impl<C: Criterion> Trips<C> {
             (ChangesTrip (C.rules asked.now.criterion) hop.now.connection.trip self.old self.new) }
         ensures takes { OnOk result (TripTakes (C.rules asked.now.criterion) hop.now.connection.trip
             (λ tags. changes_from tags hop.now.place hop.now.connection.arr
-                (carried (C.rules asked.now.criterion) hop.now.bound.now (points_at stops.now hop.now.connection.to)))
+            (carried (C.rules asked.now.criterion) hop.now.bound.now (points_at stops.now hop.now.connection.to)))
             self.old self.new) }
     {
         let head = stops.head(hop.connection.to);
@@ -142,7 +138,7 @@ impl<C: Criterion> Trips<C> {
             (ChangesTrip (C.rules asked.now.criterion) hop.now.connection.trip self.old self.new) }
         ensures takes { OnOk result (TripTakes (C.rules asked.now.criterion) hop.now.connection.trip
             (λ tags. endings (C.rules asked.now.criterion) tags hop.now.place
-                hop.now.connection asked.now.query hop.now.way)
+            hop.now.connection asked.now.query hop.now.way)
             self.old self.new) }
     {
         match end_of(&hop.connection, &asked.query, hop.way) {
@@ -158,8 +154,8 @@ impl<C: Criterion> Trips<C> {
         }
     }
 
-    /// Leaves a connection's trip where the connection ends, if passengers may get off there: offers its labels the end, and the changes
-    /// by the points of that stop that aren't bettered.
+    /// Leaves a connection's trip where the connection ends, if passengers may get off there: offers its labels the
+    /// end, and the changes by the points of that stop that aren't bettered.
     pub fn alight(
         &mut self,
         asked: &Asked<C>,
@@ -173,10 +169,10 @@ impl<C: Criterion> Trips<C> {
             (ChangesTrip (C.rules asked.now.criterion) hop.now.connection.trip self.old self.new) }
         ensures takes { OnOk result (TripTakes (C.rules asked.now.criterion) hop.now.connection.trip
             (λ tags. only_if (hop.now.connection.alight ≡ true)
-                (endings_and_changes (C.rules asked.now.criterion) tags hop.now.place
-                    hop.now.connection asked.now.query hop.now.way
-                    (carried (C.rules asked.now.criterion) hop.now.bound.now
-                        (points_at stops.now hop.now.connection.to))))
+            (endings_and_changes (C.rules asked.now.criterion) tags hop.now.place
+            hop.now.connection asked.now.query hop.now.way
+            (carried (C.rules asked.now.criterion) hop.now.bound.now
+            (points_at stops.now hop.now.connection.to))))
             self.old self.new) }
     {
         if !hop.connection.alight {
@@ -195,14 +191,15 @@ struct Ending {
     time: u32,
 }
 
-// How one who leaves a trip where a connection ends is at the target in time, `way` being the seconds of the footpath from that stop
-// to the target.
+// How one who leaves a trip where a connection ends is at the target in time, `way` being the seconds of the footpath
+// from that stop to the target.
 fn end_of(connection: &Connection, query: &Query, way: Option<u32>) -> Option<Ending>
     requires arrival { IsTime connection.now.arr }
     requires secs { IfSome way (λ secs. IsSecs secs) }
     ensures { MatchOption result ((walk : Option Footpath) → IsEnding connection.now query.now way walk → ⊥)
         (λ end. IsEnding connection.now query.now way end.walk × (end.time ≡ connection.now.arr + start_secs end.walk)
-        × (end.time ≤ query.now.by) × ((walk : Option Footpath) → IsEnding connection.now query.now way walk → walk ≡ end.walk)) }
+        × (end.time ≤ query.now.by)
+        × ((walk : Option Footpath) → IsEnding connection.now query.now way walk → walk ≡ end.walk)) }
 {
     if connection.to == query.target {
         if connection.arr > query.by {

@@ -143,8 +143,8 @@ returns-clause-step g c =
     let at_stops = c.requires.scan.state.at_stops in
     let lists = state.stops.lists in
     let bag_admitted =
-        subst (λ k. AreAdmitted (g.C.Criterion.rules k) bag) at_stops.under
-        (list_admitted (g.C.Criterion.rules (lists_criterion lists)) (entries_of lists) (items_of lists) at_stops.sound (slice_index state.stops.heads.items (connection_at t i).to)) in
+    subst (λ k. AreAdmitted (g.C.Criterion.rules k) bag) at_stops.under
+    (list_admitted (g.C.Criterion.rules (lists_criterion lists)) (entries_of lists) (items_of lists) at_stops.sound (slice_index state.stops.heads.items (connection_at t i).to)) in
     let old = trip_points state.trips.labels in
     let new = trip_points next.trips.labels in
     let trip = (connection_at t i).trip in
