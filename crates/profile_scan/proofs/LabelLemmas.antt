@@ -1,6 +1,7 @@
 -- The labels of a trip, and a value offered to them.
-use Rattle.std.proofs.Common.{◌≡◌, ℕ, ◌≤◌, Bool, true, false, cond, not, List, [], ◌∷◌, ◌++◌, map, Contains, inl, inr, refl, sym, ◌∙◌, ap, subst, arith}
+use Rattle.std.proofs.Common.{◌≡◌, ℕ, ◌≤◌, Bool, true, false, cond, not, List, [], ◌∷◌, ◌++◌, map, length, Contains, inl, inr, refl, sym, ◌∙◌, ap, subst, arith}
 use Rattle.std.proofs.lemmas.Bool.{cases_Bool, true≢false}
+use Rattle.std.proofs.lemmas.List.{nil_from_length}
 use Rattle.std.proofs.lemmas.List.Elements.{Contains-append_cases, Contains-append_left, Contains-append_right, Contains-push, Contains-push_cases}
 use Rattle.reasoning.proofs.ListLemmas.{not_in_nil, from_filter, into_filter, one_passes}
 use Rattle.criteria.specs.Laws.{Rules, Laws, Admits}
@@ -42,6 +43,12 @@ trip_admitted rules labels are trip p h =
     let run = run_at labels.runs.items trip in
     let l = from_map as_point (labels_at labels trip) p h in
     subst (λ (x : Point _). Admits rules x.value) l.2 (are.admitted l.0 (in_part labels.labels.items run.first run.count l.0 l.1))
+
+-- no labels, no points
+pub no_trip_points : {V : Type 0} (labels : Labels V) (trip : ℕ) → length (labels_at labels trip) ≡ 0 → (p : Point V) → Contains (trip_points labels trip) p → ⊥
+no_trip_points labels trip none p h =
+    let l = from_map as_point (labels_at labels trip) p h in
+    not_in_nil l.0 (subst (λ (xs : List (Label _)). Contains xs l.0) (nil_from_length (labels_at labels trip) none) l.1)
 
 -- labels that aren't others
 pub relabelled_none : {V : Type 0} (rules : Rules V) (trip : ℕ) (labels : Labels V) → AreLabels rules labels → IsRelabelled rules trip labels labels

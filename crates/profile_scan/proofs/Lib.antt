@@ -1,4 +1,5 @@
 pub mod Offers
+mod PartLemmas
 pub mod NodeLemmas
 pub mod StoryLemmas
 pub mod BoundLemmas

@@ -1,5 +1,6 @@
 -- Offers put together from smaller ones, and taken in under nodes to which further ones may come.
-use Rattle.std.specs.Prelude.{◌≡◌, ◌≢◌, ◌⊎◌, ℕ, ◌+◌, ◌-◌, ◌<◌, ◌≤◌, List, [], ◌∷◌, length, map, Contains, slice_get, Option, Some, None}
+use Rattle.std.specs.Prelude.{◌≡◌, ◌≢◌, ◌⊎◌, ℕ, ◌+◌, ◌-◌, ◌<◌, ◌≤◌, List, [], ◌∷◌, length, map, Contains, slice_get}
+use Rattle.std.specs.Prelude.{Option, Some, None}
 use Rattle.std.proofs.Common.{inl, inr}
 use Rattle.criteria.specs.Laws.{Rules}
 use Rattle.bags.specs.declared.point.Point.{Point}
@@ -23,11 +24,14 @@ use Rattle.fronts.specs.Labels.{AreLabels, labels_at, runs_of}
 
 -- one way, which is open
 abbrev pub one_way : {V : Type 0} → ℕ → V → (ℕ → Type 0) → Offer (Unit {0}) V
-one_way departure value fits = record { is_open = λ _. Unit {0}; departure = λ _. departure; value = λ _. value; fits_tag = λ _. fits }
+one_way departure value fits = record
+    { is_open = λ _. Unit {0}; departure = λ _. departure; value = λ _. value; fits_tag = λ _. fits }
 
 -- one way to set out
 abbrev pub set_out_way : {V : Type 0} → Spellings → ℕ → V → SetOut → Offer (Unit {0}) V
-set_out_way tags departure value s = one_way departure value (λ tag. (x : Aboard) → tags.earlier.aboard s.label ≡ Some x → tags.later.journey tag ≡ Some (record { start = s.start; rides = boarded s.first x }))
+set_out_way tags departure value s = one_way departure value (λ tag. (x : Aboard)
+    → tags.earlier.aboard s.label ≡ Some x
+    → tags.later.journey tag ≡ Some (record { start = s.start; rides = boarded s.first x }))
 
 -- each way that some element offers
 abbrev pub each_of : {X A V : Type 0} → (X → Type 0) → (X → Offer A V) → Offer (X × A) V
@@ -52,8 +56,10 @@ pub record IsRelabelled {V : Type 0} (rules : Rules V) (trip : ℕ) (old new : L
   pub long : length (runs_of new) ≡ length (runs_of old)
   pub same : (k : ℕ) → (k ≡ trip → ⊥) → labels_at new k ≡ labels_at old k
 
--- a list takes an offer in while a story is written on: whichever beginning of it one asks, and whatever is still to come
-abbrev pub Takes : {A V : Type 0} → Rules V → List Footpath → Story → Story → (Spellings → Offer A V) → List (Point V) → List (Point V) → Type 0
+-- a list takes an offer in while a story is written on: whichever beginning of it one asks, and whatever is still to
+-- come
+abbrev pub Takes : {A V : Type 0} → Rules V → List Footpath → Story → Story → (Spellings → Offer A V) → List (Point V)
+    → List (Point V) → Type 0
 Takes rules walks was now offer old new =
     (before all : Story) → Grows before was → Grows now all
     → TakesIn rules (offer (from_to (told walks before) (told walks all))) old new
@@ -72,21 +78,25 @@ boardings_after rules tags i departure walk labels = record {
   is_open = Contains labels;
   departure = λ _. departure;
   value = λ label. rules.walk walk.secs (rules.ride label.value);
-  fits_tag = λ label tag. (x : Aboard) → tags.earlier.aboard label.tag ≡ Some x → tags.later.onward tag ≡ Some (record { walk = walk ∷ []; rides = boarded i x });
+  fits_tag = λ label tag. (x : Aboard) → tags.earlier.aboard label.tag ≡ Some x
+      → tags.later.onward tag ≡ Some (record { walk = walk ∷ []; rides = boarded i x });
 }
 
 -- the points found are offered each label of a trip, boarded at place i after a start
-abbrev pub settings_out_after : {V : Type 0} → Rules V → Spellings → ℕ → ℕ → Option Footpath → List (Point V) → Offer (Point V) V
+abbrev pub settings_out_after : {V : Type 0} → Rules V → Spellings → ℕ → ℕ → Option Footpath → List (Point V)
+    → Offer (Point V) V
 settings_out_after rules tags i departure start labels = record {
   is_open = Contains labels;
   departure = λ _. departure;
   value = λ label. started rules start (rules.ride label.value);
-  fits_tag = λ label tag. (x : Aboard) → tags.earlier.aboard label.tag ≡ Some x → tags.later.journey tag ≡ Some (record { start = start; rides = boarded i x });
+  fits_tag = λ label tag. (x : Aboard) → tags.earlier.aboard label.tag ≡ Some x
+      → tags.later.journey tag ≡ Some (record { start = start; rides = boarded i x });
 }
 
 -- values are those of labels after the ride, each with the number of its label
 pub record AreRidden {V : Type 0} (rules : Rules V) (labels : List (Point V)) (ridden : List (Ridden V)) : Type 0 where
-  pub of_label : (r : Ridden V) → Contains ridden r → (l : Point V) × Contains labels l × (r.value ≡ rules.ride l.value) × (r.label ≡ l.tag)
+  pub of_label : (r : Ridden V) → Contains ridden r → (l : Point V) × Contains labels l
+      × (r.value ≡ rules.ride l.value) × (r.label ≡ l.tag)
   pub each : (l : Point V) → Contains labels l → (r : Ridden V) × Contains ridden r × (r.value ≡ rules.ride l.value)
 
 -- labels are offered each point of a stop that departs at a time or later, the trip being left at place i
@@ -116,16 +126,29 @@ fits_in a b (inl way) = a.fits_tag way
 fits_in a b (inr way) = b.fits_tag way
 
 abbrev pub either : {A B V : Type 0} → Offer A V → Offer B V → Offer (A ⊎ B) V
-either a b = record { is_open = open_in a b; departure = departure_in a b; value = value_in a b; fits_tag = fits_in a b }
+either a b = record {
+  is_open = open_in a b;
+  departure = departure_in a b;
+  value = value_in a b;
+  fits_tag = fits_in a b;
+}
 
 -- an offer under a condition
 abbrev pub only_if : {A V : Type 0} → Type 0 → Offer A V → Offer A V
-only_if P offer = record { is_open = λ way. P × offer.is_open way; departure = offer.departure; value = offer.value; fits_tag = offer.fits_tag }
+only_if P offer = record {
+  is_open = λ way. P
+      × offer.is_open way;
+  departure = offer.departure;
+  value = offer.value;
+  fits_tag = offer.fits_tag;
+}
 
--- how one may end where a connection ends: at the target, or after one footpath of so many seconds to it; and at the target by a time
+-- how one may end where a connection ends: at the target, or after one footpath of so many seconds to it; and at the
+-- target by a time
 abbrev pub IsEnding : Connection → Query → Option ℕ → Option Footpath → Type 0
 IsEnding c q way None = (c.to ≡ q.target) × (c.arr ≤ q.by)
-IsEnding c q way (Some f) = (c.to ≢ q.target) × (way ≡ Some f.secs) × (f.from ≡ c.to) × (f.to ≡ q.target) × (c.arr + f.secs ≤ q.by)
+IsEnding c q way (Some f) = (c.to ≢ q.target) × (way ≡ Some f.secs) × (f.from ≡ c.to) × (f.to ≡ q.target)
+    × (c.arr + f.secs ≤ q.by)
 
 -- labels are offered each way to end there, the trip being left at place i
 abbrev pub endings : {V : Type 0} → Rules V → Spellings → ℕ → Connection → Query → Option ℕ → Offer (Option Footpath) V
@@ -137,10 +160,12 @@ endings rules tags i c q way = record {
 }
 
 -- the two ways to leave a trip where a connection ends: to end, or to change
-abbrev pub endings_and_changes : {V : Type 0} → Rules V → Spellings → ℕ → Connection → Query → Option ℕ → List (Point V) → Offer (Option Footpath ⊎ Point V) V
+abbrev pub endings_and_changes : {V : Type 0} → Rules V → Spellings → ℕ → Connection → Query → Option ℕ
+    → List (Point V) → Offer (Option Footpath ⊎ Point V) V
 endings_and_changes rules tags i c q way bag = either (endings rules tags i c q way) (changes_from tags i c.arr bag)
 
--- a start leads to a connection from the source in time, and departs in the window: none where the connection starts at the source, else one footpath to another stop
+-- a start leads to a connection from the source in time, and departs in the window: none where the connection starts at
+-- the source, else one footpath to another stop
 abbrev pub StartsFrom : Query → Connection → Option Footpath → Type 0
 StartsFrom q c None = c.from ≡ q.source
 StartsFrom q c (Some f) = (f.from ≡ q.source) × (f.to ≢ q.source)
@@ -167,10 +192,15 @@ abbrev pub IsTried : List Footpath → ℕ → ℕ → Option Footpath → Type 
 IsTried walks begin end None = Unit {0}
 IsTried walks begin end (Some walk) = StandsBetween walks begin end walk
 
--- what one footpath into a connection's start offers the points of a stop: something, if it begins there and is short enough
-abbrev pub boardings_by : {V : Type 0} → Rules V → Spellings → ℕ → Connection → ℕ → List (Point V) → Footpath → Offer (Point V) V
-boardings_by rules tags i c stop labels walk = only_if ((walk.from ≡ stop) × (walk.secs ≤ c.dep)) (boardings_after rules tags i (c.dep - walk.secs) walk labels)
+-- what one footpath into a connection's start offers the points of a stop: something, if it begins there and is short
+-- enough
+abbrev pub boardings_by : {V : Type 0} → Rules V → Spellings → ℕ → Connection → ℕ → List (Point V) → Footpath
+    → Offer (Point V) V
+boardings_by rules tags i c stop labels walk = only_if ((walk.from ≡ stop) × (walk.secs ≤ c.dep))
+    (boardings_after rules tags i (c.dep - walk.secs) walk labels)
 
 -- what one start offers the points found, if it is one
-abbrev pub settings_out_by : {V : Type 0} → Rules V → Spellings → ℕ → Connection → Query → List (Point V) → Option Footpath → Offer (Point V) V
-settings_out_by rules tags i c q labels start = only_if (MayStart q c start) (settings_out_after rules tags i (c.dep - start_secs start) start labels)
+abbrev pub settings_out_by : {V : Type 0} → Rules V → Spellings → ℕ → Connection → Query → List (Point V)
+    → Option Footpath → Offer (Point V) V
+settings_out_by rules tags i c q labels start = only_if (MayStart q c start)
+    (settings_out_after rules tags i (c.dep - start_secs start) start labels)

@@ -13,8 +13,16 @@ use Rattle.profile_scan.specs.Nodes.{spelling}
 use Rattle.profile_scan.specs.Kept.{IsWay}
 use Rattle.profile_scan.specs.declared.nodes.Node.{Node}
 
--- points are the answer of a query over a timetable, each point's tag spells, by the nodes, a plain journey that counts, with the point's departure and value, and the walk is the footpath from the source to the target
-pub record IsAnswered {V : Type 0} (rules : Rules V) (t : TimetableValue) (q : Query) (points : List (Point V)) (nodes : List Node) (walk : Option ℕ) : Type 0 where
+-- points are the answer of a query over a timetable, each point's tag spells, by the nodes, a plain journey that
+-- counts, with the point's departure and value, and the walk is the footpath from the source to the target
+pub record IsAnswered {V : Type 0} (rules : Rules V) (t : TimetableValue) (q : Query) (points : List (Point V))
+    (nodes : List Node) (walk : Option ℕ) : Type 0 where
   pub answer : IsAnswer rules t q points
-  pub attained : (p : Point V) → Contains points p → IsAttained (spelling nodes).journey (Counts t q) (IsPlain t q.target) (journey_value rules t) p
+  pub attained : (p : Point V) → Contains points p
+      → IsAttained (spelling nodes).journey (Counts t q) (IsPlain t q.target) (journey_value rules t) p
   pub direct : IsWay t q.target q.source walk
+
+-- the same as a mere fact: which proof of it is kept tells nothing
+abbrev pub Answer : {V : Type 0}
+    → Rules V → TimetableValue → Query → List (Point V) → List Node → Option ℕ → Type 0
+Answer rules t q points nodes walk = ∥ IsAnswered rules t q points nodes walk ∥₁

@@ -1,4 +1,5 @@
--- What a scan leaves out by a bound: values of points found, none of which departs earlier than the connections that are still to come.
+-- What a scan leaves out by a bound: values of points found, none of which departs earlier than the connections that
+-- are still to come.
 use Rattle.std.specs.Prelude.{◌≡◌, ◌⊎◌, ℕ, ◌<◌, ◌≤◌, Bool, true, false, not, List, filter, Contains, slice_get, Some}
 use Rattle.std.specs.List.{list_any}
 use Rattle.criteria.specs.Laws.{Rules, Admits, RidingWorsens}
@@ -16,7 +17,8 @@ abbrev pub carried : {V : Type 0} → Rules V → List V → List (Point V) → 
 carried rules values points = filter (λ p. not (is_bettered rules values (rules.ride p.value))) points
 
 -- values that points found outdo, each
-pub record AreBounds {V : Type 0} (rules : Rules V) (t : TimetableValue) (found : List (Point V)) (i : ℕ) (values : List V) : Type 0 where
+pub record AreBounds {V : Type 0} (rules : Rules V) (t : TimetableValue) (found : List (Point V)) (i : ℕ)
+    (values : List V) : Type 0 where
   pub admitted : (b : V) → Contains values b → Admits rules b
   pub outdone : (b : V) → Contains values b → IsOutdone rules t found i b
 
@@ -35,13 +37,20 @@ pub record TakesValue {V : Type 0} (rules : Rules V) (value : V) (old new : List
   pub taken : is_bettered rules new value ≡ true
 
 -- the same of the values of the points from one place up to before another
-pub record TakesPoints {V : Type 0} (rules : Rules V) (points : List (Point V)) (from until : ℕ) (old new : List V) : Type 0 where
-  pub only : (b : V) → Contains new b → Contains old b ⊎ ((k : ℕ) × (p : Point V) × (from ≤ k) × (k < until) × (slice_get points k ≡ Some p) × (p.value ≡ b))
+pub record TakesPoints {V : Type 0} (rules : Rules V) (points : List (Point V)) (from until : ℕ)
+    (old new : List V) : Type 0 where
+  pub only : (b : V) → Contains new b → Contains old b
+      ⊎ ((k : ℕ) × (p : Point V) × (from ≤ k) × (k < until) × (slice_get points k ≡ Some p) × (p.value ≡ b))
   pub kept : (v : V) → Admits rules v → is_bettered rules old v ≡ true → is_bettered rules new v ≡ true
-  pub each : (k : ℕ) (p : Point V) → from ≤ k → k < until → slice_get points k ≡ Some p → is_bettered rules new p.value ≡ true
+  pub each : (k : ℕ) (p : Point V) → from ≤ k → k < until → slice_get points k ≡ Some p
+      → is_bettered rules new p.value ≡ true
 
 -- a label comes after the ride, unless it is bettered then
-pub record RidesLabel {V : Type 0} (rules : Rules V) (values : List V) (label : Point V) (old new : List (Ridden V)) : Type 0 where
-  pub only : (r : Ridden V) → Contains new r → Contains old r ⊎ ((is_bettered rules values (rules.ride label.value) ≡ false) × (r.value ≡ rules.ride label.value) × (r.label ≡ label.tag))
+pub record RidesLabel {V : Type 0} (rules : Rules V) (values : List V) (label : Point V)
+    (old new : List (Ridden V)) : Type 0 where
+  pub only : (r : Ridden V) → Contains new r → Contains old r
+      ⊎ ((is_bettered rules values (rules.ride label.value) ≡ false) × (r.value ≡ rules.ride label.value)
+      × (r.label ≡ label.tag))
   pub kept : (r : Ridden V) → Contains old r → Contains new r
-  pub rides : is_bettered rules values (rules.ride label.value) ≡ false → (r : Ridden V) × Contains new r × (r.value ≡ rules.ride label.value)
+  pub rides : is_bettered rules values (rules.ride label.value) ≡ false → (r : Ridden V) × Contains new r
+      × (r.value ≡ rules.ride label.value)

@@ -24,7 +24,8 @@ abbrev pub BoardsFrom : ℕ → List RideValue → Type 0
 BoardsFrom i [] = ⊥
 BoardsFrom i (ride ∷ rides) = i ≤ ride.leg.first
 
--- who may leave the stop at the time walks on, by a chain of any length but not by none, boards at place i or later, and is at the target by the query's latest arrival
+-- who may leave the stop at the time walks on, by a chain of any length but not by none, boards at place i or later,
+-- and is at the target by the query's latest arrival
 pub record IsOnward (t : TimetableValue) (q : Query) (i stop time : ℕ) (x : Onward) : Type 0 where
   pub walks : x.walk ≢ []
   pub is_walk : IsWalk t stop x.walk
@@ -39,7 +40,8 @@ time_off t x = (connection_at t x.last).arr + walk_secs x.walk
 abbrev pub time_there : TimetableValue → Aboard → ℕ
 time_there t x = final_time t (time_off t x) x.rides
 
--- who sits in the trip stays up to a connection at place i or later, leaves it there, and is at the target by the query's latest arrival; who rides on after that walks first
+-- who sits in the trip stays up to a connection at place i or later, leaves it there, and is at the target by the
+-- query's latest arrival; who rides on after that walks first
 pub record IsAboard (t : TimetableValue) (q : Query) (i trip : ℕ) (x : Aboard) : Type 0 where
   pub later : i ≤ x.last
   pub in_range : x.last < length t.connections

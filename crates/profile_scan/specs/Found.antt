@@ -38,9 +38,12 @@ query_of found = found.query.value
 abbrev pub criterion_of_found : {K V : Type 0} {c : _} → Found K V c → K
 criterion_of_found found = found.criterion
 
--- it is the answer of a query over a timetable, under a criterion; each point's tag spells, by the nodes, a plain journey that counts, with the point's departure and value
-pub record Answers {K V : Type 0} {c : _} (criterion : K) (rules : Rules V) (t : TimetableValue) (q : Query) (found : Found K V c) : Type 0 where
+-- it is the answer of a query over a timetable, under a criterion; each point's tag spells, by the nodes, a plain
+-- journey that counts, with the point's departure and value
+pub record Answers {K V : Type 0} {c : _} (criterion : K) (rules : Rules V) (t : TimetableValue) (q : Query)
+    (found : Found K V c) : Type 0 where
   pub answer : IsAnswer rules t q (listed found)
-  pub attained : (p : Point V) → Contains (listed found) p → IsAttained (spelling (nodes_of found)).journey (Counts t q) (IsPlain t q.target) (journey_value rules t) p
+  pub attained : (p : Point V) → Contains (listed found) p
+      → IsAttained (spelling (nodes_of found)).journey (Counts t q) (IsPlain t q.target) (journey_value rules t) p
   pub direct : IsWay t q.target q.source (walk_of_found found)
   pub keeps : (criterion_of_found found ≡ criterion) × (timetable_of found ≡ t) × (query_of found ≡ q)

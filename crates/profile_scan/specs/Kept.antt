@@ -1,5 +1,6 @@
 -- What the vectors of a scan keep for each stop and each trip.
-use Rattle.std.specs.Prelude.{◌≡◌, ℕ, ◌<◌, List, length, vec_len, Contains, slice_index, slice_index_or, Option, Some, None, Bool, true, false, nat_le, map}
+use Rattle.std.specs.Prelude.{◌≡◌, ℕ, ◌<◌, List, length, vec_len, Contains, slice_index, slice_index_or, Option, Some}
+use Rattle.std.specs.Prelude.{None, Bool, true, false, nat_le, map}
 use Rattle.bags.specs.Bag.{criterion_of, points_of}
 use Rattle.bags.specs.declared.point.Point.{Point}
 use Rattle.timetable.specs.declared.network.Footpath.{Footpath}
@@ -12,7 +13,9 @@ use Rattle.profile_scan.specs.Adding.{trip_points}
 use Rattle.profile_scan.specs.Matching.{ScanValue}
 use Rattle.profile_scan.specs.Story.{Story, story}
 use Rattle.profile_scan.specs.declared.stops.Stops.{Stops}
+use Rattle.profile_scan.specs.Bound.{AreBounds}
 use Rattle.profile_scan.specs.declared.scan.Scan.{Scan}
+use Rattle.profile_scan.specs.declared.scan.State.{State}
 use Rattle.profile_scan.specs.declared.ways.Ways.{Ways}
 
 -- the points of a stop's list
@@ -20,7 +23,8 @@ abbrev pub points_at : {K V : Type 0} → Stops K V → ℕ → List (Point V)
 points_at stops stop = list_points stops.lists (slice_index stops.heads.items stop)
 
 -- so many lists under a criterion
-pub record AreStops {K V : Type 0} (rules_of : K → Rules V) (criterion : K) (count : ℕ) (stops : Stops K V) : Type 0 where
+pub record AreStops {K V : Type 0} (rules_of : K → Rules V) (criterion : K) (count : ℕ)
+    (stops : Stops K V) : Type 0 where
   pub under : lists_criterion stops.lists ≡ criterion
   pub sound : IsSound rules_of stops.lists
   pub long : vec_len stops.heads ≡ count
@@ -48,17 +52,33 @@ pub record AreWays (t : TimetableValue) (target : ℕ) (ways : List (Option ℕ)
   pub long : length ways ≡ t.stops
   pub each : (stop : ℕ) → stop < t.stops → IsWay t target stop (slice_index_or ways stop None)
 
+-- a stop is there, among lists under a criterion
+pub record HasStop {K V : Type 0} (rules_of : K → Rules V) (criterion : K) (stop : ℕ) (kept : Stops K V) : Type 0 where
+  pub there : stop < vec_len kept.heads
+  pub stops : AreStops rules_of criterion (vec_len kept.heads) kept
+
 -- what a scan keeps, as its parts have it
-abbrev pub kept_by : {K V : Type 0} {c : _} → Scan K V c → ScanValue V
-kept_by scan = record { bag = points_at scan.stops; labels = trip_points scan.labels; found = points_of scan.found }
+abbrev pub kept_by : {K V : Type 0} {c : _} → State K V c → ScanValue V
+kept_by state = record {
+  bag = points_at state.stops;
+  labels = trip_points state.trips.labels;
+  found = points_of state.origin.found;
+}
 
 -- what it has written down
-abbrev pub story_of : {K V : Type 0} {c : _} → Scan K V c → Story
-story_of scan = story scan.exits.items (steps_of scan.stops.lists) scan.set_outs.items
+abbrev pub story_of : {K V : Type 0} {c : _} → State K V c → Story
+story_of state = story state.trips.exits.items (steps_of state.stops.lists) state.origin.set_outs.items
 
--- a scan over so many stops and trips, under a criterion
-pub record IsScan {K V : Type 0} {c : _} (rules_of : K → Rules V) (criterion : K) (stops trips : ℕ) (scan : Scan K V c) : Type 0 where
-  pub at_stops : AreStops rules_of criterion stops scan.stops
-  pub long : length (runs_of scan.labels) ≡ trips
-  pub labels : AreLabels (rules_of criterion) scan.labels
-  pub found : criterion_of scan.found ≡ criterion
+-- a state over so many stops and trips, under a criterion
+pub record IsState {K V : Type 0} {c : _} (rules_of : K → Rules V) (criterion : K) (stops trips : ℕ)
+    (state : State K V c) : Type 0 where
+  pub at_stops : AreStops rules_of criterion stops state.stops
+  pub long : length (runs_of state.trips.labels) ≡ trips
+  pub labels : AreLabels (rules_of criterion) state.trips.labels
+  pub found : criterion_of state.origin.found ≡ criterion
+
+-- a scan that has read the connections of a timetable from a place on
+pub record IsScan {K V : Type 0} {c : _} (rules_of : K → Rules V) (criterion : K) (t : TimetableValue) (place : ℕ)
+    (scan : Scan K V c) : Type 0 where
+  pub state : IsState rules_of criterion t.stops t.trips scan.state
+  pub bound : AreBounds (rules_of criterion) t (points_of scan.state.origin.found) place scan.bound.values.items

@@ -1,5 +1,6 @@
 -- The laws that exactness rests on, as statements over the definitions alone.
-use Rattle.std.specs.Prelude.{◌≡◌, ◌≢◌, ℕ, ◌+◌, ◌-◌, ◌<◌, ◌≤◌, List, [], ◌∷◌, length, Contains, AllPairs, All, map, reverse, Some}
+use Rattle.std.specs.Prelude.{◌≡◌, ◌≢◌, ℕ, ◌+◌, ◌-◌, ◌<◌, ◌≤◌, List, [], ◌∷◌, length, Contains, AllPairs, All, map}
+use Rattle.std.specs.Prelude.{reverse, Some}
 use Rattle.criteria.specs.Laws.{Rules, Admits, NoWorse}
 use Rattle.bags.specs.Dominance.{IsBag}
 use Rattle.bags.specs.declared.point.Point.{Point}
@@ -26,7 +27,8 @@ pub record CanScan (t : TimetableValue) (q : Query) : Type 0 where
   pub in_time : q.by < TIME_END
 
 -- a footpath in place of a chain: it leads from the same stop to the same stop, takes no longer, and is never worse
-pub record IsInstead {V : Type 0} (rules : Rules V) (t : TimetableValue) (stop : ℕ) (chain : List Footpath) (f : Footpath) : Type 0 where
+pub record IsInstead {V : Type 0} (rules : Rules V) (t : TimetableValue) (stop : ℕ) (chain : List Footpath)
+    (f : Footpath) : Type 0 where
   pub is_footpath : Contains t.footpaths f
   pub leaves : f.from ≡ stop
   pub leads : f.to ≡ walk_end stop chain
@@ -40,16 +42,22 @@ ChainsGiveWay rules =
     → (stop : ℕ) (chain : List Footpath) → chain ≢ [] → IsWalk t stop chain
     → (f : Footpath) × IsInstead rules t stop chain f
 
--- connections that depart together can't continue one another: a trip's connections depart one after the other, and each leg departs later than the one before it was left
+-- connections that depart together can't continue one another: a trip's connections depart one after the other, and
+-- each leg departs later than the one before it was left
 pub record DeparturesRise (t : TimetableValue) : Type 0 where
-  pub in_trips : (i j : ℕ) → i < j → j < length t.connections → (connection_at t i).trip ≡ (connection_at t j).trip → (connection_at t i).dep < (connection_at t j).dep
-  pub in_rides : (goal stop time : ℕ) (ride next : RideValue) (rides : List RideValue) → Leads t goal stop time (ride ∷ next ∷ rides) → (connection_at t ride.leg.last).dep < (connection_at t next.leg.first).dep
+  pub in_trips : (i j : ℕ) → i < j → j < length t.connections → (connection_at t i).trip ≡ (connection_at t j).trip
+      → (connection_at t i).dep < (connection_at t j).dep
+  pub in_rides : (goal stop time : ℕ) (ride next : RideValue) (rides : List RideValue)
+      → Leads t goal stop time (ride ∷ next ∷ rides)
+      → (connection_at t ride.leg.last).dep < (connection_at t next.leg.first).dep
 
 abbrev pub TogetherNeverContinue : Type 0
 TogetherNeverContinue = (t : TimetableValue) → IsLegal t → DeparturesRise t
 
--- what is kept of the later connections and matches all ways to go on over them still does after the step of one connection
-abbrev pub OneIndexDown : {V : Type 0} → Rules V → (TimetableValue → Query → Spellings → ℕ → ScanValue V → ScanValue V → Type 0) → Type 0
+-- what is kept of the later connections and matches all ways to go on over them still does after the step of one
+-- connection
+abbrev pub OneIndexDown : {V : Type 0} → Rules V
+    → (TimetableValue → Query → Spellings → ℕ → ScanValue V → ScanValue V → Type 0) → Type 0
 OneIndexDown {V} rules Step =
     (t : TimetableValue) (q : Query) → CanScan t q
     → (tags : Spellings) (i : ℕ) → i < length t.connections
@@ -58,9 +66,12 @@ OneIndexDown {V} rules Step =
 
 -- what the tags in use spell by the one spelling, they spell by the other
 pub record StaySpelled {V : Type 0} (a b : Spelling) (scan : ScanValue V) : Type 0 where
-  pub at_stops : (stop : ℕ) (p : Point V) (x : Onward) → Contains (scan.bag stop) p → a.onward p.tag ≡ Some x → b.onward p.tag ≡ Some x
-  pub in_trips : (trip : ℕ) (p : Point V) (x : Aboard) → Contains (scan.labels trip) p → a.aboard p.tag ≡ Some x → b.aboard p.tag ≡ Some x
-  pub at_source : (p : Point V) (j : JourneyValue) → Contains scan.found p → a.journey p.tag ≡ Some j → b.journey p.tag ≡ Some j
+  pub at_stops : (stop : ℕ) (p : Point V) (x : Onward) → Contains (scan.bag stop) p → a.onward p.tag ≡ Some x
+      → b.onward p.tag ≡ Some x
+  pub in_trips : (trip : ℕ) (p : Point V) (x : Aboard) → Contains (scan.labels trip) p → a.aboard p.tag ≡ Some x
+      → b.aboard p.tag ≡ Some x
+  pub at_source : (p : Point V) (j : JourneyValue) → Contains scan.found p → a.journey p.tag ≡ Some j
+      → b.journey p.tag ≡ Some j
 
 -- what matches still does where further tags come to spell something
 abbrev pub TagsMayCome : {V : Type 0} → Rules V → Type 0
@@ -68,19 +79,25 @@ TagsMayCome {V} rules =
     (t : TimetableValue) (q : Query) (a b : Spelling) (i : ℕ) (scan : ScanValue V)
     → StaySpelled a b scan → MatchesFrom rules t q a i scan → MatchesFrom rules t q b i scan
 
--- the cut at the latest departure is the source's alone: what follows a stop or in a trip doesn't know it, and of a journey only its own departure is asked, however early the cut
+-- the cut at the latest departure is the source's alone: what follows a stop or in a trip doesn't know it, and of a
+-- journey only its own departure is asked, however early the cut
 pub record CutIsTheSources (JourneyCounts : TimetableValue → Query → ℕ → JourneyValue → Type 0) : Type 0 where
-  pub onward : (t : TimetableValue) (q : Query) (until i stop time : ℕ) (x : Onward) → IsOnward t q i stop time x → IsOnward t (record q { until = until }) i stop time x
-  pub aboard : (t : TimetableValue) (q : Query) (until i trip : ℕ) (x : Aboard) → IsAboard t q i trip x → IsAboard t (record q { until = until }) i trip x
-  pub is_cut : (t : TimetableValue) (q : Query) (departure : ℕ) (j : JourneyValue) → JourneyCounts t q departure j → departure ≤ q.until
-  pub at_source : (t : TimetableValue) (q : Query) (until departure : ℕ) (j : JourneyValue) → departure ≤ until → JourneyCounts t q departure j → JourneyCounts t (record q { until = until }) departure j
+  pub onward : (t : TimetableValue) (q : Query) (until i stop time : ℕ) (x : Onward) → IsOnward t q i stop time x
+      → IsOnward t (record q { until = until }) i stop time x
+  pub aboard : (t : TimetableValue) (q : Query) (until i trip : ℕ) (x : Aboard) → IsAboard t q i trip x
+      → IsAboard t (record q { until = until }) i trip x
+  pub is_cut : (t : TimetableValue) (q : Query) (departure : ℕ) (j : JourneyValue) → JourneyCounts t q departure j
+      → departure ≤ q.until
+  pub at_source : (t : TimetableValue) (q : Query) (until departure : ℕ) (j : JourneyValue) → departure ≤ until
+      → JourneyCounts t q departure j → JourneyCounts t (record q { until = until }) departure j
 
 -- points found that match at the window's start, none of which dominates another, in order, are the answer
 abbrev pub MatchIsTheAnswer : {V : Type 0} → Rules V → Type 0
 MatchIsTheAnswer {V} rules =
     (t : TimetableValue) (q : Query) → CanScan t q
     → (start : ℕ) → IsFirstAt t q.from start
-    → (tags : Spelling) (found : List (Point V)) → Matches rules tags.journey (CountsFrom t q start) (IsPlain t q.target) (journey_value rules t) found
+    → (tags : Spelling) (found : List (Point V))
+    → Matches rules tags.journey (CountsFrom t q start) (IsPlain t q.target) (journey_value rules t) found
     → IsBag rules found → AllPairs (Before rules) found
     → IsAnswer rules t q found
 
@@ -98,9 +115,11 @@ OneAnswer {V} rules =
     → (a b : List (Point V)) → IsAnswer rules t q a → IsAnswer rules t q b
     → map untagged a ≡ map untagged b
 
--- a window read backward: its places stand between the first ones at two times, each is a place of a connection, and departures never rise
+-- a window read backward: its places stand between the first ones at two times, each is a place of a connection, and
+-- departures never rise
 pub record IsReadBackward (t : TimetableValue) (q : Query) : Type 0 where
-  pub falls : (start end : ℕ) → IsFirstAt t q.from start → IsFirstAt t q.by end → reverse (window t q) ≡ falling start (end - start)
+  pub falls : (start end : ℕ) → IsFirstAt t q.from start → IsFirstAt t q.by end
+      → reverse (window t q) ≡ falling start (end - start)
   pub in_range : All (λ (i : ℕ). i < length t.connections) (reverse (window t q))
   pub never_rises : AllPairs (λ (i j : ℕ). (connection_at t j).dep ≤ (connection_at t i).dep) (reverse (window t q))
 

@@ -2,6 +2,7 @@ pub mod Values
 pub mod Points
 pub mod Window
 pub mod Continuations
+pub mod Parts
 pub mod Plain
 pub mod Matching
 pub mod Steps
@@ -10,6 +11,7 @@ pub mod LawStatements
 pub mod Nodes
 pub mod Story
 pub mod Adding
+pub mod Hops
 pub mod Kept
 pub mod Telling
 pub mod Answered

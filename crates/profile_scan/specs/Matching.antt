@@ -32,30 +32,38 @@ abbrev pub from_to : Spelling → Spelling → Spellings
 from_to before after = record { earlier = before; later = after }
 
 -- a point is attained by what its tag spells: a way that is there, is plain, and has the point's departure and value
-pub record IsAttained {V X : Type 0} (spelled : ℕ → Option X) (IsThere : ℕ → X → Type 0) (IsPlainWay : X → Type 0) (value : X → V) (p : Point V) : Type 0 where
+pub record IsAttained {V X : Type 0} (spelled : ℕ → Option X) (IsThere : ℕ → X → Type 0) (IsPlainWay : X → Type 0)
+    (value : X → V) (p : Point V) : Type 0 where
   pub way : X
   pub spells : spelled p.tag ≡ Some way
   pub there : IsThere p.departure way
   pub plain : IsPlainWay way
   pub worth : p.value ≡ value way
 
--- points match the ways that are there: each point is attained by what its tag spells, and of each way, plain or not, departure and value are covered
-pub record Matches {V X : Type 0} (rules : Rules V) (spelled : ℕ → Option X) (IsThere : ℕ → X → Type 0) (IsPlainWay : X → Type 0) (value : X → V) (points : List (Point V)) : Type 0 where
+-- points match the ways that are there: each point is attained by what its tag spells, and of each way, plain or not,
+-- departure and value are covered
+pub record Matches {V X : Type 0} (rules : Rules V) (spelled : ℕ → Option X) (IsThere : ℕ → X → Type 0) (IsPlainWay : X
+    → Type 0) (value : X → V) (points : List (Point V)) : Type 0 where
   pub sound : (p : Point V) → Contains points p → IsAttained spelled IsThere IsPlainWay value p
   pub complete : (departure : ℕ) (x : X) → IsThere departure x → Covers rules points departure (value x)
 
--- a value is outdone: riding never makes one better, and a point found is no worse and departs no earlier than any connection before place i
-pub record IsOutdone {V : Type 0} (rules : Rules V) (t : TimetableValue) (found : List (Point V)) (i : ℕ) (v : V) : Type 0 where
+-- a value is outdone: riding never makes one better, and a point found is no worse and departs no earlier than any
+-- connection before place i
+pub record IsOutdone {V : Type 0} (rules : Rules V) (t : TimetableValue) (found : List (Point V)) (i : ℕ)
+    (v : V) : Type 0 where
   pub worsens : RidingWorsens rules
   pub by : Point V
   pub is_found : Contains found by
   pub in_time : (k : ℕ) → k < i → (connection_at t k).dep ≤ by.departure
   pub no_worse : NoWorse rules by.value v
 
--- points match the ways that are there, but for those of outdone values: each point is attained, and of each way that isn't outdone departure and value are covered
-pub record MatchesBut {V X : Type 0} (rules : Rules V) (spelled : ℕ → Option X) (IsThere : ℕ → X → Type 0) (IsPlainWay : X → Type 0) (value : X → V) (Outdone : V → Type 0) (points : List (Point V)) : Type 0 where
+-- points match the ways that are there, but for those of outdone values: each point is attained, and of each way that
+-- isn't outdone departure and value are covered
+pub record MatchesBut {V X : Type 0} (rules : Rules V) (spelled : ℕ → Option X) (IsThere : ℕ → X → Type 0)
+    (IsPlainWay : X → Type 0) (value : X → V) (Outdone : V → Type 0) (points : List (Point V)) : Type 0 where
   pub sound : (p : Point V) → Contains points p → IsAttained spelled IsThere IsPlainWay value p
-  pub complete : (departure : ℕ) (x : X) → IsThere departure x → Covers rules points departure (value x) ⊎ Outdone (value x)
+  pub complete : (departure : ℕ) (x : X) → IsThere departure x → Covers rules points departure (value x)
+      ⊎ Outdone (value x)
 
 -- who sits in a trip has departed: labels have departure 0
 pub record IsLabelled (t : TimetableValue) (q : Query) (i trip departure : ℕ) (x : Aboard) : Type 0 where
@@ -68,8 +76,14 @@ pub record ScanValue (V : Type 0) : Type 0 where
   pub labels : ℕ → List (Point V)
   pub found : List (Point V)
 
--- it matches every way to go on over the connections from place i; at stops and in trips but for what the points found outdo, in a trip after the ride
-pub record MatchesFrom {V : Type 0} (rules : Rules V) (t : TimetableValue) (q : Query) (tags : Spelling) (i : ℕ) (scan : ScanValue V) : Type 0 where
-  pub at_stops : (stop : ℕ) → stop < t.stops → MatchesBut rules tags.onward (IsOnward t q i stop) (IsPlainOnward t q.target) (onward_value rules t) (IsOutdone rules t scan.found i) (scan.bag stop)
-  pub in_trips : (trip : ℕ) → trip < t.trips → MatchesBut rules tags.aboard (IsLabelled t q i trip) (IsPlainAboard t q.target) (aboard_value rules t) (λ v. IsOutdone rules t scan.found i (rules.ride v)) (scan.labels trip)
+-- it matches every way to go on over the connections from place i; at stops and in trips but for what the points found
+-- outdo, in a trip after the ride
+pub record MatchesFrom {V : Type 0} (rules : Rules V) (t : TimetableValue) (q : Query) (tags : Spelling) (i : ℕ)
+    (scan : ScanValue V) : Type 0 where
+  pub at_stops : (stop : ℕ) → stop < t.stops
+      → MatchesBut rules tags.onward (IsOnward t q i stop) (IsPlainOnward t q.target) (onward_value rules t)
+      (IsOutdone rules t scan.found i) (scan.bag stop)
+  pub in_trips : (trip : ℕ) → trip < t.trips
+      → MatchesBut rules tags.aboard (IsLabelled t q i trip) (IsPlainAboard t q.target) (aboard_value rules t)
+      (λ v. IsOutdone rules t scan.found i (rules.ride v)) (scan.labels trip)
   pub at_source : Matches rules tags.journey (CountsFrom t q i) (IsPlain t q.target) (journey_value rules t) scan.found

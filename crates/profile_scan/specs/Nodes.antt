@@ -37,7 +37,8 @@ set_out_by start first (Some x) = Some (record { start = start; rides = boarded 
 
 -- a node, by what the earlier ones spell
 abbrev pub spells : (ℕ → Spelled) → Node → Spelled
-spells earlier (Ends last walk) = record nothing { aboard = Some (record { last = last; walk = walk_of walk; rides = [] }) }
+spells earlier (Ends last walk) = record nothing
+    { aboard = Some (record { last = last; walk = walk_of walk; rides = [] }) }
 spells earlier (Changes last next) = record nothing { aboard = changed_at last (earlier next).onward }
 spells earlier (Boards walk first next) = record nothing { onward = boarded_after walk first (earlier next).aboard }
 spells earlier (SetsOut start first next) = record nothing { journey = set_out_by start first (earlier next).aboard }
@@ -57,7 +58,12 @@ spelled nodes k = at_number (spelled_on [] nodes) k
 
 -- the numbers of nodes as tags
 abbrev pub spelling : List Node → Spelling
-spelling nodes = record { onward = λ k. (spelled nodes k).onward; aboard = λ k. (spelled nodes k).aboard; journey = λ k. (spelled nodes k).journey }
+spelling nodes = record {
+  onward = λ k. (spelled nodes k).onward;
+  aboard = λ k. (spelled nodes k).aboard;
+  journey = λ k.
+      (spelled nodes k).journey;
+}
 
 -- a tag spells that one leaves a trip for good after a connection, by a footpath or none
 abbrev pub SpellsEnd : Spellings → ℕ → Option Footpath → ℕ → Type 0

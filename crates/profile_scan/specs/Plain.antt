@@ -1,4 +1,5 @@
--- Plain ways to go on: each change is one footpath, and after the last leg there is one only where that leg ends elsewhere than at the target. (What a scan finds; journeys that count may walk further.)
+-- Plain ways to go on: each change is one footpath, and after the last leg there is one only where that leg ends
+-- elsewhere than at the target. (What a scan finds; journeys that count may walk further.)
 use Rattle.std.specs.Prelude.{◌≡◌, ◌≢◌, ◌⊎◌, ℕ, List, [], ◌∷◌}
 use Rattle.timetable.specs.declared.network.Footpath.{Footpath}
 use Rattle.timetable.specs.TimetableValue.{TimetableValue}
@@ -10,7 +11,8 @@ use Rattle.profile_scan.specs.Continuations.{Onward, Aboard}
 abbrev pub IsOneFootpath : List Footpath → Type 0
 IsOneFootpath walk = (f : Footpath) × (walk ≡ f ∷ [])
 
--- the walk after a leg, by the rides that follow: to change, one footpath; at the end none where the leg ends at the target, else one
+-- the walk after a leg, by the rides that follow: to change, one footpath; at the end none where the leg ends at the
+-- target, else one
 abbrev pub HasPlainWalk : TimetableValue → ℕ → ℕ → List Footpath → List RideValue → Type 0
 HasPlainWalk t target last walk [] =
     (((connection_at t last).to ≡ target) × (walk ≡ []))

@@ -1,4 +1,5 @@
--- The points of a query, and its answer. (Pareto dominance, as in the Connection Scan Algorithm's profiles; the window is our own.)
+-- The points of a query, and its answer. (Pareto dominance, as in the Connection Scan Algorithm's profiles; the window
+-- is our own.)
 use Rattle.std.specs.Prelude.{◌≡◌, ◌⊎◌, ◌↔◌, ◌&&◌, ◌||◌, ◌==◌, ℕ, ◌<◌, ◌≤◌, Bool, nat_lt, List, Contains, AllPairs}
 use Rattle.std.specs.Ordering.{is_lt}
 use Rattle.std.specs.declared.cmp.Ordering.TheVariants.{Less}
@@ -16,9 +17,11 @@ abbrev pub IsPoint : {V : Type 0} → Rules V → TimetableValue → Query → �
 IsPoint rules t q departure v = (j : JourneyValue) × Counts t q departure j × (v ≡ journey_value rules t j)
 
 -- a point of the query that no other one dominates: one that departs no earlier, and is no worse, is that point itself
-pub record IsUndominated {V : Type 0} (rules : Rules V) (t : TimetableValue) (q : Query) (departure : ℕ) (v : V) : Type 0 where
+pub record IsUndominated {V : Type 0} (rules : Rules V) (t : TimetableValue) (q : Query) (departure : ℕ)
+    (v : V) : Type 0 where
   pub is_point : IsPoint rules t q departure v
-  pub only_itself : (d : ℕ) (w : V) → IsPoint rules t q d w → departure ≤ d → NoWorse rules w v → (d ≡ departure) × (w ≡ v)
+  pub only_itself : (d : ℕ) (w : V) → IsPoint rules t q d w → departure ≤ d → NoWorse rules w v → (d ≡ departure)
+      × (w ≡ v)
 
 -- a list has a point with this departure and value
 abbrev pub Lists : {V : Type 0} → List (Point V) → ℕ → V → Type 0
@@ -26,14 +29,18 @@ Lists {V} points departure v = (p : Point V) × Contains points p × (p.departur
 
 -- by departure, then by the criterion's order
 abbrev pub Before : {V : Type 0} → Rules V → Point V → Point V → Type 0
-Before rules p q = (p.departure < q.departure) ⊎ ((p.departure ≡ q.departure) × (rules.list_order p.value q.value ≡ Less))
+Before rules p q = (p.departure < q.departure)
+    ⊎ ((p.departure ≡ q.departure) × (rules.list_order p.value q.value ≡ Less))
 
 -- the test of that
 abbrev pub is_before : {V : Type 0} → Rules V → Point V → Point V → Bool
-is_before rules p q = nat_lt p.departure q.departure || (p.departure == q.departure && is_lt (rules.list_order p.value q.value))
+is_before rules p q = nat_lt p.departure q.departure ||
+    (p.departure == q.departure && is_lt (rules.list_order p.value q.value))
 
--- the answer: exactly the undominated points, no journey that counts uncovered, in order; under a criterion's laws no point is before itself, so each stands once
-pub record IsAnswer {V : Type 0} (rules : Rules V) (t : TimetableValue) (q : Query) (points : List (Point V)) : Type 0 where
+-- the answer: exactly the undominated points, no journey that counts uncovered, in order; under a criterion's laws no
+-- point is before itself, so each stands once
+pub record IsAnswer {V : Type 0} (rules : Rules V) (t : TimetableValue) (q : Query)
+    (points : List (Point V)) : Type 0 where
   pub exactly : (departure : ℕ) (v : V) → Lists points departure v ↔ IsUndominated rules t q departure v
   pub unbeaten : (departure : ℕ) (v : V) → IsPoint rules t q departure v → Covers rules points departure v
   pub ordered : AllPairs (Before rules) points

@@ -13,7 +13,8 @@ use Rattle.profile_scan.specs.Points.{Covers}
 use Rattle.profile_scan.specs.Continuations.{Onward, Aboard}
 use Rattle.profile_scan.specs.Matching.{Spelling, Spellings, Keeps, from_to, IsOutdone, ScanValue}
 
--- what is offered to a list of points: of the ways A those that are open, and for each a departure, a value, and the tags that fit
+-- what is offered to a list of points: of the ways A those that are open, and for each a departure, a value, and the
+-- tags that fit
 pub record Offer (A V : Type 0) : Type 1 where
   pub is_open : A → Type 0
   pub departure : A → ℕ
@@ -28,14 +29,15 @@ pub record IsOffered {A V : Type 0} (offer : Offer A V) (p : Point V) : Type 0 w
   pub worth : p.value ≡ offer.value way
   pub fits : offer.fits_tag way p.tag
 
--- a list takes an offer in: each point stood before or is offered, what was covered stays so, and all that is offered is covered
+-- a list takes an offer in: each point stood before or is offered, what was covered stays so, and all that is offered
+-- is covered
 pub record TakesIn {A V : Type 0} (rules : Rules V) (offer : Offer A V) (old new : List (Point V)) : Type 0 where
   pub only : (p : Point V) → Contains new p → Contains old p ⊎ IsOffered offer p
   pub kept : (departure : ℕ) (v : V) → Admits rules v → Covers rules old departure v → Covers rules new departure v
   pub covered : (way : A) → offer.is_open way → Covers rules new (offer.departure way) (offer.value way)
 
--- how one who sits in a trip may leave it where a connection ends: at the target; one footpath before the target; or to change, as a
--- point of that stop does
+-- how one who sits in a trip may leave it where a connection ends: at the target; one footpath before the target; or to
+-- change, as a point of that stop does
 pub data Leaving (V : Type 0) : Type 0 where
   ends : Leaving V
   ends_after : Footpath → Leaving V
@@ -67,7 +69,8 @@ LeavingTag tags i (changes p) tag =
     → tags.later.aboard tag ≡ Some (record { last = i; walk = x.walk; rides = x.rides })
 
 -- the labels of the connection's trip are offered each way to leave it, where passengers may get off
-abbrev pub leavings : {V : Type 0} → Rules V → TimetableValue → Query → Spellings → ℕ → List (Point V) → Offer (Leaving V) V
+abbrev pub leavings : {V : Type 0} → Rules V → TimetableValue → Query → Spellings → ℕ → List (Point V)
+    → Offer (Leaving V) V
 leavings rules t q tags i bag = record {
   is_open = λ way. ((connection_at t i).alight ≡ true) × MayLeave t q i bag way;
   departure = λ _. 0;
@@ -84,9 +87,10 @@ pub record Boarding (V : Type 0) : Type 0 where
   pub walk : Footpath
   pub label : Point V
 
--- one may board connection i so from a stop: passengers may get on there, and the footpath leads there from the stop and begins at
--- time 0 or later
-pub record MayBoard {V : Type 0} (t : TimetableValue) (i stop : ℕ) (labels : List (Point V)) (way : Boarding V) : Type 0 where
+-- one may board connection i so from a stop: passengers may get on there, and the footpath leads there from the stop
+-- and begins at time 0 or later
+pub record MayBoard {V : Type 0} (t : TimetableValue) (i stop : ℕ) (labels : List (Point V))
+    (way : Boarding V) : Type 0 where
   pub boards : (connection_at t i).board ≡ true
   pub is_footpath : Contains t.footpaths way.walk
   pub leaves : way.walk.from ≡ stop
@@ -95,12 +99,14 @@ pub record MayBoard {V : Type 0} (t : TimetableValue) (i stop : ℕ) (labels : L
   pub is_label : Contains labels way.label
 
 -- the points of a stop are offered each label after each footpath from the stop to the connection
-abbrev pub boardings : {V : Type 0} → Rules V → TimetableValue → Spellings → ℕ → ℕ → List (Point V) → Offer (Boarding V) V
+abbrev pub boardings : {V : Type 0} → Rules V → TimetableValue → Spellings → ℕ → ℕ → List (Point V)
+    → Offer (Boarding V) V
 boardings rules t tags i stop labels = record {
   is_open = MayBoard t i stop labels;
   departure = λ way. (connection_at t i).dep - way.walk.secs;
   value = λ way. rules.walk way.walk.secs (rules.ride way.label.value);
-  fits_tag = λ way tag. (x : Aboard) → tags.earlier.aboard way.label.tag ≡ Some x → tags.later.onward tag ≡ Some (record { walk = way.walk ∷ []; rides = boarded i x });
+  fits_tag = λ way tag. (x : Aboard) → tags.earlier.aboard way.label.tag ≡ Some x
+      → tags.later.onward tag ≡ Some (record { walk = way.walk ∷ []; rides = boarded i x });
 }
 
 -- setting out from the source to board a connection: a start, and a label of its trip
@@ -109,7 +115,8 @@ pub record SettingOut (V : Type 0) : Type 0 where
   pub label : Point V
 
 -- by a start of some kind; here alone the window of departures is asked for
-pub record MaySetOutBy {V : Type 0} (IsOfKind : Option Footpath → Type 0) (t : TimetableValue) (q : Query) (i : ℕ) (labels : List (Point V))
+pub record MaySetOutBy {V : Type 0} (IsOfKind : Option Footpath → Type 0) (t : TimetableValue) (q : Query) (i : ℕ)
+    (labels : List (Point V))
     (way : SettingOut V) : Type 0 where
   pub boards : (connection_at t i).board ≡ true
   pub is_start : IsOfKind way.start
@@ -124,23 +131,29 @@ abbrev pub MaySetOut : {V : Type 0} → TimetableValue → Query → ℕ → Lis
 MaySetOut t q = MaySetOutBy (IsStart t q.source) t q
 
 -- the points found are offered each label after each start
-abbrev pub settings_out : {V : Type 0} → Rules V → TimetableValue → Query → Spellings → ℕ → List (Point V) → Offer (SettingOut V) V
+abbrev pub settings_out : {V : Type 0} → Rules V → TimetableValue → Query → Spellings → ℕ → List (Point V)
+    → Offer (SettingOut V) V
 settings_out rules t q tags i labels = record {
   is_open = MaySetOut t q i labels;
   departure = λ way. (connection_at t i).dep - start_secs way.start;
   value = λ way. started rules way.start (rules.ride way.label.value);
-  fits_tag = λ way tag. (x : Aboard) → tags.earlier.aboard way.label.tag ≡ Some x → tags.later.journey tag ≡ Some (record { start = way.start; rides = boarded i x });
+  fits_tag = λ way tag. (x : Aboard) → tags.earlier.aboard way.label.tag ≡ Some x
+      → tags.later.journey tag ≡ Some (record { start = way.start; rides = boarded i x });
 }
 
--- of some points those that are carried on: each but those that a point found outdoes, after the ride, for who boards no later than by connection i
-pub record AreCarried {V : Type 0} (rules : Rules V) (t : TimetableValue) (found : List (Point V)) (i : ℕ) (points carried : List (Point V)) : Type 0 where
+-- of some points those that are carried on: each but those that a point found outdoes, after the ride, for who boards
+-- no later than by connection i
+pub record AreCarried {V : Type 0} (rules : Rules V) (t : TimetableValue) (found : List (Point V)) (i : ℕ)
+    (points carried : List (Point V)) : Type 0 where
   pub only : (p : Point V) → Contains carried p → Contains points p
-  pub all : (p : Point V) → Contains points p → Contains carried p ⊎ IsOutdone rules t found (i + 1) (rules.ride p.value)
+  pub all : (p : Point V) → Contains points p → Contains carried p
+      ⊎ IsOutdone rules t found (i + 1) (rules.ride p.value)
 
--- one connection, from what a scan keeps of the later ones: first the labels of its trip, by the points of the stop where it ends; then,
--- by these labels and what their tags spell between, the points found and the points of every stop. The points found are offered all
--- labels; what they outdo isn't carried on to labels and stops
-pub record IsStep {V : Type 0} (rules : Rules V) (t : TimetableValue) (q : Query) (tags : Spellings) (i : ℕ) (old new : ScanValue V) : Type 0 where
+-- one connection, from what a scan keeps of the later ones: first the labels of its trip, by the points of the stop
+-- where it ends; then, by these labels and what their tags spell between, the points found and the points of every
+-- stop. The points found are offered all labels; what they outdo isn't carried on to labels and stops
+pub record IsStep {V : Type 0} (rules : Rules V) (t : TimetableValue) (q : Query) (tags : Spellings) (i : ℕ)
+    (old new : ScanValue V) : Type 0 where
   pub between : Spelling
   pub kept_first : Keeps tags.earlier between
   pub kept_then : Keeps between tags.later
@@ -148,13 +161,17 @@ pub record IsStep {V : Type 0} (rules : Rules V) (t : TimetableValue) (q : Query
   pub changing_are : AreCarried rules t old.found i (old.bag (connection_at t i).to) changing
   pub boarding : List (Point V)
   pub boarding_are : AreCarried rules t new.found i (new.labels (connection_at t i).trip) boarding
-  pub leaves : TakesIn rules (leavings rules t q (from_to tags.earlier between) i changing) (old.labels (connection_at t i).trip) (new.labels (connection_at t i).trip)
+  pub leaves : TakesIn rules (leavings rules t q (from_to tags.earlier between) i changing)
+      (old.labels (connection_at t i).trip) (new.labels (connection_at t i).trip)
   pub other_trips : (trip : ℕ) → trip ≢ (connection_at t i).trip → new.labels trip ≡ old.labels trip
-  pub boards : (stop : ℕ) → stop < t.stops → TakesIn rules (boardings rules t (from_to between tags.later) i stop boarding) (old.bag stop) (new.bag stop)
-  pub sets_out : TakesIn rules (settings_out rules t q (from_to between tags.later) i (new.labels (connection_at t i).trip)) old.found new.found
+  pub boards : (stop : ℕ) → stop < t.stops
+      → TakesIn rules (boardings rules t (from_to between tags.later) i stop boarding) (old.bag stop) (new.bag stop)
+  pub sets_out : TakesIn rules
+      (settings_out rules t q (from_to between tags.later) i (new.labels (connection_at t i).trip)) old.found new.found
 
--- where nothing is offered at a connection: its trip has no labels, and who gets off can neither be at the target nor go on, on foot or
--- by a point of the stop
-pub record IsIdle {V : Type 0} (q : Query) (c : Connection) (way : Option ℕ) (labels bag : List (Point V)) : Type 0 where
+-- where nothing is offered at a connection: its trip has no labels, and who gets off can neither be at the target nor
+-- go on, on foot or by a point of the stop
+pub record IsIdle {V : Type 0} (q : Query) (c : Connection) (way : Option ℕ)
+    (labels bag : List (Point V)) : Type 0 where
   pub no_labels : labels ≡ []
   pub ends_here : c.alight ≡ true → (c.to ≢ q.target) × (way ≡ None) × (bag ≡ [])

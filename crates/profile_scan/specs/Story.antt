@@ -1,4 +1,5 @@
--- What a scan writes down, and what it tells: how one goes on from each label, from each point of a stop, and from each point found.
+-- What a scan writes down, and what it tells: how one goes on from each label, from each point of a stop, and from each
+-- point found.
 use Rattle.std.specs.Prelude.{ℕ, zero, suc, List, [], length, Option, Some, None, slice_get}
 use Rattle.timetable.specs.declared.network.Footpath.{Footpath}
 use Rattle.timetable.specs.JourneyValue.{JourneyValue}
@@ -11,7 +12,8 @@ use Rattle.profile_scan.specs.declared.story.Exit.{Exit}
 use Rattle.profile_scan.specs.declared.story.Exit.TheVariants.{Ends, Changes}
 use Rattle.profile_scan.specs.declared.story.SetOut.{SetOut}
 
--- of each label how its trip is left, of each point of a stop the step that boards, and of each point found how one sets out, by their tags
+-- of each label how its trip is left, of each point of a stop the step that boards, and of each point found how one
+-- sets out, by their tags
 pub record Story : Type 0 where
   pub exits : List Exit
   pub steps : List Step
@@ -49,7 +51,8 @@ set_out_tells aboard (Some s) = set_out_by s.start s.first (aboard s.label)
 -- what a label tells, in so many legs at most
 unfoldable pub label_tells : List Footpath → Story → ℕ → ℕ → Option Aboard
 label_tells walks s zero label = None
-label_tells walks s (suc n) label = exit_tells (λ tag. step_tells walks (label_tells walks s n) (slice_get s.steps tag)) (slice_get s.exits label)
+label_tells walks s (suc n) label = exit_tells
+    (λ tag. step_tells walks (label_tells walks s n) (slice_get s.steps tag)) (slice_get s.exits label)
 
 -- what each tag tells, of whatever it may be
 abbrev pub told : List Footpath → Story → Spelling

@@ -38,7 +38,8 @@ ending s label = ending_by (slice_get s.exits label)
 -- these labels lead from one to another
 abbrev pub IsRoute : Story → ℕ → List ℕ → ℕ → Type 0
 IsRoute s first [] last = first ≡ last
-IsRoute s first (label ∷ labels) last = (first ≡ label) × ((c : Change) × (change s label ≡ Some c) × IsRoute s c.step.label labels last)
+IsRoute s first (label ∷ labels) last = (first ≡ label)
+    × ((c : Change) × (change s label ≡ Some c) × IsRoute s c.step.label labels last)
 
 -- a story tells something of a label
 abbrev pub IsLabelTold : List Footpath → Story → ℕ → Type 0
@@ -46,17 +47,20 @@ IsLabelTold walks s label = (x : Aboard) × ((told walks s).aboard label ≡ Som
 
 -- and the node of a number says the same
 abbrev pub SaysLabel : List Footpath → Story → ℕ → List Node → ℕ → Type 0
-SaysLabel walks s label nodes number = (x : Aboard) → (told walks s).aboard label ≡ Some x → (spelling nodes).aboard number ≡ Some x
+SaysLabel walks s label nodes number = (x : Aboard) → (told walks s).aboard label ≡ Some x
+    → (spelling nodes).aboard number ≡ Some x
 
 -- a story tells a journey of a point found
 abbrev pub IsJourneyTold : List Footpath → Story → ℕ → Type 0
 IsJourneyTold walks s tag = (j : JourneyValue) × ((told walks s).journey tag ≡ Some j)
 
 abbrev pub SaysJourney : List Footpath → Story → ℕ → List Node → ℕ → Type 0
-SaysJourney walks s tag nodes number = (j : JourneyValue) → (told walks s).journey tag ≡ Some j → (spelling nodes).journey number ≡ Some j
+SaysJourney walks s tag nodes number = (j : JourneyValue) → (told walks s).journey tag ≡ Some j
+    → (spelling nodes).journey number ≡ Some j
 
 -- a point has the departure and the value of one of these, and its tag is the number of a node that says its journey
-pub record IsRetold {V : Type 0} (walks : List Footpath) (s : Story) (points : List (Point V)) (nodes : List Node) (p : Point V) : Type 0 where
+pub record IsRetold {V : Type 0} (walks : List Footpath) (s : Story) (points : List (Point V)) (nodes : List Node)
+    (p : Point V) : Type 0 where
   pub of : Point V
   pub is_there : Contains points of
   pub departs : p.departure ≡ of.departure

@@ -6,6 +6,7 @@ ghost use Rattle.profile_scan.specs.Window.{window};
 ghost use Rattle.profile_scan.specs.Found.{Answers};
 
 use crate::found::{Found, in_order};
+use crate::hop::Asked;
 use crate::scan::scan_window;
 use crate::telling::tell_journeys;
 use crate::ways::ways_to;
@@ -21,11 +22,11 @@ fn timetable_of<S: ConnSource>(source: &S) -> Kept<Timetable>
     Kept::at(source, &())
 }
 
-/// Answers a query that can be asked: exactly the points of all journeys that count for it, which no other such point dominates,
-/// in order.
+/// Answers a query that can be asked: exactly the points of all journeys that count for it, which no other such point
+/// dominates, in order.
 ///
-/// Each connection of the window is asked for once, from the last to the first. The only error is want of memory; then a beginning
-/// of them was asked for.
+/// Each connection of the window is asked for once, from the last to the first. The only error is want of memory; then
+/// a beginning of them was asked for.
 pub fn profile<S: ConnSource, C: Criterion>(
     alloc: Global,
     source: &mut S,
@@ -34,21 +35,29 @@ pub fn profile<S: ConnSource, C: Criterion>(
 ) -> Result<Found<C>, AllocError>
     requires { IsAskable (S.timetable source.old).stops query.now }
     ensures timetable { S.timetable source.new ≡ S.timetable source.old }
-    ensures answers { IfOk result (λ found. Answers criterion.now (C.rules criterion.now) (S.timetable source.old) query.now found) }
-    ensures log { OnOk result (S.log source.new ≡ S.log source.old ++ reverse (window (S.timetable source.old) query.now)) }
-    ensures err { OnErr result ((n : ℕ) × (S.log source.new ≡ S.log source.old ++ take n (reverse (window (S.timetable source.old) query.now)))) }
+    ensures answers { IfOk result
+        (λ found. Answers criterion.now (C.rules criterion.now) (S.timetable source.old) query.now found) }
+    ensures log { OnOk result
+        (S.log source.new ≡ S.log source.old ++ reverse (window (S.timetable source.old) query.now)) }
+    ensures err { OnErr result ((n : ℕ)
+        × (S.log source.new ≡ S.log source.old ++ take n (reverse (window (S.timetable source.old) query.now)))) }
 {
     let start = source.first_at(query.from);
     let end = source.first_at(query.by);
     let ways = ways_to(alloc, source, query.target)?;
-    let scan = scan_window(alloc, source, criterion, query, &ways, start, end)?;
-    let points = in_order(alloc, criterion, &scan.found)?;
-    let told = tell_journeys(alloc, source, &scan, &points)?;
+    let asked = Asked {
+        criterion: *criterion,
+        query: *query,
+        ways,
+    };
+    let scan = scan_window(alloc, source, &asked, start..end)?;
+    let points = in_order(alloc, criterion, &scan.state.origin.found)?;
+    let told = tell_journeys(alloc, source, &scan.state, &points)?;
     Ok(Found {
         criterion: *criterion,
         points: told.points,
         nodes: told.nodes,
-        walk: ways.secs_from(query.source),
+        walk: asked.ways.secs_from(query.source),
         timetable: timetable_of(source),
         query: Kept::of(query),
     })

@@ -1,6 +1,7 @@
 //! Values that the points found already better: what is no better than one of them, once ridden, isn't carried on.
 
-ghost use Rattle.std.specs.Prelude.{◌≡◌, ◌⊎◌, ◌<◌, ◌≤◌, ℕ, true, not, filter, length, slice_get, Some, IfOk, OnOk, Contains};
+ghost use Rattle.std.specs.Prelude.{◌≡◌, ◌⊎◌, ◌<◌, ◌≤◌, ℕ, true, not, filter, length, slice_get, Some, IfOk, OnOk};
+ghost use Rattle.std.specs.Prelude.{Contains};
 ghost use Rattle.criteria.specs.Laws.{Admits, RidingWorsens};
 ghost use Rattle.bags.specs.Bag.{criterion_of, points_of};
 ghost use Rattle.profile_scan.specs.Bound.{IsLateValue, TakesPoints, TakesValue, is_bettered};
@@ -92,12 +93,14 @@ fn take_value<C: Criterion>(
     Ok(())
 }
 
-// The first place, from another on, from which on all points depart before a time. A bag's points stand by falling departure.
+// The first place, from another on, from which on all points depart before a time. A bag's points stand by falling
+// departure.
 fn late_until<C: Criterion>(found: &Bag<C>, from: usize, time: u32) -> usize
     requires { from ≤ length (points_of found.now) }
     ensures from { from ≤ result }
     ensures within { result ≤ length (points_of found.now) }
-    ensures late { (k : ℕ) (p : _) → from ≤ k → k < result → slice_get (points_of found.now) k ≡ Some p → time ≤ p.departure }
+    ensures late { (k : ℕ) (p : _) → from ≤ k → k < result → slice_get (points_of found.now) k ≡ Some p
+        → time ≤ p.departure }
     ensures rest { (k : ℕ) (p : _) → result ≤ k → slice_get (points_of found.now) k ≡ Some p → p.departure < time }
 {
     for place in from..found.len() {
@@ -119,7 +122,9 @@ fn take_points<C: Criterion>(
     requires order { places.start ≤ places.end }
     requires until { places.end ≤ length (points_of found.now) }
     requires values { (b : _) → Contains values.old.items b → Admits (C.rules criterion.now) b }
-    ensures { OnOk result (TakesPoints (C.rules criterion.now) (points_of found.now) places.start places.end values.old.items values.new.items) }
+    ensures { OnOk result
+        (TakesPoints (C.rules criterion.now)
+        (points_of found.now) places.start places.end values.old.items values.new.items) }
 {
     for place in places.start..places.end {
         let point = found.point(place);
@@ -140,11 +145,17 @@ fn read_late<C: Criterion>(
     requires found { criterion_of found.now ≡ criterion.now }
     requires from { from ≤ length (points_of found.now) }
     requires values { (b : _) → Contains values.old.items b → Admits (C.rules criterion.now) b }
-    ensures only { OnOk result ((b : _) → Contains values.new.items b → Contains values.old.items b ⊎ IsLateValue (C.rules criterion.now) (points_of found.now) time b) }
-    ensures each { OnOk result ((k : ℕ) (p : _) → from ≤ k → slice_get (points_of found.now) k ≡ Some p → time ≤ p.departure → is_bettered (C.rules criterion.now) values.new.items p.value ≡ true) }
-    ensures kept { OnOk result ((v : _) → Admits (C.rules criterion.now) v → is_bettered (C.rules criterion.now) values.old.items v ≡ true → is_bettered (C.rules criterion.now) values.new.items v ≡ true) }
-    ensures late { IfOk result (λ until. (k : ℕ) (p : _) → from ≤ k → k < until → slice_get (points_of found.now) k ≡ Some p → time ≤ p.departure) }
-    ensures rest { IfOk result (λ until. (k : ℕ) (p : _) → until ≤ k → slice_get (points_of found.now) k ≡ Some p → p.departure < time) }
+    ensures only { OnOk result ((b : _) → Contains values.new.items b → Contains values.old.items b
+        ⊎ IsLateValue (C.rules criterion.now) (points_of found.now) time b) }
+    ensures each { OnOk result ((k : ℕ) (p : _) → from ≤ k → slice_get (points_of found.now) k ≡ Some p
+        → time ≤ p.departure → is_bettered (C.rules criterion.now) values.new.items p.value ≡ true) }
+    ensures kept { OnOk result ((v : _) → Admits (C.rules criterion.now) v
+        → is_bettered (C.rules criterion.now) values.old.items v ≡ true
+        → is_bettered (C.rules criterion.now) values.new.items v ≡ true) }
+    ensures late { IfOk result (λ until. (k : ℕ) (p : _) → from ≤ k → k < until
+        → slice_get (points_of found.now) k ≡ Some p → time ≤ p.departure) }
+    ensures rest { IfOk result (λ until. (k : ℕ) (p : _) → until ≤ k → slice_get (points_of found.now) k ≡ Some p
+        → p.departure < time) }
 {
     let until = late_until(found, from, time);
     take_points(criterion, found, from..until, values)?;
@@ -162,9 +173,9 @@ fn departure_at<C: Criterion>(found: &Bag<C>, place: usize) -> u32
     found.point(place).departure
 }
 
-/// Reads values of points that come to be late enough: those that were found since, and those that departed too early. `count` tells
-/// whether points were found. What was read isn't read again, but for points that depart at that time: others may still come among them.
-/// What the values bettered they still better.
+/// Reads values of points that come to be late enough: those that were found since, and those that departed too early.
+/// `count` tells whether points were found. What was read isn't read again, but for points that depart at that time:
+/// others may still come among them. What the values bettered they still better.
 pub fn renew<C: Criterion>(
     criterion: &C,
     found: &Bag<C>,
@@ -174,8 +185,11 @@ pub fn renew<C: Criterion>(
 ) -> Result<(), AllocError>
     requires found { criterion_of found.now ≡ criterion.now }
     requires values { (b : _) → Contains bound.old.values.items b → Admits (C.rules criterion.now) b }
-    ensures only { OnOk result ((b : _) → Contains bound.new.values.items b → Contains bound.old.values.items b ⊎ IsLateValue (C.rules criterion.now) (points_of found.now) time b) }
-    ensures kept { OnOk result ((v : _) → Admits (C.rules criterion.now) v → is_bettered (C.rules criterion.now) bound.old.values.items v ≡ true → is_bettered (C.rules criterion.now) bound.new.values.items v ≡ true) }
+    ensures only { OnOk result ((b : _) → Contains bound.new.values.items b → Contains bound.old.values.items b
+        ⊎ IsLateValue (C.rules criterion.now) (points_of found.now) time b) }
+    ensures kept { OnOk result ((v : _) → Admits (C.rules criterion.now) v
+        → is_bettered (C.rules criterion.now) bound.old.values.items v ≡ true
+        → is_bettered (C.rules criterion.now) bound.new.values.items v ≡ true) }
 {
     if !criterion.riding_worsens() {
         return Ok(());

@@ -1,10 +1,11 @@
 //! The answer of a query.
 
-ghost use Rattle.std.specs.Prelude.{◌≡◌, ◌<◌, ◌≤◌, ◌⊎◌, ◌↔◌, ℕ, IfOk, OnOk, Contains, AllPairs, length, slice_get, slice_index_or, Some};
+ghost use Rattle.std.specs.Prelude.{◌≡◌, ◌<◌, ◌≤◌, ◌⊎◌, ◌↔◌, ℕ, IfOk, OnOk, Contains, AllPairs, length, slice_get};
+ghost use Rattle.std.specs.Prelude.{slice_index_or, Some};
 ghost use Rattle.criteria.specs.Laws.{Admits};
 ghost use Rattle.bags.specs.Bag.{criterion_of, points_of};
 ghost use Rattle.profile_scan.specs.Points.{Before};
-ghost use Rattle.profile_scan.specs.Answered.{IsAnswered};
+ghost use Rattle.profile_scan.specs.Answered.{Answer};
 
 use crate::nodes::Node;
 use bags::{Bag, Point, comes_first};
@@ -12,10 +13,11 @@ use criteria::Criterion;
 use std::alloc::{AllocError, Global};
 use timetable::{Kept, Query, Timetable};
 
-/// The answer of a profile query: the points of all best departures, by departure, then by the criterion's order. Each point's tag is
-/// the number of a node, and by the nodes from there on it spells a journey that attains the point.
+/// The answer of a profile query: the points of all best departures, by departure, then by the criterion's order. Each
+/// point's tag is the number of a node, and by the nodes from there on it spells a journey that attains the point.
 ///
-/// It keeps the criterion, and in fields that contracts alone see the timetable and the query that it answers, and that it does.
+/// It keeps the criterion, and in fields that contracts alone see the timetable and the query that it answers, and that
+/// it does.
 #[derive(Drop)]
 pub struct Found<C: Criterion> {
     pub(crate) criterion: C,
@@ -24,7 +26,7 @@ pub struct Found<C: Criterion> {
     pub(crate) walk: Option<u32>,
     pub(crate) timetable: Kept<Timetable>,
     pub(crate) query: Kept<Query>,
-    pub(crate) ghost answered: { ∥ IsAnswered (C.rules criterion) timetable.value query.value points.items nodes.items walk ∥₁ },
+    pub(crate) ghost answered: { Answer (C.rules criterion) timetable.value query.value points.items nodes.items walk },
 }
 
 impl<C: Criterion> Found<C> {
@@ -88,7 +90,8 @@ pub fn in_order<C: Criterion>(
     Ok(points)
 }
 
-// Puts a point in its place among points in order. A bag's points come by departure nearly, so its place is near the end.
+// Puts a point in its place among points in order. A bag's points come by departure nearly, so its place is near the
+// end.
 fn put<C: Criterion>(
     criterion: &C,
     points: &mut Vec<Point<C::V>>,
@@ -97,7 +100,8 @@ fn put<C: Criterion>(
     requires ordered { AllPairs (Before (C.rules criterion.now)) points.old.items }
     requires admitted { (p : _) → Contains points.old.items p → Admits (C.rules criterion.now) p.value }
     requires point { Admits (C.rules criterion.now) point.value }
-    requires comparable { (p : _) → Contains points.old.items p → Before (C.rules criterion.now) p point ⊎ Before (C.rules criterion.now) point p }
+    requires comparable { (p : _) → Contains points.old.items p → Before (C.rules criterion.now) p point
+        ⊎ Before (C.rules criterion.now) point p }
     ensures ordered { OnOk result (AllPairs (Before (C.rules criterion.now)) points.new.items) }
     ensures put { OnOk result ((p : _) → Contains points.new.items p ↔ ((point ≡ p) ⊎ Contains points.old.items p)) }
 {
@@ -111,10 +115,13 @@ fn place_for<C: Criterion>(criterion: &C, points: &[Point<C::V>], point: &Point<
     requires ordered { AllPairs (Before (C.rules criterion.now)) points.now }
     requires admitted { (p : _) → Contains points.now p → Admits (C.rules criterion.now) p.value }
     requires point { Admits (C.rules criterion.now) point.now.value }
-    requires comparable { (p : _) → Contains points.now p → Before (C.rules criterion.now) p point.now ⊎ Before (C.rules criterion.now) point.now p }
+    requires comparable { (p : _) → Contains points.now p → Before (C.rules criterion.now) p point.now
+        ⊎ Before (C.rules criterion.now) point.now p }
     ensures within { result ≤ length points.now }
-    ensures before { (k : ℕ) (d : _) → k < result → Before (C.rules criterion.now) (slice_index_or points.now k d) point.now }
-    ensures after { (k : ℕ) (d : _) → result ≤ k → k < length points.now → Before (C.rules criterion.now) point.now (slice_index_or points.now k d) }
+    ensures before { (k : ℕ) (d : _) → k < result
+        → Before (C.rules criterion.now) (slice_index_or points.now k d) point.now }
+    ensures after { (k : ℕ) (d : _) → result ≤ k → k < length points.now
+        → Before (C.rules criterion.now) point.now (slice_index_or points.now k d) }
 {
     let mut place = points.len();
     while place > 0 {

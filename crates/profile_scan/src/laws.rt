@@ -1,17 +1,20 @@
 //! The laws by which one scan from the last connection to the first finds the answer of a profile query.
 //!
-//! Each is a function whose contract is the law, for every criterion with its laws. Most have no code and speak of the definitions
-//! alone; `found_answers` speaks of one answer, and the last two run the scan over two sources.
+//! Each is a function whose contract is the law, for every criterion with its laws. Most have no code and speak of the
+//! definitions alone; `found_answers` speaks of one answer, and the last two run the scan over two sources.
 
 ghost use Rattle.std.specs.Prelude.{◌≡◌, ◌++◌, IfOk, OnOk, map, reverse};
 ghost use Rattle.timetable.specs.Journeys.{Counts};
 ghost use Rattle.timetable.specs.Queries.{IsAskable};
 ghost use Rattle.profile_scan.specs.Answered.{IsAnswered};
-ghost use Rattle.profile_scan.specs.Found.{Answers, criterion_of_found, listed, nodes_of, query_of, timetable_of, walk_of_found};
+ghost use Rattle.profile_scan.specs.Found.{Answers, criterion_of_found, listed, nodes_of, query_of, timetable_of};
+ghost use Rattle.profile_scan.specs.Found.{walk_of_found};
 ghost use Rattle.profile_scan.specs.Points.{untagged};
 ghost use Rattle.profile_scan.specs.Window.{window};
 ghost use Rattle.profile_scan.specs.Steps.{IsStep};
-ghost use Rattle.profile_scan.specs.LawStatements.{ChainsGiveWay, TogetherNeverContinue, NothingFollows, OneIndexDown, TagsMayCome, CutIsTheSources, MatchIsTheAnswer, OneAnswer, WindowIsReadBackward};
+ghost use Rattle.profile_scan.specs.LawStatements.{ChainsGiveWay, TogetherNeverContinue, NothingFollows, OneIndexDown};
+ghost use Rattle.profile_scan.specs.LawStatements.{TagsMayCome, CutIsTheSources, MatchIsTheAnswer, OneAnswer};
+ghost use Rattle.profile_scan.specs.LawStatements.{WindowIsReadBackward};
 
 use crate::answering::profile;
 use crate::found::Found;
@@ -46,7 +49,8 @@ pub fn tags_may_come<C: Criterion>(_criterion: &C)
     ensures { TagsMayCome (C.rules _criterion.now) }
 {}
 
-/// The cut at the latest departure is the source's alone: no way to go on knows it, and of a journey it asks the departure only.
+/// The cut at the latest departure is the source's alone: no way to go on knows it, and of a journey it asks the
+/// departure only.
 pub fn cut_is_the_sources()
     ensures { CutIsTheSources Counts }
 {}
@@ -68,12 +72,14 @@ pub fn window_is_read_backward()
 
 /// What was found is the answer of the query that it keeps, over the timetable that it keeps.
 pub fn found_answers<C: Criterion>(found: &Found<C>)
-    ensures { ∥ IsAnswered (C.rules (criterion_of_found found.now)) (timetable_of found.now) (query_of found.now) (listed found.now) (nodes_of found.now) (walk_of_found found.now) ∥₁ }
+    ensures { ∥ IsAnswered (C.rules (criterion_of_found found.now)) (timetable_of found.now) (query_of found.now)
+        (listed found.now) (nodes_of found.now) (walk_of_found found.now) ∥₁ }
 {
     let _kept = found.points();
 }
 
-/// Two sources of one timetable give a query the same points, tags aside, and each is asked once for each connection of the window.
+/// Two sources of one timetable give a query the same points, tags aside, and each is asked once for each connection of
+/// the window.
 pub fn two_sources<A: ConnSource, B: ConnSource, C: Criterion>(
     alloc: Global,
     one: &mut A,
@@ -83,12 +89,15 @@ pub fn two_sources<A: ConnSource, B: ConnSource, C: Criterion>(
 ) -> Result<(Found<C>, Found<C>), AllocError>
     requires askable { IsAskable (A.timetable one.old).stops query.now }
     requires alike { B.timetable other.old ≡ A.timetable one.old }
-    ensures answers { IfOk result (λ found. Answers criterion.now (C.rules criterion.now) (A.timetable one.old) query.now found.0 × Answers criterion.now (C.rules criterion.now) (A.timetable one.old) query.now found.1) }
+    ensures answers { IfOk result
+        (λ found. Answers criterion.now (C.rules criterion.now) (A.timetable one.old) query.now found.0
+        × Answers criterion.now (C.rules criterion.now) (A.timetable one.old) query.now found.1) }
     ensures same { IfOk result (λ found. map untagged (listed found.0) ≡ map untagged (listed found.1)) }
     ensures timetable { A.timetable one.new ≡ A.timetable one.old }
     ensures other_timetable { B.timetable other.new ≡ B.timetable other.old }
     ensures log { OnOk result (A.log one.new ≡ A.log one.old ++ reverse (window (A.timetable one.old) query.now)) }
-    ensures other_log { OnOk result (B.log other.new ≡ B.log other.old ++ reverse (window (A.timetable one.old) query.now)) }
+    ensures other_log { OnOk result
+        (B.log other.new ≡ B.log other.old ++ reverse (window (A.timetable one.old) query.now)) }
 {
     let found = profile(alloc, one, criterion, query)?;
     let again = profile(alloc, other, criterion, query)?;
@@ -103,7 +112,9 @@ pub fn both_sources<C: Criterion>(
     query: &Query,
 ) -> Result<(Found<C>, Found<C>), AllocError>
     requires { IsAskable image.now.timetable.stops query.now }
-    ensures answers { IfOk result (λ found. Answers criterion.now (C.rules criterion.now) image.now.timetable query.now found.0 × Answers criterion.now (C.rules criterion.now) image.now.timetable query.now found.1) }
+    ensures answers { IfOk result
+        (λ found. Answers criterion.now (C.rules criterion.now) image.now.timetable query.now found.0
+        × Answers criterion.now (C.rules criterion.now) image.now.timetable query.now found.1) }
     ensures same { IfOk result (λ found. map untagged (listed found.0) ≡ map untagged (listed found.1)) }
 {
     let mut in_place = InPlace::new(image);

@@ -1,25 +1,25 @@
 //! The answer of a profile query, and the laws by which one backward scan finds it.
 //!
-//! A profile query asks for all best departures of a window: the points (departure, value) of all journeys that no other of these
-//! points dominates. The scan goes once over the connections, from the last to the first, as the profile variant of the Connection
-//! Scan Algorithm does (Dibbelt, Pajor, Strasser, Wagner, ACM Journal of Experimental Algorithmics, 2018). `profile` is that scan,
-//! over any source and any criterion. What it keeps at each connection, and why that is enough, is said in `specs/` and proved by the
-//! functions of `laws`.
+//! A profile query asks for all best departures of a window: the points (departure, value) of all journeys that no
+//! other of these points dominates. The scan goes once over the connections, from the last to the first, as the profile
+//! variant of the Connection Scan Algorithm does (Dibbelt, Pajor, Strasser, Wagner, ACM Journal of Experimental
+//! Algorithmics, 2018). `profile` is that scan, over any source and any criterion. What it keeps at each connection,
+//! and why that is enough, is said in `specs/` and proved by the functions of `laws`.
 #![tactic(auto)]
 
-mod adding;
-mod alight;
 mod answering;
-mod board;
 mod bound;
 mod found;
+mod hop;
 pub mod laws;
 mod nodes;
+mod origin;
+mod riding;
 mod scan;
-mod step;
 mod stops;
 mod story;
 mod telling;
+mod trips;
 mod ways;
 
 pub use answering::profile;

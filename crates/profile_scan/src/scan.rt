@@ -1,104 +1,211 @@
 //! One scan of a window, from its last connection to its first.
 
-ghost use Rattle.std.specs.Prelude.{◌≡◌, ◌≤◌, ◌<◌, ◌-◌, ◌++◌, ℕ, [], IfOk, OnOk, OnErr, take};
-ghost use Rattle.criteria.specs.Laws.{IsTime};
-ghost use Rattle.bags.specs.Bag.{criterion_of, points_of};
-ghost use Rattle.sources.specs.FirstAt.{IsFirstAt};
-ghost use Rattle.profile_scan.specs.Values.{journey_value};
-ghost use Rattle.profile_scan.specs.Continuations.{CountsFrom};
-ghost use Rattle.profile_scan.specs.Plain.{IsPlain};
-ghost use Rattle.profile_scan.specs.Matching.{Matches, ScanValue};
-ghost use Rattle.profile_scan.specs.Story.{told};
-ghost use Rattle.profile_scan.specs.Kept.{AreWays, IsScan, kept_by, story_of, ways_of};
-ghost use Rattle.profile_scan.specs.Window.{falling};
+ghost use Rattle.std.specs.Prelude.{◌≡◌, ◌↔◌, ◌≢◌, None, true};
 
-use crate::bound::Bound;
-use crate::step::step;
-use crate::stops::{Stops, no_stops};
-use crate::story::{Exit, SetOut};
-use crate::ways::Ways;
-use bags::Bag;
+use crate::bound::{Bound, renew};
+use crate::hop::{Asked, Hop};
+use crate::origin::Origin;
+use crate::stops::Stops;
+use crate::trips::Trips;
 use criteria::Criterion;
-use fronts::{Labels, Ridden};
 use sources::ConnSource;
 use std::alloc::{AllocError, Global};
-use timetable::Query;
+use std::ops::Range;
+use timetable::Connection;
 
-/// What a scan keeps: the points of each stop, the labels of each trip, and the points found and what they better; and by
-/// number how one goes on from each.
+/// What a scan keeps of the connections that it has read: for each trip, for each stop, and for the source.
+#[derive(Drop)]
+pub struct State<C: Criterion> {
+    pub trips: Trips<C>,
+    pub stops: Stops<C>,
+    pub origin: Origin<C>,
+}
+
+impl<C: Criterion> State<C> {
+    ghost use Rattle.std.specs.Prelude.{◌≡◌, ◌<◌, [], ℕ, IfOk, OnOk, true, length, vec_len};
+    ghost use Rattle.bags.specs.Bag.{points_of};
+    ghost use Rattle.fronts.specs.Labels.{runs_of};
+    ghost use Rattle.profile_scan.specs.Steps.{IsIdle};
+    ghost use Rattle.profile_scan.specs.Kept.{HasStop, IsState, kept_by};
+    ghost use Rattle.profile_scan.specs.Hops.{IsHopOf};
+    ghost use Rattle.profile_scan.specs.Parts.{HasTrip, TakesConnection};
+
+    // Of so many stops and trips, where nothing was read.
+    fn new(alloc: Global, criterion: &C, stops: u32, trips: u32) -> Result<Self, AllocError>
+        ensures state { IfOk result (λ state. IsState C.rules criterion.now stops trips state) }
+        ensures bags { IfOk result (λ state. (stop : ℕ) → (kept_by state).bag stop ≡ []) }
+        ensures labels { IfOk result (λ state. (trip : ℕ) → (kept_by state).labels trip ≡ []) }
+        ensures found { IfOk result (λ state. points_of state.origin.found ≡ []) }
+    {
+        let trips = Trips::new(alloc, trips)?;
+        let stops = Stops::new(alloc, criterion, stops)?;
+        let origin = Origin::new(alloc, *criterion);
+        Ok(State {
+            trips,
+            stops,
+            origin,
+        })
+    }
+
+    // Whether nothing is offered at a connection. That is so at most of them.
+    fn is_idle(&self, asked: &Asked<C>, connection: &Connection, way: Option<u32>) -> bool
+        requires trip { HasTrip (C.rules asked.now.criterion) connection.now.trip self.now.trips }
+        requires stop { HasStop C.rules asked.now.criterion connection.now.to self.now.stops }
+        ensures { result ≡ true → IsIdle asked.now.query connection.now way
+            ((kept_by self.now).labels connection.now.trip) ((kept_by self.now).bag connection.now.to) }
+    {
+        let labels = self.trips.labels.count(connection.trip);
+        let head = self.stops.head(connection.to);
+        offers_nothing(
+            labels,
+            head,
+            connection.alight,
+            connection.to,
+            asked.query.target,
+            way,
+        )
+    }
+
+    // Takes one connection in: leaves its trip where it ends, and then, the labels of its trip being known, sets out
+    // for it and boards it.
+    fn take<S: ConnSource>(
+        &mut self,
+        asked: &Asked<C>,
+        source: &S,
+        hop: &Hop<C::V>,
+    ) -> Result<(), AllocError>
+        requires hop { IsHopOf (C.rules asked.now.criterion) (S.timetable source.now) asked.now.query hop.now }
+        requires state { IsState C.rules asked.now.criterion
+            (S.timetable source.now).stops (S.timetable source.now).trips self.old }
+        ensures state { OnOk result (IsState C.rules asked.now.criterion
+            (S.timetable source.now).stops (S.timetable source.now).trips self.new) }
+        ensures takes { OnOk result (TakesConnection (C.rules asked.now.criterion) (S.timetable source.now)
+            asked.now.query hop.now self.old self.new) }
+    {
+        self.trips.alight(asked, hop, &self.stops)?;
+        let labels = self.trips.labels.of(hop.connection.trip);
+        if labels.len() == 0 {
+            return Ok(());
+        }
+        self.origin.set_out(asked, source, hop, labels)?;
+        self.stops.board(asked, source, hop, labels)?;
+        Ok(())
+    }
+}
+
+// Whether nothing is offered at a connection, by how many labels its trip has and the head of the list of the stop
+// where it ends.
+fn offers_nothing(
+    labels: u32,
+    head: u32,
+    alight: bool,
+    to: u32,
+    target: u32,
+    way: Option<u32>,
+) -> bool
+    ensures { (result ≡ true) ↔ ((labels ≡ 0) × (alight ≡ true → (to ≢ target) × (way ≡ None) × (head ≡ 0))) }
+{
+    if labels > 0 {
+        return false;
+    }
+    if !alight {
+        return true;
+    }
+    if to == target || head > 0 {
+        return false;
+    }
+    match way {
+        None => true,
+        Some(_secs) => false,
+    }
+}
+
+/// What a scan keeps, and the values of points found that are already better than what is still to come.
 #[derive(Drop)]
 pub struct Scan<C: Criterion> {
-    pub stops: Stops<C>,
-    pub labels: Labels<C::V>,
-    pub exits: Vec<Exit>,
-    pub found: Bag<C>,
-    pub set_outs: Vec<SetOut>,
+    pub state: State<C>,
     pub bound: Bound<C::V>,
-    // room for the labels of one trip, after the ride
-    pub ridden: Vec<Ridden<C::V>>,
 }
 
-// A scan that has read nothing.
-fn nothing_read<C: Criterion>(
-    alloc: Global,
-    criterion: &C,
-    stops: u32,
-    trips: u32,
-) -> Result<Scan<C>, AllocError>
-    ensures scan { IfOk result (λ scan. IsScan C.rules criterion.now stops trips scan) }
-    ensures bags { IfOk result (λ scan. (stop : ℕ) → (kept_by scan).bag stop ≡ []) }
-    ensures labels { IfOk result (λ scan. (trip : ℕ) → (kept_by scan).labels trip ≡ []) }
-    ensures found { IfOk result (λ scan. points_of scan.found ≡ []) }
-    ensures bound { IfOk result (λ scan. scan.bound.values.items ≡ []) }
-{
-    let stops = no_stops(alloc, criterion, stops)?;
-    let labels = Labels::new(alloc, trips)?;
-    let found = Bag::new(alloc, *criterion);
-    Ok(Scan {
-        stops,
-        labels,
-        exits: Vec::new(alloc),
-        found,
-        set_outs: Vec::new(alloc),
-        bound: Bound::new(alloc),
-        ridden: Vec::new(alloc),
-    })
+impl<C: Criterion> Scan<C> {
+    ghost use Rattle.std.specs.Prelude.{◌≡◌, ◌+◌, OnOk};
+    ghost use Rattle.profile_scan.specs.Matching.{from_to};
+    ghost use Rattle.profile_scan.specs.Steps.{IsStep};
+    ghost use Rattle.profile_scan.specs.Story.{told};
+    ghost use Rattle.profile_scan.specs.Kept.{IsScan, kept_by, story_of};
+    ghost use Rattle.profile_scan.specs.Hops.{IsAsked, StandsAt};
+
+    // Goes one place down: takes the connection there in, unless nothing is offered at it.
+    fn step<S: ConnSource>(
+        &mut self,
+        asked: &Asked<C>,
+        source: &S,
+        connection: &Connection,
+        place: u32,
+    ) -> Result<(), AllocError>
+        requires asked { IsAsked (S.timetable source.now) asked.now }
+        requires stands { StandsAt (S.timetable source.now) place connection.now }
+        requires scan { IsScan C.rules asked.now.criterion (S.timetable source.now) (place + 1) self.old }
+        ensures scan { OnOk result (IsScan C.rules asked.now.criterion (S.timetable source.now) place self.new) }
+        ensures step { OnOk result
+            (IsStep (C.rules asked.now.criterion) (S.timetable source.now) asked.now.query
+            (from_to (told (S.timetable source.now).footpaths (story_of self.old.state))
+            (told (S.timetable source.now).footpaths (story_of self.new.state)))
+            place (kept_by self.old.state) (kept_by self.new.state)) }
+    {
+        let way = asked.ways.secs_from(connection.to);
+        if self.state.is_idle(asked, connection, way) {
+            return Ok(());
+        }
+        renew(
+            &asked.criterion,
+            &self.state.origin.found,
+            self.state.origin.set_outs.len(),
+            connection.dep,
+            &mut self.bound,
+        )?;
+        let hop = Hop {
+            connection: *connection,
+            place,
+            way,
+            bound: &self.bound.values,
+        };
+        self.state.take(asked, source, &hop)?;
+        Ok(())
+    }
 }
 
-/// Scans the connections from a place up to before another. The points found match every journey that boards there.
+ghost use Rattle.std.specs.Prelude.{◌-◌, ◌++◌, ℕ, IfOk, OnOk, OnErr, take};
+ghost use Rattle.profile_scan.specs.Hops.{IsWindow};
+ghost use Rattle.profile_scan.specs.Window.{falling};
+ghost use Rattle.profile_scan.specs.Parts.{HasFound};
+
+/// Scans the connections of a window, the last first. The points found match every journey that boards there.
 pub fn scan_window<S: ConnSource, C: Criterion>(
     alloc: Global,
     source: &mut S,
-    criterion: &C,
-    query: &Query,
-    ways: &Ways,
-    start: usize,
-    end: usize,
+    asked: &Asked<C>,
+    window: Range<usize>,
 ) -> Result<Scan<C>, AllocError>
-    requires by { IsTime query.now.by }
-    requires ways { AreWays (S.timetable source.old) query.now.target (ways_of ways.now) }
-    requires order { start ≤ end }
-    requires end { IsFirstAt (S.timetable source.old) query.now.by end }
+    requires { IsWindow (S.timetable source.old) asked.now window.start window.end }
     ensures timetable { S.timetable source.new ≡ S.timetable source.old }
-    ensures same { IfOk result (λ scan. criterion_of scan.found ≡ criterion.now) }
-    ensures matches { IfOk result (λ scan. Matches (C.rules criterion.now) (told (S.timetable source.old).footpaths (story_of scan)).journey (CountsFrom (S.timetable source.old) query.now start) (IsPlain (S.timetable source.old) query.now.target) (journey_value (C.rules criterion.now) (S.timetable source.old)) (points_of scan.found)) }
-    ensures log { OnOk result (S.log source.new ≡ S.log source.old ++ falling start (end - start)) }
-    ensures err { OnErr result ((n : ℕ) × (S.log source.new ≡ S.log source.old ++ take n (falling start (end - start)))) }
+    ensures found { IfOk result (λ scan.
+        HasFound C.rules (S.timetable source.old) asked.now.criterion asked.now.query window.start scan.state) }
+    ensures log { OnOk result
+        (S.log source.new ≡ S.log source.old ++ falling window.start (window.end - window.start)) }
+    ensures err { OnErr result ((n : ℕ)
+        × (S.log source.new ≡ S.log source.old ++ take n (falling window.start (window.end - window.start)))) }
 {
-    let mut scan = nothing_read(alloc, criterion, source.stops(), source.trips())?;
-    let mut place = end;
-    while start < place {
+    let state = State::new(alloc, &asked.criterion, source.stops(), source.trips())?;
+    let mut scan = Scan {
+        state,
+        bound: Bound::new(alloc),
+    };
+    let mut place = window.end;
+    while window.start < place {
         place -= 1;
         let connection = source.connection(place);
-        step(
-            source,
-            criterion,
-            query,
-            ways,
-            &connection,
-            place as u32,
-            &mut scan,
-        )?;
+        scan.step(asked, source, &connection, place as u32)?;
     }
     Ok(scan)
 }

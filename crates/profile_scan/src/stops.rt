@@ -1,31 +1,148 @@
-//! What a scan keeps for each stop: a list of points.
+//! What a scan keeps for each stop: a list of points, to which one who boards a connection adds.
 
-ghost use Rattle.std.specs.Prelude.{◌≡◌, [], ℕ, IfOk, replicate};
-ghost use Rattle.profile_scan.specs.Kept.{AreStops, points_at};
+ghost use Rattle.std.specs.Prelude.{◌≡◌, ℕ, IfOk, replicate};
 
+use crate::hop::{Asked, Hop};
+use crate::riding::{number_of, ride_labels};
 use criteria::Criterion;
-use fronts::FrontLists;
+use fronts::{FrontLists, Label, Ridden};
+use sources::ConnSource;
 use std::alloc::{AllocError, Global};
+use std::ops::Range;
+use timetable::Footpath;
 
 /// A list of points for each stop, by its head.
 #[derive(Drop)]
 pub struct Stops<C: Criterion> {
     pub lists: FrontLists<C>,
     pub heads: Vec<u32>,
+    // room for the labels of one trip, after the ride
+    pub ridden: Vec<Ridden<C::V>>,
 }
 
-/// So many stops, whose lists are empty.
-pub fn no_stops<C: Criterion>(
-    alloc: Global,
-    criterion: &C,
-    count: u32,
-) -> Result<Stops<C>, AllocError>
-    ensures stops { IfOk result (λ stops. AreStops C.rules criterion.now count stops) }
-    ensures none { IfOk result (λ stops. (stop : ℕ) → points_at stops stop ≡ []) }
-{
-    let lists = FrontLists::new(alloc, *criterion)?;
-    let heads = no_heads(alloc, count as usize)?;
-    Ok(Stops { lists, heads })
+impl<C: Criterion> Stops<C> {
+    ghost use Rattle.std.specs.Prelude.{◌≡◌, ◌<◌, [], ℕ, List, IfOk, OnOk, Contains, vec_len, slice_index};
+    ghost use Rattle.criteria.specs.Laws.{Admits, IsSecs};
+    ghost use Rattle.bags.specs.declared.point.Point.{Point};
+    ghost use Rattle.profile_scan.specs.Adding.{label_points, AreWalksInto};
+    ghost use Rattle.profile_scan.specs.Bound.{carried};
+    ghost use Rattle.profile_scan.specs.Steps.{boardings};
+    ghost use Rattle.profile_scan.specs.Kept.{AreStops, points_at};
+    ghost use Rattle.profile_scan.specs.Hops.{IsHopOf};
+    ghost use Rattle.profile_scan.specs.Parts.{AdmitsLabels, AreReady, ChangesLists, ChangesStops, StopTakes};
+    ghost use Rattle.profile_scan.specs.Parts.{BoardsAfter};
+    ghost use Rattle.profile_scan.specs.Parts.{BoardsAfterEach};
+
+    /// So many stops, whose lists are empty.
+    pub fn new(alloc: Global, criterion: &C, count: u32) -> Result<Self, AllocError>
+        ensures stops { IfOk result (λ stops. AreStops C.rules criterion.now count stops) }
+        ensures none { IfOk result (λ stops. (stop : ℕ) → points_at stops stop ≡ []) }
+    {
+        let lists = FrontLists::new(alloc, *criterion)?;
+        let heads = no_heads(alloc, count as usize)?;
+        Ok(Stops {
+            lists,
+            heads,
+            ridden: Vec::new(alloc),
+        })
+    }
+
+    /// The head of a stop's list. It is 0 where the list is empty.
+    pub fn head(&self, stop: u32) -> u32
+        requires { stop < vec_len self.now.heads }
+        ensures { result ≡ slice_index self.now.heads.items stop }
+    {
+        self.heads[stop as usize]
+    }
+
+    // Offers the list of the stop where a footpath begins each ridden value, boarded after it. `place` is the
+    // footpath's.
+    fn board_after(
+        &mut self,
+        asked: &Asked<C>,
+        hop: &Hop<C::V>,
+        place: usize,
+        walk: Footpath,
+    ) -> Result<(), AllocError>
+        requires secs { IsSecs walk.secs }
+        requires stop { walk.from < vec_len self.old.heads }
+        requires ready { AreReady C.rules asked.now.criterion (vec_len self.old.heads) self.old }
+        ensures stops { OnOk result
+            (ChangesLists C.rules asked.now.criterion (vec_len self.old.heads) self.old self.new) }
+        ensures takes { OnOk result
+            (BoardsAfter (C.rules asked.now.criterion) hop.now place walk self.old self.new) }
+    {
+        let dep = hop.connection.dep;
+        if walk.secs > dep {
+            return Ok(());
+        }
+        let number = number_of(place)?;
+        let head = self.head(walk.from);
+        let new = self.lists.insert(
+            head,
+            dep - walk.secs,
+            hop.place,
+            number,
+            walk.secs,
+            &self.ridden,
+        )?;
+        self.heads[walk.from as usize] = new;
+        Ok(())
+    }
+
+    // Goes over footpaths into where a connection begins, by their places, and boards after each.
+    fn board_walks<S: ConnSource>(
+        &mut self,
+        asked: &Asked<C>,
+        source: &S,
+        hop: &Hop<C::V>,
+        walks: Range<usize>,
+    ) -> Result<(), AllocError>
+        requires walks { AreWalksInto (S.timetable source.now) hop.now.connection.from walks.start walks.end }
+        requires ready { AreReady C.rules asked.now.criterion (S.timetable source.now).stops self.old }
+        ensures stops { OnOk result
+            (ChangesLists C.rules asked.now.criterion (S.timetable source.now).stops self.old self.new) }
+        ensures takes { OnOk result (BoardsAfterEach (C.rules asked.now.criterion)
+            (S.timetable source.now).footpaths walks.start walks.end hop.now self.old self.new) }
+    {
+        for place in walks.start..walks.end {
+            let walk = source.footpath_into(hop.connection.from as usize, place);
+            self.board_after(asked, hop, place, walk)?;
+        }
+        Ok(())
+    }
+
+    /// Boards a connection, if passengers may get on there: offers the list of every stop its boardings by the labels
+    /// of the connection's trip that aren't bettered after the ride.
+    pub fn board<S: ConnSource>(
+        &mut self,
+        asked: &Asked<C>,
+        source: &S,
+        hop: &Hop<C::V>,
+        labels: &[Label<C::V>],
+    ) -> Result<(), AllocError>
+        requires hop { IsHopOf (C.rules asked.now.criterion) (S.timetable source.now) asked.now.query hop.now }
+        requires stops { AreStops C.rules asked.now.criterion (S.timetable source.now).stops self.old }
+        requires labels { AdmitsLabels (C.rules asked.now.criterion) labels.now }
+        ensures stops { OnOk result
+            (ChangesStops C.rules asked.now.criterion (S.timetable source.now).stops self.old self.new) }
+        ensures takes { OnOk result ((stop : ℕ)
+            → StopTakes (C.rules asked.now.criterion) (S.timetable source.now).footpaths stop
+            (λ tags. boardings (C.rules asked.now.criterion) (S.timetable source.now) tags hop.now.place stop
+            (carried (C.rules asked.now.criterion) hop.now.bound.now (label_points labels.now)))
+            self.old self.new) }
+    {
+        if !hop.connection.board {
+            return Ok(());
+        }
+        ride_labels(&asked.criterion, hop.bound, labels, &mut self.ridden)?;
+        if self.ridden.len() == 0 {
+            return Ok(());
+        }
+        let (begin, end) = source.walks_into(hop.connection.from as usize);
+        self.board_walks(asked, source, hop, begin..end)?;
+        Ok(())
+    }
 }
 
 // As many heads as wanted, of the empty list.

@@ -11,8 +11,8 @@ pub enum Exit {
     Changes { last: u32, step: usize },
 }
 
-/// How one sets out from the source: a start, the place of the connection that is boarded, and the number of the label by which one
-/// rides on.
+/// How one sets out from the source: a start, the place of the connection that is boarded, and the number of the label
+/// by which one rides on.
 #[derive(Clone, Copy, Drop)]
 pub struct SetOut {
     pub start: Option<Footpath>,

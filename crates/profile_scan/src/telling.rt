@@ -6,10 +6,11 @@ ghost use Rattle.fronts.specs.Front.{Extends};
 ghost use Rattle.profile_scan.specs.Points.{untagged};
 ghost use Rattle.profile_scan.specs.Kept.{story_of};
 ghost use Rattle.profile_scan.specs.declared.telling.Change.{Change};
-ghost use Rattle.profile_scan.specs.Telling.{IsRoute, change, ending, IsLabelTold, SaysLabel, IsJourneyTold, SaysJourney, IsRetold};
+ghost use Rattle.profile_scan.specs.Telling.{IsRoute, change, ending, IsLabelTold, SaysLabel, IsJourneyTold};
+ghost use Rattle.profile_scan.specs.Telling.{SaysJourney, IsRetold};
 
 use crate::nodes::Node;
-use crate::scan::Scan;
+use crate::scan::State;
 use crate::story::Exit;
 use bags::Point;
 use criteria::Criterion;
@@ -25,7 +26,8 @@ struct Change {
     step: Step,
 }
 
-// How one ends after a label: the place of the connection that one leaves, and the footpath to the target, if there is one.
+// How one ends after a label: the place of the connection that one leaves, and the footpath to the target, if there is
+// one.
 #[derive(Clone, Copy, Drop)]
 struct End {
     last: u32,
@@ -33,23 +35,23 @@ struct End {
 }
 
 // How one changes after a label, if one does.
-fn change_after<C: Criterion>(scan: &Scan<C>, label: usize) -> Option<Change>
-    ensures { result ≡ change (story_of scan.now) label }
+fn change_after<C: Criterion>(state: &State<C>, label: usize) -> Option<Change>
+    ensures { result ≡ change (story_of state.now) label }
 {
-    match scan.exits.get(label).copied()? {
+    match state.trips.exits.get(label).copied()? {
         Exit::Ends { .. } => None,
         Exit::Changes { last, step } => {
-            let step = scan.stops.lists.step(step)?;
+            let step = state.stops.lists.step(step)?;
             Some(Change { last, step })
         },
     }
 }
 
 // How one ends after a label, if one does.
-fn end_after<C: Criterion>(scan: &Scan<C>, label: usize) -> Option<End>
-    ensures { result ≡ ending (story_of scan.now) label }
+fn end_after<C: Criterion>(state: &State<C>, label: usize) -> Option<End>
+    ensures { result ≡ ending (story_of state.now) label }
 {
-    match scan.exits.get(label).copied()? {
+    match state.trips.exits.get(label).copied()? {
         Exit::Ends { last, walk } => Some(End { last, walk }),
         Exit::Changes { .. } => None,
     }
@@ -57,17 +59,18 @@ fn end_after<C: Criterion>(scan: &Scan<C>, label: usize) -> Option<End>
 
 // The last label to which one leads, those on the way to it being noted.
 fn note_route<C: Criterion>(
-    scan: &Scan<C>,
+    state: &State<C>,
     first: usize,
     route: &mut Vec<usize>,
 ) -> Result<usize, AllocError>
-    ensures route { IfOk result (λ last. IsRoute (story_of scan.now) first route.new.items last) }
-    ensures ends { IfOk result (λ last. (walks : _) → IsLabelTold walks (story_of scan.now) first → change (story_of scan.now) last ≡ None) }
+    ensures route { IfOk result (λ last. IsRoute (story_of state.now) first route.new.items last) }
+    ensures ends { IfOk result (λ last. (walks : _) → IsLabelTold walks (story_of state.now) first
+        → change (story_of state.now) last ≡ None) }
 {
     route.clear();
     let mut label = first;
-    for _i in 0..scan.exits.len() {
-        match change_after(scan, label) {
+    for _i in 0..state.trips.exits.len() {
+        match change_after(state, label) {
             None => return Ok(label),
             Some(change) => {
                 route.push(label)?;
@@ -81,7 +84,8 @@ fn note_route<C: Criterion>(
 // Adds a node, and tells its number.
 fn add(nodes: &mut Vec<Node>, node: Node) -> Result<usize, AllocError>
     ensures nodes { Extends nodes.old.items nodes.new.items }
-    ensures added { IfOk result (λ number. (number ≡ length nodes.old.items) × (nodes.new.items ≡ nodes.old.items ++ node ∷ [])) }
+    ensures added { IfOk result (λ number. (number ≡ length nodes.old.items)
+        × (nodes.new.items ≡ nodes.old.items ++ node ∷ [])) }
 {
     let number = nodes.len();
     nodes.push(node)?;
@@ -90,14 +94,16 @@ fn add(nodes: &mut Vec<Node>, node: Node) -> Result<usize, AllocError>
 
 // Adds a node that says how one leaves the trip of a label for good.
 fn tell_end<C: Criterion>(
-    scan: &Scan<C>,
+    state: &State<C>,
     label: usize,
     nodes: &mut Vec<Node>,
 ) -> Result<usize, AllocError>
     ensures nodes { Extends nodes.old.items nodes.new.items }
-    ensures says { IfOk result (λ number. (walks : _) → IsLabelTold walks (story_of scan.now) label → change (story_of scan.now) label ≡ None → SaysLabel walks (story_of scan.now) label nodes.new.items number) }
+    ensures says { IfOk result (λ number. (walks : _) → IsLabelTold walks (story_of state.now) label
+        → change (story_of state.now) label ≡ None
+        → SaysLabel walks (story_of state.now) label nodes.new.items number) }
 {
-    match end_after(scan, label) {
+    match end_after(state, label) {
         None => Ok(nodes.len()),
         Some(end) => add(
             nodes,
@@ -112,17 +118,19 @@ fn tell_end<C: Criterion>(
 // Adds the nodes that say how one changes after a label, `next` being the number of the node by which one rides on.
 fn tell_change<S: ConnSource, C: Criterion>(
     source: &S,
-    scan: &Scan<C>,
+    state: &State<C>,
     label: usize,
     next: usize,
     nodes: &mut Vec<Node>,
 ) -> Result<usize, AllocError>
-    requires told { IsLabelTold (S.timetable source.now).footpaths (story_of scan.now) label }
-    requires next { (c : Change) × (change (story_of scan.now) label ≡ Some c) × SaysLabel (S.timetable source.now).footpaths (story_of scan.now) c.step.label nodes.old.items next }
+    requires told { IsLabelTold (S.timetable source.now).footpaths (story_of state.now) label }
+    requires next { (c : Change) × (change (story_of state.now) label ≡ Some c)
+        × SaysLabel (S.timetable source.now).footpaths (story_of state.now) c.step.label nodes.old.items next }
     ensures nodes { Extends nodes.old.items nodes.new.items }
-    ensures says { IfOk result (λ number. SaysLabel (S.timetable source.now).footpaths (story_of scan.now) label nodes.new.items number) }
+    ensures says { IfOk result
+        (λ number. SaysLabel (S.timetable source.now).footpaths (story_of state.now) label nodes.new.items number) }
 {
-    match change_after(scan, label) {
+    match change_after(state, label) {
         None => Ok(next),
         Some(change) => {
             let walk = source.footpath(change.step.walk as usize);
@@ -148,20 +156,21 @@ fn tell_change<S: ConnSource, C: Criterion>(
 // Adds the nodes of the journey of a point found.
 fn tell_journey<S: ConnSource, C: Criterion>(
     source: &S,
-    scan: &Scan<C>,
+    state: &State<C>,
     tag: usize,
     route: &mut Vec<usize>,
     nodes: &mut Vec<Node>,
 ) -> Result<usize, AllocError>
-    requires { IsJourneyTold (S.timetable source.now).footpaths (story_of scan.now) tag }
+    requires { IsJourneyTold (S.timetable source.now).footpaths (story_of state.now) tag }
     ensures nodes { Extends nodes.old.items nodes.new.items }
-    ensures says { IfOk result (λ number. SaysJourney (S.timetable source.now).footpaths (story_of scan.now) tag nodes.new.items number) }
+    ensures says { IfOk result
+        (λ number. SaysJourney (S.timetable source.now).footpaths (story_of state.now) tag nodes.new.items number) }
 {
-    let set_out = scan.set_outs[tag];
-    let last = note_route(scan, set_out.label, route)?;
-    let mut next = tell_end(scan, last, nodes)?;
+    let set_out = state.origin.set_outs[tag];
+    let last = note_route(state, set_out.label, route)?;
+    let mut next = tell_end(state, last, nodes)?;
     while let Some(label) = route.pop() {
-        next = tell_change(source, scan, label, next, nodes)?;
+        next = tell_change(source, state, label, next, nodes)?;
     }
     add(
         nodes,
@@ -184,19 +193,21 @@ pub struct Told<V> {
 pub fn tell_journeys<S: ConnSource, C: Criterion>(
     alloc: Global,
     source: &S,
-    scan: &Scan<C>,
+    state: &State<C>,
     points: &[Point<C::V>],
 ) -> Result<Told<C::V>, AllocError>
-    requires { (p : Point _) → Contains points.now p → IsJourneyTold (S.timetable source.now).footpaths (story_of scan.now) p.tag }
+    requires { (p : Point _) → Contains points.now p
+        → IsJourneyTold (S.timetable source.now).footpaths (story_of state.now) p.tag }
     ensures same { IfOk result (λ told. map untagged told.points.items ≡ map untagged points.now) }
-    ensures says { IfOk result (λ told. (p : Point _) → Contains told.points.items p → IsRetold (S.timetable source.now).footpaths (story_of scan.now) points.now told.nodes.items p) }
+    ensures says { IfOk result (λ told. (p : Point _) → Contains told.points.items p
+        → IsRetold (S.timetable source.now).footpaths (story_of state.now) points.now told.nodes.items p) }
 {
     let mut told = Vec::with_capacity(alloc, points.len())?;
     let mut nodes = Vec::new(alloc);
     let mut route = Vec::new(alloc);
     for i in 0..points.len() {
         let point = points[i];
-        let tag = tell_journey(source, scan, point.tag, &mut route, &mut nodes)?;
+        let tag = tell_journey(source, state, point.tag, &mut route, &mut nodes)?;
         told.push(Point {
             departure: point.departure,
             value: point.value,

@@ -7,8 +7,8 @@ use sources::ConnSource;
 use std::alloc::{AllocError, Global};
 use timetable::limits::MAX_WALK_SECS;
 
-/// For each stop the seconds of the footpath from it to the target, if there is one. A word for each, since a scan asks for one at each
-/// connection.
+/// For each stop the seconds of the footpath from it to the target, if there is one. A word for each, since a scan asks
+/// for one at each connection.
 #[derive(Drop)]
 pub struct Ways {
     // where there is none, more than a footpath takes

@@ -1,6 +1,4 @@
 use Rattle.std.proofs.Common.{◌≡◌, ◌-◌, ◌≤◌, ◌++◌}
-use Rattle.bags.specs.Bag.{points_of}
-use Rattle.profile_scan.specs.Bound.{AreBounds}
 use Rattle.profile_scan.specs.Matching.{MatchesFrom}
 use Rattle.profile_scan.specs.Story.{told}
 use Rattle.profile_scan.specs.Kept.{IsScan, kept_by, story_of}
@@ -11,14 +9,13 @@ abbrev pub invariant-loop-place : goal.invariant-loop-place
 invariant-loop-place g l =
     let t = g.S.ConnSource.timetable l.fn.source in
     record {
-      low : l.start ≤ l.place;
-      high : l.place ≤ l.end;
+      low : l.fn.window.start ≤ l.place;
+      high : l.place ≤ l.fn.window.end;
       timetable : g.S.ConnSource.timetable l.source ≡ g.S.ConnSource.timetable l.fn.source;
-      log : g.S.ConnSource.log l.source ≡ g.S.ConnSource.log l.fn.source ++ falling l.place (l.end - l.place);
-      scan : IsScan g.C.Criterion.rules l.criterion t.stops t.trips l.scan;
-      bound : AreBounds (g.C.Criterion.rules l.criterion) t (points_of l.scan.found) l.place l.scan.bound.values.items;
-      matched : MatchesFrom (g.C.Criterion.rules l.criterion) t l.query (told t.footpaths (story_of l.scan)) l.place (kept_by l.scan);
+      log : g.S.ConnSource.log l.source ≡ g.S.ConnSource.log l.fn.source ++ falling l.place (l.fn.window.end - l.place);
+      scan : IsScan g.C.Criterion.rules l.asked.criterion t l.place l.scan;
+      matched : MatchesFrom (g.C.Criterion.rules l.asked.criterion) t l.asked.query (told t.footpaths (story_of l.scan.state)) l.place (kept_by l.scan.state);
     }
 
 abbrev pub decreases-loop-place : goal.decreases-loop-place
-decreases-loop-place g l = l.place - l.start
+decreases-loop-place g l = l.place - l.fn.window.start

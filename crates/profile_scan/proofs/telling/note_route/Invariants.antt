@@ -8,6 +8,6 @@ use Rattle.profile_scan.proofs.telling.note_route.Given as goal
 
 abbrev pub invariant-loop-i : goal.invariant-loop-i
 invariant-loop-i g l = record {
-  route : IsRoute (story_of l.scan) l.first l.route.items l.label;
-  tells : (walks : List Footpath) → IsLabelTold walks (story_of l.scan) l.first → (x : Aboard) × (label_tells walks (story_of l.scan) (length (story_of l.scan).exits - l._i) l.label ≡ Some x);
+  route : IsRoute (story_of l.state) l.first l.route.items l.label;
+  tells : (walks : List Footpath) → IsLabelTold walks (story_of l.state) l.first → (x : Aboard) × (label_tells walks (story_of l.state) (length (story_of l.state).exits - l._i) l.label ≡ Some x);
 }

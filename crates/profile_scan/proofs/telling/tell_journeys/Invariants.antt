@@ -9,5 +9,5 @@ invariant-loop-i g l =
     let walks = (g.S.ConnSource.timetable l.source).footpaths in
     record {
       same : map untagged l.told.items ≡ map untagged (take l.i l.points);
-      says : (p : _) → Contains l.told.items p → IsRetold walks (story_of l.scan) l.points l.nodes.items p;
+      says : (p : _) → Contains l.told.items p → IsRetold walks (story_of l.state) l.points l.nodes.items p;
     }

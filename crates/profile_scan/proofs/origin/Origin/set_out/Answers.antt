@@ -1,0 +1,73 @@
+use Rattle.std.proofs.Common.{◌≡◌, ◌<◌, ℕ, subst, arith}
+use Rattle.reasoning.proofs.ListLemmas.{extends_none}
+use Rattle.bags.specs.Bag.{points_of}
+use Rattle.profile_scan.specs.Matching.{from_to}
+use Rattle.profile_scan.specs.Story.{story, told}
+use Rattle.profile_scan.specs.Steps.{TakesIn}
+use Rattle.profile_scan.specs.Adding.{label_points, each_of, IsTried, settings_out_by}
+use Rattle.profile_scan.proofs.StoryLemmas.{grows_on, set_outs_grow}
+use Rattle.profile_scan.proofs.BoardLemmas.{starts_first, starts_next, settings_out_taken}
+use Rattle.profile_scan.proofs.PartLemmas.{origin_on}
+use Rattle.profile_scan.proofs.StepFacts.{begins_in}
+use Rattle.profile_scan.proofs.origin.Origin.set_out.Given as given
+use Rattle.profile_scan.proofs.origin.Origin.set_out.Goals.{Start}
+use Rattle.profile_scan.proofs.origin.Origin.set_out.Goals as goal
+
+pub loop-place-init : goal.loop-place-init
+loop-place-init g c =
+    let rules = g.C.Criterion.rules c.args.asked.now.criterion in
+    let walks = (g.S.ConnSource.timetable c.args.source.now).footpaths in
+    record {
+      origin = c.in_ok-set_out_by.ensures.origin;
+      takes = λ exits steps before all ext_before ext. starts_first rules walks (settings_out_by rules (from_to (told walks before) (told walks all)) c.args.hop.now.place c.args.hop.now.connection c.args.asked.now.query (label_points c.args.labels.now)) c.walks_into-begin.result.0 (points_of c.args.self.now.found) (points_of c.set_out_by.new.self.found) (c.in_ok-set_out_by.ensures.takes walks exits steps before all ext_before ext);
+    }
+
+pub loop-place-preserved : goal.loop-place-preserved
+loop-place-preserved g c =
+    let t = g.S.ConnSource.timetable c.args.source.now in
+    let inv = c.loop-place.invariant in
+    let walk = c.footpath_into-walk.result in
+    let old_outs = c.args.self.now.set_outs.items in
+    let mid_outs = c.loop-place.self.set_outs.items in
+    let new_outs = c.set_out_by-in-loop-place.new.self.set_outs.items in
+    record {
+      origin = origin_on c.args.asked.now.criterion c.args.self.now c.loop-place.self c.set_out_by-in-loop-place.new.self inv.origin c.in_ok-set_out_by-2.ensures.origin;
+      takes = λ exits steps before all ext_before ext.
+          let s0 = story exits steps old_outs in
+          let s1 = story exits steps mid_outs in
+          let s2 = story exits steps new_outs in
+          starts_next (g.C.Criterion.rules c.args.asked.now.criterion) (g.met.C.Criterion.laws c.args.asked.now.criterion) t (g.met.S.ConnSource.limits c.args.source.now) (label_points c.args.labels.now) c.requires.labels (from_to (told t.footpaths before) (told t.footpaths all)) c.args.hop.now.place c.args.hop.now.connection c.args.asked.now.query c.walks_into-begin.result.0 c.loop-place.place walk (points_of c.args.self.now.found) (points_of c.loop-place.self.found) (points_of c.set_out_by-in-loop-place.new.self.found)
+          c.loop-place.auto.place c.footpath_into-walk.ensures
+          (inv.takes exits steps before all ext_before (grows_on s1 s2 all (set_outs_grow exits steps mid_outs new_outs c.in_ok-set_out_by-2.ensures.origin.set_outs) ext))
+          (c.in_ok-set_out_by-2.ensures.takes t.footpaths exits steps before all (grows_on before s0 s1 ext_before (set_outs_grow exits steps old_outs mid_outs inv.origin.set_outs)) ext);
+    }
+
+pub returns-clause-takes : goal.returns-clause-takes
+returns-clause-takes g c exits steps before all ext_before ext =
+    let rules = g.C.Criterion.rules c.args.asked.now.criterion in
+    let t = g.S.ConnSource.timetable c.args.source.now in
+    let labels = label_points c.args.labels.now in
+    let tags = from_to (told t.footpaths before) (told t.footpaths all) in
+    let begin = c.walks_into-begin.result.0 in
+    let over = c.loop-place-test.false in
+    let within = c.loop-place.auto.place-end c.walks_into-begin.ensures.order in
+    let at_end : c.loop-place.place ≡ c.walks_into-begin.result.1 = omega arith in
+    settings_out_taken rules t tags c.args.hop.now.place c.args.hop.now.connection c.requires.hop.stands.is c.if-not-hop.false begin c.walks_into-begin.result.1 c.walks_into-begin.ensures.exact labels
+    c.args.asked.now.query (points_of c.args.self.now.found) (points_of c.loop-place.self.found)
+    (subst (λ (n : ℕ). TakesIn rules (each_of (IsTried t.footpaths begin n) (settings_out_by rules tags c.args.hop.now.place c.args.hop.now.connection c.args.asked.now.query labels)) (points_of c.args.self.now.found) (points_of c.loop-place.self.found)) at_end
+    (c.loop-place.invariant.takes exits steps before all ext_before ext))
+
+-- the connection begins at a stop
+begins : (g : given.Over) (c : goal.Start g) → c.args.hop.now.connection.from < (g.S.ConnSource.timetable c.args.source.now).stops
+begins g c =
+    let at = c.requires.hop.stands in
+    begins_in (g.S.ConnSource.timetable c.args.source.now) (g.met.S.ConnSource.legal c.args.source.now) c.args.hop.now.place at.in_range c.args.hop.now.connection at.is
+
+pub walks_into-begin-requires : goal.walks_into-begin-requires
+walks_into-begin-requires g c = begins g (goal.at.walks_into-begin-requires g c).Start
+
+pub returns-then-not-hop-clause-origin : goal.returns-then-not-hop-clause-origin
+returns-then-not-hop-clause-origin g c = record { found = c.requires.found; set_outs = extends_none c.args.self.now.set_outs.items }
+
+pub footpath_into-walk-requires-clause-stop : goal.footpath_into-walk-requires-clause-stop
+footpath_into-walk-requires-clause-stop g c = begins g (goal.at.footpath_into-walk-requires-clause-stop g c).Start

@@ -1,0 +1,10 @@
+use Rattle.profile_scan.specs.Parts.{BoardsAfterEach, ChangesLists}
+use Rattle.profile_scan.proofs.stops.Stops.board_walks.Given as goal
+
+abbrev pub invariant-loop-place : goal.invariant-loop-place
+invariant-loop-place g l =
+    let t = g.S.ConnSource.timetable l.source in
+    record {
+      stops : ChangesLists g.C.Criterion.rules l.asked.criterion t.stops l.fn.self l.self;
+      takes : BoardsAfterEach (g.C.Criterion.rules l.asked.criterion) t.footpaths l.fn.walks.start l.place l.hop l.fn.self l.self;
+    }

@@ -1,0 +1,33 @@
+use Rattle.std.proofs.Common.{ℕ, sym, ◌∙◌, ap, subst}
+use Rattle.criteria.specs.Laws.{Admits}
+use Rattle.profile_scan.specs.Values.{started}
+use Rattle.profile_scan.specs.Adding.{trip_points}
+use Rattle.profile_scan.specs.Matching.{from_to}
+use Rattle.profile_scan.specs.Story.{told}
+use Rattle.profile_scan.proofs.Offers.{on_ok_more}
+use Rattle.profile_scan.proofs.PartLemmas.{changes_none}
+use Rattle.profile_scan.proofs.EndLemmas.{end_admits, takes_the_end}
+use Rattle.profile_scan.proofs.trips.Trips.end.Goals as goal
+
+pub returns-in-Some-clause-takes : goal.returns-in-Some-clause-takes
+returns-in-Some-clause-takes g c =
+    let rules = g.C.Criterion.rules c.args.asked.now.criterion in
+    let end = c.in-Some.end in
+    let is = c.in-Some.ensures in
+    on_ok_more c.offer.result _ _
+    (λ takes walks steps set_outs before all ext_before ext. takes_the_end rules (from_to (told walks before) (told walks all)) c.args.hop.now.place c.args.hop.now.connection c.args.asked.now.query c.args.hop.now.way end.walk c.value_at_end-value.result end.time (trip_points c.args.self.now.labels c.args.hop.now.connection.trip) (trip_points c.offer.new.self.labels c.args.hop.now.connection.trip)
+    is.0 is.3 c.value_at_end-value.ensures is.1 (takes walks steps set_outs before all ext_before ext))
+    c.offer.ensures.takes
+
+pub returns-in-None-clause-trip : goal.returns-in-None-clause-trip
+returns-in-None-clause-trip g c = changes_none (g.C.Criterion.rules c.args.asked.now.criterion) c.args.hop.now.connection.trip c.args.self.now c.requires.trip
+
+pub offer-requires-clause-admitted : goal.offer-requires-clause-admitted
+offer-requires-clause-admitted g c =
+    let rules = g.C.Criterion.rules c.args.asked.now.criterion in
+    let end = c.in-Some.end in
+    let is = c.in-Some.ensures in
+    let hop = c.requires.hop in
+    let worth = c.value_at_end-value.ensures ∙ ap (λ (n : ℕ). started rules end.walk (rules.arrive n)) is.1 in
+    subst (Admits rules) (sym worth)
+    (end_admits rules (g.met.C.Criterion.laws c.args.asked.now.criterion) c.args.hop.now.connection c.args.asked.now.query c.args.hop.now.way end.walk hop.arrival hop.by hop.secs is.0)

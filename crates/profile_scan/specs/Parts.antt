@@ -1,0 +1,144 @@
+-- What each part of a scan's state takes in at a connection, and what it keeps.
+use Rattle.std.specs.Prelude.{◌≡◌, ℕ, ◌<◌, List, length, Contains, slice_get, Some}
+use Rattle.criteria.specs.Laws.{Rules, Admits}
+use Rattle.bags.specs.Bag.{criterion_of, points_of}
+use Rattle.bags.specs.declared.point.Point.{Point}
+use Rattle.timetable.specs.declared.network.Footpath.{Footpath}
+use Rattle.timetable.specs.declared.query.Query.{Query}
+use Rattle.timetable.specs.TimetableValue.{TimetableValue}
+use Rattle.timetable.specs.Journeys.{connection_at}
+use Rattle.fronts.specs.Front.{Extends}
+use Rattle.fronts.specs.Labels.{AreLabels, runs_of}
+use Rattle.fronts.specs.Lists.{steps_of}
+use Rattle.fronts.specs.declared.entry.Ridden.{Ridden}
+use Rattle.fronts.specs.declared.entry.Step.{Step}
+use Rattle.fronts.specs.declared.labels.Label.{Label}
+use Rattle.profile_scan.specs.Values.{journey_value}
+use Rattle.profile_scan.specs.Continuations.{CountsFrom}
+use Rattle.profile_scan.specs.Plain.{IsPlain}
+use Rattle.profile_scan.specs.Matching.{Matches, Spellings}
+use Rattle.profile_scan.specs.Steps.{Offer, leavings, boardings, settings_out}
+use Rattle.profile_scan.specs.Adding.{Takes, IsRelabelled, AreRidden, StandsBetween, each_of, boardings_by}
+use Rattle.profile_scan.specs.Adding.{label_points, trip_points}
+use Rattle.profile_scan.specs.Bound.{carried}
+use Rattle.profile_scan.specs.Story.{Story, Grows, story, told}
+use Rattle.profile_scan.specs.Kept.{AreStops, points_at, story_of}
+use Rattle.profile_scan.specs.declared.hop.Hop.{Hop}
+use Rattle.profile_scan.specs.declared.origin.Origin.{Origin}
+use Rattle.profile_scan.specs.declared.scan.State.{State}
+use Rattle.profile_scan.specs.declared.stops.Stops.{Stops}
+use Rattle.profile_scan.specs.declared.story.Exit.{Exit}
+use Rattle.profile_scan.specs.declared.story.SetOut.{SetOut}
+use Rattle.profile_scan.specs.declared.trips.Trips.{Trips}
+
+-- a trip is there, and labels are of values that the laws speak of
+pub record HasTrip {K V : Type 0} (rules : Rules V) (trip : ℕ) (trips : Trips K V) : Type 0 where
+  pub there : trip < length (runs_of trips.labels)
+  pub labels : AreLabels rules trips.labels
+
+-- no labels but those of one trip are others, and exits are only added
+pub record ChangesTrip {K V : Type 0} (rules : Rules V) (trip : ℕ) (old new : Trips K V) : Type 0 where
+  pub labels : IsRelabelled rules trip old.labels new.labels
+  pub exits : Extends old.exits.items new.exits.items
+
+-- the labels of a trip take an offer in
+abbrev pub TripTakes : {A K V : Type 0} → Rules V → ℕ → (Spellings → Offer A V) → Trips K V → Trips K V → Type 0
+TripTakes rules trip offer old new =
+    (walks : List Footpath) (steps : List Step) (set_outs : List SetOut)
+    → Takes rules walks (story old.exits.items steps set_outs) (story new.exits.items steps set_outs)
+    offer (trip_points old.labels trip) (trip_points new.labels trip)
+
+-- labels of values that laws speak of
+abbrev pub AdmitsLabels : {V : Type 0} → Rules V → List (Label V) → Type 0
+AdmitsLabels {V} rules labels = (l : Point V) → Contains (label_points labels) l → Admits rules l.value
+
+-- the points found stay under their criterion, and ways to set out are only added
+pub record ChangesOrigin {K V : Type 0} {c : _} (criterion : K) (old new : Origin K V c) : Type 0 where
+  pub found : criterion_of new.found ≡ criterion
+  pub set_outs : Extends old.set_outs.items new.set_outs.items
+
+-- the points found take an offer in
+abbrev pub OriginTakes : {A K V : Type 0} {c : _}
+    → Rules V → List Footpath → (Spellings → Offer A V) → Origin K V c → Origin K V c → Type 0
+OriginTakes rules walks offer old new =
+    (exits : List Exit) (steps : List Step)
+    → Takes rules walks (story exits steps old.set_outs.items) (story exits steps new.set_outs.items)
+    offer (points_of old.found) (points_of new.found)
+
+-- so many stops, with ridden values that the laws speak of
+pub record AreReady {K V : Type 0} (rules_of : K → Rules V) (criterion : K) (count : ℕ)
+    (kept : Stops K V) : Type 0 where
+  pub stops : AreStops rules_of criterion count kept
+  pub ridden : (r : Ridden V) → Contains kept.ridden.items r → Admits (rules_of criterion) r.value
+
+-- steps are only added
+pub record ChangesStops {K V : Type 0} (rules_of : K → Rules V) (criterion : K) (count : ℕ)
+    (old new : Stops K V) : Type 0 where
+  pub stops : AreStops rules_of criterion count new
+  pub steps : Extends (steps_of old.lists) (steps_of new.lists)
+
+-- and the ridden values stay
+pub record ChangesLists {K V : Type 0} (rules_of : K → Rules V) (criterion : K) (count : ℕ)
+    (old new : Stops K V) : Type 0 where
+  pub stops : AreStops rules_of criterion count new
+  pub steps : Extends (steps_of old.lists) (steps_of new.lists)
+  pub ridden : new.ridden.items ≡ old.ridden.items
+
+-- the points of a stop take an offer in
+abbrev pub StopTakes : {A K V : Type 0}
+    → Rules V → List Footpath → ℕ → (Spellings → Offer A V) → Stops K V → Stops K V → Type 0
+StopTakes rules walks stop offer old new =
+    (exits : List Exit) (set_outs : List SetOut)
+    → Takes rules walks (story exits (steps_of old.lists) set_outs) (story exits (steps_of new.lists) set_outs)
+    offer (points_at old stop) (points_at new stop)
+
+-- the points of each stop take in what a footpath offers them that stands at a place; the ridden values are those of
+-- the labels
+abbrev pub BoardsAfter : {K V : Type 0} → Rules V → Hop V → ℕ → Footpath → Stops K V → Stops K V → Type 0
+BoardsAfter {K} {V} rules hop place walk old new =
+    (labels : List (Point V)) → AreRidden rules labels old.ridden.items
+    → (walks : List Footpath) → slice_get walks place ≡ Some walk
+    → (stop : ℕ)
+    → StopTakes rules walks stop (λ tags. boardings_by rules tags hop.place hop.connection stop labels walk) old new
+
+-- the same of the footpaths from a place up to before another
+abbrev pub BoardsAfterEach : {K V : Type 0}
+    → Rules V → List Footpath → ℕ → ℕ → Hop V → Stops K V → Stops K V → Type 0
+BoardsAfterEach {K} {V} rules walks begin end hop old new =
+    (labels : List (Point V)) → AreRidden rules labels old.ridden.items
+    → ((l : Point V) → Contains labels l → Admits rules l.value)
+    → (stop : ℕ)
+    → StopTakes rules walks stop
+    (λ tags. each_of (StandsBetween walks begin end) (boardings_by rules tags hop.place hop.connection stop labels))
+    old new
+
+-- the labels of a hop's trip as points
+abbrev pub points_of_trip : {K V : Type 0} {c : _} → State K V c → Hop V → List (Point V)
+points_of_trip state hop = trip_points state.trips.labels hop.connection.trip
+
+-- a state takes a connection in: first the labels of its trip, and then, by these, the points of every stop and the
+-- points found
+pub record TakesConnection {K V : Type 0} {c : _} (rules : Rules V) (t : TimetableValue) (q : Query) (hop : Hop V)
+    (old new : State K V c) : Type 0 where
+  pub between : Story
+  pub grows_first : Grows (story_of old) between
+  pub grows_then : Grows between (story_of new)
+  pub labels : IsRelabelled rules hop.connection.trip old.trips.labels new.trips.labels
+  pub leaves : Takes rules t.footpaths (story_of old) between
+      (λ tags. leavings rules t q tags hop.place
+      (carried rules hop.bound.now (points_at old.stops (connection_at t hop.place).to)))
+      (points_of_trip old hop) (points_of_trip new hop)
+  pub boards : (stop : ℕ) → Takes rules t.footpaths between (story_of new)
+      (λ tags. boardings rules t tags hop.place stop (carried rules hop.bound.now (points_of_trip new hop)))
+      (points_at old.stops stop) (points_at new.stops stop)
+  pub sets_out : Takes rules t.footpaths between (story_of new)
+      (λ tags. settings_out rules t q tags hop.place (points_of_trip new hop))
+      (points_of old.origin.found) (points_of new.origin.found)
+
+-- points found, under a criterion, match every journey that boards at a place or later
+pub record HasFound {K V : Type 0} {c : _} (rules_of : K → Rules V) (t : TimetableValue) (criterion : K) (q : Query)
+    (start : ℕ) (state : State K V c) : Type 0 where
+  pub same : criterion_of state.origin.found ≡ criterion
+  pub matches : Matches (rules_of criterion) (told t.footpaths (story_of state)).journey
+      (CountsFrom t q start) (IsPlain t q.target) (journey_value (rules_of criterion) t)
+      (points_of state.origin.found)

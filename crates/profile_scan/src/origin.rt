@@ -1,0 +1,214 @@
+//! What a scan keeps for the source: the points found, and how one sets out for each.
+
+ghost use Rattle.std.specs.Prelude.{◌≡◌, ◌-◌, IfSome, MatchOption};
+ghost use Rattle.criteria.specs.Laws.{Admits, IsSecs};
+ghost use Rattle.timetable.specs.Journeys.{start_secs};
+ghost use Rattle.profile_scan.specs.Values.{started};
+ghost use Rattle.profile_scan.specs.Adding.{MayStart};
+
+use crate::hop::{Asked, Hop};
+use crate::riding::label_at;
+use crate::story::SetOut;
+use bags::Bag;
+use criteria::Criterion;
+use fronts::Label;
+use sources::ConnSource;
+use std::alloc::{AllocError, Global};
+use timetable::{Connection, Footpath, Query};
+
+/// The points found. A point's tag is the number of what tells how one sets out.
+#[derive(Drop)]
+pub struct Origin<C: Criterion> {
+    pub found: Bag<C>,
+    pub set_outs: Vec<SetOut>,
+}
+
+impl<C: Criterion> Origin<C> {
+    ghost use Rattle.std.specs.Prelude.{◌≡◌, ◌-◌, [], List, OnOk, IfSome, Contains};
+    ghost use Rattle.criteria.specs.Laws.{Admits, IsSecs};
+    ghost use Rattle.bags.specs.Bag.{criterion_of, points_of};
+    ghost use Rattle.bags.specs.declared.point.Point.{Point};
+    ghost use Rattle.timetable.specs.declared.network.Footpath.{Footpath};
+    ghost use Rattle.timetable.specs.Journeys.{start_secs};
+    ghost use Rattle.profile_scan.specs.Adding.{label_points, only_if, set_out_way, settings_out_after, MayStart};
+    ghost use Rattle.profile_scan.specs.Steps.{settings_out};
+    ghost use Rattle.profile_scan.specs.Hops.{IsHopOf};
+    ghost use Rattle.profile_scan.specs.Parts.{AdmitsLabels, ChangesOrigin, OriginTakes};
+
+    /// No points.
+    pub fn new(alloc: Global, criterion: C) -> Self
+        ensures criterion { criterion_of result.found ≡ criterion }
+        ensures none { points_of result.found ≡ [] }
+    {
+        let found = Bag::new(alloc, criterion);
+        Origin {
+            found,
+            set_outs: Vec::new(alloc),
+        }
+    }
+
+    // Offers the points found one point, with how one sets out, which is kept where the point stands.
+    fn offer(
+        &mut self,
+        criterion: &C,
+        departure: u32,
+        value: C::V,
+        set_out: SetOut,
+    ) -> Result<(), AllocError>
+        requires same { criterion_of self.old.found ≡ criterion.now }
+        requires admitted { Admits (C.rules criterion.now) value }
+        ensures origin { OnOk result (ChangesOrigin criterion.now self.old self.new) }
+        ensures takes { OnOk result ((walks : List Footpath) → OriginTakes (C.rules criterion.now) walks
+            (λ tags. set_out_way tags departure value set_out) self.old self.new) }
+    {
+        let tag = self.set_outs.len();
+        let stands = self.found.insert(departure, value, tag)?;
+        if stands {
+            self.set_outs.push(set_out)?;
+        }
+        Ok(())
+    }
+
+    // Offers the points found each label of the connection's trip, boarded by a way of setting out.
+    #[inline(never)]
+    fn set_out_after(
+        &mut self,
+        asked: &Asked<C>,
+        hop: &Hop<C::V>,
+        departure: Departure,
+        labels: &[Label<C::V>],
+    ) -> Result<(), AllocError>
+        requires secs { IfSome departure.start (λ walk. IsSecs walk.secs) }
+        requires found { criterion_of self.old.found ≡ asked.now.criterion }
+        requires labels { AdmitsLabels (C.rules asked.now.criterion) labels.now }
+        ensures origin { OnOk result (ChangesOrigin asked.now.criterion self.old self.new) }
+        ensures takes { OnOk result ((walks : List Footpath) → OriginTakes (C.rules asked.now.criterion) walks
+            (λ tags. settings_out_after (C.rules asked.now.criterion) tags hop.now.place
+            departure.time departure.start (label_points labels.now))
+            self.old self.new) }
+    {
+        for place in 0..labels.len() {
+            let label = label_at(labels, place);
+            let value = value_after(&asked.criterion, departure.start, &label.value);
+            let set_out = SetOut {
+                start: departure.start,
+                first: hop.place,
+                label: label.tag,
+            };
+            self.offer(&asked.criterion, departure.time, value, set_out)?;
+        }
+        Ok(())
+    }
+
+    // Offers the points found each label of the connection's trip, boarded after a start, where that is one from the
+    // source in the window.
+    #[inline(always)]
+    fn set_out_by(
+        &mut self,
+        asked: &Asked<C>,
+        hop: &Hop<C::V>,
+        start: Option<Footpath>,
+        labels: &[Label<C::V>],
+    ) -> Result<(), AllocError>
+        requires secs { IfSome start (λ walk. IsSecs walk.secs) }
+        requires found { criterion_of self.old.found ≡ asked.now.criterion }
+        requires labels { AdmitsLabels (C.rules asked.now.criterion) labels.now }
+        ensures origin { OnOk result (ChangesOrigin asked.now.criterion self.old self.new) }
+        ensures takes { OnOk result ((walks : List Footpath) → OriginTakes (C.rules asked.now.criterion) walks
+            (λ tags. only_if (MayStart asked.now.query hop.now.connection start)
+            (settings_out_after (C.rules asked.now.criterion) tags hop.now.place
+            (hop.now.connection.dep - start_secs start) start (label_points labels.now)))
+            self.old self.new) }
+    {
+        match departure_by(&asked.query, &hop.connection, start) {
+            None => Ok(()),
+            Some(departure) => self.set_out_after(asked, hop, departure, labels),
+        }
+    }
+
+    /// Sets out for a connection, if passengers may get on there: offers the points found each label of its trip, after
+    /// no start and after each footpath into where it begins.
+    pub fn set_out<S: ConnSource>(
+        &mut self,
+        asked: &Asked<C>,
+        source: &S,
+        hop: &Hop<C::V>,
+        labels: &[Label<C::V>],
+    ) -> Result<(), AllocError>
+        requires hop { IsHopOf (C.rules asked.now.criterion) (S.timetable source.now) asked.now.query hop.now }
+        requires found { criterion_of self.old.found ≡ asked.now.criterion }
+        requires labels { AdmitsLabels (C.rules asked.now.criterion) labels.now }
+        ensures origin { OnOk result (ChangesOrigin asked.now.criterion self.old self.new) }
+        ensures takes { OnOk result (OriginTakes (C.rules asked.now.criterion) (S.timetable source.now).footpaths
+            (λ tags. settings_out (C.rules asked.now.criterion) (S.timetable source.now) asked.now.query tags
+            hop.now.place (label_points labels.now))
+            self.old self.new) }
+    {
+        if !hop.connection.board {
+            return Ok(());
+        }
+        let (begin, end) = source.walks_into(hop.connection.from as usize);
+        self.set_out_by(asked, hop, None, labels)?;
+        for place in begin..end {
+            let walk = source.footpath_into(hop.connection.from as usize, place);
+            self.set_out_by(asked, hop, Some(walk), labels)?;
+        }
+        Ok(())
+    }
+}
+
+// How one sets out: the start, and when one leaves the source.
+#[derive(Clone, Copy)]
+struct Departure {
+    start: Option<Footpath>,
+    time: u32,
+}
+
+// How one sets out from the source by a start to board a connection, if that departs in the window. Hardly a start is
+// from the source, so that is asked first.
+#[inline(always)]
+fn departure_by(
+    query: &Query,
+    connection: &Connection,
+    start: Option<Footpath>,
+) -> Option<Departure>
+    ensures { MatchOption result (MayStart query.now connection.now start → ⊥)
+        (λ departure. MayStart query.now connection.now start × (departure.start ≡ start)
+        × (departure.time ≡ connection.now.dep - start_secs start)) }
+{
+    let secs = match start {
+        None => {
+            if connection.from != query.source {
+                return None;
+            }
+            0
+        },
+        Some(walk) => {
+            if walk.from != query.source || walk.to == query.source {
+                return None;
+            }
+            walk.secs
+        },
+    };
+    if secs > connection.dep {
+        return None;
+    }
+    let time = connection.dep - secs;
+    if time < query.from || time > query.until {
+        return None;
+    }
+    Some(Departure { start, time })
+}
+
+// The value of a start and a ride, with a label's value after them.
+fn value_after<C: Criterion>(criterion: &C, start: Option<Footpath>, value: &C::V) -> C::V
+    requires secs { IfSome start (λ walk. IsSecs walk.secs) }
+    requires admitted { Admits (C.rules criterion.now) value.now }
+    ensures { result ≡ started (C.rules criterion.now) start ((C.rules criterion.now).ride value.now) }
+{
+    let ridden = criterion.ride(value);
+    match start {
+        None => ridden,
+        Some(walk) => criterion.walk(walk.secs, &ridden),
+    }
+}

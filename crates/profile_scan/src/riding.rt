@@ -1,0 +1,87 @@
+//! The labels of a trip as points, and their values after the ride.
+
+ghost use Rattle.std.specs.Prelude.{◌≡◌, ◌<◌, OnOk, IfOk, Contains, slice_get, Some, length};
+ghost use Rattle.criteria.specs.Laws.{Admits};
+ghost use Rattle.bags.specs.declared.point.Point.{Point};
+ghost use Rattle.profile_scan.specs.Adding.{label_points, AreRidden};
+ghost use Rattle.profile_scan.specs.Bound.{carried, RidesLabel};
+
+use crate::bound::is_bettered;
+use bags::Point;
+use criteria::Criterion;
+use fronts::{Label, Ridden};
+use std::alloc::AllocError;
+
+/// A tag as a number of 32 bits. Past 2^32 - 1 there is no room.
+pub fn number_of(tag: usize) -> Result<u32, AllocError>
+    ensures { IfOk result (λ number. number ≡ tag) }
+{
+    if tag > u32::MAX as usize {
+        return Err(AllocError);
+    }
+    Ok(tag as u32)
+}
+
+// A label's point.
+fn label_point<V>(value: V, tag: u32) -> Point<V>
+    ensures { result ≡ record { departure = 0; value = value; tag = tag } }
+{
+    Point {
+        departure: 0,
+        value,
+        tag: tag as usize,
+    }
+}
+
+/// The label at a place, as a point.
+pub fn label_at<V: Copy>(labels: &[Label<V>], place: usize) -> Point<V>
+    requires { place < length labels.now }
+    ensures { slice_get (label_points labels.now) place ≡ Some result }
+{
+    let label = labels[place];
+    label_point(label.value, label.tag)
+}
+
+// Puts a label's value after the ride into a list, unless it is bettered.
+fn ride_label<C: Criterion>(
+    criterion: &C,
+    bound: &[C::V],
+    label: &Point<C::V>,
+    ridden: &mut Vec<Ridden<C::V>>,
+) -> Result<(), AllocError>
+    requires bound { (b : _) → Contains bound.now b → Admits (C.rules criterion.now) b }
+    requires label { Admits (C.rules criterion.now) label.now.value }
+    ensures { OnOk result
+        (RidesLabel (C.rules criterion.now) bound.now label.now ridden.old.items ridden.new.items) }
+{
+    let value = criterion.ride(&label.value);
+    if is_bettered(criterion, bound, &value) {
+        return Ok(());
+    }
+    let number = number_of(label.tag)?;
+    ridden.push(Ridden {
+        value,
+        label: number,
+    })?;
+    Ok(())
+}
+
+/// Puts the labels' values after the ride into a list, but for those that are bettered.
+pub fn ride_labels<C: Criterion>(
+    criterion: &C,
+    bound: &[C::V],
+    labels: &[Label<C::V>],
+    ridden: &mut Vec<Ridden<C::V>>,
+) -> Result<(), AllocError>
+    requires bound { (b : _) → Contains bound.now b → Admits (C.rules criterion.now) b }
+    requires labels { (l : Point _) → Contains (label_points labels.now) l → Admits (C.rules criterion.now) l.value }
+    ensures { OnOk result (AreRidden (C.rules criterion.now)
+        (carried (C.rules criterion.now) bound.now (label_points labels.now)) ridden.new.items) }
+{
+    ridden.clear();
+    for place in 0..labels.len() {
+        let label = label_at(labels, place);
+        ride_label(criterion, bound, &label, ridden)?;
+    }
+    Ok(())
+}

@@ -1,0 +1,240 @@
+//! What a scan keeps for each trip: labels, which say what it is worth to sit in the trip, and how one leaves it.
+//!
+//! A trip is left where a connection ends: at the target, one footpath before it, or to change.
+
+ghost use Rattle.std.specs.Prelude.{◌≡◌, ◌+◌, ◌≤◌, [], ℕ, true, false, IfOk, IfSome, MatchOption, OnOk, Option, length};
+ghost use Rattle.criteria.specs.Laws.{Admits, IsTime, IsSecs};
+ghost use Rattle.timetable.specs.declared.network.Footpath.{Footpath};
+ghost use Rattle.timetable.specs.Journeys.{start_secs};
+ghost use Rattle.fronts.specs.Labels.{AreLabels, runs_of};
+ghost use Rattle.profile_scan.specs.Values.{started};
+ghost use Rattle.profile_scan.specs.Bound.{is_bettered, carried};
+ghost use Rattle.profile_scan.specs.Story.{IsExit};
+ghost use Rattle.profile_scan.specs.declared.story.Exit.TheVariants.{Changes};
+ghost use Rattle.profile_scan.specs.Adding.{IsEnding, trip_points};
+
+use crate::bound::is_bettered;
+use crate::hop::{Asked, Hop};
+use crate::stops::Stops;
+use crate::story::Exit;
+use bags::Point;
+use criteria::Criterion;
+use fronts::{Labels, offer_label};
+use std::alloc::{AllocError, Global};
+use timetable::{Connection, Footpath, Query};
+
+/// The labels of each trip. A label's tag is the number of its exit.
+#[derive(Drop)]
+pub struct Trips<C: Criterion> {
+    pub labels: Labels<C::V>,
+    pub exits: Vec<Exit>,
+}
+
+impl<C: Criterion> Trips<C> {
+    ghost use Rattle.std.specs.Prelude.{◌≡◌, [], ℕ, true, false, IfOk, OnOk, length};
+    ghost use Rattle.criteria.specs.Laws.{Admits};
+    ghost use Rattle.fronts.specs.Labels.{AreLabels, runs_of};
+    ghost use Rattle.profile_scan.specs.Bound.{is_bettered, carried};
+    ghost use Rattle.profile_scan.specs.Story.{IsExit};
+    ghost use Rattle.profile_scan.specs.declared.story.Exit.TheVariants.{Changes};
+    ghost use Rattle.profile_scan.specs.Adding.{one_way, only_if, changes_from, endings, endings_and_changes};
+    ghost use Rattle.profile_scan.specs.Adding.{trip_points};
+    ghost use Rattle.profile_scan.specs.Kept.{HasStop, points_at};
+    ghost use Rattle.profile_scan.specs.Hops.{IsHop};
+    ghost use Rattle.profile_scan.specs.Parts.{HasTrip, ChangesTrip, TripTakes};
+
+    /// So many trips without labels.
+    pub fn new(alloc: Global, count: u32) -> Result<Self, AllocError>
+        ensures long { IfOk result (λ trips. length (runs_of trips.labels) ≡ count) }
+        ensures labels { IfOk result (λ trips. (rules : _) → AreLabels rules trips.labels) }
+        ensures none { IfOk result (λ trips. (trip : ℕ) → trip_points trips.labels trip ≡ []) }
+    {
+        let labels = Labels::new(alloc, count)?;
+        Ok(Trips {
+            labels,
+            exits: Vec::new(alloc),
+        })
+    }
+
+    // Offers the labels of a trip one value, with how one goes on from it, which is kept where the label stands.
+    fn offer(&mut self, criterion: &C, trip: u32, value: C::V, exit: Exit) -> Result<(), AllocError>
+        requires trip { HasTrip (C.rules criterion.now) trip self.old }
+        requires admitted { Admits (C.rules criterion.now) value }
+        ensures trip { OnOk result (ChangesTrip (C.rules criterion.now) trip self.old self.new) }
+        ensures takes { OnOk result
+            (TripTakes (C.rules criterion.now) trip (λ tags. one_way 0 value (IsExit tags exit)) self.old self.new) }
+    {
+        let tag = self.exits.len();
+        let stands = offer_label(criterion, &mut self.labels, trip, value, tag)?;
+        if stands {
+            self.exits.push(exit)?;
+        }
+        Ok(())
+    }
+
+    // Offers the labels of the connection's trip one point of the stop where it ends, unless that is bettered after the
+    // ride.
+    fn change_by(
+        &mut self,
+        asked: &Asked<C>,
+        hop: &Hop<C::V>,
+        point: &Point<C::V>,
+    ) -> Result<(), AllocError>
+        requires hop { IsHop (C.rules asked.now.criterion) asked.now.query hop.now }
+        requires trip { HasTrip (C.rules asked.now.criterion) hop.now.connection.trip self.old }
+        requires point { Admits (C.rules asked.now.criterion) point.now.value }
+        ensures trip { OnOk result
+            (ChangesTrip (C.rules asked.now.criterion) hop.now.connection.trip self.old self.new) }
+        ensures takes { OnOk result (TripTakes (C.rules asked.now.criterion) hop.now.connection.trip
+            (λ tags. only_if
+            (is_bettered (C.rules asked.now.criterion) hop.now.bound.now
+            ((C.rules asked.now.criterion).ride point.now.value) ≡ false)
+            (one_way 0 point.now.value (IsExit tags (Changes hop.now.place point.now.tag))))
+            self.old self.new) }
+    {
+        let ridden = asked.criterion.ride(&point.value);
+        if is_bettered(&asked.criterion, hop.bound, &ridden) {
+            return Ok(());
+        }
+        let exit = Exit::Changes {
+            last: hop.place,
+            step: point.tag,
+        };
+        self.offer(&asked.criterion, hop.connection.trip, point.value, exit)
+    }
+
+    // Offers the labels of the connection's trip each point of the stop where it ends that departs then or later and
+    // isn't bettered after the ride. The front from that time on is enough.
+    fn change(
+        &mut self,
+        asked: &Asked<C>,
+        hop: &Hop<C::V>,
+        stops: &Stops<C>,
+    ) -> Result<(), AllocError>
+        requires hop { IsHop (C.rules asked.now.criterion) asked.now.query hop.now }
+        requires trip { HasTrip (C.rules asked.now.criterion) hop.now.connection.trip self.old }
+        requires stop { HasStop C.rules asked.now.criterion hop.now.connection.to stops.now }
+        ensures trip { OnOk result
+            (ChangesTrip (C.rules asked.now.criterion) hop.now.connection.trip self.old self.new) }
+        ensures takes { OnOk result (TripTakes (C.rules asked.now.criterion) hop.now.connection.trip
+            (λ tags. changes_from tags hop.now.place hop.now.connection.arr
+            (carried (C.rules asked.now.criterion) hop.now.bound.now (points_at stops.now hop.now.connection.to)))
+            self.old self.new) }
+    {
+        let head = stops.head(hop.connection.to);
+        let place = stops.lists.front_from(head, hop.connection.arr);
+        for k in 0..stops.lists.front_len(place) {
+            let point = stops.lists.front_point(place, k);
+            self.change_by(asked, hop, &point)?;
+        }
+        Ok(())
+    }
+
+    // Offers the labels of the connection's trip the end, if one is at the target in time.
+    fn end(&mut self, asked: &Asked<C>, hop: &Hop<C::V>) -> Result<(), AllocError>
+        requires hop { IsHop (C.rules asked.now.criterion) asked.now.query hop.now }
+        requires trip { HasTrip (C.rules asked.now.criterion) hop.now.connection.trip self.old }
+        ensures trip { OnOk result
+            (ChangesTrip (C.rules asked.now.criterion) hop.now.connection.trip self.old self.new) }
+        ensures takes { OnOk result (TripTakes (C.rules asked.now.criterion) hop.now.connection.trip
+            (λ tags. endings (C.rules asked.now.criterion) tags hop.now.place
+            hop.now.connection asked.now.query hop.now.way)
+            self.old self.new) }
+    {
+        match end_of(&hop.connection, &asked.query, hop.way) {
+            None => Ok(()),
+            Some(end) => {
+                let value = value_at_end(&asked.criterion, end.walk, end.time);
+                let exit = Exit::Ends {
+                    last: hop.place,
+                    walk: end.walk,
+                };
+                self.offer(&asked.criterion, hop.connection.trip, value, exit)
+            },
+        }
+    }
+
+    /// Leaves a connection's trip where the connection ends, if passengers may get off there: offers its labels the
+    /// end, and the changes by the points of that stop that aren't bettered.
+    pub fn alight(
+        &mut self,
+        asked: &Asked<C>,
+        hop: &Hop<C::V>,
+        stops: &Stops<C>,
+    ) -> Result<(), AllocError>
+        requires hop { IsHop (C.rules asked.now.criterion) asked.now.query hop.now }
+        requires trip { HasTrip (C.rules asked.now.criterion) hop.now.connection.trip self.old }
+        requires stop { HasStop C.rules asked.now.criterion hop.now.connection.to stops.now }
+        ensures trip { OnOk result
+            (ChangesTrip (C.rules asked.now.criterion) hop.now.connection.trip self.old self.new) }
+        ensures takes { OnOk result (TripTakes (C.rules asked.now.criterion) hop.now.connection.trip
+            (λ tags. only_if (hop.now.connection.alight ≡ true)
+            (endings_and_changes (C.rules asked.now.criterion) tags hop.now.place
+            hop.now.connection asked.now.query hop.now.way
+            (carried (C.rules asked.now.criterion) hop.now.bound.now
+            (points_at stops.now hop.now.connection.to))))
+            self.old self.new) }
+    {
+        if !hop.connection.alight {
+            return Ok(());
+        }
+        self.end(asked, hop)?;
+        self.change(asked, hop, stops)?;
+        Ok(())
+    }
+}
+
+// How to end: the walk to the target, and when it is over.
+#[derive(Clone, Copy)]
+struct Ending {
+    walk: Option<Footpath>,
+    time: u32,
+}
+
+// How one who leaves a trip where a connection ends is at the target in time, `way` being the seconds of the footpath
+// from that stop to the target.
+fn end_of(connection: &Connection, query: &Query, way: Option<u32>) -> Option<Ending>
+    requires arrival { IsTime connection.now.arr }
+    requires secs { IfSome way (λ secs. IsSecs secs) }
+    ensures { MatchOption result ((walk : Option Footpath) → IsEnding connection.now query.now way walk → ⊥)
+        (λ end. IsEnding connection.now query.now way end.walk × (end.time ≡ connection.now.arr + start_secs end.walk)
+        × (end.time ≤ query.now.by)
+        × ((walk : Option Footpath) → IsEnding connection.now query.now way walk → walk ≡ end.walk)) }
+{
+    if connection.to == query.target {
+        if connection.arr > query.by {
+            return None;
+        }
+        return Some(Ending {
+            walk: None,
+            time: connection.arr,
+        });
+    }
+    let secs = way?;
+    let time = connection.arr + secs;
+    if time > query.by {
+        return None;
+    }
+    let walk = Footpath {
+        from: connection.to,
+        to: query.target,
+        secs,
+    };
+    Some(Ending {
+        walk: Some(walk),
+        time,
+    })
+}
+
+// The value of being over at a time, with a walk before.
+fn value_at_end<C: Criterion>(criterion: &C, walk: Option<Footpath>, time: u32) -> C::V
+    requires time { IsTime time }
+    requires secs { IfSome walk (λ f. IsSecs f.secs) }
+    ensures { result ≡ started (C.rules criterion.now) walk ((C.rules criterion.now).arrive time) }
+{
+    let value = criterion.arrive(time);
+    match walk {
+        None => value,
+        Some(walk) => criterion.walk(walk.secs, &value),
+    }
+}
