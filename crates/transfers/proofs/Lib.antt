@@ -5,6 +5,7 @@ pub mod BorderLemmas
 pub mod OrderLemmas
 pub mod WordLemmas
 pub mod MemberLemmas
+pub mod HeardLemmas
 pub mod PathLemmas
 pub mod RangeLemmas
 pub mod FinalLemmas

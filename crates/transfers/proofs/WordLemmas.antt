@@ -31,7 +31,7 @@ pub heard_refl : (a : Word) → IsHeardBefore a a
 heard_refl Never = tt
 heard_refl (Takes m) = omega arith
 
-heard_trans : (a b c : Word) → IsHeardBefore a b → IsHeardBefore b c → IsHeardBefore a c
+pub heard_trans : (a b c : Word) → IsHeardBefore a b → IsHeardBefore b c → IsHeardBefore a c
 heard_trans Never b c h k = tt
 heard_trans (Takes m) Never c h k = absurd h
 heard_trans (Takes m) (Takes n) Never h k = absurd k

@@ -2,3 +2,4 @@ pub mod Listed
 pub mod Groups
 pub mod Lookup
 pub mod Claims
+pub mod Heard

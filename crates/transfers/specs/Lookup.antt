@@ -8,6 +8,7 @@ use Rattle.gtfs_tables.specs.declared.tables.Place.TheVariants.{Stop as TheStop,
 use Rattle.transfers.specs.declared.lookup.Lookup.{Lookup}
 use Rattle.transfers.specs.declared.lookup.Known.{Known}
 use Rattle.transfers.specs.Groups.{AreGroups}
+use Rattle.transfers.specs.Heard.{HearsOnce}
 use Rattle.transfers.specs.Listed.{NamesBelow}
 
 -- the stop, or the station, that a place is
@@ -25,15 +26,19 @@ pub record IsLookup (stops : List Stop) (rows : List Transfer) (l : Lookup) : Ty
   pub into_stops : AreGroups (map (λ row. stop_named row.to) rows) l.into_stops.keys.items l.into_stops.numbers.items
   pub into_stations : AreGroups (map (λ row. station_named row.to) rows) l.into_stations.keys.items l.into_stations.numbers.items
 
--- the stops and the transfers of a feed that is known, which are looked up right
+-- the stops of a feed that is known and its transfers that are heard, which are looked up right
 abbrev pub stops_in : Known → List Stop
 stops_in known = known.feed.now.stops.items
 
 abbrev pub transfers_in : Known → List Transfer
-transfers_in known = known.feed.now.transfers.items
+transfers_in known = known.lookup.now.transfers.items
 
 abbrev pub IsKnown : Known → Type 0
 IsKnown known = IsLookup (stops_in known) (transfers_in known) known.lookup.now
+
+-- and those say all that counts
+abbrev pub IsHeard : Known → Type 0
+IsHeard known = HearsOnce known.feed.now.transfers.items (transfers_in known)
 
 -- the number is above those of all stops that the feed has or its transfers name
 pub record EndsBelow (feed : Feed) (end : ℕ) : Type 0 where

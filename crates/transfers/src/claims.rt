@@ -74,7 +74,7 @@ fn given_or(given: Option<u32>, secs: u32) -> u32
 }
 
 // What a transfer says of a pair of stops that it stands for, where it says something.
-fn word_of(row: &Transfer, is_loop: bool) -> Option<Word>
+pub(crate) fn word_of(row: &Transfer, is_loop: bool) -> Option<Word>
     ensures { result ≡ word_of row.now is_loop }
 {
     match row.kind {
@@ -168,7 +168,7 @@ impl Claims {
         ensures room { OnOk result (length self.new.made.items + self.new.room ≤ length self.old.made.items + self.old.room) }
         ensures adds { OnOk result (Adds self.old.made.items self.new.made.items (IsNumberedClaim (stops_in known.now) (transfers_in known.now) to number)) }
     {
-        match known.feed.transfers.get(number as usize) {
+        match known.lookup.transfers.get(number as usize) {
             Some(row) => {
                 let froms = known.lookup.stood_for(&row.from);
                 take_room(&mut self.room, froms.len())?;

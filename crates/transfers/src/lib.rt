@@ -4,6 +4,8 @@
 mod claims;
 mod fault;
 mod groups;
+mod heard;
+pub mod laws;
 mod listing;
 mod lookup;
 

@@ -4,7 +4,7 @@ ghost use Rattle.std.specs.Prelude.{◌≡◌, ◌<◌, ◌≤◌, ◌++◌, ◌
 ghost use Rattle.timetable.specs.Legal.{AreInOrder};
 ghost use Rattle.transfers.specs.Listed.{AreAllListed, AreListed, LeadBelow, ListsMore, ListsMoreBelow};
 ghost use Rattle.transfers.specs.Claims.{AreSorted, IsFirstAt, ArePathsBelow, path_of};
-ghost use Rattle.transfers.specs.Lookup.{IsKnown};
+ghost use Rattle.transfers.specs.Lookup.{IsHeard, IsKnown};
 ghost use Rattle.transfers.specs.declared.fault.ListingFault.TheVariants.{TooMany};
 
 use crate::claims::{Claim, Claims, Word};
@@ -78,7 +78,8 @@ fn add_ways(
     to: u32,
     room: &mut usize,
 ) -> Result<(), AllocError>
-    requires { IsKnown known.now }
+    requires lookup { IsKnown known.now }
+    requires heard { IsHeard known.now }
     ensures room { OnOk result (length paths.new.items + room.new ≤ length paths.old.items + room.old) }
     ensures listed { AreListed known.now.feed.now (LeadBelow to) paths.old.items
         → OnOk result (AreListed known.now.feed.now (LeadBelow (to + 1)) paths.new.items) }
@@ -104,6 +105,7 @@ fn add_within(
     room: &mut usize,
 ) -> Result<(), ListingFault>
     requires lookup { IsKnown known.now }
+    requires heard { IsHeard known.now }
     requires before { AreListed known.now.feed.now (LeadBelow to) paths.old.items }
     ensures listed { OnOk result (AreListed known.now.feed.now (LeadBelow (to + 1)) paths.new.items) }
     ensures few { OnOk result (length paths.new.items ≤ most) }
@@ -127,6 +129,7 @@ fn paths_below(
     room: usize,
 ) -> Result<Vec<Footpath>, ListingFault>
     requires lookup { IsKnown known.now }
+    requires heard { IsHeard known.now }
     requires small { end ≤ 2 ^ 32 }
     ensures listed { IfOk result (λ v. AreListed known.now.feed.now (LeadBelow end) v.items) }
     ensures few { IfOk result (λ v. length v.items ≤ most) }

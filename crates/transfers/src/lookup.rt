@@ -4,10 +4,12 @@ ghost use Rattle.std.specs.Prelude.{◌≡◌, ◌<◌, ◌≤◌, ◌+◌, ◌^
 ghost use Rattle.gtfs_tables.specs.declared.tables.Stop.{Stop as TheStop};
 ghost use Rattle.gtfs_tables.specs.declared.tables.Transfer.{Transfer as TheTransfer};
 ghost use Rattle.transfers.specs.Claims.{AreStoodFor, AreChildren};
+ghost use Rattle.transfers.specs.Heard.{HearsOnce};
 ghost use Rattle.transfers.specs.Listed.{NamesBelow};
 ghost use Rattle.transfers.specs.Lookup.{IsLookup, EndsBelow, stop_named, station_named};
 
 use crate::groups::Groups;
+use crate::heard::heard_once;
 use gtfs_tables::{Feed, Place, Stop, Transfer};
 use std::alloc::{AllocError, Global};
 use std::slice;
@@ -15,6 +17,8 @@ use std::slice;
 /// What a feed's stops and transfers are looked up by.
 #[derive(Drop)]
 pub(crate) struct Lookup {
+    /// The feed's transfers without those that say nothing that counts.
+    pub transfers: Vec<Transfer>,
     /// The stops by their stations.
     pub children: Groups,
     /// The transfers that lead to stops themselves, by these.
@@ -81,13 +85,16 @@ fn ends_named(
 impl Lookup {
     /// Brings a feed's stops and transfers into order.
     pub fn new(alloc: Global, feed: &Feed) -> Result<Lookup, AllocError>
-        ensures { IfOk result (IsLookup feed.now.stops.items feed.now.transfers.items) }
+        ensures lookup { IfOk result (λ l. IsLookup feed.now.stops.items l.transfers.items l) }
+        ensures heard { IfOk result (λ l. HearsOnce feed.now.transfers.items l.transfers.items) }
     {
+        let transfers = heard_once(alloc, &feed.transfers)?;
         let children = Groups::new(alloc, &stations(alloc, &feed.stops)?)?;
-        let (stops, stations) = ends_named(alloc, &feed.transfers)?;
+        let (stops, stations) = ends_named(alloc, &transfers)?;
         let into_stops = Groups::new(alloc, &stops)?;
         let into_stations = Groups::new(alloc, &stations)?;
         Ok(Lookup {
+            transfers,
             children,
             into_stops,
             into_stations,

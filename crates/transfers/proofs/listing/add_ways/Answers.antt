@@ -1,4 +1,4 @@
-use Rattle.std.proofs.Common.{◌≡◌, ◌↔◌, ◌+◌, ◌++◌, List, Contains, sym, subst, OnOk, rules}
+use Rattle.std.proofs.Common.{◌≡◌, ◌↔◌, ◌+◌, ◌++◌, List, Contains, refl, sym, subst, OnOk, rules}
 use Rattle.std.proofs.lemmas.Result.{on_ok_weaker}
 use Rattle.timetable.specs.declared.network.Footpath.{Footpath}
 use Rattle.transfers.specs.declared.claims.Claim.{Claim}
@@ -6,7 +6,9 @@ use Rattle.transfers.specs.Claims.{AreSorted, IsClaimInto}
 use Rattle.transfers.specs.Listed.{AreListed, LeadBelow}
 use Rattle.transfers.proofs.OrderLemmas.{sorted_claims}
 use Rattle.transfers.proofs.FinalLemmas.{moved_claims, ways_listed}
+use Rattle.transfers.proofs.HeardLemmas.{same_listed}
 use Rattle.transfers.proofs.ListedLemmas.{listed_next}
+use Rattle.gtfs_tables.specs.declared.tables.Feed.{Feed}
 use Rattle.transfers.proofs.listing.add_ways.Goals as goal
 
 pub paths_of-requires : goal.paths_of-requires
@@ -16,7 +18,8 @@ paths_of-requires c =
 pub returns-clause-listed : goal.returns-clause-listed
 returns-clause-listed c = λ before.
     let stops = c.args.known.now.feed.now.stops.items in
-    let rows = c.args.known.now.feed.now.transfers.items in
+    let rows = c.args.known.now.lookup.now.transfers.items in
+    let heard : Feed = record (c.args.known.now.feed.now) { transfers = c.args.known.now.lookup.now.transfers } in
     let claims = c.deref.result.now in
     let sorted : AreSorted claims = subst
     (λ (claims : List Claim). AreSorted claims) (sym c.deref.ensures.value) (sorted_claims c.sort.new.self.items c.in_ok-sort.ensures.sorted) in
@@ -25,7 +28,7 @@ returns-clause-listed c = λ before.
     (moved_claims c.new.result.items c.add_ways.new.self.made.items c.sort.new.self.items
     (IsClaimInto stops rows c.args.to) c.new.ensures.items c.in_ok-add_ways.ensures.adds c.in_ok-sort.ensures.permutation x) in
     let ways : AreListed c.args.known.now.feed.now (λ a b. b ≡ c.args.to) c.in_ok-ways.ways.items =
-    ways_listed c.args.known.now.feed.now c.args.to claims c.in_ok-ways.ways.items sorted all c.in_ok-ways.ensures.paths c.in_ok-ways.ensures.order in
+    same_listed c.args.known.now.feed.now heard refl c.requires.heard (λ a b. b ≡ c.args.to) c.in_ok-ways.ways.items (ways_listed heard c.args.to claims c.in_ok-ways.ways.items sorted all c.in_ok-ways.ensures.paths c.in_ok-ways.ensures.order) in
     let next : AreListed c.args.known.now.feed.now (LeadBelow (c.args.to + 1))
     (c.args.paths.now.items ++ c.in_ok-ways.ways.items) = listed_next c.args.known.now.feed.now c.args.to c.args.paths.now.items c.in_ok-ways.ways.items before
     ways in

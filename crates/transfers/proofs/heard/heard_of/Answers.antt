@@ -1,0 +1,17 @@
+use Rattle.std.proofs.Common.{arith, sym, subst, List, take, ap, ◌≡◌}
+use Rattle.std.proofs.lemmas.List.{take_all}
+use Rattle.gtfs_tables.specs.declared.tables.Transfer.{Transfer}
+use Rattle.transfers.specs.Heard.{HearsOnce}
+use Rattle.transfers.proofs.HeardLemmas.{hears_none, hears_more}
+use Rattle.transfers.proofs.heard.heard_of.Goals as goal
+
+pub loop-row-init : goal.loop-row-init
+loop-row-init c = subst (λ (ts : List Transfer). HearsOnce (take 0 c.args.rows.now) ts) (sym c.new-kept.ensures.items) (hears_none c.args.rows.now)
+
+pub loop-row-preserved : goal.loop-row-preserved
+loop-row-preserved c = hears_more c.args.rows.now c.loop-row.row-index _ c.loop-row.kept.items c.hear.new.kept.items (omega arith)
+    c.loop-row.invariant c.in_ok-hear.ensures
+
+pub returns : goal.returns
+returns c = subst (λ (ts : List Transfer). HearsOnce ts c.loop-row.kept.items) (take_all c.loop-row.row-index c.args.rows.now (omega arith))
+    c.loop-row.invariant

@@ -1,0 +1,108 @@
+//! The transfers of a feed, of which what those between the same two places say is heard once.
+
+ghost use Rattle.std.specs.Prelude.{◌≡◌, true, IfOk, OnOk};
+ghost use Rattle.transfers.specs.Claims.{IsHeardBefore};
+ghost use Rattle.transfers.specs.Heard.{HearsOnce, IsHeardIn, KeepsWhatSays, SaysFirst};
+
+use crate::claims::{Word, word_of};
+use gtfs_tables::{Place, Transfer};
+use std::alloc::{AllocError, Global};
+
+// A place, in an order.
+#[derive(Clone, Copy, Debug, PartialEq, Eq, PartialOrd, Ord)]
+enum End {
+    Stop(u32),
+    Station(u32),
+}
+
+// The places of a transfer, and what it says between two stops and at one: transfers in this order stand together by their places,
+// and of those of the same two places the ones that count come first.
+#[derive(Clone, Copy, Debug, PartialEq, Eq, PartialOrd, Ord)]
+struct Turn {
+    to: End,
+    from: End,
+    apart: Option<Word>,
+    at_one: Option<Word>,
+}
+
+fn end_of(place: &Place) -> End {
+    match place {
+        Place::Stop(stop) => End::Stop(*stop),
+        Place::Station(station) => End::Station(*station),
+    }
+}
+
+fn turn_of(row: &Transfer) -> Turn {
+    Turn {
+        to: end_of(&row.to),
+        from: end_of(&row.from),
+        apart: word_of(row, false),
+        at_one: word_of(row, true),
+    }
+}
+
+// Whether a word counts before another, or is the same.
+fn is_heard_before(word: Word, other: Word) -> bool
+    ensures { result ≡ true → IsHeardBefore word other }
+{
+    match (word, other) {
+        (Word::Never, _) => true,
+        (Word::Takes(_), Word::Never) => false,
+        (Word::Takes(secs), Word::Takes(other)) => secs <= other,
+    }
+}
+
+// Whether nothing is said that doesn't count after what is said before it, or is the same.
+fn is_heard_in(said: Option<Word>, other: Option<Word>) -> bool
+    ensures { result ≡ true → IsHeardIn said other }
+{
+    match (said, other) {
+        (_, None) => true,
+        (None, Some(_)) => false,
+        (Some(word), Some(other)) => is_heard_before(word, other),
+    }
+}
+
+// Whether a transfer has the places of another and says all that counts of what the other says.
+fn says_first(before: &Transfer, row: &Transfer) -> bool
+    ensures { result ≡ true → SaysFirst before.now row.now }
+{
+    before.from == row.from
+        && before.to == row.to
+        && is_heard_in(word_of(before, false), word_of(row, false))
+        && is_heard_in(word_of(before, true), word_of(row, true))
+}
+
+// Adds a transfer, unless the last one says all that counts of it.
+fn hear(kept: &mut Vec<Transfer>, row: &Transfer) -> Result<(), AllocError>
+    ensures { OnOk result (KeepsWhatSays kept.old.items kept.new.items row.now) }
+{
+    if let Some(last) = kept.last() {
+        if says_first(last, row) {
+            return Ok(());
+        }
+    }
+    kept.push(*row)?;
+    Ok(())
+}
+
+/// The transfers without those that say nothing that counts beside others of the same two places: at most three are left of these.
+pub(crate) fn heard_once(alloc: Global, rows: &[Transfer]) -> Result<Vec<Transfer>, AllocError>
+    ensures { IfOk result (λ kept. HearsOnce rows.now kept.items) }
+{
+    let mut sorted = Vec::with_capacity(alloc, rows.len())?;
+    sorted.extend_from_slice(rows)?;
+    sorted.sort_by_key(|row| turn_of(row))?;
+    heard_of(alloc, &sorted)
+}
+
+// The transfers of a list without those of which the one kept before them says all that counts.
+fn heard_of(alloc: Global, rows: &[Transfer]) -> Result<Vec<Transfer>, AllocError>
+    ensures { IfOk result (λ kept. HearsOnce rows.now kept.items) }
+{
+    let mut kept = Vec::new(alloc);
+    for row in rows {
+        hear(&mut kept, row)?;
+    }
+    Ok(kept)
+}
