@@ -3,7 +3,7 @@ use Rattle.std.proofs.Common.{◌≡◌, ◌⊎◌, ℕ, List, [], ◌∷◌, �
 use Rattle.image_layout.specs.Image.{ImageValue}
 use Rattle.epochs.specs.declared.seats.Answer.{Answer}
 use Rattle.epochs.specs.declared.faults.PinFault.{PinFault}
-use Rattle.epochs.specs.Pins.{HoldsInHistory}
+use Rattle.session.specs.SeatSteps.{HoldsInSome}
 use Rattle.epochs.specs.Seats.{SeatValue, PinStep, ReleaseStep}
 use Rattle.session_texts.specs.Replies.{pin_text, release_text}
 use Rattle.session_texts.specs.Requests.{AskValue, pin, release, profile}
@@ -14,7 +14,7 @@ use Rattle.session.specs.Turns.{IsMet, ProfileIsMet, ProfileIsMetOnce, PinIsMet,
 use Rattle.session.proofs.SeatLemmas.{is_pinned, is_released, pins_once, some_is_held}
 
 -- a pin is told
-pub pin_met : (number : ℕ) (a m : SeatValue) (v : ℕ) (image : ImageValue) (reply : List ℕ) → PinStep a (Ok tt) m → HoldsInHistory number m.held → m.held ≡ Some (v, image)
+pub pin_met : (number : ℕ) (a m : SeatValue) (v : ℕ) (image : ImageValue) (reply : List ℕ) → PinStep a (Ok tt) m → HoldsInSome number m.held → m.held ≡ Some (v, image)
     → reply ≡ pin_text image.names.base v ++ 10 ∷ [] → IsMet number a (asks pin) reply m
 pin_met number a m v image reply step known held told =
     let pinned = is_pinned number a m v image step known held in
@@ -33,7 +33,7 @@ pin_refused number a b fault reply step told =
 
 -- where memory is wanting, what was pinned is given back
 given_back : (number : ℕ) (asked : Asked) (a m b : SeatValue) (v : ℕ) (image : ImageValue) (r : Result (Unit {0}) PinFault)
-    (reply : List ℕ) → PinStep a (Ok tt) m → HoldsInHistory number m.held → m.held ≡ Some (v, image)
+    (reply : List ℕ) → PinStep a (Ok tt) m → HoldsInSome number m.held → m.held ≡ Some (v, image)
     → ReleaseStep m r b → reply ≡ memory_line → IsMet number a asked reply b
 given_back number asked a m b v image r reply step known held back told =
     let pinned = is_pinned number a m v image step known held in
@@ -47,7 +47,7 @@ given_back number asked a m b v image r reply step known held back told =
 
 -- a pin that can't be told
 pub pin_given_back : (number : ℕ) (a m b : SeatValue) (v : ℕ) (image : ImageValue) (r : Result (Unit {0}) PinFault) (reply : List ℕ)
-    → PinStep a (Ok tt) m → HoldsInHistory number m.held → m.held ≡ Some (v, image)
+    → PinStep a (Ok tt) m → HoldsInSome number m.held → m.held ≡ Some (v, image)
     → ReleaseStep m r b → reply ≡ memory_line → IsMet number a (asks pin) reply b
 pin_given_back number a m b v image r reply step known held back told = given_back number (asks pin) a m b v image r reply step known held back told
 
@@ -76,7 +76,7 @@ profile_met number a v image ask reply held (inl told) =
 profile_met number a v image ask reply held (inr memory) = record { moves = []; meets = inl (memory, refl, inl refl); seat = refl }
 
 -- and from a version that is pinned for it
-pub profile_met_once : (number : ℕ) (a m b : SeatValue) (v : ℕ) (image : ImageValue) (r : Result (Unit {0}) PinFault) (ask : AskValue) (reply : List ℕ) → PinStep a (Ok tt) m → HoldsInHistory number m.held
+pub profile_met_once : (number : ℕ) (a m b : SeatValue) (v : ℕ) (image : ImageValue) (r : Result (Unit {0}) PinFault) (ask : AskValue) (reply : List ℕ) → PinStep a (Ok tt) m → HoldsInSome number m.held
     → m.held ≡ Some (v, image) → ReleaseStep m r b → (IsProfileReply image v ask reply ⊎ (reply ≡ memory_line)) → IsMet number a (asks (profile ask)) reply b
 profile_met_once number a m b v image r ask reply step known held back (inl told) =
     let pinned = is_pinned number a m v image step known held in
