@@ -3,6 +3,7 @@ use Rattle.std.proofs.Common.{◌≡◌, ℕ, zero, suc, ◌≤◌, max, [], Som
 use Rattle.version_core.specs.declared.state.Worker.{Worker}
 use Rattle.shelf_steps.specs.declared.edition.Edition.{Edition}
 use Rattle.shelf_steps.specs.declared.views.LoaderView.{LoaderView}
+use Rattle.shelf_steps.specs.declared.views.Known.{Known}
 use Rattle.shelf_steps.specs.declared.views.View.{View}
 use Rattle.shelf_steps.specs.Plays.{OfWorker, Mine, IsSettled, IsLoading, joins_notice, with_note, gives_notice, new_notice}
 use Rattle.epochs.specs.declared.faults.PinFault.{PinFault}
@@ -11,7 +12,9 @@ use Rattle.std.specs.Arc.{arc_value}
 use Rattle.image_layout.specs.Image.{ImageValue}
 use Rattle.epochs.specs.SeatLaws.{SeatStep, SeatSteps, GivesFrom, JoinedVersionsStay, PinsSo, SeatCall, SeatCalls, AnswersFrom, JoinedVersionsStayAtShelves}
 use Rattle.epochs.specs.ShelfSeats.{ShelfSeatValue, FitsSeat, seen_of}
+use Rattle.epochs.specs.SeatHistory.{HoldsIn}
 use Rattle.epochs.specs.ShelfLoads.{Rests, RestsHere}
+use Rattle.epochs.proofs.GrowthLemmas.{join_knows}
 use Rattle.version_core.specs.declared.state.Shelf.{Shelf}
 use Rattle.std.proofs.Common.{List}
 
@@ -50,7 +53,11 @@ holding_joined number shelf n e View.Spent h = absurd h
 
 joined_so : (number n : ℕ) (held : Option (ℕ × Edition)) (m : Mine) → FitsSeat number held m → FitsSeat number held (joins_notice m.0 (View.Noting n), m.1)
 joined_so number n None m h = (idle_joined number n m.0 h.0, h.1)
-joined_so number n (Some x) m h = (h.0, (holding_joined number x.0 n x.1 m.0 h.1.0, h.1.1))
+joined_so number n (Some x) m h = (
+  h.0,
+  (holding_joined number x.0 n x.1 m.0 h.1.0, h.1.1),
+  subst (λ (k : Known). HoldsIn k number x.1.version (arc_value x.1.image)) (sym (join_knows m.0 n)) h.2,
+)
 
 -- and is then what it was, but for what it has seen
 pub seat_joined : (number n : ℕ) (held : Option (ℕ × Edition)) (m notice m' : Mine) → FitsSeat number held m → notice ≡ (View.Noting n, [])

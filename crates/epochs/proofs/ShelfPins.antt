@@ -11,7 +11,8 @@ use Rattle.shelf_steps.specs.Pinning.{Late, Lates, Well, Pins, Moves, Releases, 
 use Rattle.std.specs.declared.snapshot.Snapshot.{Snapshot}
 use Rattle.epochs.specs.declared.seats.Answer.{Answer}
 use Rattle.epochs.specs.Seats.{SeatValue, pinned}
-use Rattle.epochs.specs.Pins.{HoldsInHistory}
+use Rattle.epochs.specs.SeatHistory.{HoldsIn}
+use Rattle.shelf_steps.specs.Events.{known_of}
 use Rattle.shelf_steps.specs.Course.{image_of}
 use Rattle.atomic_table.specs.Seated.{TableId}
 use mathlib.Core.Logic.{dite}
@@ -53,10 +54,10 @@ releases_seen (View.Working a) (View.Working b) h = h.seen
 releases_seen (View.Working a) _ h = absurd h
 releases_seen _ u' h = absurd h
 
-well_holds : (u : View) (m : Mine) (number n shelf : ℕ) (e : Edition) → Well u n shelf e m.0 → IsHoldingAs number shelf e m → e.version ≡ n → HoldsInHistory number (Some (e.version, arc_value e.image))
+well_holds : (u : View) (m : Mine) (number n shelf : ℕ) (e : Edition) → Well u n shelf e m.0 → IsHoldingAs number shelf e m → e.version ≡ n → HoldsIn (known_of m.0) number e.version (arc_value e.image)
 well_holds u m number n shelf e h is same = of_view u m.0 h is.0
   where
-    of_view : (u u' : View) → Well u n shelf e u' → OfWorker u' (λ a. (a.now ≡ Worker.Holding shelf e.version) × (a.number ≡ number) × (a.edition ≡ Some e)) → HoldsInHistory number (Some (e.version, arc_value e.image))
+    of_view : (u u' : View) → Well u n shelf e u' → OfWorker u' (λ a. (a.now ≡ Worker.Holding shelf e.version) × (a.number ≡ number) × (a.edition ≡ Some e)) → HoldsIn (known_of u') number e.version (arc_value e.image)
     of_view (View.Loading l) u' h is = absurd h
     of_view (View.Noting x') u' h is = absurd h
     of_view View.Spent u' h is = absurd h
@@ -68,17 +69,14 @@ well_holds u m number n shelf e h is same = of_view u m.0 h is.0
         let its = h.its in
         let same_edition : Some e ≡ Some its.0 = its.1 in let is_it : e ≡ its.0 = cc in
         record {
-          table = record { state = s; events = b.known.events; images = b.known.images };
+          state = s;
           shelf = shelf;
-          version = e.version;
-          image = arc_value e.image;
-          history = record { run = record { replies = b.known.replies; run = goes.run }; as_many = goes.as_many; numbered = goes.numbered };
+          history = goes;
           holds = subst (λ m. slice_get s.workers m ≡ Some b.now) is.1 shows.now ∙ ap (λ (w : Worker). Some w) is.0;
           published = ap (λ m. image_of b.known.images m) same ∙ (its.3 ∙ ap (λ (x : Edition). Some (arc_value x.image)) (sym is_it));
-          held_is = refl;
         }
 
-pub pins_hold : (u : View) (m : Mine) (number shelf : ℕ) (e : Edition) → Pins u e.version shelf e m.0 → IsHoldingAs number shelf e m → HoldsInHistory number (Some (e.version, arc_value e.image))
+pub pins_hold : (u : View) (m : Mine) (number shelf : ℕ) (e : Edition) → Pins u e.version shelf e m.0 → IsHoldingAs number shelf e m → HoldsIn (known_of m.0) number e.version (arc_value e.image)
 pins_hold u m number shelf e h is = well_holds h.2 m number e.version shelf e h.4 is refl
 
 -- what a seat shows after a pin

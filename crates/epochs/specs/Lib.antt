@@ -1,6 +1,7 @@
 pub mod FaultNumber
 pub mod Seats
 pub mod History
+pub mod SeatHistory
 pub mod Pins
 pub mod Publishing
 pub mod Locked

@@ -6,7 +6,7 @@ use Rattle.epochs.specs.declared.faults.PinFault.{PinFault}
 use Rattle.epochs.specs.declared.faults.PublishFault.{PublishFault}
 use Rattle.epochs.specs.Seats.{WorkerSeatValue}
 use Rattle.epochs.specs.History.{TableValue, IsHistory}
-use Rattle.epochs.specs.Pins.{Pins, RefusesPin, Releases, RefusesRelease}
+use Rattle.epochs.specs.Pins.{HoldsAt, Pins, RefusesPin, Releases, RefusesRelease}
 use Rattle.epochs.specs.Publishing.{MakesRoom, Publishes, RefusesPublish}
 
 -- the table is where its history leads
@@ -21,9 +21,9 @@ pub record UnderLock (step : TableValue → TableValue → Type 0) : Type 0 wher
   pub history_after : HasHistory after
   pub is_step : step before after
 
--- a pin with this result makes of the table and the seat another table and seat
+-- a pin with this result makes of the table and the seat another table and seat: there the worker holds what the seat holds
 abbrev pub PinsAt : TableValue → WorkerSeatValue → Result (Unit {0}) PinFault → TableValue → WorkerSeatValue → Type 0
-PinsAt a seat (Ok u) b after = Pins a seat b after
+PinsAt a seat (Ok u) b after = Pins a seat b after × HoldsAt b after.number after.shown.held
 PinsAt a seat (Err fault) b after = RefusesPin a.state seat fault × (b ≡ a) × (after.worker ≡ seat.worker)
 
 -- and so a release

@@ -9,6 +9,8 @@ use Rattle.shelf_steps.specs.Plays.{Mine, newcomer, joins_notice}
 use Rattle.shelf_steps.specs.Pinning.{Pins, Moves, Releases, IsIdleAs, IsHoldingAs}
 use Rattle.epochs.specs.declared.faults.PinFault.{PinFault}
 use Rattle.epochs.specs.Seats.{SeatValue}
+use Rattle.epochs.specs.SeatHistory.{HoldsIn}
+use Rattle.shelf_steps.specs.Events.{known_of}
 
 -- the shelves that the seat is at, the number of its worker, what it knows, and what it shows
 pub record ShelfSeatValue : Type 0 where
@@ -26,10 +28,10 @@ abbrev pub held_at : Option (ℕ × Edition) → Option (ℕ × ImageValue)
 held_at None = None
 held_at (Some h) = Some (h.1.version, arc_value h.1.image)
 
--- an idle worker's seat, or one that holds the shelf with the edition in hand
+-- an idle worker's seat, or one that holds the shelf with the edition in hand, which its history published
 abbrev pub FitsSeat : ℕ → Option (ℕ × Edition) → Mine → Type 0
 FitsSeat number None m = IsIdleAs number m
-FitsSeat number (Some h) m = (h.0 < 8) × IsHoldingAs number h.0 h.1 m
+FitsSeat number (Some h) m = (h.0 < 8) × IsHoldingAs number h.0 h.1 m × HoldsIn (known_of m.0) number h.1.version (arc_value h.1.image)
 
 -- one to four looks that rise, of which the last found the version that is held; or four that rise, each followed by a take that came late and a drop; or nothing, where the seat held a version. No other fault comes
 abbrev pub PinsBySteps : ShelfSeatValue → Result (Unit {0}) PinFault → ShelfSeatValue → Type 0

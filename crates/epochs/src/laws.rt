@@ -1,6 +1,7 @@
 //! Laws over what seats do to a table. The functions do nothing: their contracts are the laws.
 
 ghost use Rattle.epochs.specs.SeatLaws.{NewSeatsFit, PinsLeaveOthers, ReleasesLeaveOthers, PublishesLeaveSeats, CollectsLeaveSeats};
+ghost use Rattle.epochs.specs.SeatHistory.{GrowthsJoin, OneImageEach, PublishedStay};
 ghost use Rattle.epochs.specs.SeatLaws.{PinsHoldPublished, CallsKeepPublished, JoinedVersionsStay, JoinedVersionsStayAtShelves};
 
 /// A new seat fits a new table, and what others do leaves it so. After its own pins and releases it fits by their contracts.
@@ -17,6 +18,13 @@ pub fn seats_keep_fitting()
 pub fn held_images_stay_published()
     ensures held { PinsHoldPublished }
     ensures keep { CallsKeepPublished }
+{}
+
+/// In what one seat comes to know, from its first call to its last, a version has one image.
+pub fn versions_have_one_image()
+    ensures one { OneImageEach }
+    ensures stay { PublishedStay }
+    ensures join { GrowthsJoin }
 {}
 
 /// Once a seat has taken in a notice of a version, each of its pins that isn't refused since it holds one already gives that

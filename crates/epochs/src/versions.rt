@@ -1,9 +1,10 @@
 //! What a session needs of shelves, and what a loader does.
 
-ghost use Rattle.std.specs.Prelude.{◌≡◌, ℕ, List, None, Some, MatchOption, MatchResult, IfErr, IfOk, IfSome, OnOk};
+ghost use Rattle.std.specs.Prelude.{◌≡◌, ◌+◌, ℕ, List, None, Some, MatchOption, MatchResult, IfErr, IfOk, IfSome};
 ghost use Rattle.std.specs.Arc.{arc_value};
 ghost use Rattle.epochs.specs.Seats.{SeatValue, PinStep, ReleaseStep, JoinStep, PublishStep, RefuseStep, CollectStep};
-ghost use Rattle.epochs.specs.Pins.{HoldsInHistory};
+ghost use Rattle.epochs.specs.SeatHistory.{Grows, HoldsAsKnown};
+ghost use Rattle.shelf_steps.specs.declared.views.Known.{Known};
 ghost use Rattle.epochs.specs.declared.seats.LoaderAnswer.{LoaderAnswer};
 
 use crate::collected::Collected;
@@ -29,6 +30,9 @@ pub trait Versions {
     // The number of the seat's worker.
     ghost number: { Self.Seat → ℕ };
 
+    // What the seat knows of the one history of its shelves: a beginning of it, which only grows.
+    ghost known: { Self.Seat → Known };
+
     // The version that the notice is of.
     ghost noted: { Self.Notice → ℕ };
 
@@ -38,25 +42,29 @@ pub trait Versions {
         ensures fits { fits self.now seat.new }
         ensures number { number seat.new ≡ number seat.old }
         ensures pin { PinStep (value seat.old) result (value seat.new) }
-        ensures known { OnOk result (HoldsInHistory (number seat.new) (value seat.new).held) };
+        ensures known { HoldsAsKnown (known seat.new) (number seat.new) (value seat.new).held }
+        ensures grows { Grows (known seat.old) (known seat.new) };
 
-    /// The version that the seat holds, with its image.
+    /// The version that the seat holds, with its image: the one that the history published as that version.
     fn edition(seat: &Self::Seat) -> Option<&Edition>
-        ensures { MatchOption result ((value seat.now).held ≡ None) (λ e. (value seat.now).held ≡ Some (e.now.version, arc_value e.now.image)) };
+        ensures known { HoldsAsKnown (known seat.now) (number seat.now) (value seat.now).held }
+        ensures lent { MatchOption result ((value seat.now).held ≡ None) (λ e. (value seat.now).held ≡ Some (e.now.version, arc_value e.now.image)) };
 
     /// Gives back what the seat holds.
     fn release<R: Wait>(&self, rt: &R, seat: &mut Self::Seat) -> Result<(), PinFault>
         requires { fits self.now seat.old }
         ensures fits { fits self.now seat.new }
         ensures number { number seat.new ≡ number seat.old }
-        ensures release { ReleaseStep (value seat.old) result (value seat.new) };
+        ensures release { ReleaseStep (value seat.old) result (value seat.new) }
+        ensures grows { Grows (known seat.old) (known seat.new) };
 
     /// The seat has seen the notice's version from now on.
     fn join<R: Wait>(&self, rt: &R, seat: &mut Self::Seat, notice: Self::Notice)
         requires { fits self.now seat.old }
         ensures fits { fits self.now seat.new }
         ensures number { number seat.new ≡ number seat.old }
-        ensures join { JoinStep (value seat.old) (noted notice) (value seat.new) };
+        ensures join { JoinStep (value seat.old) (noted notice) (value seat.new) }
+        ensures grows { Grows (known seat.old) (known seat.new) };
 
     /// The version that the notice is of.
     fn version_of(notice: &Self::Notice) -> u64
@@ -73,6 +81,9 @@ pub trait Loads: Versions {
     // What the loader's seat was answered so far.
     ghost answers: { Self.Loader → List LoaderAnswer };
 
+    // The version that it published last, which is current.
+    ghost current: { Self.Loader → ℕ };
+
     /// Publishes the image as the next version, and gives a notice of it. A refusal gives the image back. No notice comes only
     /// where there was no memory for one.
     fn publish<R: Wait>(
@@ -84,6 +95,8 @@ pub trait Loads: Versions {
         requires { loads self.now loader.old }
         ensures loads { loads self.now loader.new }
         ensures back { IfErr result (λ e. e.0 ≡ image) }
+        ensures current { MatchResult result (λ r. current loader.new ≡ r.0) (λ _. current loader.new ≡ current loader.old) }
+        ensures next { IfOk result (λ r. r.0 ≡ current loader.old + 1) }
         ensures loader { MatchResult result (λ r. PublishStep (answers loader.old) (arc_value image) r.0 (answers loader.new)) (λ e. RefuseStep (answers loader.old) e.1 (answers loader.new)) }
         ensures notice { IfOk result (λ r. IfSome r.1 (λ n. Self.Versions.noted n ≡ r.0)) };
 
@@ -91,5 +104,6 @@ pub trait Loads: Versions {
     fn collect<R: Wait>(&self, rt: &R, loader: &mut Self::Loader) -> Collected
         requires { loads self.now loader.old }
         ensures loads { loads self.now loader.new }
+        ensures current { current loader.new ≡ current loader.old }
         ensures loader { CollectStep (answers loader.old) result (answers loader.new) };
 }

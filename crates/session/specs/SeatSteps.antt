@@ -1,10 +1,11 @@
 -- What is done at a seat, and what it makes of the seat.
-use Rattle.std.specs.Prelude.{◌≡◌, ◌≤◌, ℕ, max, List, [], ◌∷◌, Some, None, Ok, Err}
+use Rattle.std.specs.Prelude.{◌≡◌, ◌≤◌, ℕ, max, List, [], ◌∷◌, Option, Some, None, Ok, Err}
 use Rattle.std.specs.declared.snapshot.Snapshot.{Snapshot}
 use Rattle.image_layout.specs.Image.{ImageValue}
+use Rattle.shelf_steps.specs.declared.views.Known.{Known}
 use Rattle.epochs.specs.declared.seats.Answer.{Answer}
 use Rattle.epochs.specs.declared.faults.PinFault.{PinFault}
-use Rattle.epochs.specs.Pins.{HoldsInHistory}
+use Rattle.epochs.specs.SeatHistory.{HoldsAsKnown}
 use Rattle.epochs.specs.Seats.{SeatValue, PinStep, ReleaseStep, JoinStep, pinned}
 
 -- a call is answered, or a notice of this version is joined
@@ -12,11 +13,15 @@ pub data SeatMove : Type 0 where
   answered : Answer → SeatMove
   joined : ℕ → SeatMove
 
+-- in some history of versions the worker with this number holds this
+abbrev pub HoldsInSome : ℕ → Option (ℕ × ImageValue) → Type 0
+HoldsInSome number held = (known : Known) × HoldsAsKnown known number held
+
 -- from one value of a worker's seat to the next, by one answer. What is pinned is the image that was published as that version, in a
 -- history of versions in which this worker holds it
 abbrev pub AnswerStep : ℕ → SeatValue → Answer → SeatValue → Type 0
 AnswerStep number a (Answer.Pinned version image) b =
-    (a.held ≡ None) × (a.seen ≤ version) × (b ≡ pinned a version image) × HoldsInHistory number (Some (version, image.value))
+    (a.held ≡ None) × (a.seen ≤ version) × (b ≡ pinned a version image) × HoldsInSome number (Some (version, image.value))
 AnswerStep number a (Answer.PinRefused fault) b = PinStep a (Err fault) b
 AnswerStep number a Answer.Released b = ReleaseStep a (Ok tt) b
 AnswerStep number a (Answer.ReleaseRefused fault) b = ReleaseStep a (Err fault) b

@@ -236,7 +236,21 @@ fn a_script_for_one_worker(rt: HostRuntime) -> Result<(), Fail> {
 #[test]
 fn a_seat_of_other_shelves(rt: HostRuntime) -> Result<(), Fail> {
     let mut stage = LockedStage::new(rt.alloc())?;
+    let mut other = LockedStage::new(rt.alloc())?;
     play(&rt, &mut stage, "pin 0: ok, 1 at 1")?;
-    stage.change_shelves()?;
+    stage.change_shelves(&mut other);
     play(&rt, &mut stage, OTHER_SHELVES)
+}
+
+/// A seat of the first shelves pins at the second, where its worker is free. So the second's own seat of that worker is lost, and the
+/// first shelves know nothing of what their seat holds.
+#[test]
+fn a_pin_at_other_shelves(rt: HostRuntime) -> Result<(), Fail> {
+    let mut first = LockedStage::new(rt.alloc())?;
+    let mut second = LockedStage::new(rt.alloc())?;
+    first.change_shelves(&mut second);
+    play(&rt, &mut first, "pin 0: ok, 1 at 1")?;
+    first.change_shelves(&mut second);
+    play(&rt, &mut second, "pin 0: SeatLost, nothing")?;
+    play(&rt, &mut first, "release 0: SeatLost, nothing")
 }

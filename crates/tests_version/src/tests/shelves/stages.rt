@@ -8,6 +8,7 @@ use crate::tests::images::image;
 use epochs::*;
 use image_verifier::Verified;
 use std::alloc::{AllocError, Global};
+use std::mem::swap;
 use std::sync::{Arc, Wait};
 use std::test::*;
 
@@ -97,11 +98,9 @@ impl LockedStage {
         }
     }
 
-    /// The seats are at other shelves from now on, which are new.
-    pub(crate) fn change_shelves(&mut self) -> Result<(), Fail> {
-        let other = LockedStage::new(self.alloc)?;
-        self.shelves = other.shelves;
-        Ok(())
+    /// The seats of each are at the shelves of the other from now on.
+    pub(crate) fn change_shelves(&mut self, other: &mut LockedStage) {
+        swap(&mut self.shelves, &mut other.shelves);
     }
 }
 

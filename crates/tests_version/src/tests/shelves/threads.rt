@@ -189,11 +189,24 @@ fn two_seats<B: Named>(
     }
 }
 
+/// After one more publish the version that was current is tried too: nobody is left at it.
+fn publishes_the_last<B: Named, R: Wait + Abort>(
+    rt: &R,
+    stage: &mut NamedStage<B, ManySeats>,
+    image: Arc<Verified, Global>,
+) {
+    let published = stage.shelves.publish(rt, &mut stage.loader, image).is_ok();
+    let found = stage.shelves.collect(rt, &mut stage.loader);
+    assert!(rt; published && stage.shelves.word(0) / 8 == 52);
+    assert_eq!(rt; found.busy, [0; 8]);
+}
+
 /// A refused pin found four versions that were gone, each newer than those before: with fifty that go, that is at most twelve times.
 fn try_two_workers<B: Named + Send + Sync, R: Threads + Wait + Sync + Abort>(
     rt: &R,
     stage: &mut NamedStage<B, ManySeats>,
     images: Vec<Arc<Verified, Global>>,
+    last: Arc<Verified, Global>,
 ) -> Result<(), Fail> {
     let (mut first, mut second) = two_seats(stage)?;
     let (published, (held, also_held)) = pin_beside_a_loader(
@@ -204,9 +217,9 @@ fn try_two_workers<B: Named + Send + Sync, R: Threads + Wait + Sync + Abort>(
         &mut second,
         images,
     );
-    let found = stage.shelves.collect(rt, &mut stage.loader);
     assert!(rt; published == 50 && held >= 988 && also_held >= 988);
-    assert_eq!(rt; found.busy, [0; 8]);
+    assert_eq!(rt; stage.shelves.word(0) / 8, 51);
+    publishes_the_last(rt, stage, last);
     Ok(())
 }
 
@@ -220,7 +233,7 @@ fn beside_a_loader<B: Named + Send + Sync, R: Threads + Wait + Sync + Abort>(
     requires { (shelves ≡ B.table) × (loader.table ≡ B.table) × All (λ seat. seat.table ≡ B.table) seats.items }
 {
     let mut stage = named_stage::<B>(alloc, shelves, loader, seats)?;
-    try_two_workers(rt, &mut stage, images(alloc, 50)?)
+    try_two_workers(rt, &mut stage, images(alloc, 50)?, image(alloc, 52)?)
 }
 
 #[test]

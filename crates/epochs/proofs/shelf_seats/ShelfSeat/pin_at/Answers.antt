@@ -2,7 +2,10 @@ use Rattle.std.proofs.Common.{rules, ◌≡◌, ◌≤◌, [], ◌∷◌, ◌++�
 use Rattle.std.specs.Arc.{arc_value}
 use Rattle.shelf_steps.specs.Pinning.{Moves}
 use Rattle.epochs.specs.declared.seats.Answer.{Answer}
+use Rattle.epochs.specs.SeatHistory.{Grows}
+use Rattle.shelf_steps.specs.Events.{known_of}
 use Rattle.epochs.specs.ShelfSeats.{ShelfSeatValue}
+use Rattle.epochs.proofs.GrowthLemmas.{moves_grow, pins_grow}
 use Rattle.epochs.proofs.ShelfPins.{pins_seen, pins_hold, pinned_is}
 use Rattle.epochs.proofs.shelf_seats.ShelfSeat.pin_at.Goals as goal
 
@@ -18,6 +21,17 @@ returns-in-Ok-clause-pin c =
 
 pub returns-in-Ok-clause-known : goal.returns-in-Ok-clause-known
 returns-in-Ok-clause-known c = pins_hold c.self.inside.place.me.0 c.pin.new.worker.me c.self.inside.number c.in-Ok.shelf c.in-Ok.edition c.in-Ok.ensures.pins.1 c.in-Ok.ensures.pins.2
+
+pub returns-in-Ok-clause-grows : goal.returns-in-Ok-clause-grows
+returns-in-Ok-clause-grows c =
+    let e = c.in-Ok.edition in
+    subst (λ (s : ShelfSeatValue). Grows (known_of s.view) (known_of c.pin.new.worker.me.0)) c.self.view_is
+    (pins_grow c.self.inside.place.me.0 c.pin.new.worker.me.0 e.version c.in-Ok.shelf e c.in-Ok.ensures.pins.1)
+
+pub returns-in-Err-clause-grows : goal.returns-in-Err-clause-grows
+returns-in-Err-clause-grows c =
+    subst (λ (s : ShelfSeatValue). Grows (known_of s.view) (known_of c.pin.new.worker.me.0)) c.self.view_is
+    (moves_grow c.self.inside.place.me.0 c.pin.new.worker.me.0 c.in-Err.newest c.in-Err.ensures.moves.0)
 
 pub returns-in-Err-clause-steps : goal.returns-in-Err-clause-steps
 returns-in-Err-clause-steps c =

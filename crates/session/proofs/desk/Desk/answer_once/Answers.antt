@@ -1,5 +1,5 @@
 use Rattle.std.proofs.Common.{subst}
-use Rattle.epochs.specs.Pins.{HoldsInHistory}
+use Rattle.session.specs.SeatSteps.{HoldsInSome}
 use Rattle.session.proofs.MetLemmas.{profile_refused, profile_met_once}
 use Rattle.session.proofs.desk.Desk.answer_once.Goals as goal
 
@@ -8,5 +8,5 @@ returns-in-Err-clause-met g c = profile_refused _ _ _ _ _ _ c.requires.idle c.in
 
 pub returns-clause-met : goal.returns-clause-met
 returns-clause-met g c =
-    let known = subst (λ n. HoldsInHistory n (g.T.Versions.value c.pin.new.seat).held) c.in_default.ensures.number c.in_default.ensures.known in
-    profile_met_once _ _ _ _ _ _ _ _ _ c.in_default.ensures.pin known c.in-Some.ensures c.release.ensures.release c.answer_from-reply.ensures
+    let known = subst (λ n. HoldsInSome n (g.T.Versions.value c.pin.new.seat).held) c.in_default.ensures.number (g.T.Versions.known c.pin.new.seat, c.in_default.ensures.known) in
+    profile_met_once _ _ _ _ _ _ _ _ _ c.in_default.ensures.pin known c.in-Some.ensures.lent c.release.ensures.release c.answer_from-reply.ensures
