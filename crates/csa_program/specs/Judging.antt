@@ -1,5 +1,6 @@
 -- What `csa journey` finds of a journey's text and a question.
-use Rattle.std.specs.Prelude.{◌≡◌, ℕ, List, Some, Result, Ok, Err}
+use Rattle.std.specs.Prelude.{◌≡◌, ◌≢◌, ◌++◌, ℕ, List, Option, Some, Result, Ok, Err, codes}
+use Rattle.std.specs.Io.KnownBytes.{Appends}
 use Rattle.timetable.specs.declared.journey.Times.{Times}
 use Rattle.timetable.specs.declared.query.Query.{Query}
 use Rattle.timetable.specs.JourneyValue.{JourneyValue}
@@ -10,6 +11,7 @@ use Rattle.journeys.specs.Questions.{Asks, IsRefused}
 use Rattle.journeys.specs.Texts.{HasText, text_of}
 use Rattle.command_requests.specs.declared.requests.Question.{Question}
 use Rattle.csa_program.specs.Asking.{window_of}
+use Rattle.csa_program.specs.Listing.{times_text}
 use Rattle.csa_program.specs.declared.journey.Failure.{Failure}
 use Rattle.csa_program.specs.declared.journey.Failure.TheVariants.{BadQuery, BadText, Faulty, OutOfMemory}
 
@@ -29,3 +31,16 @@ IsVerdict image question text (Err BadText) =
 IsVerdict image question text (Err (Faulty fault)) =
     (q : Query) × (j : JourneyValue) × IsPosed image question text q j × (first_fault image.timetable q j ≡ Some fault)
 IsVerdict image question text (Err OutOfMemory) = Unit {0}
+
+-- the line of a journey that counts
+abbrev pub times_line : Times → List ℕ
+times_line times = codes "ok " ++ times_text times.dep times.arr ++ codes "\n"
+
+-- the journey counts, and its line was added to what was printed before, and nothing else
+abbrev pub IsAccepted : ImageValue → Question → List ℕ → Option (List ℕ) → Option (List ℕ) → Type 0
+IsAccepted image question text before after =
+    (times : Times) × IsVerdict image question text (Ok times) × Appends before after (times_line times)
+
+-- there is a first fault, of the query, of the text or of the journey
+abbrev pub IsFaulty : ImageValue → Question → List ℕ → Type 0
+IsFaulty image question text = (failure : Failure) × (failure ≢ OutOfMemory) × IsVerdict image question text (Err failure)

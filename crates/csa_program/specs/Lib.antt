@@ -1,5 +1,7 @@
+pub mod Answering
 pub mod Asking
 pub mod Judging
+pub mod Listing
 pub mod Opening
 pub mod Planning
 pub mod Serving

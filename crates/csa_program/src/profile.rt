@@ -1,8 +1,12 @@
 //! `csa profile IMAGE QUERY --criterion NAME [--names | --json [--legs]] [--picture FILE]`.
 
+ghost use Rattle.std.specs.Prelude.{◌≡◌, IfOk, string_bytes};
 ghost use Rattle.timetable.specs.Queries.{IsAskable};
+ghost use Rattle.command_requests.specs.declared.statuses.TheConstants.{ACCEPTED, REFUSED};
+ghost use Rattle.csa_program.specs.Answering.{IsNoRequest, IsPrinted, IsProfile, IsShown, IsShownBy};
+ghost use Rattle.csa_program.specs.Listing.{form_text};
 
-use crate::naming::append_named;
+use crate::listing::{named_lines, numbered_lines};
 use crate::pictured::{PictureFailure, draw};
 use crate::question::query_asked;
 use crate::refusal::Refusal;
@@ -11,14 +15,23 @@ use crate::status;
 use command_requests::{AnswerForm, ProfileRequest};
 use criteria::{Arrival, ArrivalTrips, ArrivalTripsWalk, CriterionName, Told};
 use image_verifier::Verified;
-use journeys::{Answer, Departure, answer_query, journey_string};
+use journeys::{Answer, answer_query};
 use profile_scan::InPlace;
 use session::PointForm;
 use std::alloc::{AllocError, Global};
-use std::fmt::Write as _;
 use std::io::Write;
 use std::rt::Files;
-use timetable::{Clock, Journey, Query};
+use timetable::{Query, QueryFault};
+
+/// Why nothing is printed.
+#[derive(Drop)]
+pub enum Failure<'a> {
+    /// The question asks no query of the image.
+    BadQuery(QueryFault),
+    /// The picture can't be written into the file at the path.
+    Unwritable(&'a str),
+    OutOfMemory,
+}
 
 /// Prints each best departure with a journey, and then how many there are, how many connections were read, and the direct footpath;
 /// or else what a session replies. A picture that is asked for is written before.
@@ -28,22 +41,55 @@ pub fn run<H: Files + AllocGlobal, O: Write, E: Write>(
     request: ProfileRequest<'_>,
     output: &mut O,
     errors: &mut E,
-) -> u8 {
+) -> u8
+    ensures printed { result ≡ ACCEPTED → IsPrinted image.now request.entry (O.contents output.old) (O.contents output.new) }
+    ensures refused { result ≡ REFUSED → IsNoRequest image.now request.entry }
+{
+    match profile_text(rt, image, request) {
+        Ok(text) => status::write_text(output, text.as_str(), status::ACCEPTED),
+        Err(Failure::BadQuery(fault)) => {
+            status::tell_refusal(rt.alloc(), output, &Refusal::Query(fault))
+        }
+        Err(Failure::Unwritable(path)) => status::tell_unwritable(rt.alloc(), errors, path),
+        Err(Failure::OutOfMemory) => status::OUT_OF_MEMORY,
+    }
+}
+
+/// The text that answers the question, or why there is none.
+fn profile_text<'a, H: Files + AllocGlobal>(
+    rt: &H,
+    image: &Verified,
+    request: ProfileRequest<'a>,
+) -> Result<String, Failure<'a>>
+    ensures { IsProfile image.now request.entry result }
+{
     let query = match query_asked(image, &request.question) {
         Ok(query) => query,
-        Err(fault) => return status::tell_refusal(rt.alloc(), output, &Refusal::Query(fault)),
+        Err(fault) => return Err(Failure::BadQuery(fault)),
     };
-    let lines = match request.criterion {
-        CriterionName::Arrival => answer_text(rt, image, &Arrival, &query, request),
-        CriterionName::ArrivalTrips => answer_text(rt, image, &ArrivalTrips, &query, request),
+    match text_by_name(rt, image, &query, request) {
+        Ok(text) => Ok(text),
+        Err(PictureFailure::Unwritable(path)) => Err(Failure::Unwritable(path)),
+        Err(PictureFailure::OutOfMemory) => Err(Failure::OutOfMemory),
+    }
+}
+
+/// The text that answers a query, by the criterion of a name.
+fn text_by_name<'a, H: Files + AllocGlobal>(
+    rt: &H,
+    image: &Verified,
+    query: &Query,
+    request: ProfileRequest<'a>,
+) -> Result<String, PictureFailure<'a>>
+    requires { IsAskable image.now.timetable.stops query.now }
+    ensures { IfOk result (λ text. IsShownBy request.entry.criterion request.entry.form image.now query.now (string_bytes text)) }
+{
+    match request.criterion {
+        CriterionName::Arrival => answer_text(rt, image, &Arrival, query, request),
+        CriterionName::ArrivalTrips => answer_text(rt, image, &ArrivalTrips, query, request),
         CriterionName::ArrivalTripsWalk => {
-            answer_text(rt, image, &ArrivalTripsWalk, &query, request)
+            answer_text(rt, image, &ArrivalTripsWalk, query, request)
         }
-    };
-    match lines {
-        Ok(lines) => status::write_text(output, lines.as_str(), status::ACCEPTED),
-        Err(PictureFailure::Unwritable(path)) => status::tell_unwritable(rt.alloc(), errors, path),
-        Err(PictureFailure::OutOfMemory) => status::OUT_OF_MEMORY,
     }
 }
 
@@ -56,70 +102,32 @@ fn answer_text<'a, H: Files + AllocGlobal, C: Told>(
     request: ProfileRequest<'a>,
 ) -> Result<String, PictureFailure<'a>>
     requires { IsAskable image.now.timetable.stops query.now }
+    ensures { IfOk result (λ text. IsShown C.told (C.rules criterion.now) request.entry.form image.now query.now (string_bytes text)) }
 {
     let mut source = InPlace::new(image);
     let answer = answer_query(rt.alloc(), &mut source, criterion, query)?;
     if let Some(path) = request.picture {
         draw(rt, image, criterion, query, &answer.departures, path)?;
     }
-    let text = match request.form {
-        AnswerForm::Numbers => answer_lines(rt.alloc(), criterion, &answer, None)?,
-        AnswerForm::Names => answer_lines(rt.alloc(), criterion, &answer, Some(image))?,
-        AnswerForm::Json => { reply_line(rt.alloc(), PointForm::Bare, image, criterion, &answer)? }
-        AnswerForm::JsonLegs => {
-            reply_line(rt.alloc(), PointForm::WithLegs, image, criterion, &answer)?
-        }
-    };
+    let text = text_in_form(rt.alloc(), image, criterion, &answer, request.form)?;
     Ok(text)
 }
 
-/// The lines of an answer, with the names of an image in the place of numbers where one is given.
-fn answer_lines<C: Told>(
+// The text of an answer in a form.
+fn text_in_form<C: Told>(
     alloc: Global,
+    image: &Verified,
     criterion: &C,
     answer: &Answer<C>,
-    names: Option<&Verified>,
-) -> Result<String, AllocError> {
-    let mut lines = String::new(alloc);
-    for departure in &answer.departures {
-        append_departure(&mut lines, criterion, departure)?;
-        match names {
-            Some(image) => append_named(&mut lines, alloc, image, &departure.journey)?,
-            None => append_journey(&mut lines, alloc, &departure.journey)?,
-        }
-        lines.push_str("\n")?;
-    }
-    append_end(&mut lines, answer)?;
-    Ok(lines)
-}
-
-fn append_departure<C: Told>(
-    lines: &mut String,
-    criterion: &C,
-    departure: &Departure<C::V>,
-) -> Result<(), AllocError> {
-    let told = criterion.tell(&departure.value);
-    let (dep, arr) = (Clock(departure.time), Clock(told.arrival));
-    write!(lines, "dep {dep} arr {arr}")?;
-    if let Some(trips) = told.trips {
-        write!(lines, " trips {trips}")?;
-    }
-    if let Some(walked) = told.walked {
-        write!(lines, " walked {walked}")?;
-    }
-    lines.push_str(" :")
-}
-
-fn append_journey(lines: &mut String, alloc: Global, journey: &Journey) -> Result<(), AllocError> {
-    let text = journey_string(alloc, journey)?;
-    write!(lines, " {text}")
-}
-
-fn append_end<C: Told>(lines: &mut String, answer: &Answer<C>) -> Result<(), AllocError> {
-    let points = answer.departures.len();
-    let read = answer.read;
-    match answer.walk {
-        Some(seconds) => write!(lines, "points {points} read {read} walk {seconds}\n"),
-        None => write!(lines, "points {points} read {read} walk none\n"),
+    form: AnswerForm,
+) -> Result<String, AllocError>
+    ensures { IfOk result (λ text. string_bytes text ≡
+        form_text C.told image.now form answer.now.departures.items answer.now.read answer.now.walk) }
+{
+    match form {
+        AnswerForm::Numbers => numbered_lines(alloc, criterion, answer),
+        AnswerForm::Names => named_lines(alloc, image, criterion, answer),
+        AnswerForm::Json => reply_line(alloc, PointForm::Bare, image, criterion, answer),
+        AnswerForm::JsonLegs => reply_line(alloc, PointForm::WithLegs, image, criterion, answer),
     }
 }

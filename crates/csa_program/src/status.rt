@@ -1,5 +1,9 @@
 //! Exit statuses, and what is written with them.
 
+ghost use Rattle.std.specs.Prelude.{◌≡◌, ◌≢◌, ◌⊎◌};
+ghost use Rattle.std.specs.Io.KnownBytes.{Appends};
+ghost use Rattle.command_requests.specs.declared.statuses.TheConstants.{INPUT_OUTPUT, OUT_OF_MEMORY, REFUSED};
+
 use crate::explaining::unread_reason;
 use crate::refusal::Refusal;
 pub use command_requests::statuses::{
@@ -10,7 +14,10 @@ use std::io::Write;
 use std::rt::Files;
 
 /// Writes the text; the status, or that of a failed write.
-pub fn write_text<W: Write>(writer: &mut W, text: &str, status: u8) -> u8 {
+pub fn write_text<W: Write>(writer: &mut W, text: &str, status: u8) -> u8
+    ensures status { (result ≡ status) ⊎ (result ≡ INPUT_OUTPUT) }
+    ensures written { result ≢ INPUT_OUTPUT → Appends (W.contents writer.old) (W.contents writer.new) text.now }
+{
     match writer.write_all(text.as_bytes()) {
         Ok(()) => status,
         Err(_) => INPUT_OUTPUT,
@@ -18,7 +25,9 @@ pub fn write_text<W: Write>(writer: &mut W, text: &str, status: u8) -> u8 {
 }
 
 /// Writes a line that may have found no memory.
-pub fn write_line<W: Write>(writer: &mut W, line: Result<String, AllocError>, status: u8) -> u8 {
+pub fn write_line<W: Write>(writer: &mut W, line: Result<String, AllocError>, status: u8) -> u8
+    ensures { (result ≡ status) ⊎ (result ≡ INPUT_OUTPUT) ⊎ (result ≡ OUT_OF_MEMORY) }
+{
     match line {
         Ok(line) => write_text(writer, line.as_str(), status),
         Err(_) => OUT_OF_MEMORY,
@@ -26,7 +35,9 @@ pub fn write_line<W: Write>(writer: &mut W, line: Result<String, AllocError>, st
 }
 
 /// Tells a refusal.
-pub fn tell_refusal<O: Write>(alloc: Global, output: &mut O, refusal: &Refusal) -> u8 {
+pub fn tell_refusal<O: Write>(alloc: Global, output: &mut O, refusal: &Refusal) -> u8
+    ensures { (result ≡ REFUSED) ⊎ (result ≡ INPUT_OUTPUT) ⊎ (result ≡ OUT_OF_MEMORY) }
+{
     write_line(output, format!(in alloc; "{refusal}\n"), REFUSED)
 }
 
@@ -47,12 +58,16 @@ pub fn tell_unwritten<E: Write>(alloc: Global, errors: &mut E, path: &str, reaso
 }
 
 /// Tells of a file that can't be written.
-pub fn tell_unwritable<E: Write>(alloc: Global, errors: &mut E, path: &str) -> u8 {
+pub fn tell_unwritable<E: Write>(alloc: Global, errors: &mut E, path: &str) -> u8
+    ensures { (result ≡ INPUT_OUTPUT) ⊎ (result ≡ OUT_OF_MEMORY) }
+{
     file_failed(alloc, errors, path, "written")
 }
 
 // Tells what can't be done to a file.
-fn file_failed<E: Write>(alloc: Global, errors: &mut E, path: &str, what: &str) -> u8 {
+fn file_failed<E: Write>(alloc: Global, errors: &mut E, path: &str, what: &str) -> u8
+    ensures { (result ≡ INPUT_OUTPUT) ⊎ (result ≡ OUT_OF_MEMORY) }
+{
     write_line(
         errors,
         format!(in alloc; "csa: {path} can't be {what}\n"),

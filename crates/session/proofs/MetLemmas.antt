@@ -3,7 +3,7 @@ use Rattle.std.proofs.Common.{◌≡◌, ◌⊎◌, ℕ, List, [], ◌∷◌, �
 use Rattle.image_layout.specs.Image.{ImageValue}
 use Rattle.epochs.specs.declared.seats.Answer.{Answer}
 use Rattle.epochs.specs.declared.faults.PinFault.{PinFault}
-use Rattle.epochs.specs.Pins.{HoldsInSome}
+use Rattle.session.specs.SeatSteps.{HoldsInSome}
 use Rattle.epochs.specs.Seats.{SeatValue, PinStep, ReleaseStep}
 use Rattle.session_texts.specs.Replies.{pin_text, release_text}
 use Rattle.session_texts.specs.Requests.{AskValue, pin, release, profile}

@@ -67,12 +67,28 @@ prints dep 08:20:00 arr 08:30:00 : ride 2 2
 prints dep 08:30:00 arr 08:40:00 : ride 3 3
 prints dep 08:40:00 arr 08:50:00 : ride 4 4
 answers points 5 read 5 walk none
+run profile - --from A --to B --after 07:00:00 --until 09:00:00 --by 10:00:00 --criterion arrival --json
+answers {\"ok\":\"profile\",\"points\":[{\"arr\":\"08:10:00\",\"dep\":\"08:00:00\",\"journey\":\"ride 0 0\"},{\"arr\":\"08:20:00\",\"dep\":\"08:10:00\",\"journey\":\"ride 1 1\"},{\"arr\":\"08:30:00\",\"dep\":\"08:20:00\",\"journey\":\"ride 2 2\"},{\"arr\":\"08:40:00\",\"dep\":\"08:30:00\",\"journey\":\"ride 3 3\"},{\"arr\":\"08:50:00\",\"dep\":\"08:40:00\",\"journey\":\"ride 4 4\"}],\"version\":1,\"walk\":null}
 run profile - --from A --to B --after 08:10:00 --until 09:00:00 --by 10:00:00 --criterion arrival+trips --names
 prints dep 08:10:00 arr 08:20:00 trips 1 : ride T2 08:10:00 A 08:20:00 B
 prints dep 08:20:00 arr 08:30:00 trips 1 : ride T3 08:20:00 A 08:30:00 B
 prints dep 08:30:00 arr 08:40:00 trips 1 : ride T4 08:30:00 A 08:40:00 B
 prints dep 08:40:00 arr 08:50:00 trips 1 : ride T5 08:40:00 A 08:50:00 B
 answers points 4 read 4 walk none
+
+# Three rides with a change before each but the first: the third one's first connection at C is missed, and the second isn't.
+image 1346458435 1 4 4 4 4 12 1705276800 0 0 1 28800 29400 0 3 1 2 29520 30000 1 3 2 3 29700 30600 2 3 2 3 30300 31200 3 3 0 1 2 3 4 0 0 1 0 2 0 3 0 0 1 2 3 4 6 8 10 12 20240115 20240115 20240115 20240115 1145258561 844378452 877933396
+profile A D 07:00:00 09:00:00 10:00:00 arrival+trips+walk
+prints dep 08:00:00 arr 08:40:00 trips 3 walked 0 : ride 0 0 walk 1 1 0 ride 1 1 walk 2 2 0 ride 3 3
+answers points 1 read 4 walk none
+run profile - --from A --to D --after 07:00:00 --until 09:00:00 --by 10:00:00 --criterion arrival+trips --names
+prints dep 08:00:00 arr 08:40:00 trips 3 : ride T1 08:00:00 A 08:10:00 B walk B B 0 ride T2 08:12:00 B 08:20:00 C walk C C 0 ride T4 08:25:00 C 08:40:00 D
+answers points 1 read 4 walk none
+judge A D 07:00:00 09:00:00 10:00:00 ride 0 0 walk 1 1 0 ride 1 1 walk 2 2 0 ride 3 3 | ok dep 08:00:00 arr 08:40:00
+judge A D 07:00:00 09:00:00 10:00:00 ride 0 0 walk 1 1 0 ride 1 1 walk 2 2 0 ride 2 2 | refused 86 TooEarly 2
+judge A D 07:00:00 09:00:00 10:00:00 ride 0 0 walk 1 1 0 ride 1 1 ride 3 3 | refused 85 WalkBroken 2
+judge A D 07:00:00 09:00:00 10:00:00 ride 0 0 walk 1 1 0 ride 1 1 walk 2 2 0 ride 3 4 | refused 81 LegRange 2
+judge A D 07:00:00 09:00:00 10:00:00 ride 0 0 walk 1 1 0 ride 1 1 walk 2 2 0 ride 2 3 | refused 82 TwoTrips 2
 
 # Words of a query are judged: its window, and the name of its criterion.
 sample

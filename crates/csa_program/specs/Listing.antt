@@ -1,0 +1,97 @@
+-- The lines of `csa profile` and of `csa journey`.
+use Rattle.std.specs.Prelude.{ℕ, List, [], ◌++◌, codes, decimal, length, slice_get, Option, None, Some}
+use Rattle.std.specs.List.{flat_map}
+use Rattle.criteria.specs.declared.told.ToldValue.{ToldValue}
+use Rattle.timetable.specs.Clocks.{clock_bytes}
+use Rattle.timetable.specs.JourneyValue.{JourneyValue, RideValue}
+use Rattle.timetable.specs.NamesValue.{NamesValue}
+use Rattle.timetable.specs.declared.network.Connection.{Connection}
+use Rattle.timetable.specs.declared.network.Footpath.{Footpath}
+use Rattle.image_layout.specs.Image.{ImageValue}
+use Rattle.answer_pictures.specs.Naming.{stop_bytes, trip_bytes}
+use Rattle.journeys.specs.Texts.{number_text, text_of}
+use Rattle.journeys.specs.declared.answering.Departure.{Departure}
+use Rattle.session.specs.Profiles.{departures_data}
+use Rattle.session.specs.declared.point_form.PointForm.{PointForm}
+use Rattle.session_texts.specs.Replies.{line_of, profile_data}
+use Rattle.command_requests.specs.declared.requests.AnswerForm.{AnswerForm}
+
+-- when one departs and arrives
+unfoldable pub times_text : ℕ → ℕ → List ℕ
+times_text departure arrival = (codes "dep " ++ clock_bytes departure) ++ (codes " arr " ++ clock_bytes arrival)
+
+-- a word and a number, if there is one
+abbrev pub number_if_some : List ℕ → Option ℕ → List ℕ
+number_if_some word None = []
+number_if_some word (Some n) = word ++ decimal n
+
+-- what is printed of a point before its journey: its times, and its trips and the seconds walked where the criterion counts them
+unfoldable pub point_text : ℕ → ToldValue → List ℕ
+point_text departure told =
+    times_text departure told.arrival ++ number_if_some (codes " trips ") told.trips ++ number_if_some (codes " walked ") told.walked ++ codes " :"
+
+abbrev pub word_text : List ℕ → List ℕ
+word_text word = codes " " ++ word
+
+-- a journey by the numbers of the image, as `csa journey` reads it
+abbrev pub numbered_text : JourneyValue → List ℕ
+numbered_text journey = word_text (text_of journey)
+
+-- a walk by the names of its stops, and its seconds
+unfoldable pub named_walk : NamesValue → Footpath → List ℕ
+named_walk names f = codes " walk" ++ word_text (stop_bytes names f.from) ++ word_text (stop_bytes names f.to) ++ number_text f.secs
+
+-- when one is at a stop
+abbrev pub call_text : ℕ → List ℕ → List ℕ
+call_text time stop = (codes " " ++ clock_bytes time) ++ word_text stop
+
+-- a ride by the name of its trip, and when it is boarded where, and left where
+unfoldable pub named_hops : NamesValue → Connection → Connection → List ℕ
+named_hops names first last =
+    codes " ride" ++ word_text (trip_bytes names first.trip) ++ call_text first.dep (stop_bytes names first.from)
+    ++ call_text last.arr (stop_bytes names last.to)
+
+abbrev pub named_between : NamesValue → Option Connection → Option Connection → List ℕ
+named_between names (Some first) (Some last) = named_hops names first last
+named_between names _ _ = []
+
+abbrev pub named_ride : ImageValue → RideValue → List ℕ
+named_ride image ride =
+    named_between image.names (slice_get image.timetable.connections ride.leg.first) (slice_get image.timetable.connections ride.leg.last)
+    ++ flat_map (named_walk image.names) ride.walk
+
+abbrev pub named_start : NamesValue → Option Footpath → List ℕ
+named_start names None = []
+named_start names (Some footpath) = named_walk names footpath
+
+-- a journey by the names of an image
+abbrev pub named_text : ImageValue → JourneyValue → List ℕ
+named_text image journey = named_start image.names journey.start ++ flat_map (named_ride image) journey.rides
+
+-- the line of a best departure
+unfoldable pub departure_line : {V : Type 0} → (V → ToldValue) → (JourneyValue → List ℕ) → Departure V → List ℕ
+departure_line told words departure = point_text departure.time (told departure.value) ++ words departure.journey ++ codes "\n"
+
+abbrev pub walk_word : Option ℕ → List ℕ
+walk_word None = codes " walk none"
+walk_word (Some seconds) = codes " walk " ++ decimal seconds
+
+-- the last line: how many departures there are, how many connections were read, and the seconds of the direct footpath
+unfoldable pub end_line : ℕ → ℕ → Option ℕ → List ℕ
+end_line points read walk = (codes "points " ++ decimal points) ++ (codes " read " ++ decimal read) ++ walk_word walk ++ codes "\n"
+
+-- a line for each departure, in order, and the last line
+abbrev pub lines_text : {V : Type 0} → (V → ToldValue) → (JourneyValue → List ℕ) → List (Departure V) → ℕ → Option ℕ → List ℕ
+lines_text told words departures read walk =
+    flat_map (departure_line told words) departures ++ end_line (length departures) read walk
+
+-- a session's reply over the image as version 1
+abbrev pub reply_text : {V : Type 0} → PointForm → (V → ToldValue) → ImageValue → List (Departure V) → Option ℕ → List ℕ
+reply_text form told image departures walk = line_of (profile_data (departures_data form image told departures) 1 walk)
+
+-- an answer in a form: lines with the journeys' numbers or names, or a session's reply
+abbrev pub form_text : {V : Type 0} → (V → ToldValue) → ImageValue → AnswerForm → List (Departure V) → ℕ → Option ℕ → List ℕ
+form_text told image AnswerForm.Numbers departures read walk = lines_text told numbered_text departures read walk
+form_text told image AnswerForm.Names departures read walk = lines_text told (named_text image) departures read walk
+form_text told image AnswerForm.Json departures read walk = reply_text PointForm.Bare told image departures walk
+form_text told image AnswerForm.JsonLegs departures read walk = reply_text PointForm.WithLegs told image departures walk
