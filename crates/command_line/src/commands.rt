@@ -74,9 +74,10 @@ const PROFILE: [Argument; 5] = [
         "FILE",
         "Write a picture of the answer to FILE, as SVG (- is a file name here)",
     ),
-    Argument::Flag(
+    Argument::OtherFlag(
         "names",
         "Print ids and clocks in journeys: ride TRIP CLOCK STOP CLOCK STOP, walk STOP STOP SECS",
+        "legs",
     ),
     Argument::OtherFlag(
         "json",
