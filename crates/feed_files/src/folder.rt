@@ -1,7 +1,9 @@
 //! The files of a folder.
 
-ghost use Rattle.std.specs.Prelude.{◌≡◌, ◌≤◌, [], length, None, IfOk, IfSome};
+ghost use Rattle.std.specs.Prelude.{◌≡◌, ◌≤◌, ◌↔◌, ◌⊎◌, [], length, None, IfErr, IfOk, IfSome, IsNone, IsOk, IsTrue};
+ghost use Rattle.std_io.specs.declared.io.kind.ErrorKind.TheVariants.{NotADirectory, NotFound, OutOfMemory};
 ghost use Rattle.feed_files.specs.Files.{one_more};
+ghost use Rattle.feed_files.specs.declared.files.FileFault.TheVariants.{OutOfMemory as WasOutOfMemory};
 ghost use Rattle.feed_files.specs.declared.files.TheConstants.{LONGEST_FILE};
 
 use crate::failed::FailedNames;
@@ -9,7 +11,6 @@ use crate::files::{FeedFiles, FileFault, LONGEST_FILE};
 use gtfs_tables::IdHash;
 use std::alloc::Global;
 use std::fs::{File, OpenFile};
-use std::io;
 use std::io::{ErrorKind, Read};
 use std::path::Path;
 use std::random::RandomSource;
@@ -75,12 +76,21 @@ impl<'a, H: Disk> FolderFiles<'a, H> {
     }
 }
 
-// Why a file can't be opened or read.
-fn fault_of(error: &io::Error) -> FileFault {
-    match error.kind() {
-        ErrorKind::OutOfMemory => FileFault::OutOfMemory,
-        _ => FileFault::Failed,
+// Whether an error of opening a file means that there is no such file.
+fn is_no_file(kind: ErrorKind) -> bool
+    ensures { IsTrue result ↔ ((kind ≡ NotFound) ⊎ (kind ≡ NotADirectory)) }
+{
+    kind == ErrorKind::NotFound || kind == ErrorKind::NotADirectory
+}
+
+// Why a file can't be opened or read, by the kind of the error.
+fn fault_of(kind: ErrorKind) -> FileFault
+    ensures memory { result ≡ WasOutOfMemory ↔ (kind ≡ OutOfMemory) }
+{
+    if kind == ErrorKind::OutOfMemory {
+        return FileFault::OutOfMemory;
     }
+    FileFault::Failed
 }
 
 // The bytes of an open file, at most so many. Room is made for them at once, as far as its length is told; a file of
@@ -94,7 +104,7 @@ fn bytes_up_to<F: OpenFile + Read + Drop>(
 {
     let told = match file.metadata() {
         Ok(metadata) => metadata.len(),
-        Err(error) => return Err(fault_of(&error)),
+        Err(error) => return Err(fault_of(error.kind())),
     };
     if told > limit as u64 {
         return Err(FileFault::Failed);
@@ -105,8 +115,20 @@ fn bytes_up_to<F: OpenFile + Read + Drop>(
     match file.take(limit as u64 + 1).read_to_end(&mut bytes) {
         Ok(_) if bytes.len() as u64 <= limit as u64 => Ok(bytes),
         Ok(_) => Err(FileFault::Failed),
-        Err(error) => Err(fault_of(&error)),
+        Err(error) => Err(fault_of(error.kind())),
     }
+}
+
+// What an error of opening a file means: that there is no such file, or that it can't be read.
+fn none_or_fault(kind: ErrorKind) -> Result<Option<Vec<u8>>, FileFault>
+    ensures none { IsOk result ↔ ((kind ≡ NotFound) ⊎ (kind ≡ NotADirectory)) }
+    ensures empty { IfOk result (λ file. IsNone file) }
+    ensures memory { IfErr result (λ fault. fault ≡ WasOutOfMemory ↔ (kind ≡ OutOfMemory)) }
+{
+    if is_no_file(kind) {
+        return Ok(None);
+    }
+    Err(fault_of(kind))
 }
 
 /// The bytes of a file of a folder, at most so many. There is no such file where the folder isn't there, or is no folder.
@@ -131,10 +153,7 @@ pub fn file_up_to<H: Files>(
             Ok(bytes) => Ok(Some(bytes)),
             Err(fault) => Err(fault),
         },
-        Err(error) => match error.kind() {
-            ErrorKind::NotFound | ErrorKind::NotADirectory => Ok(None),
-            _ => Err(fault_of(&error)),
-        },
+        Err(error) => none_or_fault(error.kind()),
     }
 }
 
