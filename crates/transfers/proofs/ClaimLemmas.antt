@@ -20,7 +20,8 @@ use Rattle.transfers.specs.Groups.{IsGroup}
 use Rattle.transfers.specs.Lookup.{stop_named, station_named}
 use Rattle.transfers.specs.Claims.{Adds, ForOneOf, IsPairClaim, IsRowInto, IsNumberedClaim, IsClaimBy, IsSiblingPair, IsSiblingInto, IsRowClaim}
 use Rattle.transfers.specs.Claims.{IsLoopOf, IsStationClaim, IsStopClaim, IsClaimInto, AreStoodFor, AreChildren}
-use Rattle.transfers.proofs.AddLemmas.{adds_one, adds_same, adds_then, adds_nothing}
+use Rattle.transfers.specs.Bans.{Aloud, IsSilent}
+use Rattle.transfers.proofs.AddLemmas.{adds_one, adds_same, adds_nothing, aloud_same, aloud_then}
 use Rattle.transfers.proofs.ListLemmas.{at_map, from_map}
 
 -- a station is the one that it is
@@ -67,7 +68,7 @@ named_station (TheStop named) station e = absurd (none-some station e)
 named_station (TheStation named) station e = ap (λ (n : ℕ). TheStation n) (same_Some named station e)
 
 module _ (all : List Stop) (to : ℕ) (row : Transfer) (froms : List ℕ) (from_stops : AreStoodFor all row.from froms) where
-  into_there : (c : Claim) → ForOneOf froms (λ from. IsPairClaim row from to) c → IsRowInto all to row c
+  pub into_there : (c : Claim) → ForOneOf froms (λ from. IsPairClaim row from to) c → IsRowInto all to row c
   into_there c (from, in_froms, p) = record {
     from_stands = subst (λ (n : ℕ). stands_for all row.from n ≡ true) (sym p.from_is) (from_stops.stand from in_froms);
     to_is = p.to_is;
@@ -84,29 +85,22 @@ module _ (all : List Stop) (to : ℕ) (row : Transfer) (froms : List ℕ) (from_
     word_is = subst (λ (n : ℕ). word_of row (c.from == n) ≡ Some c.word) h.to_is h.word_is;
   }
 
-  into_back : (c : Claim) → IsRowInto all to row c → ForOneOf froms (λ from. IsPairClaim row from to) c
+  pub into_back : (c : Claim) → IsRowInto all to row c → ForOneOf froms (λ from. IsPairClaim row from to) c
   into_back c h = (c.from, from_stops.each c.from h.from_stands, own_pair c h)
-
-  -- what a transfer says of the ways into a stop
-  pub adds_into : (rows : List Transfer) (number : ℕ) (old new : List Claim) → At rows number row
-      → Adds old new (ForOneOf froms (λ from. IsPairClaim row from to))
-      → Adds old new (IsNumberedClaim all rows to number)
-  adds_into rows number old new at h = adds_same old new (ForOneOf froms (λ from. IsPairClaim row from to)) (IsNumberedClaim all rows to number)
-      (λ c made. (row, at, into_there c made))
-      (λ c (other, at_other, is). into_back c (subst (λ (r : Transfer). IsRowInto all to r c) (same_at rows number other row at_other at) is))
-      h
 
 -- a transfer that isn't there says nothing
 pub adds_no_row : (all : List Stop) (rows : List Transfer) (to number : ℕ) (claims : List Claim) → slice_get rows number ≡ None
-    → Adds claims claims (IsNumberedClaim all rows to number)
-adds_no_row all rows to number claims none = adds_nothing claims (IsNumberedClaim all rows to number) (λ c (row, at, is). none-some row (sym none ∙ at))
+    → Adds claims claims (Aloud all rows (IsNumberedClaim all rows to number))
+adds_no_row all rows to number claims none = adds_nothing claims (Aloud all rows (IsNumberedClaim all rows to number))
+    (λ c m. none-some m.0.0 (sym none ∙ m.0.1))
 
 -- the transfers in a group are those that lead to its place
 module _ (all : List Stop) (rows : List Transfer) (to key : ℕ) (named : Place
     → Option ℕ) (place : Place) (numbers : List ℕ) (group : IsGroup (map (λ (row : Transfer). named row.to) rows) key numbers)
     (there : (p : Place) → named p ≡ Some key → p ≡ place) (back : named place ≡ Some key) where
-  pub adds_group : (old new : List Claim) → Adds old new (ForOneOf numbers (IsNumberedClaim all rows to)) → Adds old new (IsClaimBy all rows place to)
-  adds_group old new h = adds_same old new (ForOneOf numbers (IsNumberedClaim all rows to)) (IsClaimBy all rows place to)
+  pub adds_group : (old new : List Claim) → Adds old new (Aloud all rows (ForOneOf numbers (IsNumberedClaim all rows to)))
+      → Adds old new (Aloud all rows (IsClaimBy all rows place to))
+  adds_group old new h = aloud_same (IsSilent all rows) old new (ForOneOf numbers (IsNumberedClaim all rows to)) (IsClaimBy all rows place to)
       (λ c (number, is_in, (row, at, is)).
       let (other, at_other, key_is) = from_map (λ (row : Transfer). named row.to) rows number (Some key) (group.has number is_in) in
       let own : named row.to ≡ Some key = subst (λ (r : Transfer). named r.to ≡ Some key) (same_at rows number other row at_other at) key_is in
@@ -121,13 +115,15 @@ module _ (all : List Stop) (rows : List Transfer) (to key : ℕ) (named : Place
 -- those that lead to a stop itself, and those that lead to a station
 pub adds_to_stop : (all : List Stop) (rows : List Transfer) (to : ℕ) (numbers : List ℕ)
     → IsGroup (map (λ (row : Transfer). stop_named row.to) rows) to numbers → (old new : List Claim)
-    → Adds old new (ForOneOf numbers (IsNumberedClaim all rows to)) → Adds old new (IsClaimBy all rows (TheStop to) to)
+    → Adds old new (Aloud all rows (ForOneOf numbers (IsNumberedClaim all rows to)))
+    → Adds old new (Aloud all rows (IsClaimBy all rows (TheStop to) to))
 adds_to_stop all rows to numbers group old new h = adds_group all rows to to (λ p. stop_named p) (TheStop to) numbers group
     (λ p e. stop_is p to e) refl old new h
 
 pub adds_to_station : (all : List Stop) (rows : List Transfer) (to station : ℕ) (numbers : List ℕ)
     → IsGroup (map (λ (row : Transfer). station_named row.to) rows) station numbers → (old new : List Claim)
-    → Adds old new (ForOneOf numbers (IsNumberedClaim all rows to)) → Adds old new (IsClaimBy all rows (TheStation station) to)
+    → Adds old new (Aloud all rows (ForOneOf numbers (IsNumberedClaim all rows to)))
+    → Adds old new (Aloud all rows (IsClaimBy all rows (TheStation station) to))
 adds_to_station all rows to station numbers group old new h = adds_group all rows to station (λ p. station_named p) (TheStation station) numbers group
     (λ p e. named_station p station e) refl old new h
 
@@ -159,9 +155,9 @@ module _ (all : List Stop) (station to : ℕ) (children : List ℕ) (they_are : 
 
 -- first by transfers, then within the station
 pub adds_station : (all : List Stop) (rows : List Transfer) (station to : ℕ) (old mid new : List Claim)
-    → Adds old mid (IsClaimBy all rows (TheStation station) to) → Adds mid new (IsSiblingInto all station to)
-    → Adds old new (IsStationClaim all rows station to)
-adds_station all rows station to old mid new first second = adds_then old mid new (IsClaimBy all rows (TheStation station) to)
+    → Adds old mid (Aloud all rows (IsClaimBy all rows (TheStation station) to)) → Adds mid new (Aloud all rows (IsSiblingInto all station to))
+    → Adds old new (Aloud all rows (IsStationClaim all rows station to))
+adds_station all rows station to old mid new first second = aloud_then (IsSilent all rows) old mid new (IsClaimBy all rows (TheStation station) to)
     (IsSiblingInto all station to) (IsStationClaim all rows station to)
     (λ c h. inl h) (λ c h. inr h) (λ c h. h) first second
 
@@ -171,10 +167,10 @@ adds_loop to old = adds_one old (claim_of to to Default (Takes 0)) (IsLoopOf to)
     (λ c h. same_claim to to Default (Takes 0) c (sym h.to_is) (sym h.from_is) (sym h.source_is) (sym h.word_is))
 
 -- first as one of its station, then the loop
-pub adds_stop : (all : List Stop) (rows : List Transfer) (station to : ℕ) (old mid new : List Claim) → Adds old mid (IsStationClaim all rows station to)
-    → Adds mid new (IsLoopOf to)
-    → Adds old new (IsStopClaim all rows (Some station) to)
-adds_stop all rows station to old mid new first second = adds_then old mid new (IsStationClaim all rows station to) (IsLoopOf to) (IsStopClaim all rows
+pub adds_stop : (all : List Stop) (rows : List Transfer) (station to : ℕ) (old mid new : List Claim)
+    → Adds old mid (Aloud all rows (IsStationClaim all rows station to)) → Adds mid new (Aloud all rows (IsLoopOf to))
+    → Adds old new (Aloud all rows (IsStopClaim all rows (Some station) to))
+adds_stop all rows station to old mid new first second = aloud_then (IsSilent all rows) old mid new (IsStationClaim all rows station to) (IsLoopOf to) (IsStopClaim all rows
     (Some station) to)
     (λ c h. inl h) (λ c h. inr h) (λ c h. h) first second
 
@@ -271,9 +267,9 @@ module _ (all : List Stop) (rows : List Transfer) (to : ℕ) where
   }))
 
   -- all that is claimed of the ways into a stop of the feed
-  pub adds_ways : (stop : Stop) (old mid new : List Claim) → At all to stop → Adds old mid (IsClaimBy all rows (TheStop to) to)
-      → Adds mid new (IsStopClaim all rows stop.station to) → Adds old new (IsClaimInto all rows to)
-  adds_ways stop old mid new at first second = adds_then old mid new (IsClaimBy all rows (TheStop to) to) (IsStopClaim all rows stop.station to)
+  pub adds_ways : (stop : Stop) (old mid new : List Claim) → At all to stop → Adds old mid (Aloud all rows (IsClaimBy all rows (TheStop to) to))
+      → Adds mid new (Aloud all rows (IsStopClaim all rows stop.station to)) → Adds old new (Aloud all rows (IsClaimInto all rows to))
+  adds_ways stop old mid new at first second = aloud_then (IsSilent all rows) old mid new (IsClaimBy all rows (TheStop to) to) (IsStopClaim all rows stop.station to)
       (IsClaimInto all rows to)
       (λ c h. by_there (TheStop to) c (own_equal to) h)
       (λ c h. stop_there stop at stop.station refl c h)
@@ -281,9 +277,9 @@ module _ (all : List Stop) (rows : List Transfer) (to : ℕ) where
       first second
 
   -- into a stop that the feed hasn't, transfers to that stop alone claim it
-  pub adds_no_stop : (old new : List Claim) → slice_get all to ≡ None → Adds old new (IsClaimBy all rows (TheStop to) to)
-      → Adds old new (IsClaimInto all rows to)
-  adds_no_stop old new none h = adds_same old new (IsClaimBy all rows (TheStop to) to) (IsClaimInto all rows to)
+  pub adds_no_stop : (old new : List Claim) → slice_get all to ≡ None → Adds old new (Aloud all rows (IsClaimBy all rows (TheStop to) to))
+      → Adds old new (Aloud all rows (IsClaimInto all rows to))
+  adds_no_stop old new none h = aloud_same (IsSilent all rows) old new (IsClaimBy all rows (TheStop to) to) (IsClaimInto all rows to)
       (λ c h. by_there (TheStop to) c (own_equal to) h)
       back h
     where

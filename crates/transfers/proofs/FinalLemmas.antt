@@ -12,11 +12,16 @@ use Rattle.gtfs_tables.specs.declared.tables.Feed.{Feed}
 use Rattle.transfers.specs.declared.claims.Word.{Word}
 use Rattle.transfers.specs.declared.claims.Word.TheVariants.{Takes}
 use Rattle.transfers.specs.declared.claims.Claim.{Claim}
-use Rattle.transfers.specs.Listed.{AreListed, word_between, secs_of, listed_secs}
+use Rattle.transfers.specs.Listed.{AreListed, station_of, word_between, secs_of, listed_secs}
 use Rattle.transfers.specs.Claims.{Adds, AreSorted, ComesBefore, IsClaimInto, IsFirstAt, ArePathsBelow, IsHeardBefore, source_number}
 use Rattle.transfers.proofs.PathLemmas.{first_strict, footpath_of}
 use Rattle.transfers.proofs.RangeLemmas.{secs_given}
-use Rattle.transfers.proofs.WordLemmas.{IsHeardFirst, word_of_first, claim_between, heard_refl}
+use Rattle.transfers.proofs.WordLemmas.{IsHeardFirst, word_of_first, heard_refl}
+use Rattle.transfers.proofs.VoidLemmas.{aloud_between}
+use Rattle.transfers.proofs.AloudLemmas.{decide_silent}
+use Rattle.transfers.specs.Bans.{Aloud, IsSilent, IsVoid, MayBeSilent}
+use Rattle.transfers.specs.declared.claims.Source.{Source}
+use Rattle.transfers.specs.declared.claims.Source.TheVariants.{Stops, Station, Default}
 
 -- behind a claim on another pair a claim is the first on its own
 first_behind : (claims : List Claim) (j : ℕ) (b d : Claim) → At claims j b → At claims (suc j) d → ((b.to ≡ d.to) × (b.from ≡ d.from) → ⊥)
@@ -46,15 +51,65 @@ first_place claims (suc j) d at =
       | inr differ ↦ (suc j, d, at, first_behind claims j b d at_b at (λ same. differ same.0), refl, refl)
     ]
 
+-- two sources of other numbers differ
+stops_differ : (s : Source) (n : ℕ) → source_number s ≡ suc n → Stops ≡ s → ⊥
+stops_differ s n is same = let h : 0 ≡ source_number s = ap (λ (x : Source). source_number x) same in omega (arith, h, is)
+
 module _ (feed : Feed) (into : ℕ) (claims : List Claim) (paths : List Footpath) (sorted : AreSorted claims) (all : (c : Claim)
-    → Contains claims c ↔ IsClaimInto feed.stops.items feed.transfers.items into c) (they_are : ArePathsBelow claims (length claims) paths) where
+    → Contains claims c ↔ Aloud feed.stops.items feed.transfers.items (IsClaimInto feed.stops.items feed.transfers.items into) c) (they_are : ArePathsBelow claims (length claims) paths) where
   claim_at : (k : ℕ) (c : Claim) → At claims k c → IsClaimInto feed.stops.items feed.transfers.items into c
-  claim_at k c at = (all c).0 (contains_at claims k c at)
+  claim_at k c at = ((all c).0 (contains_at claims k c at)).0
+
+  aloud_at : (k : ℕ) (c : Claim) → At claims k c → ¬ IsSilent feed.stops.items feed.transfers.items c
+  aloud_at k c at = ((all c).0 (contains_at claims k c at)).1
+
+  abbrev IsBefore : Claim → Claim → Type 0
+  IsBefore c d = (source_number c.source ≤ source_number d.source) × (c.source ≡ d.source → IsHeardBefore c.word d.word)
+
+  -- a claim that is made comes before one of the same pair that is left out
+  before_silent : (c d : Claim) → ¬ IsSilent feed.stops.items feed.transfers.items c → IsSilent feed.stops.items feed.transfers.items d
+      → d.to ≡ c.to → d.from ≡ c.from → IsBefore c d
+  before_silent c d aloud silent to from = by_source c.source d.source refl refl
+    where
+      void : IsVoid feed.transfers.items (station_of feed.stops.items d.from) (station_of feed.stops.items d.to)
+          → IsVoid feed.transfers.items (station_of feed.stops.items c.from) (station_of feed.stops.items c.to)
+      void v = subst (λ (n : ℕ). IsVoid feed.transfers.items (station_of feed.stops.items n) (station_of feed.stops.items c.to)) from
+          (subst (λ (n : ℕ). IsVoid feed.transfers.items (station_of feed.stops.items d.from) (station_of feed.stops.items n)) to v)
+
+      its : (t : Source) → MayBeSilent t (IsVoid feed.transfers.items (station_of feed.stops.items d.from) (station_of feed.stops.items d.to))
+          → IsVoid feed.transfers.items (station_of feed.stops.items d.from) (station_of feed.stops.items d.to)
+      its Stops m = absurd m
+      its Station m = m
+      its Default m = m
+
+      never_both : (s : Source) → c.source ≡ s
+          → ¬ MayBeSilent s (IsVoid feed.transfers.items (station_of feed.stops.items c.from) (station_of feed.stops.items c.to))
+      never_both s e m = aloud (record {
+        apart = λ same. silent.apart (from ∙ same ∙ sym to);
+        void = subst (λ (x : Source). MayBeSilent x (IsVoid feed.transfers.items (station_of feed.stops.items c.from) (station_of feed.stops.items c.to)))
+            (sym e) m;
+      })
+
+      by_source : (s t : Source) → c.source ≡ s → d.source ≡ t → IsBefore c d
+      by_source Station t e f = absurd (never_both Station e (void (its d.source silent.void)))
+      by_source Default t e f = absurd (never_both Default e (void (its d.source silent.void)))
+      by_source Stops Stops e f = absurd (subst (λ (x : Source). MayBeSilent x (IsVoid feed.transfers.items (station_of feed.stops.items d.from)
+          (station_of feed.stops.items d.to))) f silent.void)
+      by_source Stops Station e f = (
+        subst (λ (x : Source). source_number x ≤ source_number d.source) (sym e) (omega arith),
+        λ same. absurd (stops_differ Station 0 refl (sym e ∙ same ∙ f)),
+      )
+      by_source Stops Default e f = (
+        subst (λ (x : Source). source_number x ≤ source_number d.source) (sym e) (omega arith),
+        λ same. absurd (stops_differ Default 1 refl (sym e ∙ same ∙ f)),
+      )
 
   -- the first claim on a pair is heard before all others
   heard_first : (k : ℕ) (c : Claim) → At claims k c → IsFirstAt claims k → IsHeardFirst feed c
-  heard_first k c at first d claim to from =
-      let (j, at_d) = at_contains claims d ((all d).1 (claim, to ∙ (claim_at k c at).1)) in
+  heard_first k c at first d claim to from = elim (decide_silent feed.stops.items feed.transfers.items d) [
+    | inl silent ↦ before_silent c d (aloud_at k c at) silent to from
+    | inr aloud ↦
+      let (j, at_d) = at_contains claims d ((all d).1 ((claim, to ∙ (claim_at k c at).1), aloud)) in
       elim (cases_order k j) [
         | inl same ↦
             let is_d : c ≡ d = same_at claims j c d (subst (λ (n : ℕ). At claims n c) same at) at_d in
@@ -64,6 +119,7 @@ module _ (feed : Feed) (into : ℕ) (claims : List Claim) (paths : List Footpath
         | inr (inl below) ↦ let h : ComesBefore c d = sorted k j c d below at at_d in (h.by_source (sym to) (sym from), h.by_word (sym to) (sym from))
         | inr (inr above) ↦ absurd (first_strict claims sorted j k d c above at_d at first to from)
       ]
+  ]
 
   word_at : (k : ℕ) (c : Claim) → At claims k c → IsFirstAt claims k → word_between feed c.from c.to ≡ Some c.word
   word_at k c at first = word_of_first feed c (claim_at k c at).0 (heard_first k c at first)
@@ -81,8 +137,8 @@ module _ (feed : Feed) (into : ℕ) (claims : List Claim) (paths : List Footpath
   back : (from to secs : ℕ) → to ≡ into → listed_secs feed from to ≡ Some secs → HasFootpath paths from to secs
   back from to secs meant e =
       let says : word_between feed from to ≡ Some (Takes secs) = secs_given (word_between feed from to) secs e in
-      let (d, claim, d_to, d_from) = claim_between feed from to (Takes secs) says in
-      let (j, at_d) = at_contains claims d ((all d).1 (claim, d_to ∙ meant)) in
+      let (d, claim, aloud, d_to, d_from) = aloud_between feed from to secs says in
+      let (j, at_d) = at_contains claims d ((all d).1 ((claim, d_to ∙ meant), aloud)) in
       let (k, c, at_c, first, c_to, c_from) = first_place claims j d at_d in
       let to_is : c.to ≡ to = c_to ∙ d_to in
       let from_is : c.from ≡ from = c_from ∙ d_from in

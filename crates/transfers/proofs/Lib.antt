@@ -1,6 +1,8 @@
 pub mod ListLemmas
 pub mod AddLemmas
 pub mod ClaimLemmas
+pub mod BanLemmas
+pub mod AloudLemmas
 pub mod BorderLemmas
 pub mod OrderLemmas
 pub mod WordLemmas
@@ -8,5 +10,6 @@ pub mod MemberLemmas
 pub mod HeardLemmas
 pub mod PathLemmas
 pub mod RangeLemmas
+pub mod VoidLemmas
 pub mod FinalLemmas
 pub mod ListedLemmas

@@ -2,4 +2,5 @@ pub mod Listed
 pub mod Groups
 pub mod Lookup
 pub mod Claims
+pub mod Bans
 pub mod Heard

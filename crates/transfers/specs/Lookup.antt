@@ -7,6 +7,7 @@ use Rattle.gtfs_tables.specs.declared.tables.Place.{Place}
 use Rattle.gtfs_tables.specs.declared.tables.Place.TheVariants.{Stop as TheStop, Station as TheStation}
 use Rattle.transfers.specs.declared.lookup.Lookup.{Lookup}
 use Rattle.transfers.specs.declared.lookup.Known.{Known}
+use Rattle.transfers.specs.Bans.{AreBans}
 use Rattle.transfers.specs.Groups.{AreGroups}
 use Rattle.transfers.specs.Heard.{HearsOnce}
 use Rattle.transfers.specs.Listed.{NamesBelow}
@@ -20,8 +21,9 @@ abbrev pub station_named : Place → Option ℕ
 station_named (TheStop stop) = None
 station_named (TheStation station) = Some station
 
--- stops by their stations, transfers by the stop or the station that they lead to
+-- what transfers forbid, stops by their stations, transfers by the stop or the station that they lead to
 pub record IsLookup (stops : List Stop) (rows : List Transfer) (l : Lookup) : Type 0 where
+  pub bans : AreBans rows l.bans.items
   pub children : AreGroups (map (λ stop. stop.station) stops) l.children.keys.items l.children.numbers.items
   pub into_stops : AreGroups (map (λ row. stop_named row.to) rows) l.into_stops.keys.items l.into_stops.numbers.items
   pub into_stations : AreGroups (map (λ row. station_named row.to) rows) l.into_stations.keys.items l.into_stations.numbers.items

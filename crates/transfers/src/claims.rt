@@ -1,9 +1,11 @@
 //! What is said of a way on foot from a stop to a stop, and who says it.
 
-ghost use Rattle.std.specs.Prelude.{◌≡◌, ◌≤◌, ◌+◌, ◌↔◌, length, IsOk, OnOk};
+ghost use Rattle.std.specs.Prelude.{◌≡◌, OnOk};
+ghost use Rattle.transfers.specs.Bans.{Aloud, IsOwnInto};
 ghost use Rattle.transfers.specs.declared.claims.Claim.{Claim};
 ghost use Rattle.transfers.specs.Listed.{source_of, given_or, word_of};
-ghost use Rattle.transfers.specs.Claims.{Adds, ForOneOf, IsPairClaim, IsNumberedClaim, IsSiblingPair, IsStationClaim, IsLoopOf, IsStopClaim, IsClaimInto};
+ghost use Rattle.transfers.specs.Claims.{Adds, ForOneOf, IsPairClaim, IsRowInto, IsNumberedClaim, IsSiblingPair, IsSiblingInto};
+ghost use Rattle.transfers.specs.Claims.{IsStationClaim, IsLoopOf, IsStopClaim, IsClaimInto};
 ghost use Rattle.transfers.specs.Lookup.{IsKnown, stops_in, transfers_in};
 
 use crate::lookup::Known;
@@ -46,15 +48,14 @@ pub struct Claim {
     pub word: Word,
 }
 
-/// What is claimed so far, and room for how many claims more.
+/// What is claimed so far.
 #[derive(Drop)]
 pub(crate) struct Claims {
     pub made: Vec<Claim>,
-    pub room: usize,
 }
 
 // Whether a transfer names both stops themselves, or a station.
-fn source_of(row: &Transfer) -> Source
+pub(crate) fn source_of(row: &Transfer) -> Source
     ensures { result ≡ source_of row.now }
 {
     match (row.from, row.to) {
@@ -89,22 +90,9 @@ pub(crate) fn word_of(row: &Transfer, is_loop: bool) -> Option<Word>
     }
 }
 
-// Takes so much of the room for claims.
-fn take_room(room: &mut usize, count: usize) -> Result<(), AllocError>
-    ensures fits { IsOk result ↔ (count ≤ room.old) }
-    ensures left { OnOk result (room.new + count ≡ room.old) }
-{
-    if count > *room {
-        return Err(AllocError);
-    }
-    *room -= count;
-    Ok(())
-}
-
 // Adds what a transfer says of a pair of stops.
 fn claim_pair(claims: &mut Vec<Claim>, row: &Transfer, from: u32, to: u32) -> Result<(), AllocError>
-    ensures one { OnOk result (length claims.new.items ≤ length claims.old.items + 1) }
-    ensures adds { OnOk result (Adds claims.old.items claims.new.items (IsPairClaim row.now from to)) }
+    ensures { OnOk result (Adds claims.old.items claims.new.items (IsPairClaim row.now from to)) }
 {
     if let Some(word) = word_of(row, from == to) {
         let source = source_of(row);
@@ -125,8 +113,7 @@ fn claim_into(
     froms: &[u32],
     to: u32,
 ) -> Result<(), AllocError>
-    ensures few { OnOk result (length claims.new.items ≤ length claims.old.items + length froms.now) }
-    ensures adds { OnOk result (Adds claims.old.items claims.new.items (ForOneOf froms.now (λ from. IsPairClaim row.now from to))) }
+    ensures { OnOk result (Adds claims.old.items claims.new.items (ForOneOf froms.now (λ from. IsPairClaim row.now from to))) }
 {
     for from in froms {
         claim_pair(claims, row, *from, to)?;
@@ -136,8 +123,7 @@ fn claim_into(
 
 // Adds what holds of a way from a stop to one of the same station, where no transfer counts.
 fn claim_sibling(claims: &mut Vec<Claim>, from: u32, to: u32) -> Result<(), AllocError>
-    ensures one { OnOk result (length claims.new.items ≤ length claims.old.items + 1) }
-    ensures adds { OnOk result (Adds claims.old.items claims.new.items (IsSiblingPair from to)) }
+    ensures { OnOk result (Adds claims.old.items claims.new.items (IsSiblingPair from to)) }
 {
     if from != to {
         claims.push(Claim {
@@ -152,8 +138,7 @@ fn claim_sibling(claims: &mut Vec<Claim>, from: u32, to: u32) -> Result<(), Allo
 
 // Adds what holds of the ways to a stop from those of the same station, where no transfer counts.
 fn claim_siblings_of(claims: &mut Vec<Claim>, children: &[u32], to: u32) -> Result<(), AllocError>
-    ensures few { OnOk result (length claims.new.items ≤ length claims.old.items + length children.now) }
-    ensures adds { OnOk result (Adds claims.old.items claims.new.items (ForOneOf children.now (λ from. IsSiblingPair from to))) }
+    ensures { OnOk result (Adds claims.old.items claims.new.items (ForOneOf children.now (λ from. IsSiblingPair from to))) }
 {
     for from in children {
         claim_sibling(claims, *from, to)?;
@@ -162,18 +147,39 @@ fn claim_siblings_of(claims: &mut Vec<Claim>, children: &[u32], to: u32) -> Resu
 }
 
 impl Claims {
+    // Adds what a transfer says of a stop's loop, if it leaves the stop.
+    fn add_own(&mut self, known: &Known, row: &Transfer, to: u32) -> Result<(), AllocError>
+        requires { IsKnown known.now }
+        ensures { OnOk result (Adds self.old.made.items self.new.made.items (IsOwnInto (stops_in known.now) to row.now)) }
+    {
+        if known.stands_for(&row.from, to) {
+            claim_pair(&mut self.made, row, to, to)
+        } else {
+            Ok(())
+        }
+    }
+
+    // Adds what a transfer says of the ways into a stop.
+    fn add_said(&mut self, known: &Known, row: &Transfer, to: u32) -> Result<(), AllocError>
+        requires { IsKnown known.now }
+        ensures { OnOk result (Adds self.old.made.items self.new.made.items
+            (Aloud (stops_in known.now) (transfers_in known.now) (IsRowInto (stops_in known.now) to row.now))) }
+    {
+        if known.is_mute(row, to) {
+            self.add_own(known, row, to)
+        } else {
+            claim_into(&mut self.made, row, known.lookup.stood_for(&row.from), to)
+        }
+    }
+
     // Adds what the transfer of a number says of the ways into a stop.
     fn add_row(&mut self, known: &Known, number: u32, to: u32) -> Result<(), AllocError>
         requires { IsKnown known.now }
-        ensures room { OnOk result (length self.new.made.items + self.new.room ≤ length self.old.made.items + self.old.room) }
-        ensures adds { OnOk result (Adds self.old.made.items self.new.made.items (IsNumberedClaim (stops_in known.now) (transfers_in known.now) to number)) }
+        ensures { OnOk result (Adds self.old.made.items self.new.made.items
+            (Aloud (stops_in known.now) (transfers_in known.now) (IsNumberedClaim (stops_in known.now) (transfers_in known.now) to number))) }
     {
         match known.lookup.transfers.get(number as usize) {
-            Some(row) => {
-                let froms = known.lookup.stood_for(&row.from);
-                take_room(&mut self.room, froms.len())?;
-                claim_into(&mut self.made, row, froms, to)
-            }
+            Some(row) => self.add_said(known, row, to),
             None => Ok(()),
         }
     }
@@ -181,35 +187,44 @@ impl Claims {
     // Adds what transfers say of the ways into a stop.
     fn add_rows(&mut self, known: &Known, numbers: &[u32], to: u32) -> Result<(), AllocError>
         requires { IsKnown known.now }
-        ensures room { OnOk result (length self.new.made.items + self.new.room ≤ length self.old.made.items + self.old.room) }
-        ensures adds { OnOk result (Adds self.old.made.items self.new.made.items
-            (ForOneOf numbers.now (IsNumberedClaim (stops_in known.now) (transfers_in known.now) to))) }
+        ensures { OnOk result (Adds self.old.made.items self.new.made.items
+            (Aloud (stops_in known.now) (transfers_in known.now)
+            (ForOneOf numbers.now (IsNumberedClaim (stops_in known.now) (transfers_in known.now) to)))) }
     {
-        take_room(&mut self.room, numbers.len())?;
         for number in numbers {
             self.add_row(known, *number, to)?;
         }
         Ok(())
     }
 
+    // Adds what holds of the ways to a stop from those of its station, where no transfer counts.
+    fn add_siblings(&mut self, known: &Known, station: u32, to: u32) -> Result<(), AllocError>
+        requires { IsKnown known.now }
+        ensures { OnOk result (Adds self.old.made.items self.new.made.items
+            (Aloud (stops_in known.now) (transfers_in known.now) (IsSiblingInto (stops_in known.now) station to))) }
+    {
+        if known.is_void(Some(station), known.station_of(to)) {
+            Ok(())
+        } else {
+            claim_siblings_of(&mut self.made, known.lookup.children_of(station), to)
+        }
+    }
+
     // Adds what is said of the ways into a stop as one of a station.
     fn add_station(&mut self, known: &Known, station: u32, to: u32) -> Result<(), AllocError>
         requires { IsKnown known.now }
-        ensures room { OnOk result (length self.new.made.items + self.new.room ≤ length self.old.made.items + self.old.room) }
-        ensures adds { OnOk result (Adds self.old.made.items self.new.made.items (IsStationClaim (stops_in known.now) (transfers_in known.now) station to)) }
+        ensures { OnOk result (Adds self.old.made.items self.new.made.items
+            (Aloud (stops_in known.now) (transfers_in known.now)
+            (IsStationClaim (stops_in known.now) (transfers_in known.now) station to))) }
     {
         self.add_rows(known, known.lookup.into_stations.group(station), to)?;
-        let siblings = known.lookup.children_of(station);
-        take_room(&mut self.room, siblings.len())?;
-        claim_siblings_of(&mut self.made, siblings, to)
+        self.add_siblings(known, station, to)
     }
 
     // Adds what holds of the loop of a stop, where no transfer counts.
     fn add_loop(&mut self, stop: u32) -> Result<(), AllocError>
-        ensures room { OnOk result (length self.new.made.items + self.new.room ≤ length self.old.made.items + self.old.room) }
-        ensures adds { OnOk result (Adds self.old.made.items self.new.made.items (IsLoopOf stop)) }
+        ensures { OnOk result (Adds self.old.made.items self.new.made.items (IsLoopOf stop)) }
     {
-        take_room(&mut self.room, 1)?;
         self.made.push(Claim {
             to: stop,
             from: stop,
@@ -222,8 +237,9 @@ impl Claims {
     // Adds what is said of the ways into a stop of the feed, beside the transfers that lead to the stop itself.
     fn add_stop(&mut self, known: &Known, station: Option<u32>, to: u32) -> Result<(), AllocError>
         requires { IsKnown known.now }
-        ensures room { OnOk result (length self.new.made.items + self.new.room ≤ length self.old.made.items + self.old.room) }
-        ensures adds { OnOk result (Adds self.old.made.items self.new.made.items (IsStopClaim (stops_in known.now) (transfers_in known.now) station to)) }
+        ensures { OnOk result (Adds self.old.made.items self.new.made.items
+            (Aloud (stops_in known.now) (transfers_in known.now)
+            (IsStopClaim (stops_in known.now) (transfers_in known.now) station to))) }
     {
         match station {
             Some(station) => {
@@ -234,12 +250,11 @@ impl Claims {
         }
     }
 
-    /// Adds all that is said of the ways into a stop, where there is room: each transfer that leads there and each stop that it leaves
-    /// takes room for a claim, and so do each stop of the same station and the stop's loop. Room is taken before the claims are made.
+    /// Adds all that is said of the ways into a stop, but for what doesn't count since no transfer is possible between their stations.
     pub fn add_ways(&mut self, known: &Known, to: u32) -> Result<(), AllocError>
         requires { IsKnown known.now }
-        ensures room { OnOk result (length self.new.made.items + self.new.room ≤ length self.old.made.items + self.old.room) }
-        ensures adds { OnOk result (Adds self.old.made.items self.new.made.items (IsClaimInto (stops_in known.now) (transfers_in known.now) to)) }
+        ensures { OnOk result (Adds self.old.made.items self.new.made.items
+            (Aloud (stops_in known.now) (transfers_in known.now) (IsClaimInto (stops_in known.now) (transfers_in known.now) to))) }
     {
         self.add_rows(known, known.lookup.into_stops.group(to), to)?;
         match known.feed.stops.get(to as usize) {

@@ -86,7 +86,7 @@ fn hear(kept: &mut Vec<Transfer>, row: &Transfer) -> Result<(), AllocError>
     Ok(())
 }
 
-/// The transfers without those that say nothing that counts beside others of the same two places: at most three are left of these.
+/// The transfers without those that say nothing that counts beside others of the same two places: at most four are left of these.
 pub(crate) fn heard_once(alloc: Global, rows: &[Transfer]) -> Result<Vec<Transfer>, AllocError>
     ensures { IfOk result (λ kept. HearsOnce rows.now kept.items) }
 {

@@ -1,6 +1,7 @@
 //! The footpaths that a feed lists: by its transfers, between the stops of a station, and at each stop.
 #![tactic(auto)]
 
+mod bans;
 mod claims;
 mod fault;
 mod groups;
@@ -10,4 +11,4 @@ mod listing;
 mod lookup;
 
 pub use fault::ListingFault;
-pub use listing::{MAX_CLAIMS, listed, listed_in_room, listed_within};
+pub use listing::{listed, listed_within};

@@ -48,7 +48,6 @@ fn add_first(paths: &mut Vec<Footpath>, claims: &[Claim], place: usize) -> Resul
     ensures paths { ArePathsBelow claims.now place paths.old.items → OnOk result (ArePathsBelow claims.now (place + 1) paths.new.items) }
     ensures order { AreSorted claims.now → ArePathsBelow claims.now place paths.old.items → AreInOrder paths.old.items
         → OnOk result (AreInOrder paths.new.items) }
-    ensures one { OnOk result (length paths.new.items ≤ length paths.old.items + 1) }
 {
     if is_first(claims, place) {
         add_path(paths, &claims[place])?;
@@ -61,7 +60,6 @@ fn paths_of(alloc: Global, claims: &[Claim]) -> Result<Vec<Footpath>, AllocError
     requires { AreSorted claims.now }
     ensures paths { IfOk result (λ v. ArePathsBelow claims.now (length claims.now) v.items) }
     ensures order { IfOk result (λ v. AreInOrder v.items) }
-    ensures few { IfOk result (λ v. length v.items ≤ length claims.now) }
 {
     let mut paths = Vec::new(alloc);
     for place in 0..claims.len() {
@@ -70,26 +68,22 @@ fn paths_of(alloc: Global, claims: &[Claim]) -> Result<Vec<Footpath>, AllocError
     Ok(paths)
 }
 
-// Adds the footpaths into a stop, behind those into the stops before it, where there is room for all that is claimed of them.
+// Adds the footpaths into a stop, behind those into the stops before it.
 fn add_ways(
     alloc: Global,
     paths: &mut Vec<Footpath>,
     known: &Known,
     to: u32,
-    room: &mut usize,
 ) -> Result<(), AllocError>
     requires lookup { IsKnown known.now }
     requires heard { IsHeard known.now }
-    ensures room { OnOk result (length paths.new.items + room.new ≤ length paths.old.items + room.old) }
-    ensures listed { AreListed known.now.feed.now (LeadBelow to) paths.old.items
+    ensures { AreListed known.now.feed.now (LeadBelow to) paths.old.items
         → OnOk result (AreListed known.now.feed.now (LeadBelow (to + 1)) paths.new.items) }
 {
     let mut claims = Claims {
         made: Vec::new(alloc),
-        room: *room,
     };
     claims.add_ways(known, to)?;
-    *room = claims.room;
     claims.made.sort()?;
     let ways = paths_of(alloc, &claims.made)?;
     paths.extend_from_slice(&ways)
@@ -102,18 +96,16 @@ fn add_within(
     known: &Known,
     to: u32,
     most: usize,
-    room: &mut usize,
 ) -> Result<(), ListingFault>
     requires lookup { IsKnown known.now }
     requires heard { IsHeard known.now }
     requires before { AreListed known.now.feed.now (LeadBelow to) paths.old.items }
     ensures listed { OnOk result (AreListed known.now.feed.now (LeadBelow (to + 1)) paths.new.items) }
     ensures few { OnOk result (length paths.new.items ≤ most) }
-    ensures room { OnOk result (length paths.new.items + room.new ≤ length paths.old.items + room.old) }
     ensures many { IfErr result (λ fault. fault ≡ TooMany
         → AreListed known.now.feed.now (LeadBelow (to + 1)) paths.new.items × (most < length paths.new.items)) }
 {
-    add_ways(alloc, paths, known, to, room)?;
+    add_ways(alloc, paths, known, to)?;
     if paths.len() > most {
         return Err(ListingFault::TooMany);
     }
@@ -126,29 +118,22 @@ fn paths_below(
     known: &Known,
     end: usize,
     most: usize,
-    room: usize,
 ) -> Result<Vec<Footpath>, ListingFault>
     requires lookup { IsKnown known.now }
     requires heard { IsHeard known.now }
     requires small { end ≤ 2 ^ 32 }
     ensures listed { IfOk result (λ v. AreListed known.now.feed.now (LeadBelow end) v.items) }
     ensures few { IfOk result (λ v. length v.items ≤ most) }
-    ensures room { IfOk result (λ v. length v.items ≤ room) }
     ensures many { IfErr result (λ fault. fault ≡ TooMany → ListsMoreBelow known.now.feed.now end most) }
 {
     let mut paths = Vec::new(alloc);
-    let mut left = room;
     for to in 0..end {
-        if let Err(fault) = add_within(alloc, &mut paths, known, to as u32, most, &mut left) {
+        if let Err(fault) = add_within(alloc, &mut paths, known, to as u32, most) {
             return Err(fault);
         }
     }
     Ok(paths)
 }
-
-/// How many claims [`listed_within`] has room for, in all: what transfers, and stations, say of pairs of stops. A feed that makes more
-/// counts as want of memory.
-pub const MAX_CLAIMS: usize = 100_000_000;
 
 /// The footpaths that a feed lists, with their times in seconds, by the stop led into, then by the stop left, as the GTFS
 /// Schedule Reference has them, where they are that many at most.
@@ -168,33 +153,10 @@ pub const MAX_CLAIMS: usize = 100_000_000;
 ///
 /// `TooMany` where the feed lists more footpaths than that. It is told as soon as more are found, stop by stop: never is there
 /// room for more than those and the footpaths into one stop. `OutOfMemory` where memory was wanting; more stops than a `u32` can
-/// number count as that, and so do more claims than [`MAX_CLAIMS`].
+/// number count as that.
 pub fn listed_within(alloc: Global, feed: &Feed, most: usize) -> Result<Vec<Footpath>, ListingFault>
     ensures all { IfOk result (λ v. AreAllListed feed.now v.items) }
     ensures few { IfOk result (λ v. length v.items ≤ most) }
-    ensures many { IfErr result (λ fault. fault ≡ TooMany → ListsMore feed.now most) }
-{
-    listed_in_room(alloc, feed, most, MAX_CLAIMS)
-}
-
-/// The footpaths that a feed lists, as [`listed_within`] gives them, with room for so many claims in all.
-///
-/// For each stop, in order, these count as claims: each transfer that leads there, be it to its station, and each stop that such a
-/// transfer leaves; each stop of the same station; and the stop's loop. They are counted before they are made.
-///
-/// # Errors
-///
-/// `TooMany` as there, of the stops for which there is room. `OutOfMemory` where memory was wanting, or room: a stop whose claims
-/// go beyond it isn't looked at, nor is any behind it.
-pub fn listed_in_room(
-    alloc: Global,
-    feed: &Feed,
-    most: usize,
-    room: usize,
-) -> Result<Vec<Footpath>, ListingFault>
-    ensures all { IfOk result (λ v. AreAllListed feed.now v.items) }
-    ensures few { IfOk result (λ v. length v.items ≤ most) }
-    ensures room { IfOk result (λ v. length v.items ≤ room) }
     ensures many { IfErr result (λ fault. fault ≡ TooMany → ListsMore feed.now most) }
 {
     if feed.stops.len() > u32::MAX as usize {
@@ -206,11 +168,10 @@ pub fn listed_in_room(
         feed,
         lookup: &lookup,
     };
-    paths_below(alloc, &known, end, most, room)
+    paths_below(alloc, &known, end, most)
 }
 
-/// The footpaths that a feed lists, as [`listed_within`] gives them, however many they are. Want of memory is the only error; more
-/// claims than [`MAX_CLAIMS`] count as that.
+/// The footpaths that a feed lists, as [`listed_within`] gives them, however many they are. Want of memory is the only error.
 pub fn listed(alloc: Global, feed: &Feed) -> Result<Vec<Footpath>, AllocError>
     ensures all { IfOk result (λ v. AreAllListed feed.now v.items) }
 {

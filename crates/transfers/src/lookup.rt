@@ -1,13 +1,16 @@
 //! Which stops the places of transfers stand for, and which transfers lead where.
 
-ghost use Rattle.std.specs.Prelude.{◌≡◌, ◌<◌, ◌≤◌, ◌+◌, ◌^◌, List, length, map, IfOk};
+ghost use Rattle.std.specs.Prelude.{◌≡◌, ◌<◌, ◌≤◌, ◌+◌, ◌^◌, true, false, List, length, map, IfOk};
 ghost use Rattle.gtfs_tables.specs.declared.tables.Stop.{Stop as TheStop};
 ghost use Rattle.gtfs_tables.specs.declared.tables.Transfer.{Transfer as TheTransfer};
+ghost use Rattle.transfers.specs.Bans.{IsMute, IsVoid, station_at};
 ghost use Rattle.transfers.specs.Claims.{AreStoodFor, AreChildren};
 ghost use Rattle.transfers.specs.Heard.{HearsOnce};
-ghost use Rattle.transfers.specs.Listed.{NamesBelow};
-ghost use Rattle.transfers.specs.Lookup.{IsLookup, EndsBelow, stop_named, station_named};
+ghost use Rattle.transfers.specs.Listed.{NamesBelow, is_station, stands_for, station_of};
+ghost use Rattle.transfers.specs.Lookup.{EndsBelow, IsKnown, IsLookup, stop_named, station_named, stops_in, transfers_in};
 
+use crate::bans::{Ban, bans_of, is_ban};
+use crate::claims::{Source, source_of};
 use crate::groups::Groups;
 use crate::heard::heard_once;
 use gtfs_tables::{Feed, Place, Stop, Transfer};
@@ -19,6 +22,8 @@ use std::slice;
 pub(crate) struct Lookup {
     /// The feed's transfers without those that say nothing that counts.
     pub transfers: Vec<Transfer>,
+    /// The pairs of stations between which one of them says that none is possible.
+    pub bans: Vec<Ban>,
     /// The stops by their stations.
     pub children: Groups,
     /// The transfers that lead to stops themselves, by these.
@@ -89,12 +94,14 @@ impl Lookup {
         ensures heard { IfOk result (λ l. HearsOnce feed.now.transfers.items l.transfers.items) }
     {
         let transfers = heard_once(alloc, &feed.transfers)?;
+        let bans = bans_of(alloc, &transfers)?;
         let children = Groups::new(alloc, &stations(alloc, &feed.stops)?)?;
         let (stops, stations) = ends_named(alloc, &transfers)?;
         let into_stops = Groups::new(alloc, &stops)?;
         let into_stations = Groups::new(alloc, &stations)?;
         Ok(Lookup {
             transfers,
+            bans,
             children,
             into_stops,
             into_stations,
@@ -116,6 +123,75 @@ impl Lookup {
             Place::Stop(stop) => slice::from_ref(stop),
             Place::Station(station) => self.children_of(*station),
         }
+    }
+}
+
+impl<'a> Known<'a> {
+    /// The station of a stop.
+    pub fn station_of(&self, stop: u32) -> Option<u32>
+        ensures { result ≡ station_of (stops_in self.now) stop }
+    {
+        match self.feed.stops.get(stop as usize) {
+            Some(stop) => stop.station,
+            None => None,
+        }
+    }
+
+    // The station that an end of a transfer is, or is a stop of.
+    fn station_at(&self, place: &Place) -> Option<u32>
+        ensures { result ≡ station_at (stops_in self.now) place.now }
+    {
+        match place {
+            Place::Stop(stop) => self.station_of(*stop),
+            Place::Station(station) => Some(*station),
+        }
+    }
+
+    /// Whether an end of a transfer stands for a stop.
+    pub fn stands_for(&self, place: &Place, stop: u32) -> bool
+        ensures { result ≡ stands_for (stops_in self.now) place.now stop }
+    {
+        match place {
+            Place::Stop(named) => *named == stop,
+            Place::Station(station) => is_station(self.station_of(stop), *station),
+        }
+    }
+
+    /// Whether a transfer says that none is possible between two stations, of stops of which each may have none.
+    pub fn is_void(&self, from: Option<u32>, to: Option<u32>) -> bool
+        requires { IsKnown self.now }
+        ensures void { result ≡ true → IsVoid (transfers_in self.now) from to }
+        ensures fine { result ≡ false → ¬ IsVoid (transfers_in self.now) from to }
+    {
+        match (from, to) {
+            (Some(from), Some(to)) => is_ban(&self.lookup.bans, from, to),
+            (Some(_), None) => false,
+            (None, _) => false,
+        }
+    }
+
+    /// Whether a transfer says nothing of the ways into a stop but of its loop: none is possible between its stations, and it doesn't
+    /// name both stops itself.
+    pub fn is_mute(&self, row: &Transfer, to: u32) -> bool
+        requires { IsKnown self.now }
+        ensures mute { result ≡ true → IsMute (stops_in self.now) (transfers_in self.now) row.now to }
+        ensures aloud { result ≡ false → ¬ IsMute (stops_in self.now) (transfers_in self.now) row.now to }
+    {
+        match source_of(row) {
+            Source::Stops => false,
+            Source::Station => self.is_void(self.station_at(&row.from), self.station_of(to)),
+            Source::Default => self.is_void(self.station_at(&row.from), self.station_of(to)),
+        }
+    }
+}
+
+// Whether a stop's station is that one.
+fn is_station(station: Option<u32>, wanted: u32) -> bool
+    ensures { result ≡ is_station station wanted }
+{
+    match station {
+        Some(station) => station == wanted,
+        None => false,
     }
 }
 

@@ -4,9 +4,10 @@ use super::failing::{Failing, ORDER};
 use feed_files::{
     FeedFiles, FileFault, FolderFiles, MemoryFiles, ReadFault, file_up_to, read_tables,
 };
-use gtfs_tables::{FaultKind, Table, TableFault, Tables};
+use gtfs_tables::{FaultKind, IdHash, Table, TableFault, Tables, join};
 use std::alloc::{AllocError, Global};
 use std::fs;
+use std::hash::BuildHasher;
 use std::test::Fail;
 
 const AGENCY: &[u8] =
@@ -193,6 +194,20 @@ fn long_file(alloc: Global, lines: usize) -> Result<String, AllocError> {
     Ok(text)
 }
 
+// Whether two hashes are of one key.
+fn are_of_one_key(first: &IdHash, second: &IdHash) -> bool {
+    first.hash_one("A") == second.hash_one("A")
+}
+
+// A stranger who knows the key of one folder knows that of no other.
+#[test]
+fn folders_draw_their_keys(rt: HostRuntime) {
+    let first = FolderFiles::new(&rt, "no_such_folder");
+    let second = FolderFiles::new(&rt, "no_such_folder");
+    assert!(rt; are_of_one_key(&first.id_hash(), &first.id_hash()));
+    assert!(rt; !are_of_one_key(&first.id_hash(), &second.id_hash()));
+}
+
 // All eight files of a feed in a folder, one of them longer than is read at once.
 #[test]
 fn a_folder_is_read_whole(rt: HostRuntime) -> Result<(), Fail> {
@@ -222,6 +237,9 @@ fn a_folder_is_read_whole(rt: HostRuntime) -> Result<(), Fail> {
     assert_eq!(rt; tables.calendar_dates.len(), 9000);
     assert_eq!(rt; tables.transfers.len(), 2);
     assert_eq!(rt; tables.frequencies.len(), 1);
+    assert!(rt; are_of_one_key(tables.stop_times.trips.hasher(), &files.id_hash()));
+    assert!(rt; are_of_one_key(tables.stop_times.stops.hasher(), &files.id_hash()));
+    assert!(rt; are_of_one_key(&join(rt.alloc(), tables, false)?.hash, &files.id_hash()));
     for table in ORDER {
         let name = table.file_name();
         let path = format!(in rt.alloc(); "whole_feed/{name}")?;

@@ -3,9 +3,10 @@
 use super::texts::{Case, Telling, joined, joined_or_refused, number, paths_text, try_cases};
 use gtfs_tables::Feed;
 use std::alloc::Global;
+use std::fmt::Write;
 use std::process::Abort;
 use std::test::Fail;
-use transfers::{ListingFault, listed, listed_in_room, listed_within};
+use transfers::{ListingFault, listed, listed_within};
 
 // A stop without a station, A, and two of the station S, B and C. The station H has no stops, and nothing runs.
 const BASE: &str = "\
@@ -46,7 +47,24 @@ A,S,2,30|A,B,2,300|S,A,2,40|S,A,3,|B,A,2,50
 = a station with two stops, and none beside them
 S,S,2,180
 stops.txt: S,1,|P,0,S|Q,0,S
-> 0 0 180, 1 0 180, 0 1 180, 1 1 180";
+> 0 0 180, 1 0 180, 0 1 180, 1 1 180
+= a station kept apart from itself, but for two stops that a transfer names
+S,S,3,|S,S,2,180|B,C,2,60
+> 0 0 0, 1 1 180, 1 2 60, 2 2 180
+= of a stop's way to its station, which is kept apart from itself, its loop alone is left
+C,S,2,50|S,B,2,40|S,S,3,
+> 0 0 0, 1 1 40, 2 2 50
+= one station is kept apart from another, but not the other from it
+S,T,3,|S,T,2,60|P,T,2,30|S,Q,2,20|T,S,2,70
+stops.txt: S,1,|T,1,|P,0,S|Q,0,T
+> 0 0 0, 1 0 70, 1 1 0
+= the same, with a transfer from stop to stop
+S,T,3,|P,T,2,30|P,Q,2,40
+stops.txt: S,1,|T,1,|P,0,S|Q,0,T
+> 0 0 0, 0 1 40, 1 1 0
+= rows of the same two places: one forbids, others have times
+S,S,2,90|S,S,0,|S,S,3,|S,S,2,30|S,S,4,
+> 0 0 0, 1 1 0, 2 2 0";
 
 struct Transfers;
 
@@ -70,30 +88,13 @@ const BOUNDS: &str = "\
 4: TooMany
 0: TooMany";
 
-// The same with room for so many claims. A station that is kept apart from itself lists no footpath within it, and takes room all the
-// same: for the first stop its loop; for each of the two others the transfer, two stops left, two of the station, and a loop.
-const ROOMS: &str = "\
-3 14: 3
-3 13: 3
-3 12: OutOfMemory
-2 13: TooMany
-1 7: TooMany
-1 6: OutOfMemory
-0 1: TooMany
-0 0: OutOfMemory";
-
+// How many footpaths are listed if they may be so many.
 fn listed_in(
     alloc: Global,
     feed: &Feed,
-    bounds: &str,
+    bound: &str,
 ) -> Result<Result<usize, ListingFault>, Fail> {
-    let paths = match bounds.split_once(' ') {
-        Some((most, room)) => {
-            listed_in_room(alloc, feed, number(most)? as usize, number(room)? as usize)
-        }
-        None => listed_within(alloc, feed, number(bounds)? as usize),
-    };
-    match paths {
+    match listed_within(alloc, feed, number(bound)? as usize) {
         Ok(paths) => Ok(Ok(paths.len())),
         Err(fault) => Ok(Err(fault)),
     }
@@ -117,10 +118,32 @@ fn no_more_than_allowed(rt: HostRuntime) -> Result<(), Fail> {
     try_bounds(&rt, rt.alloc(), &feed, BOUNDS)
 }
 
+// A station of so many platforms.
+fn platforms(alloc: Global, count: u32) -> Result<String, Fail> {
+    let mut stops = String::from_str(alloc, "stops.txt: S,1,")?;
+    for platform in 0..count {
+        write!(stops, "|P{platform},0,S")?;
+    }
+    Ok(stops)
+}
+
+// How many footpaths a station of so many platforms lists with these transfers, if they may be as many as the platforms.
+fn listed_at(alloc: Global, count: u32, transfers: &str) -> Result<Option<usize>, Fail> {
+    let stops = platforms(alloc, count)?;
+    let files = format!(in alloc; "transfers.txt: {transfers}\n{stops}")?;
+    let feed = joined(alloc, files.as_str(), BASE, true)?;
+    match listed_within(alloc, &feed, count as usize) {
+        Ok(paths) => Ok(Some(paths.len())),
+        Err(_) => Ok(None),
+    }
+}
+
+// Its pairs are never gone through: there are 400,000,000 of them.
 #[test]
-fn claims_take_room(rt: HostRuntime) -> Result<(), Fail> {
-    let feed = feed_with(rt.alloc(), "S,S,3,")?;
-    try_bounds(&rt, rt.alloc(), &feed, ROOMS)
+fn a_station_that_forbids_lists_loops(rt: HostRuntime) -> Result<(), Fail> {
+    assert_eq!(rt; listed_at(rt.alloc(), 20_000, "S,S,3,")?, Some(20_000));
+    assert_eq!(rt; listed_at(rt.alloc(), 20_000, "S,S,2,")?, None);
+    Ok(())
 }
 
 // Whichever growth is refused, want of memory is told. A refused growth ends the test with `AllocError`.

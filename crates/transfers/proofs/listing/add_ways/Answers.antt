@@ -2,6 +2,7 @@ use Rattle.std.proofs.Common.{◌≡◌, ◌↔◌, ◌+◌, ◌++◌, List, Con
 use Rattle.std.proofs.lemmas.Result.{on_ok_weaker}
 use Rattle.timetable.specs.declared.network.Footpath.{Footpath}
 use Rattle.transfers.specs.declared.claims.Claim.{Claim}
+use Rattle.transfers.specs.Bans.{Aloud}
 use Rattle.transfers.specs.Claims.{AreSorted, IsClaimInto}
 use Rattle.transfers.specs.Listed.{AreListed, LeadBelow}
 use Rattle.transfers.proofs.OrderLemmas.{sorted_claims}
@@ -15,18 +16,18 @@ pub paths_of-requires : goal.paths_of-requires
 paths_of-requires c =
     subst (λ (claims : List Claim). AreSorted claims) (sym c.deref.ensures.value) (sorted_claims c.sort.new.self.items c.in_ok-sort.ensures.sorted)
 
-pub returns-clause-listed : goal.returns-clause-listed
-returns-clause-listed c = λ before.
+pub returns : goal.returns
+returns c = λ before.
     let stops = c.args.known.now.feed.now.stops.items in
     let rows = c.args.known.now.lookup.now.transfers.items in
     let heard : Feed = record (c.args.known.now.feed.now) { transfers = c.args.known.now.lookup.now.transfers } in
     let claims = c.deref.result.now in
     let sorted : AreSorted claims = subst
     (λ (claims : List Claim). AreSorted claims) (sym c.deref.ensures.value) (sorted_claims c.sort.new.self.items c.in_ok-sort.ensures.sorted) in
-    let all : (x : Claim) → Contains claims x ↔ IsClaimInto stops rows c.args.to x = λ x. subst
-    (λ (xs : List Claim). Contains xs x ↔ IsClaimInto stops rows c.args.to x) (sym c.deref.ensures.value)
+    let all : (x : Claim) → Contains claims x ↔ Aloud stops rows (IsClaimInto stops rows c.args.to) x = λ x. subst
+    (λ (xs : List Claim). Contains xs x ↔ Aloud stops rows (IsClaimInto stops rows c.args.to) x) (sym c.deref.ensures.value)
     (moved_claims c.new.result.items c.add_ways.new.self.made.items c.sort.new.self.items
-    (IsClaimInto stops rows c.args.to) c.new.ensures.items c.in_ok-add_ways.ensures.adds c.in_ok-sort.ensures.permutation x) in
+    (Aloud stops rows (IsClaimInto stops rows c.args.to)) c.new.ensures.items c.in_ok-add_ways.ensures c.in_ok-sort.ensures.permutation x) in
     let ways : AreListed c.args.known.now.feed.now (λ a b. b ≡ c.args.to) c.in_ok-ways.ways.items =
     same_listed c.args.known.now.feed.now heard refl c.requires.heard (λ a b. b ≡ c.args.to) c.in_ok-ways.ways.items (ways_listed heard c.args.to claims c.in_ok-ways.ways.items sorted all c.in_ok-ways.ensures.paths c.in_ok-ways.ensures.order) in
     let next : AreListed c.args.known.now.feed.now (LeadBelow (c.args.to + 1))

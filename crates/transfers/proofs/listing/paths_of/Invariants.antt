@@ -1,4 +1,3 @@
-use Rattle.std.proofs.Common.{◌≤◌, length}
 use Rattle.timetable.specs.Legal.{AreInOrder}
 use Rattle.transfers.specs.Claims.{ArePathsBelow}
 use Rattle.transfers.proofs.listing.paths_of.Given as goal
@@ -7,5 +6,4 @@ abbrev pub invariant-loop-place : goal.invariant-loop-place
 invariant-loop-place l = record {
   paths : ArePathsBelow l.claims l.place l.paths.items;
   order : AreInOrder l.paths.items;
-  few : length l.paths.items ≤ l.place;
 }

@@ -1,11 +1,10 @@
-use Rattle.std.proofs.Common.{◌≤◌, ◌+◌, length, take}
+use Rattle.std.proofs.Common.{take}
+use Rattle.transfers.specs.Bans.{Aloud}
 use Rattle.transfers.specs.Lookup.{stops_in, transfers_in}
 use Rattle.transfers.specs.Claims.{Adds, ForOneOf, IsNumberedClaim}
 use Rattle.transfers.proofs.claims.Claims.add_rows.Given as goal
 
 abbrev pub invariant-loop-number : goal.invariant-loop-number
-invariant-loop-number l = record {
-  room : length l.self.made.items + l.self.room ≤ length l.initial.self.made.items + l.initial.self.room;
-  adds : Adds l.initial.self.made.items l.self.made.items
-      (ForOneOf (take l.number-index l.numbers) (IsNumberedClaim (stops_in l.known) (transfers_in l.known) l.to));
-}
+invariant-loop-number l = Adds l.initial.self.made.items l.self.made.items
+    (Aloud (stops_in l.known) (transfers_in l.known)
+    (ForOneOf (take l.number-index l.numbers) (IsNumberedClaim (stops_in l.known) (transfers_in l.known) l.to)))

@@ -3,7 +3,7 @@ use Rattle.std.proofs.Common.{◌≡◌}
 use Rattle.transfers.specs.Listed.{AreAllListed, AreListed, LeadBelow, ListsMore, ListsMoreBelow}
 use Rattle.transfers.specs.declared.fault.ListingFault.TheVariants.{TooMany}
 use Rattle.transfers.proofs.ListedLemmas.{all_listed, lists_more}
-use Rattle.transfers.proofs.listing.listed_in_room.Goals as goal
+use Rattle.transfers.proofs.listing.listed_within.Goals as goal
 
 pub returns-clause-all : goal.returns-clause-all
 returns-clause-all c = IfOk-weaker c.paths_below.result (λ v. AreListed c.args.feed.now (LeadBelow c.end_of_stops-end.result) v.items)

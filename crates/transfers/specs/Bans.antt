@@ -1,0 +1,88 @@
+-- The pairs of stations between which no transfer is possible.
+use Rattle.std.specs.Prelude.{◌≡◌, ◌≢◌, ℕ, true, List, [], ◌∷◌, Contains, Option, Some, None}
+use Rattle.std.specs.declared.cmp.Ordering.{Ordering}
+use Rattle.std.specs.Ordering.{nat_cmp, ordering_then}
+use Rattle.std.specs.List.Sorted.{IsSorted}
+use Rattle.gtfs_rows.specs.declared.rows.TransferKind.{TransferKind}
+use Rattle.gtfs_rows.specs.declared.rows.TransferKind.TheVariants.{Recommended, Timed, Minimum, Impossible, Skipped}
+use Rattle.gtfs_tables.specs.declared.tables.Stop.{Stop}
+use Rattle.gtfs_tables.specs.declared.tables.Transfer.{Transfer}
+use Rattle.gtfs_tables.specs.declared.tables.Place.{Place}
+use Rattle.gtfs_tables.specs.declared.tables.Place.TheVariants.{Stop as TheStop, Station as TheStation}
+use Rattle.transfers.specs.declared.bans.Ban.{Ban}
+use Rattle.transfers.specs.declared.claims.Claim.{Claim}
+use Rattle.transfers.specs.declared.claims.Source.{Source}
+use Rattle.transfers.specs.declared.claims.Source.TheVariants.{Stops, Station, Default}
+use Rattle.transfers.specs.Listed.{source_of, stands_for, station_of}
+use Rattle.transfers.specs.Claims.{IsRowInto}
+
+-- a transfer says that none is possible from a station to a station
+abbrev pub IsBan : List Transfer → ℕ → ℕ → Type 0
+IsBan rows from to = (row : Transfer) × Contains rows row × (row.kind ≡ Impossible) × (row.from ≡ TheStation from) × (row.to ≡ TheStation to)
+
+-- the same, where each stop has a station
+abbrev pub IsVoid : List Transfer → Option ℕ → Option ℕ → Type 0
+IsVoid rows None to = ⊥
+IsVoid rows (Some from) None = ⊥
+IsVoid rows (Some from) (Some to) = IsBan rows from to
+
+-- what two places and a kind forbid between stations
+abbrev pub ban_between : Place → Place → Option Ban
+ban_between (TheStop from) to = None
+ban_between (TheStation from) (TheStop to) = None
+ban_between (TheStation from) (TheStation to) = Some (record { to = to; from = from })
+
+abbrev pub listed_ban : Option Ban → List Ban
+listed_ban None = []
+listed_ban (Some ban) = ban ∷ []
+
+abbrev pub bans_by : TransferKind → Place → Place → List Ban
+bans_by Recommended from to = []
+bans_by Timed from to = []
+bans_by Minimum from to = []
+bans_by Impossible from to = listed_ban (ban_between from to)
+bans_by Skipped from to = []
+
+abbrev pub bans_in : Transfer → List Ban
+bans_in row = bans_by row.kind row.from row.to
+
+-- these are all that transfers forbid between two stations
+pub record HasBans (rows : List Transfer) (bans : List Ban) : Type 0 where
+  pub has : (b : Ban) → Contains bans b → IsBan rows b.from b.to
+  pub each : (b : Ban) → IsBan rows b.from b.to → Contains bans b
+
+abbrev pub ban_cmp : Ban → Ban → Ordering
+ban_cmp a b = ordering_then (nat_cmp a.to b.to) (nat_cmp a.from b.from)
+
+-- and they are in order, by the station led into
+pub record AreBans (rows : List Transfer) (bans : List Ban) : Type 0 where
+  pub all : HasBans rows bans
+  pub sorted : IsSorted ban_cmp bans
+
+-- the station that a place is, or a stop of
+abbrev pub station_at : List Stop → Place → Option ℕ
+station_at stops (TheStop stop) = station_of stops stop
+station_at stops (TheStation station) = Some station
+
+-- whether a source counts after one that says that no transfer is possible between stations
+abbrev pub MayBeSilent : Source → Type 0 → Type 0
+MayBeSilent Stops void = ⊥
+MayBeSilent Station void = void
+MayBeSilent Default void = void
+
+-- a transfer says nothing but of loops: none is possible between its stations, and it doesn't name both stops itself
+abbrev pub IsMute : List Stop → List Transfer → Transfer → ℕ → Type 0
+IsMute stops rows row to = MayBeSilent (source_of row) (IsVoid rows (station_at stops row.from) (station_of stops to))
+
+-- a claim needn't be made: no transfer is possible between the stations of its stops, none names both stops itself, and it is of no loop
+pub record IsSilent (stops : List Stop) (rows : List Transfer) (c : Claim) : Type 0 where
+  pub apart : c.from ≢ c.to
+  pub void : MayBeSilent c.source (IsVoid rows (station_of stops c.from) (station_of stops c.to))
+
+-- what is claimed, without what needn't be
+abbrev pub Aloud : List Stop → List Transfer → (Claim → Type 0) → Claim → Type 0
+Aloud stops rows made c = made c × ¬ IsSilent stops rows c
+
+-- a transfer claims it of the way from a stop to itself
+abbrev pub IsOwnInto : List Stop → ℕ → Transfer → Claim → Type 0
+IsOwnInto stops to row c = IsRowInto stops to row c × (c.from ≡ c.to)

@@ -1,0 +1,73 @@
+//! The pairs of stations between which a transfer says that none is possible.
+
+ghost use Rattle.std.specs.Prelude.{◌≡◌, ◌++◌, true, false, List, IfOk, OnOk};
+ghost use Rattle.gtfs_tables.specs.declared.tables.Transfer.{Transfer as TheTransfer};
+ghost use Rattle.transfers.specs.Bans.{AreBans, HasBans, IsBan, ban_between, bans_in};
+
+use gtfs_tables::{Place, Transfer, TransferKind};
+use std::alloc::{AllocError, Global};
+
+/// That no transfer is possible from the stops of a station to those of a station, unless one names both stops themselves.
+#[derive(Clone, Copy, PartialEq, Eq, PartialOrd, Ord)]
+pub(crate) struct Ban {
+    pub to: u32,
+    pub from: u32,
+}
+
+// That none is possible between the stations that two places are, where they are stations.
+fn ban_between(from: Place, to: Place) -> Option<Ban>
+    ensures { result ≡ ban_between from to }
+{
+    match (from, to) {
+        (Place::Station(from), Place::Station(to)) => Some(Ban { to, from }),
+        (Place::Station(_), Place::Stop(_)) => None,
+        (Place::Stop(_), _) => None,
+    }
+}
+
+// Adds what a transfer forbids.
+fn add_ban(bans: &mut Vec<Ban>, row: &Transfer) -> Result<(), AllocError>
+    ensures { OnOk result (bans.new.items ≡ bans.old.items ++ bans_in row.now) }
+{
+    match row.kind {
+        TransferKind::Impossible => match ban_between(row.from, row.to) {
+            Some(ban) => {
+                bans.push(ban)?;
+                Ok(())
+            }
+            None => Ok(()),
+        },
+        TransferKind::Recommended => Ok(()),
+        TransferKind::Timed => Ok(()),
+        TransferKind::Minimum => Ok(()),
+        TransferKind::Skipped => Ok(()),
+    }
+}
+
+// What transfers forbid, in their order.
+fn bans_made(alloc: Global, rows: &[Transfer]) -> Result<Vec<Ban>, AllocError>
+    ensures { IfOk result (λ bans. HasBans rows.now bans.items) }
+{
+    let mut bans = Vec::new(alloc);
+    for row in rows {
+        add_ban(&mut bans, row)?;
+    }
+    Ok(bans)
+}
+
+/// What transfers forbid between two stations, in order.
+pub(crate) fn bans_of(alloc: Global, rows: &[Transfer]) -> Result<Vec<Ban>, AllocError>
+    ensures { IfOk result (λ bans. AreBans rows.now bans.items) }
+{
+    let mut bans = bans_made(alloc, rows)?;
+    bans.sort()?;
+    Ok(bans)
+}
+
+/// Whether a transfer from a station to a station is forbidden.
+pub(crate) fn is_ban(bans: &[Ban], from: u32, to: u32) -> bool
+    ensures found { (rows : List TheTransfer) → AreBans rows bans.now → result ≡ true → IsBan rows from to }
+    ensures none { (rows : List TheTransfer) → AreBans rows bans.now → result ≡ false → ¬ IsBan rows from to }
+{
+    bans.binary_search(&Ban { to, from }).is_ok()
+}
