@@ -93,7 +93,8 @@ module _ (all : List Stop) (rows : List Transfer) (station to : ℕ) where
       ∙ ap (λ (n : ℕ). IsVoid rows (Some station) (station_of all n)) h.to_is
 
   -- within a station between whose stops no transfer is possible nothing holds by default
-  pub void_siblings : (claims : List Claim) → IsVoid rows (Some station) (station_of all to) → Adds claims claims (Aloud all rows (IsSiblingInto all station to))
+  pub void_siblings : (claims : List Claim) → IsVoid rows (Some station) (station_of all to)
+      → Adds claims claims (Aloud all rows (IsSiblingInto all station to))
   void_siblings claims void = adds_nothing claims (Aloud all rows (IsSiblingInto all station to))
       (λ c m. m.1 (record { apart = m.0.differ; void = subst (λ (P : Type 0). P) (sym (sibling_void c m.0)) void }))
 

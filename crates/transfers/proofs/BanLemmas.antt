@@ -1,6 +1,6 @@
 -- What transfers forbid between stations, listed, in order and looked up.
 use Rattle.std.proofs.Common.{◌≡◌, ◌⊎◌, inl, inr, ℕ, ◌+◌, ◌<◌, ◌≤◌, List, [], ◌∷◌, ◌++◌, length, take, get_or, Option, Some, None, Contains, refl}
-use Rattle.std.proofs.Common.{sym, ap, subst, ◌∙◌, arith, Result, Ok, Err, is_ok}
+use Rattle.std.proofs.Common.{sym, ap, subst, ◌∙◌, arith, Result, Ok, Err, is_ok, true, false}
 use Rattle.std.specs.declared.cmp.Ordering.{Ordering}
 use Rattle.std.specs.declared.cmp.Ordering.TheVariants.{Less, Equal, Greater}
 use Rattle.std.specs.Ordering.{is_lt, is_gt, nat_cmp, ordering_then}
@@ -40,7 +40,7 @@ abbrev IsBanBy : TransferKind → Place → Place → ℕ → ℕ → Type 0
 IsBanBy kind p q from to = (kind ≡ Impossible) × (p ≡ TheStation from) × (q ≡ TheStation to)
 
 other_kind : (kind : TransferKind) (p q : Place) (from to : ℕ) → forbids kind ≡ 0 → ¬ IsBanBy kind p q from to
-other_kind kind p q from to e (is, rest) = let one : forbids kind ≡ 1 = ap (λ (k : TransferKind). forbids k) is in omega (arith, e, one)
+other_kind kind p q from to e h = let one : forbids kind ≡ 1 = ap (λ (k : TransferKind). forbids k) h.0 in omega (arith, e, one)
 
 no_station : (stop station : ℕ) → TheStop stop ≡ TheStation station → ⊥
 no_station stop station e = none-some station (ap (λ (p : Place). station_named p) e)
@@ -68,12 +68,12 @@ decide_by Impossible (TheStation a) (TheStation b) from to = elim (cases_eq a fr
 decide_ban : (rows : List Transfer) (from to : ℕ) → IsBan rows from to ⊎ ¬ IsBan rows from to
 decide_ban [] from to = inr (λ h. not_in_nil h.0 h.1)
 decide_ban (row ∷ rows) from to = elim (decide_ban rows from to) [
-  | inl (x, is_in, is) ↦ inl (x, contains_rest x row rows is_in, is)
+  | inl h ↦ inl (h.0, contains_rest h.0 row rows h.1, h.2, h.3, h.4)
   | inr none ↦ elim (decide_by row.kind row.from row.to from to) [
-    | inl is ↦ inl (row, contains_first row rows, is)
-    | inr not_it ↦ inr (λ (x, is_in, is). elim (contains_cases x row rows is_in) [
-      | inl same ↦ not_it (subst (λ (t : Transfer). IsBanBy t.kind t.from t.to from to) (sym same) is)
-      | inr rest ↦ none (x, rest, is)
+    | inl is ↦ inl (row, contains_first row rows, is.0, is.1, is.2)
+    | inr not_it ↦ inr (λ h. elim (contains_cases h.0 row rows h.1) [
+      | inl same ↦ not_it (subst (λ (t : Transfer). IsBanBy t.kind t.from t.to from to) (sym same) (h.2, h.3, h.4))
+      | inr rest ↦ none (h.0, rest, h.2, h.3, h.4)
     ])
   ]
 ]
@@ -124,13 +124,15 @@ bans_more rows i d bans below h =
     let more : take (i + 1) rows ≡ take i rows ++ row ∷ [] = take_more rows i d below in
     subst (λ (ts : List Transfer). HasBans ts (bans ++ bans_in row)) (sym more) (record {
       has = λ b is_in. elim (contains_both bans (bans_in row) b is_in) [
-        | inl was ↦ let (x, there, is) = h.has b was in (x, Contains-append_left (take i rows) (row ∷ []) x there, is)
-        | inr new ↦ (row, Contains-push (take i rows) row, has_by row.kind row.from row.to b new)
+        | inl was ↦ let is : IsBan (take i rows) b.from b.to = h.has b was in
+            (is.0, Contains-append_left (take i rows) (row ∷ []) is.0 is.1, is.2, is.3, is.4)
+        | inr new ↦ let is : IsBanBy row.kind row.from row.to b.from b.to = has_by row.kind row.from row.to b new in
+            (row, Contains-push (take i rows) row, is.0, is.1, is.2)
       ];
-      each = λ b (x, is_in, is). elim (Contains-push_cases (take i rows) row x is_in) [
-        | inl was ↦ Contains-append_left bans (bans_in row) b (h.each b (x, was, is))
+      each = λ b is. elim (Contains-push_cases (take i rows) row is.0 is.1) [
+        | inl was ↦ Contains-append_left bans (bans_in row) b (h.each b (is.0, was, is.2, is.3, is.4))
         | inr same ↦ contains_rear bans (bans_in row) b (each_by row.kind row.from row.to b
-            (subst (λ (t : Transfer). IsBanBy t.kind t.from t.to b.from b.to) (sym same) is))
+            (subst (λ (t : Transfer). IsBanBy t.kind t.from t.to b.from b.to) (sym same) (is.2, is.3, is.4)))
       ];
     })
 
@@ -192,8 +194,8 @@ no_ban rows bans from to i h search is =
 -- what a search says
 pub ban_yes : (rows : List Transfer) (bans : List Ban) (from to : ℕ) (r : Result ℕ ℕ) → AreBans rows bans → IsSearchInRange r (length bans)
     → IsBinarySearchResult (λ y. cmp-value.it y (ban from to)) bans r → is_ok r ≡ true → IsBan rows from to
-ban_yes rows bans from to (Ok i) are bound at yes = found_ban rows bans from to i are bound at
-ban_yes rows bans from to (Err i) are bound search yes = absurd (false≢true yes)
+ban_yes rows bans from to (Ok i) are bound at found = found_ban rows bans from to i are bound at
+ban_yes rows bans from to (Err i) are bound search found = absurd (false≢true found)
 
 pub ban_unless : (rows : List Transfer) (bans : List Ban) (from to : ℕ) (r : Result ℕ ℕ) → AreBans rows bans
     → IsBinarySearchResult (λ y. cmp-value.it y (ban from to)) bans r → is_ok r ≡ false → ¬ IsBan rows from to

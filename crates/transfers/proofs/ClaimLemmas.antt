@@ -170,8 +170,8 @@ adds_loop to old = adds_one old (claim_of to to Default (Takes 0)) (IsLoopOf to)
 pub adds_stop : (all : List Stop) (rows : List Transfer) (station to : ℕ) (old mid new : List Claim)
     → Adds old mid (Aloud all rows (IsStationClaim all rows station to)) → Adds mid new (Aloud all rows (IsLoopOf to))
     → Adds old new (Aloud all rows (IsStopClaim all rows (Some station) to))
-adds_stop all rows station to old mid new first second = aloud_then (IsSilent all rows) old mid new (IsStationClaim all rows station to) (IsLoopOf to) (IsStopClaim all rows
-    (Some station) to)
+adds_stop all rows station to old mid new first second = aloud_then (IsSilent all rows) old mid new (IsStationClaim all rows station to)
+    (IsLoopOf to) (IsStopClaim all rows (Some station) to)
     (λ c h. inl h) (λ c h. inr h) (λ c h. h) first second
 
 module _ (all : List Stop) (rows : List Transfer) (to : ℕ) where
@@ -269,7 +269,8 @@ module _ (all : List Stop) (rows : List Transfer) (to : ℕ) where
   -- all that is claimed of the ways into a stop of the feed
   pub adds_ways : (stop : Stop) (old mid new : List Claim) → At all to stop → Adds old mid (Aloud all rows (IsClaimBy all rows (TheStop to) to))
       → Adds mid new (Aloud all rows (IsStopClaim all rows stop.station to)) → Adds old new (Aloud all rows (IsClaimInto all rows to))
-  adds_ways stop old mid new at first second = aloud_then (IsSilent all rows) old mid new (IsClaimBy all rows (TheStop to) to) (IsStopClaim all rows stop.station to)
+  adds_ways stop old mid new at first second = aloud_then (IsSilent all rows) old mid new (IsClaimBy all rows (TheStop to) to)
+      (IsStopClaim all rows stop.station to)
       (IsClaimInto all rows to)
       (λ c h. by_there (TheStop to) c (own_equal to) h)
       (λ c h. stop_there stop at stop.station refl c h)

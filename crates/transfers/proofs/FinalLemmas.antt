@@ -56,7 +56,8 @@ stops_differ : (s : Source) (n : ℕ) → source_number s ≡ suc n → Stops �
 stops_differ s n is same = let h : 0 ≡ source_number s = ap (λ (x : Source). source_number x) same in omega (arith, h, is)
 
 module _ (feed : Feed) (into : ℕ) (claims : List Claim) (paths : List Footpath) (sorted : AreSorted claims) (all : (c : Claim)
-    → Contains claims c ↔ Aloud feed.stops.items feed.transfers.items (IsClaimInto feed.stops.items feed.transfers.items into) c) (they_are : ArePathsBelow claims (length claims) paths) where
+    → Contains claims c ↔ Aloud feed.stops.items feed.transfers.items (IsClaimInto feed.stops.items feed.transfers.items into) c)
+    (they_are : ArePathsBelow claims (length claims) paths) where
   claim_at : (k : ℕ) (c : Claim) → At claims k c → IsClaimInto feed.stops.items feed.transfers.items into c
   claim_at k c at = ((all c).0 (contains_at claims k c at)).0
 
