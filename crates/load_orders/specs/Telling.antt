@@ -1,5 +1,5 @@
 -- What the loader tells of the orders that it took.
-use Rattle.std.specs.Prelude.{◌≡◌, ◌⊎◌, ◌∷◌, List, [], Option, Some, None}
+use Rattle.std.specs.Prelude.{◌≡◌, ◌⊎◌, ◌∷◌, Bool, List, [], Option, Some, None}
 use Rattle.load_orders.specs.Queue.{QueueId}
 use Rattle.load_orders.specs.Ways.{WayId, WayValue}
 use Rattle.load_orders.specs.declared.queue.OrderMark.{OrderMark}
@@ -15,6 +15,7 @@ pub record LoaderOrdersValue (N : Type 0) : Type 0 where
   pub queue : QueueId
   pub taken : List OrderMark  -- in order
   pub answered : List (AnsweredValue N)  -- in order
+  pub over : Bool  -- it asked for another one, and none came
 
 -- at this way back alone the answer is told, once; or nobody waits there any more, and nothing is
 abbrev pub IsToldAt : {N : Type 0} → WayId → LoadAnswer N → WayValue N → Type 0

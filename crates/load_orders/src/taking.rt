@@ -1,6 +1,6 @@
 //! The workers' ends of the queue, and the loader's.
 
-ghost use Rattle.std.specs.Prelude.{◌≡◌, ◌++◌, ◌∷◌, [], map, string_bytes, Some, IfOk, IfErr, OnOk, MatchOption, Option};
+ghost use Rattle.std.specs.Prelude.{◌≡◌, ◌++◌, ◌∷◌, [], map, string_bytes, Some, IfOk, IfErr, OnOk, MatchOption, Option, false, is_none};
 ghost use Rattle.orders.specs.Ordering.{IsNotTaken, order_value, version_told, waited_value};
 ghost use Rattle.load_orders.specs.Asking.{Hears, IsNotAwaited, IsPut, IsTurnedAway, RefusesOrder, RefusesVersion, awaited_order, fault_told};
 ghost use Rattle.load_orders.specs.Queue.{mark_of};
@@ -75,12 +75,14 @@ impl<N: Drop> Model for Answered<N> {
     ghost view = { λ a. record { answer = a.answer.value; told = a.told } };
 }
 
-/// The loader's end of the queue. Contracts see which queue, the orders that it took, and what it answered, in order.
+/// The loader's end of the queue. Contracts see which queue, the orders that it took, and what it answered, in order, and
+/// whether it asked for another and none came.
 #[derive(Drop)]
 pub struct LoaderOrders<N: Drop> {
     receiver: OrderReceiver<N>,
     pass: Pass<Order<N>, Known>,
     answered: Notes<Answered<N>>,
+    over: bool,
 }
 
 impl<N: Drop> Model for LoaderOrders<N> {
@@ -90,7 +92,7 @@ impl<N: Drop> Model for LoaderOrders<N> {
 
     ghost Value = { LoaderOrdersValue N };
 
-    ghost view = { λ s. record { queue = s.pass.table_id; taken = (view_of s.pass).orders; answered = s.answered } };
+    ghost view = { λ s. record { queue = s.pass.table_id; taken = (view_of s.pass).orders; answered = s.answered; over = s.over } };
 
     ghost invariant = { λ s. IsSeatAt (receives_on s.receiver) s.pass };
 }
@@ -101,6 +103,7 @@ pub fn order_queue<N: Drop>(alloc: Global) -> Result<(OrderEnd<N>, LoaderOrders<
     ensures end { IfOk result (λ ends. ends.0.orders ≡ []) }
     ensures loader { IfOk result (λ ends. ends.1.taken ≡ []) }
     ensures unanswered { IfOk result (λ ends. ends.1.answered ≡ []) }
+    ensures unfinished { IfOk result (λ ends. ends.1.over ≡ false) }
 {
     let (sender, receiver, mut pass) = bounded_with(alloc, MOST_WAITING)?;
     let taking = sender.another::<Another>(&mut pass);
@@ -108,6 +111,7 @@ pub fn order_queue<N: Drop>(alloc: Global) -> Result<(OrderEnd<N>, LoaderOrders<
         receiver,
         pass: taking,
         answered: Notes::none(),
+        over: false,
     };
     Ok((OrderEnd { sender, pass }, loader))
 }
@@ -280,14 +284,18 @@ impl<N: Drop> LoaderOrders<N> {
         ensures queue { self.new.queue ≡ self.old.queue }
         ensures taken { MatchOption result (self.new.taken ≡ self.old.taken) (λ order. self.new.taken ≡ self.old.taken ++ mark_of order ∷ []) }
         ensures answered { self.new.answered ≡ self.old.answered }
+        ensures over { self.new.over ≡ is_none result }
     {
-        self.receiver.recv_as::<Moves, R>(rt, &mut self.pass).ok()
+        let order = self.receiver.recv_as::<Moves, R>(rt, &mut self.pass).ok();
+        self.over = order.is_none();
+        order
     }
 
     /// Tells whoever waits for the order what came of it, by the order's own way back. Nobody may wait for it, or wait any more.
     pub fn answer<R: Wait>(&mut self, rt: &R, order: Order<N>, answer: LoadAnswer<N>)
         ensures queue { self.new.queue ≡ self.old.queue }
         ensures taken { self.new.taken ≡ self.old.taken }
+        ensures over { self.new.over ≡ self.old.over }
         ensures told { (told : Option (WayValue N)) × IsToldBack order.way_back answer told
             × (self.new.answered ≡ self.old.answered ++ record { answer = answer; told = told } ∷ []) }
     {

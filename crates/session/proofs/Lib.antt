@@ -1,4 +1,5 @@
 pub mod SeatLemmas
+pub mod LearnLemmas
 mod MetLemmas
 mod AskedLemmas
 pub mod TurnLemmas

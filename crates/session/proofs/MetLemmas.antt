@@ -11,7 +11,7 @@ use Rattle.session.specs.declared.point_form.PointForm.{PointForm}
 use Rattle.session.specs.Lines.{Asked, asks, memory_line, pin_fault_line}
 use Rattle.session.specs.Profiles.{IsProfileReply}
 use Rattle.session.specs.SeatSteps.{answered}
-use Rattle.session.specs.Turns.{IsMet, ProfileIsMet, ProfileIsMetOnce, PinIsMet, PinIsRefused, ReleaseIsRefused}
+use Rattle.session.specs.Turns.{IsMet, MayPin, ProfileIsMet, ProfileIsMetOnce, PinIsMet, PinIsRefused, ReleaseIsRefused}
 use Rattle.session.proofs.SeatLemmas.{is_pinned, is_released, pins_once, some_is_held}
 
 -- a pin is told
@@ -35,16 +35,16 @@ pin_refused {form} number a b fault reply step told =
     record { moves = answered (Answer.PinRefused fault) ∷ []; meets = inr (refl, inr met); seat = (b, step, refl) }
 
 -- where memory is wanting, what was pinned is given back
-given_back : {form : PointForm} (number : ℕ) (asked : Asked) (a m b : SeatValue) (v : ℕ) (image : ImageValue) (r : Result (Unit {0}) PinFault)
-    (reply : List ℕ) → PinStep a (Ok tt) m → HoldsInSome number m.held → m.held ≡ Some (v, image)
+given_back : {form : PointForm} (number : ℕ) (asked : Asked) → MayPin asked → (a m b : SeatValue) (v : ℕ) (image : ImageValue)
+    (r : Result (Unit {0}) PinFault) (reply : List ℕ) → PinStep a (Ok tt) m → HoldsInSome number m.held → m.held ≡ Some (v, image)
     → ReleaseStep m r b → reply ≡ memory_line → IsMet form number a asked reply b
-given_back {form} number asked a m b v image r reply step known held back told =
+given_back {form} number asked may a m b v image r reply step known held back told =
     let pinned = is_pinned number a m v image step known held in
     let released = is_released number m b r (some_is_held v image m.held held) back in
     let both = pins_once number a m b v image pinned released in
     record {
       moves = answered (Answer.Pinned v pinned.shown) ∷ answered released.last ∷ [];
-      meets = inl (told, refl, inr (inr (v, image, both.0)));
+      meets = inl (told, refl, inr (may, (v, image, both.0)));
       seat = both.1;
     }
 
@@ -52,7 +52,7 @@ given_back {form} number asked a m b v image r reply step known held back told =
 pub pin_given_back : {form : PointForm} (number : ℕ) (a m b : SeatValue) (v : ℕ) (image : ImageValue) (r : Result (Unit {0}) PinFault) (reply : List ℕ)
     → PinStep a (Ok tt) m → HoldsInSome number m.held → m.held ≡ Some (v, image)
     → ReleaseStep m r b → reply ≡ memory_line → IsMet form number a (asks pin) reply b
-pin_given_back {form} number a m b v image r reply step known held back told = given_back number (asks pin) a m b v image r reply step known held back told
+pin_given_back {form} number a m b v image r reply step known held back told = given_back number (asks pin) tt a m b v image r reply step known held back told
 
 pub release_met : {form : PointForm} (number : ℕ) (a b : SeatValue) (reply : List ℕ) → ReleaseStep a (Ok tt) b → reply ≡ release_text
     → IsMet form number a (asks release) reply b
@@ -102,4 +102,4 @@ profile_met_once {form} number a m b v image r ask reply step known held back (i
       seat = both.1;
     }
 profile_met_once {form} number a m b v image r ask reply step known held back (inr memory) =
-    given_back number (asks (profile ask)) a m b v image r reply step known held back memory
+    given_back number (asks (profile ask)) tt a m b v image r reply step known held back memory

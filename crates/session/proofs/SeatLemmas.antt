@@ -69,7 +69,7 @@ pins_once number a m b v image pin release =
     (once, (m, pin.step, (b, release.step, refl)))
 
 -- each answer is the last of the list after its step, and what was seen never falls
-step_grows : (number : ℕ) (a b : SeatValue) (answer : Answer) → AnswerStep number a answer b → b.answers ≡ a.answers ++ answer ∷ []
+pub step_grows : (number : ℕ) (a b : SeatValue) (answer : Answer) → AnswerStep number a answer b → b.answers ≡ a.answers ++ answer ∷ []
 step_grows number a b (Answer.Pinned version image) step = ap (λ (s : SeatValue). s.answers) step.2
 step_grows number a b (Answer.PinRefused (PinFault.Moved newest)) step = ap (λ (s : SeatValue). s.answers) step.2
 step_grows number a b (Answer.PinRefused PinFault.AlreadyPinned) step = ap (λ (s : SeatValue). s.answers) step.1

@@ -33,13 +33,13 @@ idle_turn {form} number a asked line reply is = has_turn number a a asked asked 
 
 pub memory_turn : {form : PointForm} (number : ℕ) (a : SeatValue) (asked : List OrderValue) (line reply : List ℕ) → reply ≡ memory_line
     → HasTurn form number line reply a asked a asked
-memory_turn {form} number a asked line reply told = idle_turn number a asked line reply (inl (told, refl, inl refl))
+memory_turn {form} number a asked line reply told = idle_turn number a asked line reply (inl (told, refl, refl))
 
 pub too_long_turn : {form : PointForm} (number : ℕ) (a : SeatValue) (asked : List OrderValue) (shown : Line) (line reply : List ℕ) → shown ≡ TooLong
     → ShowsLine shown line → reply ≡ refusal_line Refusal.LineTooLong → HasTurn form number line reply a asked a asked
 too_long_turn {form} number a asked shown line reply is shows told =
     let long : ShowsLine TooLong line = subst (λ (x : Line). ShowsLine x line) is shows in
-    idle_turn number a asked line reply (inr (too_long, long, (refl, refl, told)))
+    idle_turn number a asked line reply (inr (too_long, long, inr (refl, refl, told)))
 
 -- the whole line is there
 pub whole : (shown : Line) (bytes : _) (line : List ℕ) → shown ≡ Whole bytes → ShowsLine shown line → (bytes.now ≡ line) × (length line ≤ 65_536)
@@ -48,13 +48,14 @@ whole shown bytes line is shows = subst (λ (x : Line). ShowsLine x line) is sho
 pub bad_json_turn : {form : PointForm} (number : ℕ) (a : SeatValue) (asked : List OrderValue) (bytes line reply : List ℕ)
     → (bytes ≡ line) × (length line ≤ 65_536) → IsNoJson bytes → reply ≡ refusal_line Refusal.BadJson → HasTurn form number line reply a asked a asked
 bad_json_turn {form} number a asked bytes line reply here bad told =
-    idle_turn number a asked line reply (inr (no_json, (here.1, subst IsNoJson here.0 bad), (refl, refl, told)))
+    idle_turn number a asked line reply (inr (no_json, (here.1, subst IsNoJson here.0 bad), inr (refl, refl, told)))
 
 pub bad_request_turn : {form : PointForm} (number : ℕ) (a : SeatValue) (asked : List OrderValue) (bytes line reply : List ℕ) (d : Data)
     → (bytes ≡ line) × (length line ≤ 65_536) → IsJson bytes d → ((request : RequestValue) → ¬ Asks d request)
     → reply ≡ refusal_line Refusal.BadRequest → HasTurn form number line reply a asked a asked
 bad_request_turn {form} number a asked bytes line reply d here json none told =
-    idle_turn number a asked line reply (inr (no_request, (here.1, (d, subst (λ (xs : List ℕ). IsJson xs d) here.0 json, none)), (refl, refl, told)))
+    let is : IsAsked line no_request = (here.1, (d, subst (λ (xs : List ℕ). IsJson xs d) here.0 json, none)) in
+    idle_turn number a asked line reply (inr (no_request, is, inr (refl, refl, told)))
 
 -- a request is one of these
 pub asks_known : (d : Data) (shown known : Request) → shown ≡ known → Asks d (request_value shown) → Asks d (request_value known)
@@ -71,11 +72,7 @@ waits_not d feed waits is asks_it = subst (λ (b : Bool). Asks d (load feed b)) 
 meets_turn : {form : PointForm} (number : ℕ) (a b : SeatValue) (what : Asked) (line reply : List ℕ) → IsAsked line what
     → (met : IsMet form number a what reply b)
     → IsTurn form a.held (turn_of line met.moves [] reply)
-meets_turn {form} number a b what line reply is met =
-    elim met.meets [
-      | inl memory ↦ inl memory
-      | inr meets ↦ inr (what, is, meets)
-    ]
+meets_turn {form} number a b what line reply is met = inr (what, is, met.meets)
 
 pub seat_turn : {form : PointForm} (number : ℕ) (a b : SeatValue) (asked : List OrderValue) (bytes line reply : List ℕ) (d : Data) (request : RequestValue)
     → (bytes ≡ line) × (length line ≤ 65_536) → IsJson bytes d → Asks d request
@@ -91,9 +88,9 @@ pub order_turn : {form : PointForm} (number : ℕ) (a : SeatValue) (asked asked_
     → asked_then ≡ asked ++ put → OrderIsMet feed put reply ⊎ ((put ≡ []) × (reply ≡ memory_line)) → HasTurn form number line reply a asked a asked_then
 order_turn {form} number a asked asked_then put bytes line reply feed d here json asks_it grown (inl met) =
     let is : IsAsked line (asks (load feed false)) = (here.1, (d, subst (λ (xs : List ℕ). IsJson xs d) here.0 json, asks_it)) in
-    has_turn number a a asked asked_then (turn_of line [] put reply) (inr (asks (load feed false), is, (refl, met))) refl grown
+    has_turn number a a asked asked_then (turn_of line [] put reply) (inr (asks (load feed false), is, inr (refl, met))) refl grown
 order_turn {form} number a asked asked_then put bytes line reply feed d here json asks_it grown (inr memory) =
-    has_turn number a a asked asked_then (turn_of line [] put reply) (inl (memory.1, memory.0, inl refl)) refl grown
+    has_turn number a a asked asked_then (turn_of line [] put reply) (inl (memory.1, memory.0, refl)) refl grown
 
 -- and is waited for
 pub load_turn : {form : PointForm} (number : ℕ) (a b : SeatValue) (asked asked_then put : List OrderValue) (bytes line reply feed : List ℕ) (d : Data)
@@ -102,7 +99,7 @@ pub load_turn : {form : PointForm} (number : ℕ) (a b : SeatValue) (asked asked
     → asked_then ≡ asked ++ put → IsLoaded number a feed put reply b → HasTurn form number line reply a asked b asked_then
 load_turn {form} number a b asked asked_then put bytes line reply feed d here json asks_it grown loaded =
     let is : IsAsked line (asks (load feed true)) = (here.1, (d, subst (λ (xs : List ℕ). IsJson xs d) here.0 json, asks_it)) in
-    has_turn number a b asked asked_then (turn_of line loaded.moves put reply) (inr (asks (load feed true), is, loaded.meets)) loaded.seat grown
+    has_turn number a b asked asked_then (turn_of line loaded.moves put reply) (inr (asks (load feed true), is, inr loaded.meets)) loaded.seat grown
 
 -- turns, and one more
 pub lines_in-more : (turns : List Turn) (t : Turn) → lines_in (turns ++ t ∷ []) ≡ lines_in turns ++ t.line ∷ []

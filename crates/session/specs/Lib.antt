@@ -6,4 +6,5 @@ pub mod Valuing
 pub mod Profiles
 pub mod Turns
 pub mod Sessions
+pub mod Learning
 pub mod Feeds

@@ -91,16 +91,22 @@ Meets form held (asks release) moves orders reply =
 Meets form held (asks (load feed waits)) moves orders reply = LoadIsMet waits feed moves orders reply
 Meets form held (asks (profile ask)) moves orders reply = (orders ≡ []) × ProfileIsMet form held ask moves reply
 
--- memory was wanting: nothing was ordered, and what is held is as before
-abbrev pub WantsMemory : List SeatMove → List OrderValue → List ℕ → Type 0
-WantsMemory moves orders reply =
+-- a version may be pinned and given back for this
+abbrev pub MayPin : Asked → Type 0
+MayPin (asks pin) = Unit {0}
+MayPin (asks (profile ask)) = Unit {0}
+MayPin _ = ⊥
+
+-- there was no memory: nothing was ordered, and nothing is done at the seat but what such a request does, which is given back
+abbrev pub WantsMemory : Asked → List SeatMove → List OrderValue → List ℕ → Type 0
+WantsMemory asked moves orders reply =
     (reply ≡ memory_line) × (orders ≡ [])
-    × ((moves ≡ []) ⊎ (moves ≡ answered (Answer.PinRefused PinFault.OutOfMemory) ∷ []) ⊎ ((version : ℕ) × (image : ImageValue) × PinsOnce moves version image))
+    × ((moves ≡ []) ⊎ (MayPin asked × ((version : ℕ) × (image : ImageValue) × PinsOnce moves version image)))
 
 -- what was asked of the seat is met so, or want of memory is told: what is done at the seat leads from what it was to what it is
 pub record IsMet (form : PointForm) (number : ℕ) (a : SeatValue) (asked : Asked) (reply : List ℕ) (b : SeatValue) : Type 0 where
   pub moves : List SeatMove
-  pub meets : WantsMemory moves [] reply ⊎ Meets form a.held asked moves [] reply
+  pub meets : WantsMemory asked moves [] reply ⊎ Meets form a.held asked moves [] reply
   pub seat : Follows number a moves b
 
 -- what was waited for is met so, and the seat is led from what it was to what it is
@@ -113,9 +119,12 @@ pub record IsLoaded (number : ℕ) (a : SeatValue) (feed : List ℕ) (put : List
 abbrev pub AgreeOnNotices : {N : Type 0} → (N → ℕ) → (N → ℕ) → Type 0
 AgreeOnNotices {N} told noted = (notice : N) → told notice ≡ noted notice
 
--- a line is answered as what it asks is met; or want of memory is told
+-- a line is answered as what it asks is met, or there was no memory for that; or there was none to see what it asks, and nothing is done
 abbrev pub IsTurn : PointForm → Option (ℕ × ImageValue) → Turn → Type 0
-IsTurn form held t = WantsMemory t.moves t.orders t.reply ⊎ ((asked : Asked) × IsAsked t.line asked × Meets form held asked t.moves t.orders t.reply)
+IsTurn form held t =
+    ((t.reply ≡ memory_line) × (t.orders ≡ []) × (t.moves ≡ []))
+    ⊎ ((asked : Asked) × IsAsked t.line asked
+    × (WantsMemory asked t.moves t.orders t.reply ⊎ Meets form held asked t.moves t.orders t.reply))
 
 -- by a turn the seat and the orders come from what they were to what they are: their lists grow by the turn's own
 pub record TurnsTo (form : PointForm) (number : ℕ) (a : SeatValue) (asked : List OrderValue) (t : Turn) (b : SeatValue)

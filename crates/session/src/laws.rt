@@ -3,6 +3,7 @@
 ghost use Rattle.std.specs.Prelude.{◌≡◌, ◌++◌, ℕ, List};
 ghost use Rattle.epochs.specs.Seats.{SeatValue};
 ghost use Rattle.orders.specs.Ordering.{OrderValue};
+ghost use Rattle.session.specs.Learning.{LearningTells};
 ghost use Rattle.session.specs.Lines.{Asked, IsAsked};
 ghost use Rattle.session.specs.declared.point_form.PointForm.{PointForm};
 ghost use Rattle.session.specs.SeatSteps.{Follows, NeverFalls, SeatMove, answers_in};
@@ -31,4 +32,10 @@ pub fn lists_grow_by_the_turns()
         → AreTurns form number a asked turns b asked_then → Follows number a (moves_of turns) b }
     ensures answers { (number : ℕ) (a b : SeatValue) (moves : List SeatMove) → Follows number a moves b → b.answers ≡ a.answers ++ answers_in moves }
     ensures orders { (form : PointForm) (number : ℕ) (a b : SeatValue) (asked asked_then : List OrderValue) (turns : List Turn) → AreTurns form number a asked turns b asked_then → asked_then ≡ asked ++ orders_of turns }
+{}
+
+/// By what a seat learned in turns, one after the other, each profile in them is answered over the image that the history which the
+/// seat knows published as the version that is told.
+pub fn profiles_are_from_published()
+    ensures { LearningTells }
 {}

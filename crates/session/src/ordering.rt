@@ -3,6 +3,7 @@
 ghost use Rattle.std.specs.Prelude.{◌≡◌, ◌++◌, ◌⊎◌, List, []};
 ghost use Rattle.epochs.specs.Seats.{JoinStep};
 ghost use Rattle.orders.specs.Ordering.{OrderValue};
+ghost use Rattle.session.specs.Learning.{Learns};
 ghost use Rattle.session.specs.Lines.{memory_line, text_of_reply};
 ghost use Rattle.session.specs.Turns.{AgreeOnNotices, IsLoaded, OrderIsMet};
 
@@ -38,6 +39,7 @@ impl<'a, R: Wait, N: Drop, T: Versions<Notice = N>, G> Desk<'a, R, T, G> {
         requires notices { AgreeOnNotices O.told T.noted }
         ensures fits { T.fits self.now.shelves.now seat.new }
         ensures number { T.number seat.new ≡ T.number seat.old }
+        ensures learns { Learns (T.known seat.old) (T.value seat.old) (T.known seat.new) (T.value seat.new) }
         ensures met { (put : List OrderValue) × (O.asked orders.new ≡ O.asked orders.old ++ put)
             × IsLoaded (T.number seat.old) (T.value seat.old) feed.now put (text_of_reply result) (T.value seat.new) }
     {
@@ -58,6 +60,7 @@ impl<'a, R: Wait, N: Drop, T: Versions<Notice = N>, G> Desk<'a, R, T, G> {
         requires { T.fits self.now.shelves.now seat.old }
         ensures fits { T.fits self.now.shelves.now seat.new }
         ensures number { T.number seat.new ≡ T.number seat.old }
+        ensures learns { Learns (T.known seat.old) (T.value seat.old) (T.known seat.new) (T.value seat.new) }
         ensures joined { JoinStep (T.value seat.old) (T.noted notice) (T.value seat.new) }
     {
         self.shelves.join(self.rt, seat, notice);

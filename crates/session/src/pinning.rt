@@ -2,6 +2,7 @@
 
 ghost use Rattle.std.specs.Prelude.{◌≡◌};
 ghost use Rattle.session_texts.specs.Requests.{pin, release};
+ghost use Rattle.session.specs.Learning.{Learns};
 ghost use Rattle.session.specs.Lines.{asks, text_of_reply};
 ghost use Rattle.session.specs.Turns.{IsMet};
 
@@ -17,6 +18,7 @@ impl<'a, R: Wait, T: Versions, G> Desk<'a, R, T, G> {
         requires { T.fits self.now.shelves.now seat.old }
         ensures fits { T.fits self.now.shelves.now seat.new }
         ensures number { T.number seat.new ≡ T.number seat.old }
+        ensures learns { Learns (T.known seat.old) (T.value seat.old) (T.known seat.new) (T.value seat.new) }
         ensures met { IsMet self.now.form (T.number seat.old) (T.value seat.old) (asks pin) (text_of_reply result) (T.value seat.new) }
     {
         if let Err(fault) = self.shelves.pin(self.rt, seat) {
@@ -40,6 +42,7 @@ impl<'a, R: Wait, T: Versions, G> Desk<'a, R, T, G> {
         requires { T.fits self.now.shelves.now seat.old }
         ensures fits { T.fits self.now.shelves.now seat.new }
         ensures number { T.number seat.new ≡ T.number seat.old }
+        ensures learns { Learns (T.known seat.old) (T.value seat.old) (T.known seat.new) (T.value seat.new) }
         ensures met { IsMet self.now.form (T.number seat.old) (T.value seat.old) (asks release) (text_of_reply result) (T.value seat.new) }
     {
         match self.shelves.release(self.rt, seat) {

@@ -6,6 +6,7 @@ ghost use Rattle.timetable.specs.Queries.{IsAskable};
 ghost use Rattle.session_texts.specs.Replies.{line_of, profile_data};
 ghost use Rattle.session_texts.specs.Requests.{ask_value, profile};
 ghost use Rattle.session_texts.specs.Telling.{points_of};
+ghost use Rattle.session.specs.Learning.{Learns};
 ghost use Rattle.session.specs.Lines.{asks, memory_line, text_of_reply};
 ghost use Rattle.session.specs.Profiles.{IsAnswered, IsAnsweredBy, IsProfileReply};
 ghost use Rattle.session.specs.Profiles.{bare_data, data_with_legs, departures_data};
@@ -32,6 +33,7 @@ impl<'a, R: Wait, T: Versions, G: Gate> Desk<'a, R, T, G> {
         requires { T.fits self.now.shelves.now seat.old }
         ensures fits { T.fits self.now.shelves.now seat.new }
         ensures number { T.number seat.new ≡ T.number seat.old }
+        ensures learns { Learns (T.known seat.old) (T.value seat.old) (T.known seat.new) (T.value seat.new) }
         ensures met { IsMet self.now.form (T.number seat.old) (T.value seat.old) (asks (profile (ask_value ask.now))) (text_of_reply result) (T.value seat.new) }
     {
         if let Some(edition) = T::edition(seat) {
@@ -46,6 +48,7 @@ impl<'a, R: Wait, T: Versions, G: Gate> Desk<'a, R, T, G> {
         requires idle { (T.value seat.old).held ≡ None }
         ensures fits { T.fits self.now.shelves.now seat.new }
         ensures number { T.number seat.new ≡ T.number seat.old }
+        ensures learns { Learns (T.known seat.old) (T.value seat.old) (T.known seat.new) (T.value seat.new) }
         ensures met { IsMet self.now.form (T.number seat.old) (T.value seat.old) (asks (profile (ask_value ask.now))) (text_of_reply result) (T.value seat.new) }
     {
         if let Err(fault) = self.shelves.pin(self.rt, seat) {

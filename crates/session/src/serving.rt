@@ -5,6 +5,7 @@ ghost use Rattle.std.specs.Io.KnownBytes.{Appends};
 ghost use Rattle.lines.specs.Counting.{failures_of, inner_of, one_more};
 ghost use Rattle.lines.specs.Showing.{ShowsLine};
 ghost use Rattle.epochs.specs.Seats.{SeatValue};
+ghost use Rattle.session.specs.Learning.{Learns, TellPublished};
 ghost use Rattle.session.specs.Sessions.{LastRelease, Serves};
 ghost use Rattle.session.specs.Turns.{AgreeOnNotices, Turn, TurnsTo};
 ghost use Rattle.session.specs.declared.point_form.PointForm.TheVariants.{Bare};
@@ -46,6 +47,8 @@ pub fn serve<
     requires writes { failures_of writer.old < 2 ^ 64 - 1 }
     ensures fits { T.fits shelves.now seat.new }
     ensures number { T.number seat.new ≡ T.number seat.old }
+    ensures learns { Learns (T.known seat.old) (T.value seat.old) (T.known seat.new) (T.value seat.new) }
+    ensures profiles { TellPublished (T.known seat.new) (T.value seat.old) (T.value seat.new) }
     ensures released { (T.value seat.new).held ≡ None }
     ensures session { (last : SeatValue) × LastRelease (T.number seat.old) last (T.value seat.new)
         × Serves Bare (T.number seat.old) result (In.remaining (inner_of reader.old)) (In.remaining (inner_of reader.new)) (Out.contents (inner_of writer.old)) (Out.contents (inner_of writer.new))
@@ -71,6 +74,8 @@ impl<'a, R: Wait, N: Drop, T: Versions<Notice = N>, G: Gate> Desk<'a, R, T, G> {
         requires writes { failures_of streams.old.writer < 2 ^ 64 - 1 }
         ensures fits { T.fits self.now.shelves.now seat.new }
         ensures number { T.number seat.new ≡ T.number seat.old }
+        ensures learns { Learns (T.known seat.old) (T.value seat.old) (T.known seat.new) (T.value seat.new) }
+        ensures profiles { TellPublished (T.known seat.new) (T.value seat.old) (T.value seat.new) }
         ensures released { (T.value seat.new).held ≡ None }
         ensures session { (last : SeatValue) × LastRelease (T.number seat.old) last (T.value seat.new)
             × Serves self.now.form (T.number seat.old) result (In.remaining (inner_of streams.old.reader)) (In.remaining (inner_of streams.new.reader)) (Out.contents (inner_of streams.old.writer)) (Out.contents (inner_of streams.new.writer))
@@ -86,6 +91,7 @@ impl<'a, R: Wait, N: Drop, T: Versions<Notice = N>, G: Gate> Desk<'a, R, T, G> {
         requires { T.fits self.now.shelves.now seat.old }
         ensures fits { T.fits self.now.shelves.now seat.new }
         ensures number { T.number seat.new ≡ T.number seat.old }
+        ensures learns { Learns (T.known seat.old) (T.value seat.old) (T.known seat.new) (T.value seat.new) }
         ensures released { (T.value seat.new).held ≡ None }
         ensures last { LastRelease (T.number seat.old) (T.value seat.old) (T.value seat.new) }
     {
@@ -107,6 +113,7 @@ impl<'a, R: Wait, N: Drop, T: Versions<Notice = N>, G: Gate> Desk<'a, R, T, G> {
         requires counts { (failures_of reader.old < 2 ^ 64 - 1) × (failures_of writer.old < 2 ^ 64 - 1) }
         ensures fits { T.fits self.now.shelves.now seat.new }
         ensures number { T.number seat.new ≡ T.number seat.old }
+        ensures learns { Learns (T.known seat.old) (T.value seat.old) (T.known seat.new) (T.value seat.new) }
         ensures session { Serves self.now.form (T.number seat.old) result (In.remaining (inner_of reader.old)) (In.remaining (inner_of reader.new)) (Out.contents (inner_of writer.old)) (Out.contents (inner_of writer.new))
             (failures_of reader.old < failures_of reader.new) (failures_of writer.old < failures_of writer.new) (T.value seat.old) (O.asked orders.old) (T.value seat.new) (O.asked orders.new) }
     {
@@ -150,6 +157,7 @@ impl<'a, R: Wait, N: Drop, T: Versions<Notice = N>, G: Gate> Desk<'a, R, T, G> {
         requires notices { AgreeOnNotices O.told T.noted }
         ensures fits { T.fits self.now.shelves.now seat.new }
         ensures number { T.number seat.new ≡ T.number seat.old }
+        ensures learns { Learns (T.known seat.old) (T.value seat.old) (T.known seat.new) (T.value seat.new) }
         ensures failures { MatchResult result
             (λ _. failures_of writer.new ≡ failures_of writer.old)
             (λ _. failures_of writer.new ≡ one_more (failures_of writer.old)) }

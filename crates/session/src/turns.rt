@@ -2,6 +2,7 @@
 
 ghost use Rattle.std.specs.Prelude.{◌≡◌, ℕ, List};
 ghost use Rattle.lines.specs.Showing.{ShowsLine};
+ghost use Rattle.session.specs.Learning.{Learns};
 ghost use Rattle.session.specs.Lines.{text_of_reply};
 ghost use Rattle.session.specs.Turns.{AgreeOnNotices, HasTurn};
 
@@ -25,6 +26,7 @@ impl<'a, R: Wait, N: Drop, T: Versions<Notice = N>, G: Gate> Desk<'a, R, T, G> {
         requires notices { AgreeOnNotices O.told T.noted }
         ensures fits { T.fits self.now.shelves.now seat.new }
         ensures number { T.number seat.new ≡ T.number seat.old }
+        ensures learns { Learns (T.known seat.old) (T.value seat.old) (T.known seat.new) (T.value seat.new) }
         ensures turn { (l : List ℕ) → ShowsLine line.entry l → HasTurn self.now.form (T.number seat.old) l (text_of_reply result) (T.value seat.old) (O.asked orders.old) (T.value seat.new) (O.asked orders.new) }
     {
         let bytes = match line {

@@ -2,7 +2,7 @@
 
 ghost use Rattle.std.specs.Prelude.{◌≡◌, IfOk, Ok};
 
-use crate::streams::{Endless, Pieces, Taker, failing_at, taker_of, whole};
+use crate::streams::{Answers, Asker, Endless, Pieces, Taker, failing_at, taker_of, whole};
 use epochs::{Named, ShelfLoader, ShelfSeat, Shelves, SoloShelves};
 use image_layout::sample_words;
 use image_verifier::{Verified, verify};
@@ -11,6 +11,7 @@ use session::{
     Counted, Desk, Ended, FeedImage, OpenGate, SessionFault, SoloOrders, Streams, serve,
 };
 use std::alloc::{AllocError, Global};
+use std::cell::Cell;
 use std::io;
 use std::io::{Read, Write};
 use std::marker::Brand;
@@ -317,6 +318,32 @@ fn one_failure_ends_the_session(rt: HostRuntime) -> Result<(), Fail> {
     )?;
     assert!(&rt; ended == Err(SessionFault::WriteFailed));
     assert_eq!(&rt; writer.calls, 2);
+    Ok(())
+}
+
+/// Each line is answered before the next one is read.
+#[test]
+fn each_line_is_answered_at_once(rt: HostRuntime) -> Result<(), Fail> {
+    let alloc: Global = rt.alloc();
+    let answered = Cell::new(0);
+    let asker = Asker {
+        answered: &answered,
+        given: 0,
+        most: 3,
+    };
+    let (ended, _) = talked(
+        &rt,
+        alloc,
+        image(alloc, 0)?,
+        Vec::new(alloc),
+        asker,
+        Answers {
+            answered: &answered,
+        },
+        &OpenGate,
+    )?;
+    assert!(&rt; ended == Ok(Ended));
+    assert_eq!(&rt; answered.get(), 3);
     Ok(())
 }
 

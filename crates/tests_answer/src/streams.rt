@@ -1,6 +1,7 @@
 //! Readers and writers of which a test says how much they give and take, and where they fail.
 
 use std::alloc::Global;
+use std::cell::Cell;
 use std::io;
 use std::io::{Read, Write};
 
@@ -138,6 +139,51 @@ impl Write for FailsOnce {
         if self.fails_now() {
             return Err(io::Error::from(io::ErrorKind::Interrupted));
         }
+        Ok(())
+    }
+}
+
+/// A reader of so many line ends, each of which it gives only once all before it are answered; else it fails.
+#[derive(Drop)]
+pub(crate) struct Asker<'a> {
+    pub(crate) answered: &'a Cell<u64>,
+    pub(crate) given: u64,
+    pub(crate) most: u64,
+}
+
+impl Read for Asker<'_> {
+    fn read(&mut self, room: &mut [u8]) -> io::Result<usize> {
+        if self.given >= self.most {
+            return Ok(0);
+        }
+        match room.first_mut() {
+            Some(first) if self.answered.get() == self.given => {
+                *first = b'\n';
+                self.given += 1;
+                Ok(1)
+            }
+            _ => Err(io::Error::from(io::ErrorKind::Interrupted)),
+        }
+    }
+}
+
+/// A writer that counts the line ends that it takes.
+#[derive(Drop)]
+pub(crate) struct Answers<'a> {
+    pub(crate) answered: &'a Cell<u64>,
+}
+
+impl Write for Answers<'_> {
+    fn write(&mut self, piece: &[u8]) -> io::Result<usize> {
+        for byte in piece {
+            if *byte == b'\n' {
+                self.answered.set(self.answered.get().saturating_add(1));
+            }
+        }
+        Ok(piece.len())
+    }
+
+    fn flush(&mut self) -> io::Result<()> {
         Ok(())
     }
 }

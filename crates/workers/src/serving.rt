@@ -1,6 +1,7 @@
 //! A worker: client after client on its seat.
 
 ghost use Rattle.std.specs.Prelude.{◌≡◌, ◌∷◌, ◌++◌, [], List, None};
+ghost use Rattle.session.specs.Learning.{Learns, TellPublished};
 ghost use Rattle.session.specs.Turns.{AgreeOnNotices};
 ghost use Rattle.workers.specs.Sessions.{AreServed, IsServed};
 ghost use Rattle.workers.specs.declared.served.End.{End};
@@ -33,6 +34,8 @@ impl<'a, R: Wait, N: Drop, T: Versions<Notice = N>, G: Gate> Worker<'a, R, T, G>
         requires notices { AgreeOnNotices O.told T.noted }
         ensures fits { T.fits self.now.desk.shelves.now seat.new }
         ensures number { T.number seat.new ≡ T.number seat.old }
+        ensures learns { Learns (T.known seat.old) (T.value seat.old) (T.known seat.new) (T.value seat.new) }
+        ensures profiles { TellPublished (T.known seat.new) (T.value seat.old) (T.value seat.new) }
         ensures idle { (T.value seat.old).held ≡ None → (T.value seat.new).held ≡ None }
         ensures session { (end : End) × (served.new ≡ served.old ++ end ∷ [])
             × IsServed self.now.desk.form C.opens C.Reader.remaining C.Writer.contents (T.number seat.old) client result end (T.value seat.old) (O.asked orders.old) (T.value seat.new) (O.asked orders.new) }
@@ -61,7 +64,8 @@ impl<'a, R: Wait, N: Drop, T: Versions<Notice = N>, G: Gate> Worker<'a, R, T, G>
     ) -> (Served, T::Seat, O)
         requires fits { T.fits self.now.desk.shelves.now seat }
         requires notices { AgreeOnNotices O.told T.noted }
-        ensures { (taken : List C) × (clients.new ≡ clients.old ++ taken)
+        ensures learns { Learns (T.known seat) (T.value seat) (T.known result.1) (T.value result.1) }
+        ensures served { (taken : List C) × (clients.new ≡ clients.old ++ taken)
             × AreServed self.now.desk.form C.opens C.Reader.remaining C.Writer.contents (T.number seat) taken result.0
             (T.value seat) (O.asked orders) (T.value result.1) (O.asked result.2) }
     {

@@ -2,10 +2,11 @@ use Rattle.std.proofs.Common.{◌∙◌, refl, sym, arith, inl}
 use Rattle.reasoning.proofs.BoolLemmas.{where_true, where_false}
 use Rattle.lines.proofs.GivenLemmas.{Gives-ended, Gives-nothing, Gives-rest}
 use Rattle.session.proofs.LineLemmas.{nothing_is_one_line, some_bytes, SoFar-more, SoFar-start, TurnsTo-number, cut_short_at_line, cut_short_at_rest, ends_at_end, ends_with_rest, not_rose, read_fails, rose, too_many, why_failed}
+use Rattle.session.proofs.LearnLemmas.{learns_on, learns_same}
 use Rattle.session.proofs.desk.Desk.answer_lines.Goals as goal
 
 pub loop-init : goal.loop-init
-loop-init g c = record { fits = c.requires.fits; number = refl; reads = refl; writes = refl; so_far = SoFar-start _ _ _ _ _ _ c.new-lines.ensures }
+loop-init g c = record { fits = c.requires.fits; number = refl; learns = learns_same _ _; reads = refl; writes = refl; so_far = SoFar-start _ _ _ _ _ _ c.new-lines.ensures }
 
 pub returns-in-Err-clause-session : goal.returns-in-Err-clause-session
 returns-in-Err-clause-session g c =
@@ -39,6 +40,7 @@ loop-preserved g c =
     record {
       fits = c.in-Ok-answer_line.ensures.fits;
       number = c.in-Ok-answer_line.ensures.number ∙ c.loop.invariant.number;
+      learns = learns_on _ _ _ _ _ _ c.loop.invariant.learns c.in-Ok-answer_line.ensures.learns;
       reads = e.2.1 ∙ c.loop.invariant.reads;
       writes = c.in-Ok-answer_line.ensures.failures ∙ c.loop.invariant.writes;
       so_far = SoFar-more _ _ _ _ _ e.0 _ _ _ _ _ _ _ _ _ _ _ c.loop.invariant.so_far e.1 gives done.0 done.1 turn done.3;
@@ -81,3 +83,27 @@ returns-clause-session g c =
     let e = c.in-Err-has_byte.ensures in
     read_fails _ _ _ _ _ e.0 _ _ _ _ _ _ _ _ _ (omega (arith, c.loop-test.false, c.loop.auto.counter-end))
     c.loop.invariant.so_far e.1 (nothing_is_one_line _ (sym e.2 ∙ e.3.0)) (inl (rose _ _ _ c.requires.counts.0 c.loop.invariant.reads e.3.1)) (not_rose _ _ c.loop.invariant.writes)
+
+pub returns-in-Err-clause-learns : goal.returns-in-Err-clause-learns
+returns-in-Err-clause-learns g c = c.loop.invariant.learns
+
+pub returns-in-Ok-Nothing-clause-learns : goal.returns-in-Ok-Nothing-clause-learns
+returns-in-Ok-Nothing-clause-learns g c = c.loop.invariant.learns
+
+pub returns-in-Ok-true-clause-learns : goal.returns-in-Ok-true-clause-learns
+returns-in-Ok-true-clause-learns g c = c.loop.invariant.learns
+
+pub returns-in-Ok-false-clause-learns : goal.returns-in-Ok-false-clause-learns
+returns-in-Ok-false-clause-learns g c = c.loop.invariant.learns
+
+pub returns-in-Err-answer_line-2-clause-learns : goal.returns-in-Err-answer_line-2-clause-learns
+returns-in-Err-answer_line-2-clause-learns g c = learns_on _ _ _ _ _ _ c.loop.invariant.learns c.in-Err-answer_line-2.ensures.learns
+
+pub returns-in-Ok-clause-learns : goal.returns-in-Ok-clause-learns
+returns-in-Ok-clause-learns g c = learns_on _ _ _ _ _ _ c.loop.invariant.learns c.in-Ok.ensures.learns
+
+pub returns-in-Err-answer_line-clause-learns : goal.returns-in-Err-answer_line-clause-learns
+returns-in-Err-answer_line-clause-learns g c = learns_on _ _ _ _ _ _ c.loop.invariant.learns c.in-Err-answer_line.ensures.learns
+
+pub returns-clause-learns : goal.returns-clause-learns
+returns-clause-learns g c = c.loop.invariant.learns

@@ -1,6 +1,7 @@
 use Rattle.std.proofs.Common.{◌≡◌}
 use Rattle.lines.specs.Counting.{failures_of, inner_of}
 use Rattle.lines.specs.Reading.{unread_of}
+use Rattle.session.specs.Learning.{Learns}
 use Rattle.session.proofs.LineLemmas.{SoFar}
 use Rattle.session.proofs.desk.Desk.answer_lines.Given as goal
 
@@ -8,6 +9,7 @@ abbrev pub invariant-loop : goal.invariant-loop
 invariant-loop g l = record {
   fits : g.T.Versions.fits l.self.shelves.now l.seat;
   number : g.T.Versions.number l.seat ≡ g.T.Versions.number l.fn.seat;
+  learns : Learns (g.T.Versions.known l.fn.seat) (g.T.Versions.value l.fn.seat) (g.T.Versions.known l.seat) (g.T.Versions.value l.seat);
   reads : failures_of l.reader ≡ failures_of l.fn.reader;
   writes : failures_of l.writer ≡ failures_of l.fn.writer;
   so_far : SoFar l.self.form (g.T.Versions.number l.fn.seat)

@@ -1,6 +1,7 @@
 use Rattle.std.proofs.Common.{subst}
 use Rattle.session.specs.SeatSteps.{HoldsInSome}
 use Rattle.session.proofs.MetLemmas.{profile_refused, profile_met_once}
+use Rattle.session.proofs.LearnLemmas.{learns_once, learns_unpinned}
 use Rattle.session.proofs.desk.Desk.answer_once.Goals as goal
 
 pub returns-in-Err-clause-met : goal.returns-in-Err-clause-met
@@ -10,3 +11,11 @@ pub returns-clause-met : goal.returns-clause-met
 returns-clause-met g c =
     let known = subst (λ n. HoldsInSome n (g.T.Versions.value c.pin.new.seat).held) c.in_default.ensures.number (g.T.Versions.known c.pin.new.seat, c.in_default.ensures.known) in
     profile_met_once _ _ _ _ _ _ _ _ _ c.in_default.ensures.pin known c.in-Some.ensures.lent c.release.ensures.release c.answer_from-reply.ensures
+
+pub returns-in-Err-clause-learns : goal.returns-in-Err-clause-learns
+returns-in-Err-clause-learns g c = learns_unpinned _ _ _ _ c.in-Err.fault c.in-Err.ensures.pin c.in-Err.ensures.grows
+
+pub returns-clause-learns : goal.returns-clause-learns
+returns-clause-learns g c =
+    let e = c.in_default.ensures in
+    learns_once _ _ _ _ _ _ _ _ e.pin e.grows e.known c.release.ensures.release c.release.ensures.grows

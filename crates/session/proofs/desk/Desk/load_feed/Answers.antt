@@ -1,5 +1,6 @@
 use Rattle.std.proofs.Common.{◌∙◌, sym, inl, inr}
 use Rattle.session.proofs.LoadLemmas.{no_version_met, version_met}
+use Rattle.session.proofs.LearnLemmas.{learns_same}
 use Rattle.session.proofs.desk.Desk.load_feed.Goals as goal
 
 pub returns-in-Ok-loaded_line-clause-met : goal.returns-in-Ok-loaded_line-clause-met
@@ -16,3 +17,12 @@ returns-in-Err-loaded_line-clause-met g c =
 
 pub returns-in-Err-clause-met : goal.returns-in-Err-clause-met
 returns-in-Err-clause-met g c = (_, c.in-Err.ensures.asked, no_version_met _ _ _ _ _ c.order_fault.ensures)
+
+pub returns-in-Ok-loaded_line-clause-learns : goal.returns-in-Ok-loaded_line-clause-learns
+returns-in-Ok-loaded_line-clause-learns g c = c.take_notice.ensures.learns
+
+pub returns-in-Err-loaded_line-clause-learns : goal.returns-in-Err-loaded_line-clause-learns
+returns-in-Err-loaded_line-clause-learns g c = c.take_notice.ensures.learns
+
+pub returns-in-Err-clause-learns : goal.returns-in-Err-clause-learns
+returns-in-Err-clause-learns g c = learns_same _ _

@@ -3,6 +3,7 @@ use Rattle.std.specs.Arc.{arc_value}
 use Rattle.session.specs.SeatSteps.{HoldsInSome}
 use Rattle.session_texts.specs.Replies.{pin_text}
 use Rattle.session.proofs.MetLemmas.{pin_met, pin_refused, pin_given_back}
+use Rattle.session.proofs.LearnLemmas.{learns_once, learns_pinned, learns_unpinned}
 use Rattle.session.proofs.desk.Desk.pin.Goals as goal
 
 pub returns-in-Err-clause-met : goal.returns-in-Err-clause-met
@@ -18,3 +19,14 @@ pub returns-in-Err-told-clause-met : goal.returns-in-Err-told-clause-met
 returns-in-Err-told-clause-met g c =
     let known = subst (λ n. HoldsInSome n (g.T.Versions.value c.pin.new.seat).held) c.in_default.ensures.number (g.T.Versions.known c.pin.new.seat, c.in_default.ensures.known) in
     pin_given_back _ _ _ _ _ _ _ _ c.in_default.ensures.pin known c.in-Some.ensures.lent c.release.ensures.release c.refusal.ensures
+
+pub returns-in-Err-clause-learns : goal.returns-in-Err-clause-learns
+returns-in-Err-clause-learns g c = learns_unpinned _ _ _ _ c.in-Err.fault c.in-Err.ensures.pin c.in-Err.ensures.grows
+
+pub returns-in-Ok-clause-learns : goal.returns-in-Ok-clause-learns
+returns-in-Ok-clause-learns g c = let e = c.in_default.ensures in learns_pinned _ _ _ _ _ e.pin e.grows e.known
+
+pub returns-in-Err-told-clause-learns : goal.returns-in-Err-told-clause-learns
+returns-in-Err-told-clause-learns g c =
+    let e = c.in_default.ensures in
+    learns_once _ _ _ _ _ _ _ _ e.pin e.grows e.known c.release.ensures.release c.release.ensures.grows

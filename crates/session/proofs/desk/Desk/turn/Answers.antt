@@ -3,6 +3,7 @@ use Rattle.serde_json.specs.View.{view}
 use Rattle.session_texts.specs.declared.judging.LineFault.{LineFault}
 use Rattle.session.proofs.TurnLemmas.{asks_known, bad_json_turn, bad_request_turn, load_turn, memory_turn}
 use Rattle.session.proofs.TurnLemmas.{order_turn, seat_turn, too_long_turn, waits_for, waits_not, whole}
+use Rattle.session.proofs.LearnLemmas.{learns_same}
 use Rattle.session.proofs.desk.Desk.turn.Goals as goal
 
 pub returns-in-TooLong-clause-turn : goal.returns-in-TooLong-clause-turn
@@ -49,3 +50,33 @@ returns-clause-turn g c = λ l shows.
     let here = whole c.args.line c.in-Whole.bytes l c.in-Whole.is shows in
     let asked = waits_for (view c.in-Ok.value) _ arm.field-0-1 arm.field-0-1-test (asks_known (view c.in-Ok.value) _ _ arm.field-0-is arm.ensures) in
     load_turn _ _ _ _ _ put.0 c.in-Whole.bytes.now l _ arm.feed.now (view c.in-Ok.value) here c.in-Ok.ensures.value asked put.1 put.2
+
+pub returns-in-TooLong-clause-learns : goal.returns-in-TooLong-clause-learns
+returns-in-TooLong-clause-learns g c = learns_same _ _
+
+pub returns-in-NoRoom-clause-learns : goal.returns-in-NoRoom-clause-learns
+returns-in-NoRoom-clause-learns g c = learns_same _ _
+
+pub returns-in-Err-BadJson-clause-learns : goal.returns-in-Err-BadJson-clause-learns
+returns-in-Err-BadJson-clause-learns g c = learns_same _ _
+
+pub returns-in-Err-OutOfMemory-clause-learns : goal.returns-in-Err-OutOfMemory-clause-learns
+returns-in-Err-OutOfMemory-clause-learns g c = learns_same _ _
+
+pub returns-in-None-clause-learns : goal.returns-in-None-clause-learns
+returns-in-None-clause-learns g c = learns_same _ _
+
+pub returns-in-Some-Pin-clause-learns : goal.returns-in-Some-Pin-clause-learns
+returns-in-Some-Pin-clause-learns g c = c.pin.ensures.learns
+
+pub returns-in-Some-Release-clause-learns : goal.returns-in-Some-Release-clause-learns
+returns-in-Some-Release-clause-learns g c = c.release.ensures.learns
+
+pub returns-in-Some-Profile-clause-learns : goal.returns-in-Some-Profile-clause-learns
+returns-in-Some-Profile-clause-learns g c = c.answer_profile.ensures.learns
+
+pub returns-in-Some-Load-default-false-clause-learns : goal.returns-in-Some-Load-default-false-clause-learns
+returns-in-Some-Load-default-false-clause-learns g c = learns_same _ _
+
+pub returns-clause-learns : goal.returns-clause-learns
+returns-clause-learns g c = c.load_feed.ensures.learns

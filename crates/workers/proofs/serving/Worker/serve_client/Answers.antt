@@ -1,6 +1,7 @@
 use Rattle.std.proofs.Common.{ap, refl}
 use Rattle.lines.specs.Counting.{failures_of, inner_of}
 use Rattle.workers.specs.declared.served.End.{End}
+use Rattle.session.proofs.LearnLemmas.{learning_tells, learns_same}
 use Rattle.workers.proofs.Ending.{session_of}
 use Rattle.workers.proofs.serving.Worker.serve_client.Goals as goal
 
@@ -17,3 +18,15 @@ returns-in-Ok-clause-session g c =
 pub returns-in-Err-clause-session : goal.returns-in-Err-clause-session
 returns-in-Err-clause-session g c =
     (End.Failed, c.add-in-Err.ensures, (c.in-Err.field-0, c.in-Err.ensures, record { end_is = refl; seat = refl; orders = refl }))
+
+pub returns-in-Ok-clause-learns : goal.returns-in-Ok-clause-learns
+returns-in-Ok-clause-learns g c = c.serve-outcome.ensures.learns
+
+pub returns-in-Ok-clause-profiles : goal.returns-in-Ok-clause-profiles
+returns-in-Ok-clause-profiles g c = c.serve-outcome.ensures.profiles
+
+pub returns-in-Err-clause-learns : goal.returns-in-Err-clause-learns
+returns-in-Err-clause-learns g c = learns_same _ _
+
+pub returns-in-Err-clause-profiles : goal.returns-in-Err-clause-profiles
+returns-in-Err-clause-profiles g c = learning_tells _ _ _ _ (learns_same _ _)

@@ -1,6 +1,12 @@
-use Rattle.std.proofs.Common.{◌∙◌}
+use Rattle.std.proofs.Common.{rules, ◌∙◌}
+use Rattle.session.proofs.LearnLemmas.{learns_on, learns_same}
 use Rattle.workers.proofs.Ending.{serves_next}
 use Rattle.workers.proofs.serving.Worker.work.Goals as goal
+
+pub loop-init : goal.loop-init
+loop-init g c =
+    let learns = learns_same (g.T.Versions.known c.args.seat) (g.T.Versions.value c.args.seat) in
+    search rules
 
 pub loop-preserved : goal.loop-preserved
 loop-preserved g c =
@@ -13,6 +19,7 @@ loop-preserved g c =
       finite = tt;
       fits = one.ensures.fits;
       number = one.ensures.number ∙ was.number;
+      learns = learns_on _ _ _ _ _ _ was.learns one.ensures.learns;
       served = serves_next c.args.self.now.desk.form g.C.Client.opens g.C.Reader.Read.remaining g.C.Writer.Write.contents
           (g.T.Versions.number c.args.seat) (g.T.Versions.number c.loop.seat) _ _ _
           c.loop.served one.new.served c.in-Some-next.client one.result
