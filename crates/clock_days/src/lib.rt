@@ -12,6 +12,15 @@ use jiff::Timestamp;
 use jiff::civil::{Date, DateTime};
 use jiff::tz::TimeZone;
 use service_days::{DayFault, Zone};
+use std::time::{Clock, SystemTime};
+
+/// The instant that a clock shows, in seconds after 1970-01-01T00:00:00Z, without the part of a second. None if it can't
+/// be read, or shows an earlier one.
+pub fn instant<C: Clock>(clock: &C) -> Option<i64> {
+    let now = SystemTime::now(clock).ok()?;
+    let since = now.duration_since(SystemTime::UNIX_EPOCH).ok()?;
+    i64::try_from(since.as_secs()).ok()
+}
 
 /// The day that the zone's clocks show at an instant, in seconds after 1970-01-01T00:00:00Z. `DayOutOfRange` if the
 /// instant lies beyond the clocks' calendar, or the day before the year 1.

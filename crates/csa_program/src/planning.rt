@@ -1,15 +1,19 @@
-//! What is made of feeds: the service days and the zone that a command line tells.
+//! What is made of feeds: the service days and the zone that a command line asks for.
 
-ghost use Rattle.std.specs.Prelude.{◌≡◌, ◌≤◌, IfOk};
+ghost use Rattle.std.specs.Prelude.{◌≡◌, ◌≤◌, ℕ, List, IfOk};
 ghost use Rattle.connections.specs.declared.days.TheConstants.{MAX_DAYS};
-ghost use Rattle.csa_program.specs.Planning.{IsZoneOf};
+ghost use Rattle.csa_program.specs.Planning.{IsFirstDay, IsPlan, IsPlanNow, IsToday, IsYesterday, IsZoneOf};
 
-use command_requests::{PlanText, ZoneText};
+use clock_days::{instant, today, yesterday};
+use command_requests::{FirstDay, PlanText, ZoneText};
 use feed_loader::{LoadFault, Plan};
+use gtfs_rows::Day;
 use service_days::{DayFault, Zone};
+use std::alloc::Global;
 use std::fs;
 use std::io::ErrorKind;
 use std::rt::Files;
+use std::time::Clock;
 
 /// Why there is no plan.
 #[derive(Drop)]
@@ -27,41 +31,116 @@ impl<'a> From<DayFault> for PlanFailure<'a> {
     }
 }
 
-/// The plan that is told: its days, in the zone, as strictly.
-pub fn plan_of<'a, H: Files + AllocGlobal>(
+/// The first day if the clock gives none: no feed is loaded for it (`DayOutOfRange`), since the calendar doesn't have it.
+const NO_DAY: Day = Day {
+    year: 0,
+    month: 0,
+    day: 0,
+};
+
+/// The plan of a feed that is loaded now.
+pub fn plan_of<'a, H: Files + AllocGlobal + Clock>(
     rt: &H,
-    text: &PlanText<'a>,
+    asked: &PlanText<'a>,
 ) -> Result<Plan, PlanFailure<'a>>
-    ensures first { IfOk result (λ plan. plan.first_day ≡ text.now.first_day) }
-    ensures days { IfOk result (λ plan. plan.days ≡ text.now.days) }
+    ensures plan { IfOk result (λ plan. (bytes : List ℕ) × IsPlanNow asked.now bytes plan) }
     ensures some { IfOk result (λ plan. 1 ≤ plan.days) }
     ensures few { IfOk result (λ plan. plan.days ≤ MAX_DAYS) }
-    ensures zone { IfOk result (λ plan. IsZoneOf text.now.zone plan.zone) }
-    ensures strict { IfOk result (λ plan. plan.strict ≡ text.now.strict) }
 {
-    match zone_of(rt, &text.zone) {
-        Ok(zone) => Ok(Plan {
-            first_day: text.first_day,
-            days: text.days,
-            zone,
-            strict: text.strict,
-        }),
-        Err(failure) => Err(failure),
+    let bytes = zone_bytes(rt, &asked.zone)?;
+    match plan_at(rt.alloc(), asked, &bytes, instant(rt)) {
+        Ok(plan) => Ok(plan),
+        Err(fault) => Err(PlanFailure::Refused(LoadFault::Day(fault))),
     }
 }
 
-fn zone_of<'a, H: Files + AllocGlobal>(rt: &H, text: &ZoneText<'a>) -> Result<Zone, PlanFailure<'a>>
-    ensures { IfOk result (IsZoneOf text.now) }
+/// The bytes of a zone's file; none of another zone.
+pub fn zone_bytes<'a, H: Files + AllocGlobal>(
+    rt: &H,
+    zone: &ZoneText<'a>,
+) -> Result<Vec<u8>, PlanFailure<'a>> {
+    let ZoneText::File(path) = zone else {
+        return Ok(Vec::new(rt.alloc()));
+    };
+    match fs::read(rt, path) {
+        Ok(bytes) => Ok(bytes),
+        Err(error) => match error.kind() {
+            ErrorKind::OutOfMemory => Err(PlanFailure::OutOfMemory),
+            _ => Err(PlanFailure::Unreadable(path)),
+        },
+    }
+}
+
+/// The plan of a feed that is loaded at an instant, in seconds after 1970-01-01T00:00:00Z, over the bytes of the zone's
+/// file. `BadZone` or `OutOfMemory` if there is no such zone. If the first day is the instant's and the clocks show
+/// none, the plan's is one that no feed is loaded for.
+pub fn plan_at(
+    alloc: Global,
+    asked: &PlanText<'_>,
+    zone_bytes: &[u8],
+    instant: Option<i64>,
+) -> Result<Plan, DayFault>
+    ensures plan { IfOk result (IsPlan asked.now zone_bytes.now instant) }
+    ensures some { IfOk result (λ plan. 1 ≤ plan.days) }
+    ensures few { IfOk result (λ plan. plan.days ≤ MAX_DAYS) }
+{
+    match zone_of(alloc, &asked.zone, zone_bytes) {
+        Ok(zone) => Ok(plan_in(asked, zone_bytes, zone, instant)),
+        Err(fault) => Err(fault),
+    }
+}
+
+fn plan_in(asked: &PlanText<'_>, zone_bytes: &[u8], zone: Zone, instant: Option<i64>) -> Plan
+    requires { IsZoneOf asked.now.zone zone_bytes.now zone }
+    ensures plan { IsPlan asked.now zone_bytes.now instant result }
+    ensures some { 1 ≤ result.days }
+    ensures few { result.days ≤ MAX_DAYS }
+{
+    let first_day = first_day(asked.first, &zone, instant);
+    Plan {
+        first_day,
+        days: asked.days,
+        zone,
+        strict: asked.strict,
+    }
+}
+
+fn first_day(first: FirstDay, zone: &Zone, instant: Option<i64>) -> Day
+    ensures { IsFirstDay first zone.now instant result }
+{
+    match (first, instant) {
+        (FirstDay::On(day), _) => day,
+        (FirstDay::Today, Some(instant)) => today_or_none(zone, instant),
+        (FirstDay::Yesterday, Some(instant)) => yesterday_or_none(zone, instant),
+        (FirstDay::Today, None) => NO_DAY,
+        (FirstDay::Yesterday, None) => NO_DAY,
+    }
+}
+
+fn today_or_none(zone: &Zone, instant: i64) -> Day
+    ensures { IsToday zone.now instant result }
+{
+    match today(zone, instant) {
+        Ok(day) => day,
+        Err(_) => NO_DAY,
+    }
+}
+
+fn yesterday_or_none(zone: &Zone, instant: i64) -> Day
+    ensures { IsYesterday zone.now instant result }
+{
+    match yesterday(zone, instant) {
+        Ok(day) => day,
+        Err(_) => NO_DAY,
+    }
+}
+
+fn zone_of(alloc: Global, text: &ZoneText<'_>, bytes: &[u8]) -> Result<Zone, DayFault>
+    ensures { IfOk result (IsZoneOf text.now bytes.now) }
 {
     match text {
         ZoneText::Fixed(ahead) => Ok(Zone::fixed(ahead.seconds)),
-        ZoneText::Posix(rule) => Ok(Zone::posix(rule)?),
-        ZoneText::File(path) => match fs::read(rt, path) {
-            Ok(bytes) => Ok(Zone::file_bytes(rt.alloc(), &bytes)?),
-            Err(error) => match error.kind() {
-                ErrorKind::OutOfMemory => Err(PlanFailure::OutOfMemory),
-                _ => Err(PlanFailure::Unreadable(path)),
-            },
-        },
+        ZoneText::Posix(rule) => Zone::posix(rule),
+        ZoneText::File(_) => Zone::file_bytes(alloc, bytes),
     }
 }

@@ -128,8 +128,6 @@ impl<C> Clients<C> for Row<C> {
 #[derive(Drop)]
 struct TwoFeeds {
     names: Vec<String>,
-    plan: Plan,
-    ghost one_day: { plan.days ≡ 1 },
 }
 
 impl Feeds for TwoFeeds {
@@ -141,8 +139,17 @@ impl Feeds for TwoFeeds {
         &self.names
     }
 
-    fn plan(&self) -> &Plan {
-        &self.plan
+    fn plan(&self, _alloc: Global) -> Result<Plan, AllocError> {
+        Ok(Plan {
+            first_day: Day {
+                year: 2024,
+                month: 1,
+                day: 15,
+            },
+            days: 1,
+            zone: Zone::fixed(0),
+            strict: false,
+        })
     }
 
     fn files(&self, place: usize) -> Option<MemoryFiles<'static>> {
@@ -157,17 +164,7 @@ fn two_feeds(alloc: Global) -> Result<TwoFeeds, AllocError> {
     let slow = String::from_str(alloc, "slow")?;
     let bad = String::from_str(alloc, "bad")?;
     let names = vec![in alloc; slow, bad]?;
-    let plan = Plan {
-        first_day: Day {
-            year: 2024,
-            month: 1,
-            day: 15,
-        },
-        days: 1,
-        zone: Zone::fixed(0),
-        strict: false,
-    };
-    Ok(TwoFeeds { names, plan })
+    Ok(TwoFeeds { names })
 }
 
 /// A gate that may keep the first scan waiting until another is over.
