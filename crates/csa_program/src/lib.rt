@@ -30,7 +30,6 @@ mod writing;
 use crate::asked::{Asked, answer};
 use crate::explaining::explain;
 pub use crate::machine::Machine;
-pub use crate::planning::plan_at;
 use command_line::{Unread, read};
 use command_requests::Request;
 pub use feed_files::Disk;

@@ -2,13 +2,13 @@
 //! [NAME=FOLDER]..`.
 
 ghost use Rattle.std.specs.Prelude.{◌≡◌, All, length, IfOk};
-ghost use Rattle.csa_program.specs.Planning.{HasPlan, IsPlanNow};
 ghost use Rattle.csa_program.specs.Serving.{counts_of};
+ghost use Rattle.feed_plans.specs.Planning.{HasPlan, IsPlanNow};
 
 use crate::bases::tell_bases;
 use crate::machine::Machine;
 use crate::opening::open_image;
-use crate::planning::{PlanFailure, plan_at, zone_bytes};
+use crate::planning::{PlanFailure, zone_bytes};
 use crate::refusal::refuse_feed;
 use crate::sockets::Door;
 use crate::status;
@@ -17,6 +17,7 @@ use command_requests::{Ends, NamedFolder, PlanText, ServeRequest};
 use epochs::{ShelfLoader, ShelfSeat, Shelves};
 use feed_files::{Disk, FolderFiles};
 use feed_loader::Plan;
+use feed_plans::plan_at;
 use image_verifier::Verified;
 use orders::OpenGate;
 use std::alloc::{AllocError, Global};

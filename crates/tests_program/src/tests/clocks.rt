@@ -2,7 +2,7 @@
 
 use clock_days::instant;
 use command_requests::{FirstDay, PlanText, ZoneText};
-use csa_program::plan_at;
+use feed_plans::plan_at;
 use service_days::day_start;
 use std::alloc::Global;
 use std::io;
