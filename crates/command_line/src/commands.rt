@@ -111,7 +111,11 @@ const OUT: [Argument; 1] = [Argument::Word(
 
 /// The service days of a feed, and its zone.
 const DAYS: [Argument; 3] = [
-    Argument::Option("first", "DAY", "The first service day, YYYYMMDD"),
+    Argument::Option(
+        "first",
+        "DAY",
+        "The first service day: YYYYMMDD, or at each load the zone's own: today, or today-1 for the day before",
+    ),
     Argument::Option("days", "N", "How many service days, 1 to 14"),
     Argument::Option(
         "zone",

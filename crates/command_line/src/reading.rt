@@ -1,12 +1,12 @@
 //! From words to a request, or to what is said of them.
 
 use crate::commands::program;
-use crate::values::{clock, count, day, named_folder, number, port, zone};
+use crate::values::{clock, count, named_folder, number, port, zone};
 use clap::error::ErrorKind;
 use clap::{ArgMatches, Error};
 use command_requests::{
-    AnswerForm, BuildRequest, JourneyRequest, NamedFolder, PlanText, ProfileRequest, Question,
-    Request, ServeRequest, StopsRequest, UpgradeRequest, Workers, days_of,
+    AnswerForm, BuildRequest, FirstDay, JourneyRequest, NamedFolder, PlanText, ProfileRequest,
+    Question, Request, ServeRequest, StopsRequest, UpgradeRequest, Workers, days_of,
 };
 use criteria::CriterionName;
 use std::alloc::Global;
@@ -27,7 +27,7 @@ const WRONG_FORM: &str =
 
 /// What is said where a day, a number of days or a zone has a wrong form.
 const WRONG_PLAN_FORM: &str =
-    "error: a day is YYYYMMDD, the number of days 1 to 14, a zone fixed:SECS with at most 86399 seconds either way, posix:TEXT or file:PATH\n";
+    "error: the first day is YYYYMMDD, today or today-1, the number of days 1 to 14, a zone fixed:SECS with at most 86399 seconds either way, posix:TEXT or file:PATH\n";
 
 /// What is said where other words of `serve` have a wrong form.
 const WRONG_SERVE_FORM: &str =
@@ -157,7 +157,7 @@ fn build_request<'a>(matches: &ArgMatches<'a>) -> Option<BuildRequest<'a>> {
 
 fn plan<'a>(matches: &ArgMatches<'a>, strict: bool) -> Option<PlanText<'a>> {
     Some(PlanText {
-        first_day: day(matches.get_str("first")?)?,
+        first: FirstDay::of(matches.get_str("first")?)?,
         days: days_of(number(matches.get_str("days")?)?)?,
         zone: zone(matches.get_str("zone")?)?,
         strict,

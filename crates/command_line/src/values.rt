@@ -1,7 +1,6 @@
 //! What one word says: numbers, clocks, days and zones.
 
 use command_requests::{Ahead, NamedFolder, ZoneText};
-use gtfs_rows::Day;
 use timetable::clock_parse;
 
 /// Seconds of a clock `HH:MM:SS`.
@@ -33,11 +32,6 @@ pub(crate) fn named_folder(word: &str) -> Option<NamedFolder<'_>> {
         ("", _) | (_, "") => None,
         (name, folder) => Some(NamedFolder { name, folder }),
     }
-}
-
-/// A civil date `YYYYMMDD`.
-pub(crate) fn day(text: &str) -> Option<Day> {
-    Day::parse(text.as_bytes()).ok()
 }
 
 /// `fixed:SECS`, `posix:TEXT` or `file:PATH`.

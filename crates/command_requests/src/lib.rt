@@ -7,7 +7,9 @@ mod requests;
 pub mod statuses;
 
 pub use ends::Ends;
-pub use plans::{Ahead, MOST_AHEAD, MOST_DAYS, MOST_WORKERS, PlanText, Workers, ZoneText, days_of};
+pub use plans::{
+    Ahead, FirstDay, MOST_AHEAD, MOST_DAYS, MOST_WORKERS, PlanText, Workers, ZoneText, days_of,
+};
 pub use requests::{
     AnswerForm, BuildRequest, JourneyRequest, NamedFolder, ProfileRequest, Question, Request,
     ServeRequest, StopsRequest, UpgradeRequest,

@@ -1,8 +1,11 @@
 //! What is to be made of a feed, and how many sessions are served at once: numbers within their limits.
 
-ghost use Rattle.std.specs.Prelude.{◌≡◌, ◌≤◌, MatchOption};
+ghost use Rattle.std.specs.Prelude.{◌≡◌, ◌≤◌, MatchOption, None, Some};
 ghost use Rattle.std.specs.Option.{SomeIff};
 ghost use Rattle.jiff_core.specs.Calendar.{IsWithin};
+ghost use Rattle.gtfs_rows.specs.Values.{day_of};
+ghost use Rattle.gtfs_rows.specs.declared.values.Day.{Day};
+ghost use Rattle.command_requests.specs.Naming.{IsWordOf};
 ghost use Rattle.command_requests.specs.declared.plans.TheConstants.{MOST_DAYS, MOST_WORKERS};
 
 use gtfs_rows::Day;
@@ -77,11 +80,43 @@ pub enum ZoneText<'a> {
     File(&'a str),
 }
 
+/// Which service day is the first.
+#[derive(Clone, Copy, Drop)]
+pub enum FirstDay {
+    On(Day),
+    /// The day that the zone's clocks show when a feed is loaded.
+    Today,
+    /// The day before that one.
+    Yesterday,
+}
+
+impl FirstDay {
+    /// The day of a word: a civil date `YYYYMMDD` of the years 1 to 9999, `today`, or `today-1` for the day before.
+    pub fn of(word: &str) -> Option<FirstDay>
+        ensures { MatchOption result ((first : FirstDay) → ¬ (IsWordOf word.now first)) (IsWordOf word.now) }
+    {
+        match word {
+            "today" => Some(FirstDay::Today),
+            "today-1" => Some(FirstDay::Yesterday),
+            _ => date_of(word),
+        }
+    }
+}
+
+// A civil date.
+fn date_of(word: &str) -> Option<FirstDay>
+    ensures { MatchOption result (day_of word.now ≡ None) (λ first. (day : Day) × (first ≡ FirstDay.On day) × (day_of word.now ≡ Some day)) }
+{
+    match Day::parse(word.as_bytes()) {
+        Ok(day) => Some(FirstDay::On(day)),
+        Err(_) => None,
+    }
+}
+
 /// What is to be made of a feed.
 #[derive(Drop)]
 pub struct PlanText<'a> {
-    /// The first service day.
-    pub first_day: Day,
+    pub first: FirstDay,
     pub days: u32,
     ghost some: { 1 ≤ days },
     ghost few: { days ≤ MOST_DAYS },

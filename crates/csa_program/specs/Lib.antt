@@ -3,5 +3,4 @@ pub mod Asking
 pub mod Judging
 pub mod Listing
 pub mod Opening
-pub mod Planning
 pub mod Serving

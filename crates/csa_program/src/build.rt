@@ -14,6 +14,7 @@ use std::io;
 use std::io::{ErrorKind, Write};
 use std::random::RandomSource;
 use std::rt::Files;
+use std::time::Clock;
 
 /// Why no image is written.
 enum Failure<'a> {
@@ -45,7 +46,7 @@ impl<'a> From<PlanFailure<'a>> for Failure<'a> {
 /// Builds the image of the folder's feed, writes it, and prints its counts; or reports the first thing that is wrong.
 /// The file is written only where nothing was. Warnings and explanations go to `errors`, and so does progress, where it
 /// is asked for or where that is a terminal.
-pub fn run<H: Files + RandomSource + AllocGlobal, O: Write, E: Write>(
+pub fn run<H: Files + RandomSource + AllocGlobal + Clock, O: Write, E: Write>(
     rt: &H,
     request: BuildRequest<'_>,
     output: &mut O,
@@ -76,7 +77,7 @@ pub fn run<H: Files + RandomSource + AllocGlobal, O: Write, E: Write>(
     }
 }
 
-fn build<'a, H: Files + RandomSource + AllocGlobal, E: Write>(
+fn build<'a, H: Files + RandomSource + AllocGlobal + Clock, E: Write>(
     rt: &H,
     request: BuildRequest<'a>,
     log: Option<&mut E>,

@@ -1,15 +1,18 @@
-//! What is made of feeds: the service days and the zone that a command line tells.
+//! What is made of feeds: the service days and the zone that a command line asks for.
 
-ghost use Rattle.std.specs.Prelude.{◌≡◌, ◌≤◌, IfOk};
+ghost use Rattle.std.specs.Prelude.{◌≡◌, ◌≤◌, ℕ, List, IfOk};
 ghost use Rattle.connections.specs.declared.days.TheConstants.{MAX_DAYS};
-ghost use Rattle.csa_program.specs.Planning.{IsZoneOf};
+ghost use Rattle.feed_plans.specs.Planning.{IsPlanNow};
 
+use clock_days::instant;
 use command_requests::{PlanText, ZoneText};
 use feed_loader::{LoadFault, Plan};
-use service_days::{DayFault, Zone};
+use feed_plans::plan_at;
+use service_days::DayFault;
 use std::fs;
 use std::io::ErrorKind;
 use std::rt::Files;
+use std::time::Clock;
 
 /// Why there is no plan.
 #[derive(Drop)]
@@ -27,41 +30,35 @@ impl<'a> From<DayFault> for PlanFailure<'a> {
     }
 }
 
-/// The plan that is told: its days, in the zone, as strictly.
-pub fn plan_of<'a, H: Files + AllocGlobal>(
+/// The plan of a feed that is loaded now.
+pub fn plan_of<'a, H: Files + AllocGlobal + Clock>(
     rt: &H,
-    text: &PlanText<'a>,
+    asked: &PlanText<'a>,
 ) -> Result<Plan, PlanFailure<'a>>
-    ensures first { IfOk result (λ plan. plan.first_day ≡ text.now.first_day) }
-    ensures days { IfOk result (λ plan. plan.days ≡ text.now.days) }
+    ensures plan { IfOk result (λ plan. (bytes : List ℕ) × IsPlanNow asked.now bytes plan) }
     ensures some { IfOk result (λ plan. 1 ≤ plan.days) }
     ensures few { IfOk result (λ plan. plan.days ≤ MAX_DAYS) }
-    ensures zone { IfOk result (λ plan. IsZoneOf text.now.zone plan.zone) }
-    ensures strict { IfOk result (λ plan. plan.strict ≡ text.now.strict) }
 {
-    match zone_of(rt, &text.zone) {
-        Ok(zone) => Ok(Plan {
-            first_day: text.first_day,
-            days: text.days,
-            zone,
-            strict: text.strict,
-        }),
-        Err(failure) => Err(failure),
+    let bytes = zone_bytes(rt, &asked.zone)?;
+    match plan_at(rt.alloc(), asked, &bytes, instant(rt)) {
+        Ok(plan) => Ok(plan),
+        Err(fault) => Err(PlanFailure::Refused(LoadFault::Day(fault))),
     }
 }
 
-fn zone_of<'a, H: Files + AllocGlobal>(rt: &H, text: &ZoneText<'a>) -> Result<Zone, PlanFailure<'a>>
-    ensures { IfOk result (IsZoneOf text.now) }
-{
-    match text {
-        ZoneText::Fixed(ahead) => Ok(Zone::fixed(ahead.seconds)),
-        ZoneText::Posix(rule) => Ok(Zone::posix(rule)?),
-        ZoneText::File(path) => match fs::read(rt, path) {
-            Ok(bytes) => Ok(Zone::file_bytes(rt.alloc(), &bytes)?),
-            Err(error) => match error.kind() {
-                ErrorKind::OutOfMemory => Err(PlanFailure::OutOfMemory),
-                _ => Err(PlanFailure::Unreadable(path)),
-            },
+/// The bytes of a zone's file; none of another zone.
+pub fn zone_bytes<'a, H: Files + AllocGlobal>(
+    rt: &H,
+    zone: &ZoneText<'a>,
+) -> Result<Vec<u8>, PlanFailure<'a>> {
+    let ZoneText::File(path) = zone else {
+        return Ok(Vec::new(rt.alloc()));
+    };
+    match fs::read(rt, path) {
+        Ok(bytes) => Ok(bytes),
+        Err(error) => match error.kind() {
+            ErrorKind::OutOfMemory => Err(PlanFailure::OutOfMemory),
+            _ => Err(PlanFailure::Unreadable(path)),
         },
     }
 }

@@ -1,29 +1,33 @@
 //! `csa serve --image IMAGE --port P --workers W --sessions N [--legs] --first DAY --days N --zone ZONE
 //! [NAME=FOLDER]..`.
 
-ghost use Rattle.std.specs.Prelude.{◌≡◌, ◌≤◌, All, length, IfOk};
-ghost use Rattle.connections.specs.declared.days.TheConstants.{MAX_DAYS};
+ghost use Rattle.std.specs.Prelude.{◌≡◌, All, length, IfOk};
 ghost use Rattle.csa_program.specs.Serving.{counts_of};
+ghost use Rattle.feed_plans.specs.Planning.{HasPlan, IsPlanNow};
 
 use crate::bases::tell_bases;
 use crate::machine::Machine;
 use crate::opening::open_image;
-use crate::planning::{PlanFailure, plan_of};
+use crate::planning::{PlanFailure, zone_bytes};
 use crate::refusal::refuse_feed;
 use crate::sockets::Door;
 use crate::status;
-use command_requests::{Ends, NamedFolder, ServeRequest};
+use clock_days::instant;
+use command_requests::{Ends, NamedFolder, PlanText, ServeRequest};
 use epochs::{ShelfLoader, ShelfSeat, Shelves};
 use feed_files::{Disk, FolderFiles};
 use feed_loader::Plan;
+use feed_plans::plan_at;
 use image_verifier::Verified;
 use orders::OpenGate;
 use std::alloc::{AllocError, Global};
 use std::io::{Read, Write};
 use std::marker::Brand;
 use std::net::{Ipv4Addr, Net, TcpListener, TcpStream};
+use std::rt::Files;
 use std::sync::{Arc, Wait};
 use std::thread::Threads;
+use std::time::Clock;
 use workers::{Feeds, PointForm, Served, run_shelves};
 
 /// The folders of the feeds that may be loaded.
@@ -32,23 +36,30 @@ struct Folders<'a, H> {
     disk: &'a H,
     names: Vec<String>,
     feeds: &'a [NamedFolder<'a>],
-    plan: Plan,
+    /// What is asked for, and the bytes of the zone's file: a plan is made of them for each load.
+    asked: &'a PlanText<'a>,
+    zone_bytes: Vec<u8>,
     ghost named: { length names.items ≡ length feeds.now },
-    ghost some: { 1 ≤ plan.days },
-    ghost few: { plan.days ≤ MAX_DAYS },
+    ghost possible: { HasPlan asked.now zone_bytes.items },
 }
 
-impl<'a, H: Disk + Sync> Feeds for Folders<'a, H> {
+impl<'a, H: Disk + Clock + Sync> Feeds for Folders<'a, H> {
     type Files = FolderFiles<'a, H>;
 
     ghost named = { λ folders. folders.names.items };
+
+    ghost is_plan = { λ folders plan. IsPlanNow folders.asked.now folders.zone_bytes.items plan };
 
     fn names(&self) -> &[String] {
         &self.names
     }
 
-    fn plan(&self) -> &Plan {
-        &self.plan
+    // The zone was made of the same bytes before, so only memory can be missing.
+    fn plan(&self, alloc: Global) -> Result<Plan, AllocError> {
+        match plan_at(alloc, self.asked, &self.zone_bytes, instant(self.disk)) {
+            Ok(plan) => Ok(plan),
+            Err(_) => Err(AllocError),
+        }
     }
 
     fn files(&self, place: usize) -> Option<FolderFiles<'a, H>> {
@@ -67,8 +78,8 @@ pub fn run<
     E: Write + Send,
 >(rt: &H, request: ServeRequest<'_>, input: &mut I, output: &mut O, errors: &mut E) -> u8 {
     let alloc = rt.alloc();
-    let plan = match plan_of(rt, &request.plan) {
-        Ok(plan) => plan,
+    let (zone_bytes, plan) = match first_plan(rt, &request.plan) {
+        Ok(first) => first,
         Err(PlanFailure::Refused(fault)) => return refuse_feed(alloc, output, fault),
         Err(PlanFailure::Unreadable(path)) => return status::tell_unreadable(alloc, errors, path),
         Err(PlanFailure::OutOfMemory) => return status::OUT_OF_MEMORY,
@@ -87,9 +98,22 @@ pub fn run<
         disk: rt,
         names,
         feeds: &request.feeds,
-        plan,
+        asked: &request.plan,
+        zone_bytes,
     };
     listen(rt, alloc, &request, image, &folders, output, errors)
+}
+
+// The bytes of the zone's file, and the plan of a feed that is loaded now.
+fn first_plan<'a, H: Files + AllocGlobal + Clock>(
+    rt: &H,
+    text: &PlanText<'a>,
+) -> Result<(Vec<u8>, Plan), PlanFailure<'a>>
+    ensures { IfOk result (λ first. IsPlanNow text.now first.0.items first.1) }
+{
+    let bytes = zone_bytes(rt, &text.zone)?;
+    let plan = plan_at(rt.alloc(), text, &bytes, instant(rt))?;
+    Ok((bytes, plan))
 }
 
 fn names_of(alloc: Global, feeds: &[NamedFolder<'_>]) -> Result<Vec<String>, AllocError>
@@ -104,7 +128,7 @@ fn names_of(alloc: Global, feeds: &[NamedFolder<'_>]) -> Result<Vec<String>, All
 
 // Listens at the port, and serves whoever comes.
 fn listen<
-    H: Disk + Net<Listener = TcpListener, Stream = TcpStream> + Threads + Wait + Sync,
+    H: Disk + Clock + Net<Listener = TcpListener, Stream = TcpStream> + Threads + Wait + Sync,
     O: Write,
     E: Write + Send,
 >(

@@ -3,6 +3,7 @@
 mod base_feed;
 mod building;
 mod checking;
+mod clocks;
 mod command_lines;
 mod hostile_images;
 mod profiles;

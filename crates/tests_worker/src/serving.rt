@@ -56,10 +56,10 @@ const LOADING: (&str, &str) = (
     "{\"base\":1705276800,\"ok\":\"pin\",\"version\":1}\n{\"feed\":\"slow\",\"ok\":\"load\"}\n{\"ok\":\"profile\",\"points\":[{\"arr\":\"08:20:00\",\"dep\":\"08:00:00\",\"journey\":\"ride 0 0 walk 1 1 0 ride 2 2\"}],\"version\":1,\"walk\":null}\n",
 );
 
-/// What a session that waits for loads asks, and its replies.
+/// What a session that waits for loads asks, and its replies. The third load is for the third day, 20240117.
 const WAITING: (&str, &str) = (
-    "{\"do\":\"pin\"}\n{\"do\":\"load\",\"feed\":\"slow\",\"wait\":true}\n{\"do\":\"pin\"}\n{\"do\":\"release\"}\n{\"do\":\"pin\"}\n{\"do\":\"load\",\"feed\":\"bad\",\"wait\":true}\n{\"do\":\"load\",\"feed\":\"none\",\"wait\":true}\n{\"do\":\"load\",\"feed\":\"slow\",\"wait\":true}\n",
-    "{\"base\":1705276800,\"ok\":\"pin\",\"version\":1}\n{\"feed\":\"slow\",\"ok\":\"load\",\"version\":2}\n{\"error\":92,\"name\":\"AlreadyPinned\"}\n{\"ok\":\"release\"}\n{\"base\":1705276800,\"ok\":\"pin\",\"version\":2}\n{\"error\":120,\"name\":\"LoadRefused\",\"refusal\":1}\n{\"error\":114,\"name\":\"UnknownFeed\"}\n{\"feed\":\"slow\",\"ok\":\"load\",\"version\":3}\n",
+    "{\"do\":\"pin\"}\n{\"do\":\"load\",\"feed\":\"slow\",\"wait\":true}\n{\"do\":\"pin\"}\n{\"do\":\"release\"}\n{\"do\":\"pin\"}\n{\"do\":\"load\",\"feed\":\"bad\",\"wait\":true}\n{\"do\":\"load\",\"feed\":\"none\",\"wait\":true}\n{\"do\":\"load\",\"feed\":\"slow\",\"wait\":true}\n{\"do\":\"release\"}\n{\"do\":\"pin\"}\n",
+    "{\"base\":1705276800,\"ok\":\"pin\",\"version\":1}\n{\"feed\":\"slow\",\"ok\":\"load\",\"version\":2}\n{\"error\":92,\"name\":\"AlreadyPinned\"}\n{\"ok\":\"release\"}\n{\"base\":1705276800,\"ok\":\"pin\",\"version\":2}\n{\"error\":120,\"name\":\"LoadRefused\",\"refusal\":1}\n{\"error\":114,\"name\":\"UnknownFeed\"}\n{\"feed\":\"slow\",\"ok\":\"load\",\"version\":3}\n{\"ok\":\"release\"}\n{\"base\":1705449600,\"ok\":\"pin\",\"version\":3}\n",
 );
 
 /// What the loader tells of the second.
@@ -124,12 +124,11 @@ impl<C> Clients<C> for Row<C> {
     }
 }
 
-/// The feeds `slow` and `bad`.
+/// The feeds `slow` and `bad`. Each load is for the day after that of the one before it, from 20240115 on.
 #[derive(Drop)]
 struct TwoFeeds {
     names: Vec<String>,
-    plan: Plan,
-    ghost one_day: { plan.days ≡ 1 },
+    loads: AtomicU64,
 }
 
 impl Feeds for TwoFeeds {
@@ -141,8 +140,18 @@ impl Feeds for TwoFeeds {
         &self.names
     }
 
-    fn plan(&self) -> &Plan {
-        &self.plan
+    fn plan(&self, _alloc: Global) -> Result<Plan, AllocError> {
+        let moved = self.loads.fetch_add(1, Ordering::SeqCst) % 10;
+        Ok(Plan {
+            first_day: Day {
+                year: 2024,
+                month: 1,
+                day: 15 + moved as u8,
+            },
+            days: 1,
+            zone: Zone::fixed(0),
+            strict: false,
+        })
     }
 
     fn files(&self, place: usize) -> Option<MemoryFiles<'static>> {
@@ -157,17 +166,10 @@ fn two_feeds(alloc: Global) -> Result<TwoFeeds, AllocError> {
     let slow = String::from_str(alloc, "slow")?;
     let bad = String::from_str(alloc, "bad")?;
     let names = vec![in alloc; slow, bad]?;
-    let plan = Plan {
-        first_day: Day {
-            year: 2024,
-            month: 1,
-            day: 15,
-        },
-        days: 1,
-        zone: Zone::fixed(0),
-        strict: false,
-    };
-    Ok(TwoFeeds { names, plan })
+    Ok(TwoFeeds {
+        names,
+        loads: AtomicU64::new(0),
+    })
 }
 
 /// A gate that may keep the first scan waiting until another is over.

@@ -1,19 +1,19 @@
 //! The loader: order after order.
 
 ghost use Rattle.std.specs.Prelude.{◌≡◌, ◌≤◌, ◌∷◌, ◌++◌, [], ℕ, Option, Result, length};
-ghost use Rattle.connections.specs.declared.days.TheConstants.{MAX_DAYS};
+ghost use Rattle.feed_loader.specs.declared.plan.Plan.{Plan};
 ghost use Rattle.load_orders.specs.Queue.{mark_of};
 ghost use Rattle.load_orders.specs.Telling.{AnsweredValue};
 ghost use Rattle.workers.specs.Carrying.{CarriesOut, IsCarriedOut, IsLoadOf};
 ghost use Rattle.workers.specs.Loading.{IsOutcome, load_answer};
-ghost use Rattle.workers.specs.declared.refusal.LoadRefusal.{LoadRefusal};
 
 use crate::feeds::Feeds;
 use crate::loading::load_one;
 use crate::refusal::LoadRefusal;
 use epochs::{Loads, Versions};
-use feed_loader::{FeedFiles, Plan};
+use feed_loader::LoadFault;
 use load_orders::{LoadAnswer, LoaderOrders, Order, OrderFault};
+use service_days::DayFault;
 use std::alloc::Global;
 use std::io;
 use std::io::Write;
@@ -91,45 +91,37 @@ fn load_place<R: Wait, N, T: Versions<Notice = N> + Loads, F: Feeds, E: Write>(
         place result (T.Loads.answers loader.old) (T.Loads.answers loader.new) }
 {
     match (feeds.names().get(place), feeds.files(place)) {
-        (Some(name), Some(files)) => load_files(
-            rt,
-            alloc,
-            name.as_str(),
-            files,
-            feeds.plan(),
-            shelves,
-            loader,
-            errors,
-        ),
+        (Some(name), Some(files)) => {
+            let outcome = load_planned(rt, alloc, files, feeds, shelves, loader);
+            // The loader goes on where its line can't be written.
+            let _ = tell(errors, name.as_str(), version_or_refusal(&outcome));
+            answer_of(outcome)
+        }
         _ => LoadAnswer::Refused {
             refusal: OrderFault::UnknownFeed.number(),
         },
     }
 }
 
-// Loads these files of the feed of this name, and tells what came of it.
-fn load_files<R: Wait, N, T: Versions<Notice = N> + Loads, D: FeedFiles + Drop, E: Write>(
+// Loads these files by a plan that is made for this load; what came of it.
+fn load_planned<R: Wait, N, T: Versions<Notice = N> + Loads, F: Feeds>(
     rt: &R,
     alloc: Global,
-    name: &str,
-    mut files: D,
-    plan: &Plan,
+    mut files: F::Files,
+    feeds: &F,
     shelves: &T,
     loader: &mut T::Loader,
-    errors: &mut E,
-) -> LoadAnswer<N>
+) -> Result<(u64, Option<N>), LoadRefusal>
     requires loads { T.Loads.loads shelves.now loader.old }
-    requires failures { D.failures files ≡ 0 }
-    requires some { 1 ≤ plan.now.days }
-    requires few { plan.now.days ≤ MAX_DAYS }
+    requires failures { F.Files.failures files ≡ 0 }
     ensures loads { T.Loads.loads shelves.now loader.new }
-    ensures outcome { (outcome : Result (ℕ × Option N) LoadRefusal)
-        × IsOutcome T.Versions.noted (D.holds files) plan.now (T.Loads.answers loader.old) outcome (T.Loads.answers loader.new) × (result ≡ load_answer outcome) }
+    ensures outcome { (plan : Plan) × F.is_plan feeds.now plan
+        × IsOutcome T.Versions.noted (F.Files.holds files) plan (T.Loads.answers loader.old) result (T.Loads.answers loader.new) }
 {
-    let outcome = load_one(rt, alloc, &mut files, plan, shelves, loader);
-    // The loader goes on where its line can't be written.
-    let _ = tell(errors, name, version_or_refusal(&outcome));
-    answer_of(outcome)
+    match feeds.plan(alloc) {
+        Ok(plan) => load_one(rt, alloc, &mut files, &plan, shelves, loader),
+        Err(_) => Err(LoadRefusal::Load(LoadFault::Day(DayFault::OutOfMemory))),
+    }
 }
 
 fn version_or_refusal<N>(

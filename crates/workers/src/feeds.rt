@@ -1,11 +1,12 @@
 //! The feeds that may be ordered.
 
-ghost use Rattle.std.specs.Prelude.{◌≡◌, ◌≤◌, ℕ, List, String, length, MatchOption};
+ghost use Rattle.std.specs.Prelude.{◌≡◌, ◌≤◌, ℕ, List, String, length, IfOk, IfErr, MatchOption};
 ghost use Rattle.std.specs.Global.{Global};
 ghost use Rattle.connections.specs.declared.days.TheConstants.{MAX_DAYS};
 ghost use Rattle.feed_loader.specs.declared.plan.Plan.{Plan};
 
 use feed_loader::{FeedFiles, Plan};
+use std::alloc::{AllocError, Global};
 
 /// The feeds that may be ordered by their names.
 pub trait Feeds {
@@ -17,18 +18,20 @@ pub trait Feeds {
     // These are the files of the feed at that place.
     ghost are_files: { Self → ℕ → Self.Files → Type 0 } = { λ _ _ _. Unit {0} };
 
-    // This is what is made of each.
+    // A feed may be loaded by this plan.
     ghost is_plan: { Self → Plan → Type 0 } = { λ _ _. Unit {0} };
 
     /// Their names, by place.
     fn names(&self) -> &[String]
         ensures { result.now ≡ named self.now };
 
-    /// What is made of each.
-    fn plan(&self) -> &Plan
-        ensures plan { is_plan self.now result.now }
-        ensures some { 1 ≤ result.now.days }
-        ensures few { result.now.days ≤ MAX_DAYS };
+    /// The plan of the feed that is loaded next: it is asked for anew before each load, since it may go by a clock.
+    /// Running out of memory is the only error.
+    fn plan(&self, alloc: Global) -> Result<Plan, AllocError>
+        ensures plan { IfOk result (is_plan self.now) }
+        ensures some { IfOk result (λ plan. 1 ≤ plan.days) }
+        ensures few { IfOk result (λ plan. plan.days ≤ MAX_DAYS) }
+        ensures possible { IfErr result (λ _. (plan : Plan) × is_plan self.now plan) };
 
     /// The files of the feed at the place, of which no read has failed yet. None only where there is no such place.
     fn files(&self, place: usize) -> Option<Self::Files>

@@ -48,6 +48,17 @@ run build base_feed no_such_folder/built.csa --first 20240115 --days 1 --zone fi
 tells csa: no_such_folder/built.csa can't be written: no such file or folder
 ends 3
 
+# The day that the clock shows, and the day before: on neither runs anything. The zone is read before a clock is asked.
+run build base_feed today.csa --first today --days 1 --zone fixed:0
+tells csa: warning: no trip runs on these days, so no query has a departure
+answers stops 3 runs 0 connections 0 footpaths 3 lifted 0 flex 0 frequencies 0 skipped 0
+run build base_feed today.csa --first today-1 --days 14 --zone posix:CET-1CEST,M3.5.0,M10.5.0/3
+tells csa: warning: no trip runs on these days, so no query has a departure
+answers stops 3 runs 0 connections 0 footpaths 3 lifted 0 flex 0 frequencies 0 skipped 0
+run build base_feed today.csa --first today --days 1 --zone posix:none
+answers refused 21 BadZone
+remove today.csa
+
 # A transfer that is left out, with a warning.
 rows base_feed/transfers.txt from_stop_id,to_stop_id,transfer_type,min_transfer_time | B,B,4,600
 run build base_feed built.csa --first 20240115 --days 1 --zone fixed:0

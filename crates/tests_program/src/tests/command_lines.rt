@@ -65,6 +65,14 @@ run build no_such_feed none.csa --first 20240115 --days '' --zone fixed:0
 complains 64
 run build no_such_feed none.csa --first 20240230 --days 1 --zone fixed:0
 complains 64
+run build no_such_feed none.csa --first tomorrow --days 1 --zone fixed:0
+complains 64
+run build no_such_feed none.csa --first today-2 --days 1 --zone fixed:0
+complains 64
+run build no_such_feed none.csa --first TODAY --days 1 --zone fixed:0
+complains 64
+run build no_such_feed none.csa --first '' --days 1 --zone fixed:0
+complains 64
 run build no_such_feed none.csa --first 20240115 --days 1 --zone fixed:86400
 complains 64
 run build no_such_feed none.csa --first 20240115 --days 1 --zone fixed:-86400

@@ -31,8 +31,12 @@ complains 3
 # A zone that is none is told before an image that is none.
 run serve --image - --port 0 --workers 2 --sessions 1 --first 20240115 --days 1 --zone posix:none slow=slow_feed
 answers refused 21 BadZone
+run serve --image - --port 0 --workers 2 --sessions 1 --first today --days 1 --zone posix:none slow=slow_feed
+answers refused 21 BadZone
 sample
 cut 3
+run serve --image - --port 0 --workers 2 --sessions 1 --first today-1 --days 1 --zone fixed:0 slow=slow_feed
+answers refused 51 OddLength
 run serve --image - --port 0 --workers 2 --sessions 1 --first 20240115 --days 1 --zone fixed:0 slow=slow_feed
 answers refused 51 OddLength
 ";

@@ -1,0 +1,50 @@
+-- What is made of feeds, as the command line asks it.
+use Rattle.std.specs.Prelude.{◌≡◌, ◌⊎◌, ℕ, ℤ, List, Option, None, Some, false}
+use Rattle.clock_days.specs.Shown.{HasNoDay, HasNoDayBefore, IsDayAt, IsDayBefore}
+use Rattle.command_requests.specs.declared.plans.FirstDay.{FirstDay}
+use Rattle.command_requests.specs.declared.plans.FirstDay.TheVariants.{On, Today, Yesterday}
+use Rattle.command_requests.specs.declared.plans.PlanText.{PlanText}
+use Rattle.command_requests.specs.declared.plans.ZoneText.{ZoneText}
+use Rattle.command_requests.specs.declared.plans.ZoneText.TheVariants.{Fixed, Posix, File}
+use Rattle.feed_loader.specs.declared.plan.Plan.{Plan}
+use Rattle.gtfs_rows.specs.Values.{is_civil}
+use Rattle.gtfs_rows.specs.declared.values.Day.{Day}
+use Rattle.service_days.specs.declared.zone.Zone.{Zone}
+use Rattle.service_days.specs.Zones.{IsFixedZone, IsRuleOf, IsTableOf}
+
+-- the zone is the one that the text names; that of a file is the table of these bytes. No clause says which bytes a file has
+abbrev pub IsZoneOf : ZoneText → List ℕ → Zone → Type 0
+IsZoneOf (Fixed ahead) bytes zone = IsFixedZone ahead.seconds zone
+IsZoneOf (Posix rule) bytes zone = IsRuleOf rule.now zone
+IsZoneOf (File path) bytes zone = IsTableOf bytes zone
+
+-- the day that the zone's clocks show at an instant; if they show none, one that the calendar doesn't have, for which no feed is loaded
+abbrev pub IsToday : Zone → ℤ → Day → Type 0
+IsToday zone instant day = IsDayAt zone instant day ⊎ (HasNoDay zone instant × (is_civil day ≡ false))
+
+-- the day before, alike
+abbrev pub IsYesterday : Zone → ℤ → Day → Type 0
+IsYesterday zone instant day = IsDayBefore zone instant day ⊎ (HasNoDayBefore zone instant × (is_civil day ≡ false))
+
+-- the first day of a plan that is made at an instant; without a clock, one that the calendar doesn't have
+abbrev pub IsFirstDay : FirstDay → Zone → Option ℤ → Day → Type 0
+IsFirstDay (On given) zone instant day = day ≡ given
+IsFirstDay Today zone (Some instant) day = IsToday zone instant day
+IsFirstDay Today zone None day = is_civil day ≡ false
+IsFirstDay Yesterday zone (Some instant) day = IsYesterday zone instant day
+IsFirstDay Yesterday zone None day = is_civil day ≡ false
+
+-- the plan that is asked for, made at an instant
+pub record IsPlan (asked : PlanText) (bytes : List ℕ) (instant : Option ℤ) (plan : Plan) : Type 0 where
+  pub first : IsFirstDay asked.first plan.zone instant plan.first_day
+  pub days : plan.days ≡ asked.days
+  pub zone : IsZoneOf asked.zone bytes plan.zone
+  pub strict : plan.strict ≡ asked.strict
+
+-- the plan that is asked for, made at the instant that the clock showed: which one that was, no clause says
+abbrev pub IsPlanNow : PlanText → List ℕ → Plan → Type 0
+IsPlanNow asked bytes plan = (instant : Option ℤ) × IsPlan asked bytes instant plan
+
+-- some plan is made of what is asked
+abbrev pub HasPlan : PlanText → List ℕ → Type 0
+HasPlan asked bytes = (plan : Plan) × IsPlanNow asked bytes plan

@@ -1,0 +1,94 @@
+//! The plan of a load: what a command line asks for, at an instant.
+#![tactic(auto)]
+
+ghost use Rattle.std.specs.Prelude.{◌≡◌, ◌≤◌, IfOk};
+ghost use Rattle.connections.specs.declared.days.TheConstants.{MAX_DAYS};
+ghost use Rattle.feed_plans.specs.Planning.{IsFirstDay, IsPlan, IsToday, IsYesterday, IsZoneOf};
+
+use clock_days::{today, yesterday};
+use command_requests::{FirstDay, PlanText, ZoneText};
+use feed_loader::Plan;
+use gtfs_rows::Day;
+use service_days::{DayFault, Zone};
+use std::alloc::Global;
+
+/// The first day if the clock gives none: no feed is loaded for it (`DayOutOfRange`), since the calendar doesn't have it.
+const NO_DAY: Day = Day {
+    year: 0,
+    month: 0,
+    day: 0,
+};
+
+/// The plan of a feed that is loaded at an instant, in seconds after 1970-01-01T00:00:00Z, over the bytes of the zone's
+/// file. `BadZone` or `OutOfMemory` if there is no such zone. If the first day is the instant's and the clocks show
+/// none, the plan's is one that no feed is loaded for.
+pub fn plan_at(
+    alloc: Global,
+    asked: &PlanText<'_>,
+    zone_bytes: &[u8],
+    instant: Option<i64>,
+) -> Result<Plan, DayFault>
+    ensures plan { IfOk result (IsPlan asked.now zone_bytes.now instant) }
+    ensures some { IfOk result (λ plan. 1 ≤ plan.days) }
+    ensures few { IfOk result (λ plan. plan.days ≤ MAX_DAYS) }
+{
+    match zone_of(alloc, &asked.zone, zone_bytes) {
+        Ok(zone) => Ok(plan_in(asked, zone_bytes, zone, instant)),
+        Err(fault) => Err(fault),
+    }
+}
+
+fn plan_in(asked: &PlanText<'_>, zone_bytes: &[u8], zone: Zone, instant: Option<i64>) -> Plan
+    requires { IsZoneOf asked.now.zone zone_bytes.now zone }
+    ensures plan { IsPlan asked.now zone_bytes.now instant result }
+    ensures some { 1 ≤ result.days }
+    ensures few { result.days ≤ MAX_DAYS }
+{
+    let first_day = first_day(asked.first, &zone, instant);
+    Plan {
+        first_day,
+        days: asked.days,
+        zone,
+        strict: asked.strict,
+    }
+}
+
+fn first_day(first: FirstDay, zone: &Zone, instant: Option<i64>) -> Day
+    ensures { IsFirstDay first zone.now instant result }
+{
+    match (first, instant) {
+        (FirstDay::On(day), _) => day,
+        (FirstDay::Today, Some(instant)) => today_or_none(zone, instant),
+        (FirstDay::Yesterday, Some(instant)) => yesterday_or_none(zone, instant),
+        (FirstDay::Today, None) => NO_DAY,
+        (FirstDay::Yesterday, None) => NO_DAY,
+    }
+}
+
+fn today_or_none(zone: &Zone, instant: i64) -> Day
+    ensures { IsToday zone.now instant result }
+{
+    match today(zone, instant) {
+        Ok(day) => day,
+        Err(_) => NO_DAY,
+    }
+}
+
+fn yesterday_or_none(zone: &Zone, instant: i64) -> Day
+    ensures { IsYesterday zone.now instant result }
+{
+    match yesterday(zone, instant) {
+        Ok(day) => day,
+        Err(_) => NO_DAY,
+    }
+}
+
+fn zone_of(alloc: Global, text: &ZoneText<'_>, bytes: &[u8]) -> Result<Zone, DayFault>
+    ensures { IfOk result (IsZoneOf text.now bytes.now) }
+{
+    match text {
+        ZoneText::Fixed(ahead) => Ok(Zone::fixed(ahead.seconds)),
+        ZoneText::Posix(rule) => Zone::posix(rule),
+        ZoneText::File(_) => Zone::file_bytes(alloc, bytes),
+    }
+}

@@ -1,0 +1,82 @@
+//! Which days a feed is loaded for, by a clock that is handed in.
+
+use clock_days::instant;
+use command_requests::{FirstDay, PlanText, ZoneText};
+use feed_plans::plan_at;
+use service_days::day_start;
+use std::alloc::Global;
+use std::io;
+use std::io::ErrorKind;
+use std::process::Abort;
+use std::test::Fail;
+use std::time::{Clock, Duration};
+
+/// A clock that shows so many seconds after 1970-01-01T00:00:00Z, or can't be read.
+struct Stopped(Option<u64>);
+
+impl Clock for Stopped {
+    fn monotonic(&self) -> io::Result<Duration> {
+        Ok(Duration::from_secs(0))
+    }
+
+    fn since_1970(&self) -> io::Result<Duration> {
+        match self.0 {
+            Some(seconds) => Ok(Duration::from_secs(seconds)),
+            None => Err(io::Error::from(ErrorKind::Unsupported)),
+        }
+    }
+}
+
+/// The rule of Central Europe.
+const ZONE: &str = "CET-1CEST,M3.5.0,M10.5.0/3";
+
+/// What is asked for, what the clock shows at a load, and the second from which the image counts. 1705273200 is the start of 20240115, 1711836000
+/// that of 20240331, an hour before its midnight. A day that the clock doesn't give, or beyond the calendar, has no start.
+const LOADS: [(&str, Option<u64>, Option<i64>); 11] = [
+    ("today", Some(1_705_273_199), Some(1_705_186_800)),
+    ("today", Some(1_705_273_200), Some(1_705_273_200)),
+    ("today", Some(1_705_359_599), Some(1_705_273_200)),
+    ("today", Some(1_705_359_600), Some(1_705_359_600)),
+    ("today-1", Some(1_705_359_599), Some(1_705_186_800)),
+    ("today-1", Some(1_705_359_600), Some(1_705_273_200)),
+    ("today", Some(1_711_839_600), Some(1_711_836_000)),
+    ("20240115", Some(1_711_839_600), Some(1_705_273_200)),
+    ("20240115", None, Some(1_705_273_200)),
+    ("today", None, None),
+    ("today-1", Some(253_402_300_800), None),
+];
+
+/// The second from which the image of a feed counts that is loaded while the clock shows this.
+fn base_at(alloc: Global, word: &str, clock: &Stopped) -> Result<Option<i64>, Fail> {
+    let Some(first) = FirstDay::of(word) else {
+        return Err(Fail::new("a first day"));
+    };
+    let asked = PlanText {
+        first,
+        days: 1,
+        zone: ZoneText::Posix(ZONE),
+        strict: false,
+    };
+    let plan = plan_at(alloc, &asked, &[], instant(clock))?;
+    Ok(day_start(&plan.zone, plan.first_day).ok())
+}
+
+fn try_load<R: Abort>(
+    rt: &R,
+    alloc: Global,
+    word: &str,
+    seconds: Option<u64>,
+    base: Option<i64>,
+) -> Result<(), Fail> {
+    let found = base_at(alloc, word, &Stopped(seconds))?;
+    assert!(rt; found == base);
+    Ok(())
+}
+
+#[test]
+fn days_move_on_with_the_clock(rt: HostRuntime) -> Result<(), Fail> {
+    for (word, seconds, base) in LOADS {
+        try_load(&rt, rt.alloc(), word, seconds, base)?;
+    }
+    Ok(())
+}
