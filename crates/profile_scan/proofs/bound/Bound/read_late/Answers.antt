@@ -1,4 +1,4 @@
-use Rattle.std.proofs.Common.{arith}
+use Rattle.std.proofs.Common.{◌≤◌, arith}
 use Rattle.bags.specs.Bag.{points_of}
 use Rattle.profile_scan.proofs.BoundLemmas.{late_each, late_taken}
 use Rattle.profile_scan.proofs.bound.Bound.read_late.Goals as goal

@@ -2,7 +2,7 @@ use Rattle.std.proofs.Common.{ℕ, length}
 use Rattle.fronts.specs.Front.{Extends}
 use Rattle.profile_scan.specs.Kept.{story_of}
 use Rattle.profile_scan.specs.Telling.{IsRoute, SaysLabel}
-use Rattle.profile_scan.proofs.telling.State.tell_journey.Given as goal
+use Rattle.profile_scan.proofs.scan.State.tell_journey.Given as goal
 
 abbrev pub invariant-loop-label : goal.invariant-loop-label
 invariant-loop-label g l =

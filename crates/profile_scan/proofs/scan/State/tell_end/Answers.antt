@@ -3,7 +3,7 @@ use Rattle.std.proofs.lemmas.Result.{IfOk-weaker}
 use Rattle.profile_scan.specs.Kept.{story_of}
 use Rattle.profile_scan.specs.Telling.{SaysLabel}
 use Rattle.profile_scan.proofs.TellingLemmas.{says_end, told_ends}
-use Rattle.profile_scan.proofs.telling.State.tell_end.Goals as goal
+use Rattle.profile_scan.proofs.scan.State.tell_end.Goals as goal
 
 pub returns-in-Some-clause-says : goal.returns-in-Some-clause-says
 returns-in-Some-clause-says g c =

@@ -4,7 +4,7 @@ use Rattle.profile_scan.specs.Continuations.{Aboard}
 use Rattle.profile_scan.specs.Story.{label_tells}
 use Rattle.profile_scan.specs.Kept.{story_of}
 use Rattle.profile_scan.specs.Telling.{IsRoute, IsLabelTold}
-use Rattle.profile_scan.proofs.telling.State.note_route.Given as goal
+use Rattle.profile_scan.proofs.scan.State.note_route.Given as goal
 
 abbrev pub invariant-loop-i : goal.invariant-loop-i
 invariant-loop-i g l = record {

@@ -6,7 +6,7 @@ use Rattle.profile_scan.specs.Telling.{SaysLabel}
 use Rattle.profile_scan.specs.declared.telling.Change.{Change}
 use Rattle.profile_scan.specs.declared.nodes.Node.TheVariants.{Changes}
 use Rattle.profile_scan.proofs.TellingLemmas.{told_change, says_change}
-use Rattle.profile_scan.proofs.telling.State.tell_change.Goals as goal
+use Rattle.profile_scan.proofs.scan.State.tell_change.Goals as goal
 
 pub footpath-walk-requires : goal.footpath-walk-requires
 footpath-walk-requires g c =

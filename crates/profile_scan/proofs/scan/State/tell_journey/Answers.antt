@@ -4,7 +4,7 @@ use Rattle.reasoning.proofs.ListLemmas.{extends_on}
 use Rattle.profile_scan.specs.Kept.{story_of}
 use Rattle.profile_scan.specs.Telling.{SaysLabel, SaysJourney}
 use Rattle.profile_scan.proofs.TellingLemmas.{route_over, route_popped, route_told, first_told, says_journey}
-use Rattle.profile_scan.proofs.telling.State.tell_journey.Goals as goal
+use Rattle.profile_scan.proofs.scan.State.tell_journey.Goals as goal
 
 pub loop-label-init : goal.loop-label-init
 loop-label-init g c =

@@ -3,7 +3,7 @@ use Rattle.profile_scan.specs.Story.{label_tells}
 use Rattle.profile_scan.specs.Kept.{story_of}
 use Rattle.profile_scan.specs.Telling.{IsRoute}
 use Rattle.profile_scan.proofs.TellingLemmas.{route_push, tells_change, not_told}
-use Rattle.profile_scan.proofs.telling.State.note_route.Goals as goal
+use Rattle.profile_scan.proofs.scan.State.note_route.Goals as goal
 
 pub loop-i-init : goal.loop-i-init
 loop-i-init g c = record {
