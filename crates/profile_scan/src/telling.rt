@@ -68,11 +68,7 @@ impl<C: Criterion> State<C> {
     }
 
     // The last label to which one leads, those on the way to it being noted.
-    fn note_route(
-        &self,
-        first: usize,
-        route: &mut Vec<usize>,
-    ) -> Result<usize, AllocError>
+    fn note_route(&self, first: usize, route: &mut Vec<usize>) -> Result<usize, AllocError>
         ensures route { IfOk result (λ last. IsRoute (story_of self.now) first route.new.items last) }
         ensures ends { IfOk result (λ last. (walks : _) → IsLabelTold walks (story_of self.now) first
             → change (story_of self.now) last ≡ None) }
@@ -92,11 +88,7 @@ impl<C: Criterion> State<C> {
     }
 
     // Adds a node that says how one leaves the trip of a label for good.
-    fn tell_end(
-        &self,
-        label: usize,
-        nodes: &mut Vec<Node>,
-    ) -> Result<usize, AllocError>
+    fn tell_end(&self, label: usize, nodes: &mut Vec<Node>) -> Result<usize, AllocError>
         ensures nodes { Extends nodes.old.items nodes.new.items }
         ensures says { IfOk result (λ number. (walks : _) → IsLabelTold walks (story_of self.now) label
             → change (story_of self.now) label ≡ None
