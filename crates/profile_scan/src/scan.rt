@@ -153,6 +153,7 @@ impl<C: Criterion> Scan<C> {
         let hop = Hop {
             connection: *connection,
             place,
+            led: asked.starts.lead_to(connection.from),
             way,
             bound: &self.bound.values,
         };
