@@ -15,7 +15,7 @@ use Rattle.profile_scan.proofs.Admitted.{AreAdmitted}
 use Rattle.profile_scan.proofs.Offers.{bag_under}
 use Rattle.profile_scan.proofs.BoundLemmas.{bounds_renewed, bounds_on, carried_by_bounds}
 use Rattle.profile_scan.proofs.StoryLemmas.{grows_none, grows_keeps}
-use Rattle.profile_scan.proofs.StepFacts.{ends_in, step_idle_at, trip_in}
+use Rattle.profile_scan.proofs.StepFacts.{begins_in, ends_in, step_idle_at, trip_in}
 use Rattle.profile_scan.proofs.LabelLemmas.{trip_admitted}
 use Rattle.profile_scan.proofs.scan.Scan.step.Given as given
 use Rattle.profile_scan.proofs.scan.Scan.step.Goals.{After-secs_from-way, In_ok-renew, Start}
@@ -34,6 +34,11 @@ way_is g c =
 
 pub secs_from-way-requires : goal.secs_from-way-requires
 secs_from-way-requires g c = subst (λ (n : ℕ). c.args.connection.now.to < n) (sym c.requires.asked.ways.long) (ends g (goal.at.secs_from-way-requires g c).Start)
+
+pub lead_to-requires : goal.lead_to-requires
+lead_to-requires g c =
+    let at = c.requires.stands in
+    subst (λ (n : ℕ). c.args.connection.now.from < n) (sym c.requires.asked.starts.long) (begins_in (g.S.ConnSource.timetable c.args.source.now) (g.met.S.ConnSource.legal c.args.source.now) c.args.place at.in_range c.args.connection.now at.is)
 
 pub is_idle-requires-clause-trip : goal.is_idle-requires-clause-trip
 is_idle-requires-clause-trip g c =
@@ -75,7 +80,7 @@ returns-then-is_idle-clause-scan g c =
     }
 
 -- the values of the bound, renewed
-renewed : (g : given.Over) (c : goal.In_ok-renew g) → AreBounds (g.C.Criterion.rules c.args.asked.now.criterion) (g.S.ConnSource.timetable c.args.source.now) (points_of c.args.self.now.state.origin.found) (c.args.place + 1) c.renew.new.bound.values.items
+renewed : (g : given.Over) (c : goal.In_ok-renew g) → AreBounds (g.C.Criterion.rules c.args.asked.now.criterion) (g.S.ConnSource.timetable c.args.source.now) (points_of c.args.self.now.state.origin.found) (c.args.place + 1) c.renew.new.self.values.items
 renewed g c =
     let rules = g.C.Criterion.rules c.args.asked.now.criterion in
     let laws = g.met.C.Criterion.laws c.args.asked.now.criterion in
@@ -85,7 +90,7 @@ renewed g c =
     let bag = scan.state.origin.found in
     let at = c.requires.stands in
     let found = bag_under g.C.Criterion.rules bag.criterion c.args.asked.now.criterion (points_of bag) c.requires.scan.state.found bag.kept in
-    bounds_renewed rules laws t legal (points_of bag) found.admitted c.args.place c.args.connection.now.dep at.in_range (ap (λ (x : Connection). x.dep) at.is) scan.bound.values.items c.renew.new.bound.values.items c.requires.scan.bound c.in_ok-renew.ensures.only
+    bounds_renewed rules laws t legal (points_of bag) found.admitted c.args.place c.args.connection.now.dep at.in_range (ap (λ (x : Connection). x.dep) at.is) scan.bound.values.items c.renew.new.self.values.items c.requires.scan.bound c.in_ok-renew.ensures.only
 
 pub take-requires-clause-hop : goal.take-requires-clause-hop
 take-requires-clause-hop g c =
@@ -93,6 +98,7 @@ take-requires-clause-hop g c =
     record {
       stands = c.requires.stands;
       by = c.requires.asked.by;
+      led = c.requires.asked.starts.each c.args.connection.now.from c.lead_to.result c.lead_to.ensures;
       way = way_is g (goal.at.take-requires-clause-hop g c).After-secs_from-way;
       bound =
           subst (λ (values : List g.row.C-V.Denot). (b : g.row.C-V.Denot) → Contains values b → Admits rules b) (sym c.deref.ensures.value)
@@ -109,7 +115,7 @@ returns-clause-scan g c =
     record {
       state = c.in_ok-take.ensures.state;
       bound =
-          bounds_on rules laws t (points_of c.args.self.now.state.origin.found) (points_of now.origin.found) (c.args.place + 1) c.args.place c.renew.new.bound.values.items (omega arith)
+          bounds_on rules laws t (points_of c.args.self.now.state.origin.found) (points_of now.origin.found) (c.args.place + 1) c.args.place c.renew.new.self.values.items (omega arith)
           (taken.sets_out taken.between (story_of now) (grows_none taken.between) (grows_none (story_of now))).kept (renewed g (goal.at.returns-clause-scan g c).In_ok-renew);
     }
 
@@ -128,7 +134,7 @@ returns-clause-step g c =
     let now = story_of next in
     let taken = c.in_ok-take.ensures.takes in
     let mid = taken.between in
-    let values = c.renew.new.bound.values.items in
+    let values = c.renew.new.self.values.items in
     let values_is = c.deref.ensures.value in
     let first = from_to (told t.footpaths was) (told t.footpaths mid) in
     let second = from_to (told t.footpaths mid) (told t.footpaths now) in
