@@ -2,10 +2,20 @@
 //!
 //! A line that can't be written, or for which there is no memory, changes nothing.
 
+use crate::table_fault::{explain_failed, explain_table};
 use feed_loader::LoadFault;
+use std::alloc::{AllocError, Global};
+use std::convert::AsStr;
+use std::fmt::Write as _;
 use std::fs::{self, File};
 use std::io::{ErrorKind, Write};
 use std::rt::Files;
+
+/// Where systems have their time zone files.
+const ZONES: &str = "/usr/share/zoneinfo";
+
+/// How many bytes of a value are shown.
+const LONGEST_SHOWN: usize = 60;
 
 /// Writes the parts of a line, and its end.
 pub fn explain<E: Write>(errors: &mut E, parts: &[&str]) {
@@ -51,16 +61,100 @@ pub fn unread_reason<H: Files>(rt: &H, path: &str) -> &'static str {
     }
 }
 
-/// Explains the refusal of a feed: a fault of one of its tables where its folder is none.
-pub fn explain_refused<H: Files, E: Write>(
+/// A value as it is shown: in quotes, with control characters escaped, and cut if it is long.
+pub fn quoted(alloc: Global, value: &[u8]) -> Result<String, AllocError> {
+    let shown = value.get(..LONGEST_SHOWN).unwrap_or(value);
+    let end = if shown.len() < value.len() { " .." } else { "" };
+    match str::from_utf8(shown) {
+        Ok(text) => format!(in alloc; "{text:?}{end}"),
+        Err(_) => quoted_bytes(alloc, shown, end),
+    }
+}
+
+/// Bytes that aren't UTF-8 as they are shown.
+fn quoted_bytes(alloc: Global, value: &[u8], end: &str) -> Result<String, AllocError> {
+    let mut text = format!(in alloc; "\"")?;
+    for byte in value {
+        push_shown(&mut text, *byte)?;
+    }
+    write!(text, "\"{end}")?;
+    Ok(text)
+}
+
+/// Adds a byte: plain ASCII as it is, anything else by its number.
+fn push_shown(text: &mut String, byte: u8) -> Result<(), AllocError> {
+    match byte {
+        b'"' => text.push_str("\\\""),
+        b'\\' => text.push_str("\\\\"),
+        b' '..=b'~' => text.push(byte as char),
+        _ => write!(text, "\\x{byte:02X}"),
+    }
+}
+
+/// Explains the refusal of a feed: what is wrong with its folder, or where a fault of a table is.
+pub fn explain_refused<H: Files + AllocGlobal, E: Write>(
     rt: &H,
     folder: &str,
     fault: &LoadFault,
     errors: &mut E,
 ) {
     match fault {
-        LoadFault::Table(_) => explain_folder(rt, folder, errors),
+        LoadFault::Table(fault) => {
+            if is_folder(rt, folder) {
+                explain_table(rt, folder, fault, errors);
+            } else {
+                explain_folder(rt, folder, errors);
+            }
+        }
+        LoadFault::FileFailed(table) => explain_failed(rt, folder, *table, errors),
         _ => {}
+    }
+}
+
+/// Says how a zone is spelled of which only the name was given, where the system has a file of it.
+pub fn explain_zone<H: Files + AllocGlobal, S: AsStr, E: Write>(
+    rt: &H,
+    words: &[S],
+    errors: &mut E,
+) {
+    if let Some(name) = word_behind(words, "--zone")
+        && is_zone_name(name)
+        && let Ok(path) = format!(in rt.alloc(); "{ZONES}/{name}")
+        && is_file(rt, path.as_str())
+    {
+        explain(
+            errors,
+            &["csa: for this zone write --zone file:", path.as_str()],
+        );
+    }
+}
+
+fn word_behind<'a, S: AsStr>(words: &'a [S], option: &str) -> Option<&'a str> {
+    let mut is_next = false;
+    for word in words {
+        if is_next {
+            return Some(word.as_str());
+        }
+        is_next = word.as_str() == option;
+    }
+    None
+}
+
+fn is_zone_name(name: &str) -> bool {
+    !name.is_empty() && !name.contains(':') && !name.contains('.') && !name.starts_with('/')
+}
+
+fn is_file<H: Files>(rt: &H, path: &str) -> bool {
+    match fs::metadata(rt, path) {
+        Ok(metadata) => metadata.is_file(),
+        Err(_) => false,
+    }
+}
+
+fn is_folder<H: Files>(rt: &H, path: &str) -> bool {
+    match fs::metadata(rt, path) {
+        Ok(metadata) => metadata.is_dir(),
+        Err(_) => false,
     }
 }
 

@@ -16,19 +16,21 @@ mod profile;
 mod progress;
 mod putting;
 mod question;
+mod records;
 mod refusal;
 mod replying;
 mod serve;
 mod sockets;
 mod status;
 mod stops;
+mod table_fault;
 mod tables;
 mod upgrade;
 mod verify;
 mod writing;
 
 use crate::asked::{Asked, answer};
-use crate::explaining::explain;
+use crate::explaining::{explain, explain_zone};
 pub use crate::machine::Machine;
 use command_line::{Unread, read};
 use command_requests::Request;
@@ -76,7 +78,9 @@ fn run_command<
         Ok(Request::Serve(request)) => serve::run(rt, request, input, output, errors),
         Err(Unread::Help(text)) => status::write_text(output, text.as_str(), status::ACCEPTED),
         Err(Unread::Mistake(text)) => {
-            status::write_text(errors, text.as_str(), status::COMMAND_LINE)
+            let status = status::write_text(errors, text.as_str(), status::COMMAND_LINE);
+            explain_zone(rt, words, errors);
+            status
         }
         Err(Unread::OutOfMemory) => status::OUT_OF_MEMORY,
     }

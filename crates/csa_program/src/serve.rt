@@ -70,7 +70,7 @@ pub fn run<
     let plan = match plan_of(rt, &request.plan) {
         Ok(plan) => plan,
         Err(PlanFailure::Refused(fault)) => return refuse_feed(alloc, output, fault),
-        Err(PlanFailure::Unreadable(path)) => return status::tell_unreadable(alloc, errors, path),
+        Err(PlanFailure::Unreadable(path)) => return status::tell_unread(rt, errors, path),
         Err(PlanFailure::OutOfMemory) => return status::OUT_OF_MEMORY,
     };
     let image = match open_image(rt, request.image, input, output, errors) {

@@ -68,6 +68,7 @@ rows base_feed/frequencies.txt trip_id,start_time,end_time,headway_secs | T1,09:
 run build base_feed built.csa --first 20240115 --days 1 --zone fixed:0
 answers stops 3 runs 3 connections 5 footpaths 3 lifted 0 flex 0 frequencies 1 skipped 0
 rows base_feed/frequencies.txt trip_id,start_time,end_time,headway_secs | T1,09:00:00,09:40:00,0
+tells csa: frequencies.txt, line 2: headway_secs \"0\" must not be 0
 answers refused 18 BadHeadway frequencies.txt 1
 remove built.csa
 remove base_feed
@@ -93,6 +94,7 @@ prints dep 08:00:01 arr 08:00:02 : ride 1 1
 answers points 1 read 3 walk none
 remove feed.csa
 run build feed feed.csa --first 20240115 --days 1 --zone fixed:0 --strict
+tells csa: stop_times.txt, line 3: trip_id \"T\" arrives here no later than it departed from the stop before
 answers refused 14 HopWithoutDuration stop_times.txt 2
 lacks feed.csa
 
@@ -177,9 +179,11 @@ ends 3
 folder unread
 folder unread/agency.txt
 run build unread no_such_folder/unread.csa --first 20240115 --days 1 --zone fixed:0
+tells csa: unread/agency.txt: it is a folder
 prints refused 101 FileFailed agency.txt
 ends 3
 remove unread/agency.txt
+tells csa: unread: no file agency.txt
 answers refused 1 MissingFile agency.txt 0
 remove unread
 ";

@@ -1,0 +1,242 @@
+//! The records of a feed's file, read once more to say where a fault is. Memory is that of a piece and of two records.
+//!
+//! No contract says that this finds the record that the tables' reader refused; transcripts show it.
+
+use std::alloc::{AllocError, Global};
+use std::io::Read;
+use std::mem;
+
+/// How many bytes of a record are kept.
+const LONGEST_RECORD: usize = 4096;
+
+/// How many bytes are read at once.
+const PIECE_BYTES: usize = 8192;
+
+/// Which record is looked for.
+#[derive(Clone, Copy, Drop)]
+pub enum Wanted<'a> {
+    /// The one of this number, from 1 on behind the header, which is 0.
+    Number(u64),
+    /// The first one behind the header that has this text in this column.
+    Text(&'a str, &'a [u8]),
+}
+
+/// The fields of a record, without quotes, and its line.
+#[derive(Drop)]
+pub struct Record {
+    pub line: u64,
+    /// The texts of the fields, one behind the other.
+    text: Vec<u8>,
+    /// Where each field ends.
+    ends: Vec<usize>,
+}
+
+impl Record {
+    fn new(alloc: Global) -> Record {
+        Record {
+            line: 1,
+            text: Vec::new(alloc),
+            ends: Vec::new(alloc),
+        }
+    }
+
+    fn clear(&mut self) {
+        self.text.clear();
+        self.ends.clear();
+    }
+
+    fn is_empty(&self) -> bool {
+        self.text.is_empty() && self.ends.is_empty()
+    }
+
+    /// How many fields there are.
+    pub fn fields(&self) -> usize {
+        self.ends.len()
+    }
+
+    /// The text of a field, empty if there is none.
+    pub fn field(&self, index: usize) -> &[u8] {
+        let start = match index.checked_sub(1) {
+            Some(before) => self.end(before),
+            None => 0,
+        };
+        self.text.get(start..self.end(index)).unwrap_or(&[])
+    }
+
+    fn end(&self, index: usize) -> usize {
+        match self.ends.get(index) {
+            Some(end) => *end,
+            None => 0,
+        }
+    }
+
+    /// The index of the first field of this text; a byte order mark before it doesn't count.
+    pub fn index_of(&self, text: &[u8]) -> Option<usize> {
+        for index in 0..self.ends.len() {
+            if unmarked(self.field(index)) == text {
+                return Some(index);
+            }
+        }
+        None
+    }
+
+    fn push(&mut self, byte: u8) -> Result<(), AllocError> {
+        if self.text.len() < LONGEST_RECORD {
+            self.text.push(byte)?;
+        }
+        Ok(())
+    }
+
+    fn end_field(&mut self) -> Result<(), AllocError> {
+        if self.ends.len() < LONGEST_RECORD {
+            let end = self.text.len();
+            self.ends.push(end)?;
+        }
+        Ok(())
+    }
+}
+
+/// Where a byte is in its field.
+#[derive(Clone, Copy, Drop)]
+enum Position {
+    Start,
+    Plain,
+    Quoted,
+    /// Behind a quote within quotes, which ends them unless another one follows.
+    BehindQuote,
+}
+
+/// The header of a file, and the record that was read last.
+#[derive(Drop)]
+pub struct Records {
+    pub header: Record,
+    pub record: Record,
+    /// How many records were read.
+    count: u64,
+    line: u64,
+    position: Position,
+}
+
+impl Records {
+    fn new(alloc: Global) -> Records {
+        Records {
+            header: Record::new(alloc),
+            record: Record::new(alloc),
+            count: 0,
+            line: 1,
+            position: Position::Start,
+        }
+    }
+
+    /// Takes the next byte in: whether a record ends there.
+    fn take(&mut self, byte: u8) -> Result<bool, AllocError> {
+        if self.record.is_empty() && matches!(self.position, Position::Start) {
+            self.record.line = self.line;
+        }
+        if byte == b'\n' {
+            self.line = self.line.saturating_add(1);
+        }
+        self.place(byte)
+    }
+
+    fn place(&mut self, byte: u8) -> Result<bool, AllocError> {
+        match (self.position, byte) {
+            (Position::Quoted, b'"') => self.position = Position::BehindQuote,
+            (Position::Quoted, _) => self.record.push(byte)?,
+            (Position::Start, b'"') => self.position = Position::Quoted,
+            (Position::BehindQuote, b'"') => {
+                self.record.push(byte)?;
+                self.position = Position::Quoted;
+            }
+            (_, b',') => {
+                self.record.end_field()?;
+                self.position = Position::Start;
+            }
+            (_, b'\n' | b'\r') => return self.end(),
+            _ => {
+                self.record.push(byte)?;
+                self.position = Position::Plain;
+            }
+        }
+        Ok(false)
+    }
+
+    /// Ends a record, unless the line is empty: whether there was one.
+    fn end(&mut self) -> Result<bool, AllocError> {
+        if self.record.is_empty() && matches!(self.position, Position::Start) {
+            return Ok(false);
+        }
+        self.record.end_field()?;
+        self.position = Position::Start;
+        Ok(true)
+    }
+
+    /// Whether the record that ended is the one that is looked for.
+    fn is_found(&self, wanted: Wanted<'_>) -> bool {
+        match wanted {
+            Wanted::Number(number) => self.count == number,
+            Wanted::Text(column, text) => {
+                self.count > 0
+                    && match self.header.index_of(column.as_bytes()) {
+                        Some(index) => self.record.field(index) == text,
+                        None => false,
+                    }
+            }
+        }
+    }
+
+    /// Makes room for the next record.
+    fn go_on(&mut self) {
+        if self.count == 0 {
+            mem::swap(&mut self.header, &mut self.record);
+        }
+        self.record.clear();
+        self.count = self.count.saturating_add(1);
+    }
+
+    /// Takes bytes in until the record is found: whether it is.
+    fn search(&mut self, bytes: &[u8], wanted: Wanted<'_>) -> Result<bool, AllocError> {
+        for byte in bytes {
+            if self.take(*byte)? {
+                if self.is_found(wanted) {
+                    return Ok(true);
+                }
+                self.go_on();
+            }
+        }
+        Ok(false)
+    }
+
+    /// The text of the record in a column, empty if there is no such column.
+    pub fn value(&self, column: &str) -> &[u8] {
+        match self.header.index_of(column.as_bytes()) {
+            Some(index) => self.record.field(index),
+            None => &[],
+        }
+    }
+}
+
+fn unmarked(text: &[u8]) -> &[u8] {
+    text.strip_prefix(b"\xEF\xBB\xBF").unwrap_or(text)
+}
+
+/// The record that is looked for, behind the header; none if there is none, if a read fails, or without memory.
+pub fn find<R: Read>(alloc: Global, reader: &mut R, wanted: Wanted<'_>) -> Option<Records> {
+    let mut piece = new_piece(alloc, PIECE_BYTES)?;
+    let mut records = Records::new(alloc);
+    for _ in 0..u64::MAX {
+        let count = reader.read(&mut piece).ok()?;
+        if count == 0 {
+            let is_found = records.end().ok()? && records.is_found(wanted);
+            return if is_found { Some(records) } else { None };
+        }
+        if records.search(piece.get(..count)?, wanted).ok()? {
+            return Some(records);
+        }
+    }
+    None
+}
+
+fn new_piece(alloc: Global, bytes: usize) -> Option<Vec<u8>> {
+    vec![in alloc; 0u8; bytes].ok()
+}
