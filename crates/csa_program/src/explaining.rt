@@ -2,6 +2,7 @@
 //!
 //! A line that can't be written, or for which there is no memory, changes nothing.
 
+use crate::folders::explain_folder;
 use crate::table_fault::{explain_failed, explain_table};
 use feed_loader::LoadFault;
 use std::alloc::{AllocError, Global};
@@ -144,32 +145,18 @@ fn is_zone_name(name: &str) -> bool {
     !name.is_empty() && !name.contains(':') && !name.contains('.') && !name.starts_with('/')
 }
 
-fn is_file<H: Files>(rt: &H, path: &str) -> bool {
+/// Whether there is a plain file at the path.
+pub fn is_file<H: Files>(rt: &H, path: &str) -> bool {
     match fs::metadata(rt, path) {
         Ok(metadata) => metadata.is_file(),
         Err(_) => false,
     }
 }
 
-fn is_folder<H: Files>(rt: &H, path: &str) -> bool {
+/// Whether there is a folder at the path.
+pub fn is_folder<H: Files>(rt: &H, path: &str) -> bool {
     match fs::metadata(rt, path) {
         Ok(metadata) => metadata.is_dir(),
         Err(_) => false,
     }
-}
-
-/// Says what is wrong with the folder of a feed, if it is none.
-fn explain_folder<H: Files, E: Write>(rt: &H, folder: &str, errors: &mut E) {
-    match fs::metadata(rt, folder) {
-        Ok(metadata) if metadata.is_dir() => {}
-        Ok(_) if folder.ends_with(".zip") => {
-            explain_path(errors, folder, "a zip file: unpack it, and name the folder");
-        }
-        Ok(_) => explain_path(errors, folder, "not a folder"),
-        Err(error) => explain_path(errors, folder, reason_of(error.kind())),
-    }
-}
-
-fn explain_path<'a, E: Write>(errors: &mut E, path: &'a str, reason: &'a str) {
-    explain(errors, &["csa: ", path, ": ", reason]);
 }

@@ -19,6 +19,8 @@ pub enum Wanted<'a> {
     Number(u64),
     /// The first one behind the header that has this text in this column.
     Text(&'a str, &'a [u8]),
+    /// The first one, the header included, of which a field isn't UTF-8.
+    NotUtf8,
 }
 
 /// The fields of a record, without quotes, and its line.
@@ -54,13 +56,13 @@ impl Record {
         self.ends.len()
     }
 
-    /// The text of a field, empty if there is none.
+    /// The text of a field without the spaces at its ends, empty if there is none.
     pub fn field(&self, index: usize) -> &[u8] {
         let start = match index.checked_sub(1) {
             Some(before) => self.end(before),
             None => 0,
         };
-        self.text.get(start..self.end(index)).unwrap_or(&[])
+        trimmed(self.text.get(start..self.end(index)).unwrap_or(&[]))
     }
 
     fn end(&self, index: usize) -> usize {
@@ -70,10 +72,20 @@ impl Record {
         }
     }
 
-    /// The index of the first field of this text; a byte order mark before it doesn't count.
+    /// The index of the first field of this text.
     pub fn index_of(&self, text: &[u8]) -> Option<usize> {
         for index in 0..self.ends.len() {
-            if unmarked(self.field(index)) == text {
+            if self.field(index) == text {
+                return Some(index);
+            }
+        }
+        None
+    }
+
+    /// The index of the first field that isn't UTF-8, of those that are kept whole.
+    pub fn index_of_bad_text(&self) -> Option<usize> {
+        for index in 0..self.ends.len() {
+            if self.end(index) < LONGEST_RECORD && str::from_utf8(self.field(index)).is_err() {
                 return Some(index);
             }
         }
@@ -175,13 +187,15 @@ impl Records {
     fn is_found(&self, wanted: Wanted<'_>) -> bool {
         match wanted {
             Wanted::Number(number) => self.count == number,
-            Wanted::Text(column, text) => {
-                self.count > 0
-                    && match self.header.index_of(column.as_bytes()) {
-                        Some(index) => self.record.field(index) == text,
-                        None => false,
-                    }
-            }
+            Wanted::Text(column, text) => self.count > 0 && self.has(column, text),
+            Wanted::NotUtf8 => self.record.index_of_bad_text().is_some(),
+        }
+    }
+
+    fn has(&self, column: &str, text: &[u8]) -> bool {
+        match self.header.index_of(column.as_bytes()) {
+            Some(index) => self.record.field(index) == text,
+            None => false,
         }
     }
 
@@ -216,21 +230,38 @@ impl Records {
     }
 }
 
-fn unmarked(text: &[u8]) -> &[u8] {
-    text.strip_prefix(b"\xEF\xBB\xBF").unwrap_or(text)
+/// A piece of a file without the byte order mark that it may begin with.
+fn unmarked(piece: &[u8]) -> &[u8] {
+    piece.strip_prefix(b"\xEF\xBB\xBF").unwrap_or(piece)
+}
+
+/// A text without the spaces at its ends.
+fn trimmed(text: &[u8]) -> &[u8] {
+    let mut rest = text;
+    while let [b' ', kept @ ..] = rest {
+        rest = kept;
+    }
+    while let [kept @ .., b' '] = rest {
+        rest = kept;
+    }
+    rest
 }
 
 /// The record that is looked for, behind the header; none if there is none, if a read fails, or without memory.
 pub fn find<R: Read>(alloc: Global, reader: &mut R, wanted: Wanted<'_>) -> Option<Records> {
     let mut piece = new_piece(alloc, PIECE_BYTES)?;
     let mut records = Records::new(alloc);
+    let mut is_first = true;
     for _ in 0..u64::MAX {
         let count = reader.read(&mut piece).ok()?;
         if count == 0 {
             let is_found = records.end().ok()? && records.is_found(wanted);
             return if is_found { Some(records) } else { None };
         }
-        if records.search(piece.get(..count)?, wanted).ok()? {
+        let bytes = piece.get(..count)?;
+        let bytes = if is_first { unmarked(bytes) } else { bytes };
+        is_first = false;
+        if records.search(bytes, wanted).ok()? {
             return Some(records);
         }
     }

@@ -94,7 +94,7 @@ prints dep 08:00:01 arr 08:00:02 : ride 1 1
 answers points 1 read 3 walk none
 remove feed.csa
 run build feed feed.csa --first 20240115 --days 1 --zone fixed:0 --strict
-tells csa: stop_times.txt, line 3: trip_id \"T\" arrives here no later than it departed from the stop before
+tells csa: stop_times.txt, line 3: trip_id \"T\" arrives in this row no later than it departed from the stop before
 answers refused 14 HopWithoutDuration stop_times.txt 2
 lacks feed.csa
 
