@@ -4,6 +4,7 @@
 
 use crate::folders::explain_folder;
 use crate::table_fault::{explain_failed, explain_table};
+use crate::warnings::zone_path;
 use feed_loader::LoadFault;
 use std::alloc::{AllocError, Global};
 use std::convert::AsStr;
@@ -11,9 +12,6 @@ use std::fmt::Write as _;
 use std::fs::{self, File};
 use std::io::{ErrorKind, Write};
 use std::rt::Files;
-
-/// Where systems have their time zone files.
-const ZONES: &str = "/usr/share/zoneinfo";
 
 /// How many bytes of a value are shown.
 const LONGEST_SHOWN: usize = 60;
@@ -40,6 +38,7 @@ pub fn reason_of(kind: ErrorKind) -> &'static str {
         ErrorKind::QuotaExceeded => "the disk quota is exceeded",
         ErrorKind::FileTooLarge => "the file would be too large",
         ErrorKind::InvalidFilename => "the name is too long",
+        ErrorKind::AddrInUse => "it is in use",
         _ => "an input or output error",
     }
 }
@@ -108,41 +107,54 @@ pub fn explain_refused<H: Files + AllocGlobal, E: Write>(
             }
         }
         LoadFault::FileFailed(table) => explain_failed(rt, folder, *table, errors),
-        _ => {}
+        _ => explain_load(fault, errors),
     }
 }
 
-/// Says how a zone is spelled of which only the name was given, where the system has a file of it.
+/// Explains why a feed isn't loaded whose files are right, or why its zone is none.
+pub fn explain_load<E: Write>(fault: &LoadFault, errors: &mut E) {
+    let reason = match fault.number() {
+        21 => "--zone: no POSIX rule as CET-1CEST,M3.5.0,M10.5.0/3, or no time zone file (TZif)",
+        22 =>
+            "--first, --days: a day is beyond the calendar, or a trip has a time that no image has",
+        41 => "transfers.txt: walks that follow one another take more than 1000000 seconds",
+        42 =>
+            "transfers.txt, stops.txt: there are more than 5000000 footpaths, with those that follow from others",
+        _ => return,
+    };
+    explain(errors, &["csa: ", reason]);
+}
+
+/// Says how a zone is spelled of which only the name was given, if the system has a file of it.
 pub fn explain_zone<H: Files + AllocGlobal, S: AsStr, E: Write>(
     rt: &H,
     words: &[S],
     errors: &mut E,
 ) {
-    if let Some(name) = word_behind(words, "--zone")
-        && is_zone_name(name)
-        && let Ok(path) = format!(in rt.alloc(); "{ZONES}/{name}")
-        && is_file(rt, path.as_str())
+    if let Some(name) = value_of(words, "--zone")
+        && let Some(path) = zone_path(rt, name)
     {
-        explain(
-            errors,
-            &["csa: for this zone write --zone file:", path.as_str()],
-        );
+        let parts = ["csa: for this zone write --zone file:", path.as_str()];
+        explain(errors, &parts);
     }
 }
 
-fn word_behind<'a, S: AsStr>(words: &'a [S], option: &str) -> Option<&'a str> {
+/// The value of an option: the word behind it, or the rest of its own word behind `=`.
+fn value_of<'a, S: AsStr>(words: &'a [S], option: &str) -> Option<&'a str> {
     let mut is_next = false;
     for word in words {
+        let word = word.as_str();
         if is_next {
-            return Some(word.as_str());
+            return Some(word);
         }
-        is_next = word.as_str() == option;
+        if let Some((name, value)) = word.split_once('=')
+            && name == option
+        {
+            return Some(value);
+        }
+        is_next = word == option;
     }
     None
-}
-
-fn is_zone_name(name: &str) -> bool {
-    !name.is_empty() && !name.contains(':') && !name.contains('.') && !name.starts_with('/')
 }
 
 /// Whether there is a plain file at the path.

@@ -12,6 +12,12 @@ const LONGEST_RECORD: usize = 4096;
 /// How many bytes are read at once.
 const PIECE_BYTES: usize = 8192;
 
+/// What is looked for among the records of a file.
+pub trait Search {
+    /// Takes note of the record that was read last: whether it is the one that is looked for.
+    fn is_found(&mut self, records: &Records) -> bool;
+}
+
 /// Which record is looked for.
 #[derive(Clone, Copy, Drop)]
 pub enum Wanted<'a> {
@@ -183,13 +189,9 @@ impl Records {
         Ok(true)
     }
 
-    /// Whether the record that ended is the one that is looked for.
-    fn is_found(&self, wanted: Wanted<'_>) -> bool {
-        match wanted {
-            Wanted::Number(number) => self.count == number,
-            Wanted::Text(column, text) => self.count > 0 && self.has(column, text),
-            Wanted::NotUtf8 => self.record.index_of_bad_text().is_some(),
-        }
+    /// Whether the record that was read last is behind the header.
+    pub fn is_behind_header(&self) -> bool {
+        self.count > 0
     }
 
     fn has(&self, column: &str, text: &[u8]) -> bool {
@@ -209,10 +211,10 @@ impl Records {
     }
 
     /// Takes bytes in until the record is found: whether it is.
-    fn search(&mut self, bytes: &[u8], wanted: Wanted<'_>) -> Result<bool, AllocError> {
+    fn take_piece<S: Search>(&mut self, bytes: &[u8], search: &mut S) -> Result<bool, AllocError> {
         for byte in bytes {
             if self.take(*byte)? {
-                if self.is_found(wanted) {
+                if search.is_found(self) {
                     return Ok(true);
                 }
                 self.go_on();
@@ -226,6 +228,16 @@ impl Records {
         match self.header.index_of(column.as_bytes()) {
             Some(index) => self.record.field(index),
             None => &[],
+        }
+    }
+}
+
+impl<'a> Search for Wanted<'a> {
+    fn is_found(&mut self, records: &Records) -> bool {
+        match *self {
+            Wanted::Number(number) => records.count == number,
+            Wanted::Text(column, text) => records.count > 0 && records.has(column, text),
+            Wanted::NotUtf8 => records.record.index_of_bad_text().is_some(),
         }
     }
 }
@@ -248,20 +260,20 @@ fn trimmed(text: &[u8]) -> &[u8] {
 }
 
 /// The record that is looked for, behind the header; none if there is none, if a read fails, or without memory.
-pub fn find<R: Read>(alloc: Global, reader: &mut R, wanted: Wanted<'_>) -> Option<Records> {
+pub fn find<R: Read, S: Search>(alloc: Global, reader: &mut R, search: &mut S) -> Option<Records> {
     let mut piece = new_piece(alloc, PIECE_BYTES)?;
     let mut records = Records::new(alloc);
     let mut is_first = true;
     for _ in 0..u64::MAX {
         let count = reader.read(&mut piece).ok()?;
         if count == 0 {
-            let is_found = records.end().ok()? && records.is_found(wanted);
+            let is_found = records.end().ok()? && search.is_found(&records);
             return if is_found { Some(records) } else { None };
         }
         let bytes = piece.get(..count)?;
         let bytes = if is_first { unmarked(bytes) } else { bytes };
         is_first = false;
-        if records.search(bytes, wanted).ok()? {
+        if records.take_piece(bytes, search).ok()? {
             return Some(records);
         }
     }

@@ -2,7 +2,7 @@
 
 use crate::explaining::{explain, is_file, quoted, unread_reason};
 use crate::folders::missing_file;
-use crate::records::{Records, Wanted, find};
+use crate::records::{Records, Search, Wanted, find};
 use crate::suspects::{Form, Suspect, required_columns, suspects_of};
 use feed_files::LONGEST_FILE;
 use gtfs_rows::values::number;
@@ -170,17 +170,27 @@ fn is_inside<H: Files + AllocGlobal>(rt: &H, folder: &str, stop: &[u8]) -> bool 
     }
 }
 
-/// A record of a file of the folder. What isn't a plain file, as a pipe, isn't opened again.
+/// A record of a file of the folder.
 pub fn record_in<H: Files + AllocGlobal>(
     rt: &H,
     folder: &str,
     file: &str,
-    wanted: Wanted<'_>,
+    mut wanted: Wanted<'_>,
+) -> Option<Records> {
+    search_in(rt, folder, file, &mut wanted)
+}
+
+/// Searches the records of a file of the folder. What isn't a plain file, as a pipe, isn't opened again.
+pub fn search_in<H: Files + AllocGlobal, S: Search>(
+    rt: &H,
+    folder: &str,
+    file: &str,
+    search: &mut S,
 ) -> Option<Records> {
     let path = Path::new(folder).join(rt.alloc(), file).ok()?;
     if !is_file(rt, path.as_str()) {
         return None;
     }
     let mut file = File::open(rt, path.as_path()).ok()?;
-    find(rt.alloc(), &mut file, wanted)
+    find(rt.alloc(), &mut file, search)
 }
