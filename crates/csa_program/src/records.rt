@@ -1,4 +1,4 @@
-//! The records of a feed's file, read once more to say where a fault is. Memory is that of a piece and of two records.
+//! The records of a feed's file, read once more to say where a fault is. It takes the memory of a piece and of two records.
 //!
 //! No contract says that this finds the record that the tables' reader refused; transcripts show it.
 
@@ -6,11 +6,21 @@ use std::alloc::{AllocError, Global};
 use std::io::Read;
 use std::mem;
 
-/// How many bytes of a record are kept.
-const LONGEST_RECORD: usize = 4096;
+/// How many bytes of a record are kept, and how many fields.
+const LONGEST_RECORD: usize = 65_536;
 
 /// How many bytes are read at once.
 const PIECE_BYTES: usize = 8192;
+
+/// A file can't be searched: a read failed, there was no memory, or a record was too long to be kept whole.
+#[derive(Clone, Copy, Drop)]
+pub struct Unread;
+
+impl From<AllocError> for Unread {
+    fn from(_refused: AllocError) -> Unread {
+        Unread
+    }
+}
 
 /// What is looked for among the records of a file.
 pub trait Search {
@@ -37,6 +47,8 @@ pub struct Record {
     text: Vec<u8>,
     /// Where each field ends.
     ends: Vec<usize>,
+    /// Whether it has more than is kept.
+    is_cut: bool,
 }
 
 impl Record {
@@ -45,16 +57,23 @@ impl Record {
             line: 1,
             text: Vec::new(alloc),
             ends: Vec::new(alloc),
+            is_cut: false,
         }
     }
 
     fn clear(&mut self) {
+        self.is_cut = false;
         self.text.clear();
         self.ends.clear();
     }
 
     fn is_empty(&self) -> bool {
         self.text.is_empty() && self.ends.is_empty()
+    }
+
+    /// Whether all of it is kept.
+    pub fn is_whole(&self) -> bool {
+        !self.is_cut
     }
 
     /// How many fields there are.
@@ -100,16 +119,18 @@ impl Record {
 
     fn push(&mut self, byte: u8) -> Result<(), AllocError> {
         if self.text.len() < LONGEST_RECORD {
-            self.text.push(byte)?;
+            return self.text.push(byte);
         }
+        self.is_cut = true;
         Ok(())
     }
 
     fn end_field(&mut self) -> Result<(), AllocError> {
         if self.ends.len() < LONGEST_RECORD {
             let end = self.text.len();
-            self.ends.push(end)?;
+            return self.ends.push(end);
         }
+        self.is_cut = true;
         Ok(())
     }
 }
@@ -133,6 +154,8 @@ pub struct Records {
     count: u64,
     line: u64,
     position: Position,
+    /// Whether a record had more than is kept.
+    is_cut: bool,
 }
 
 impl Records {
@@ -143,6 +166,7 @@ impl Records {
             count: 0,
             line: 1,
             position: Position::Start,
+            is_cut: false,
         }
     }
 
@@ -203,6 +227,7 @@ impl Records {
 
     /// Makes room for the next record.
     fn go_on(&mut self) {
+        self.is_cut = self.is_cut || self.record.is_cut;
         if self.count == 0 {
             mem::swap(&mut self.header, &mut self.record);
         }
@@ -259,27 +284,51 @@ fn trimmed(text: &[u8]) -> &[u8] {
     rest
 }
 
-/// The record that is looked for, behind the header; none if there is none, if a read fails, or without memory.
-pub fn find<R: Read, S: Search>(alloc: Global, reader: &mut R, search: &mut S) -> Option<Records> {
+/// The record that is found, if there is one.
+pub fn find<R: Read, S: Search>(
+    alloc: Global,
+    reader: &mut R,
+    search: &mut S,
+) -> Result<Option<Records>, Unread> {
     let mut piece = new_piece(alloc, PIECE_BYTES)?;
     let mut records = Records::new(alloc);
     let mut is_first = true;
     for _ in 0..u64::MAX {
-        let count = reader.read(&mut piece).ok()?;
-        if count == 0 {
-            let is_found = records.end().ok()? && search.is_found(&records);
-            return if is_found { Some(records) } else { None };
+        let bytes = read_piece(reader, &mut piece)?;
+        if bytes.is_empty() {
+            return end_of_search(records, search);
         }
-        let bytes = piece.get(..count)?;
         let bytes = if is_first { unmarked(bytes) } else { bytes };
         is_first = false;
-        if records.take_piece(bytes, search).ok()? {
-            return Some(records);
+        if records.take_piece(bytes, search)? {
+            return Ok(Some(records));
         }
     }
-    None
+    Err(Unread)
 }
 
-fn new_piece(alloc: Global, bytes: usize) -> Option<Vec<u8>> {
-    vec![in alloc; 0u8; bytes].ok()
+fn new_piece(alloc: Global, bytes: usize) -> Result<Vec<u8>, AllocError> {
+    vec![in alloc; 0u8; bytes]
+}
+
+/// The bytes that are read next; none at the end.
+fn read_piece<'a, R: Read>(reader: &mut R, piece: &'a mut [u8]) -> Result<&'a [u8], Unread> {
+    match reader.read(piece) {
+        Ok(count) => piece.get(..count).ok_or(Unread),
+        Err(_) => Err(Unread),
+    }
+}
+
+/// What is found once the file is over: its last record may have no line end.
+fn end_of_search<S: Search>(
+    mut records: Records,
+    search: &mut S,
+) -> Result<Option<Records>, Unread> {
+    if records.end()? && search.is_found(&records) {
+        return Ok(Some(records));
+    }
+    if records.is_cut {
+        return Err(Unread);
+    }
+    Ok(None)
 }

@@ -2,7 +2,7 @@
 
 use crate::explaining::{explain, is_file, quoted, unread_reason};
 use crate::folders::missing_file;
-use crate::records::{Records, Search, Wanted, find};
+use crate::records::{Records, Search, Unread, Wanted, find};
 use crate::suspects::{Form, Suspect, required_columns, suspects_of};
 use feed_files::LONGEST_FILE;
 use gtfs_rows::values::number;
@@ -76,7 +76,7 @@ and 400000000 bytes of names: try fewer days"
 /// The line of the first record that isn't UTF-8.
 fn not_utf8<H: Files + AllocGlobal>(rt: &H, folder: &str, table: Table) -> Option<String> {
     let file = table.file_name();
-    let found = record_in(rt, folder, file, Wanted::NotUtf8)?;
+    let found = found_in(rt, folder, file, Wanted::NotUtf8)?;
     let line = found.record.line;
     let value = found.record.field(found.record.index_of_bad_text()?);
     let shown = quoted(rt.alloc(), value).ok()?;
@@ -86,7 +86,7 @@ fn not_utf8<H: Files + AllocGlobal>(rt: &H, folder: &str, table: Table) -> Optio
 /// The required columns that the header doesn't have.
 fn missing_column<H: Files + AllocGlobal>(rt: &H, folder: &str, table: Table) -> Option<String> {
     let file = table.file_name();
-    let Some(found) = record_in(rt, folder, file, Wanted::Number(0)) else {
+    let Some(found) = record_in(rt, folder, file, Wanted::Number(0)).ok()? else {
         return format!(in rt.alloc(); "{file}: there is no header").ok();
     };
     let line = found.record.line;
@@ -102,20 +102,24 @@ fn missing_column<H: Files + AllocGlobal>(rt: &H, folder: &str, table: Table) ->
     Some(text)
 }
 
+/// The line of the record, and what is wrong there, if that can be found.
 fn line_of_record<H: Files + AllocGlobal>(
     rt: &H,
     folder: &str,
     fault: &TableFault,
 ) -> Option<String> {
     let file = fault.table.file_name();
-    let found = record_in(rt, folder, file, Wanted::Number(fault.row))?;
+    let found = found_in(rt, folder, file, Wanted::Number(fault.row))?;
     let line = found.record.line;
     let what = if fault.kind == FaultKind::RowLength {
-        row_length(rt.alloc(), &found)?
+        row_length(rt.alloc(), &found)
     } else {
-        wrong_value(rt, folder, fault, &found)?
+        wrong_value(rt, folder, fault, &found)
     };
-    format!(in rt.alloc(); "{file}, line {line}: {what}").ok()
+    match what {
+        Some(what) => format!(in rt.alloc(); "{file}, line {line}: {what}").ok(),
+        None => format!(in rt.alloc(); "{file}, line {line}").ok(),
+    }
 }
 
 fn row_length(alloc: Global, found: &Records) -> Option<String> {
@@ -130,11 +134,14 @@ fn wrong_value<H: Files + AllocGlobal>(
     fault: &TableFault,
     found: &Records,
 ) -> Option<String> {
+    if !found.record.is_whole() {
+        return None;
+    }
     for suspect in suspects_of(fault) {
         let Suspect(column, form, reason) = *suspect;
         if found.header.index_of(column.as_bytes()).is_some() {
             let value = found.value(column);
-            if is_wrong(rt, folder, form, value) {
+            if is_wrong(rt, folder, form, value).ok()? {
                 let shown = quoted(rt.alloc(), value).ok()?;
                 return format!(in rt.alloc(); "{column} {shown} {reason}").ok();
             }
@@ -143,7 +150,23 @@ fn wrong_value<H: Files + AllocGlobal>(
     None
 }
 
-fn is_wrong<H: Files + AllocGlobal>(rt: &H, folder: &str, form: Form, value: &[u8]) -> bool {
+/// Whether a text isn't as it must be; an id is looked up in its file.
+fn is_wrong<H: Files + AllocGlobal>(
+    rt: &H,
+    folder: &str,
+    form: Form,
+    value: &[u8],
+) -> Result<bool, Unread> {
+    match form {
+        Form::Id(file, column) => {
+            Ok(record_in(rt, folder, file, Wanted::Text(column, value))?.is_none())
+        }
+        Form::End => is_inside(rt, folder, value),
+        _ => Ok(is_misspelled(form, value)),
+    }
+}
+
+fn is_misspelled(form: Form, value: &[u8]) -> bool {
     match form {
         Form::Time => Time::parse(value).is_err(),
         Form::TimeOrBlank => !value.is_empty() && Time::parse(value).is_err(),
@@ -151,32 +174,38 @@ fn is_wrong<H: Files + AllocGlobal>(rt: &H, folder: &str, form: Form, value: &[u
         Form::Number => number(value).is_none(),
         Form::Weekday => !matches!(number(value), Some(0) | Some(1)),
         Form::Exception => !matches!(number(value), Some(1) | Some(2)),
-        Form::Id(file, column) => {
-            record_in(rt, folder, file, Wanted::Text(column, value)).is_none()
-        }
-        Form::End => is_inside(rt, folder, value),
-        Form::Other => true,
+        Form::Id(..) | Form::End | Form::Other => true,
     }
 }
 
 /// Whether a stop_id is that of an entrance, a node or a boarding area.
-fn is_inside<H: Files + AllocGlobal>(rt: &H, folder: &str, stop: &[u8]) -> bool {
-    match record_in(rt, folder, "stops.txt", Wanted::Text("stop_id", stop)) {
-        Some(found) => matches!(
+fn is_inside<H: Files + AllocGlobal>(rt: &H, folder: &str, stop: &[u8]) -> Result<bool, Unread> {
+    match record_in(rt, folder, "stops.txt", Wanted::Text("stop_id", stop))? {
+        Some(found) => Ok(matches!(
             number(found.value("location_type")),
             Some(2) | Some(3) | Some(4)
-        ),
-        None => false,
+        )),
+        None => Ok(false),
     }
 }
 
-/// A record of a file of the folder.
-pub fn record_in<H: Files + AllocGlobal>(
+/// A record of a file of the folder, if it can be found.
+pub fn found_in<H: Files + AllocGlobal>(
+    rt: &H,
+    folder: &str,
+    file: &str,
+    wanted: Wanted<'_>,
+) -> Option<Records> {
+    record_in(rt, folder, file, wanted).ok()?
+}
+
+/// A record of a file of the folder, if it has one.
+fn record_in<H: Files + AllocGlobal>(
     rt: &H,
     folder: &str,
     file: &str,
     mut wanted: Wanted<'_>,
-) -> Option<Records> {
+) -> Result<Option<Records>, Unread> {
     search_in(rt, folder, file, &mut wanted)
 }
 
@@ -186,11 +215,13 @@ pub fn search_in<H: Files + AllocGlobal, S: Search>(
     folder: &str,
     file: &str,
     search: &mut S,
-) -> Option<Records> {
-    let path = Path::new(folder).join(rt.alloc(), file).ok()?;
+) -> Result<Option<Records>, Unread> {
+    let path = Path::new(folder).join(rt.alloc(), file)?;
     if !is_file(rt, path.as_str()) {
-        return None;
+        return Err(Unread);
     }
-    let mut file = File::open(rt, path.as_path()).ok()?;
-    find(rt.alloc(), &mut file, search)
+    match File::open(rt, path.as_path()) {
+        Ok(mut file) => find(rt.alloc(), &mut file, search),
+        Err(_) => Err(Unread),
+    }
 }

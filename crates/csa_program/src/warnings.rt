@@ -2,7 +2,7 @@
 
 use crate::explaining::{explain, is_file};
 use crate::records::{Records, Search, Wanted};
-use crate::table_fault::{record_in, search_in};
+use crate::table_fault::{found_in, search_in};
 use command_requests::ZoneText;
 use feed_loader::{Plan, Report};
 use gtfs_rows::values::number;
@@ -118,9 +118,12 @@ fn warn_of_transfers<H: Files + AllocGlobal, E: Write>(rt: &H, folder: &str, err
         between_trips: 0,
         of_other_types: 0,
     };
-    let _ = search_in(rt, folder, "transfers.txt", &mut left_out);
-    if let Ok(line) = transfers_line(rt.alloc(), &left_out) {
+    if search_in(rt, folder, "transfers.txt", &mut left_out).is_ok()
+        && let Ok(line) = transfers_line(rt.alloc(), &left_out)
+    {
         warn_of(errors, line.as_str());
+    } else {
+        warn_of(errors, "rows of transfers.txt are left out");
     }
 }
 
@@ -137,7 +140,7 @@ beyond 0 to 3; a change there may need more time than answers give it"
 
 /// What is said if days begin at other instants in the feed's own zone, by the system's file of it.
 fn other_zone<H: Files + AllocGlobal>(rt: &H, folder: &str, plan: &Plan) -> Option<String> {
-    let found = record_in(rt, folder, "agency.txt", Wanted::Number(1))?;
+    let found = found_in(rt, folder, "agency.txt", Wanted::Number(1))?;
     let name = str::from_utf8(found.value("agency_timezone")).ok()?;
     let path = zone_path(rt, name)?;
     let bytes = fs::read(rt, path.as_str()).ok()?;
