@@ -274,14 +274,16 @@ fn unmarked(piece: &[u8]) -> &[u8] {
 
 /// A text without the spaces at its ends.
 fn trimmed(text: &[u8]) -> &[u8] {
-    let mut rest = text;
-    while let [b' ', kept @ ..] = rest {
-        rest = kept;
+    let Some(start) = text.iter().position(|byte| *byte != b' ') else {
+        return &[];
+    };
+    let mut end = 0;
+    for (index, byte) in text.iter().enumerate() {
+        if *byte != b' ' {
+            end = index.saturating_add(1);
+        }
     }
-    while let [kept @ .., b' '] = rest {
-        rest = kept;
-    }
-    rest
+    text.get(start..end).unwrap_or(&[])
 }
 
 /// The record that is found, if there is one.

@@ -62,7 +62,9 @@ fn idle_days(alloc: Global, built: &Built) -> Option<String> {
     let mut separator = " ";
     let mut day = built.plan.first_day;
     for _ in 0..built.plan.days {
-        day_start(&built.plan.zone, day).ok()?;
+        let Ok(_start) = day_start(&built.plan.zone, day) else {
+            return None;
+        };
         let number = 10_000 * day.year as u32 + 100 * day.month as u32 + day.day as u32;
         if !has_trip_on(&built.image, number) {
             write!(text, "{separator}{number:08}").ok()?;
@@ -128,12 +130,10 @@ fn warn_of_transfers<H: Files + AllocGlobal, E: Write>(rt: &H, folder: &str, err
 }
 
 fn transfers_line(alloc: Global, left_out: &LeftOut) -> Result<String, AllocError> {
-    let LeftOut {
-        between_trips,
-        of_other_types,
-    } = left_out;
+    let trips = left_out.between_trips;
+    let types = left_out.of_other_types;
     format!(in alloc;
-        "rows of transfers.txt are left out: {between_trips} between trips or routes, {of_other_types} of a transfer_type \
+        "rows of transfers.txt are left out: {trips} between trips or routes, {types} of a transfer_type \
 beyond 0 to 3; a change there may need more time than answers give it"
     )
 }
