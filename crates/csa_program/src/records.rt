@@ -119,18 +119,20 @@ impl Record {
 
     fn push(&mut self, byte: u8) -> Result<(), AllocError> {
         if self.text.len() < LONGEST_RECORD {
-            return self.text.push(byte);
+            self.text.push(byte)?;
+        } else {
+            self.is_cut = true;
         }
-        self.is_cut = true;
         Ok(())
     }
 
     fn end_field(&mut self) -> Result<(), AllocError> {
         if self.ends.len() < LONGEST_RECORD {
             let end = self.text.len();
-            return self.ends.push(end);
+            self.ends.push(end)?;
+        } else {
+            self.is_cut = true;
         }
-        self.is_cut = true;
         Ok(())
     }
 }
