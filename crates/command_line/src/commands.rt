@@ -124,7 +124,7 @@ const DAYS: [Argument; 3] = [
     ),
 ];
 
-const BUILD: [Argument; 2] = [
+const BUILD: [Argument; 3] = [
     Argument::Flag(
         "strict",
         "Reject a hop that takes no time, instead of making it one second long",
@@ -133,6 +133,7 @@ const BUILD: [Argument; 2] = [
         "progress",
         "Show progress on standard error (the default on a terminal)",
     ),
+    Argument::Flag("no-warnings", "Leave out warnings on standard error"),
 ];
 
 const SERVER: [Argument; 6] = [
@@ -281,6 +282,18 @@ fn command_of<'a>(alloc: Global, task: Task) -> Result<Command<'a>, AllocError> 
         command = with_arguments(alloc, command, group)?;
     }
     Ok(command)
+}
+
+/// The line of usage of a command, none if there is no such command.
+pub(crate) fn usage(alloc: Global, name: &str) -> Result<String, AllocError> {
+    for task in &TASKS {
+        if task.name == name {
+            let whole = format!(in alloc; "csa {name}")?;
+            let mut command = command_of(alloc, *task)?.bin_name(whole.as_str())?;
+            return command.render_usage();
+        }
+    }
+    Ok(String::new(alloc))
 }
 
 /// All commands.
