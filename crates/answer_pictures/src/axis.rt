@@ -18,6 +18,9 @@ const STEPS: [u32; 13] = [
     60, 120, 300, 600, 900, 1800, 3600, 7200, 10800, 21600, 43200, 86400, 172800,
 ];
 
+// The seconds of a day.
+const DAY: u32 = 86400;
+
 /// From when to when the axis of a picture goes, in seconds after the base, and how far its marks are from one another.
 #[derive(Clone, Copy, Debug, PartialEq, Eq)]
 pub struct Axis {
@@ -79,5 +82,5 @@ fn step_for(span: u32) -> u32 {
             return step;
         }
     }
-    span / MOST_STEPS + 1
+    (span / MOST_STEPS / DAY + 1) * DAY
 }

@@ -1,14 +1,17 @@
 //! The picture of an answer, as an SVG file.
 
-use answer_pictures::{Axis, journey_line, journeys_title, picture};
-use criteria::Told;
+use answer_pictures::{Axis, JourneyLine, heading_of, journey_line, picture};
+use criteria::{CriterionName, Told};
 use image_verifier::Verified;
-use journeys::Departure;
+use journeys::{Answer, Departure};
 use std::alloc::{AllocError, Global};
 use std::fs::File;
 use std::io::Write;
 use std::rt::Files;
 use timetable::Query;
+
+// So many journeys are drawn at most: what draws SVG has its own limit of height.
+const MOST_LINES: usize = 200;
 
 /// Why there is no picture.
 pub enum PictureFailure<'a> {
@@ -23,16 +26,17 @@ impl<'a> From<AllocError> for PictureFailure<'a> {
     }
 }
 
-/// Writes the picture of the departures into the file at the path.
+/// Writes the picture of the answer into the file at the path.
 pub fn draw<'a, H: Files + AllocGlobal, C: Told>(
     rt: &H,
     image: &Verified,
     criterion: &C,
+    name: CriterionName,
     query: &Query,
-    departures: &[Departure<C::V>],
+    answer: &Answer<C>,
     path: &'a str,
 ) -> Result<(), PictureFailure<'a>> {
-    let text = picture_text(rt.alloc(), image, criterion, query, departures)?;
+    let text = picture_text(rt.alloc(), image, criterion, name, query, answer)?;
     if write_file(rt, path, text.as_str()) {
         Ok(())
     } else {
@@ -44,18 +48,36 @@ fn picture_text<C: Told>(
     alloc: Global,
     image: &Verified,
     criterion: &C,
+    name: CriterionName,
     query: &Query,
-    departures: &[Departure<C::V>],
+    answer: &Answer<C>,
 ) -> Result<String, AllocError> {
-    let title = journeys_title(alloc, image, query.source, query.target)?;
+    let heading = heading_of(alloc, image, query, name)?;
+    let drawn = first_of(&answer.departures);
+    let lines = lines_of(alloc, image, criterion, drawn)?;
+    let axis = axis_of(criterion, query, drawn);
+    let left = answer.departures.len() - drawn.len();
+    picture(alloc, &heading, axis, answer.walk, &lines, left)
+}
+
+/// As many departures as are drawn.
+fn first_of<V>(departures: &[Departure<V>]) -> &[Departure<V>] {
+    &departures[..departures.len().min(MOST_LINES)]
+}
+
+fn lines_of<C: Told>(
+    alloc: Global,
+    image: &Verified,
+    criterion: &C,
+    departures: &[Departure<C::V>],
+) -> Result<Vec<JourneyLine>, AllocError> {
     let mut lines = Vec::with_capacity(alloc, departures.len())?;
     for departure in departures {
         let told = criterion.tell(&departure.value);
         let line = journey_line(alloc, image, departure.time, told, &departure.journey)?;
         lines.push(line)?;
     }
-    let axis = axis_of(criterion, query, departures);
-    picture(alloc, title.as_str(), axis, &lines)
+    Ok(lines)
 }
 
 /// The times from the first departure to the last arrival; those of the query where there is none.
