@@ -1,4 +1,3 @@
 mod Drawn
 mod Joined
-mod Widths
 mod Named

@@ -1,5 +1,5 @@
 -- Pictures of answers as the texts of SVG files.
-use Rattle.std.specs.Prelude.{◌≡◌, ◌+◌, ◌-◌, ◌*◌, ◌/◌, ◌&&◌, ℕ, List, [], ◌∷◌, ◌++◌, ◌==◌, All, Bool, true, false, nat_le, if◌then◌else◌, length}
+use Rattle.std.specs.Prelude.{◌≡◌, ◌+◌, ◌-◌, ◌*◌, ◌/◌, ◌&&◌, ◌≤◌, ℕ, List, [], ◌∷◌, ◌++◌, ◌==◌, All, Bool, true, false, nat_le, if◌then◌else◌, length}
 use Rattle.std.specs.Prelude.{min, max, codes, decimal, Option, Some, None}
 use Rattle.std.specs.List.{flat_map}
 use Rattle.answer_pictures.specs.declared.axis.Axis.{Axis}
@@ -18,6 +18,14 @@ place axis time = 190 + (min time axis.end - axis.start) * 740 / max (axis.end -
 -- how long it is from one time to another: it is seen, however short it is
 abbrev pub length_between : Axis → ℕ → ℕ → ℕ
 length_between axis start end = max (place axis end - place axis start) 1
+
+-- a journey that departs at a time or later, and arrives at another or earlier
+abbrev pub IsBetween : ℕ → ℕ → LineValue → Type 0
+IsBetween first last line = (first ≤ line.departure) × (line.arrival ≤ last)
+
+-- a journey that the axis covers
+abbrev pub LiesOn : Axis → LineValue → Type 0
+LiesOn axis line = IsBetween axis.start axis.end line
 
 abbrev pub attribute_text : List ℕ → ℕ → List ℕ
 attribute_text name number = name ++ codes "=\"" ++ decimal number ++ codes "\""
@@ -76,10 +84,10 @@ told_text exact s = lead_text s.way s.trip ++ end_at (codes ": ") exact s.from s
 
 -- a trip's name on its ride, where it has room
 abbrev pub has_room : Axis → StretchValue → Bool
-has_room axis s = nat_le (length s.trip * 7 + 10) (length_between axis s.start s.end)
+has_room axis s = nat_le (length s.trip) ((length_between axis s.start s.end - 10) / 7)
 
 unfoldable pub trip_text : Axis → StretchValue → List ℕ
-trip_text axis s = codes "<text class=\"trip\" y=\"4\"" ++ attribute_text (codes " x") (place axis s.start + 5) ++ (codes ">" ++ escaped s.trip ++ codes "</text>\n")
+trip_text axis s = codes "<text class=\"trip\" y=\"4\" dx=\"5\"" ++ attribute_text (codes " x") (place axis s.start) ++ (codes ">" ++ escaped s.trip ++ codes "</text>\n")
 
 abbrev pub badge_text : Axis → StretchValue → List ℕ
 badge_text axis s = if has_room axis s then trip_text axis s else []

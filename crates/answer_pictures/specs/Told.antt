@@ -1,5 +1,5 @@
 -- What is drawn of a journey over a timetable.
-use Rattle.std.specs.Prelude.{◌≡◌, ◌+◌, ◌%◌, ◌++◌, ◌∷◌, [], ◌==◌, ℕ, ℤ, List, Bool, not, if◌then◌else◌, Option, Some, None, min, slice_get, codes, map}
+use Rattle.std.specs.Prelude.{◌≡◌, ◌+◌, ◌%◌, ◌++◌, ◌∷◌, [], ◌==◌, ℕ, List, Bool, not, if◌then◌else◌, Option, Some, None, min, slice_get, codes}
 use Rattle.std.specs.List.{flat_map}
 use Rattle.timetable.specs.NamesValue.{NamesValue}
 use Rattle.timetable.specs.TimetableValue.{TimetableValue}
@@ -12,7 +12,7 @@ use Rattle.criteria.specs.declared.told.ToldValue.{ToldValue}
 use Rattle.criteria.specs.Names.{name_text}
 use Rattle.answer_pictures.specs.declared.lines.Way.{Way}
 use Rattle.answer_pictures.specs.declared.lines.Way.TheVariants.{Ride, Walk, Change}
-use Rattle.answer_pictures.specs.LineValue.{StretchValue, LineValue}
+use Rattle.answer_pictures.specs.LineValue.{HeadingValue, StretchValue, LineValue}
 use Rattle.answer_pictures.specs.Moments.{moment_text}
 use Rattle.answer_pictures.specs.Naming.{stop_bytes, trip_bytes}
 
@@ -83,3 +83,10 @@ abbrev pub asked_text : CriterionName → Query → List ℕ
 asked_text criterion query =
     (codes ": departing " ++ own_moment query.from) ++ (codes " to " ++ own_moment query.until) ++ (codes ", arriving by " ++ own_moment query.by)
     ++ (codes "; best by " ++ name_text criterion)
+
+-- what is above a picture: both ends of a query by their names, and what it asks, behind a date
+pub record IsHeadingOf (names : NamesValue) (criterion : CriterionName) (q : Query) (h : HeadingValue) : Type 0 where
+  pub from : h.from ≡ stop_bytes names q.source
+  pub to : h.to ≡ stop_bytes names q.target
+  pub date : List ℕ
+  pub about : h.about ≡ date ++ asked_text criterion q

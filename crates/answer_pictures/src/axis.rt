@@ -1,8 +1,9 @@
 //! The axis of time.
 
-ghost use Rattle.std.specs.Prelude.{◌≡◌, ◌≤◌};
-ghost use Rattle.answer_pictures.specs.Pictures.{length_between, place};
+ghost use Rattle.std.specs.Prelude.{◌≡◌, ◌≤◌, All};
+ghost use Rattle.answer_pictures.specs.Pictures.{IsBetween, LiesOn, length_between, place};
 
+use crate::lines::JourneyLine;
 use std::alloc::{AllocError, Global};
 
 // Where the axis begins, and how long it is.
@@ -45,6 +46,17 @@ impl Axis {
         Axis { start, end, step }
     }
 
+    /// An axis on which each journey lies from its departure to its arrival; if there is none, one that covers two times.
+    pub fn of_lines(lines: &[JourneyLine], from: u32, until: u32) -> Axis
+        ensures { All (LiesOn result) lines.now }
+    {
+        if lines.is_empty() {
+            return Axis::covering(from, until);
+        }
+        let (first, last) = ends_of(lines);
+        Axis::covering(first, last)
+    }
+
     /// Where a time lies, from the left; one before the axis at its start, one behind it at its end.
     pub(crate) fn place(&self, time: u32) -> u64
         ensures { result ≡ place self.now time }
@@ -73,6 +85,19 @@ impl Axis {
         }
         Ok(times)
     }
+}
+
+/// The first departure of journeys, and their last arrival.
+fn ends_of(lines: &[JourneyLine]) -> (u32, u32)
+    ensures { All (IsBetween result.0 result.1) lines.now }
+{
+    let mut first = u32::MAX;
+    let mut last = 0;
+    for line in lines {
+        first = first.min(line.departure);
+        last = last.max(line.arrival);
+    }
+    (first, last)
 }
 
 /// How far marks are from one another on an axis of so many seconds.

@@ -1,9 +1,8 @@
 //! What is above the journeys of a picture.
 
-ghost use Rattle.std.specs.Prelude.{◌≡◌, ◌++◌, ℕ, List, codes, IfOk, OnOk, string_bytes};
+ghost use Rattle.std.specs.Prelude.{◌≡◌, ◌++◌, codes, IfOk, OnOk, string_bytes};
 ghost use Rattle.criteria.specs.Names.{name_text};
-ghost use Rattle.answer_pictures.specs.Naming.{stop_bytes};
-ghost use Rattle.answer_pictures.specs.Told.{asked_text, own_moment};
+ghost use Rattle.answer_pictures.specs.Told.{IsHeadingOf, asked_text, own_moment};
 
 use crate::lines::Heading;
 use crate::moments::put_moment;
@@ -28,9 +27,7 @@ pub fn heading_of(
     query: &Query,
     criterion: CriterionName,
 ) -> Result<Heading, AllocError>
-    ensures from { IfOk result (λ h. h.from ≡ stop_bytes image.now.names query.now.source) }
-    ensures to { IfOk result (λ h. h.to ≡ stop_bytes image.now.names query.now.target) }
-    ensures about { IfOk result (λ h. (date : List ℕ) × (h.about ≡ date ++ asked_text criterion query.now)) }
+    ensures { IfOk result (IsHeadingOf image.now.names criterion query.now) }
 {
     let from = stop_name(alloc, image, query.source)?;
     let to = stop_name(alloc, image, query.target)?;

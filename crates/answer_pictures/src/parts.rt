@@ -5,10 +5,10 @@ ghost use Rattle.std.specs.List.{flat_map};
 ghost use Rattle.answer_pictures.specs.Pictures.{badge_text, between_text, end_at, end_text, group_text, has_room, label_text, lead_text, line_text, note_text, shape_text, stretch_text, told_text, trip_text, wait_text, way_text};
 
 use crate::axis::Axis;
-use crate::escaping::put_words;
+use crate::escaping::{put_cut, put_words};
 use crate::lines::{JourneyLine, Stretch, Way};
 use crate::moments::put_moment;
-use crate::putting::{put_attribute, put_element, put_number, put_numbers, put_short, put_text};
+use crate::putting::{put_attribute, put_element, put_number, put_numbers, put_text};
 use std::alloc::AllocError;
 
 /// Begins a group at a height.
@@ -103,14 +103,14 @@ fn has_room(axis: Axis, stretch: &Stretch) -> bool
     ensures { result ≡ has_room axis stretch.now }
 {
     let letters = stretch.trip.len() as u64;
-    letters.saturating_mul(7).saturating_add(10) <= axis.length(stretch.start, stretch.end)
+    letters <= axis.length(stretch.start, stretch.end).saturating_sub(10) / 7
 }
 
 fn put_trip(out: &mut String, axis: Axis, stretch: &Stretch) -> Result<(), AllocError>
     ensures { OnOk result (string_bytes out.new ≡ string_bytes out.old ++ trip_text axis stretch.now) }
 {
-    put_text(out, "<text class=\"trip\" y=\"4\"")?;
-    put_attribute(out, " x", axis.place(stretch.start) + 5)?;
+    put_text(out, "<text class=\"trip\" y=\"4\" dx=\"5\"")?;
+    put_attribute(out, " x", axis.place(stretch.start))?;
     put_element(out, ">", &stretch.trip, "</text>\n")?;
     Ok(())
 }
@@ -204,7 +204,8 @@ fn put_note(out: &mut String, note: &str) -> Result<(), AllocError>
         note,
         "</title>",
     )?;
-    put_short(out, "", note, 120, "</text></svg>\n</g>\n")?;
+    put_cut(out, note, 120)?;
+    put_text(out, "</text></svg>\n</g>\n")?;
     Ok(())
 }
 

@@ -3,5 +3,6 @@ pub mod Asking
 pub mod Judging
 pub mod Listing
 pub mod Opening
+pub mod Picturing
 pub mod Planning
 pub mod Serving

@@ -1,5 +1,9 @@
 //! The picture of an answer, as an SVG file.
 
+ghost use Rattle.std.specs.Prelude.{◌≡◌, IfOk, take, string_bytes};
+ghost use Rattle.std.specs.List.{AllZip};
+ghost use Rattle.csa_program.specs.Picturing.{IsDrawnAs, IsPictureOf};
+
 use answer_pictures::{Axis, JourneyLine, heading_of, journey_line, picture};
 use criteria::{CriterionName, Told};
 use image_verifier::Verified;
@@ -26,7 +30,7 @@ impl<'a> From<AllocError> for PictureFailure<'a> {
     }
 }
 
-/// Writes the picture of the answer into the file at the path.
+/// Writes the picture of the answer, with its first 200 departures, into the file at the path.
 pub fn draw<'a, H: Files + AllocGlobal, C: Told>(
     rt: &H,
     image: &Verified,
@@ -51,48 +55,51 @@ fn picture_text<C: Told>(
     name: CriterionName,
     query: &Query,
     answer: &Answer<C>,
-) -> Result<String, AllocError> {
+) -> Result<String, AllocError>
+    ensures { IfOk result (λ text. IsPictureOf C.told image.now name query.now answer.now.departures.items answer.now.walk (string_bytes text)) }
+{
     let heading = heading_of(alloc, image, query, name)?;
     let drawn = first_of(&answer.departures);
     let lines = lines_of(alloc, image, criterion, drawn)?;
-    let axis = axis_of(criterion, query, drawn);
-    let left = answer.departures.len() - drawn.len();
+    let axis = Axis::of_lines(&lines, query.from, query.until);
+    let left = answer.departures.len().saturating_sub(MOST_LINES);
     picture(alloc, &heading, axis, answer.walk, &lines, left)
 }
 
 /// As many departures as are drawn.
-fn first_of<V>(departures: &[Departure<V>]) -> &[Departure<V>] {
+fn first_of<V>(departures: &[Departure<V>]) -> &[Departure<V>]
+    ensures { result.now ≡ take 200 departures.now }
+{
     &departures[..departures.len().min(MOST_LINES)]
 }
 
+/// A line for each departure.
 fn lines_of<C: Told>(
     alloc: Global,
     image: &Verified,
     criterion: &C,
     departures: &[Departure<C::V>],
-) -> Result<Vec<JourneyLine>, AllocError> {
+) -> Result<Vec<JourneyLine>, AllocError>
+    ensures { IfOk result (λ lines. AllZip (IsDrawnAs C.told image.now) departures.now lines.items) }
+{
     let mut lines = Vec::with_capacity(alloc, departures.len())?;
     for departure in departures {
-        let told = criterion.tell(&departure.value);
-        let line = journey_line(alloc, image, departure.time, told, &departure.journey)?;
+        let line = line_of(alloc, image, criterion, departure)?;
         lines.push(line)?;
     }
     Ok(lines)
 }
 
-/// The times from the first departure to the last arrival; those of the query where there is none.
-fn axis_of<C: Told>(criterion: &C, query: &Query, departures: &[Departure<C::V>]) -> Axis {
-    let mut first = u32::MAX;
-    let mut last = 0;
-    for departure in departures {
-        first = first.min(departure.time);
-        last = last.max(criterion.tell(&departure.value).arrival);
-    }
-    if first > last {
-        Axis::covering(query.from, query.until)
-    } else {
-        Axis::covering(first, last)
-    }
+fn line_of<C: Told>(
+    alloc: Global,
+    image: &Verified,
+    criterion: &C,
+    departure: &Departure<C::V>,
+) -> Result<JourneyLine, AllocError>
+    ensures { IfOk result (IsDrawnAs C.told image.now departure.now) }
+{
+    let told = criterion.tell(&departure.value);
+    journey_line(alloc, image, departure.time, told, &departure.journey)
 }
 
 // Writes the text into the file at the path: whether that went well.
