@@ -1,3 +1,5 @@
+mod Cuts
 mod Drawn
 mod Joined
 mod Named
+mod Spans

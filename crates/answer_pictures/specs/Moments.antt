@@ -1,5 +1,6 @@
 -- Times as a picture has them: of the day on which they are, without seconds where none are needed.
-use Rattle.std.specs.Prelude.{◌≡◌, ◌+◌, ◌*◌, ◌/◌, ◌%◌, ℕ, List, [], ◌∷◌, ◌++◌, All, Bool, nat_lt, if◌then◌else◌, codes, decimal}
+use Rattle.std.specs.Prelude.{◌/◌, ◌%◌, ℕ, List, [], ◌∷◌, ◌++◌, Bool, not, ◌==◌, ◌&&◌, nat_lt, if◌then◌else◌, codes, decimal}
+use Rattle.std.specs.List.{list_all}
 use Rattle.timetable.specs.Clocks.{two_digits}
 use Rattle.answer_pictures.specs.LineValue.{LineValue, StretchValue}
 
@@ -19,14 +20,16 @@ days_text time = if nat_lt time 86400 then [] else codes " +" ++ decimal (time /
 unfoldable pub moment_text : Bool → ℕ → List ℕ
 moment_text exact time = minute_text time ++ seconds_text exact time ++ days_text time
 
--- times that lose nothing if seconds aren't shown
-abbrev pub IsWhole : ℕ → Type 0
-IsWhole time = time % 60 ≡ 0
+-- a time that loses nothing if its seconds aren't shown
+abbrev pub is_whole : ℕ → Bool
+is_whole time = time % 60 == 0
 
-abbrev pub AreWhole : StretchValue → Type 0
-AreWhole s = IsWhole s.start × IsWhole s.end
+abbrev pub is_part_whole : StretchValue → Bool
+is_part_whole s = is_whole s.start && is_whole s.end
 
-pub record IsLineWhole (line : LineValue) : Type 0 where
-  pub departure : IsWhole line.departure
-  pub arrival : IsWhole line.arrival
-  pub stretches : All AreWhole line.stretches
+abbrev pub is_line_whole : LineValue → Bool
+is_line_whole line = is_whole line.departure && is_whole line.arrival && list_all is_part_whole line.stretches
+
+-- seconds are shown exactly if some time of some journey has any
+abbrev pub shows_seconds : List LineValue → Bool
+shows_seconds lines = not (list_all is_line_whole lines)

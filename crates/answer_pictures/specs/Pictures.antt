@@ -1,12 +1,12 @@
 -- Pictures of answers as the texts of SVG files.
-use Rattle.std.specs.Prelude.{◌≡◌, ◌+◌, ◌-◌, ◌*◌, ◌/◌, ◌&&◌, ◌≤◌, ℕ, List, [], ◌∷◌, ◌++◌, ◌==◌, All, Bool, true, false, nat_le, if◌then◌else◌, length}
+use Rattle.std.specs.Prelude.{◌≡◌, ◌+◌, ◌-◌, ◌*◌, ◌/◌, ◌≤◌, ℕ, List, [], ◌∷◌, ◌++◌, ◌==◌, Bool, nat_le, if◌then◌else◌, length}
 use Rattle.std.specs.Prelude.{min, max, codes, decimal, Option, Some, None}
 use Rattle.std.specs.List.{flat_map}
 use Rattle.answer_pictures.specs.declared.axis.Axis.{Axis}
 use Rattle.answer_pictures.specs.declared.lines.Way.{Way}
 use Rattle.answer_pictures.specs.declared.lines.Way.TheVariants.{Ride, Walk, Change}
 use Rattle.answer_pictures.specs.LineValue.{StretchValue, LineValue, HeadingValue}
-use Rattle.answer_pictures.specs.Moments.{moment_text, IsLineWhole}
+use Rattle.answer_pictures.specs.Moments.{moment_text, shows_seconds}
 use Rattle.answer_pictures.specs.Style.{style, legend}
 use Rattle.answer_pictures.specs.Told.{later}
 use Rattle.answer_pictures.specs.Words.{escaped, escaped_cut}
@@ -99,7 +99,7 @@ stretch_text axis exact s = shape_text axis s ++ told_text exact s ++ end_text s
 -- when one departs and arrives
 unfoldable pub label_text : Bool → LineValue → List ℕ
 label_text exact line =
-    codes "<text x=\"16\" y=\"5\">" ++ moment_text exact line.departure ++ (32 ∷ 226 ∷ 128 ∷ 147 ∷ 32 ∷ []) ++ moment_text exact line.arrival
+    codes "<text class=\"time\" x=\"16\" y=\"5\">" ++ moment_text exact line.departure ++ (32 ∷ 226 ∷ 128 ∷ 147 ∷ 32 ∷ []) ++ moment_text exact line.arrival
     ++ codes "</text>\n"
 
 -- from the departure to the arrival: what nothing else lies over is waiting
@@ -127,7 +127,7 @@ AreDrawn axis exact (line ∷ lines) text =
 -- the direct walk, from the beginning of the axis on
 unfoldable pub walk_row : Axis → ℕ → ℕ → List ℕ
 walk_row axis y secs =
-    group_text y ++ codes "<text x=\"16\" y=\"5\">direct walk</text>\n<path class=\"walk\" d=\"M190 0h"
+    group_text y ++ codes "<text class=\"time\" x=\"16\" y=\"5\">direct walk</text>\n<path class=\"walk\" d=\"M190 0h"
     ++ decimal (length_between axis axis.start (later axis.start secs)) ++ codes "\"/>\n<text class=\"note\" x=\"190\" y=\"22\">on foot all the way, at any time: "
     ++ (decimal secs ++ codes " s</text>\n</g>\n")
 
@@ -157,8 +157,8 @@ title_text h =
 
 unfoldable pub shown_title : HeadingValue → List ℕ
 shown_title h =
-    (codes "<text class=\"title\" x=\"16\" y=\"28\">" ++ escaped_cut 46 h.from ++ (32 ∷ 226 ∷ 134 ∷ 146 ∷ 32 ∷ []))
-    ++ (codes "" ++ escaped_cut 46 h.to ++ codes "</text>\n<text class=\"note\" x=\"16\" y=\"48\">") ++ (codes "" ++ escaped h.about ++ codes "</text>\n")
+    (codes "<text class=\"title\" x=\"16\" y=\"28\">" ++ escaped_cut 38 h.from ++ (32 ∷ 226 ∷ 134 ∷ 146 ∷ 32 ∷ []))
+    ++ (codes "" ++ escaped_cut 38 h.to ++ codes "</text>\n<text class=\"note\" x=\"16\" y=\"48\">") ++ (codes "" ++ escaped h.about ++ codes "</text>\n")
 
 unfoldable pub heading_text : HeadingValue → ℕ → ℕ → List ℕ
 heading_text h shown left =
@@ -170,7 +170,7 @@ unfoldable pub axis_text : Axis → ℕ → List ℕ → List ℕ → List ℕ
 axis_text axis bottom marks heights = flat_map (grid_text axis bottom) marks ++ flat_map (scale_text axis marks) heights
 
 -- a text that begins and ends as an SVG file, with its heading and the axis, the direct walk if there is one, a group for each journey in order and
--- no other, and behind them that there is none, or how many aren't drawn. Seconds are left out only where no time has any
+-- no other, and behind them that there is none, or how many aren't drawn; seconds are left out only if no time of a journey has any
 pub record IsPicture (h : HeadingValue) (axis : Axis) (walk : Option ℕ) (lines : List LineValue) (left : ℕ) (text : List ℕ) : Type 0 where
   pub height : ℕ
   pub bottom : ℕ
@@ -179,9 +179,7 @@ pub record IsPicture (h : HeadingValue) (axis : Axis) (walk : Option ℕ) (lines
   pub marks : List ℕ
   pub heights : List ℕ
   pub drawn : List ℕ
-  pub exact : Bool
-  pub precise : exact ≡ false → All IsLineWhole lines
-  pub are_drawn : AreDrawn axis exact lines drawn
+  pub are_drawn : AreDrawn axis (shows_seconds lines) lines drawn
   pub is : text ≡
       (size_text height ++ heading_text h (length lines) left) ++ axis_text axis bottom marks heights ++ walk_text axis top walk ++ drawn
       ++ (remark_text below (length lines) left ++ codes "</svg>\n")

@@ -3,7 +3,7 @@ use Rattle.std.specs.Prelude.{ℕ, List, codes}
 
 unfoldable pub style : List ℕ
 style =
-    codes ".paper{fill:#fff}text{font:13px system-ui,sans-serif;fill:#1b1f24}.title{font-size:17px;font-weight:600}.tick,.note{font-size:11px;fill:#59636e}.tick{text-anchor:middle}.note,.tick{paint-order:stroke;stroke:#fff;stroke-width:4px}.grid{stroke:#dde2e7}.wait{stroke:#59636e;stroke-width:1.5;stroke-dasharray:1 4}.ride{fill:#1f6feb;stroke:#fff}.ride:nth-of-type(even){fill:#0a3069}.trip{font-size:11px;fill:#fff}.walk{stroke:#b35900;stroke-width:4;stroke-dasharray:5 3}.change{stroke:#1b1f24;stroke-width:7;stroke-linecap:round}@media(prefers-color-scheme:dark){.paper{fill:#0d1117}text{fill:#e6edf3}.tick,.note{fill:#9198a1;stroke:#0d1117}.grid{stroke:#2b323b}.wait{stroke:#9198a1}.ride{fill:#4493f8;stroke:#0d1117}.ride:nth-of-type(even){fill:#a5d6ff}.trip{fill:#0d1117}.walk{stroke:#f0a04b}.change{stroke:#e6edf3}}"
+    codes ".paper{fill:#fff}text{font:13px system-ui,sans-serif;fill:#1b1f24}.title{font-size:17px;font-weight:600}.time{font-size:12px}.tick,.note{font-size:11px;fill:#59636e}.tick{text-anchor:middle}.note,.tick{paint-order:stroke;stroke:#fff;stroke-width:4px}.grid{stroke:#dde2e7}.wait{stroke:#59636e;stroke-width:1.5;stroke-dasharray:1 4}.ride{fill:#1f6feb;stroke:#fff}.ride:nth-of-type(even){fill:#0a3069}.trip{font-size:11px;fill:#fff}.walk{stroke:#b35900;stroke-width:4;stroke-dasharray:5 3}.change{stroke:#1b1f24;stroke-width:7;stroke-linecap:round}@media(prefers-color-scheme:dark){.paper{fill:#0d1117}text{fill:#e6edf3}.tick,.note{fill:#9198a1;stroke:#0d1117}.grid{stroke:#2b323b}.wait{stroke:#9198a1}.ride{fill:#4493f8;stroke:#0d1117}.ride:nth-of-type(even){fill:#a5d6ff}.trip{fill:#0d1117}.walk{stroke:#f0a04b}.change{stroke:#e6edf3}}"
 
 -- a sample of each kind of part, with its name
 unfoldable pub legend : List ℕ

@@ -7,7 +7,7 @@ ghost use Rattle.answer_pictures.specs.Style.{style};
 
 use crate::axis::Axis;
 use crate::lines::{Heading, JourneyLine};
-use crate::moments::{have_seconds, put_moment};
+use crate::moments::{shows_seconds, put_moment};
 use crate::parts::{put_group, put_line};
 use crate::putting::{put_attribute, put_element, put_number, put_numbers, put_short, put_text};
 use crate::style::{legend, style};
@@ -42,7 +42,7 @@ pub fn picture(
     let first = first_line(walk);
     let heights = scale_heights(alloc, first, lines.len())?;
     let bottom = height_of(first, lines.len());
-    let exact = have_seconds(lines);
+    let exact = shows_seconds(lines);
     let mut out = String::new(alloc);
     put_beginning(
         &mut out,
@@ -123,14 +123,14 @@ fn put_shown_title(out: &mut String, heading: &Heading) -> Result<(), AllocError
         out,
         "<text class=\"title\" x=\"16\" y=\"28\">",
         &heading.from,
-        46,
+        38,
         " \u{2192} ",
     )?;
     put_short(
         out,
         "",
         &heading.to,
-        46,
+        38,
         "</text>\n<text class=\"note\" x=\"16\" y=\"48\">",
     )?;
     put_element(out, "", &heading.about, "</text>\n")?;
@@ -275,7 +275,7 @@ fn put_walk_row(out: &mut String, axis: Axis, y: u64, secs: u32) -> Result<(), A
     put_group(out, y)?;
     put_text(
         out,
-        "<text x=\"16\" y=\"5\">direct walk</text>\n<path class=\"walk\" d=\"M190 0h",
+        "<text class=\"time\" x=\"16\" y=\"5\">direct walk</text>\n<path class=\"walk\" d=\"M190 0h",
     )?;
     put_number(
         out,
@@ -324,7 +324,8 @@ fn put_remark_words(out: &mut String, shown: usize, left: usize) -> Result<(), A
         put_none(out, shown)
     } else {
         put_text(out, "the first journeys of the window; not drawn: ")?;
-        put_number(out, left as u64)
+        put_number(out, left as u64)?;
+        Ok(())
     }
 }
 

@@ -46,7 +46,8 @@ pub(crate) fn put_cut(out: &mut String, words: &str, most: usize) -> Result<(), 
     let mut room = most;
     for letter in words.chars() {
         if room == 0 {
-            return out.push_str("...");
+            out.push_str("...")?;
+            return Ok(());
         }
         put_letter(out, letter)?;
         room -= 1;

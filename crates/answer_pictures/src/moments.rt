@@ -1,7 +1,8 @@
 //! Times as a picture has them: of the day on which they are, and without seconds where none are needed.
 
-ghost use Rattle.std.specs.Prelude.{◌≡◌, ◌++◌, All, MatchBool, true, false, Bool, OnOk, string_bytes};
-ghost use Rattle.answer_pictures.specs.Moments.{AreWhole, IsLineWhole, days_text, minute_text, moment_text, seconds_text};
+ghost use Rattle.std.specs.Prelude.{◌≡◌, ◌++◌, OnOk, string_bytes};
+ghost use Rattle.std.specs.List.{list_all};
+ghost use Rattle.answer_pictures.specs.Moments.{days_text, is_line_whole, is_part_whole, is_whole, minute_text, moment_text, seconds_text, shows_seconds};
 
 use crate::lines::{JourneyLine, Stretch};
 use crate::putting::put_text;
@@ -51,31 +52,34 @@ fn put_days(out: &mut String, time: u32) -> Result<(), AllocError>
     }
 }
 
-/// Whether some time of the lines isn't a whole minute, so that seconds have to be shown.
-pub(crate) fn have_seconds(lines: &[JourneyLine]) -> bool
-    ensures { result ≡ false → All IsLineWhole lines.now }
+/// Whether some time of the journeys isn't a whole minute, so that seconds have to be shown.
+pub(crate) fn shows_seconds(lines: &[JourneyLine]) -> bool
+    ensures { result ≡ shows_seconds lines.now }
 {
-    for line in lines {
-        if has_seconds(line) {
-            return true;
-        }
-    }
-    false
+    !lines.iter().all(|line| is_line_whole(line))
 }
 
-fn has_seconds(line: &JourneyLine) -> bool
-    ensures { result ≡ false → IsLineWhole line.now }
+fn is_line_whole(line: &JourneyLine) -> bool
+    ensures { result ≡ is_line_whole line.now }
 {
-    line.departure % 60 != 0 || line.arrival % 60 != 0 || part_has_seconds(&line.stretches)
+    is_whole(line.departure) && is_whole(line.arrival) && are_whole(&line.stretches)
 }
 
-fn part_has_seconds(stretches: &[Stretch]) -> bool
-    ensures { result ≡ false → All AreWhole stretches.now }
+fn are_whole(stretches: &[Stretch]) -> bool
+    ensures { result ≡ list_all is_part_whole stretches.now }
 {
-    for stretch in stretches {
-        if stretch.start % 60 != 0 || stretch.end % 60 != 0 {
-            return true;
-        }
-    }
-    false
+    stretches.iter().all(|stretch| is_part_whole(stretch))
+}
+
+fn is_part_whole(stretch: &Stretch) -> bool
+    ensures { result ≡ is_part_whole stretch.now }
+{
+    is_whole(stretch.start) && is_whole(stretch.end)
+}
+
+/// Whether a time is a whole minute.
+fn is_whole(time: u32) -> bool
+    ensures { result ≡ is_whole time }
+{
+    time % 60 == 0
 }

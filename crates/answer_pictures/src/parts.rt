@@ -86,7 +86,8 @@ fn put_end_at(
     ensures { OnOk result (string_bytes out.new ≡ string_bytes out.old ++ end_at before.now exact stop.now time) }
 {
     put_element(out, before, stop, " ")?;
-    put_moment(out, exact, time)
+    put_moment(out, exact, time)?;
+    Ok(())
 }
 
 fn put_told(out: &mut String, exact: bool, stretch: &Stretch) -> Result<(), AllocError>
@@ -163,7 +164,7 @@ fn put_stretches(
 fn put_label(out: &mut String, exact: bool, line: &JourneyLine) -> Result<(), AllocError>
     ensures { OnOk result (string_bytes out.new ≡ string_bytes out.old ++ label_text exact line.now) }
 {
-    put_text(out, "<text x=\"16\" y=\"5\">")?;
+    put_text(out, "<text class=\"time\" x=\"16\" y=\"5\">")?;
     put_moment(out, exact, line.departure)?;
     put_text(out, " \u{2013} ")?;
     put_moment(out, exact, line.arrival)?;

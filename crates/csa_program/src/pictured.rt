@@ -63,14 +63,19 @@ fn picture_text<C: Told>(
     let lines = lines_of(alloc, image, criterion, drawn)?;
     let axis = Axis::of_lines(&lines, query.from, query.until);
     let left = answer.departures.len().saturating_sub(MOST_LINES);
-    picture(alloc, &heading, axis, answer.walk, &lines, left)
+    let text = picture(alloc, &heading, axis, answer.walk, &lines, left)?;
+    Ok(text)
 }
 
 /// As many departures as are drawn.
 fn first_of<V>(departures: &[Departure<V>]) -> &[Departure<V>]
     ensures { result.now ≡ take 200 departures.now }
 {
-    &departures[..departures.len().min(MOST_LINES)]
+    if departures.len() <= MOST_LINES {
+        departures
+    } else {
+        &departures[..MOST_LINES]
+    }
 }
 
 /// A line for each departure.

@@ -73,7 +73,7 @@ fn a_journey_is_drawn(rt: HostRuntime) -> Result<(), Fail> {
     Ok(())
 }
 
-/// A note of 150 letters is cut behind 120, and whole in its title; a name is cut behind 46.
+/// A note of 150 letters is cut behind 120, and whole in its title; a name is cut behind 38.
 #[test]
 fn long_texts_are_cut(rt: HostRuntime) -> Result<(), Fail> {
     let alloc = rt.alloc();
@@ -81,7 +81,7 @@ fn long_texts_are_cut(rt: HostRuntime) -> Result<(), Fail> {
     let text = small_picture(alloc, &long, &long)?;
     let cut = "0123456789".repeat(alloc, 12)?;
     assert!(rt; text.contains(format!(in alloc; "<title>{long}</title>{cut}...</text>")?.as_str()));
-    assert!(rt; text.contains("012345... \u{2192} C</text>"));
+    assert!(rt; text.contains("34567... \u{2192} C</text>"));
     assert!(rt; text.contains("<rect class=\"paper\" width=\"100%\" height=\"100%\"/>"));
     Ok(())
 }
