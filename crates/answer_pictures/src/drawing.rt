@@ -7,7 +7,7 @@ ghost use Rattle.answer_pictures.specs.Style.{style};
 
 use crate::axis::Axis;
 use crate::lines::{Heading, JourneyLine};
-use crate::moments::{shows_seconds, put_moment};
+use crate::moments::{put_moment, shows_seconds};
 use crate::parts::{put_group, put_line};
 use crate::putting::{put_attribute, put_element, put_number, put_numbers, put_short, put_text};
 use crate::style::{legend, style};

@@ -19,7 +19,7 @@ IsDrawnAs told image departure line =
 -- the picture of a query's departures: what was asked, the direct walk, a line for each of the first 200 departures, in order, on an axis
 -- that covers all of them, and how many more there are
 pub record IsPictureOf {V : Type 0} (told : V → ToldValue) (image : ImageValue) (criterion : CriterionName) (q : Query)
-  (departures : List (Departure V)) (walk : Option ℕ) (text : List ℕ) : Type 0 where
+    (departures : List (Departure V)) (walk : Option ℕ) (text : List ℕ) : Type 0 where
   pub heading : HeadingValue
   pub axis : Axis
   pub lines : List LineValue

@@ -107,7 +107,15 @@ fn answer_text<'a, H: Files + AllocGlobal, C: Told>(
     let mut source = InPlace::new(image);
     let answer = answer_query(rt.alloc(), &mut source, criterion, query)?;
     if let Some(path) = request.picture {
-        draw(rt, image, criterion, request.criterion, query, &answer, path)?;
+        draw(
+            rt,
+            image,
+            criterion,
+            request.criterion,
+            query,
+            &answer,
+            path,
+        )?;
     }
     let text = text_in_form(rt.alloc(), image, criterion, &answer, request.form)?;
     Ok(text)

@@ -1,6 +1,8 @@
 //! Small pictures, part by part.
 
-use answer_pictures::{Axis, Heading, JourneyLine, Stretch, Way, heading_of, journey_line, picture};
+use answer_pictures::{
+    Axis, Heading, JourneyLine, Stretch, Way, heading_of, journey_line, picture,
+};
 use criteria::{CriterionName, ToldValue};
 use image_layout::sample_words;
 use image_verifier::verify;
@@ -61,13 +63,15 @@ fn small_picture(alloc: Global, from: &str, note: &str) -> Result<String, AllocE
 #[test]
 fn a_journey_is_drawn(rt: HostRuntime) -> Result<(), Fail> {
     let text = small_picture(rt.alloc(), "A", "T1 to B")?;
-    assert!(rt;
-        text.starts_with("<svg xmlns=\"http://www.w3.org/2000/svg\" viewBox=\"0 0 960 ")
-    );
+    assert!(rt; text.starts_with("<svg xmlns=\"http://www.w3.org/2000/svg\" viewBox=\"0 0 960 "));
     assert!(rt; text.contains("<title id=\"title\">A \u{2192} C</title>"));
     assert!(rt; text.contains(" x=\"190\">08:00</text>"));
-    assert!(rt; text.contains(" x=\"190\" width=\"616\"><title>T1 &amp; T2: A 08:00, B 08:10</title>"));
-    assert!(rt; text.contains(" d=\"M806 0h124\"><title>on foot: A 08:10, &lt;B&gt;\u{FFFD} 08:12</title>"));
+    assert!(rt;
+        text.contains(" x=\"190\" width=\"616\"><title>T1 &amp; T2: A 08:00, B 08:10</title>")
+    );
+    assert!(rt;
+        text.contains(" d=\"M806 0h124\"><title>on foot: A 08:10, &lt;B&gt;\u{FFFD} 08:12</title>")
+    );
     assert!(rt; text.contains("on foot all the way, at any time: 1500 s</text>"));
     assert!(rt; text.ends_with("</svg>\n"));
     Ok(())
@@ -172,6 +176,8 @@ fn a_journey_of_an_image(rt: HostRuntime) -> Result<(), Fail> {
     let axis = Axis::of_lines(&lines, query.from, query.until);
     let text = picture(alloc, &heading, axis, None, &lines, 0)?;
     assert!(rt; text.contains("<title>T2: B 08:12, C 08:20</title>"));
-    assert!(rt; text.contains(": departing 08:00 to 09:00, arriving by 10:00; best by arrival,trips</text>"));
+    assert!(rt;
+        text.contains(": departing 08:00 to 09:00, arriving by 10:00; best by arrival,trips</text>")
+    );
     Ok(())
 }
