@@ -1,5 +1,5 @@
 -- The letters of a text that is cut.
-use Rattle.std.proofs.Common.{◌≡◌, ◌≢◌, ℕ, zero, suc, ◌-◌, List, [], ◌∷◌, ◌++◌, refl, codes, arith, absurd}
+use Rattle.std.proofs.Common.{◌≡◌, ◌≢◌, ℕ, zero, suc, ◌-◌, List, [], ◌∷◌, ◌++◌, refl, codes, arith}
 use Rattle.answer_pictures.specs.Words.{cut_letters, escaped_letter}
 
 cut_one : (room c : ℕ) (letters : List ℕ) → room ≢ 0 → cut_letters room (c ∷ letters) ≡ escaped_letter c ++ cut_letters (room - 1) letters

@@ -1,5 +1,5 @@
 -- Pictures of answers as the texts of SVG files.
-use Rattle.std.specs.Prelude.{◌≡◌, ◌+◌, ◌-◌, ◌*◌, ◌/◌, ◌≤◌, ℕ, List, [], ◌∷◌, ◌++◌, ◌==◌, Bool, nat_le, if◌then◌else◌, length}
+use Rattle.std.specs.Prelude.{◌≡◌, ◌+◌, ◌-◌, ◌*◌, ◌/◌, ◌≤◌, ℕ, List, [], ◌∷◌, ◌++◌, ◌==◌, Bool, false, nat_le, if◌then◌else◌, length}
 use Rattle.std.specs.Prelude.{min, max, codes, decimal, Option, Some, None}
 use Rattle.std.specs.List.{flat_map}
 use Rattle.answer_pictures.specs.declared.axis.Axis.{Axis}
@@ -139,7 +139,7 @@ walk_text axis y (Some secs) = walk_row axis y secs
 abbrev pub remark_words : ℕ → ℕ → List ℕ
 remark_words shown left =
     if left == 0 then (if shown == 0 then codes "no journey departs in this window and arrives in time" else [])
-    else codes "the first journeys of the window; not drawn: " ++ decimal left
+    else (codes "the first journeys of the window; not drawn: " ++ decimal left)
 
 unfoldable pub remark_text : ℕ → ℕ → ℕ → List ℕ
 remark_text y shown left =

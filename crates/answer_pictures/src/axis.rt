@@ -95,9 +95,15 @@ fn ends_of(lines: &[JourneyLine]) -> (u32, u32)
     let mut last = 0;
     for line in lines {
         first = first.min(line.departure);
-        last = last.max(line.arrival);
+        last = later_of(last, line.arrival);
     }
     (first, last)
+}
+
+fn later_of(one: u32, other: u32) -> u32
+    ensures { (one ≤ result) × (other ≤ result) }
+{
+    if one < other { other } else { one }
 }
 
 /// How far marks are from one another on an axis of so many seconds.

@@ -323,10 +323,16 @@ fn put_remark_words(out: &mut String, shown: usize, left: usize) -> Result<(), A
     if left == 0 {
         put_none(out, shown)
     } else {
-        put_text(out, "the first journeys of the window; not drawn: ")?;
-        put_number(out, left as u64)?;
-        Ok(())
+        put_left(out, left)
     }
+}
+
+fn put_left(out: &mut String, left: usize) -> Result<(), AllocError>
+    ensures { OnOk result (string_bytes out.new ≡ string_bytes out.old ++ (codes "the first journeys of the window; not drawn: " ++ decimal left)) }
+{
+    put_text(out, "the first journeys of the window; not drawn: ")?;
+    put_number(out, left as u64)?;
+    Ok(())
 }
 
 fn put_none(out: &mut String, shown: usize) -> Result<(), AllocError>

@@ -56,7 +56,13 @@ fn put_days(out: &mut String, time: u32) -> Result<(), AllocError>
 pub(crate) fn shows_seconds(lines: &[JourneyLine]) -> bool
     ensures { result ≡ shows_seconds lines.now }
 {
-    !lines.iter().all(|line| is_line_whole(line))
+    !are_lines_whole(lines)
+}
+
+fn are_lines_whole(lines: &[JourneyLine]) -> bool
+    ensures { result ≡ list_all is_line_whole lines.now }
+{
+    lines.iter().all(|line| is_line_whole(line))
 }
 
 fn is_line_whole(line: &JourneyLine) -> bool

@@ -30,25 +30,8 @@ impl<'a> From<AllocError> for PictureFailure<'a> {
     }
 }
 
-/// Writes the picture of the answer, with its first 200 departures, into the file at the path.
-pub fn draw<'a, H: Files + AllocGlobal, C: Told>(
-    rt: &H,
-    image: &Verified,
-    criterion: &C,
-    name: CriterionName,
-    query: &Query,
-    answer: &Answer<C>,
-    path: &'a str,
-) -> Result<(), PictureFailure<'a>> {
-    let text = picture_text(rt.alloc(), image, criterion, name, query, answer)?;
-    if write_file(rt, path, text.as_str()) {
-        Ok(())
-    } else {
-        Err(PictureFailure::Unwritable(path))
-    }
-}
-
-fn picture_text<C: Told>(
+/// The picture of an answer, with the first 200 of its departures.
+pub fn picture_text<C: Told>(
     alloc: Global,
     image: &Verified,
     criterion: &C,
@@ -105,6 +88,19 @@ fn line_of<C: Told>(
 {
     let told = criterion.tell(&departure.value);
     journey_line(alloc, image, departure.time, told, &departure.journey)
+}
+
+/// Writes a picture into the file at the path.
+pub fn write_picture<'a, H: Files>(
+    rt: &H,
+    text: &str,
+    path: &'a str,
+) -> Result<(), PictureFailure<'a>> {
+    if write_file(rt, path, text) {
+        Ok(())
+    } else {
+        Err(PictureFailure::Unwritable(path))
+    }
 }
 
 // Writes the text into the file at the path: whether that went well.

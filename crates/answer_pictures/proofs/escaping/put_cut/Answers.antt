@@ -1,4 +1,5 @@
-use Rattle.std.proofs.Common.{sym, ◌∙◌, append_assoc, append-nil}
+use Rattle.std.proofs.Common.{◌≡◌, sym, subst, ◌∙◌, append_assoc, append-nil, string_bytes}
+use Rattle.std.specs.Prelude.{OnOk}
 use Rattle.std.proofs.lemmas.Str.{IsUtf8-past_char, chars_past_char}
 use Rattle.std.proofs.StrCases.{chars_of_empty}
 use Rattle.answer_pictures.proofs.Cuts.{cut_end, cut_off, cut_step}
@@ -11,11 +12,11 @@ loop-letter-preserved c =
     let step = cut_step _ _ _ _ c.if-room-eq0.false (chars_past_char _ _ c.in-Some.letter held.0 parts) in
     (IsUtf8-past_char _ _ c.in-Some.letter held.0 parts, rw (c.in_ok-put_letter.ensures, append_assoc) (rw step at held.1))
 
-pub returns-in_ok-push_str : goal.returns-in_ok-push_str
-returns-in_ok-push_str c =
+pub returns-then-room-eq0 : goal.returns-then-room-eq0
+returns-then-room-eq0 c =
     let held = c.loop-letter.invariant in
     let off = cut_off _ _ _ _ c.if-room-eq0.true (chars_past_char _ _ c.in-Some.letter held.0 c.in-Some.ensures.steps.0) in
-    c.in_ok-push_str.ensures ∙ (rw off at held.1)
+    subst (λ text. OnOk c.put_dots.result (string_bytes c.put_dots.new.out ≡ text)) (rw off at held.1) c.put_dots.ensures
 
 pub returns : goal.returns
 returns c =
