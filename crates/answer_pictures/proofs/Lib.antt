@@ -1,4 +1,5 @@
+mod Cuts
 mod Drawn
 mod Joined
-mod Widths
 mod Named
+mod Spans

@@ -1,7 +1,7 @@
 pub mod LineValue
 pub mod Words
 pub mod Style
-pub mod Width
+pub mod Moments
 pub mod Pictures
 pub mod Told
 pub mod Naming

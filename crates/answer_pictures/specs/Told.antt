@@ -1,59 +1,92 @@
 -- What is drawn of a journey over a timetable.
-use Rattle.std.specs.Prelude.{◌+◌, ◌++◌, ◌∷◌, [], ℕ, List, Option, Some, None, min, slice_get}
+use Rattle.std.specs.Prelude.{◌≡◌, ◌+◌, ◌%◌, ◌++◌, ◌∷◌, [], ◌==◌, ℕ, List, Bool, not, if◌then◌else◌, Option, Some, None, min, slice_get, codes}
 use Rattle.std.specs.List.{flat_map}
-use Rattle.timetable.specs.Clocks.{clock_bytes}
 use Rattle.timetable.specs.NamesValue.{NamesValue}
 use Rattle.timetable.specs.TimetableValue.{TimetableValue}
 use Rattle.timetable.specs.JourneyValue.{RideValue, JourneyValue}
 use Rattle.timetable.specs.declared.network.Connection.{Connection}
 use Rattle.timetable.specs.declared.network.Footpath.{Footpath}
+use Rattle.timetable.specs.declared.query.Query.{Query}
+use Rattle.criteria.specs.declared.name.CriterionName.{CriterionName}
+use Rattle.criteria.specs.declared.told.ToldValue.{ToldValue}
+use Rattle.criteria.specs.Names.{name_text}
 use Rattle.answer_pictures.specs.declared.lines.Way.{Way}
-use Rattle.answer_pictures.specs.declared.lines.Way.TheVariants.{Ride, Walk}
-use Rattle.answer_pictures.specs.LineValue.{StretchValue}
-use Rattle.answer_pictures.specs.Naming.{stop_bytes}
+use Rattle.answer_pictures.specs.declared.lines.Way.TheVariants.{Ride, Walk, Change}
+use Rattle.answer_pictures.specs.LineValue.{HeadingValue, StretchValue, LineValue}
+use Rattle.answer_pictures.specs.Moments.{moment_text}
+use Rattle.answer_pictures.specs.Naming.{stop_bytes, trip_bytes}
 
--- how one gets on, from when to when
-pub record Part : Type 0 where
-  pub way : Way
-  pub start : ℕ
-  pub end : ℕ
-
-abbrev pub part : Way → ℕ → ℕ → Part
-part way start end = record { way = way; start = start; end = end }
-
--- a stretch, its words aside
-abbrev pub part_of : StretchValue → Part
-part_of s = part s.way s.start s.end
+-- how one gets on, from when to when, from where to where, and by which trip
+abbrev pub ride_part : NamesValue → Connection → Connection → StretchValue
+ride_part names first last = record {
+  way = Ride;
+  start = first.dep;
+  end = last.arr;
+  trip = trip_bytes names first.trip;
+  from = stop_bytes names first.from;
+  to = stop_bytes names last.to;
+}
 
 -- a time so many seconds later, at most the greatest
 abbrev pub later : ℕ → ℕ → ℕ
 later time secs = min (time + secs) 4294967295
 
+-- a footpath to the stop from which it leads is a change
+abbrev pub way_on_foot : Footpath → Way
+way_on_foot footpath = if footpath.from == footpath.to then Change else Walk
+
+-- a footpath that is walked from a time on
+abbrev pub walk_part : NamesValue → ℕ → Footpath → StretchValue
+walk_part names time footpath = record {
+  way = way_on_foot footpath;
+  start = time;
+  end = later time footpath.secs;
+  trip = [];
+  from = stop_bytes names footpath.from;
+  to = stop_bytes names footpath.to;
+}
+
 -- a walk that begins at a time, footpath by footpath
-abbrev pub walk_parts : ℕ → List Footpath → List Part
-walk_parts time [] = []
-walk_parts time (footpath ∷ walk) = part Walk time (later time footpath.secs) ∷ walk_parts (later time footpath.secs) walk
+abbrev pub walk_parts : NamesValue → ℕ → List Footpath → List StretchValue
+walk_parts names time [] = []
+walk_parts names time (footpath ∷ walk) = walk_part names time footpath ∷ walk_parts names (later time footpath.secs) walk
 
 -- a ride from its first connection's departure to its last one's arrival, and the walk after it
-abbrev pub parts_between : Option Connection → Option Connection → List Footpath → List Part
-parts_between (Some first) (Some last) walk = part Ride first.dep last.arr ∷ walk_parts last.arr walk
-parts_between _ _ walk = []
+abbrev pub parts_between : NamesValue → Option Connection → Option Connection → List Footpath → List StretchValue
+parts_between names (Some first) (Some last) walk = ride_part names first last ∷ walk_parts names last.arr walk
+parts_between names _ _ walk = []
 
-abbrev pub ride_parts : TimetableValue → RideValue → List Part
-ride_parts t ride = parts_between (slice_get t.connections ride.leg.first) (slice_get t.connections ride.leg.last) ride.walk
+abbrev pub ride_parts : TimetableValue → NamesValue → RideValue → List StretchValue
+ride_parts t names ride =
+    parts_between names (slice_get t.connections ride.leg.first) (slice_get t.connections ride.leg.last) ride.walk
 
-abbrev pub start_parts : ℕ → Option Footpath → List Part
-start_parts time None = []
-start_parts time (Some footpath) = part Walk time (later time footpath.secs) ∷ []
+abbrev pub start_parts : NamesValue → ℕ → Option Footpath → List StretchValue
+start_parts names time None = []
+start_parts names time (Some footpath) = walk_part names time footpath ∷ []
 
 -- a journey that departs at a time
-abbrev pub journey_parts : TimetableValue → ℕ → JourneyValue → List Part
-journey_parts t time journey = start_parts time journey.start ++ flat_map (ride_parts t) journey.rides
+abbrev pub journey_parts : TimetableValue → NamesValue → ℕ → JourneyValue → List StretchValue
+journey_parts t names time journey = start_parts names time journey.start ++ flat_map (ride_parts t names) journey.rides
 
--- from which stop to which: their names with an arrow between them
-abbrev pub title_bytes : NamesValue → ℕ → ℕ → List ℕ
-title_bytes names source target = stop_bytes names source ++ (32 ∷ 226 ∷ 134 ∷ 146 ∷ 32 ∷ []) ++ stop_bytes names target
+-- the line of a journey over an image: when it departs and arrives, and all of its parts
+pub record IsLineOf (t : TimetableValue) (names : NamesValue) (time : ℕ) (told : ToldValue) (journey : JourneyValue) (line : LineValue) : Type 0 where
+  pub departs : line.departure ≡ time
+  pub arrives : line.arrival ≡ told.arrival
+  pub parts : line.stretches ≡ journey_parts t names time journey
 
--- when one departs and arrives, with a dash between
-abbrev pub label_bytes : ℕ → ℕ → List ℕ
-label_bytes departure arrival = clock_bytes departure ++ (32 ∷ 226 ∷ 128 ∷ 147 ∷ 32 ∷ []) ++ clock_bytes arrival
+-- a time with its seconds, if it has any
+abbrev pub own_moment : ℕ → List ℕ
+own_moment time = moment_text (not (time % 60 == 0)) time
+
+-- what was asked, behind a date
+abbrev pub asked_text : CriterionName → Query → List ℕ
+asked_text criterion query =
+    (codes ": departing " ++ own_moment query.from) ++ (codes " to " ++ own_moment query.until) ++ (codes ", arriving by " ++ own_moment query.by)
+    ++ (codes "; best by " ++ name_text criterion)
+
+-- what is above a picture: both ends of a query by their names, and what it asks, behind a date
+pub record IsHeadingOf (names : NamesValue) (criterion : CriterionName) (q : Query) (h : HeadingValue) : Type 0 where
+  pub from : h.from ≡ stop_bytes names q.source
+  pub to : h.to ≡ stop_bytes names q.target
+  pub date : List ℕ
+  pub about : h.about ≡ date ++ asked_text criterion q

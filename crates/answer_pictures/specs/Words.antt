@@ -1,5 +1,5 @@
 -- Words as XML tells them.
-use Rattle.std.specs.Prelude.{ℕ, List, Bool, not, ◌==◌, ◌&&◌, nat_le, if◌then◌else◌, codes, chars}
+use Rattle.std.specs.Prelude.{ℕ, zero, suc, List, [], ◌∷◌, ◌++◌, Bool, not, ◌==◌, ◌&&◌, nat_le, if◌then◌else◌, codes, chars}
 use Rattle.std.specs.List.{flat_map}
 use Rattle.std.specs.Char.{encode_utf8}
 
@@ -17,3 +17,13 @@ escaped_letter c =
 
 abbrev pub escaped : List ℕ → List ℕ
 escaped text = flat_map escaped_letter (chars text)
+
+-- so many characters, and three dots in the place of more
+abbrev pub cut_letters : ℕ → List ℕ → List ℕ
+cut_letters zero [] = []
+cut_letters zero (c ∷ letters) = codes "..."
+cut_letters (suc n) [] = []
+cut_letters (suc n) (c ∷ letters) = escaped_letter c ++ cut_letters n letters
+
+abbrev pub escaped_cut : ℕ → List ℕ → List ℕ
+escaped_cut most text = cut_letters most (chars text)

@@ -1,8 +1,9 @@
 //! The axis of time.
 
-ghost use Rattle.std.specs.Prelude.{◌≡◌, ◌≤◌};
-ghost use Rattle.answer_pictures.specs.Pictures.{length_between, place};
+ghost use Rattle.std.specs.Prelude.{◌≡◌, ◌≤◌, All};
+ghost use Rattle.answer_pictures.specs.Pictures.{IsBetween, LiesOn, length_between, place};
 
+use crate::lines::JourneyLine;
 use std::alloc::{AllocError, Global};
 
 // Where the axis begins, and how long it is.
@@ -17,6 +18,9 @@ const MOST_STEPS: u32 = 8;
 const STEPS: [u32; 13] = [
     60, 120, 300, 600, 900, 1800, 3600, 7200, 10800, 21600, 43200, 86400, 172800,
 ];
+
+// The seconds of a day.
+const DAY: u32 = 86400;
 
 /// From when to when the axis of a picture goes, in seconds after the base, and how far its marks are from one another.
 #[derive(Clone, Copy, Debug, PartialEq, Eq)]
@@ -40,6 +44,17 @@ impl Axis {
             last.saturating_add(step - over)
         };
         Axis { start, end, step }
+    }
+
+    /// An axis on which each journey lies from its departure to its arrival; if there is none, one that covers two times.
+    pub fn of_lines(lines: &[JourneyLine], from: u32, until: u32) -> Axis
+        ensures { All (LiesOn result) lines.now }
+    {
+        if lines.is_empty() {
+            return Axis::covering(from, until);
+        }
+        let (first, last) = ends_of(lines);
+        Axis::covering(first, last)
     }
 
     /// Where a time lies, from the left; one before the axis at its start, one behind it at its end.
@@ -72,6 +87,25 @@ impl Axis {
     }
 }
 
+/// The first departure of journeys, and their last arrival.
+fn ends_of(lines: &[JourneyLine]) -> (u32, u32)
+    ensures { All (IsBetween result.0 result.1) lines.now }
+{
+    let mut first = u32::MAX;
+    let mut last = 0;
+    for line in lines {
+        first = first.min(line.departure);
+        last = later_of(last, line.arrival);
+    }
+    (first, last)
+}
+
+fn later_of(one: u32, other: u32) -> u32
+    ensures { (one ≤ result) × (other ≤ result) }
+{
+    if one < other { other } else { one }
+}
+
 /// How far marks are from one another on an axis of so many seconds.
 fn step_for(span: u32) -> u32 {
     for step in STEPS {
@@ -79,5 +113,5 @@ fn step_for(span: u32) -> u32 {
             return step;
         }
     }
-    span / MOST_STEPS + 1
+    (span / MOST_STEPS / DAY + 1) * DAY
 }

@@ -1,213 +1,364 @@
-//! A picture's parts, each added to its text.
+//! A picture: its heading, its axis and its lines.
 
-ghost use Rattle.std.specs.Prelude.{◌≡◌, ◌++◌, ℕ, List, codes, decimal, IfOk, OnOk, string_bytes};
+ghost use Rattle.std.specs.Prelude.{◌≡◌, ◌++◌, ℕ, List, Bool, codes, decimal, IfOk, OnOk, length, string_bytes};
 ghost use Rattle.std.specs.List.{flat_map};
-ghost use Rattle.answer_pictures.specs.Pictures.{AreDrawn, IsPicture, extent_text, grid_text, group_text, heading_text, label_text, line_text, mark_text, note_text, size_text, stretch_text, tick_text, told_text, view_text, way_text};
+ghost use Rattle.answer_pictures.specs.Pictures.{AreDrawn, IsPicture, axis_text, grid_text, heading_text, remark_text, remark_words, scale_text, shown_title, size_text, tick_text, title_text, walk_row, walk_text};
+ghost use Rattle.answer_pictures.specs.Style.{style};
 
 use crate::axis::Axis;
-use crate::lines::{JourneyLine, Stretch, Way};
-use crate::putting::{put_attribute, put_clock, put_element, put_number, put_numbers, put_text};
-use crate::style::style;
-use crate::width::width_for;
+use crate::lines::{Heading, JourneyLine};
+use crate::moments::{put_moment, shows_seconds};
+use crate::parts::{put_group, put_line};
+use crate::putting::{put_attribute, put_element, put_number, put_numbers, put_short, put_text};
+use crate::style::{legend, style};
 use std::alloc::{AllocError, Global};
 
-// Where the first line of a picture is, and how far each is from the next.
-const FIRST_LINE: u64 = 92;
+// Where the first times of the axis are, the first line, and how far each line is from the next.
+const FIRST_SCALE: u64 = 102;
+
+const FIRST_LINE: u64 = 134;
 
 const LINE_HEIGHT: u64 = 48;
 
-/// The picture of journeys along an axis, as the text of an SVG file: the title, the times at the marks of the axis, and a group for
-/// each journey in order. Rides are thick and walks thin, and the picture is wide enough for each note. The only error is want of memory.
+// The times of the axis are repeated behind so many lines, with so much room.
+const LINES_A_SCALE: usize = 30;
+
+const SCALE_HEIGHT: u64 = 32;
+
+/// The picture of journeys along an axis, as the text of an SVG file: the title, the times at the marks of the axis, a line for the direct
+/// walk of so many seconds if there is one, a group for each journey in order, and how many more there are. The only error is that memory
+/// runs out.
 pub fn picture(
     alloc: Global,
-    title: &str,
+    heading: &Heading,
     axis: Axis,
+    walk: Option<u32>,
     lines: &[JourneyLine],
+    left: usize,
 ) -> Result<String, AllocError>
-    ensures { IfOk result (λ text. IsPicture title.now axis lines.now (string_bytes text)) }
+    ensures { IfOk result (λ text. IsPicture heading.now axis walk lines.now left (string_bytes text)) }
 {
-    let bottom = (lines.len() as u64)
-        .saturating_mul(LINE_HEIGHT)
-        .saturating_add(FIRST_LINE);
     let marks = axis.marks(alloc)?;
+    let first = first_line(walk);
+    let heights = scale_heights(alloc, first, lines.len())?;
+    let bottom = height_of(first, lines.len());
+    let exact = shows_seconds(lines);
     let mut out = String::new(alloc);
-    put_size(&mut out, width_for(title, lines), bottom.saturating_add(16))?;
-    put_heading(&mut out, title)?;
-    put_marks(&mut out, axis, bottom, &marks)?;
-    put_lines(&mut out, axis, lines)?;
-    put_text(&mut out, "</svg>\n")?;
+    put_beginning(
+        &mut out,
+        bottom.saturating_add(48),
+        heading,
+        lines.len(),
+        left,
+    )?;
+    put_axis(&mut out, axis, bottom.saturating_sub(16), &marks, &heights)?;
+    put_walk(&mut out, axis, FIRST_LINE, walk)?;
+    put_lines(&mut out, axis, exact, first, lines)?;
+    put_ending(&mut out, bottom.saturating_add(24), lines.len(), left)?;
     Ok(out)
 }
 
-fn put_view(out: &mut String, width: u64, height: u64) -> Result<(), AllocError>
-    ensures { OnOk result (string_bytes out.new ≡ string_bytes out.old ++ view_text width height) }
-{
-    put_numbers(
-        out,
-        "<svg xmlns=\"http://www.w3.org/2000/svg\" viewBox=\"0 0 ",
-        width,
-        " ",
-        height,
-        "\"",
-    )
+/// Where the first journey is: below the direct walk.
+fn first_line(walk: Option<u32>) -> u64 {
+    match walk {
+        None => FIRST_LINE,
+        Some(_) => FIRST_LINE + LINE_HEIGHT,
+    }
 }
 
-fn put_size(out: &mut String, width: u64, height: u64) -> Result<(), AllocError>
-    ensures { OnOk result (string_bytes out.new ≡ string_bytes out.old ++ size_text width height) }
+/// The height of a line: above each thirtieth there is room for the times of the axis.
+fn height_of(first: u64, index: usize) -> u64 {
+    let scales = index / LINES_A_SCALE;
+    (index as u64)
+        .saturating_mul(LINE_HEIGHT)
+        .saturating_add((scales as u64).saturating_mul(SCALE_HEIGHT))
+        .saturating_add(first)
+}
+
+/// Where the times of the axis are: above the first of so many lines, above each thirtieth behind it, and below the last.
+fn scale_heights(alloc: Global, first: u64, lines: usize) -> Result<Vec<u64>, AllocError> {
+    let mut heights = Vec::new(alloc);
+    heights.push(FIRST_SCALE)?;
+    for scale in 1..lines.saturating_add(LINES_A_SCALE - 1) / LINES_A_SCALE {
+        let below = height_of(first, scale.saturating_mul(LINES_A_SCALE));
+        heights.push(below.saturating_sub(SCALE_HEIGHT))?;
+    }
+    heights.push(height_of(first, lines))?;
+    Ok(heights)
+}
+
+fn put_size(out: &mut String, height: u64) -> Result<(), AllocError>
+    ensures { OnOk result (string_bytes out.new ≡ string_bytes out.old ++ size_text height) }
 {
-    put_view(out, width, height)?;
-    put_attribute(out, " width", width)?;
+    put_text(
+        out,
+        "<svg xmlns=\"http://www.w3.org/2000/svg\" viewBox=\"0 0 960 ",
+    )?;
+    put_number(out, height)?;
+    put_text(out, "\" width=\"960\"")?;
     put_attribute(out, " height", height)?;
     Ok(())
 }
 
-fn put_heading(out: &mut String, title: &str) -> Result<(), AllocError>
-    ensures { OnOk result (string_bytes out.new ≡ string_bytes out.old ++ heading_text title.now) }
+/// The whole names and what was asked, for who hears the picture.
+fn put_title(out: &mut String, heading: &Heading) -> Result<(), AllocError>
+    ensures { OnOk result (string_bytes out.new ≡ string_bytes out.old ++ title_text heading.now) }
 {
-    put_element(out, ">\n<title>", title, "</title>\n<style>")?;
+    put_element(
+        out,
+        " role=\"img\" aria-labelledby=\"title about\">\n<title id=\"title\">",
+        &heading.from,
+        " \u{2192} ",
+    )?;
+    put_element(out, "", &heading.to, "</title>\n<desc id=\"about\">")?;
+    put_element(out, "", &heading.about, ". ")?;
+    Ok(())
+}
+
+/// The names, as much of them as there is room for, and what was asked, for who sees it.
+fn put_shown_title(out: &mut String, heading: &Heading) -> Result<(), AllocError>
+    ensures { OnOk result (string_bytes out.new ≡ string_bytes out.old ++ shown_title heading.now) }
+{
+    put_short(
+        out,
+        "<text class=\"title\" x=\"16\" y=\"28\">",
+        &heading.from,
+        38,
+        " \u{2192} ",
+    )?;
+    put_short(
+        out,
+        "",
+        &heading.to,
+        38,
+        "</text>\n<text class=\"note\" x=\"16\" y=\"48\">",
+    )?;
+    put_element(out, "", &heading.about, "</text>\n")?;
+    Ok(())
+}
+
+fn put_style(out: &mut String) -> Result<(), AllocError>
+    ensures { OnOk result
+        (string_bytes out.new
+        ≡ string_bytes out.old
+        ++ (codes "</desc>\n<style>" ++ style ++ codes "</style>\n<rect class=\"paper\" width=\"100%\" height=\"100%\"/>\n")) }
+{
+    put_text(out, "</desc>\n<style>")?;
     put_text(out, style())?;
     put_text(
         out,
         "</style>\n<rect class=\"paper\" width=\"100%\" height=\"100%\"/>\n",
     )?;
-    put_element(
+    Ok(())
+}
+
+fn put_heading(
+    out: &mut String,
+    heading: &Heading,
+    shown: usize,
+    left: usize,
+) -> Result<(), AllocError>
+    ensures { OnOk result (string_bytes out.new ≡ string_bytes out.old ++ heading_text heading.now shown left) }
+{
+    put_title(out, heading)?;
+    put_remark_words(out, shown, left)?;
+    put_style(out)?;
+    put_shown_title(out, heading)?;
+    put_text(out, legend())?;
+    Ok(())
+}
+
+fn put_beginning(
+    out: &mut String,
+    height: u64,
+    heading: &Heading,
+    shown: usize,
+    left: usize,
+) -> Result<(), AllocError>
+    ensures { OnOk result (string_bytes out.new ≡ string_bytes out.old ++ (size_text height ++ heading_text heading.now shown left)) }
+{
+    put_size(out, height)?;
+    put_heading(out, heading, shown, left)?;
+    Ok(())
+}
+
+fn put_grid(out: &mut String, axis: Axis, bottom: u64, time: u32) -> Result<(), AllocError>
+    ensures { OnOk result (string_bytes out.new ≡ string_bytes out.old ++ grid_text axis bottom time) }
+{
+    put_numbers(
         out,
-        "<text class=\"title\" x=\"16\" y=\"28\">",
-        title,
-        "</text>\n",
-    )?;
-    Ok(())
-}
-
-fn put_grid(out: &mut String, x: u64, bottom: u64) -> Result<(), AllocError>
-    ensures { OnOk result (string_bytes out.new ≡ string_bytes out.old ++ grid_text x bottom) }
-{
-    put_numbers(out, "<path class=\"grid\" d=\"M", x, " 64V", bottom, "\"/>")
-}
-
-fn put_tick(out: &mut String, x: u64, time: u32) -> Result<(), AllocError>
-    ensures { OnOk result (string_bytes out.new ≡ string_bytes out.old ++ tick_text x time) }
-{
-    put_text(out, "<text class=\"tick\" y=\"56\"")?;
-    put_attribute(out, " x", x)?;
-    put_clock(out, time)?;
-    Ok(())
-}
-
-fn put_mark(out: &mut String, axis: Axis, bottom: u64, time: u32) -> Result<(), AllocError>
-    ensures { OnOk result (string_bytes out.new ≡ string_bytes out.old ++ mark_text axis bottom time) }
-{
-    put_grid(out, axis.place(time), bottom)?;
-    put_tick(out, axis.place(time), time)
-}
-
-fn put_marks(out: &mut String, axis: Axis, bottom: u64, times: &[u32]) -> Result<(), AllocError>
-    ensures { OnOk result (string_bytes out.new ≡ string_bytes out.old ++ flat_map (mark_text axis bottom) times.now) }
-{
-    for time in times {
-        put_mark(out, axis, bottom, *time)?;
-    }
-    Ok(())
-}
-
-/// How a stretch looks: a ride is thick, a walk thin.
-fn way_text(way: Way) -> &'static str
-    ensures { result.now ≡ way_text way }
-{
-    match way {
-        Way::Ride => "<rect class=\"ride\" y=\"-7\" height=\"14\" rx=\"3\"",
-        Way::Walk => "<rect class=\"walk\" y=\"-2\" height=\"4\" rx=\"2\"",
-    }
-}
-
-/// How a stretch looks, and from where to where it goes on the axis.
-fn put_extent(out: &mut String, axis: Axis, stretch: &Stretch) -> Result<(), AllocError>
-    ensures { OnOk result (string_bytes out.new ≡ string_bytes out.old ++ extent_text axis stretch.now) }
-{
-    put_attribute(out, " x", axis.place(stretch.start))?;
-    put_attribute(out, " width", axis.length(stretch.start, stretch.end))
-}
-
-fn put_way(out: &mut String, stretch: &Stretch) -> Result<(), AllocError>
-    ensures { OnOk result (string_bytes out.new ≡ string_bytes out.old ++ way_text stretch.now.way) }
-{
-    put_text(out, way_text(stretch.way))
-}
-
-fn put_told(out: &mut String, stretch: &Stretch) -> Result<(), AllocError>
-    ensures { OnOk result (string_bytes out.new ≡ string_bytes out.old ++ told_text stretch.now) }
-{
-    put_element(out, "><title>", &stretch.words, "</title></rect>\n")
-}
-
-fn put_stretch(out: &mut String, axis: Axis, stretch: &Stretch) -> Result<(), AllocError>
-    ensures { OnOk result (string_bytes out.new ≡ string_bytes out.old ++ stretch_text axis stretch.now) }
-{
-    put_way(out, stretch)?;
-    put_extent(out, axis, stretch)?;
-    put_told(out, stretch)?;
-    Ok(())
-}
-
-fn put_stretches(out: &mut String, axis: Axis, stretches: &[Stretch]) -> Result<(), AllocError>
-    ensures { OnOk result (string_bytes out.new ≡ string_bytes out.old ++ flat_map (stretch_text axis) stretches.now) }
-{
-    for stretch in stretches {
-        put_stretch(out, axis, stretch)?;
-    }
-    Ok(())
-}
-
-/// Begins the group of a journey, at a height.
-fn put_group(out: &mut String, y: u64) -> Result<(), AllocError>
-    ensures { OnOk result (string_bytes out.new ≡ string_bytes out.old ++ group_text y) }
-{
-    put_text(out, "<g transform=\"translate(0 ")?;
-    put_number(out, y)?;
-    put_text(out, ")\">\n")?;
-    Ok(())
-}
-
-fn put_label(out: &mut String, line: &JourneyLine) -> Result<(), AllocError>
-    ensures { OnOk result (string_bytes out.new ≡ string_bytes out.old ++ label_text line.now) }
-{
-    put_element(out, "<text x=\"16\" y=\"5\">", &line.label, "</text>\n")
-}
-
-fn put_parts(out: &mut String, axis: Axis, line: &JourneyLine) -> Result<(), AllocError>
-    ensures { OnOk result (string_bytes out.new ≡ string_bytes out.old ++ flat_map (stretch_text axis) line.now.stretches) }
-{
-    put_stretches(out, axis, &line.stretches)
-}
-
-fn put_note(out: &mut String, line: &JourneyLine) -> Result<(), AllocError>
-    ensures { OnOk result (string_bytes out.new ≡ string_bytes out.old ++ note_text line.now) }
-{
-    put_element(
-        out,
-        "<text class=\"note\" x=\"190\" y=\"23\">",
-        &line.note,
-        "</text>\n</g>\n",
+        "<path class=\"grid\" d=\"M",
+        axis.place(time),
+        " 110V",
+        bottom,
+        "\"/>\n",
     )
 }
 
-fn put_line(out: &mut String, axis: Axis, y: u64, line: &JourneyLine) -> Result<(), AllocError>
-    ensures { OnOk result (string_bytes out.new ≡ string_bytes out.old ++ line_text axis y line.now) }
+fn put_grids(out: &mut String, axis: Axis, bottom: u64, marks: &[u32]) -> Result<(), AllocError>
+    ensures { OnOk result (string_bytes out.new ≡ string_bytes out.old ++ flat_map (grid_text axis bottom) marks.now) }
 {
-    put_group(out, y)?;
-    put_label(out, line)?;
-    put_parts(out, axis, line)?;
-    put_note(out, line)?;
+    for time in marks {
+        put_grid(out, axis, bottom, *time)?;
+    }
     Ok(())
 }
 
-fn put_lines(out: &mut String, axis: Axis, lines: &[JourneyLine]) -> Result<(), AllocError>
-    ensures { OnOk result ((drawn : List ℕ) × AreDrawn axis lines.now drawn × (string_bytes out.new ≡ string_bytes out.old ++ drawn)) }
+fn put_tick(out: &mut String, axis: Axis, time: u32) -> Result<(), AllocError>
+    ensures { OnOk result (string_bytes out.new ≡ string_bytes out.old ++ tick_text axis time) }
 {
-    let mut y = FIRST_LINE;
-    for line in lines {
-        put_line(out, axis, y, line)?;
-        y = y.saturating_add(LINE_HEIGHT);
+    put_text(out, "<text class=\"tick\"")?;
+    put_attribute(out, " x", axis.place(time))?;
+    put_text(out, ">")?;
+    put_moment(out, false, time)?;
+    put_text(out, "</text>\n")?;
+    Ok(())
+}
+
+fn put_ticks(out: &mut String, axis: Axis, marks: &[u32]) -> Result<(), AllocError>
+    ensures { OnOk result (string_bytes out.new ≡ string_bytes out.old ++ flat_map (tick_text axis) marks.now) }
+{
+    for time in marks {
+        put_tick(out, axis, *time)?;
     }
     Ok(())
+}
+
+/// The times of all marks, at a height.
+fn put_scale(out: &mut String, axis: Axis, marks: &[u32], y: u64) -> Result<(), AllocError>
+    ensures { OnOk result (string_bytes out.new ≡ string_bytes out.old ++ scale_text axis marks.now y) }
+{
+    put_group(out, y)?;
+    put_ticks(out, axis, marks)?;
+    put_text(out, "</g>\n")?;
+    Ok(())
+}
+
+fn put_scales(
+    out: &mut String,
+    axis: Axis,
+    marks: &[u32],
+    heights: &[u64],
+) -> Result<(), AllocError>
+    ensures { OnOk result (string_bytes out.new ≡ string_bytes out.old ++ flat_map (scale_text axis marks.now) heights.now) }
+{
+    for y in heights {
+        put_scale(out, axis, marks, *y)?;
+    }
+    Ok(())
+}
+
+fn put_axis(
+    out: &mut String,
+    axis: Axis,
+    bottom: u64,
+    marks: &[u32],
+    heights: &[u64],
+) -> Result<(), AllocError>
+    ensures { OnOk result (string_bytes out.new ≡ string_bytes out.old ++ axis_text axis bottom marks.now heights.now) }
+{
+    put_grids(out, axis, bottom, marks)?;
+    put_scales(out, axis, marks, heights)?;
+    Ok(())
+}
+
+fn put_seconds_on_foot(out: &mut String, secs: u32) -> Result<(), AllocError>
+    ensures { OnOk result (string_bytes out.new ≡ string_bytes out.old ++ (decimal secs ++ codes " s</text>\n</g>\n")) }
+{
+    put_number(out, secs as u64)?;
+    put_text(out, " s</text>\n</g>\n")
+}
+
+fn put_walk_row(out: &mut String, axis: Axis, y: u64, secs: u32) -> Result<(), AllocError>
+    ensures { OnOk result (string_bytes out.new ≡ string_bytes out.old ++ walk_row axis y secs) }
+{
+    put_group(out, y)?;
+    put_text(
+        out,
+        "<text class=\"time\" x=\"16\" y=\"5\">direct walk</text>\n<path class=\"walk\" d=\"M190 0h",
+    )?;
+    put_number(
+        out,
+        axis.length(axis.start, axis.start.saturating_add(secs)),
+    )?;
+    put_text(
+        out,
+        "\"/>\n<text class=\"note\" x=\"190\" y=\"22\">on foot all the way, at any time: ",
+    )?;
+    put_seconds_on_foot(out, secs)?;
+    Ok(())
+}
+
+fn put_walk(out: &mut String, axis: Axis, y: u64, walk: Option<u32>) -> Result<(), AllocError>
+    ensures { OnOk result (string_bytes out.new ≡ string_bytes out.old ++ walk_text axis y walk) }
+{
+    match walk {
+        None => put_text(out, ""),
+        Some(secs) => put_walk_row(out, axis, y, secs),
+    }
+}
+
+/// Adds the journeys one below the other, from a height on.
+fn put_lines(
+    out: &mut String,
+    axis: Axis,
+    exact: bool,
+    first: u64,
+    lines: &[JourneyLine],
+) -> Result<(), AllocError>
+    ensures { OnOk result ((drawn : List ℕ) × AreDrawn axis exact lines.now drawn × (string_bytes out.new ≡ string_bytes out.old ++ drawn)) }
+{
+    let mut index = 0;
+    for line in lines {
+        put_line(out, axis, exact, height_of(first, index), line)?;
+        index = index.saturating_add(1);
+    }
+    Ok(())
+}
+
+/// Adds that there is no journey, or how many aren't drawn.
+fn put_remark_words(out: &mut String, shown: usize, left: usize) -> Result<(), AllocError>
+    ensures { OnOk result (string_bytes out.new ≡ string_bytes out.old ++ remark_words shown left) }
+{
+    if left == 0 {
+        put_none(out, shown)
+    } else {
+        put_left(out, left)
+    }
+}
+
+fn put_left(out: &mut String, left: usize) -> Result<(), AllocError>
+    ensures { OnOk result (string_bytes out.new ≡ string_bytes out.old ++ (codes "the first journeys of the window; not drawn: " ++ decimal left)) }
+{
+    put_text(out, "the first journeys of the window; not drawn: ")?;
+    put_number(out, left as u64)?;
+    Ok(())
+}
+
+fn put_none(out: &mut String, shown: usize) -> Result<(), AllocError>
+    ensures { OnOk result (string_bytes out.new ≡ string_bytes out.old ++ remark_words shown 0) }
+{
+    if shown == 0 {
+        put_text(out, "no journey departs in this window and arrives in time")
+    } else {
+        put_text(out, "")
+    }
+}
+
+fn put_remark(out: &mut String, y: u64, shown: usize, left: usize) -> Result<(), AllocError>
+    ensures { OnOk result (string_bytes out.new ≡ string_bytes out.old ++ remark_text y shown left) }
+{
+    put_text(out, "<text class=\"remark\" x=\"190\"")?;
+    put_attribute(out, " y", y)?;
+    put_text(out, ">")?;
+    put_remark_words(out, shown, left)?;
+    put_text(out, "</text>\n")?;
+    Ok(())
+}
+
+fn put_ending(out: &mut String, y: u64, shown: usize, left: usize) -> Result<(), AllocError>
+    ensures { OnOk result (string_bytes out.new ≡ string_bytes out.old ++ (remark_text y shown left ++ codes "</svg>\n")) }
+{
+    put_remark(out, y, shown, left)?;
+    put_text(out, "</svg>\n")
 }

@@ -1,7 +1,7 @@
 //! Words as XML tells them.
 
-ghost use Rattle.std.specs.Prelude.{◌≡◌, ◌++◌, OnOk, string_bytes};
-ghost use Rattle.answer_pictures.specs.Words.{escaped, escaped_letter, is_xml};
+ghost use Rattle.std.specs.Prelude.{◌≡◌, ◌++◌, codes, OnOk, string_bytes};
+ghost use Rattle.answer_pictures.specs.Words.{escaped, escaped_cut, escaped_letter, is_xml};
 
 use std::alloc::AllocError;
 
@@ -35,6 +35,27 @@ pub(crate) fn put_words(out: &mut String, words: &str) -> Result<(), AllocError>
 {
     for letter in words.chars() {
         put_letter(out, letter)?;
+    }
+    Ok(())
+}
+
+fn put_dots(out: &mut String) -> Result<(), AllocError>
+    ensures { OnOk result (string_bytes out.new ≡ string_bytes out.old ++ codes "...") }
+{
+    out.push_str("...")
+}
+
+/// Adds so many characters of words, and three dots where there are more.
+pub(crate) fn put_cut(out: &mut String, words: &str, most: usize) -> Result<(), AllocError>
+    ensures { OnOk result (string_bytes out.new ≡ string_bytes out.old ++ escaped_cut most words.now) }
+{
+    let mut room = most;
+    for letter in words.chars() {
+        if room == 0 {
+            return put_dots(out);
+        }
+        put_letter(out, letter)?;
+        room -= 1;
     }
     Ok(())
 }

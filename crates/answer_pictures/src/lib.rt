@@ -4,15 +4,18 @@
 mod axis;
 mod drawing;
 mod escaping;
+mod heading;
 mod lines;
+mod moments;
 mod naming;
+mod parts;
 mod putting;
 mod style;
 mod telling;
-mod width;
 
 pub use axis::Axis;
 pub use drawing::picture;
-pub use lines::{JourneyLine, Stretch, Way};
+pub use heading::heading_of;
+pub use lines::{Heading, JourneyLine, Stretch, Way};
 pub use naming::{connection_at, stop_name, trip_name};
-pub use telling::{journey_line, journeys_title};
+pub use telling::journey_line;

@@ -6,24 +6,38 @@ use std::marker::Model;
 #[derive(Clone, Copy, Debug, PartialEq, Eq)]
 pub enum Way {
     Ride,
+    /// On foot to another stop.
     Walk,
+    /// The change time at a stop.
+    Change,
 }
 
-/// A part of a journey: how one gets on, from when to when in seconds after the base, and what is told of it where one points at it.
+/// A part of a journey: how one gets on, from when to when in seconds after the base, from where to where, and for a ride by which trip.
 #[derive(Drop)]
 pub struct Stretch {
     pub way: Way,
     pub start: u32,
     pub end: u32,
-    pub words: String,
+    pub trip: String,
+    pub from: String,
+    pub to: String,
 }
 
-/// A journey as it is drawn: what stands before it, its parts in order, and what stands below them.
+/// A journey as it is drawn: when it departs and arrives, its parts in order, and what is written below them.
 #[derive(Drop)]
 pub struct JourneyLine {
-    pub label: String,
+    pub departure: u32,
+    pub arrival: u32,
     pub stretches: Vec<Stretch>,
     pub note: String,
+}
+
+/// What is above the journeys: from where to where they are, and what was asked.
+#[derive(Drop)]
+pub struct Heading {
+    pub from: String,
+    pub to: String,
+    pub about: String,
 }
 
 impl Model for Stretch {
@@ -32,7 +46,14 @@ impl Model for Stretch {
 
     ghost Value = { StretchValue };
 
-    ghost view = { λ s. record { way = s.way; start = s.start; end = s.end; words = string_bytes s.words } };
+    ghost view = { λ s. record {
+      way = s.way;
+      start = s.start;
+      end = s.end;
+      trip = string_bytes s.trip;
+      from = string_bytes s.from;
+      to = string_bytes s.to;
+    } };
 }
 
 impl Model for JourneyLine {
@@ -41,5 +62,14 @@ impl Model for JourneyLine {
 
     ghost Value = { LineValue };
 
-    ghost view = { λ l. record { label = string_bytes l.label; stretches = l.stretches.items; note = string_bytes l.note } };
+    ghost view = { λ l. record { departure = l.departure; arrival = l.arrival; stretches = l.stretches.items; note = string_bytes l.note } };
+}
+
+impl Model for Heading {
+    ghost use Rattle.std.specs.Prelude.{string_bytes};
+    ghost use Rattle.answer_pictures.specs.LineValue.{HeadingValue};
+
+    ghost Value = { HeadingValue };
+
+    ghost view = { λ h. record { from = string_bytes h.from; to = string_bytes h.to; about = string_bytes h.about } };
 }

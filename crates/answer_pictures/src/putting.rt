@@ -1,14 +1,12 @@
 //! Numbers, times and words added to an SVG text.
 
-ghost use Rattle.std.specs.Prelude.{◌≡◌, ◌++◌, codes, decimal, OnOk, string_bytes};
-ghost use Rattle.timetable.specs.Clocks.{clock_bytes};
+ghost use Rattle.std.specs.Prelude.{◌≡◌, ◌++◌, decimal, OnOk, string_bytes};
 ghost use Rattle.answer_pictures.specs.Pictures.{attribute_text};
-ghost use Rattle.answer_pictures.specs.Words.{escaped};
+ghost use Rattle.answer_pictures.specs.Words.{escaped, escaped_cut};
 
-use crate::escaping::put_words;
+use crate::escaping::{put_cut, put_words};
 use std::alloc::AllocError;
 use std::fmt::Write as _;
-use timetable::Clock;
 
 /// Adds a text as it is.
 pub(crate) fn put_text(out: &mut String, text: &str) -> Result<(), AllocError>
@@ -53,16 +51,6 @@ pub(crate) fn put_attribute(out: &mut String, name: &str, number: u64) -> Result
     put_text(out, "\"")
 }
 
-/// Adds a time as the content of an element, and the end of that.
-pub(crate) fn put_clock(out: &mut String, time: u32) -> Result<(), AllocError>
-    ensures { OnOk result (string_bytes out.new ≡ string_bytes out.old ++ (codes ">" ++ clock_bytes time ++ codes "</text>\n")) }
-{
-    let clock = Clock(time);
-    put_text(out, ">")?;
-    write!(out, "{clock}")?;
-    put_text(out, "</text>\n")
-}
-
 /// Adds words between an element's beginning and its end.
 pub(crate) fn put_element(
     out: &mut String,
@@ -74,5 +62,20 @@ pub(crate) fn put_element(
 {
     put_text(out, opening)?;
     put_words(out, words)?;
+    put_text(out, closing)
+}
+
+/// Adds so much of a text as there is room for between an element's beginning and its end.
+pub(crate) fn put_short(
+    out: &mut String,
+    opening: &str,
+    words: &str,
+    most: usize,
+    closing: &str,
+) -> Result<(), AllocError>
+    ensures { OnOk result (string_bytes out.new ≡ string_bytes out.old ++ (opening.now ++ escaped_cut most words.now ++ closing.now)) }
+{
+    put_text(out, opening)?;
+    put_cut(out, words, most)?;
     put_text(out, closing)
 }

@@ -1,37 +1,18 @@
 //! Journeys over an image as lines of a picture.
 
-ghost use Rattle.std.specs.Prelude.{◌≡◌, ◌++◌, ◌∷◌, [], map, string_bytes, IfOk, OnOk};
-ghost use Rattle.std.specs.List.{flat_map};
-ghost use Rattle.answer_pictures.specs.declared.lines.Way.TheVariants.{Walk};
-ghost use Rattle.answer_pictures.specs.Told.{journey_parts, label_bytes, later, part, part_of, ride_parts, title_bytes, walk_parts};
+ghost use Rattle.std.specs.Prelude.{◌≡◌, ◌++◌, ◌∷◌, [], map, IfOk, OnOk};
+ghost use Rattle.answer_pictures.specs.Told.{IsLineOf, journey_parts, later, ride_part, ride_parts, walk_part, walk_parts, way_on_foot};
 
 use crate::lines::{JourneyLine, Stretch, Way};
 use crate::naming::{connection_at, stop_name, trip_name};
-use crate::putting::put_text;
 use criteria::ToldValue;
 use image_verifier::Verified;
 use std::alloc::{AllocError, Global};
 use std::fmt::Write as _;
-use timetable::{Clock, Connection, Footpath, Journey, Ride, clock_text};
+use timetable::{Connection, Footpath, Journey, Ride};
 
-/// The title of a picture: from which stop to which.
-pub fn journeys_title(
-    alloc: Global,
-    image: &Verified,
-    source: u32,
-    target: u32,
-) -> Result<String, AllocError>
-    ensures { IfOk result (λ title. string_bytes title ≡ title_bytes image.now.names source target) }
-{
-    let mut title = stop_name(alloc, image, source)?;
-    let to = stop_name(alloc, image, target)?;
-    put_text(&mut title, " \u{2192} ")?;
-    put_text(&mut title, &to)?;
-    Ok(title)
-}
-
-/// A journey over an image that departs at a time, as a line of a picture: its times before it, its rides and walks, and below them its
-/// trips and where each is left.
+/// A journey over an image that departs at a time, as a line of a picture: when it departs and arrives, its rides and walks, and below them
+/// its trips and where each is left.
 pub fn journey_line(
     alloc: Global,
     image: &Verified,
@@ -39,28 +20,16 @@ pub fn journey_line(
     told: ToldValue,
     journey: &Journey,
 ) -> Result<JourneyLine, AllocError>
-    ensures label { IfOk result (λ line. line.label ≡ label_bytes departure told.arrival) }
-    ensures stretches { IfOk result (λ line. map part_of line.stretches ≡ journey_parts image.now.timetable departure journey.now) }
+    ensures { IfOk result (IsLineOf image.now.timetable image.now.names departure told journey.now) }
 {
-    let label = label_of(alloc, departure, told)?;
     let note = note_of(alloc, image, told, journey)?;
     let stretches = stretches_of(alloc, image, departure, journey)?;
     Ok(JourneyLine {
-        label,
+        departure,
+        arrival: told.arrival,
         stretches,
         note,
     })
-}
-
-/// When one departs and arrives.
-fn label_of(alloc: Global, departure: u32, told: ToldValue) -> Result<String, AllocError>
-    ensures { IfOk result (λ label. string_bytes label ≡ label_bytes departure told.arrival) }
-{
-    let mut label = clock_text(alloc, departure)?;
-    let arrival = clock_text(alloc, told.arrival)?;
-    put_text(&mut label, " \u{2013} ")?;
-    put_text(&mut label, &arrival)?;
-    Ok(label)
 }
 
 /// What one does: how many trips and how much on foot where that counts, each trip with where it is left, and each walk to another stop.
@@ -71,17 +40,25 @@ fn note_of(
     journey: &Journey,
 ) -> Result<String, AllocError> {
     let mut note = String::new(alloc);
-    if let Some(trips) = told.trips {
-        write!(note, "trips {trips}: ")?;
-    }
-    if let Some(walked) = told.walked {
-        write!(note, "{walked} s on foot: ")?;
-    }
+    append_counts(&mut note, told)?;
     let mut comma = append_start(&mut note, alloc, image, journey.start)?;
     for ride in &journey.rides {
         comma = append_ride(&mut note, alloc, image, comma, ride)?;
     }
     Ok(note)
+}
+
+/// Adds how many trips there are, and how many seconds on foot, each where it counts.
+fn append_counts(note: &mut String, told: ToldValue) -> Result<(), AllocError> {
+    match told.trips {
+        None => {}
+        Some(1) => note.push_str("1 trip: ")?,
+        Some(trips) => write!(note, "{trips} trips: ")?,
+    }
+    if let Some(walked) = told.walked {
+        write!(note, "{walked} s on foot: ")?;
+    }
+    Ok(())
 }
 
 /// Adds the walk to the first trip, if there is one, and gives what comes before the next part.
@@ -141,7 +118,7 @@ fn stretches_of(
     departure: u32,
     journey: &Journey,
 ) -> Result<Vec<Stretch>, AllocError>
-    ensures { IfOk result (λ stretches. map part_of stretches.items ≡ journey_parts image.now.timetable departure journey.now) }
+    ensures { IfOk result (λ stretches. stretches.items ≡ journey_parts image.now.timetable image.now.names departure journey.now) }
 {
     let mut stretches = Vec::new(alloc);
     if let Some(footpath) = journey.start {
@@ -160,7 +137,7 @@ fn add_ride(
     image: &Verified,
     ride: &Ride,
 ) -> Result<(), AllocError>
-    ensures { OnOk result (map part_of stretches.new.items ≡ map part_of stretches.old.items ++ ride_parts image.now.timetable ride.now) }
+    ensures { OnOk result (stretches.new.items ≡ stretches.old.items ++ ride_parts image.now.timetable image.now.names ride.now) }
 {
     let (Some(first), Some(last)) = (
         connection_at(image, ride.leg.first),
@@ -168,14 +145,30 @@ fn add_ride(
     ) else {
         return Ok(());
     };
-    let words = ride_words(alloc, image, first, last)?;
-    stretches.push(Stretch {
+    let ridden = ride_stretch(alloc, image, first, last)?;
+    stretches.push(ridden)?;
+    add_walks(stretches, alloc, image, last.arr, &ride.walk)
+}
+
+fn ride_stretch(
+    alloc: Global,
+    image: &Verified,
+    first: Connection,
+    last: Connection,
+) -> Result<Stretch, AllocError>
+    ensures { IfOk result (λ s. s ≡ ride_part image.now.names first last) }
+{
+    let trip = trip_name(alloc, image, first.trip)?;
+    let from = stop_name(alloc, image, first.from)?;
+    let to = stop_name(alloc, image, last.to)?;
+    Ok(Stretch {
         way: Way::Ride,
         start: first.dep,
         end: last.arr,
-        words,
-    })?;
-    add_walks(stretches, alloc, image, last.arr, &ride.walk)
+        trip,
+        from,
+        to,
+    })
 }
 
 /// Adds a walk that begins at a time, footpath by footpath.
@@ -186,7 +179,7 @@ fn add_walks(
     start: u32,
     walk: &[Footpath],
 ) -> Result<(), AllocError>
-    ensures { OnOk result (map part_of stretches.new.items ≡ map part_of stretches.old.items ++ walk_parts start walk.now) }
+    ensures { OnOk result (stretches.new.items ≡ stretches.old.items ++ walk_parts image.now.names start walk.now) }
 {
     let mut time = start;
     for footpath in walk {
@@ -195,7 +188,7 @@ fn add_walks(
     Ok(())
 }
 
-/// Adds a footpath that is walked from a time on, and gives the time when it is over.
+/// Adds a footpath that is walked from a time on, and returns the time when it is over.
 fn add_walk(
     stretches: &mut Vec<Stretch>,
     alloc: Global,
@@ -203,46 +196,41 @@ fn add_walk(
     time: u32,
     footpath: Footpath,
 ) -> Result<u32, AllocError>
-    ensures stretches { OnOk result (map part_of stretches.new.items ≡ map part_of stretches.old.items ++ part Walk time (later time footpath.secs) ∷ []) }
+    ensures stretches { OnOk result (stretches.new.items ≡ stretches.old.items ++ walk_part image.now.names time footpath ∷ []) }
     ensures end { IfOk result (λ end. end ≡ later time footpath.secs) }
 {
-    let end = time.saturating_add(footpath.secs);
-    let words = walk_words(alloc, image, time, end, footpath)?;
-    stretches.push(Stretch {
-        way: Way::Walk,
-        start: time,
-        end,
-        words,
-    })?;
-    Ok(end)
+    let walked = walk_stretch(alloc, image, time, footpath)?;
+    stretches.push(walked)?;
+    Ok(time.saturating_add(footpath.secs))
 }
 
-fn ride_words(
+fn walk_stretch(
     alloc: Global,
     image: &Verified,
-    first: Connection,
-    last: Connection,
-) -> Result<String, AllocError> {
-    let trip = trip_name(alloc, image, first.trip)?;
-    let (from, to) = (
-        stop_name(alloc, image, first.from)?,
-        stop_name(alloc, image, last.to)?,
-    );
-    let (dep, arr) = (Clock(first.dep), Clock(last.arr));
-    format!(in alloc; "{trip}: {from} {dep}, {to} {arr}")
-}
-
-fn walk_words(
-    alloc: Global,
-    image: &Verified,
-    start: u32,
-    end: u32,
+    time: u32,
     footpath: Footpath,
-) -> Result<String, AllocError> {
-    let (from, to) = (
-        stop_name(alloc, image, footpath.from)?,
-        stop_name(alloc, image, footpath.to)?,
-    );
-    let (start, end) = (Clock(start), Clock(end));
-    format!(in alloc; "on foot: {from} {start}, {to} {end}")
+) -> Result<Stretch, AllocError>
+    ensures { IfOk result (λ s. s ≡ walk_part image.now.names time footpath) }
+{
+    let from = stop_name(alloc, image, footpath.from)?;
+    let to = stop_name(alloc, image, footpath.to)?;
+    Ok(Stretch {
+        way: way_on_foot(footpath),
+        start: time,
+        end: time.saturating_add(footpath.secs),
+        trip: String::new(alloc),
+        from,
+        to,
+    })
+}
+
+/// A footpath to the stop from which it leads is a change.
+fn way_on_foot(footpath: Footpath) -> Way
+    ensures { result ≡ way_on_foot footpath }
+{
+    if footpath.from == footpath.to {
+        Way::Change
+    } else {
+        Way::Walk
+    }
 }

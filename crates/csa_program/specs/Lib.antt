@@ -3,4 +3,5 @@ pub mod Asking
 pub mod Judging
 pub mod Listing
 pub mod Opening
+pub mod Picturing
 pub mod Serving

@@ -1,14 +1,21 @@
 //! The picture of an answer, as an SVG file.
 
-use answer_pictures::{Axis, journey_line, journeys_title, picture};
-use criteria::Told;
+ghost use Rattle.std.specs.Prelude.{◌≡◌, IfOk, take, string_bytes};
+ghost use Rattle.std.specs.List.{AllZip};
+ghost use Rattle.csa_program.specs.Picturing.{IsDrawnAs, IsPictureOf};
+
+use answer_pictures::{Axis, JourneyLine, heading_of, journey_line, picture};
+use criteria::{CriterionName, Told};
 use image_verifier::Verified;
-use journeys::Departure;
+use journeys::{Answer, Departure};
 use std::alloc::{AllocError, Global};
 use std::fs::File;
 use std::io::Write;
 use std::rt::Files;
 use timetable::Query;
+
+// So many journeys are drawn at most: what draws SVG has its own limit of height.
+const MOST_LINES: usize = 200;
 
 /// Why there is no picture.
 pub enum PictureFailure<'a> {
@@ -23,53 +30,76 @@ impl<'a> From<AllocError> for PictureFailure<'a> {
     }
 }
 
-/// Writes the picture of the departures into the file at the path.
-pub fn draw<'a, H: Files + AllocGlobal, C: Told>(
-    rt: &H,
-    image: &Verified,
-    criterion: &C,
-    query: &Query,
-    departures: &[Departure<C::V>],
-    path: &'a str,
-) -> Result<(), PictureFailure<'a>> {
-    let text = picture_text(rt.alloc(), image, criterion, query, departures)?;
-    if write_file(rt, path, text.as_str()) {
-        Ok(())
-    } else {
-        Err(PictureFailure::Unwritable(path))
-    }
-}
-
-fn picture_text<C: Told>(
+/// The picture of an answer, with the first 200 of its departures.
+pub fn picture_text<C: Told>(
     alloc: Global,
     image: &Verified,
     criterion: &C,
+    name: CriterionName,
     query: &Query,
-    departures: &[Departure<C::V>],
-) -> Result<String, AllocError> {
-    let title = journeys_title(alloc, image, query.source, query.target)?;
-    let mut lines = Vec::with_capacity(alloc, departures.len())?;
-    for departure in departures {
-        let told = criterion.tell(&departure.value);
-        let line = journey_line(alloc, image, departure.time, told, &departure.journey)?;
-        lines.push(line)?;
-    }
-    let axis = axis_of(criterion, query, departures);
-    picture(alloc, title.as_str(), axis, &lines)
+    answer: &Answer<C>,
+) -> Result<String, AllocError>
+    ensures { IfOk result (λ text. IsPictureOf C.told image.now name query.now answer.now.departures.items answer.now.walk (string_bytes text)) }
+{
+    let heading = heading_of(alloc, image, query, name)?;
+    let drawn = first_of(&answer.departures);
+    let lines = lines_of(alloc, image, criterion, drawn)?;
+    let axis = Axis::of_lines(&lines, query.from, query.until);
+    let left = answer.departures.len().saturating_sub(MOST_LINES);
+    let text = picture(alloc, &heading, axis, answer.walk, &lines, left)?;
+    Ok(text)
 }
 
-/// The times from the first departure to the last arrival; those of the query where there is none.
-fn axis_of<C: Told>(criterion: &C, query: &Query, departures: &[Departure<C::V>]) -> Axis {
-    let mut first = u32::MAX;
-    let mut last = 0;
-    for departure in departures {
-        first = first.min(departure.time);
-        last = last.max(criterion.tell(&departure.value).arrival);
-    }
-    if first > last {
-        Axis::covering(query.from, query.until)
+/// As many departures as are drawn.
+fn first_of<V>(departures: &[Departure<V>]) -> &[Departure<V>]
+    ensures { result.now ≡ take 200 departures.now }
+{
+    if departures.len() <= MOST_LINES {
+        departures
     } else {
-        Axis::covering(first, last)
+        &departures[..MOST_LINES]
+    }
+}
+
+/// A line for each departure.
+fn lines_of<C: Told>(
+    alloc: Global,
+    image: &Verified,
+    criterion: &C,
+    departures: &[Departure<C::V>],
+) -> Result<Vec<JourneyLine>, AllocError>
+    ensures { IfOk result (λ lines. AllZip (IsDrawnAs C.told image.now) departures.now lines.items) }
+{
+    let mut lines = Vec::with_capacity(alloc, departures.len())?;
+    for departure in departures {
+        let line = line_of(alloc, image, criterion, departure)?;
+        lines.push(line)?;
+    }
+    Ok(lines)
+}
+
+fn line_of<C: Told>(
+    alloc: Global,
+    image: &Verified,
+    criterion: &C,
+    departure: &Departure<C::V>,
+) -> Result<JourneyLine, AllocError>
+    ensures { IfOk result (IsDrawnAs C.told image.now departure.now) }
+{
+    let told = criterion.tell(&departure.value);
+    journey_line(alloc, image, departure.time, told, &departure.journey)
+}
+
+/// Writes a picture into the file at the path.
+pub fn write_picture<'a, H: Files>(
+    rt: &H,
+    text: &str,
+    path: &'a str,
+) -> Result<(), PictureFailure<'a>> {
+    if write_file(rt, path, text) {
+        Ok(())
+    } else {
+        Err(PictureFailure::Unwritable(path))
     }
 }
 

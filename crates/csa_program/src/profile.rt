@@ -7,7 +7,7 @@ ghost use Rattle.csa_program.specs.Answering.{IsNoRequest, IsPrinted, IsProfile,
 ghost use Rattle.csa_program.specs.Listing.{form_text};
 
 use crate::listing::{named_lines, numbered_lines};
-use crate::pictured::{PictureFailure, draw};
+use crate::pictured::{PictureFailure, picture_text, write_picture};
 use crate::question::query_asked;
 use crate::refusal::Refusal;
 use crate::replying::reply_line;
@@ -107,7 +107,9 @@ fn answer_text<'a, H: Files + AllocGlobal, C: Told>(
     let mut source = InPlace::new(image);
     let answer = answer_query(rt.alloc(), &mut source, criterion, query)?;
     if let Some(path) = request.picture {
-        draw(rt, image, criterion, query, &answer.departures, path)?;
+        let name = request.criterion;
+        let drawn = picture_text(rt.alloc(), image, criterion, name, query, &answer)?;
+        write_picture(rt, drawn.as_str(), path)?;
     }
     let text = text_in_form(rt.alloc(), image, criterion, &answer, request.form)?;
     Ok(text)

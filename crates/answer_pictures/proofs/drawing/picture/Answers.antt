@@ -5,9 +5,9 @@ use Rattle.answer_pictures.proofs.drawing.picture.Goals as goal
 -- each part was added behind those before it
 pub returns : goal.returns
 returns c =
-    is_picture c.args.title.now c.args.axis c.args.lines.now
-    (string_bytes c.new-out.result) (string_bytes c.put_size.new.out) (string_bytes c.put_heading.new.out) (string_bytes c.put_marks.new.out)
-    (string_bytes c.put_lines.new.out) (string_bytes c.put_text.new.out)
-    _ _ _ _ c.width_for.ensures
-    c.new-out.ensures.bytes c.in_ok-put_size.ensures c.in_ok-put_heading.ensures c.in_ok-put_marks.ensures c.in_ok-put_lines.ensures
-    c.in_ok-put_text.ensures
+    is_picture c.args.heading.now c.args.axis c.args.walk c.args.lines.now c.args.left c.shows_seconds-exact.result
+    (string_bytes c.new-out.result) (string_bytes c.put_beginning.new.out) (string_bytes c.put_axis.new.out) (string_bytes c.put_walk.new.out)
+    (string_bytes c.put_lines.new.out) (string_bytes c.put_ending.new.out)
+    _ _ _ _ _ _ c.shows_seconds-exact.ensures
+    c.new-out.ensures.bytes c.in_ok-put_beginning.ensures c.in_ok-put_axis.ensures c.in_ok-put_walk.ensures c.in_ok-put_lines.ensures
+    c.in_ok-put_ending.ensures

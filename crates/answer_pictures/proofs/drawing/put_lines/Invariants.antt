@@ -4,4 +4,4 @@ use Rattle.answer_pictures.proofs.drawing.put_lines.Given as goal
 
 abbrev pub invariant-loop-line : goal.invariant-loop-line
 invariant-loop-line l =
-    (drawn : List ℕ) × AreDrawn l.axis (take l.line-index l.lines) drawn × (string_bytes l.out ≡ string_bytes l.fn.out ++ drawn)
+    (drawn : List ℕ) × AreDrawn l.axis l.exact (take l.line-index l.lines) drawn × (string_bytes l.out ≡ string_bytes l.fn.out ++ drawn)

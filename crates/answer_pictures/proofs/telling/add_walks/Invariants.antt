@@ -1,7 +1,7 @@
-use Rattle.std.proofs.Common.{◌≡◌, ◌++◌, map, drop}
-use Rattle.answer_pictures.specs.Told.{part_of, walk_parts}
+use Rattle.std.proofs.Common.{◌≡◌, ◌++◌, drop}
+use Rattle.answer_pictures.specs.Told.{walk_parts}
 use Rattle.answer_pictures.proofs.telling.add_walks.Given as goal
 
 abbrev pub invariant-loop-footpath : goal.invariant-loop-footpath
 invariant-loop-footpath l =
-    map part_of l.stretches.items ++ walk_parts l.time (drop l.footpath-index l.walk) ≡ map part_of l.fn.stretches.items ++ walk_parts l.fn.start l.walk
+    l.stretches.items ++ walk_parts l.image.names l.time (drop l.footpath-index l.walk) ≡ l.fn.stretches.items ++ walk_parts l.image.names l.fn.start l.walk

@@ -1,0 +1,29 @@
+-- The picture of an answer.
+use Rattle.std.specs.Prelude.{◌≡◌, ◌-◌, ℕ, List, Option, length, take}
+use Rattle.std.specs.List.{All, AllZip}
+use Rattle.criteria.specs.declared.name.CriterionName.{CriterionName}
+use Rattle.criteria.specs.declared.told.ToldValue.{ToldValue}
+use Rattle.timetable.specs.declared.query.Query.{Query}
+use Rattle.image_layout.specs.Image.{ImageValue}
+use Rattle.answer_pictures.specs.declared.axis.Axis.{Axis}
+use Rattle.answer_pictures.specs.LineValue.{HeadingValue, LineValue}
+use Rattle.answer_pictures.specs.Pictures.{IsPicture, LiesOn}
+use Rattle.answer_pictures.specs.Told.{IsHeadingOf, IsLineOf}
+use Rattle.journeys.specs.declared.answering.Departure.{Departure}
+
+-- the line of a departure: its times, and all rides and walks of its journey
+abbrev pub IsDrawnAs : {V : Type 0} → (V → ToldValue) → ImageValue → Departure V → LineValue → Type 0
+IsDrawnAs told image departure line =
+    IsLineOf image.timetable image.names departure.time (told departure.value) departure.journey line
+
+-- the picture of a query's departures: what was asked, the direct walk, a line for each of the first 200 departures, in order, on an axis
+-- that covers all of them, and how many more there are
+pub record IsPictureOf {V : Type 0} (told : V → ToldValue) (image : ImageValue) (criterion : CriterionName) (q : Query)
+    (departures : List (Departure V)) (walk : Option ℕ) (text : List ℕ) : Type 0 where
+  pub heading : HeadingValue
+  pub axis : Axis
+  pub lines : List LineValue
+  pub asked : IsHeadingOf image.names criterion q heading
+  pub drawn : AllZip (IsDrawnAs told image) (take 200 departures) lines
+  pub covered : All (LiesOn axis) lines
+  pub is : IsPicture heading axis walk lines (length departures - 200) text
