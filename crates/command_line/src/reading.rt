@@ -9,7 +9,7 @@ use command_requests::{
     Request, ServeRequest, StopsRequest, UpgradeRequest, Workers, days_of,
 };
 use criteria::CriterionName;
-use std::alloc::Global;
+use std::alloc::{AllocError, Global};
 use std::convert::AsStr;
 
 /// Why the words ask for no command.
@@ -22,16 +22,74 @@ pub enum Unread {
     OutOfMemory,
 }
 
-const WRONG_FORM: &str =
-    "error: a clock is HH:MM:SS: hours of one to six digits, minutes and seconds below 60\n";
+/// What the value of an option must be.
+#[derive(Clone, Copy)]
+enum Form {
+    Clock,
+    Day,
+    Days,
+    Zone,
+    Port,
+    Workers,
+    Sessions,
+}
 
-/// What is said where a day, a number of days or a zone has a wrong form.
-const WRONG_PLAN_FORM: &str =
-    "error: a day is YYYYMMDD, the number of days 1 to 14, a zone fixed:SECS with at most 86399 seconds either way, posix:TEXT or file:PATH\n";
+/// The options whose values have a form of their own.
+const FORMS: [(&str, Form); 9] = [
+    ("after", Form::Clock),
+    ("until", Form::Clock),
+    ("by", Form::Clock),
+    ("first", Form::Day),
+    ("days", Form::Days),
+    ("zone", Form::Zone),
+    ("port", Form::Port),
+    ("workers", Form::Workers),
+    ("sessions", Form::Sessions),
+];
 
-/// What is said where other words of `serve` have a wrong form.
-const WRONG_SERVE_FORM: &str =
-    "error: a port is 0 to 65535, the number of workers 1 to 16, the number of sessions decimal, and a feed NAME=FOLDER\n";
+impl Form {
+    fn is_kept(self, value: &str) -> bool {
+        match self {
+            Form::Clock => clock(value).is_some(),
+            Form::Day => day(value).is_some(),
+            Form::Days => is_days(value),
+            Form::Zone => zone(value).is_some(),
+            Form::Port => port(value).is_some(),
+            Form::Workers => is_workers(value),
+            Form::Sessions => count(value).is_some(),
+        }
+    }
+
+    /// What is said if a value isn't kept.
+    fn rule(self) -> &'static str {
+        match self {
+            Form::Clock =>
+                "a clock is HH:MM:SS: hours of one to six digits, minutes and seconds below 60",
+            Form::Day => "a day is YYYYMMDD, a date of the years 1 to 9999",
+            Form::Days => "the number of days is 1 to 14",
+            Form::Zone => {
+                "a zone is fixed:SECS with at most 86399 seconds either way, posix:TEXT or file:PATH"
+            }
+            Form::Port => "a port is 0 to 65535",
+            Form::Workers => "the number of workers is 1 to 16",
+            Form::Sessions => "the number of sessions is decimal, 0 for no limit",
+        }
+    }
+}
+
+fn is_days(value: &str) -> bool {
+    match number(value) {
+        Some(number) => days_of(number).is_some(),
+        None => false,
+    }
+}
+
+fn is_workers(value: &str) -> bool {
+    match number(value) {
+        Some(number) => Workers::of(number).is_some(),
+        None => false,
+    }
+}
 
 fn unread_of(alloc: Global, error: &Error) -> Unread {
     if error.kind() == ErrorKind::OutOfMemory {
@@ -60,14 +118,14 @@ fn request_in<'a>(alloc: Global, matches: &ArgMatches<'a>) -> Result<Request<'a>
     match matches.subcommand() {
         Some(("build", inner)) => match build_request(inner) {
             Some(request) => Ok(Request::Build(request)),
-            None => Err(mistake(alloc, WRONG_PLAN_FORM)),
+            None => Err(wrong_value(alloc, "build", inner)),
         },
         Some(("serve", inner)) => serve_request(alloc, inner),
         Some((name, inner)) => match plain_request(name, inner) {
             Some(request) => Ok(request),
-            None => Err(mistake(alloc, WRONG_FORM)),
+            None => Err(wrong_value(alloc, name, inner)),
         },
-        None => Err(mistake(alloc, WRONG_FORM)),
+        None => Err(wrong_value(alloc, "", matches)),
     }
 }
 
@@ -84,9 +142,29 @@ fn plain_request<'a>(name: &str, matches: &ArgMatches<'a>) -> Option<Request<'a>
     }
 }
 
-/// A text that clap takes, of a wrong form.
-fn mistake(alloc: Global, form: &str) -> Unread {
-    match String::from_str(alloc, form) {
+/// What is said of the first option whose value has a wrong form.
+fn wrong_value(alloc: Global, command: &str, matches: &ArgMatches<'_>) -> Unread {
+    for (option, form) in &FORMS {
+        if let Some(value) = matches.get_str(option) {
+            if !form.is_kept(value) {
+                let rule = form.rule();
+                return mistake(format!(in alloc;
+                    "error: --{option} {value:?}: {rule}\n\nFor more information, try 'csa {command} --help'.\n"
+                ));
+            }
+        }
+    }
+    mistake(format!(in alloc; "error: for more information, try 'csa {command} --help'.\n"))
+}
+
+fn wrong_feed(alloc: Global, word: &str) -> Unread {
+    mistake(format!(in alloc;
+        "error: {word:?}: a feed is NAME=FOLDER\n\nFor more information, try 'csa serve --help'.\n"
+    ))
+}
+
+fn mistake(text: Result<String, AllocError>) -> Unread {
+    match text {
         Ok(text) => Unread::Mistake(text),
         Err(_) => Unread::OutOfMemory,
     }
@@ -166,7 +244,7 @@ fn plan<'a>(matches: &ArgMatches<'a>, strict: bool) -> Option<PlanText<'a>> {
 
 fn serve_request<'a>(alloc: Global, matches: &ArgMatches<'a>) -> Result<Request<'a>, Unread> {
     let Some(plan) = plan(matches, false) else {
-        return Err(mistake(alloc, WRONG_PLAN_FORM));
+        return Err(wrong_value(alloc, "serve", matches));
     };
     let (Some(image), Some(port), Some(workers), Some(sessions)) = (
         matches.get_str("image"),
@@ -174,7 +252,7 @@ fn serve_request<'a>(alloc: Global, matches: &ArgMatches<'a>) -> Result<Request<
         workers(matches),
         matches.get_str("sessions").and_then(count),
     ) else {
-        return Err(mistake(alloc, WRONG_SERVE_FORM));
+        return Err(wrong_value(alloc, "serve", matches));
     };
     Ok(Request::Serve(ServeRequest {
         image,
@@ -201,7 +279,7 @@ fn named_folders<'a>(
     };
     for word in words {
         let Some(feed) = named_folder(*word) else {
-            return Err(mistake(alloc, WRONG_SERVE_FORM));
+            return Err(wrong_feed(alloc, word));
         };
         if feeds.push(feed).is_err() {
             return Err(Unread::OutOfMemory);

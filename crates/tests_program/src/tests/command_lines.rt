@@ -56,7 +56,10 @@ answers csa 1.0.0
 
 # Days, dates and zones of a wrong form.
 run build no_such_feed none.csa --first 20240115 --days 0 --zone fixed:0
-complains 64
+tells error: --days \"0\": the number of days is 1 to 14
+tells 
+tells For more information, try 'csa build --help'.
+ends 64
 run build no_such_feed none.csa --first 20240115 --days 15 --zone fixed:0
 complains 64
 run build no_such_feed none.csa --first 20240115 --days +1 --zone fixed:0
@@ -64,13 +67,19 @@ complains 64
 run build no_such_feed none.csa --first 20240115 --days '' --zone fixed:0
 complains 64
 run build no_such_feed none.csa --first 20240230 --days 1 --zone fixed:0
-complains 64
+tells error: --first \"20240230\": a day is YYYYMMDD, a date of the years 1 to 9999
+tells 
+tells For more information, try 'csa build --help'.
+ends 64
 run build no_such_feed none.csa --first 20240115 --days 1 --zone fixed:86400
 complains 64
 run build no_such_feed none.csa --first 20240115 --days 1 --zone fixed:-86400
 complains 64
 run build no_such_feed none.csa --first 20240115 --days 1 --zone fixed:1h
-complains 64
+tells error: --zone \"fixed:1h\": a zone is fixed:SECS with at most 86399 seconds either way, posix:TEXT or file:PATH
+tells 
+tells For more information, try 'csa build --help'.
+ends 64
 run build no_such_feed none.csa --first 20240115 --days 1 --zone UTC
 complains 64
 ";
