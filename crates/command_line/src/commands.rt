@@ -279,6 +279,18 @@ fn command_of<'a>(alloc: Global, task: Task) -> Result<Command<'a>, AllocError> 
     Ok(command)
 }
 
+/// The line of usage of a command, none if there is no such command.
+pub(crate) fn usage(alloc: Global, name: &str) -> Result<String, AllocError> {
+    for task in &TASKS {
+        if task.name == name {
+            let whole = format!(in alloc; "csa {name}")?;
+            let mut command = command_of(alloc, *task)?.bin_name(whole.as_str())?;
+            return command.render_usage();
+        }
+    }
+    Ok(String::new(alloc))
+}
+
 /// All commands.
 pub(crate) fn program<'a>(alloc: Global) -> Result<Command<'a>, AllocError> {
     let mut command = Command::new(alloc, "csa")

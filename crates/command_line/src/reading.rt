@@ -1,6 +1,6 @@
 //! From words to a request, or to what is said of them.
 
-use crate::commands::program;
+use crate::commands::{program, usage};
 use crate::values::{clock, count, day, named_folder, number, port, zone};
 use clap::error::ErrorKind;
 use clap::{ArgMatches, Error};
@@ -145,29 +145,46 @@ fn plain_request<'a>(name: &str, matches: &ArgMatches<'a>) -> Option<Request<'a>
 /// What is said of the first option whose value has a wrong form.
 fn wrong_value(alloc: Global, command: &str, matches: &ArgMatches<'_>) -> Unread {
     for (option, form) in &FORMS {
-        if let Some(value) = matches.get_str(option) {
-            if !form.is_kept(value) {
-                let rule = form.rule();
-                return mistake(format!(in alloc;
-                    "error: --{option} {value:?}: {rule}\n\nFor more information, try 'csa {command} --help'.\n"
-                ));
-            }
+        if let Some(value) = matches.get_str(option)
+            && !form.is_kept(value)
+        {
+            let rule = form.rule();
+            return mistake(
+                alloc,
+                command,
+                format!(in alloc; "error: --{option} {value:?}: {rule}\n"),
+            );
         }
     }
-    mistake(format!(in alloc; "error: for more information, try 'csa {command} --help'.\n"))
+    mistake(
+        alloc,
+        command,
+        format!(in alloc; "error: a value has a wrong form\n"),
+    )
 }
 
 fn wrong_feed(alloc: Global, word: &str) -> Unread {
-    mistake(format!(in alloc;
-        "error: {word:?}: a feed is NAME=FOLDER\n\nFor more information, try 'csa serve --help'.\n"
-    ))
+    mistake(
+        alloc,
+        "serve",
+        format!(in alloc; "error: {word:?}: a feed is NAME=FOLDER\n"),
+    )
 }
 
-fn mistake(text: Result<String, AllocError>) -> Unread {
-    match text {
-        Ok(text) => Unread::Mistake(text),
-        Err(_) => Unread::OutOfMemory,
+/// What is wrong with the words of a command, and its usage if there is memory for it.
+fn mistake(alloc: Global, command: &str, text: Result<String, AllocError>) -> Unread {
+    let Ok(text) = text else {
+        return Unread::OutOfMemory;
+    };
+    match with_usage(alloc, command, text.as_str()) {
+        Ok(whole) => Unread::Mistake(whole),
+        Err(_) => Unread::Mistake(text),
     }
+}
+
+fn with_usage(alloc: Global, command: &str, text: &str) -> Result<String, AllocError> {
+    let usage = usage(alloc, command)?;
+    format!(in alloc; "{text}\n{usage}\n\nFor more information, try 'csa {command} --help'.\n")
 }
 
 fn stops_request<'a>(matches: &ArgMatches<'a>) -> Option<StopsRequest<'a>> {

@@ -58,6 +58,8 @@ answers csa 1.0.0
 run build no_such_feed none.csa --first 20240115 --days 0 --zone fixed:0
 tells error: --days \"0\": the number of days is 1 to 14
 tells 
+tells Usage: csa build [OPTIONS] --first <DAY> --days <N> --zone <ZONE> <FOLDER> <OUT>
+tells 
 tells For more information, try 'csa build --help'.
 ends 64
 run build no_such_feed none.csa --first 20240115 --days 15 --zone fixed:0
@@ -69,6 +71,8 @@ complains 64
 run build no_such_feed none.csa --first 20240230 --days 1 --zone fixed:0
 tells error: --first \"20240230\": a day is YYYYMMDD, a date of the years 1 to 9999
 tells 
+tells Usage: csa build [OPTIONS] --first <DAY> --days <N> --zone <ZONE> <FOLDER> <OUT>
+tells 
 tells For more information, try 'csa build --help'.
 ends 64
 run build no_such_feed none.csa --first 20240115 --days 1 --zone fixed:86400
@@ -77,6 +81,8 @@ run build no_such_feed none.csa --first 20240115 --days 1 --zone fixed:-86400
 complains 64
 run build no_such_feed none.csa --first 20240115 --days 1 --zone fixed:1h
 tells error: --zone \"fixed:1h\": a zone is fixed:SECS with at most 86399 seconds either way, posix:TEXT or file:PATH
+tells 
+tells Usage: csa build [OPTIONS] --first <DAY> --days <N> --zone <ZONE> <FOLDER> <OUT>
 tells 
 tells For more information, try 'csa build --help'.
 ends 64
