@@ -120,7 +120,7 @@ const DAYS: [Argument; 3] = [
     ),
 ];
 
-const BUILD: [Argument; 2] = [
+const BUILD: [Argument; 3] = [
     Argument::Flag(
         "strict",
         "Reject a hop that takes no time, instead of making it one second long",
@@ -129,6 +129,7 @@ const BUILD: [Argument; 2] = [
         "progress",
         "Show progress on standard error (the default on a terminal)",
     ),
+    Argument::Flag("no-warnings", "Leave out warnings on standard error"),
 ];
 
 const SERVER: [Argument; 6] = [

@@ -113,6 +113,11 @@ pub fn read<'a, S: AsStr>(alloc: Global, words: &'a [S]) -> Result<Request<'a>, 
     }
 }
 
+/// Whether words that ask for a command want its warnings.
+pub fn wants_warnings<S: AsStr>(words: &[S]) -> bool {
+    !words.iter().any(|word| word.as_str() == "--no-warnings")
+}
+
 /// What is asked by words that clap takes.
 fn request_in<'a>(alloc: Global, matches: &ArgMatches<'a>) -> Result<Request<'a>, Unread> {
     match matches.subcommand() {

@@ -2,11 +2,13 @@
 
 use crate::explaining::explain;
 use crate::opening::open_image;
+use crate::question::query_asked;
 use crate::{journey, profile, status, stops, upgrade, verify};
 use command_requests::{JourneyRequest, ProfileRequest, Question, StopsRequest, UpgradeRequest};
 use image_verifier::Verified;
 use std::io::{Read, Write};
 use std::rt::Files;
+use timetable::QueryFault;
 
 /// A command over the image at a path.
 #[derive(Clone, Copy, Drop)]
@@ -60,15 +62,32 @@ pub fn answer<H: Files + AllocGlobal, I: Read, O: Write, E: Write>(
     if status == status::REFUSED
         && let Some(question) = asked.question()
     {
-        explain_ends(&image, &question, errors);
+        explain_question(&image, &question, errors);
     }
     status
 }
 
-/// Says which end of a question is no stop of the image, if one isn't.
-fn explain_ends<E: Write>(image: &Verified, question: &Question<'_>, errors: &mut E) {
-    explain_end(image, "--from", question.from, errors);
-    explain_end(image, "--to", question.to, errors);
+/// Says what is wrong with a question: which end is no stop of the image, or which clock is before another.
+fn explain_question<E: Write>(image: &Verified, question: &Question<'_>, errors: &mut E) {
+    match query_asked(image, question) {
+        Ok(_) => {}
+        Err(QueryFault::UnknownStop) => {
+            explain_end(image, "--from", question.from, errors);
+            explain_end(image, "--to", question.to, errors);
+        }
+        Err(QueryFault::SameStop) => explain(errors, &["csa: --from and --to are the same stop"]),
+        Err(QueryFault::BadWindow) => explain(errors, &["csa: ", window_reason(question)]),
+    }
+}
+
+fn window_reason(question: &Question<'_>) -> &'static str {
+    if question.until < question.after {
+        "--until is before --after"
+    } else if question.by < question.after {
+        "--by is before --after"
+    } else {
+        "a clock is past 555555:33:19, the last second that an image can have"
+    }
 }
 
 fn explain_end<'a, E: Write>(image: &Verified, option: &'a str, stop: &'a str, errors: &mut E) {

@@ -1,10 +1,11 @@
-//! `csa build FOLDER OUT --first DAY --days N --zone ZONE [--strict] [--progress]`.
+//! `csa build FOLDER OUT --first DAY --days N --zone ZONE [--strict] [--progress] [--no-warnings]`.
 
-use crate::explaining::{explain, explain_refused, reason_of};
+use crate::explaining::{explain_refused, reason_of};
 use crate::planning::{PlanFailure, plan_of};
 use crate::progress::{ToldFiles, load_told};
 use crate::refusal::refuse_feed;
 use crate::status;
+use crate::warnings::{Built, warn};
 use crate::writing::put_image;
 use command_requests::BuildRequest;
 use feed_files::FolderFiles;
@@ -43,14 +44,15 @@ impl<'a> From<PlanFailure<'a>> for Failure<'a> {
 }
 
 /// Builds the image of the folder's feed, writes it, and prints its counts; or reports the first thing that is wrong.
-/// The file is written only where nothing was. Warnings and explanations go to `errors`, and so does progress, where it
-/// is asked for or where that is a terminal.
+/// The file is written only where nothing was. Explanations go to `errors`, and so do warnings, if they are wanted, and
+/// progress, where it is asked for or where that is a terminal.
 pub fn run<H: Files + RandomSource + AllocGlobal, O: Write, E: Write>(
     rt: &H,
     request: BuildRequest<'_>,
     output: &mut O,
     errors: &mut E,
     is_terminal: bool,
+    warnings: bool,
 ) -> u8 {
     let alloc = rt.alloc();
     let folder = request.folder;
@@ -59,10 +61,12 @@ pub fn run<H: Files + RandomSource + AllocGlobal, O: Write, E: Write>(
     } else {
         None
     };
-    match build(rt, request, log) {
-        Ok(report) => {
-            warn(&report, errors);
-            status::write_line(output, counts(alloc, &report), status::ACCEPTED)
+    match build(rt, &request, log) {
+        Ok(built) => {
+            if warnings {
+                warn(rt, folder, &request.plan.zone, &built, errors);
+            }
+            status::write_line(output, counts(alloc, &built.report), status::ACCEPTED)
         }
         Err(Failure::Refused(fault)) => {
             explain_refused(rt, folder, &fault, errors);
@@ -78,14 +82,18 @@ pub fn run<H: Files + RandomSource + AllocGlobal, O: Write, E: Write>(
 
 fn build<'a, H: Files + RandomSource + AllocGlobal, E: Write>(
     rt: &H,
-    request: BuildRequest<'a>,
+    request: &BuildRequest<'a>,
     log: Option<&mut E>,
-) -> Result<Report, Failure<'a>> {
+) -> Result<Built, Failure<'a>> {
     let plan = plan_of(rt, &request.plan)?;
     let mut files = ToldFiles::new(FolderFiles::new(rt, request.folder), log);
     let (image, report) = load_told(rt.alloc(), &mut files, &plan, request.out)?;
     match put_image(rt, request.out, image.words()) {
-        Ok(()) => Ok(report),
+        Ok(()) => Ok(Built {
+            image,
+            plan,
+            report,
+        }),
         Err(error) => Err(write_failure(&error, request.out)),
     }
 }
@@ -94,20 +102,6 @@ fn write_failure<'a>(error: &io::Error, path: &'a str) -> Failure<'a> {
     match error.kind() {
         ErrorKind::OutOfMemory => Failure::OutOfMemory,
         kind => Failure::Unwritable(path, reason_of(kind)),
-    }
-}
-
-/// Warns of an image that answers nothing, and of transfers that it doesn't have.
-fn warn<E: Write>(report: &Report, errors: &mut E) {
-    if report.runs == 0 {
-        let line = "csa: warning: no trip runs on these days, so no query has a departure";
-        explain(errors, &[line]);
-    }
-    if report.skipped > 0 {
-        let line =
-            "csa: warning: rows of transfers.txt were left out (`skipped`): between trips or routes, \
-or of a transfer_type beyond 0 to 3; a change there may need more time than answers give it";
-        explain(errors, &[line]);
     }
 }
 

@@ -2,10 +2,19 @@
 //!
 //! A line that can't be written, or for which there is no memory, changes nothing.
 
+use crate::folders::explain_folder;
+use crate::table_fault::{explain_failed, explain_table};
+use crate::warnings::zone_path;
 use feed_loader::LoadFault;
+use std::alloc::{AllocError, Global};
+use std::convert::AsStr;
+use std::fmt::Write as _;
 use std::fs::{self, File};
 use std::io::{ErrorKind, Write};
 use std::rt::Files;
+
+/// How many bytes of a value are shown.
+const LONGEST_SHOWN: usize = 60;
 
 /// Writes the parts of a line, and its end.
 pub fn explain<E: Write>(errors: &mut E, parts: &[&str]) {
@@ -29,6 +38,7 @@ pub fn reason_of(kind: ErrorKind) -> &'static str {
         ErrorKind::QuotaExceeded => "the disk quota is exceeded",
         ErrorKind::FileTooLarge => "the file would be too large",
         ErrorKind::InvalidFilename => "the name is too long",
+        ErrorKind::AddrInUse => "it is in use",
         _ => "an input or output error",
     }
 }
@@ -51,31 +61,114 @@ pub fn unread_reason<H: Files>(rt: &H, path: &str) -> &'static str {
     }
 }
 
-/// Explains the refusal of a feed: a fault of one of its tables where its folder is none.
-pub fn explain_refused<H: Files, E: Write>(
+/// A value as it is shown: in quotes, with control characters escaped, and cut if it is long.
+pub fn quoted(alloc: Global, value: &[u8]) -> Result<String, AllocError> {
+    let shown = value.get(..LONGEST_SHOWN).unwrap_or(value);
+    let end = if shown.len() < value.len() { " .." } else { "" };
+    match str::from_utf8(shown) {
+        Ok(text) => format!(in alloc; "{text:?}{end}"),
+        Err(_) => quoted_bytes(alloc, shown, end),
+    }
+}
+
+/// Bytes that aren't UTF-8 as they are shown.
+fn quoted_bytes(alloc: Global, value: &[u8], end: &str) -> Result<String, AllocError> {
+    let mut text = format!(in alloc; "\"")?;
+    for byte in value {
+        push_shown(&mut text, *byte)?;
+    }
+    write!(text, "\"{end}")?;
+    Ok(text)
+}
+
+/// Adds a byte: plain ASCII as it is, anything else by its number.
+fn push_shown(text: &mut String, byte: u8) -> Result<(), AllocError> {
+    match byte {
+        b'"' => text.push_str("\\\""),
+        b'\\' => text.push_str("\\\\"),
+        b' '..=b'~' => text.push(byte as char),
+        _ => write!(text, "\\x{byte:02X}"),
+    }
+}
+
+/// Explains the refusal of a feed: what is wrong with its folder, or where a fault of a table is.
+pub fn explain_refused<H: Files + AllocGlobal, E: Write>(
     rt: &H,
     folder: &str,
     fault: &LoadFault,
     errors: &mut E,
 ) {
     match fault {
-        LoadFault::Table(_) => explain_folder(rt, folder, errors),
-        _ => {}
-    }
-}
-
-/// Says what is wrong with the folder of a feed, if it is none.
-fn explain_folder<H: Files, E: Write>(rt: &H, folder: &str, errors: &mut E) {
-    match fs::metadata(rt, folder) {
-        Ok(metadata) if metadata.is_dir() => {}
-        Ok(_) if folder.ends_with(".zip") => {
-            explain_path(errors, folder, "a zip file: unpack it, and name the folder");
+        LoadFault::Table(fault) => {
+            if is_folder(rt, folder) {
+                explain_table(rt, folder, fault, errors);
+            } else {
+                explain_folder(rt, folder, errors);
+            }
         }
-        Ok(_) => explain_path(errors, folder, "not a folder"),
-        Err(error) => explain_path(errors, folder, reason_of(error.kind())),
+        LoadFault::FileFailed(table) => explain_failed(rt, folder, *table, errors),
+        _ => explain_load(fault, errors),
     }
 }
 
-fn explain_path<'a, E: Write>(errors: &mut E, path: &'a str, reason: &'a str) {
-    explain(errors, &["csa: ", path, ": ", reason]);
+/// Explains why a feed isn't loaded whose files are right, or why its zone is none.
+pub fn explain_load<E: Write>(fault: &LoadFault, errors: &mut E) {
+    let reason = match fault.number() {
+        21 => "--zone: no POSIX rule as CET-1CEST,M3.5.0,M10.5.0/3, or no time zone file (TZif)",
+        22 =>
+            "--first, --days: a day is beyond the calendar, or a trip has a time that no image has",
+        41 => "transfers.txt: walks that follow one another take more than 1000000 seconds",
+        42 =>
+            "transfers.txt, stops.txt: there are more than 5000000 footpaths, with those that follow from others",
+        _ => return,
+    };
+    explain(errors, &["csa: ", reason]);
+}
+
+/// Says how a zone is spelled of which only the name was given, if the system has a file of it.
+pub fn explain_zone<H: Files + AllocGlobal, S: AsStr, E: Write>(
+    rt: &H,
+    words: &[S],
+    errors: &mut E,
+) {
+    if let Some(name) = value_of(words, "--zone")
+        && let Some(path) = zone_path(rt, name)
+    {
+        let parts = ["csa: for this zone write --zone file:", path.as_str()];
+        explain(errors, &parts);
+    }
+}
+
+/// The value of an option: the word behind it, or the rest of its own word behind `=`.
+fn value_of<'a, S: AsStr>(words: &'a [S], option: &str) -> Option<&'a str> {
+    let mut is_next = false;
+    for word in words {
+        let word = word.as_str();
+        if is_next {
+            return Some(word);
+        }
+        if let Some((name, value)) = word.split_once('=')
+            && name == option
+        {
+            return Some(value);
+        }
+        is_next = word == option;
+    }
+    None
+}
+
+/// Whether there is a plain file at the path.
+pub fn is_file<H: Files>(rt: &H, path: &str) -> bool {
+    match fs::metadata(rt, path) {
+        Ok(metadata) => metadata.is_file(),
+        Err(_) => false,
+    }
+}
+
+/// Whether there is a folder at the path.
+pub fn is_folder<H: Files>(rt: &H, path: &str) -> bool {
+    match fs::metadata(rt, path) {
+        Ok(metadata) => metadata.is_dir(),
+        Err(_) => false,
+    }
 }

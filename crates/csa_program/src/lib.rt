@@ -5,6 +5,7 @@ mod asked;
 mod bases;
 mod build;
 mod explaining;
+mod folders;
 mod journey;
 mod listing;
 mod machine;
@@ -16,21 +17,25 @@ mod profile;
 mod progress;
 mod putting;
 mod question;
+mod records;
 mod refusal;
 mod replying;
 mod serve;
 mod sockets;
 mod status;
 mod stops;
+mod suspects;
+mod table_fault;
 mod tables;
 mod upgrade;
 mod verify;
+mod warnings;
 mod writing;
 
 use crate::asked::{Asked, answer};
-use crate::explaining::explain;
+use crate::explaining::{explain, explain_zone};
 pub use crate::machine::Machine;
-use command_line::{Unread, read};
+use command_line::{Unread, read, wants_warnings};
 use command_requests::Request;
 pub use feed_files::Disk;
 use std::convert::AsStr;
@@ -71,12 +76,21 @@ fn run_command<
         Ok(Request::Profile(request)) => answer(rt, Asked::Profile(request), input, output, errors),
         Ok(Request::Stops(request)) => answer(rt, Asked::Stops(request), input, output, errors),
         Ok(Request::Tables(folder)) => tables::run(rt, folder, output, errors),
-        Ok(Request::Build(request)) => build::run(rt, request, output, errors, is_terminal),
+        Ok(Request::Build(request)) => build::run(
+            rt,
+            request,
+            output,
+            errors,
+            is_terminal,
+            wants_warnings(words),
+        ),
         Ok(Request::Upgrade(request)) => answer(rt, Asked::Upgrade(request), input, output, errors),
         Ok(Request::Serve(request)) => serve::run(rt, request, input, output, errors),
         Err(Unread::Help(text)) => status::write_text(output, text.as_str(), status::ACCEPTED),
         Err(Unread::Mistake(text)) => {
-            status::write_text(errors, text.as_str(), status::COMMAND_LINE)
+            let status = status::write_text(errors, text.as_str(), status::COMMAND_LINE);
+            explain_zone(rt, words, errors);
+            status
         }
         Err(Unread::OutOfMemory) => status::OUT_OF_MEMORY,
     }

@@ -6,6 +6,7 @@ ghost use Rattle.connections.specs.declared.days.TheConstants.{MAX_DAYS};
 ghost use Rattle.csa_program.specs.Serving.{counts_of};
 
 use crate::bases::tell_bases;
+use crate::explaining::{explain_load, reason_of};
 use crate::machine::Machine;
 use crate::opening::open_image;
 use crate::planning::{PlanFailure, plan_of};
@@ -19,7 +20,7 @@ use feed_loader::Plan;
 use image_verifier::Verified;
 use orders::OpenGate;
 use std::alloc::{AllocError, Global};
-use std::io::{Read, Write};
+use std::io::{ErrorKind, Read, Write};
 use std::marker::Brand;
 use std::net::{Ipv4Addr, Net, TcpListener, TcpStream};
 use std::sync::{Arc, Wait};
@@ -69,8 +70,11 @@ pub fn run<
     let alloc = rt.alloc();
     let plan = match plan_of(rt, &request.plan) {
         Ok(plan) => plan,
-        Err(PlanFailure::Refused(fault)) => return refuse_feed(alloc, output, fault),
-        Err(PlanFailure::Unreadable(path)) => return status::tell_unreadable(alloc, errors, path),
+        Err(PlanFailure::Refused(fault)) => {
+            explain_load(&fault, errors);
+            return refuse_feed(alloc, output, fault);
+        }
+        Err(PlanFailure::Unreadable(path)) => return status::tell_unread(rt, errors, path),
         Err(PlanFailure::OutOfMemory) => return status::OUT_OF_MEMORY,
     };
     let image = match open_image(rt, request.image, input, output, errors) {
@@ -119,11 +123,13 @@ fn listen<
     let Ok((shelves, loader, seats)) = shelves_of(alloc, image, request.workers.number) else {
         return status::OUT_OF_MEMORY;
     };
-    let Ok(listener) = TcpListener::bind(rt, (Ipv4Addr::LOCALHOST, request.port)) else {
-        return unheard(alloc, errors, request.port);
+    let listener = match TcpListener::bind(rt, (Ipv4Addr::LOCALHOST, request.port)) {
+        Ok(listener) => listener,
+        Err(error) => return unheard(alloc, errors, request.port, error.kind()),
     };
-    let Ok(address) = listener.local_addr() else {
-        return unheard(alloc, errors, request.port);
+    let address = match listener.local_addr() {
+        Ok(address) => address,
+        Err(error) => return unheard(alloc, errors, request.port, error.kind()),
     };
     let begun = status::write_line(
         output,
@@ -181,11 +187,12 @@ fn shelves_of(
     Ok((shelves, loader, seats))
 }
 
-// Tells that nobody can listen at the port.
-fn unheard<E: Write>(alloc: Global, errors: &mut E, port: u16) -> u8 {
+// Tells that nobody can listen at the port, and why.
+fn unheard<E: Write>(alloc: Global, errors: &mut E, port: u16, kind: ErrorKind) -> u8 {
+    let reason = reason_of(kind);
     status::write_line(
         errors,
-        format!(in alloc; "csa: port {port} can't be listened at\n"),
+        format!(in alloc; "csa: port {port} can't be listened at: {reason}\n"),
         status::INPUT_OUTPUT,
     )
 }

@@ -41,11 +41,6 @@ pub fn tell_refusal<O: Write>(alloc: Global, output: &mut O, refusal: &Refusal) 
     write_line(output, format!(in alloc; "{refusal}\n"), REFUSED)
 }
 
-/// Tells of a file that can't be read.
-pub fn tell_unreadable<E: Write>(alloc: Global, errors: &mut E, path: &str) -> u8 {
-    file_failed(alloc, errors, path, "read")
-}
-
 /// Reports a file that can't be read, with the system's reason.
 pub fn tell_unread<H: Files + AllocGlobal, E: Write>(rt: &H, errors: &mut E, path: &str) -> u8 {
     let reason = unread_reason(rt, path);

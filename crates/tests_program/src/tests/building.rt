@@ -29,6 +29,7 @@ ends 0
 holds built.csa
 
 # A day begins an hour earlier in the east.
+rows base_feed/agency.txt agency_timezone | Nowhere
 run build base_feed built.csa --first 20240115 --days 1 --zone fixed:3600
 answers stops 3 runs 2 connections 3 footpaths 3 lifted 0 flex 0 frequencies 0 skipped 0
 set 7 1705273200
@@ -42,6 +43,7 @@ holds built.csa
 
 # A day that can't be, and a file that can't be written.
 run build base_feed built.csa --first 99991231 --days 2 --zone fixed:0
+tells csa: --first, --days: a day is beyond the calendar, or a trip has a time that no image has
 answers refused 22 DayOutOfRange
 holds built.csa
 run build base_feed no_such_folder/built.csa --first 20240115 --days 1 --zone fixed:0
@@ -50,8 +52,10 @@ ends 3
 
 # A transfer that is left out, with a warning.
 rows base_feed/transfers.txt from_stop_id,to_stop_id,transfer_type,min_transfer_time | B,B,4,600
+run build base_feed built.csa --first 20240115 --days 1 --zone fixed:0 --no-warnings
+answers stops 3 runs 2 connections 3 footpaths 3 lifted 0 flex 0 frequencies 0 skipped 1
 run build base_feed built.csa --first 20240115 --days 1 --zone fixed:0
-tells csa: warning: rows of transfers.txt were left out (`skipped`): between trips or routes, or of a transfer_type beyond 0 to 3; a change there may need more time than answers give it
+tells csa: warning: rows of transfers.txt are left out: 0 between trips or routes, 1 of a transfer_type beyond 0 to 3; a change there may need more time than answers give it
 answers stops 3 runs 2 connections 3 footpaths 3 lifted 0 flex 0 frequencies 0 skipped 1
 remove base_feed/transfers.txt
 
@@ -68,6 +72,7 @@ rows base_feed/frequencies.txt trip_id,start_time,end_time,headway_secs | T1,09:
 run build base_feed built.csa --first 20240115 --days 1 --zone fixed:0
 answers stops 3 runs 3 connections 5 footpaths 3 lifted 0 flex 0 frequencies 1 skipped 0
 rows base_feed/frequencies.txt trip_id,start_time,end_time,headway_secs | T1,09:00:00,09:40:00,0
+tells csa: frequencies.txt, line 2: headway_secs \"0\" must not be 0
 answers refused 18 BadHeadway frequencies.txt 1
 remove built.csa
 remove base_feed
@@ -93,6 +98,7 @@ prints dep 08:00:01 arr 08:00:02 : ride 1 1
 answers points 1 read 3 walk none
 remove feed.csa
 run build feed feed.csa --first 20240115 --days 1 --zone fixed:0 --strict
+tells csa: stop_times.txt, line 3: trip_id \"T\" arrives in this row no later than it departed from the stop before
 answers refused 14 HopWithoutDuration stop_times.txt 2
 lacks feed.csa
 
@@ -113,7 +119,7 @@ rows feed/stop_times.txt trip_id,arrival_time,departure_time,stop_id,stop_sequen
 rows feed/frequencies.txt trip_id,start_time,end_time,headway_secs | P,09:00:00,09:20:00,600 | Q,09:00:00,09:20:00,600 | R,09:00:00,09:20:00,600
 rows feed/transfers.txt from_stop_id,to_stop_id,transfer_type,min_transfer_time | A,B,4, | A,B,5, | A,B,4, | B,A,5,
 run build feed feed.csa --first 20240115 --days 1 --zone fixed:0
-tells csa: warning: rows of transfers.txt were left out (`skipped`): between trips or routes, or of a transfer_type beyond 0 to 3; a change there may need more time than answers give it
+tells csa: warning: rows of transfers.txt are left out: 0 between trips or routes, 4 of a transfer_type beyond 0 to 3; a change there may need more time than answers give it
 answers stops 2 runs 7 connections 7 footpaths 2 lifted 1 flex 2 frequencies 3 skipped 4
 remove feed/frequencies.txt
 remove feed/transfers.txt
@@ -124,6 +130,7 @@ rows feed/stop_times.txt trip_id,arrival_time,departure_time,stop_id,stop_sequen
 remove feed/calendar.txt
 rows feed/calendar_dates.txt service_id,date,exception_type | X,20240115,1 | X,20240116,2
 run build feed feed.csa --first 20240115 --days 2 --zone fixed:0
+tells csa: warning: no trip runs on 20240116
 answers stops 2 runs 1 connections 1 footpaths 2 lifted 0 flex 0 frequencies 0 skipped 0
 run profile feed.csa --from A --to B --after 00:00:00 --until 48:00:00 --by 48:00:00 --criterion arrival
 prints dep 08:00:00 arr 08:10:00 : ride 0 0
@@ -168,6 +175,7 @@ run build no_such_feed none.csa --first 20240115 --days 1 --zone fixed:-86399
 tells csa: no_such_feed: no such file or folder
 answers refused 1 MissingFile agency.txt 0
 run build no_such_feed none.csa --first 20240115 --days 1 --zone posix:CET
+tells csa: --zone: no POSIX rule as CET-1CEST,M3.5.0,M10.5.0/3, or no time zone file (TZif)
 answers refused 21 BadZone
 run build no_such_feed none.csa --first 20240115 --days 1 --zone file:no_such_zone
 tells csa: no_such_zone can't be read: no such file or folder
@@ -177,9 +185,11 @@ ends 3
 folder unread
 folder unread/agency.txt
 run build unread no_such_folder/unread.csa --first 20240115 --days 1 --zone fixed:0
+tells csa: unread/agency.txt: it is a folder
 prints refused 101 FileFailed agency.txt
 ends 3
 remove unread/agency.txt
+tells csa: unread: no file agency.txt
 answers refused 1 MissingFile agency.txt 0
 remove unread
 ";
@@ -213,6 +223,7 @@ holds east.csa
 
 # A zone file that is none.
 rows zone_file no zone
+tells csa: --zone: no POSIX rule as CET-1CEST,M3.5.0,M10.5.0/3, or no time zone file (TZif)
 answers refused 21 BadZone
 remove zone_file
 remove east.csa

@@ -78,8 +78,15 @@ judge A C 07:00:00 09:00:00 10:00:00 ride 0 0 walk 1 1 0 ride 2 2 | refused 89 N
 
 # The query is judged before the text: its window, its stops, and first of all the forms of its words.
 sample
-judge A C 07:00:00 06:00:00 10:00:00 no journey | refused 33 BadWindow
-judge A A 07:00:00 09:00:00 10:00:00 no journey | refused 32 SameStop
+run journey - 'no journey' --from A --to C --after 07:00:00 --until 06:00:00 --by 10:00:00
+tells csa: --until is before --after
+answers refused 33 BadWindow
+run journey - 'no journey' --from A --to C --after 07:00:00 --until 07:00:00 --by 06:59:59
+tells csa: --by is before --after
+answers refused 33 BadWindow
+run journey - 'no journey' --from A --to A --after 07:00:00 --until 09:00:00 --by 10:00:00
+tells csa: --from and --to are the same stop
+answers refused 32 SameStop
 run journey - 'no journey' --from A --to D --after 07:00:00 --until 09:00:00 --by 10:00:00
 tells csa: --to D: no stop of the image has this stop_id
 answers refused 31 UnknownStop

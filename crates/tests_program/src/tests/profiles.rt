@@ -93,6 +93,7 @@ judge A D 07:00:00 09:00:00 10:00:00 ride 0 0 walk 1 1 0 ride 1 1 walk 2 2 0 rid
 # Words of a query are judged: its window, and the name of its criterion.
 sample
 profile A C 07:00:00 06:00:00 10:00:00 arrival
+tells csa: --until is before --after
 answers refused 33 BadWindow
 profile A C 07:00:00 09:00:00 10:00:00 walking
 complains 64

@@ -30,6 +30,7 @@ complains 3
 
 # A zone that is none is told before an image that is none.
 run serve --image - --port 0 --workers 2 --sessions 1 --first 20240115 --days 1 --zone posix:none slow=slow_feed
+tells csa: --zone: no POSIX rule as CET-1CEST,M3.5.0,M10.5.0/3, or no time zone file (TZif)
 answers refused 21 BadZone
 sample
 cut 3
@@ -80,7 +81,9 @@ fn a_port_that_is_taken(rt: HostRuntime) -> Result<(), Fail> {
         ),
     ] {
         let outcome = outcome_of(&rt, &words_at(port.as_str(), first), &image);
-        let taken = format!(in alloc; "{told}csa: port {port} can't be listened at\n")?;
+        let taken = format!(in alloc;
+            "{told}csa: port {port} can't be listened at: it is in use\n"
+        )?;
         assert_eq!(&rt; outcome.status, 3);
         assert!(&rt; outcome.output.is_empty());
         assert!(&rt; outcome.errors.as_slice() == taken.as_bytes());

@@ -11,22 +11,29 @@ answers tables agencies 1 stops 3 trips 2 stop_times 5 calendar 1 calendar_dates
 
 # Values: minutes, and a number with a fraction.
 with stop_times.txt 2 T1,08:60:00,08:10:00,B,2
+tells csa: stop_times.txt, line 3: arrival_time \"08:60:00\" isn't a time, H:MM:SS or HH:MM:SS
 answers refused 5 BadTime stop_times.txt 2
 with stop_times.txt 2 T1,08:10:00,08:10:00,B,2.5
+tells csa: stop_times.txt, line 3: stop_sequence \"2.5\" isn't a number of at most nine digits
 answers refused 7 BadNumber stop_times.txt 2
 
 # Times of a trip: one that goes back, a number twice, and an end without a time.
 with stop_times.txt 2 T1,08:10:00,07:59:00,B,2
+tells csa: stop_times.txt, line 3: trip_id \"T1\" has a time in this row that is before the time ahead of it
 answers refused 13 TimeGoesBack stop_times.txt 2
 with stop_times.txt 3 T1,08:30:00,08:30:00,C,2
+tells csa: stop_times.txt, line 4: stop_sequence \"2\" is in another row of this trip too
 answers refused 11 SequenceTwice stop_times.txt 3
 with stop_times.txt 5 T2,,,C,2
+tells csa: stop_times.txt, line 6: trip_id \"T2\" begins or ends with this row, which has no time
 answers refused 12 EndWithoutTime stop_times.txt 5
 
 # Ids that are nowhere: of a trip, and of a stop.
 with stop_times.txt 4 N1,08:12:00,08:12:00,B,1
+tells csa: stop_times.txt, line 5: trip_id \"N1\" isn't in trips.txt
 answers refused 9 UnknownId stop_times.txt 4
 with stop_times.txt 4 T2,08:12:00,08:12:00,D,1
+tells csa: stop_times.txt, line 5: stop_id \"D\" isn't in stops.txt
 answers refused 9 UnknownId stop_times.txt 4
 
 # A trip with a blank stop_id, and one with a single row, isn't judged by its times; no hop needs a duration.
@@ -39,6 +46,7 @@ has T2,,,B,1
 has T1,,,C,3
 answers tables agencies 1 stops 3 trips 2 stop_times 5 calendar 1 calendar_dates 0 transfers 0
 has T2,08:20:00,08:20:00,C,2
+tells csa: stop_times.txt, line 5: trip_id \"T2\" begins or ends with this row, which has no time
 answers refused 12 EndWithoutTime stop_times.txt 4
 file base_feed/stop_times.txt
 has trip_id,arrival_time,departure_time,stop_id,stop_sequence
@@ -96,11 +104,13 @@ file base_feed/frequencies.txt
 has trip_id,start_time,end_time,headway_secs
 has T2,9:00:00,10:00:00,1200
 has T9,9:00:00,10:00:00,1200
+tells csa: calendar_dates.txt, line 2: exception_type \"3\" is neither 1 nor 2
 answers refused 7 BadNumber calendar_dates.txt 1
 remove base_feed/calendar_dates.txt
 
 # Then the order is: parents, stop times, frequencies, trips, transfers. The first trip comes back in time over a blank row.
 rows base_feed/transfers.txt from_stop_id,to_stop_id | A,Q
+tells csa: stops.txt, line 2: parent_station \"Q\" isn't a station in stops.txt
 answers refused 9 UnknownId stops.txt 1
 rows base_feed/stops.txt stop_id | A | B | C
 file base_feed/stop_times.txt
@@ -110,33 +120,103 @@ has T1,,,B,2
 has T1,08:00:00,08:00:00,C,3
 has T2,08:12:00,08:12:00,B,1
 has T2,08:20:00,08:20:00,C,2
+tells csa: frequencies.txt, line 3: trip_id \"T9\" isn't in trips.txt
 answers refused 9 UnknownId frequencies.txt 2
 rows base_feed/frequencies.txt trip_id,start_time,end_time,headway_secs | T2,9:00:00,10:00:00,1200
+tells csa: stop_times.txt, line 4: trip_id \"T1\" has a time in this row that is before the time ahead of it
 answers refused 13 TimeGoesBack stop_times.txt 3
 with stop_times.txt 1 T1,08:00:00,08:00:00,A,1
+tells csa: transfers.txt, line 2: to_stop_id \"Q\" isn't in stops.txt
 answers refused 9 UnknownId transfers.txt 1
 remove base_feed/frequencies.txt
 
 # A station, and an entrance, are no stops; a row that is skipped isn't looked up, and of the ends that are unknown comes first.
 rows base_feed/stops.txt stop_id,location_type | A, | B,1 | C,2
 rows base_feed/transfers.txt from_stop_id,to_stop_id,transfer_type | C,Q,4
+tells csa: stop_times.txt, line 3: stop_id \"B\" isn't a stop, by its location_type in stops.txt
 answers refused 15 NotAStop stop_times.txt 2
 rows base_feed/stops.txt stop_id,location_type | A, | B, | C, | E,2
 rows base_feed/transfers.txt from_stop_id,to_stop_id | A,B | E,B
+tells csa: transfers.txt, line 3: from_stop_id \"E\" is neither a stop nor a station, by its location_type in stops.txt
 answers refused 15 NotAStop transfers.txt 2
 rows base_feed/transfers.txt from_stop_id,to_stop_id | E,Q
+tells csa: transfers.txt, line 2: to_stop_id \"Q\" isn't in stops.txt
 answers refused 9 UnknownId transfers.txt 1
 remove base_feed/transfers.txt
 
+# A quoted field with a line break, and empty lines: the line of the file is named; a control character is escaped.
+remove base_feed
+base
+file base_feed/stop_times.txt
+has \u{FEFF}trip_id,arrival_time,departure_time,stop_id,stop_sequence
+has
+has \"T1\",08:00:00,08:00:00,\"A
+has \",1
+tells csa: stop_times.txt, line 3: stop_id \"A\\n\" isn't in stops.txt
+answers refused 9 UnknownId stop_times.txt 1
+
+# A header without a column, one without any, a record that is too short, and an id that is there twice.
+with stop_times.txt 1 T1,08:00:00,08:00:00,A
+tells csa: stop_times.txt, line 2: the record has 4 fields, the header 5
+answers refused 4 RowLength stop_times.txt 1
+rows base_feed/stop_times.txt trip_id,arrival_time,stop_id
+tells csa: stop_times.txt, line 1: the header lacks departure_time, stop_sequence
+answers refused 2 MissingColumn stop_times.txt 0
+rows base_feed/stops.txt stop_id | A | B | A
+tells csa: stops.txt, line 4: stop_id \"A\" is in an earlier record too
+answers refused 8 IdTwice stops.txt 3
+file base_feed/stops.txt
+tells csa: stops.txt: there is no header
+answers refused 2 MissingColumn stops.txt 0
+
+# Spaces at the ends of names and of fields don't count, and a line may end with CR LF.
+file base_feed/stops.txt
+crlf  location_type , stop_id
+crlf  , A
+crlf  , B
+crlf 2 , C
+file base_feed/stop_times.txt
+crlf trip_id,arrival_time , departure_time,stop_id,stop_sequence
+crlf
+crlf  T1 ,08:00:00,08:00:00, A,1
+crlf T1,08:10:00,08:10:00, C ,2
+tells csa: stop_times.txt, line 4: stop_id \"C\" isn't a stop, by its location_type in stops.txt
+answers refused 15 NotAStop stop_times.txt 2
+
+remove base_feed
+base
+
+# A feed that is one folder below, or may be zipped.
+folder above
+file above/notes.txt
+folder above/other
+folder above/gtfs
+rows above/gtfs/agency.txt agency_timezone | Etc/UTC
+run tables above
+tells csa: above: no file agency.txt, but above/gtfs has one: name that folder
+answers refused 1 MissingFile agency.txt 0
+remove above/gtfs
+file above/feed.zip
+tells csa: above: no file agency.txt; if above/feed.zip is the feed, unpack it
+answers refused 1 MissingFile agency.txt 0
+remove above/feed.zip
+tells csa: above: no file agency.txt
+answers refused 1 MissingFile agency.txt 0
+remove above
+run tables base_feed
+
 # Files that there aren't, a folder in the place of one, which can't be read, and at last no folder.
 remove base_feed/stops.txt
+tells csa: base_feed: no file stops.txt
 answers refused 1 MissingFile stops.txt 0
 folder base_feed/stops.txt
+tells csa: base_feed/stops.txt: it is a folder
 prints refused 101 FileFailed stops.txt
 ends 3
 remove base_feed/stops.txt
 rows base_feed/stops.txt stop_id | A | B | C
 remove base_feed/calendar.txt
+tells csa: base_feed: neither calendar.txt nor calendar_dates.txt is there
 answers refused 1 MissingFile calendar.txt 0
 remove base_feed
 tells csa: base_feed: no such file or folder

@@ -1,0 +1,227 @@
+//! Which line, column and value of a feed's file is refused, found by reading the file again.
+
+use crate::explaining::{explain, is_file, quoted, unread_reason};
+use crate::folders::missing_file;
+use crate::records::{Records, Search, Unread, Wanted, find};
+use crate::suspects::{Form, Suspect, required_columns, suspects_of};
+use feed_files::LONGEST_FILE;
+use gtfs_rows::values::number;
+use gtfs_rows::{Day, FaultKind, Table, TableFault, Time};
+use std::alloc::Global;
+use std::fs::{self, File};
+use std::io::Write;
+use std::path::Path;
+use std::rt::Files;
+
+/// Says in which line of which file a fault is, in which column, and what is there.
+pub fn explain_table<H: Files + AllocGlobal, E: Write>(
+    rt: &H,
+    folder: &str,
+    fault: &TableFault,
+    errors: &mut E,
+) {
+    if let Some(line) = line_of(rt, folder, fault) {
+        explain(errors, &["csa: ", line.as_str()]);
+    }
+}
+
+/// Says why a file of a feed can't be read.
+pub fn explain_failed<H: Files + AllocGlobal, E: Write>(
+    rt: &H,
+    folder: &str,
+    table: Table,
+    errors: &mut E,
+) {
+    if let Ok(path) = Path::new(folder).join(rt.alloc(), table.file_name()) {
+        let reason = failed_reason(rt, path.as_str());
+        explain(errors, &["csa: ", path.as_str(), ": ", reason]);
+    }
+}
+
+fn failed_reason<H: Files>(rt: &H, path: &str) -> &'static str {
+    match fs::metadata(rt, path) {
+        Ok(metadata) if metadata.is_file() && metadata.len() > u64::from(LONGEST_FILE) => {
+            "it has more than 2000000000 bytes"
+        }
+        _ => unread_reason(rt, path),
+    }
+}
+
+fn line_of<H: Files + AllocGlobal>(rt: &H, folder: &str, fault: &TableFault) -> Option<String> {
+    match fault.kind {
+        FaultKind::MissingFile => missing_file(rt, folder, fault.table),
+        FaultKind::TooMany => too_many(rt.alloc(), fault.table),
+        FaultKind::BadUtf8 => not_utf8(rt, folder, fault.table),
+        FaultKind::MissingColumn => missing_column(rt, folder, fault.table),
+        _ => line_of_record(rt, folder, fault),
+    }
+}
+
+fn too_many(alloc: Global, table: Table) -> Option<String> {
+    let name = table.file_name();
+    let most = match table {
+        Table::Stops => "a feed may have at most 1000000 stops",
+        Table::Trips => {
+            "a feed may have at most 20000000 trips and as many runs on the days asked for, \
+and 400000000 bytes of names: try fewer days"
+        }
+        Table::StopTimes => {
+            "the days asked for may have at most 20000000 connections: try fewer days"
+        }
+        _ => return None,
+    };
+    format!(in alloc; "{name}: {most}").ok()
+}
+
+/// The line of the first record that isn't UTF-8.
+fn not_utf8<H: Files + AllocGlobal>(rt: &H, folder: &str, table: Table) -> Option<String> {
+    let file = table.file_name();
+    let found = found_in(rt, folder, file, Wanted::NotUtf8)?;
+    let line = found.record.line;
+    let value = found.record.field(found.record.index_of_bad_text()?);
+    let shown = quoted(rt.alloc(), value).ok()?;
+    format!(in rt.alloc(); "{file}, line {line}: {shown} isn't UTF-8").ok()
+}
+
+/// The required columns that the header doesn't have.
+fn missing_column<H: Files + AllocGlobal>(rt: &H, folder: &str, table: Table) -> Option<String> {
+    let file = table.file_name();
+    let Some(found) = record_in(rt, folder, file, Wanted::Number(0)).ok()? else {
+        return format!(in rt.alloc(); "{file}: there is no header").ok();
+    };
+    let line = found.record.line;
+    let mut text = format!(in rt.alloc(); "{file}, line {line}: the header lacks").ok()?;
+    let mut separator = " ";
+    for column in required_columns(table) {
+        if found.record.index_of(column.as_bytes()).is_none() {
+            text.push_str(separator).ok()?;
+            text.push_str(column).ok()?;
+            separator = ", ";
+        }
+    }
+    Some(text)
+}
+
+/// The line of the record, and what is wrong there, if that can be found.
+fn line_of_record<H: Files + AllocGlobal>(
+    rt: &H,
+    folder: &str,
+    fault: &TableFault,
+) -> Option<String> {
+    let file = fault.table.file_name();
+    let found = found_in(rt, folder, file, Wanted::Number(fault.row))?;
+    let line = found.record.line;
+    let what = if fault.kind == FaultKind::RowLength {
+        row_length(rt.alloc(), &found)
+    } else {
+        wrong_value(rt, folder, fault, &found)
+    };
+    match what {
+        Some(what) => format!(in rt.alloc(); "{file}, line {line}: {what}").ok(),
+        None => format!(in rt.alloc(); "{file}, line {line}").ok(),
+    }
+}
+
+fn row_length(alloc: Global, found: &Records) -> Option<String> {
+    let (fields, columns) = (found.record.fields(), found.header.fields());
+    format!(in alloc; "the record has {fields} fields, the header {columns}").ok()
+}
+
+/// The column that isn't as it must be, and its value.
+fn wrong_value<H: Files + AllocGlobal>(
+    rt: &H,
+    folder: &str,
+    fault: &TableFault,
+    found: &Records,
+) -> Option<String> {
+    if !found.record.is_whole() {
+        return None;
+    }
+    for suspect in suspects_of(fault) {
+        let Suspect(column, form, reason) = *suspect;
+        if found.header.index_of(column.as_bytes()).is_some() {
+            let value = found.value(column);
+            if is_wrong(rt, folder, form, value).ok()? {
+                let shown = quoted(rt.alloc(), value).ok()?;
+                return format!(in rt.alloc(); "{column} {shown} {reason}").ok();
+            }
+        }
+    }
+    None
+}
+
+/// Whether a text isn't as it must be; an id is looked up in its file.
+fn is_wrong<H: Files + AllocGlobal>(
+    rt: &H,
+    folder: &str,
+    form: Form,
+    value: &[u8],
+) -> Result<bool, Unread> {
+    match form {
+        Form::Id(file, column) => {
+            Ok(record_in(rt, folder, file, Wanted::Text(column, value))?.is_none())
+        }
+        Form::End => is_inside(rt, folder, value),
+        _ => Ok(is_misspelled(form, value)),
+    }
+}
+
+fn is_misspelled(form: Form, value: &[u8]) -> bool {
+    match form {
+        Form::Time => Time::parse(value).is_err(),
+        Form::TimeOrBlank => !value.is_empty() && Time::parse(value).is_err(),
+        Form::Date => Day::parse(value).is_err(),
+        Form::Number => number(value).is_none(),
+        Form::Weekday => !matches!(number(value), Some(0) | Some(1)),
+        Form::Exception => !matches!(number(value), Some(1) | Some(2)),
+        Form::Id(..) | Form::End | Form::Other => true,
+    }
+}
+
+/// Whether a stop_id is that of an entrance, a node or a boarding area.
+fn is_inside<H: Files + AllocGlobal>(rt: &H, folder: &str, stop: &[u8]) -> Result<bool, Unread> {
+    match record_in(rt, folder, "stops.txt", Wanted::Text("stop_id", stop))? {
+        Some(found) => Ok(matches!(
+            number(found.value("location_type")),
+            Some(2) | Some(3) | Some(4)
+        )),
+        None => Ok(false),
+    }
+}
+
+/// A record of a file of the folder, if it can be found.
+pub fn found_in<H: Files + AllocGlobal>(
+    rt: &H,
+    folder: &str,
+    file: &str,
+    wanted: Wanted<'_>,
+) -> Option<Records> {
+    record_in(rt, folder, file, wanted).ok()?
+}
+
+/// A record of a file of the folder, if it has one.
+fn record_in<H: Files + AllocGlobal>(
+    rt: &H,
+    folder: &str,
+    file: &str,
+    mut wanted: Wanted<'_>,
+) -> Result<Option<Records>, Unread> {
+    search_in(rt, folder, file, &mut wanted)
+}
+
+/// Searches the records of a file of the folder. What isn't a plain file, as a pipe, isn't opened again.
+pub fn search_in<H: Files + AllocGlobal, S: Search>(
+    rt: &H,
+    folder: &str,
+    file: &str,
+    search: &mut S,
+) -> Result<Option<Records>, Unread> {
+    let path = Path::new(folder).join(rt.alloc(), file)?;
+    if !is_file(rt, path.as_str()) {
+        return Err(Unread);
+    }
+    match File::open(rt, path.as_path()) {
+        Ok(mut file) => find(rt.alloc(), &mut file, search),
+        Err(_) => Err(Unread),
+    }
+}

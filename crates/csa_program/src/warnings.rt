@@ -1,0 +1,193 @@
+//! Warnings of an image that is built, but may not be what was wanted. They are lines on standard error.
+
+use crate::explaining::{explain, is_file};
+use crate::records::{Records, Search, Wanted};
+use crate::table_fault::{found_in, search_in};
+use command_requests::ZoneText;
+use feed_loader::{Plan, Report};
+use gtfs_rows::values::number;
+use image_verifier::Verified;
+use service_days::{Zone, day_after, day_start};
+use std::alloc::{AllocError, Global};
+use std::fmt::Write as _;
+use std::fs;
+use std::io::Write;
+use std::rt::Files;
+
+/// Where systems have their time zone files.
+pub const ZONES: &str = "/usr/share/zoneinfo";
+
+/// How many bytes a time zone file may have.
+const LONGEST_ZONE: u64 = 1_000_000;
+
+/// An image, what it was made by, and what is counted of it.
+#[derive(Drop)]
+pub struct Built {
+    pub image: Verified,
+    pub plan: Plan,
+    pub report: Report,
+}
+
+/// Warns of days without a trip, of transfers that were left out, and of a fixed zone that isn't the feed's.
+pub fn warn<H: Files + AllocGlobal, E: Write>(
+    rt: &H,
+    folder: &str,
+    zone: &ZoneText<'_>,
+    built: &Built,
+    errors: &mut E,
+) {
+    if built.report.runs == 0 {
+        let line = "no trip runs on these days, so no query has a departure";
+        warn_of(errors, line);
+    } else if let Some(line) = idle_days(rt.alloc(), built) {
+        warn_of(errors, line.as_str());
+    }
+    if built.report.skipped > 0 {
+        warn_of_transfers(rt, folder, errors);
+    }
+    if let ZoneText::Fixed(_) = zone
+        && let Some(line) = other_zone(rt, folder, &built.plan)
+    {
+        warn_of(errors, line.as_str());
+    }
+}
+
+fn warn_of<E: Write>(errors: &mut E, line: &str) {
+    explain(errors, &["csa: warning: ", line]);
+}
+
+/// The days of the plan on which no trip runs, if there are any.
+fn idle_days(alloc: Global, built: &Built) -> Option<String> {
+    let mut text = format!(in alloc; "no trip runs on").ok()?;
+    let mut separator = " ";
+    let mut day = built.plan.first_day;
+    for _ in 0..built.plan.days {
+        let Ok(_start) = day_start(&built.plan.zone, day) else {
+            return None;
+        };
+        let number = 10_000 * day.year as u32 + 100 * day.month as u32 + day.day as u32;
+        if !has_trip_on(&built.image, number) {
+            write!(text, "{separator}{number:08}").ok()?;
+            separator = ", ";
+        }
+        day = day_after(day);
+    }
+    if separator == " " { None } else { Some(text) }
+}
+
+/// Whether a trip of the image runs on a day, which is a number YYYYMMDD.
+fn has_trip_on(image: &Verified, day: u32) -> bool {
+    for trip in 0..image.trips() {
+        if image.trip_day(trip as usize) == day {
+            return true;
+        }
+    }
+    false
+}
+
+/// How many transfers are left out, by why.
+#[derive(Drop)]
+struct LeftOut {
+    between_trips: u64,
+    of_other_types: u64,
+}
+
+/// The columns of `transfers.txt` by which a row is of trips or routes.
+const TRIPS_AND_ROUTES: [&str; 4] = ["from_route_id", "to_route_id", "from_trip_id", "to_trip_id"];
+
+impl Search for LeftOut {
+    fn is_found(&mut self, records: &Records) -> bool {
+        if records.is_behind_header() {
+            let transfer_type = records.value("transfer_type");
+            if has_any(records, &TRIPS_AND_ROUTES) {
+                self.between_trips = self.between_trips.saturating_add(1);
+            } else if !transfer_type.is_empty() && number(transfer_type).unwrap_or(4) > 3 {
+                self.of_other_types = self.of_other_types.saturating_add(1);
+            }
+        }
+        false
+    }
+}
+
+fn has_any(records: &Records, columns: &[&str]) -> bool {
+    columns
+        .iter()
+        .any(|column| !records.value(column).is_empty())
+}
+
+fn warn_of_transfers<H: Files + AllocGlobal, E: Write>(rt: &H, folder: &str, errors: &mut E) {
+    let mut left_out = LeftOut {
+        between_trips: 0,
+        of_other_types: 0,
+    };
+    if search_in(rt, folder, "transfers.txt", &mut left_out).is_ok()
+        && let Ok(line) = transfers_line(rt.alloc(), &left_out)
+    {
+        warn_of(errors, line.as_str());
+    } else {
+        warn_of(errors, "rows of transfers.txt are left out");
+    }
+}
+
+fn transfers_line(alloc: Global, left_out: &LeftOut) -> Result<String, AllocError> {
+    let trips = left_out.between_trips;
+    let types = left_out.of_other_types;
+    format!(in alloc;
+        "rows of transfers.txt are left out: {trips} between trips or routes, {types} of a transfer_type \
+beyond 0 to 3; a change there may need more time than answers give it"
+    )
+}
+
+/// What is said if days begin at other instants in the feed's own zone, by the system's file of it.
+fn other_zone<H: Files + AllocGlobal>(rt: &H, folder: &str, plan: &Plan) -> Option<String> {
+    let found = found_in(rt, folder, "agency.txt", Wanted::Number(1))?;
+    let name = str::from_utf8(found.value("agency_timezone")).ok()?;
+    let path = zone_path(rt, name)?;
+    let bytes = fs::read(rt, path.as_str()).ok()?;
+    let zone = Zone::file_bytes(rt.alloc(), &bytes).ok()?;
+    if is_same_on_days(&zone, plan) {
+        return None;
+    }
+    format!(in rt.alloc();
+        "days begin at another time in the feed's agency_timezone, {name}: for that write --zone file:{path}"
+    ).ok()
+}
+
+/// The system's file of a zone, if it has one.
+pub fn zone_path<H: Files + AllocGlobal>(rt: &H, name: &str) -> Option<String> {
+    if !is_zone_name(name) {
+        return None;
+    }
+    let path = format!(in rt.alloc(); "{ZONES}/{name}").ok()?;
+    if is_file(rt, path.as_str()) && is_short(rt, path.as_str()) {
+        Some(path)
+    } else {
+        None
+    }
+}
+
+fn is_zone_name(name: &str) -> bool {
+    !name.is_empty() && !name.contains(':') && !name.contains('.') && !name.starts_with('/')
+}
+
+fn is_short<H: Files>(rt: &H, path: &str) -> bool {
+    match fs::metadata(rt, path) {
+        Ok(metadata) => metadata.len() <= LONGEST_ZONE,
+        Err(_) => false,
+    }
+}
+
+/// Whether each day of the plan begins at the same instant in another zone. A day that has no start counts as the same.
+fn is_same_on_days(zone: &Zone, plan: &Plan) -> bool {
+    let mut day = plan.first_day;
+    for _ in 0..plan.days {
+        let (Ok(planned), Ok(other)) = (day_start(&plan.zone, day), day_start(zone, day)) else {
+            return true;
+        };
+        if planned != other {
+            return false;
+        }
+        day = day_after(day);
+    }
+    true
+}
