@@ -91,13 +91,16 @@ fn push_shown(text: &mut String, byte: u8) -> Result<(), AllocError> {
     }
 }
 
-/// Explains the refusal of a feed: what is wrong with its folder, or where a fault of a table is.
+/// Explains the refusal of a feed: what is wrong with its folder, or where a fault of a table is. Nothing is said if memory ran out.
 pub fn explain_refused<H: Files + AllocGlobal, E: Write>(
     rt: &H,
     folder: &str,
     fault: &LoadFault,
     errors: &mut E,
 ) {
+    if fault.is_want_of_memory() {
+        return;
+    }
     match fault {
         LoadFault::Table(fault) => {
             if is_folder(rt, folder) {
