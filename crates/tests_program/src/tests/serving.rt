@@ -33,6 +33,7 @@ run serve --image - --port 0 --workers 2 --sessions 1 --first 20240115 --days 1 
 tells csa: --zone: no POSIX rule as CET-1CEST,M3.5.0,M10.5.0/3, or no time zone file (TZif)
 answers refused 21 BadZone
 run serve --image - --port 0 --workers 2 --sessions 1 --first today --days 1 --zone posix:none slow=slow_feed
+tells csa: --zone: no POSIX rule as CET-1CEST,M3.5.0,M10.5.0/3, or no time zone file (TZif)
 answers refused 21 BadZone
 sample
 cut 3
