@@ -56,13 +56,16 @@ module _ (all : List Stop) (rows : List Transfer) (to : ℕ) (row : Transfer) wh
   -- what it says of the loop
   pub own_row : (old new : List Claim) → stands_for all row.from to ≡ true → Adds old new (IsPairClaim row to to) → Adds old new (IsOwnInto all to row)
   own_row old new stands h = adds_same old new (IsPairClaim row to to) (IsOwnInto all to row)
-      (λ c p. (record {
-        from_stands = subst (λ (n : ℕ). stands_for all row.from n ≡ true) (sym p.from_is) stands;
-        to_is = p.to_is;
-        source_is = p.source_is;
-        word_is = subst (λ (n : ℕ). word_of row (n == c.to) ≡ Some c.word) (sym p.from_is)
-            (subst (λ (n : ℕ). word_of row (to == n) ≡ Some c.word) (sym p.to_is) p.word_is);
-      }, p.from_is ∙ sym p.to_is))
+      (λ c p. (
+        record {
+          from_stands = subst (λ (n : ℕ). stands_for all row.from n ≡ true) (sym p.from_is) stands;
+          to_is = p.to_is;
+          source_is = p.source_is;
+          word_is = subst (λ (n : ℕ). word_of row (n == c.to) ≡ Some c.word) (sym p.from_is)
+              (subst (λ (n : ℕ). word_of row (to == n) ≡ Some c.word) (sym p.to_is) p.word_is);
+        },
+        p.from_is ∙ sym p.to_is,
+      ))
       (λ c m. record {
         from_is = m.1 ∙ m.0.to_is;
         to_is = m.0.to_is;
@@ -124,7 +127,7 @@ decide_silent all rows c = elim (cases_eq c.from c.to) [
   | inl same ↦ inr (λ silent. silent.apart same)
   | inr differ ↦ elim (decide_source c.source (IsVoid rows (station_of all c.from) (station_of all c.to))
       (decide_void rows (station_of all c.from) (station_of all c.to))) [
-    | inl void ↦ inl (record { apart = differ; void = void })
-    | inr open_ ↦ inr (λ silent. open_ silent.void)
-  ]
+        | inl void ↦ inl (record { apart = differ; void = void })
+        | inr open_ ↦ inr (λ silent. open_ silent.void)
+      ]
 ]

@@ -110,16 +110,16 @@ module _ (feed : Feed) (into : ℕ) (claims : List Claim) (paths : List Footpath
   heard_first k c at first d claim to from = elim (decide_silent feed.stops.items feed.transfers.items d) [
     | inl silent ↦ before_silent c d (aloud_at k c at) silent to from
     | inr aloud ↦
-      let (j, at_d) = at_contains claims d ((all d).1 ((claim, to ∙ (claim_at k c at).1), aloud)) in
-      elim (cases_order k j) [
-        | inl same ↦
-            let is_d : c ≡ d = same_at claims j c d (subst (λ (n : ℕ). At claims n c) same at) at_d in
-            let P : Claim → Type 0 = λ x. (source_number c.source ≤ source_number x.source) × (c.source ≡ x.source → IsHeardBefore c.word x.word) in
-            let own : P c = (omega arith, λ e. heard_refl c.word) in
-            subst P is_d own
-        | inr (inl below) ↦ let h : ComesBefore c d = sorted k j c d below at at_d in (h.by_source (sym to) (sym from), h.by_word (sym to) (sym from))
-        | inr (inr above) ↦ absurd (first_strict claims sorted j k d c above at_d at first to from)
-      ]
+        let (j, at_d) = at_contains claims d ((all d).1 ((claim, to ∙ (claim_at k c at).1), aloud)) in
+        elim (cases_order k j) [
+          | inl same ↦
+              let is_d : c ≡ d = same_at claims j c d (subst (λ (n : ℕ). At claims n c) same at) at_d in
+              let P : Claim → Type 0 = λ x. (source_number c.source ≤ source_number x.source) × (c.source ≡ x.source → IsHeardBefore c.word x.word) in
+              let own : P c = (omega arith, λ e. heard_refl c.word) in
+              subst P is_d own
+          | inr (inl below) ↦ let h : ComesBefore c d = sorted k j c d below at at_d in (h.by_source (sym to) (sym from), h.by_word (sym to) (sym from))
+          | inr (inr above) ↦ absurd (first_strict claims sorted j k d c above at_d at first to from)
+        ]
   ]
 
   word_at : (k : ℕ) (c : Claim) → At claims k c → IsFirstAt claims k → word_between feed c.from c.to ≡ Some c.word

@@ -89,11 +89,7 @@ const BOUNDS: &str = "\
 0: TooMany";
 
 // How many footpaths are listed if they may be so many.
-fn listed_in(
-    alloc: Global,
-    feed: &Feed,
-    bound: &str,
-) -> Result<Result<usize, ListingFault>, Fail> {
+fn listed_in(alloc: Global, feed: &Feed, bound: &str) -> Result<Result<usize, ListingFault>, Fail> {
     match listed_within(alloc, feed, number(bound)? as usize) {
         Ok(paths) => Ok(Ok(paths.len())),
         Err(fault) => Ok(Err(fault)),
