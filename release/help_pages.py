@@ -24,7 +24,9 @@ class Help:
                 section = self.sections.setdefault(line[:-1], [])
             elif line.startswith("  ") and section is not None:
                 section.append(tuple((re.split(r" {2,}", line.strip(), maxsplit=1) + [""])[:2]))
-            elif line and not line.startswith("Usage: "):
+            elif not line:
+                section = None
+            elif not line.startswith("Usage: "):
                 self.notes.append(line)
 
     def options(self):

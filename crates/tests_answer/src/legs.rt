@@ -1,5 +1,7 @@
 //! Replies with the legs of journeys.
 
+ghost use Rattle.std.specs.Prelude.{◌≡◌};
+
 use crate::sessions::{Solo, image, image_of, lines_of, solo_of};
 use crate::streams::{taker_of, whole};
 use criteria::ToldValue;

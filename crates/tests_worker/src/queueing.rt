@@ -26,13 +26,15 @@ impl Versions for Numbers {
 
     type Notice = u64;
 
-    ghost use Rattle.std.specs.Prelude.{None};
+    ghost use Rattle.std.specs.Prelude.{[], None};
 
     ghost fits = { λ shelves seat. Unit {0} };
 
     ghost value = { λ seat. record { answers = seat.answers; held = None; seen = seat.seen } };
 
     ghost number = { λ seat. 0 };
+
+    ghost known = { λ seat. record { events = []; replies = []; images = [] } };
 
     ghost noted = { λ notice. notice };
 
