@@ -12,6 +12,7 @@ use std::test::Fail;
 use std::time::{Clock, Duration};
 
 /// A clock that shows so many seconds after 1970-01-01T00:00:00Z, or can't be read.
+#[derive(Drop)]
 struct Stopped(Option<u64>);
 
 impl Clock for Stopped {
