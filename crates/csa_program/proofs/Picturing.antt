@@ -23,11 +23,11 @@ drawn_more R xs i x ys zs y lt there before last grown =
 
 -- a picture, whose lines are those of the departures that are drawn
 pub picture_made : {V : Type 0} (told : V → ToldValue) (image : ImageValue) (name : CriterionName) (q : Query) (departures drawn : List (Departure V))
-    (walk : Option ℕ) (text : List ℕ) (heading : HeadingValue) (axis : Axis) (lines seen : List LineValue) (left : ℕ)
-    → IsHeadingOf image.names name q heading → drawn ≡ take 200 departures → seen ≡ lines → AllZip (IsDrawnAs told image) drawn lines
-    → All (LiesOn axis) seen → left ≡ length departures - 200 → IsPicture heading axis walk seen left text
+    (walk : Option ℕ) (text : List ℕ) (heading shown : HeadingValue) (axis : Axis) (lines seen drew : List LineValue) (left : ℕ)
+    → IsHeadingOf image.names name q heading → drawn ≡ take 200 departures → seen ≡ lines → drew ≡ lines → shown ≡ heading → AllZip (IsDrawnAs told image) drawn lines
+    → All (LiesOn axis) seen → left ≡ length departures - 200 → IsPicture shown axis walk drew left text
     → IsPictureOf told image name q departures walk text
-picture_made told image name q departures drawn walk text heading axis lines seen left asked some same are covered rest is =
+picture_made told image name q departures drawn walk text heading shown axis lines seen drew left asked some same last above are covered rest is =
     record {
       heading = heading;
       axis = axis;
@@ -35,5 +35,6 @@ picture_made told image name q departures drawn walk text heading axis lines see
       asked = asked;
       drawn = subst (λ ds. AllZip (IsDrawnAs told image) ds lines) some are;
       covered = subst (All (LiesOn axis)) same covered;
-      is = subst (λ n. IsPicture heading axis walk lines n text) rest (subst (λ ls. IsPicture heading axis walk ls left text) same is);
+      is = subst (λ n. IsPicture heading axis walk lines n text) rest
+          (subst (λ h. IsPicture h axis walk lines left text) above (subst (λ ls. IsPicture shown axis walk ls left text) last is));
     }

@@ -1,6 +1,6 @@
 //! The picture of an answer, as an SVG file.
 
-ghost use Rattle.std.specs.Prelude.{◌≡◌, IfOk, take, string_bytes};
+ghost use Rattle.std.specs.Prelude.{◌≡◌, ◌-◌, IfOk, length, take, string_bytes};
 ghost use Rattle.std.specs.List.{AllZip};
 ghost use Rattle.csa_program.specs.Picturing.{IsDrawnAs, IsPictureOf};
 
@@ -45,7 +45,7 @@ pub fn picture_text<C: Told>(
     let drawn = first_of(&answer.departures);
     let lines = lines_of(alloc, image, criterion, drawn)?;
     let axis = Axis::of_lines(&lines, query.from, query.until);
-    let left = answer.departures.len().saturating_sub(MOST_LINES);
+    let left = left_of(&answer.departures);
     let text = picture(alloc, &heading, axis, answer.walk, &lines, left)?;
     Ok(text)
 }
@@ -59,6 +59,13 @@ fn first_of<V>(departures: &[Departure<V>]) -> &[Departure<V>]
     } else {
         &departures[..MOST_LINES]
     }
+}
+
+/// How many departures aren't drawn.
+fn left_of<V>(departures: &[Departure<V>]) -> usize
+    ensures { result ≡ length departures.now - 200 }
+{
+    departures.len().saturating_sub(MOST_LINES)
 }
 
 /// A line for each departure.
