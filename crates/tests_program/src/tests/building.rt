@@ -58,6 +58,7 @@ run build base_feed today.csa --first today-1 --days 14 --zone posix:CET-1CEST,M
 tells csa: warning: no trip runs on these days, so no query has a departure
 answers stops 3 runs 0 connections 0 footpaths 3 lifted 0 flex 0 frequencies 0 skipped 0
 run build base_feed today.csa --first today --days 1 --zone posix:none
+tells csa: --zone: no POSIX rule as CET-1CEST,M3.5.0,M10.5.0/3, or no time zone file (TZif)
 answers refused 21 BadZone
 remove today.csa
 
