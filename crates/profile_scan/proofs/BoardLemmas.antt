@@ -97,12 +97,15 @@ module _ {V : Type 0} (rules : Rules V) (t : TimetableValue) (tags : Spellings) 
       → TakesIn rules (settings_out_by rules tags i (connection_at t i) q labels None) old new
       → MaySetOut t q i labels (record { start = start; label = label })
       → Covers rules new ((connection_at t i).dep - start_secs start) (started rules start (rules.ride label.value))
-  by_start None label none here may = here.covered label (record {
-    starts = starts_from t q (connection_at t i) None may.is_start may.leads;
-    fits = may.fits;
-    not_early = may.not_early;
-    not_late = may.not_late;
-  }, may.is_label)
+  by_start None label none here may = here.covered label (
+    record {
+      starts = starts_from t q (connection_at t i) None may.is_start may.leads;
+      fits = may.fits;
+      not_early = may.not_early;
+      not_late = may.not_late;
+    },
+    may.is_label,
+  )
   by_start (Some f) label none here may = absurd (none (f, may.is_start, may.leads))
 
   no_start_taken : (IsLed t q.source (connection_at t i).from → ⊥) → (connection_at t i).board ≡ true

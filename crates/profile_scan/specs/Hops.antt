@@ -1,5 +1,5 @@
 -- What a scan is asked, and the connection that it has come to.
-use Rattle.std.specs.Prelude.{◌≡◌, ℕ, ◌<◌, ◌≤◌, List, length, Contains, Option, IfSome}
+use Rattle.std.specs.Prelude.{◌≡◌, ℕ, ◌<◌, ◌≤◌, length, Contains, IfSome}
 use Rattle.criteria.specs.Laws.{Rules, Admits, IsTime, IsSecs}
 use Rattle.timetable.specs.declared.network.Connection.{Connection}
 use Rattle.timetable.specs.declared.query.Query.{Query}
@@ -36,8 +36,8 @@ pub record IsHop {V : Type 0} (rules : Rules V) (q : Query) (hop : Hop V) : Type
   pub secs : IfSome hop.way (λ secs. IsSecs secs)
   pub bound : (b : V) → Contains hop.bound.now b → Admits rules b
 
--- the connection stands at its place, it is known whether a footpath leads there from the source, and the way leads from
--- where it ends to the target
+-- the connection stands at its place, it is known whether a footpath leads there from the source, and the way leads
+-- from where it ends to the target
 pub record IsHopOf {V : Type 0} (rules : Rules V) (t : TimetableValue) (q : Query) (hop : Hop V) : Type 0 where
   pub stands : StandsAt t hop.place hop.connection
   pub by : IsTime q.by

@@ -7,8 +7,8 @@ use sources::ConnSource;
 use std::alloc::{AllocError, Global};
 use timetable::Footpath;
 
-/// For each stop whether a footpath leads there from the source, which is another stop. Hardly anywhere one does, so that
-/// where a scan boards, it mostly needn't go over footpaths to see how one may set out.
+/// For each stop whether a footpath leads there from the source, which is another stop. To few stops one does, so that
+/// where a connection is boarded, a scan mostly needn't go over footpaths to see how one may set out.
 #[derive(Drop)]
 pub struct Starts {
     led: Vec<bool>,
@@ -26,7 +26,8 @@ impl Starts {
 
 // Whether a footpath begins at the source and isn't its loop.
 fn is_start(walk: &Footpath, from: u32) -> bool
-    ensures { MatchBool result ((walk.now.from ≡ from) × (walk.now.to ≢ from)) ((walk.now.from ≡ from) × (walk.now.to ≢ from) → ⊥) }
+    ensures { MatchBool result ((walk.now.from ≡ from) × (walk.now.to ≢ from))
+        ((walk.now.from ≡ from) × (walk.now.to ≢ from) → ⊥) }
 {
     walk.from == from && walk.to != from
 }

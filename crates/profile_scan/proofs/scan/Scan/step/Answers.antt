@@ -1,4 +1,4 @@
-use Rattle.std.proofs.Common.{◌<◌, ◌+◌, ◌∙◌, ℕ, List, Contains, length, slice_index, arith, ap, sym, subst}
+use Rattle.std.proofs.Common.{◌<◌, ◌+◌, ◌∙◌, ℕ, List, Contains, slice_index, arith, ap, sym, subst}
 use Rattle.criteria.specs.Laws.{Admits}
 use Rattle.timetable.specs.declared.network.Connection.{Connection}
 use Rattle.timetable.specs.Journeys.{connection_at}
