@@ -1,3 +1,4 @@
 mod Refutations
 mod LabelsForgotten
 mod ExampleAnswers
+pub mod Bonus
