@@ -7,7 +7,7 @@ ghost use Rattle.bags.specs.Arrangement.{points_in, AreListed, AreLinked};
 use crate::Point;
 use crate::entry::Entry;
 use crate::insertion::insert_point;
-use crate::search::{count_from, some_no_worse};
+use crate::search::{count_late, some_no_worse};
 use criteria::Criterion;
 use std::alloc::{AllocError, Global};
 
@@ -89,10 +89,10 @@ impl<C: Criterion> Bag<C> {
     }
 
     // How many points depart at a time or later.
-    pub(crate) fn count_from(&self, time: u32) -> usize
+    pub(crate) fn count_late(&self, time: u32) -> usize
         ensures { AreLate (points_of self.now) time result }
     {
-        count_from(&self.entries, time)
+        count_late(&self.entries, time)
     }
 
     // A place from which on no point before the one at a place is a best one, from any time on at which that one hasn't departed.
