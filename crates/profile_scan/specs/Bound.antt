@@ -30,6 +30,22 @@ pub record IsLateValue {V : Type 0} (rules : Rules V) (found : List (Point V)) (
   pub late : time ≤ of.departure
   pub worth : of.value ≡ b
 
+-- values of points found that depart at a time or later come among others, and what these bettered stays bettered
+pub record IsRenewed {V : Type 0} (rules : Rules V) (found : List (Point V)) (time : ℕ) (old new : List V)
+    : Type 0 where
+  pub only : (b : V) → Contains new b → Contains old b ⊎ IsLateValue rules found time b
+  pub kept : (v : V) → Admits rules v → is_bettered rules old v ≡ true → is_bettered rules new v ≡ true
+
+-- the same, and each such point from one place on is bettered; of these places they are those before another
+pub record ReadsLate {V : Type 0} (rules : Rules V) (found : List (Point V)) (from time until : ℕ) (old new : List V)
+    : Type 0 where
+  pub only : (b : V) → Contains new b → Contains old b ⊎ IsLateValue rules found time b
+  pub kept : (v : V) → Admits rules v → is_bettered rules old v ≡ true → is_bettered rules new v ≡ true
+  pub each : (k : ℕ) (p : Point V) → from ≤ k → slice_get found k ≡ Some p → time ≤ p.departure
+      → is_bettered rules new p.value ≡ true
+  pub late : (k : ℕ) (p : Point V) → from ≤ k → k < until → slice_get found k ≡ Some p → time ≤ p.departure
+  pub rest : (k : ℕ) (p : Point V) → until ≤ k → slice_get found k ≡ Some p → p.departure < time
+
 -- a value comes among others: there is no further one, what they better stays bettered, and it is bettered too
 pub record TakesValue {V : Type 0} (rules : Rules V) (value : V) (old new : List V) : Type 0 where
   pub only : (b : V) → Contains new b → Contains old b ⊎ (value ≡ b)

@@ -3,7 +3,7 @@
 use Rattle.std.specs.Prelude.{◌≡◌, ◌⊎◌, ◌↔◌, ◌&&◌, ◌||◌, ◌==◌, ℕ, ◌<◌, ◌≤◌, Bool, nat_lt, List, Contains, AllPairs}
 use Rattle.std.specs.Ordering.{is_lt}
 use Rattle.std.specs.declared.cmp.Ordering.TheVariants.{Less}
-use Rattle.criteria.specs.Laws.{Rules, NoWorse}
+use Rattle.criteria.specs.Laws.{Rules, Admits, NoWorse}
 use Rattle.bags.specs.declared.point.Point.{Point}
 pub use Rattle.bags.specs.Dominance.{IsCovered as Covers}
 use Rattle.timetable.specs.TimetableValue.{TimetableValue}
@@ -48,3 +48,10 @@ pub record IsAnswer {V : Type 0} (rules : Rules V) (t : TimetableValue) (q : Que
 -- a point without its tag
 abbrev pub untagged : {V : Type 0} → Point V → ℕ × V
 untagged p = (p.departure, p.value)
+
+-- points in order, and one that can be put among them: it comes before or after each
+pub record CanPut {V : Type 0} (rules : Rules V) (points : List (Point V)) (point : Point V) : Type 0 where
+  pub ordered : AllPairs (Before rules) points
+  pub admitted : (p : Point V) → Contains points p → Admits rules p.value
+  pub value : Admits rules point.value
+  pub comparable : (p : Point V) → Contains points p → Before rules p point ⊎ Before rules point p

@@ -14,8 +14,8 @@ use std::ops::Range;
 
 /// Values of points found that depart no earlier than the connections to come.
 #[derive(Drop)]
-pub struct Bound<V> {
-    pub values: Vec<V>,
+pub struct Bound<C: Criterion> {
+    pub values: Vec<C::V>,
     // how many points were found when some were read last
     count: usize,
     // the place of the first that may have to be read: those before it depart later than any that is still to be found
@@ -24,8 +24,11 @@ pub struct Bound<V> {
     next: u32,
 }
 
-impl<V> Bound<V> {
-    ghost use Rattle.std.specs.Prelude.{◌≡◌, []};
+impl<C: Criterion> Bound<C> {
+    ghost use Rattle.std.specs.Prelude.{◌≡◌, [], Contains, IfOk, OnOk};
+    ghost use Rattle.criteria.specs.Laws.{Admits, RidingWorsens};
+    ghost use Rattle.bags.specs.Bag.{criterion_of, points_of};
+    ghost use Rattle.profile_scan.specs.Bound.{IsRenewed, ReadsLate};
 
     /// No values.
     pub fn new(alloc: Global) -> Self
@@ -37,6 +40,49 @@ impl<V> Bound<V> {
             place: 0,
             next: 0,
         }
+    }
+
+    // Reads the values of the points, from the place on, that depart at a time or later, and returns where they end.
+    fn read_late(&mut self, criterion: &C, found: &Bag<C>, time: u32) -> Result<usize, AllocError>
+        requires worsens { RidingWorsens (C.rules criterion.now) }
+        requires found { criterion_of found.now ≡ criterion.now }
+        requires values { (b : _) → Contains self.old.values.items b → Admits (C.rules criterion.now) b }
+        ensures { IfOk result (λ until. ReadsLate (C.rules criterion.now) (points_of found.now)
+            self.old.place time until self.old.values.items self.new.values.items) }
+    {
+        let from = self.place.min(found.len());
+        let until = late_until(found, from, time);
+        take_points(criterion, found, from..until, &mut self.values)?;
+        Ok(until)
+    }
+
+    /// Reads values of points that come to be late enough: those that were found since, and those that departed too early.
+    /// `count` tells whether points were found. What was read isn't read again, but for points that depart at that time:
+    /// others may still come among them. What the values bettered they still better.
+    pub fn renew(
+        &mut self,
+        criterion: &C,
+        found: &Bag<C>,
+        count: usize,
+        time: u32,
+    ) -> Result<(), AllocError>
+        requires found { criterion_of found.now ≡ criterion.now }
+        requires values { (b : _) → Contains self.old.values.items b → Admits (C.rules criterion.now) b }
+        ensures { OnOk result (IsRenewed (C.rules criterion.now) (points_of found.now) time
+            self.old.values.items self.new.values.items) }
+    {
+        if !criterion.riding_worsens() {
+            return Ok(());
+        }
+        if count == self.count && self.next < time {
+            return Ok(());
+        }
+        let until = self.read_late(criterion, found, time)?;
+        let from = self.place.min(found.len());
+        self.place = late_until(found, from, time.saturating_add(1));
+        self.next = departure_at(found, until);
+        self.count = count;
+        Ok(())
     }
 }
 
@@ -133,35 +179,6 @@ fn take_points<C: Criterion>(
     Ok(())
 }
 
-// Takes the values of the points from a place on that depart at a time or later, and tells where they end.
-fn read_late<C: Criterion>(
-    criterion: &C,
-    found: &Bag<C>,
-    from: usize,
-    time: u32,
-    values: &mut Vec<C::V>,
-) -> Result<usize, AllocError>
-    requires worsens { RidingWorsens (C.rules criterion.now) }
-    requires found { criterion_of found.now ≡ criterion.now }
-    requires from { from ≤ length (points_of found.now) }
-    requires values { (b : _) → Contains values.old.items b → Admits (C.rules criterion.now) b }
-    ensures only { OnOk result ((b : _) → Contains values.new.items b → Contains values.old.items b
-        ⊎ IsLateValue (C.rules criterion.now) (points_of found.now) time b) }
-    ensures each { OnOk result ((k : ℕ) (p : _) → from ≤ k → slice_get (points_of found.now) k ≡ Some p
-        → time ≤ p.departure → is_bettered (C.rules criterion.now) values.new.items p.value ≡ true) }
-    ensures kept { OnOk result ((v : _) → Admits (C.rules criterion.now) v
-        → is_bettered (C.rules criterion.now) values.old.items v ≡ true
-        → is_bettered (C.rules criterion.now) values.new.items v ≡ true) }
-    ensures late { IfOk result (λ until. (k : ℕ) (p : _) → from ≤ k → k < until
-        → slice_get (points_of found.now) k ≡ Some p → time ≤ p.departure) }
-    ensures rest { IfOk result (λ until. (k : ℕ) (p : _) → until ≤ k → slice_get (points_of found.now) k ≡ Some p
-        → p.departure < time) }
-{
-    let until = late_until(found, from, time);
-    take_points(criterion, found, from..until, values)?;
-    Ok(until)
-}
-
 // The departure of the point at a place, or 0 past the last.
 fn departure_at<C: Criterion>(found: &Bag<C>, place: usize) -> u32
     ensures there { (p : _) → slice_get (points_of found.now) place ≡ Some p → result ≡ p.departure }
@@ -171,36 +188,4 @@ fn departure_at<C: Criterion>(found: &Bag<C>, place: usize) -> u32
         return 0;
     }
     found.point(place).departure
-}
-
-/// Reads values of points that come to be late enough: those that were found since, and those that departed too early.
-/// `count` tells whether points were found. What was read isn't read again, but for points that depart at that time:
-/// others may still come among them. What the values bettered they still better.
-pub fn renew<C: Criterion>(
-    criterion: &C,
-    found: &Bag<C>,
-    count: usize,
-    time: u32,
-    bound: &mut Bound<C::V>,
-) -> Result<(), AllocError>
-    requires found { criterion_of found.now ≡ criterion.now }
-    requires values { (b : _) → Contains bound.old.values.items b → Admits (C.rules criterion.now) b }
-    ensures only { OnOk result ((b : _) → Contains bound.new.values.items b → Contains bound.old.values.items b
-        ⊎ IsLateValue (C.rules criterion.now) (points_of found.now) time b) }
-    ensures kept { OnOk result ((v : _) → Admits (C.rules criterion.now) v
-        → is_bettered (C.rules criterion.now) bound.old.values.items v ≡ true
-        → is_bettered (C.rules criterion.now) bound.new.values.items v ≡ true) }
-{
-    if !criterion.riding_worsens() {
-        return Ok(());
-    }
-    if count == bound.count && bound.next < time {
-        return Ok(());
-    }
-    let from = bound.place.min(found.len());
-    let until = read_late(criterion, found, from, time, &mut bound.values)?;
-    bound.place = late_until(found, from, time.saturating_add(1));
-    bound.next = departure_at(found, until);
-    bound.count = count;
-    Ok(())
 }

@@ -4,7 +4,7 @@ ghost use Rattle.std.specs.Prelude.{◌≡◌, ◌<◌, ◌≤◌, ◌⊎◌, �
 ghost use Rattle.std.specs.Prelude.{slice_index_or, Some};
 ghost use Rattle.criteria.specs.Laws.{Admits};
 ghost use Rattle.bags.specs.Bag.{criterion_of, points_of};
-ghost use Rattle.profile_scan.specs.Points.{Before};
+ghost use Rattle.profile_scan.specs.Points.{Before, CanPut};
 ghost use Rattle.profile_scan.specs.Answered.{Answer};
 
 use crate::nodes::Node;
@@ -97,11 +97,7 @@ fn put<C: Criterion>(
     points: &mut Vec<Point<C::V>>,
     point: Point<C::V>,
 ) -> Result<(), AllocError>
-    requires ordered { AllPairs (Before (C.rules criterion.now)) points.old.items }
-    requires admitted { (p : _) → Contains points.old.items p → Admits (C.rules criterion.now) p.value }
-    requires point { Admits (C.rules criterion.now) point.value }
-    requires comparable { (p : _) → Contains points.old.items p → Before (C.rules criterion.now) p point
-        ⊎ Before (C.rules criterion.now) point p }
+    requires { CanPut (C.rules criterion.now) points.old.items point }
     ensures ordered { OnOk result (AllPairs (Before (C.rules criterion.now)) points.new.items) }
     ensures put { OnOk result ((p : _) → Contains points.new.items p ↔ ((point ≡ p) ⊎ Contains points.old.items p)) }
 {
@@ -112,11 +108,7 @@ fn put<C: Criterion>(
 
 // The place of a point among points in order.
 fn place_for<C: Criterion>(criterion: &C, points: &[Point<C::V>], point: &Point<C::V>) -> usize
-    requires ordered { AllPairs (Before (C.rules criterion.now)) points.now }
-    requires admitted { (p : _) → Contains points.now p → Admits (C.rules criterion.now) p.value }
-    requires point { Admits (C.rules criterion.now) point.now.value }
-    requires comparable { (p : _) → Contains points.now p → Before (C.rules criterion.now) p point.now
-        ⊎ Before (C.rules criterion.now) point.now p }
+    requires { CanPut (C.rules criterion.now) points.now point.now }
     ensures within { result ≤ length points.now }
     ensures before { (k : ℕ) (d : _) → k < result
         → Before (C.rules criterion.now) (slice_index_or points.now k d) point.now }

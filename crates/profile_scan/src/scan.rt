@@ -2,7 +2,7 @@
 
 ghost use Rattle.std.specs.Prelude.{◌≡◌, ◌↔◌, ◌≢◌, None, true};
 
-use crate::bound::{Bound, renew};
+use crate::bound::Bound;
 use crate::hop::{Asked, Hop};
 use crate::origin::Origin;
 use crate::stops::Stops;
@@ -54,16 +54,11 @@ impl<C: Criterion> State<C> {
         ensures { result ≡ true → IsIdle asked.now.query connection.now way
             ((kept_by self.now).labels connection.now.trip) ((kept_by self.now).bag connection.now.to) }
     {
-        let labels = self.trips.labels.count(connection.trip);
+        if self.trips.labels.count(connection.trip) > 0 {
+            return false;
+        }
         let head = self.stops.head(connection.to);
-        offers_nothing(
-            labels,
-            head,
-            connection.alight,
-            connection.to,
-            asked.query.target,
-            way,
-        )
+        ends_nothing(connection, asked.query.target, way, head)
     }
 
     // Takes one connection in: leaves its trip where it ends, and then, the labels of its trip being known, sets out
@@ -93,25 +88,16 @@ impl<C: Criterion> State<C> {
     }
 }
 
-// Whether nothing is offered at a connection, by how many labels its trip has and the head of the list of the stop
-// where it ends.
-fn offers_nothing(
-    labels: u32,
-    head: u32,
-    alight: bool,
-    to: u32,
-    target: u32,
-    way: Option<u32>,
-) -> bool
-    ensures { (result ≡ true) ↔ ((labels ≡ 0) × (alight ≡ true → (to ≢ target) × (way ≡ None) × (head ≡ 0))) }
+// Whether nobody who gets off where a connection ends may be at the target or go on: neither there nor on foot, and by no point of that
+// stop, whose list has this head.
+fn ends_nothing(connection: &Connection, target: u32, way: Option<u32>, head: u32) -> bool
+    ensures { (result ≡ true)
+        ↔ (connection.now.alight ≡ true → (connection.now.to ≢ target) × (way ≡ None) × (head ≡ 0)) }
 {
-    if labels > 0 {
-        return false;
-    }
-    if !alight {
+    if !connection.alight {
         return true;
     }
-    if to == target || head > 0 {
+    if connection.to == target || head > 0 {
         return false;
     }
     match way {
@@ -124,7 +110,7 @@ fn offers_nothing(
 #[derive(Drop)]
 pub struct Scan<C: Criterion> {
     pub state: State<C>,
-    pub bound: Bound<C::V>,
+    pub bound: Bound<C>,
 }
 
 impl<C: Criterion> Scan<C> {
@@ -157,12 +143,12 @@ impl<C: Criterion> Scan<C> {
         if self.state.is_idle(asked, connection, way) {
             return Ok(());
         }
-        renew(
+        let origin = &self.state.origin;
+        self.bound.renew(
             &asked.criterion,
-            &self.state.origin.found,
-            self.state.origin.set_outs.len(),
+            &origin.found,
+            origin.set_outs.len(),
             connection.dep,
-            &mut self.bound,
         )?;
         let hop = Hop {
             connection: *connection,

@@ -34,51 +34,144 @@ struct End {
     walk: Option<Footpath>,
 }
 
-// How one changes after a label, if one does.
-fn change_after<C: Criterion>(state: &State<C>, label: usize) -> Option<Change>
-    ensures { result ≡ change (story_of state.now) label }
-{
-    match state.trips.exits.get(label).copied()? {
-        Exit::Ends { .. } => None,
-        Exit::Changes { last, step } => {
-            let step = state.stops.lists.step(step)?;
-            Some(Change { last, step })
-        },
-    }
-}
+impl<C: Criterion> State<C> {
+    ghost use Rattle.std.specs.Prelude.{◌≡◌, ◌++◌, ◌∷◌, [], ℕ, IfOk, Contains, Some, None, length, map};
+    ghost use Rattle.bags.specs.declared.point.Point.{Point};
+    ghost use Rattle.fronts.specs.Front.{Extends};
+    ghost use Rattle.profile_scan.specs.Points.{untagged};
+    ghost use Rattle.profile_scan.specs.Kept.{story_of};
+    ghost use Rattle.profile_scan.specs.declared.telling.Change.{Change};
+    ghost use Rattle.profile_scan.specs.Telling.{IsRoute, change, ending, IsLabelTold, SaysLabel, IsJourneyTold};
+    ghost use Rattle.profile_scan.specs.Telling.{SaysJourney, IsRetold};
 
-// How one ends after a label, if one does.
-fn end_after<C: Criterion>(state: &State<C>, label: usize) -> Option<End>
-    ensures { result ≡ ending (story_of state.now) label }
-{
-    match state.trips.exits.get(label).copied()? {
-        Exit::Ends { last, walk } => Some(End { last, walk }),
-        Exit::Changes { .. } => None,
-    }
-}
-
-// The last label to which one leads, those on the way to it being noted.
-fn note_route<C: Criterion>(
-    state: &State<C>,
-    first: usize,
-    route: &mut Vec<usize>,
-) -> Result<usize, AllocError>
-    ensures route { IfOk result (λ last. IsRoute (story_of state.now) first route.new.items last) }
-    ensures ends { IfOk result (λ last. (walks : _) → IsLabelTold walks (story_of state.now) first
-        → change (story_of state.now) last ≡ None) }
-{
-    route.clear();
-    let mut label = first;
-    for _i in 0..state.trips.exits.len() {
-        match change_after(state, label) {
-            None => return Ok(label),
-            Some(change) => {
-                route.push(label)?;
-                label = change.step.label as usize;
+    // How one changes after a label, if one does.
+    fn change_after(&self, label: usize) -> Option<Change>
+        ensures { result ≡ change (story_of self.now) label }
+    {
+        match self.trips.exits.get(label).copied()? {
+            Exit::Ends { .. } => None,
+            Exit::Changes { last, step } => {
+                let step = self.stops.lists.step(step)?;
+                Some(Change { last, step })
             },
         }
     }
-    Ok(label)
+
+    // How one ends after a label, if one does.
+    fn end_after(&self, label: usize) -> Option<End>
+        ensures { result ≡ ending (story_of self.now) label }
+    {
+        match self.trips.exits.get(label).copied()? {
+            Exit::Ends { last, walk } => Some(End { last, walk }),
+            Exit::Changes { .. } => None,
+        }
+    }
+
+    // The last label to which one leads, those on the way to it being noted.
+    fn note_route(&self, first: usize, route: &mut Vec<usize>) -> Result<usize, AllocError>
+        ensures route { IfOk result (λ last. IsRoute (story_of self.now) first route.new.items last) }
+        ensures ends { IfOk result (λ last. (walks : _) → IsLabelTold walks (story_of self.now) first
+            → change (story_of self.now) last ≡ None) }
+    {
+        route.clear();
+        let mut label = first;
+        for _i in 0..self.trips.exits.len() {
+            match self.change_after(label) {
+                None => return Ok(label),
+                Some(change) => {
+                    route.push(label)?;
+                    label = change.step.label as usize;
+                },
+            }
+        }
+        Ok(label)
+    }
+
+    // Adds a node that says how one leaves the trip of a label for good.
+    fn tell_end(&self, label: usize, nodes: &mut Vec<Node>) -> Result<usize, AllocError>
+        ensures nodes { Extends nodes.old.items nodes.new.items }
+        ensures says { IfOk result (λ number. (walks : _) → IsLabelTold walks (story_of self.now) label
+            → change (story_of self.now) label ≡ None
+            → SaysLabel walks (story_of self.now) label nodes.new.items number) }
+    {
+        match self.end_after(label) {
+            None => Ok(nodes.len()),
+            Some(end) => add(
+                nodes,
+                Node::Ends {
+                    last: end.last,
+                    walk: end.walk,
+                },
+            ),
+        }
+    }
+
+    // Adds the nodes that say how one changes after a label, `next` being the number of the node by which one rides on.
+    fn tell_change<S: ConnSource>(
+        &self,
+        source: &S,
+        label: usize,
+        next: usize,
+        nodes: &mut Vec<Node>,
+    ) -> Result<usize, AllocError>
+        requires told { IsLabelTold (S.timetable source.now).footpaths (story_of self.now) label }
+        requires next { (c : Change) × (change (story_of self.now) label ≡ Some c)
+            × SaysLabel (S.timetable source.now).footpaths (story_of self.now) c.step.label nodes.old.items next }
+        ensures nodes { Extends nodes.old.items nodes.new.items }
+        ensures says { IfOk result
+            (λ number. SaysLabel (S.timetable source.now).footpaths (story_of self.now) label nodes.new.items number) }
+    {
+        match self.change_after(label) {
+            None => Ok(next),
+            Some(change) => {
+                let walk = source.footpath(change.step.walk as usize);
+                let boards = add(
+                    nodes,
+                    Node::Boards {
+                        walk,
+                        first: change.step.first,
+                        next,
+                    },
+                )?;
+                add(
+                    nodes,
+                    Node::Changes {
+                        last: change.last,
+                        next: boards,
+                    },
+                )
+            },
+        }
+    }
+
+    // Adds the nodes of the journey of a point found.
+    fn tell_journey<S: ConnSource>(
+        &self,
+        source: &S,
+        tag: usize,
+        route: &mut Vec<usize>,
+        nodes: &mut Vec<Node>,
+    ) -> Result<usize, AllocError>
+        requires { IsJourneyTold (S.timetable source.now).footpaths (story_of self.now) tag }
+        ensures nodes { Extends nodes.old.items nodes.new.items }
+        ensures says { IfOk result
+            (λ number. SaysJourney (S.timetable source.now).footpaths (story_of self.now) tag nodes.new.items number) }
+    {
+        let set_out = self.origin.set_outs[tag];
+        let last = self.note_route(set_out.label, route)?;
+        let mut next = self.tell_end(last, nodes)?;
+        while let Some(label) = route.pop() {
+            next = self.tell_change(source, label, next, nodes)?;
+        }
+        add(
+            nodes,
+            Node::SetsOut {
+                start: set_out.start,
+                first: set_out.first,
+                next,
+            },
+        )
+    }
 }
 
 // Adds a node, and tells its number.
@@ -90,96 +183,6 @@ fn add(nodes: &mut Vec<Node>, node: Node) -> Result<usize, AllocError>
     let number = nodes.len();
     nodes.push(node)?;
     Ok(number)
-}
-
-// Adds a node that says how one leaves the trip of a label for good.
-fn tell_end<C: Criterion>(
-    state: &State<C>,
-    label: usize,
-    nodes: &mut Vec<Node>,
-) -> Result<usize, AllocError>
-    ensures nodes { Extends nodes.old.items nodes.new.items }
-    ensures says { IfOk result (λ number. (walks : _) → IsLabelTold walks (story_of state.now) label
-        → change (story_of state.now) label ≡ None
-        → SaysLabel walks (story_of state.now) label nodes.new.items number) }
-{
-    match end_after(state, label) {
-        None => Ok(nodes.len()),
-        Some(end) => add(
-            nodes,
-            Node::Ends {
-                last: end.last,
-                walk: end.walk,
-            },
-        ),
-    }
-}
-
-// Adds the nodes that say how one changes after a label, `next` being the number of the node by which one rides on.
-fn tell_change<S: ConnSource, C: Criterion>(
-    source: &S,
-    state: &State<C>,
-    label: usize,
-    next: usize,
-    nodes: &mut Vec<Node>,
-) -> Result<usize, AllocError>
-    requires told { IsLabelTold (S.timetable source.now).footpaths (story_of state.now) label }
-    requires next { (c : Change) × (change (story_of state.now) label ≡ Some c)
-        × SaysLabel (S.timetable source.now).footpaths (story_of state.now) c.step.label nodes.old.items next }
-    ensures nodes { Extends nodes.old.items nodes.new.items }
-    ensures says { IfOk result
-        (λ number. SaysLabel (S.timetable source.now).footpaths (story_of state.now) label nodes.new.items number) }
-{
-    match change_after(state, label) {
-        None => Ok(next),
-        Some(change) => {
-            let walk = source.footpath(change.step.walk as usize);
-            let boards = add(
-                nodes,
-                Node::Boards {
-                    walk,
-                    first: change.step.first,
-                    next,
-                },
-            )?;
-            add(
-                nodes,
-                Node::Changes {
-                    last: change.last,
-                    next: boards,
-                },
-            )
-        },
-    }
-}
-
-// Adds the nodes of the journey of a point found.
-fn tell_journey<S: ConnSource, C: Criterion>(
-    source: &S,
-    state: &State<C>,
-    tag: usize,
-    route: &mut Vec<usize>,
-    nodes: &mut Vec<Node>,
-) -> Result<usize, AllocError>
-    requires { IsJourneyTold (S.timetable source.now).footpaths (story_of state.now) tag }
-    ensures nodes { Extends nodes.old.items nodes.new.items }
-    ensures says { IfOk result
-        (λ number. SaysJourney (S.timetable source.now).footpaths (story_of state.now) tag nodes.new.items number) }
-{
-    let set_out = state.origin.set_outs[tag];
-    let last = note_route(state, set_out.label, route)?;
-    let mut next = tell_end(state, last, nodes)?;
-    while let Some(label) = route.pop() {
-        next = tell_change(source, state, label, next, nodes)?;
-    }
-    add(
-        nodes,
-        Node::SetsOut {
-            start: set_out.start,
-            first: set_out.first,
-            next,
-        },
-    )
 }
 
 /// Points whose tags are the numbers of nodes.
@@ -207,7 +210,7 @@ pub fn tell_journeys<S: ConnSource, C: Criterion>(
     let mut route = Vec::new(alloc);
     for i in 0..points.len() {
         let point = points[i];
-        let tag = tell_journey(source, state, point.tag, &mut route, &mut nodes)?;
+        let tag = state.tell_journey(source, point.tag, &mut route, &mut nodes)?;
         told.push(Point {
             departure: point.departure,
             value: point.value,

@@ -10,22 +10,19 @@ loop-left-init g c =
     subst (λ n. AreListed (g.C.Criterion.rules c.args.criterion.now) (points_of c.args.bag.now) n c.in_ok-points.points.items) (sym c.len-left.ensures)
     (none_listed (g.C.Criterion.rules c.args.criterion.now) (points_of c.args.bag.now) c.in_ok-points.points.items c.in_ok-points.ensures.items)
 
-pub put-requires-clause-admitted : goal.put-requires-clause-admitted
-put-requires-clause-admitted g c p h =
+pub put-requires : goal.put-requires
+put-requires g c =
     let rules = g.C.Criterion.rules c.args.criterion.now in
-    let bag = bag_under g.C.Criterion.rules c.args.bag.now.criterion c.args.criterion.now (points_of c.args.bag.now) c.requires c.args.bag.now.kept in
-    bag.admitted p (listed_in rules (points_of c.args.bag.now) c.loop-left.left c.loop-left.points.items c.loop-left.invariant p h)
-
-pub put-requires-clause-point : goal.put-requires-clause-point
-put-requires-clause-point g c =
-    let bag = bag_under g.C.Criterion.rules c.args.bag.now.criterion c.args.criterion.now (points_of c.args.bag.now) c.requires c.args.bag.now.kept in
-    bag.admitted c.point-point.result (Contains-At (points_of c.args.bag.now) (c.loop-left.left - 1) c.point-point.result c.point-point.ensures)
-
-pub put-requires-clause-comparable : goal.put-requires-clause-comparable
-put-requires-clause-comparable g c =
-    let rules = g.C.Criterion.rules c.args.criterion.now in
-    let bag = bag_under g.C.Criterion.rules c.args.bag.now.criterion c.args.criterion.now (points_of c.args.bag.now) c.requires c.args.bag.now.kept in
-    comparable rules (points_of c.args.bag.now) (g.met.C.Criterion.laws c.args.criterion.now) bag c.loop-left.left c.loop-left.points.items c.point-point.result c.loop-left.invariant (omega arith) c.point-point.ensures
+    let points = points_of c.args.bag.now in
+    let listed = c.loop-left.points.items in
+    let inv = c.loop-left.invariant in
+    let bag = bag_under g.C.Criterion.rules c.args.bag.now.criterion c.args.criterion.now points c.requires c.args.bag.now.kept in
+    record {
+      ordered = inv.ordered;
+      admitted = λ p h. bag.admitted p (listed_in rules points c.loop-left.left listed inv p h);
+      value = bag.admitted c.point-point.result (Contains-At points (c.loop-left.left - 1) c.point-point.result c.point-point.ensures);
+      comparable = comparable rules points (g.met.C.Criterion.laws c.args.criterion.now) bag c.loop-left.left listed c.point-point.result inv (omega arith) c.point-point.ensures;
+    }
 
 pub loop-left-preserved : goal.loop-left-preserved
 loop-left-preserved g c =

@@ -1,6 +1,6 @@
 use Rattle.std.proofs.Common.{AllPairs, sym, ◌∙◌, ap, subst}
 use Rattle.std.specs.List.{insert}
-use Rattle.profile_scan.specs.Points.{Before}
+use Rattle.profile_scan.specs.Points.{Before, CanPut}
 use Rattle.profile_scan.proofs.OrderLemmas.{put_in_order, put_there}
 use Rattle.profile_scan.proofs.found.put.Goals as goal
 
@@ -14,3 +14,6 @@ returns-clause-ordered g c =
 
 pub returns-clause-put : goal.returns-clause-put
 returns-clause-put g c = put_there c.args.points.now.items c.insert.new.self.items c.place_for-place.result c.args.point c.in_ok-insert.ensures.items
+
+pub place_for-place-requires : goal.place_for-place-requires
+place_for-place-requires g c = subst (λ ps. CanPut (g.C.Criterion.rules c.args.criterion.now) ps c.args.point) (sym c.deref.ensures.value) c.requires

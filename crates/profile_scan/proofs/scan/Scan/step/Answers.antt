@@ -75,7 +75,7 @@ returns-then-is_idle-clause-scan g c =
     }
 
 -- the values of the bound, renewed
-renewed : (g : given.Over) (c : goal.In_ok-renew g) → AreBounds (g.C.Criterion.rules c.args.asked.now.criterion) (g.S.ConnSource.timetable c.args.source.now) (points_of c.args.self.now.state.origin.found) (c.args.place + 1) c.renew.new.bound.values.items
+renewed : (g : given.Over) (c : goal.In_ok-renew g) → AreBounds (g.C.Criterion.rules c.args.asked.now.criterion) (g.S.ConnSource.timetable c.args.source.now) (points_of c.args.self.now.state.origin.found) (c.args.place + 1) c.renew.new.self.values.items
 renewed g c =
     let rules = g.C.Criterion.rules c.args.asked.now.criterion in
     let laws = g.met.C.Criterion.laws c.args.asked.now.criterion in
@@ -85,7 +85,7 @@ renewed g c =
     let bag = scan.state.origin.found in
     let at = c.requires.stands in
     let found = bag_under g.C.Criterion.rules bag.criterion c.args.asked.now.criterion (points_of bag) c.requires.scan.state.found bag.kept in
-    bounds_renewed rules laws t legal (points_of bag) found.admitted c.args.place c.args.connection.now.dep at.in_range (ap (λ (x : Connection). x.dep) at.is) scan.bound.values.items c.renew.new.bound.values.items c.requires.scan.bound c.in_ok-renew.ensures.only
+    bounds_renewed rules laws t legal (points_of bag) found.admitted c.args.place c.args.connection.now.dep at.in_range (ap (λ (x : Connection). x.dep) at.is) scan.bound.values.items c.renew.new.self.values.items c.requires.scan.bound c.in_ok-renew.ensures.only
 
 pub take-requires-clause-hop : goal.take-requires-clause-hop
 take-requires-clause-hop g c =
@@ -109,7 +109,7 @@ returns-clause-scan g c =
     record {
       state = c.in_ok-take.ensures.state;
       bound =
-          bounds_on rules laws t (points_of c.args.self.now.state.origin.found) (points_of now.origin.found) (c.args.place + 1) c.args.place c.renew.new.bound.values.items (omega arith)
+          bounds_on rules laws t (points_of c.args.self.now.state.origin.found) (points_of now.origin.found) (c.args.place + 1) c.args.place c.renew.new.self.values.items (omega arith)
           (taken.sets_out taken.between (story_of now) (grows_none taken.between) (grows_none (story_of now))).kept (renewed g (goal.at.returns-clause-scan g c).In_ok-renew);
     }
 
@@ -128,7 +128,7 @@ returns-clause-step g c =
     let now = story_of next in
     let taken = c.in_ok-take.ensures.takes in
     let mid = taken.between in
-    let values = c.renew.new.bound.values.items in
+    let values = c.renew.new.self.values.items in
     let values_is = c.deref.ensures.value in
     let first = from_to (told t.footpaths was) (told t.footpaths mid) in
     let second = from_to (told t.footpaths mid) (told t.footpaths now) in
