@@ -1,5 +1,5 @@
 -- Boarding, over the footpaths into a connection's start.
-use Rattle.std.proofs.Common.{◌≡◌, ◌⊎◌, ◌↔◌, ℕ, ◌+◌, ◌<◌, ◌≤◌, true, List, Contains, length, slice_get, Option, Some, None, refl, sym, ◌∙◌, ap, subst, inl, inr, arith}
+use Rattle.std.proofs.Common.{◌≡◌, ◌⊎◌, ◌↔◌, ℕ, ◌+◌, ◌-◌, ◌<◌, ◌≤◌, Bool, true, false, List, Contains, length, slice_get, Option, Some, None, refl, sym, ◌∙◌, ap, subst, inl, inr, arith}
 use Rattle.std.proofs.lemmas.Bool.{cases_lt}
 use Rattle.std.proofs.lemmas.Option.{same_Some}
 use Rattle.criteria.specs.Laws.{Rules, Laws, Admits, IsSecs}
@@ -10,11 +10,13 @@ use Rattle.timetable.specs.declared.query.Query.{Query}
 use Rattle.timetable.specs.TimetableValue.{TimetableValue}
 use Rattle.timetable.specs.Legal.{At}
 use Rattle.timetable.specs.Limits.{IsWithinLimits}
-use Rattle.timetable.specs.Journeys.{connection_at, IsStart, start_end}
+use Rattle.timetable.specs.Journeys.{connection_at, IsStart, start_end, start_secs}
 use Rattle.timetable.proofs.LegalLemmas.{Contains-At, At-Contains}
 use Rattle.profile_scan.specs.Values.{started}
 use Rattle.profile_scan.specs.Matching.{Spellings}
 use Rattle.profile_scan.specs.Steps.{Offer, TakesIn, boardings, settings_out, MayBoard, MaySetOut}
+use Rattle.profile_scan.specs.Points.{Covers}
+use Rattle.profile_scan.specs.Starts.{IsLed, SaysLed}
 use Rattle.profile_scan.specs.Adding.{each_of, StandsBetween, AreWalksInto, IsTried, StartsFrom, MayStart, boardings_by, settings_out_by}
 use Rattle.profile_scan.proofs.Admitted.{AreAdmitted}
 use Rattle.profile_scan.proofs.Offers.{takes_none, takes_more, takes_as}
@@ -88,6 +90,53 @@ is_start t q c begin end (Some f) tried s = (Contains-At t.footpaths tried.0 f t
 starts_from : (t : TimetableValue) (q : Query) (c : Connection) (start : Option Footpath) → IsStart t q.source start → start_end q.source start ≡ c.from → StartsFrom q c start
 starts_from t q c None is leads = sym leads
 starts_from t q c (Some f) is leads = (is.1, is.2)
+
+-- no footpath leads to the connection from the source: only no start does
+module _ {V : Type 0} (rules : Rules V) (t : TimetableValue) (tags : Spellings) (i : ℕ) (q : Query) (labels : List (Point V)) (old new : List (Point V)) where
+  by_start : (start : Option Footpath) (label : Point V) → (IsLed t q.source (connection_at t i).from → ⊥)
+      → TakesIn rules (settings_out_by rules tags i (connection_at t i) q labels None) old new
+      → MaySetOut t q i labels (record { start = start; label = label })
+      → Covers rules new ((connection_at t i).dep - start_secs start) (started rules start (rules.ride label.value))
+  by_start None label none here may = here.covered label (
+    record {
+      starts = starts_from t q (connection_at t i) None may.is_start may.leads;
+      fits = may.fits;
+      not_early = may.not_early;
+      not_late = may.not_late;
+    },
+    may.is_label,
+  )
+  by_start (Some f) label none here may = absurd (none (f, may.is_start, may.leads))
+
+  no_start_taken : (IsLed t q.source (connection_at t i).from → ⊥) → (connection_at t i).board ≡ true
+      → TakesIn rules (settings_out_by rules tags i (connection_at t i) q labels None) old new → TakesIn rules (settings_out rules t q tags i labels) old new
+  no_start_taken none boards here =
+      takes_as rules (settings_out_by rules tags i (connection_at t i) q labels None) (settings_out rules t q tags i labels) old new
+      (λ label opened. record {
+        there = record { start = None; label = label };
+        is_open = record {
+          boards = boards;
+          is_start = tt;
+          leads = sym opened.0.starts;
+          fits = opened.0.fits;
+          not_early = opened.0.not_early;
+          not_late = opened.0.not_late;
+          is_label = opened.1;
+        };
+        departs = refl;
+        worth = refl;
+        fits = λ tag h. h;
+      })
+      (λ way may. by_start way.start way.label none here may)
+      here
+
+  pub alone_taken : (c : Connection) → c ≡ connection_at t i → c.board ≡ true → (led : Bool) → led ≡ false → SaysLed t q.source c.from led
+      → TakesIn rules (settings_out_by rules tags i c q labels None) old new → TakesIn rules (settings_out rules t q tags i labels) old new
+  alone_taken c is boards led not_led says takes =
+      no_start_taken
+      (subst (λ (x : Connection). SaysLed t q.source x.from false) is (subst (SaysLed t q.source c.from) not_led says))
+      (subst (λ (x : Connection). x.board ≡ true) is boards)
+      (subst (λ (x : Connection). TakesIn rules (settings_out_by rules tags i x q labels None) old new) is takes)
 
 -- where exactly the footpaths into a stop stand
 pub walks_into_it : (t : TimetableValue) (stop begin end : ℕ) → stop < t.stops → begin ≤ end → end ≤ length t.footpaths → ((k : ℕ) (f : Footpath) → At t.footpaths k f → (f.to ≡ stop) ↔ ((begin ≤ k) × (k < end))) → AreWalksInto t stop begin end

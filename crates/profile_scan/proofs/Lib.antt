@@ -11,6 +11,7 @@ pub mod RideLemmas
 pub mod TellingLemmas
 pub mod BoardLemmas
 pub mod LeaveLemmas
+pub mod StartLemmas
 pub mod WayLemmas
 pub mod StepFacts
 pub mod LogLemmas

@@ -1,10 +1,9 @@
 -- What the parts of a state keep, over several steps.
-use Rattle.std.proofs.Common.{ℕ, ◌<◌, ◌≤◌, List, length, vec_len, inl, inr, refl, sym, ◌∙◌, subst, arith}
+use Rattle.std.proofs.Common.{ℕ, ◌<◌, ◌≤◌, length, vec_len, inl, inr, refl, sym, ◌∙◌, subst, arith}
 use Rattle.std.proofs.lemmas.Bool.{cases_lt}
 use Rattle.sources.specs.FirstAt.{IsFirstAt}
 use Rattle.reasoning.proofs.ListLemmas.{extends_none, extends_on}
 use Rattle.criteria.specs.Laws.{Rules}
-use Rattle.bags.specs.Bag.{criterion_of}
 use Rattle.timetable.specs.Limits.{IsWithinLimits}
 use Rattle.timetable.specs.TimetableValue.{TimetableValue}
 use Rattle.timetable.specs.declared.network.Connection.{Connection}

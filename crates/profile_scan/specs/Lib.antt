@@ -11,6 +11,7 @@ pub mod LawStatements
 pub mod Nodes
 pub mod Story
 pub mod Adding
+pub mod Starts
 pub mod Hops
 pub mod Kept
 pub mod Telling

@@ -8,6 +8,7 @@ ghost use Rattle.profile_scan.specs.Found.{Answers};
 use crate::found::{Found, in_order};
 use crate::hop::Asked;
 use crate::scan::scan_window;
+use crate::starts::starts_from;
 use crate::telling::tell_journeys;
 use crate::ways::ways_to;
 use criteria::Criterion;
@@ -44,10 +45,12 @@ pub fn profile<S: ConnSource, C: Criterion>(
 {
     let start = source.first_at(query.from);
     let end = source.first_at(query.by);
+    let starts = starts_from(alloc, source, query.source)?;
     let ways = ways_to(alloc, source, query.target)?;
     let asked = Asked {
         criterion: *criterion,
         query: *query,
+        starts,
         ways,
     };
     let scan = scan_window(alloc, source, &asked, start..end)?;

@@ -56,9 +56,9 @@ impl<C: Criterion> Bound<C> {
         Ok(until)
     }
 
-    /// Reads values of points that come to be late enough: those that were found since, and those that departed too early.
-    /// `count` tells whether points were found. What was read isn't read again, but for points that depart at that time:
-    /// others may still come among them. What the values bettered they still better.
+    /// Reads values of points that come to be late enough: those that were found since, and those that departed too
+    /// early. `count` tells whether points were found. What was read isn't read again, but for points that depart at
+    /// that time: others may still come among them. What the values bettered they still better.
     pub fn renew(
         &mut self,
         criterion: &C,

@@ -1,22 +1,27 @@
 //! What a scan is asked, and one connection of it.
 
+use crate::starts::Starts;
 use crate::ways::Ways;
 use timetable::{Connection, Query};
 
-/// What a scan is asked, the same at each connection: by which criterion, which query, and the footpaths to its target.
+/// What a scan is asked, the same at each connection: by which criterion, which query, the footpaths from its source,
+/// and those to its target.
 #[derive(Drop)]
 pub struct Asked<C> {
     pub criterion: C,
     pub query: Query,
+    pub starts: Starts,
     pub ways: Ways,
 }
 
-/// One connection, as a scan comes to it: its place, the seconds of the footpath from where it ends to the target, if
-/// there is one, and values that points found already better.
+/// One connection, as a scan comes to it: its place, whether a footpath leads from the source to where it begins, the
+/// seconds of the footpath from where it ends to the target, if there is one, and values that points found already
+/// better.
 #[derive(Clone, Copy)]
 pub struct Hop<'a, V> {
     pub connection: Connection,
     pub place: u32,
+    pub led: bool,
     pub way: Option<u32>,
     pub bound: &'a [V],
 }

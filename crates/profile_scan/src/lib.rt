@@ -16,6 +16,7 @@ mod nodes;
 mod origin;
 mod riding;
 mod scan;
+mod starts;
 mod stops;
 mod story;
 mod telling;

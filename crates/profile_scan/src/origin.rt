@@ -147,8 +147,11 @@ impl<C: Criterion> Origin<C> {
         if !hop.connection.board {
             return Ok(());
         }
-        let (begin, end) = source.walks_into(hop.connection.from as usize);
         self.set_out_by(asked, hop, None, labels)?;
+        if !hop.led {
+            return Ok(());
+        }
+        let (begin, end) = source.walks_into(hop.connection.from as usize);
         for place in begin..end {
             let walk = source.footpath_into(hop.connection.from as usize, place);
             self.set_out_by(asked, hop, Some(walk), labels)?;

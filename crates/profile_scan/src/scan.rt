@@ -88,8 +88,8 @@ impl<C: Criterion> State<C> {
     }
 }
 
-// Whether nobody who gets off where a connection ends may be at the target or go on: neither there nor on foot, and by no point of that
-// stop, whose list has this head.
+// Whether nobody who gets off where a connection ends may be at the target or go on: neither there nor on foot, and by
+// no point of that stop, whose list has this head.
 fn ends_nothing(connection: &Connection, target: u32, way: Option<u32>, head: u32) -> bool
     ensures { (result ≡ true)
         ↔ (connection.now.alight ≡ true → (connection.now.to ≢ target) × (way ≡ None) × (head ≡ 0)) }
@@ -153,6 +153,7 @@ impl<C: Criterion> Scan<C> {
         let hop = Hop {
             connection: *connection,
             place,
+            led: asked.starts.lead_to(connection.from),
             way,
             bound: &self.bound.values,
         };

@@ -98,7 +98,7 @@ scan_window-requires g c =
     let t = g.S.ConnSource.timetable c.args.source.now in
     let q = c.args.query.now in
     record {
-      can_ask = record { by = c.requires.small.2; ways = c.in_ok-ways.ensures };
+      can_ask = record { by = c.requires.small.2; starts = c.in_ok-starts.ensures; ways = c.in_ok-ways.ensures };
       order = firsts_rise t q.from q.by c.first_at-start.result c.first_at-end.result c.requires.in_time c.first_at-start.ensures c.first_at-end.ensures;
       past = c.first_at-end.ensures;
     }

@@ -6,7 +6,7 @@ use Rattle.profile_scan.specs.Story.{story, told}
 use Rattle.profile_scan.specs.Steps.{TakesIn}
 use Rattle.profile_scan.specs.Adding.{label_points, each_of, IsTried, settings_out_by}
 use Rattle.profile_scan.proofs.StoryLemmas.{grows_on, set_outs_grow}
-use Rattle.profile_scan.proofs.BoardLemmas.{starts_first, starts_next, settings_out_taken}
+use Rattle.profile_scan.proofs.BoardLemmas.{starts_first, starts_next, settings_out_taken, alone_taken}
 use Rattle.profile_scan.proofs.PartLemmas.{origin_on}
 use Rattle.profile_scan.proofs.StepFacts.{begins_in}
 use Rattle.profile_scan.proofs.origin.Origin.set_out.Given as given
@@ -56,6 +56,15 @@ returns-clause-takes g c exits steps before all ext_before ext =
     c.args.asked.now.query (points_of c.args.self.now.found) (points_of c.loop-place.self.found)
     (subst (λ (n : ℕ). TakesIn rules (each_of (IsTried t.footpaths begin n) (settings_out_by rules tags c.args.hop.now.place c.args.hop.now.connection c.args.asked.now.query labels)) (points_of c.args.self.now.found) (points_of c.loop-place.self.found)) at_end
     (c.loop-place.invariant.takes exits steps before all ext_before ext))
+
+-- no footpath leads there from the source
+pub returns-then-not-hop-2-clause-takes : goal.returns-then-not-hop-2-clause-takes
+returns-then-not-hop-2-clause-takes g c exits steps before all ext_before ext =
+    let t = g.S.ConnSource.timetable c.args.source.now in
+    let hop = c.args.hop.now in
+    alone_taken (g.C.Criterion.rules c.args.asked.now.criterion) t (from_to (told t.footpaths before) (told t.footpaths all)) hop.place c.args.asked.now.query (label_points c.args.labels.now) (points_of c.args.self.now.found) (points_of c.set_out_by.new.self.found)
+    hop.connection c.requires.hop.stands.is c.if-not-hop.false hop.led c.if-not-hop-2.true c.requires.hop.led
+    (c.in_ok-set_out_by.ensures.takes t.footpaths exits steps before all ext_before ext)
 
 -- the connection begins at a stop
 begins : (g : given.Over) (c : goal.Start g) → c.args.hop.now.connection.from < (g.S.ConnSource.timetable c.args.source.now).stops

@@ -1,4 +1,4 @@
-use Rattle.std.proofs.Common.{◌≡◌, List}
+use Rattle.std.proofs.Common.{List}
 use Rattle.bags.specs.Bag.{points_of}
 use Rattle.profile_scan.specs.Values.{started}
 use Rattle.timetable.specs.declared.network.Footpath.{Footpath}

@@ -1,4 +1,4 @@
-use Rattle.std.proofs.Common.{◌<◌, ◌+◌, ◌∙◌, ℕ, List, Contains, length, slice_index, arith, ap, sym, subst}
+use Rattle.std.proofs.Common.{◌<◌, ◌+◌, ◌∙◌, ℕ, List, Contains, slice_index, arith, ap, sym, subst}
 use Rattle.criteria.specs.Laws.{Admits}
 use Rattle.timetable.specs.declared.network.Connection.{Connection}
 use Rattle.timetable.specs.Journeys.{connection_at}
@@ -15,7 +15,7 @@ use Rattle.profile_scan.proofs.Admitted.{AreAdmitted}
 use Rattle.profile_scan.proofs.Offers.{bag_under}
 use Rattle.profile_scan.proofs.BoundLemmas.{bounds_renewed, bounds_on, carried_by_bounds}
 use Rattle.profile_scan.proofs.StoryLemmas.{grows_none, grows_keeps}
-use Rattle.profile_scan.proofs.StepFacts.{ends_in, step_idle_at, trip_in}
+use Rattle.profile_scan.proofs.StepFacts.{begins_in, ends_in, step_idle_at, trip_in}
 use Rattle.profile_scan.proofs.LabelLemmas.{trip_admitted}
 use Rattle.profile_scan.proofs.scan.Scan.step.Given as given
 use Rattle.profile_scan.proofs.scan.Scan.step.Goals.{After-secs_from-way, In_ok-renew, Start}
@@ -34,6 +34,11 @@ way_is g c =
 
 pub secs_from-way-requires : goal.secs_from-way-requires
 secs_from-way-requires g c = subst (λ (n : ℕ). c.args.connection.now.to < n) (sym c.requires.asked.ways.long) (ends g (goal.at.secs_from-way-requires g c).Start)
+
+pub lead_to-requires : goal.lead_to-requires
+lead_to-requires g c =
+    let at = c.requires.stands in
+    subst (λ (n : ℕ). c.args.connection.now.from < n) (sym c.requires.asked.starts.long) (begins_in (g.S.ConnSource.timetable c.args.source.now) (g.met.S.ConnSource.legal c.args.source.now) c.args.place at.in_range c.args.connection.now at.is)
 
 pub is_idle-requires-clause-trip : goal.is_idle-requires-clause-trip
 is_idle-requires-clause-trip g c =
@@ -93,6 +98,7 @@ take-requires-clause-hop g c =
     record {
       stands = c.requires.stands;
       by = c.requires.asked.by;
+      led = c.requires.asked.starts.each c.args.connection.now.from c.lead_to.result c.lead_to.ensures;
       way = way_is g (goal.at.take-requires-clause-hop g c).After-secs_from-way;
       bound =
           subst (λ (values : List g.row.C-V.Denot). (b : g.row.C-V.Denot) → Contains values b → Admits rules b) (sym c.deref.ensures.value)

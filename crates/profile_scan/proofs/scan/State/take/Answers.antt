@@ -1,18 +1,16 @@
-use Rattle.std.proofs.Common.{◌≡◌, ◌<◌, ℕ, List, Contains, length, sym, ◌∙◌, ap, subst, arith}
+use Rattle.std.proofs.Common.{◌<◌, ℕ, List, Contains, length, sym, ◌∙◌, ap, subst}
 use Rattle.criteria.specs.Laws.{Admits}
 use Rattle.bags.specs.Bag.{points_of}
 use Rattle.bags.specs.declared.point.Point.{Point}
 use Rattle.timetable.specs.declared.network.Connection.{Connection}
 use Rattle.fronts.specs.declared.labels.Label.{Label}
-use Rattle.fronts.specs.Labels.{runs_of}
 use Rattle.fronts.specs.Lists.{steps_of}
 use Rattle.profile_scan.specs.Steps.{leavings, boardings, settings_out, TakesIn}
-use Rattle.profile_scan.specs.Adding.{Takes, label_points, trip_points}
+use Rattle.profile_scan.specs.Adding.{label_points, trip_points}
 use Rattle.profile_scan.specs.Bound.{carried}
 use Rattle.profile_scan.specs.Matching.{from_to}
 use Rattle.profile_scan.specs.Story.{story, told}
 use Rattle.profile_scan.specs.Kept.{AreStops, points_at}
-use Rattle.profile_scan.specs.Parts.{OriginTakes, StopTakes}
 use Rattle.profile_scan.proofs.LabelLemmas.{no_trip_points, trip_admitted}
 use Rattle.profile_scan.proofs.BoundLemmas.{from_carried}
 use Rattle.profile_scan.proofs.LeaveLemmas.{leavings_taken}

@@ -1,7 +1,5 @@
-use Rattle.std.proofs.Common.{◌<◌, List, Contains, arith, sym, subst}
+use Rattle.std.proofs.Common.{◌<◌, arith}
 use Rattle.reasoning.proofs.ListLemmas.{extends_none}
-use Rattle.criteria.specs.Laws.{Admits}
-use Rattle.fronts.specs.declared.entry.Ridden.{Ridden}
 use Rattle.fronts.specs.Lists.{steps_of}
 use Rattle.profile_scan.specs.Matching.{from_to}
 use Rattle.profile_scan.specs.Story.{told}

@@ -1,5 +1,4 @@
-use Rattle.std.proofs.Common.{◌≡◌, ◌<◌, ◌-◌, List, length, slice_get, slice_index, Some, subst, sym, ◌∙◌}
-use Rattle.std.proofs.lemmas.List.{get_or_default}
+use Rattle.std.proofs.Common.{◌≡◌, ◌<◌, ◌-◌, List, length, slice_get, slice_index, Some, subst, sym}
 use Rattle.fronts.specs.Lists.{lists_criterion, entries_of, list_points, steps_of, TakesRidden}
 use Rattle.fronts.specs.declared.entry.Ridden.{Ridden}
 use Rattle.profile_scan.specs.Story.{story}

@@ -1,4 +1,4 @@
-use Rattle.std.proofs.Common.{◌≡◌, ◌<◌, ℕ, true, sym, subst}
+use Rattle.std.proofs.Common.{◌≡◌, true}
 use Rattle.profile_scan.specs.Matching.{from_to}
 use Rattle.profile_scan.specs.Story.{story, told}
 use Rattle.profile_scan.specs.Kept.{points_at}

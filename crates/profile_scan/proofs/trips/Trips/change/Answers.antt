@@ -1,4 +1,4 @@
-use Rattle.std.proofs.Common.{◌<◌, ℕ, length, sym, ap, subst, arith}
+use Rattle.std.proofs.Common.{◌<◌, ℕ, length, sym, subst, arith}
 use Rattle.timetable.proofs.LegalLemmas.{Contains-At}
 use Rattle.fronts.specs.Lists.{lists_criterion, entries_of, front_at, list_points}
 use Rattle.fronts.proofs.Mapped.{list_admitted}
