@@ -177,7 +177,7 @@ fn a_journey_of_an_image(rt: HostRuntime) -> Result<(), Fail> {
     let text = picture(alloc, &heading, axis, None, &lines, 0)?;
     assert!(rt; text.contains("<title>T2: B 08:12, C 08:20</title>"));
     assert!(rt;
-        text.contains(": departing 08:00 to 09:00, arriving by 10:00; best by arrival,trips</text>")
+        text.contains(": departing 08:00 to 09:00, arriving by 10:00; best by arrival+trips</text>")
     );
     Ok(())
 }

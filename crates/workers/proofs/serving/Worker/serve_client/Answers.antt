@@ -1,9 +1,16 @@
 use Rattle.std.proofs.Common.{ap, refl}
 use Rattle.lines.specs.Counting.{failures_of, inner_of}
+use Rattle.shelf_steps.specs.declared.views.Known.{Known}
+use Rattle.epochs.specs.Seats.{SeatValue}
 use Rattle.workers.specs.declared.served.End.{End}
+use Rattle.session.specs.Learning.{TellPublished}
 use Rattle.session.proofs.LearnLemmas.{learning_tells, learns_same}
 use Rattle.workers.proofs.Ending.{session_of}
 use Rattle.workers.proofs.serving.Worker.serve_client.Goals as goal
+
+-- a seat at which nothing was done
+tells_same : (k : Known) (a : SeatValue) → TellPublished k a a
+tells_same k a = learning_tells k k a a (learns_same k a)
 
 pub returns-in-Ok-clause-session : goal.returns-in-Ok-clause-session
 returns-in-Ok-clause-session g c =
@@ -29,4 +36,4 @@ pub returns-in-Err-clause-learns : goal.returns-in-Err-clause-learns
 returns-in-Err-clause-learns g c = learns_same _ _
 
 pub returns-in-Err-clause-profiles : goal.returns-in-Err-clause-profiles
-returns-in-Err-clause-profiles g c = learning_tells _ _ _ _ (learns_same _ _)
+returns-in-Err-clause-profiles g c = tells_same _ _
