@@ -36,4 +36,4 @@ pub returns-in-Err-clause-learns : goal.returns-in-Err-clause-learns
 returns-in-Err-clause-learns g c = learns_same _ _
 
 pub returns-in-Err-clause-profiles : goal.returns-in-Err-clause-profiles
-returns-in-Err-clause-profiles g c = tells_same _ _
+returns-in-Err-clause-profiles g c = tells_same (g.T.Versions.known c.args.seat.now) _
