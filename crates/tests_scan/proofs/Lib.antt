@@ -1,4 +1,3 @@
 mod Refutations
 mod LabelsForgotten
 mod ExampleAnswers
-pub mod Bonus

@@ -8,7 +8,7 @@ ghost use Rattle.std.proofs.lemmas.Bool.{le-leb, lt-ltb};
 ghost use Rattle.std.proofs.lemmas.Map.Lookups.{exact_unsigned};
 ghost use Rattle.criteria.specs.Laws.{time_limit};
 ghost use Rattle.criteria.specs.NumberLaws.{nat_le-refl, nat_le-trans, nat_le-antisymm};
-ghost use Rattle.tests_scan.proofs.Bonus.{less_monotone, less_below};
+ghost use Rattle.tests_scan.specs.Bonus.{less_monotone, less_below};
 
 use super::images::image;
 use criteria::{Arrival, Criterion};
