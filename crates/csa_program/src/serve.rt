@@ -1,9 +1,9 @@
 //! `csa serve --image IMAGE --port P --workers W --sessions N [--legs] --first DAY --days N --zone ZONE
 //! [NAME=FOLDER]..`.
 
-ghost use Rattle.std.specs.Prelude.{◌≡◌, All, length, IfOk};
+ghost use Rattle.std.specs.Prelude.{◌≡◌, ◌≤◌, All, length, IfOk};
 ghost use Rattle.csa_program.specs.Serving.{counts_of};
-ghost use Rattle.feed_plans.specs.Planning.{HasPlan, IsPlanNow};
+ghost use Rattle.feed_plans.specs.Planning.{IsPlanNow};
 
 use crate::bases::tell_bases;
 use crate::explaining::{explain_load, reason_of};
@@ -40,8 +40,10 @@ struct Folders<'a, H> {
     /// What is asked for, and the bytes of the zone's file: a plan is made of them for each load.
     asked: &'a PlanText<'a>,
     zone_bytes: Vec<u8>,
+    /// The plan that was made when the server began.
+    first: Plan,
     ghost named: { length names.items ≡ length feeds.now },
-    ghost possible: { HasPlan asked.now zone_bytes.items },
+    ghost made: { IsPlanNow asked.now zone_bytes.items first },
 }
 
 impl<'a, H: Disk + Clock + Sync> Feeds for Folders<'a, H> {
@@ -79,7 +81,7 @@ pub fn run<
     E: Write + Send,
 >(rt: &H, request: ServeRequest<'_>, input: &mut I, output: &mut O, errors: &mut E) -> u8 {
     let alloc = rt.alloc();
-    let (zone_bytes, plan) = match first_plan(rt, &request.plan) {
+    let (zone_bytes, first) = match first_plan(rt, &request.plan) {
         Ok(first) => first,
         Err(PlanFailure::Refused(fault)) => {
             explain_load(&fault, errors);
@@ -92,9 +94,6 @@ pub fn run<
         Ok(image) => image,
         Err(status) => return status,
     };
-    if !request.feeds.is_empty() {
-        tell_bases(alloc, &image, &plan, errors);
-    }
     let Ok(names) = names_of(alloc, &request.feeds) else {
         return status::OUT_OF_MEMORY;
     };
@@ -104,7 +103,11 @@ pub fn run<
         feeds: &request.feeds,
         asked: &request.plan,
         zone_bytes,
+        first,
     };
+    if !request.feeds.is_empty() {
+        tell_bases(alloc, &image, &folders.first, errors);
+    }
     listen(rt, alloc, &request, image, &folders, output, errors)
 }
 

@@ -91,15 +91,19 @@ fn missing_column<H: Files + AllocGlobal>(rt: &H, folder: &str, table: Table) ->
     };
     let line = found.record.line;
     let mut text = format!(in rt.alloc(); "{file}, line {line}: the header lacks").ok()?;
-    let mut separator = " ";
     for column in required_columns(table) {
         if found.record.index_of(column.as_bytes()).is_none() {
-            text.push_str(separator).ok()?;
-            text.push_str(column).ok()?;
-            separator = ", ";
+            append_column(&mut text, column)?;
         }
     }
     Some(text)
+}
+
+/// Appends a column that the header lacks, behind a comma if it isn't the first.
+fn append_column(text: &mut String, column: &str) -> Option<()> {
+    let separator = if text.ends_with("lacks") { " " } else { ", " };
+    text.push_str(separator).ok()?;
+    text.push_str(column).ok()
 }
 
 /// The line of the record, and what is wrong there, if that can be found.

@@ -1,10 +1,14 @@
 //! Warnings of an image that is built, but may not be what was wanted. They are lines on standard error.
 
+ghost use Rattle.std.specs.Prelude.{◌≡◌, true, IfSome};
+ghost use Rattle.gtfs_rows.specs.Values.{is_civil};
+
 use crate::explaining::{explain, is_file};
 use crate::records::{Records, Search, Wanted};
 use crate::table_fault::{found_in, search_in};
 use command_requests::ZoneText;
 use feed_loader::{Plan, Report};
+use gtfs_rows::Day;
 use gtfs_rows::values::number;
 use image_verifier::Verified;
 use service_days::{Zone, day_after, day_start};
@@ -59,20 +63,29 @@ fn warn_of<E: Write>(errors: &mut E, line: &str) {
 /// The days of the plan on which no trip runs, if there are any.
 fn idle_days(alloc: Global, built: &Built) -> Option<String> {
     let mut text = format!(in alloc; "no trip runs on").ok()?;
-    let mut separator = " ";
     let mut day = built.plan.first_day;
     for _ in 0..built.plan.days {
-        let Ok(_start) = day_start(&built.plan.zone, day) else {
-            return None;
-        };
-        let number = 10_000 * day.year as u32 + 100 * day.month as u32 + day.day as u32;
-        if !has_trip_on(&built.image, number) {
-            write!(text, "{separator}{number:08}").ok()?;
-            separator = ", ";
-        }
+        append_if_idle(&mut text, built, day)?;
         day = day_after(day);
     }
-    if separator == " " { None } else { Some(text) }
+    if text.ends_with(" on") {
+        None
+    } else {
+        Some(text)
+    }
+}
+
+/// Appends a day on which no trip runs. None if it is no day of the calendar.
+fn append_if_idle(text: &mut String, built: &Built, day: Day) -> Option<()>
+    ensures { IfSome result (λ _. is_civil day ≡ true) }
+{
+    day_start(&built.plan.zone, day).ok()?;
+    let number = 10_000 * day.year as u32 + 100 * day.month as u32 + day.day as u32;
+    if has_trip_on(&built.image, number) {
+        return Some(());
+    }
+    let separator = if text.ends_with(" on") { " " } else { ", " };
+    write!(text, "{separator}{number:08}").ok()
 }
 
 /// Whether a trip of the image runs on a day, which is a number YYYYMMDD.

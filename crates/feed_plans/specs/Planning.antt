@@ -43,8 +43,4 @@ pub record IsPlan (asked : PlanText) (bytes : List ℕ) (instant : Option ℤ) (
 
 -- the plan that is asked for, made at the instant that the clock showed: which one that was, no clause says
 abbrev pub IsPlanNow : PlanText → List ℕ → Plan → Type 0
-IsPlanNow asked bytes plan = (instant : Option ℤ) × IsPlan asked bytes instant plan
-
--- some plan is made of what is asked
-abbrev pub HasPlan : PlanText → List ℕ → Type 0
-HasPlan asked bytes = (plan : Plan) × IsPlanNow asked bytes plan
+IsPlanNow asked bytes plan = ∥ ((instant : Option ℤ) × IsPlan asked bytes instant plan) ∥₁
