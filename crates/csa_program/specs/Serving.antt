@@ -1,9 +1,15 @@
--- What a server counts.
-use Rattle.std.specs.Prelude.{List}
+-- What a server counts, and in which form it replies.
+use Rattle.std.specs.Prelude.{List, Bool, true, false}
 use Rattle.command_requests.specs.declared.ends.Ends.{Ends}
+use Rattle.session.specs.declared.point_form.PointForm.{PointForm}
 use Rattle.workers.specs.Ends.{ended_in, failed_in, spent_in}
 use Rattle.workers.specs.declared.served.End.{End}
 
 -- how many sessions ended in each way
 abbrev pub counts_of : List End → Ends
 counts_of ends = record { ended = ended_in ends; failed = failed_in ends; spent = spent_in ends }
+
+-- with `--legs` each point of a profile has the legs of its journey
+abbrev pub form_with : Bool → PointForm
+form_with true = PointForm.WithLegs
+form_with false = PointForm.Bare

@@ -2,7 +2,7 @@
 //! [NAME=FOLDER]..`.
 
 ghost use Rattle.std.specs.Prelude.{◌≡◌, ◌≤◌, All, length, IfOk};
-ghost use Rattle.csa_program.specs.Serving.{counts_of};
+ghost use Rattle.csa_program.specs.Serving.{counts_of, form_with};
 ghost use Rattle.feed_plans.specs.Planning.{IsPlanNow};
 
 use crate::bases::tell_bases;
@@ -176,7 +176,7 @@ fn listen<
         loader,
         folders,
         &OpenGate,
-        form_of(request),
+        form_of(request.legs),
         errors,
     ) {
         Ok((served, door)) => tell_served(alloc, &served, door.has_failed(), output),
@@ -185,8 +185,10 @@ fn listen<
 }
 
 // In which form profiles are replied.
-fn form_of(request: &ServeRequest<'_>) -> PointForm {
-    if request.legs {
+fn form_of(legs: bool) -> PointForm
+    ensures { result ≡ form_with legs }
+{
+    if legs {
         PointForm::WithLegs
     } else {
         PointForm::Bare
