@@ -1,5 +1,6 @@
 pub mod Answering
 pub mod Asking
+pub mod Building
 pub mod Judging
 pub mod Listing
 pub mod Opening

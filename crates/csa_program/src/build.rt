@@ -1,8 +1,12 @@
 //! `csa build FOLDER OUT --first DAY --days N --zone ZONE [--strict] [--progress] [--no-warnings]`.
 
+ghost use Rattle.std.specs.Prelude.{◌≡◌, ◌++◌, IfOk, OnOk, string_bytes};
+ghost use Rattle.csa_program.specs.Building.{changed_text, made_text, report_line};
+
 use crate::explaining::{explain_refused, reason_of};
 use crate::planning::{PlanFailure, plan_of};
 use crate::progress::{ToldFiles, load_told};
+use crate::putting::{put_number, put_text};
 use crate::refusal::refuse_feed;
 use crate::status;
 use crate::warnings::{Built, warn};
@@ -106,16 +110,35 @@ fn write_failure<'a>(error: &io::Error, path: &'a str) -> Failure<'a> {
     }
 }
 
-fn counts(alloc: Global, report: &Report) -> Result<String, AllocError> {
-    format!(in alloc;
-        "stops {} runs {} connections {} footpaths {} lifted {} flex {} frequencies {} skipped {}\n",
-        report.stops,
-        report.runs,
-        report.connections,
-        report.footpaths,
-        report.lifted,
-        report.flex,
-        report.frequencies,
-        report.skipped
-    )
+// The line of counts.
+fn counts(alloc: Global, report: &Report) -> Result<String, AllocError>
+    ensures { IfOk result (λ line. string_bytes line ≡ report_line report.now) }
+{
+    let mut line = String::new(alloc);
+    append_made(&mut line, report)?;
+    append_changed(&mut line, report)?;
+    put_text(&mut line, "\n")?;
+    Ok(line)
+}
+
+// Adds how much the image has.
+fn append_made(line: &mut String, report: &Report) -> Result<(), AllocError>
+    ensures { OnOk result (string_bytes line.new ≡ string_bytes line.old ++ made_text report.now) }
+{
+    put_number(line, "stops ", report.stops as u64)?;
+    put_number(line, " runs ", report.runs as u64)?;
+    put_number(line, " connections ", report.connections as u64)?;
+    put_number(line, " footpaths ", report.footpaths as u64)?;
+    Ok(())
+}
+
+// Adds how much of the feed was changed, repeated or left out.
+fn append_changed(line: &mut String, report: &Report) -> Result<(), AllocError>
+    ensures { OnOk result (string_bytes line.new ≡ string_bytes line.old ++ changed_text report.now) }
+{
+    put_number(line, " lifted ", report.lifted as u64)?;
+    put_number(line, " flex ", report.flex as u64)?;
+    put_number(line, " frequencies ", report.frequencies as u64)?;
+    put_number(line, " skipped ", report.skipped as u64)?;
+    Ok(())
 }
