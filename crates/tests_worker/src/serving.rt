@@ -50,6 +50,10 @@ const BAD_FILES: [(&str, &[u8]); 2] = [
 const PROFILE: &str =
     "{\"do\":\"profile\",\"from\":\"A\",\"to\":\"C\",\"after\":\"07:00:00\",\"until\":\"09:00:00\",\"by\":\"10:00:00\",\"criterion\":\"arrival\"}\n";
 
+/// The reply to that, with legs.
+const WITH_LEGS: &str =
+    "{\"ok\":\"profile\",\"points\":[{\"arr\":\"08:20:00\",\"dep\":\"08:00:00\",\"journey\":\"ride 0 0 walk 1 1 0 ride 2 2\",\"legs\":[{\"arr\":\"08:10:00\",\"day\":20240115,\"dep\":\"08:00:00\",\"from\":\"A\",\"to\":\"B\",\"trip\":\"T1\"},{\"from\":\"B\",\"secs\":0,\"to\":\"B\"},{\"arr\":\"08:20:00\",\"day\":20240115,\"dep\":\"08:12:00\",\"from\":\"B\",\"to\":\"C\",\"trip\":\"T2\"}]}],\"version\":1,\"walk\":null}\n";
+
 /// What a session that orders a load asks, and its replies.
 const LOADING: (&str, &str) = (
     "{\"do\":\"pin\"}\n{\"do\":\"load\",\"feed\":\"slow\"}\n{\"do\":\"profile\",\"from\":\"A\",\"to\":\"C\",\"after\":\"07:00:00\",\"until\":\"09:00:00\",\"by\":\"10:00:00\",\"criterion\":\"arrival\"}\n",
@@ -227,6 +231,7 @@ fn serve_all<R: Threads + Wait + Sync + Abort, G: Gate + Sync>(
     visitors: Vec<Visitor<'_, R>>,
     two: bool,
     gate: &G,
+    form: PointForm,
 ) -> Result<(Served, Vec<u8>), Fail> {
     let (shelves, loader, seats) = shelves_for(alloc, two)?;
     let feeds = two_feeds(alloc)?;
@@ -238,16 +243,7 @@ fn serve_all<R: Threads + Wait + Sync + Abort, G: Gate + Sync>(
         is_gone: false,
     };
     let Ok((served, _)) = run_shelves::<Brand, _, _, _, _, _, _, _, _, _>(
-        rt,
-        alloc,
-        row,
-        shelves,
-        seats,
-        loader,
-        &feeds,
-        gate,
-        PointForm::Bare,
-        errors,
+        rt, alloc, row, shelves, seats, loader, &feeds, gate, form, errors,
     ) else {
         return Err(AllocError.into());
     };
@@ -271,12 +267,24 @@ fn serve_asking<R: Threads + Wait + Sync + Abort, G: Gate + Sync>(
     two: bool,
     gate: &G,
 ) -> Result<(Served, Vec<u8>, Vec<u8>), Fail> {
+    serve_in(rt, alloc, asking, two, gate, PointForm::Bare)
+}
+
+/// The same, with profiles that are replied in this form.
+fn serve_in<R: Threads + Wait + Sync + Abort, G: Gate + Sync>(
+    rt: &R,
+    alloc: Global,
+    asking: &[(&'static str, Manner)],
+    two: bool,
+    gate: &G,
+    form: PointForm,
+) -> Result<(Served, Vec<u8>, Vec<u8>), Fail> {
     let bytes = Mutex::new(Vec::new(alloc));
     let mut visitors = Vec::new(alloc);
     for (requests, manner) in asking {
         visitors.push(visitor_of(rt, *requests, *manner, &bytes))?;
     }
-    let (served, told) = serve_all(rt, alloc, visitors, two, gate)?;
+    let (served, told) = serve_all(rt, alloc, visitors, two, gate, form)?;
     Ok((served, bytes.into_inner(), told))
 }
 
@@ -312,6 +320,23 @@ fn a_client_is_served(rt: HostRuntime) -> Result<(), Fail> {
     assert_eq!(&rt; served.spent(), 0);
     assert!(&rt; replies.as_slice() == expected.as_bytes());
     assert!(&rt; told.as_slice() == b"loaded slow version 2\n".as_slice());
+    Ok(())
+}
+
+/// Workers reply in the form that they are given.
+#[test]
+fn legs_are_replied(rt: HostRuntime) -> Result<(), Fail> {
+    let asking = [(PROFILE, Manner::Reads)];
+    let (served, replies, _) = serve_in(
+        &rt,
+        rt.alloc(),
+        &asking,
+        false,
+        &OpenGate,
+        PointForm::WithLegs,
+    )?;
+    assert_eq!(&rt; served.ended(), 1);
+    assert_eq!(&rt; str::from_utf8(&replies).unwrap_or("?"), WITH_LEGS);
     Ok(())
 }
 
@@ -377,7 +402,14 @@ fn two_scans_at_once(rt: HostRuntime) -> Result<(), Fail> {
 #[test]
 fn refused_growth_serves_nobody(rt: HostRuntime) -> Result<(), Fail> {
     let alloc: Global = rt.alloc();
-    let (served, _) = serve_all(&rt, alloc, Vec::new(alloc), true, &OpenGate)?;
+    let (served, _) = serve_all(
+        &rt,
+        alloc,
+        Vec::new(alloc),
+        true,
+        &OpenGate,
+        PointForm::Bare,
+    )?;
     assert_eq!(&rt; served.ended(), 0);
     Ok(())
 }

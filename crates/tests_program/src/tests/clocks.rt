@@ -1,7 +1,8 @@
 //! Which days a feed is loaded for, by a clock that is handed in.
 
 use clock_days::instant;
-use command_requests::{FirstDay, PlanText, ZoneText};
+use command_line::read;
+use command_requests::{FirstDay, PlanText, Request, ZoneText};
 use feed_plans::plan_at;
 use service_days::day_start;
 use std::alloc::Global;
@@ -78,6 +79,61 @@ fn try_load<R: Abort>(
 fn days_move_on_with_the_clock(rt: HostRuntime) -> Result<(), Fail> {
     for (word, seconds, base) in LOADS {
         try_load(&rt, rt.alloc(), word, seconds, base)?;
+    }
+    Ok(())
+}
+
+/// The word of a first day, or "a date".
+fn word_of(first: FirstDay) -> &'static str {
+    match first {
+        FirstDay::Today => "today",
+        FirstDay::Yesterday => "today-1",
+        FirstDay::On(_) => "a date",
+    }
+}
+
+/// The first day that `build` is asked for with this word.
+fn asked_of_build(alloc: Global, word: &str) -> &'static str {
+    let words = [
+        "csa", "build", "feed", "out", "--first", word, "--days", "1", "--zone", "fixed:0",
+    ];
+    match read(alloc, &words) {
+        Ok(Request::Build(request)) => word_of(request.plan.first),
+        _ => "no build",
+    }
+}
+
+/// The same of `serve`.
+fn asked_of_serve(alloc: Global, word: &str) -> &'static str {
+    let words = [
+        "csa",
+        "serve",
+        "--image",
+        "-",
+        "--port",
+        "0",
+        "--workers",
+        "1",
+        "--sessions",
+        "1",
+        "--first",
+        word,
+        "--days",
+        "1",
+        "--zone",
+        "fixed:0",
+    ];
+    match read(alloc, &words) {
+        Ok(Request::Serve(request)) => word_of(request.plan.first),
+        _ => "no serve",
+    }
+}
+
+#[test]
+fn words_of_first_days_are_read(rt: HostRuntime) -> Result<(), Fail> {
+    for word in ["today", "today-1"] {
+        assert_eq!(&rt; asked_of_build(rt.alloc(), word), word);
+        assert_eq!(&rt; asked_of_serve(rt.alloc(), word), word);
     }
     Ok(())
 }
