@@ -1,5 +1,6 @@
 -- What is made of feeds, as the command line asks it.
-use Rattle.std.specs.Prelude.{◌≡◌, ◌⊎◌, ℕ, ℤ, List, Option, None, Some, false}
+use Rattle.std.specs.Prelude.{◌≡◌, ◌⊎◌, ℕ, ℤ, List, Option, None, Some, IsSome, true, false}
+use Rattle.std.specs.Result.{is_ok}
 use Rattle.clock_days.specs.Shown.{HasNoDay, HasNoDayBefore, IsDayAt, IsDayBefore}
 use Rattle.command_requests.specs.declared.plans.FirstDay.{FirstDay}
 use Rattle.command_requests.specs.declared.plans.FirstDay.TheVariants.{On, Today, Yesterday}
@@ -9,14 +10,26 @@ use Rattle.command_requests.specs.declared.plans.ZoneText.TheVariants.{Fixed, Po
 use Rattle.feed_loader.specs.declared.plan.Plan.{Plan}
 use Rattle.gtfs_rows.specs.Values.{is_civil}
 use Rattle.gtfs_rows.specs.declared.values.Day.{Day}
+use Rattle.jiff.specs.Words.{read_whole}
+use Rattle.jiff_tz.specs.TzifReader.{read_tzif}
+use Rattle.service_days.specs.declared.fault.DayFault.{DayFault}
+use Rattle.service_days.specs.declared.fault.DayFault.TheVariants.{BadZone, OutOfMemory}
 use Rattle.service_days.specs.declared.zone.Zone.{Zone}
-use Rattle.service_days.specs.Zones.{IsFixedZone, IsRuleOf, IsTableOf}
+use Rattle.service_days.specs.Zones.{IsBadFile, IsFixedZone, IsRuleOf, IsTableOf}
 
 -- the zone is the one that the text names; that of a file is the table of these bytes. No clause says which bytes a file has
 abbrev pub IsZoneOf : ZoneText → List ℕ → Zone → Type 0
 IsZoneOf (Fixed ahead) bytes zone = IsFixedZone ahead.seconds zone
 IsZoneOf (Posix rule) bytes zone = IsRuleOf rule.now zone
 IsZoneOf (File path) bytes zone = IsTableOf bytes zone
+
+-- why there is no zone of the text: a rule that can't be read, a file that is no table of a zone, or memory that runs out
+-- while a table is read. A fixed zone is there always
+abbrev pub IsZoneFault : ZoneText → List ℕ → DayFault → Type 0
+IsZoneFault (Fixed ahead) bytes fault = ⊥
+IsZoneFault (Posix rule) bytes fault = (fault ≡ BadZone) × (¬ (IsSome (read_whole rule.now)))
+IsZoneFault (File path) bytes fault =
+    ((fault ≡ BadZone) × IsBadFile bytes) ⊎ ((fault ≡ OutOfMemory) × (is_ok (read_tzif bytes) ≡ true))
 
 -- the day that the zone's clocks show at an instant; if they show none, one that the calendar doesn't have, for which no feed is loaded
 abbrev pub IsToday : Zone → ℤ → Day → Type 0

@@ -1,9 +1,9 @@
 //! The plan of a load: what a command line asks for, at an instant.
 #![tactic(auto)]
 
-ghost use Rattle.std.specs.Prelude.{◌≡◌, ◌≤◌, IfOk};
+ghost use Rattle.std.specs.Prelude.{◌≡◌, ◌≤◌, IfErr, IfOk};
 ghost use Rattle.connections.specs.declared.days.TheConstants.{MAX_DAYS};
-ghost use Rattle.feed_plans.specs.Planning.{IsFirstDay, IsPlan, IsToday, IsYesterday, IsZoneOf};
+ghost use Rattle.feed_plans.specs.Planning.{IsFirstDay, IsPlan, IsToday, IsYesterday, IsZoneFault, IsZoneOf};
 
 use clock_days::{today, yesterday};
 use command_requests::{FirstDay, PlanText, ZoneText};
@@ -21,8 +21,8 @@ const NO_DAY: Day = Day {
 };
 
 /// The plan of a feed that is loaded at an instant, in seconds after 1970-01-01T00:00:00Z, over the bytes of the zone's
-/// file. `BadZone` or `OutOfMemory` if there is no such zone. If the first day is the instant's and the clocks show
-/// none, the plan's is one that no feed is loaded for.
+/// file. `BadZone` if the rule or the file is none of a zone, `OutOfMemory` only while a file is read. If the first
+/// day is the instant's and the clocks show none, the plan's is one that no feed is loaded for.
 pub fn plan_at(
     alloc: Global,
     asked: &PlanText<'_>,
@@ -32,6 +32,7 @@ pub fn plan_at(
     ensures plan { IfOk result (IsPlan asked.now zone_bytes.now instant) }
     ensures some { IfOk result (λ plan. 1 ≤ plan.days) }
     ensures few { IfOk result (λ plan. plan.days ≤ MAX_DAYS) }
+    ensures refused { IfErr result (IsZoneFault asked.now.zone zone_bytes.now) }
 {
     match zone_of(alloc, &asked.zone, zone_bytes) {
         Ok(zone) => Ok(plan_in(asked, zone_bytes, zone, instant)),
@@ -85,7 +86,8 @@ fn yesterday_or_none(zone: &Zone, instant: i64) -> Day
 }
 
 fn zone_of(alloc: Global, text: &ZoneText<'_>, bytes: &[u8]) -> Result<Zone, DayFault>
-    ensures { IfOk result (IsZoneOf text.now bytes.now) }
+    ensures zone { IfOk result (IsZoneOf text.now bytes.now) }
+    ensures refused { IfErr result (IsZoneFault text.now bytes.now) }
 {
     match text {
         ZoneText::Fixed(ahead) => Ok(Zone::fixed(ahead.seconds)),
