@@ -63,6 +63,8 @@ impl<R: LimitedRow> TableFile for Limited<R> {
 
     ghost tells = { IsFaultWithin (shape_of R.TABLE) (HoldsRows (shape_of R.TABLE) R.spells) R.count R.LIMIT };
 
+    ghost is_hashed = { λ hash rows. ⊤ };
+
     const TABLE: Table = R::TABLE;
 
     fn read(alloc: Global, hash: IdHash, bytes: &[u8]) -> Result<Limited<R>, TableFault> {
