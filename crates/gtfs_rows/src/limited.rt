@@ -1,6 +1,6 @@
 //! Tables that may have only so many rows.
 
-ghost use Rattle.std.specs.Prelude.{◌≡◌, ◌≢◌, ℕ, List, IfOk, IfErr};
+ghost use Rattle.std.specs.Prelude.{◌≡◌, ◌≢◌, ℕ, List, IfOk, IfErr, ⊤};
 ghost use Rattle.gtfs_rows.specs.Faults.{HoldsRows};
 ghost use Rattle.gtfs_rows.specs.Tables.{HoldsWithin, IsFaultWithin, shape_of};
 
