@@ -28,5 +28,6 @@ pub trait TableFile: Sized + Drop {
         ensures ok { IfOk result (λ rows. holds bytes.now rows) }
         ensures hashed { IfOk result (λ rows. is_hashed hash rows) }
         ensures file { IfErr result (λ fault. fault.table ≡ TABLE) }
-        ensures err { IfErr result (λ fault. fault.kind ≢ FaultKind.OutOfMemory → tells bytes.now fault.row fault.kind) };
+        ensures err { IfErr result (λ fault. fault.kind ≢ FaultKind.OutOfMemory
+            → tells bytes.now fault.row fault.kind) };
 }
