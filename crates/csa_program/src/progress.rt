@@ -82,6 +82,8 @@ impl<F: FeedFiles, W: Write> FeedFiles for ToldFiles<F, W> {
 
     ghost holds = { λ told. F.holds told.files };
 
+    ghost hash = { λ told. F.hash told.files };
+
     fn read(&mut self, alloc: Global, name: &str) -> Result<Option<Vec<u8>>, FileFault> {
         self.tell(alloc, "reading", name);
         let read = self.files.read(alloc, name);

@@ -1,4 +1,5 @@
 pub mod Files
+pub mod Hashed
 pub mod Memory
 pub mod Outcome
 pub mod Reading

@@ -1,6 +1,7 @@
 //! The files of a feed, by name.
 
-ghost use Rattle.std.specs.Prelude.{◌≡◌, ℕ, List, Option, IfOk, IfSome, option_map};
+ghost use Rattle.std.specs.Prelude.{◌≡◌, ℕ, List, Option, Some, IfOk, IfSome, option_map};
+ghost use Rattle.gtfs_rows.specs.declared.id_hash.IdHash.{IdHash as Hash};
 ghost use Rattle.feed_files.specs.Files.{counted, failed_also};
 
 use gtfs_tables::IdHash;
@@ -30,15 +31,20 @@ pub trait FeedFiles {
     // What a file of a name holds, where that is told: none where there is no such file.
     ghost holds: { Self → List ℕ → Option (Option (List ℕ)) };
 
+    // The hash by which ids that the files have are looked up, where that is told.
+    ghost hash: { Self → Option Hash };
+
     /// The bytes of a file, none where there is no such file. Want of memory is no failure.
     fn read(&mut self, alloc: Global, name: &str) -> Result<Option<Vec<u8>>, FileFault>
         ensures told { IfOk result (λ file. IfSome (holds self.old name.now)
             (λ bytes. option_map (λ read. read.items) file ≡ bytes)) }
         ensures same { holds self.new ≡ holds self.old }
+        ensures hash { hash self.new ≡ hash self.old }
         ensures failures { failures self.new ≡ counted (failures self.old) result }
         ensures failed { failed self.new ≡ failed_also (failed self.old) name.now result };
 
     /// The hash by which ids that the files have are looked up: of a random key where strangers may
     /// have made them. No answer depends on it.
-    fn id_hash(&self) -> IdHash;
+    fn id_hash(&self) -> IdHash
+        ensures { (told : Hash) → hash self.now ≡ Some told → result ≡ told };
 }

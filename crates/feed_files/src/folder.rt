@@ -1,6 +1,6 @@
 //! The files of a folder.
 
-ghost use Rattle.std.specs.Prelude.{◌≡◌, ◌≤◌, ◌↔◌, ◌⊎◌, [], length, None, IfErr, IfOk, IfSome, IsNone, IsOk, IsTrue};
+ghost use Rattle.std.specs.Prelude.{◌≡◌, ◌≤◌, ◌↔◌, ◌⊎◌, [], length, None, Some, IfErr, IfOk, IfSome, IsNone, IsOk, IsTrue};
 ghost use Rattle.std_io.specs.declared.io.kind.ErrorKind.TheVariants.{NotADirectory, NotFound, OutOfMemory};
 ghost use Rattle.feed_files.specs.Files.{one_more};
 ghost use Rattle.feed_files.specs.declared.files.FileFault.TheVariants.{OutOfMemory as WasOutOfMemory};
@@ -165,6 +165,8 @@ impl<'a, H: Disk> FeedFiles for FolderFiles<'a, H> {
     ghost failed = { λ files. files.failed };
 
     ghost holds = { λ files name. None };
+
+    ghost hash = { λ files. Some files.hash };
 
     fn read(&mut self, alloc: Global, name: &str) -> Result<Option<Vec<u8>>, FileFault> {
         let read = self.disk.feed_file(alloc, self.folder, name);

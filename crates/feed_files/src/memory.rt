@@ -1,6 +1,6 @@
 //! Files in memory.
 
-ghost use Rattle.std.specs.Prelude.{◌≡◌, [], option_map, Some};
+ghost use Rattle.std.specs.Prelude.{◌≡◌, [], option_map, Some, None};
 ghost use Rattle.feed_files.specs.Memory.{held};
 
 use crate::files::{FeedFiles, FileFault};
@@ -26,6 +26,9 @@ impl<'a> FeedFiles for MemoryFiles<'a> {
     ghost failed = { λ files. [] };
 
     ghost holds = { λ files name. Some (held files.files.now name) };
+
+    // nobody made their ids to collide, so it doesn't matter
+    ghost hash = { λ files. None };
 
     fn read(&mut self, alloc: Global, name: &str) -> Result<Option<Vec<u8>>, FileFault> {
         match find(self.files, name) {

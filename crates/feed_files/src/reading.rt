@@ -1,13 +1,15 @@
 //! The tables of a feed's files, read one after another.
 
 ghost use Rattle.std.specs.Prelude.{◌≡◌, ◌≢◌, ◌+◌, ◌-◌, ◌^◌, ◌<◌, ℕ, List, [], Option, None, Some, IfOk, IfErr};
-ghost use Rattle.std.specs.Prelude.{option_map};
+ghost use Rattle.std.specs.Prelude.{option_map, IfSome};
+ghost use Rattle.gtfs_rows.specs.declared.id_hash.IdHash.{IdHash as Hash};
 ghost use Rattle.gtfs_rows.specs.declared.fault.Table.TheVariants as tables;
 ghost use Rattle.gtfs_rows.specs.Told.{file_name};
 ghost use Rattle.feed_files.specs.Outcome.{failed_by, failed_in};
 ghost use Rattle.feed_files.specs.Reading.{Content, FineBefore, HoldsCalendars, HoldsRequired, HoldsTables, IsHeld};
 ghost use Rattle.feed_files.specs.Reading.{NoRows, NoTables, Optional, OptionalFault, Required, RequiredFault};
 ghost use Rattle.feed_files.specs.Reading.{Tells};
+ghost use Rattle.feed_files.specs.Hashed.{AreHashed};
 
 use crate::files::{FeedFiles, FileFault};
 use gtfs_tables::{
@@ -34,6 +36,7 @@ fn bytes_of<F: FeedFiles, T: TableFile>(
     files: &mut F,
 ) -> Result<Option<Vec<u8>>, ReadFault>
     ensures same { F.holds files.new ≡ F.holds files.old }
+    ensures hash { F.hash files.new ≡ F.hash files.old }
     ensures failures { F.failures files.old < 2 ^ 64 - 1
         → F.failures files.new ≡ F.failures files.old + failed_in result }
     ensures failed { F.failed files.new ≡ failed_by (F.failed files.old) result }
@@ -56,6 +59,7 @@ fn bytes_of<F: FeedFiles, T: TableFile>(
 // The rows of bytes, as a part of reading the feed.
 fn rows_of<T: TableFile>(alloc: Global, hash: IdHash, bytes: &[u8]) -> Result<Option<T>, ReadFault>
     ensures ok { IfOk result (λ rows. IsHeld T.holds (Some bytes.now) rows) }
+    ensures hashed { IfOk result (λ rows. IfSome rows (T.is_hashed hash)) }
     ensures failures { failed_in result ≡ 0 }
     ensures err { IfErr result (NoRows T.TABLE (OptionalFault T.tells (Some bytes.now))) }
 {
@@ -71,6 +75,7 @@ fn optional<F: FeedFiles, T: TableFile>(
     files: &mut F,
 ) -> Result<Option<T>, ReadFault>
     ensures same { F.holds files.new ≡ F.holds files.old }
+    ensures hash { F.hash files.new ≡ F.hash files.old }
     ensures failures { F.failures files.old < 2 ^ 64 - 1
         → F.failures files.new ≡ F.failures files.old + failed_in result }
     ensures failed { F.failed files.new ≡ failed_by (F.failed files.old) result }
@@ -78,6 +83,8 @@ fn optional<F: FeedFiles, T: TableFile>(
         → IfOk result (λ rows. IsHeld T.holds bytes rows) }
     ensures err { (bytes : Option (List ℕ)) → F.holds files.old (file_name T.TABLE) ≡ Some bytes
         → IfErr result (NoRows T.TABLE (OptionalFault T.tells bytes)) }
+    ensures hashed { (hash : Hash) → F.hash files.old ≡ Some hash
+        → IfOk result (λ rows. IfSome rows (T.is_hashed hash)) }
 {
     match bytes_of::<F, T>(alloc, files) {
         Ok(Some(bytes)) => rows_of(alloc, files.id_hash(), &bytes),
@@ -89,6 +96,7 @@ fn optional<F: FeedFiles, T: TableFile>(
 // The rows of a file that must be there.
 fn required<F: FeedFiles, T: TableFile>(alloc: Global, files: &mut F) -> Result<T, ReadFault>
     ensures same { F.holds files.new ≡ F.holds files.old }
+    ensures hash { F.hash files.new ≡ F.hash files.old }
     ensures failures { F.failures files.old < 2 ^ 64 - 1
         → F.failures files.new ≡ F.failures files.old + failed_in result }
     ensures failed { F.failed files.new ≡ failed_by (F.failed files.old) result }
@@ -96,6 +104,7 @@ fn required<F: FeedFiles, T: TableFile>(alloc: Global, files: &mut F) -> Result<
         → IfOk result (λ rows. Required (λ held. T.holds held rows) bytes) }
     ensures err { (bytes : Option (List ℕ)) → F.holds files.old (file_name T.TABLE) ≡ Some bytes
         → IfErr result (NoRows T.TABLE (RequiredFault T.tells bytes)) }
+    ensures hashed { (hash : Hash) → F.hash files.old ≡ Some hash → IfOk result (T.is_hashed hash) }
 {
     match optional::<F, T>(alloc, files) {
         Ok(Some(rows)) => Ok(rows),
@@ -109,6 +118,7 @@ fn rows_or_none<F: FeedFiles, R: Drop>(alloc: Global, files: &mut F) -> Result<V
 where
     Vec<R>: TableFile,
     ensures same { F.holds files.new ≡ F.holds files.old }
+    ensures hash { F.hash files.new ≡ F.hash files.old }
     ensures failures { F.failures files.old < 2 ^ 64 - 1
         → F.failures files.new ≡ F.failures files.old + failed_in result }
     ensures failed { F.failed files.new ≡ failed_by (F.failed files.old) result }
@@ -132,6 +142,7 @@ fn calendars<F: FeedFiles>(
     files: &mut F,
 ) -> Result<(Vec<CalendarRow>, Vec<CalendarDateRow>), ReadFault>
     ensures same { F.holds files.new ≡ F.holds files.old }
+    ensures hash { F.hash files.new ≡ F.hash files.old }
     ensures failures { F.failures files.old < 2 ^ 64 - 1
         → F.failures files.new ≡ F.failures files.old + failed_in result }
     ensures failed { F.failed files.new ≡ failed_by (F.failed files.old) result }
@@ -161,6 +172,7 @@ struct RequiredTables {
 
 fn required_tables<F: FeedFiles>(alloc: Global, files: &mut F) -> Result<RequiredTables, ReadFault>
     ensures same { F.holds files.new ≡ F.holds files.old }
+    ensures hash { F.hash files.new ≡ F.hash files.old }
     ensures failures { F.failures files.old < 2 ^ 64 - 1
         → F.failures files.new ≡ F.failures files.old + failed_in result }
     ensures failed { F.failed files.new ≡ failed_by (F.failed files.old) result }
@@ -168,6 +180,7 @@ fn required_tables<F: FeedFiles>(alloc: Global, files: &mut F) -> Result<Require
         → IfOk result (λ t. HoldsRequired content t.agencies.items t.stops.rows.items t.trips.rows.items
         t.stop_times) }
     ensures err { (content : Content) → Tells (F.holds files.old) content → IfErr result (NoTables content) }
+    ensures hashed { (hash : Hash) → F.hash files.old ≡ Some hash → IfOk result (λ t. AreHashed hash t.stop_times) }
 {
     let agencies = required(alloc, files)?;
     let stops = required(alloc, files)?;
@@ -189,10 +202,12 @@ fn required_tables<F: FeedFiles>(alloc: Global, files: &mut F) -> Result<Require
 pub fn read_tables<F: FeedFiles>(alloc: Global, files: &mut F) -> Result<Tables, ReadFault>
     requires { F.failures files.old < 2 ^ 64 - 1 }
     ensures same { F.holds files.new ≡ F.holds files.old }
+    ensures hash { F.hash files.new ≡ F.hash files.old }
     ensures failures { F.failures files.new ≡ F.failures files.old + failed_in result }
     ensures failed { F.failed files.new ≡ failed_by (F.failed files.old) result }
     ensures ok { (content : Content) → Tells (F.holds files.old) content → IfOk result (HoldsTables content) }
     ensures err { (content : Content) → Tells (F.holds files.old) content → IfErr result (NoTables content) }
+    ensures hashed { (hash : Hash) → F.hash files.old ≡ Some hash → IfOk result (λ t. AreHashed hash t.stop_times) }
 {
     let required = required_tables(alloc, files)?;
     let (calendar, calendar_dates) = calendars(alloc, files)?;

@@ -4,6 +4,7 @@ ghost use Rattle.std.specs.Prelude.{◌≡◌, ◌≢◌, ◌++◌, ◌∷◌, [
 ghost use Rattle.std.specs.String.{string_bytes};
 ghost use Rattle.std.specs.List.{list_any};
 ghost use Rattle.std.specs.Str.{bytes_eq};
+ghost use Rattle.indexmap.specs.IndexSet.{hasher_of};
 ghost use Rattle.gtfs_rows.specs.Ids.{seen_also};
 ghost use Rattle.gtfs_rows.specs.Rows.{StandsAt};
 
@@ -23,6 +24,7 @@ pub(crate) fn add_key(keys: &mut Ids, key: String) -> Result<(), FaultKind>
     ensures err { IfErr result (λ kind. kind ≢ FaultKind.OutOfMemory
         → (kind ≡ FaultKind.IdTwice) × (list_any (bytes_eq (string_bytes key)) (map string_bytes keys.old.keys)
         ≡ true)) }
+    ensures hash { OnOk result (hasher_of keys.new ≡ hasher_of keys.old) }
 {
     let Ok((_, added)) = keys.insert_full(key) else {
         return Err(FaultKind::OutOfMemory);
@@ -45,6 +47,7 @@ pub(crate) fn place_of(
     ensures more { OnOk result (map string_bytes ids.new.keys ≡ seen_also (map string_bytes ids.old.keys) id.now) }
     ensures ok { IfOk result (λ place. StandsAt (map string_bytes ids.new.keys) place id.now) }
     ensures err { IfErr result (λ kind. kind ≡ FaultKind.OutOfMemory) }
+    ensures hash { OnOk result (hasher_of ids.new ≡ hasher_of ids.old) }
 {
     if let Some(place) = id_at(ids, likely, id) {
         return Ok(place);
@@ -88,6 +91,7 @@ fn add_id(ids: &mut Ids, id: String) -> Result<usize, FaultKind>
         ≡ seen_also (map string_bytes ids.old.keys) (string_bytes id)) }
     ensures ok { IfOk result (λ place. StandsAt (map string_bytes ids.new.keys) place (string_bytes id)) }
     ensures err { IfErr result (λ kind. kind ≡ FaultKind.OutOfMemory) }
+    ensures hash { OnOk result (hasher_of ids.new ≡ hasher_of ids.old) }
 {
     let Ok((place, _)) = ids.insert_full(id) else {
         return Err(FaultKind::OutOfMemory);

@@ -1,8 +1,9 @@
 //! Rows that each stand for one record, in tables some of which have keys.
 
-ghost use Rattle.std.specs.Prelude.{◌≡◌, ◌≢◌, ◌++◌, ◌∷◌, ℕ, List, [], None, Some, IfOk, IfErr, OnOk};
+ghost use Rattle.std.specs.Prelude.{◌≡◌, ◌≢◌, ◌++◌, ◌∷◌, ℕ, List, [], None, Some, IfOk, IfErr, OnOk, ⊤};
 ghost use Rattle.std.specs.List.{AllZip};
 ghost use Rattle.csv.specs.Records.{AllText, fields_of};
+ghost use Rattle.indexmap.specs.IndexSet.{hasher_of};
 ghost use Rattle.gtfs_rows.specs.Source.{Record};
 ghost use Rattle.gtfs_rows.specs.Cells.{Places};
 ghost use Rattle.gtfs_rows.specs.Faults.{HoldsRows, IsFaultOf};
@@ -49,6 +50,7 @@ fn keep(alloc: Global, kept: &mut Ids, key: Key, cells: &Cells) -> Result<(), Fa
     ensures err { (before : List Record) → AreKept key cells.now.places.now before kept.old.keys
         → IfErr result (λ kind. kind ≢ FaultKind.OutOfMemory
         → key_fault key cells.now.places.now before (fields_of cells.now.fields.now) ≡ Some kind) }
+    ensures hash { OnOk result (hasher_of kept.new ≡ hasher_of kept.old) }
 {
     match key {
         Key::Nothing => Ok(()),
@@ -79,6 +81,7 @@ fn share(alloc: Global, kept: &mut Ids, column: usize, cells: &Cells) -> Result<
     ensures err { (before : List Record) → AreKept (keys.Shared column) cells.now.places.now before kept.old.keys
         → IfErr result (λ kind. kind ≢ FaultKind.OutOfMemory
         → key_fault (keys.Shared column) cells.now.places.now before (fields_of cells.now.fields.now) ≡ Some kind) }
+    ensures hash { OnOk result (hasher_of kept.new ≡ hasher_of kept.old) }
 {
     let Some(shared) = kept.get_index(0) else {
         let first = cells.text(alloc, column)?;
@@ -102,6 +105,7 @@ impl<R: Row> Keyed<R> {
     pub(crate) fn new(alloc: Global, hash: IdHash) -> Keyed<R>
         ensures rows { result.rows.items ≡ [] }
         ensures kept { result.kept.keys ≡ [] }
+        ensures hash { hasher_of result.kept ≡ hash }
     {
         Keyed {
             rows: Vec::new(alloc),
@@ -115,6 +119,8 @@ impl<R: Row> TableRows for Keyed<R> {
 
     ghost holds = { λ places records t. AllZip (R.spells places) records t.rows.items
         × AreKept (key_of R.TABLE) places records t.kept.keys };
+
+    ghost hashes = { λ t. hasher_of t.kept ∷ [] };
 
     const TABLE: Table = R::TABLE;
 
@@ -152,6 +158,8 @@ impl<R: UnlimitedRow> TableFile for Vec<R> {
     ghost holds = { λ bytes rows. HoldsRows (shape_of R.TABLE) R.spells bytes rows.items };
 
     ghost tells = { IsFaultOf (shape_of R.TABLE) };
+
+    ghost is_hashed = { λ hash rows. ⊤ };
 
     const TABLE: Table = R::TABLE;
 

@@ -1,6 +1,6 @@
 //! Tables that may have only so many rows.
 
-ghost use Rattle.std.specs.Prelude.{◌≡◌, ◌≢◌, ℕ, List, IfOk, IfErr};
+ghost use Rattle.std.specs.Prelude.{◌≡◌, ◌≢◌, ℕ, List, IfOk, IfErr, ⊤};
 ghost use Rattle.gtfs_rows.specs.Faults.{HoldsRows};
 ghost use Rattle.gtfs_rows.specs.Tables.{HoldsWithin, IsFaultWithin, shape_of};
 
@@ -65,6 +65,8 @@ impl<R: LimitedRow> TableFile for Limited<R> {
         kept.rows.items };
 
     ghost tells = { IsFaultWithin (shape_of R.TABLE) (HoldsRows (shape_of R.TABLE) R.spells) R.count R.LIMIT };
+
+    ghost is_hashed = { λ hash rows. ⊤ };
 
     const TABLE: Table = R::TABLE;
 

@@ -8,6 +8,7 @@ ghost use Rattle.gtfs_rows.specs.Faults.{HoldsFile, HoldsUnder, IsFaultOf, IsFau
 ghost use Rattle.gtfs_rows.specs.Faults.{length_first};
 ghost use Rattle.gtfs_rows.specs.Tables.{judge_of, shape_of};
 ghost use Rattle.gtfs_rows.specs.declared.fault.Table.{Table as File};
+ghost use Rattle.gtfs_rows.specs.declared.id_hash.IdHash.{IdHash as Hash};
 
 use crate::cells::{Cells, Place, has_required, is_text, places};
 use crate::fault::{FaultKind, Table, TableFault};
@@ -21,6 +22,8 @@ pub(crate) trait TableRows: Sized + Drop {
     ghost TABLE: { File };
     // The rows are those of the records.
     ghost holds: { Places → List Record → Self → Type 0 };
+    // The hashes by which its ids are looked up.
+    ghost hashes: { Self → List Hash };
 
     // Which table it is.
     const TABLE: Table;
@@ -33,7 +36,8 @@ pub(crate) trait TableRows: Sized + Drop {
             × holds cells.now.places.now (before ++ fields_of cells.now.fields.now ∷ []) self.new) }
         ensures err { (before : List Record) → holds cells.now.places.now before self.old
             → IfErr result (λ kind. kind ≢ FaultKind.OutOfMemory
-            → judge_of TABLE cells.now.places.now before (fields_of cells.now.fields.now) ≡ Some kind) };
+            → judge_of TABLE cells.now.places.now before (fields_of cells.now.fields.now) ≡ Some kind) }
+        ensures hashes { OnOk result (hashes self.new ≡ hashes self.old) };
 }
 
 // Adds a row behind the others.
@@ -62,6 +66,7 @@ fn add_record<T: TableRows>(
         → IfErr result (λ kind. kind ≢ FaultKind.OutOfMemory
         → length_first width (judge_of T.TABLE cells.now.places.now) before (fields_of cells.now.fields.now)
         ≡ Some kind) }
+    ensures hashes { OnOk result (T.hashes rows.new ≡ T.hashes rows.old) }
 {
     if cells.fields.len() != width {
         return Err(FaultKind::RowLength);
@@ -86,6 +91,7 @@ fn add_records<T: TableRows>(
     ensures err { IfErr result (λ fault. fault.kind ≢ FaultKind.OutOfMemory
         → (k : ℕ) × (fault.row ≡ k + 1) × IsFirstFault (length_first width (judge_of T.TABLE places.now))
         (left_of reader.old) k fault.kind) }
+    ensures hashes { IfOk result (λ t. T.hashes t ≡ T.hashes rows) }
 {
     let mut fields = ByteRecord::new(alloc);
     for taken in 0..u64::MAX {
@@ -117,6 +123,7 @@ pub(crate) fn read_table<T: TableRows>(
     ensures file { IfErr result (λ fault. fault.table ≡ T.TABLE) }
     ensures err { IfErr result (λ fault. fault.kind ≢ FaultKind.OutOfMemory
         → IsFaultOf (shape_of T.TABLE) bytes.now fault.row fault.kind) }
+    ensures hashes { IfOk result (λ t. T.hashes t ≡ T.hashes rows) }
 {
     if !is_text(bytes) {
         return Err(T::TABLE.fault(0, FaultKind::BadUtf8));
@@ -145,6 +152,7 @@ fn read_under<T: TableRows>(
     ensures file { IfErr result (λ fault. fault.table ≡ T.TABLE) }
     ensures err { IfErr result (λ fault. fault.kind ≢ FaultKind.OutOfMemory
         → IsFaultUnder (shape_of T.TABLE) (fields_of header.now) (left_of reader.old) fault.row fault.kind) }
+    ensures hashes { IfOk result (λ t. T.hashes t ≡ T.hashes rows) }
 {
     let Ok(places) = places(alloc, header, T::TABLE.columns()) else {
         return Err(T::TABLE.out_of_memory());

@@ -6,6 +6,7 @@ ghost use Rattle.std.specs.String.{string_bytes};
 ghost use Rattle.csv.specs.Records.{AllText, fields_of};
 ghost use Rattle.gtfs_rows.specs.Faults.{IsFaultOf, fault_unless};
 ghost use Rattle.gtfs_rows.specs.Ids.{given_also};
+ghost use Rattle.indexmap.specs.IndexSet.{hasher_of};
 ghost use Rattle.gtfs_rows.specs.Source.{Record};
 ghost use Rattle.gtfs_rows.specs.Rows.{AreStopTimes, IsStopId, given_time, is_available, stop_time_fault};
 ghost use Rattle.gtfs_rows.specs.Rows.{time_fault, value};
@@ -84,6 +85,7 @@ fn stop_place(
     ensures more { OnOk result (map string_bytes stops.new.keys ≡ given_also (map string_bytes stops.old.keys) id.now) }
     ensures ok { IfOk result (λ place. IsStopId (map string_bytes stops.new.keys) place id.now) }
     ensures err { IfErr result (λ kind. kind ≡ FaultKind.OutOfMemory) }
+    ensures hash { OnOk result (hasher_of stops.new ≡ hasher_of stops.old) }
 {
     if id.is_empty() {
         return Ok(None);
@@ -106,6 +108,8 @@ fn add_stop_time(
         × AreStopTimes cells.now.places.now (before ++ fields_of cells.now.fields.now ∷ []) times.new) }
     ensures err { IfErr result (λ kind. kind ≢ FaultKind.OutOfMemory
         → stop_time_fault cells.now.places.now (fields_of cells.now.fields.now) ≡ Some kind) }
+    ensures trips { OnOk result (hasher_of times.new.trips ≡ hasher_of times.old.trips) }
+    ensures stops { OnOk result (hasher_of times.new.stops ≡ hasher_of times.old.stops) }
 {
     let arrival = time_in(cells, 1)?;
     let departure = time_in(cells, 2)?;
@@ -159,6 +163,8 @@ impl TableRows for StopTimesRead {
 
     ghost holds = { λ places records read. AreStopTimes places records read.times };
 
+    ghost hashes = { λ read. hasher_of read.times.trips ∷ hasher_of read.times.stops ∷ [] };
+
     const TABLE: Table = Table::StopTimes;
 
     fn add(&mut self, alloc: Global, cells: &Cells) -> Result<(), FaultKind> {
@@ -179,6 +185,8 @@ impl TableFile for StopTimes {
     ghost holds = { HoldsStopTimes };
 
     ghost tells = { IsFaultOf stop_times_shape };
+
+    ghost is_hashed = { λ hash times. (hasher_of times.trips ≡ hash) × (hasher_of times.stops ≡ hash) };
 
     const TABLE: Table = Table::StopTimes;
 

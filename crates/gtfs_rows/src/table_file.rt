@@ -3,6 +3,7 @@
 ghost use Rattle.std.specs.Prelude.{◌≡◌, ◌≢◌, ℕ, List, IfOk, IfErr};
 ghost use Rattle.gtfs_rows.specs.declared.fault.FaultKind.{FaultKind as Kind};
 ghost use Rattle.gtfs_rows.specs.declared.fault.Table.{Table as File};
+ghost use Rattle.gtfs_rows.specs.declared.id_hash.IdHash.{IdHash as Hash};
 
 use crate::fault::{FaultKind, Table, TableFault};
 use crate::id_hash::IdHash;
@@ -16,6 +17,8 @@ pub trait TableFile: Sized + Drop {
     ghost holds: { List ℕ → Self → Type 0 };
     // What is wrong with the bytes, at which record.
     ghost tells: { List ℕ → ℕ → Kind → Type 0 };
+    // The ids that the rows keep are looked up by the hash.
+    ghost is_hashed: { Hash → Self → Type 0 };
 
     /// Which file it is.
     const TABLE: Table;
@@ -23,6 +26,7 @@ pub trait TableFile: Sized + Drop {
     /// The rows of the file's bytes, or their first fault. Ids are looked up by the hash.
     fn read(alloc: Global, hash: IdHash, bytes: &[u8]) -> Result<Self, TableFault>
         ensures ok { IfOk result (λ rows. holds bytes.now rows) }
+        ensures hashed { IfOk result (λ rows. is_hashed hash rows) }
         ensures file { IfErr result (λ fault. fault.table ≡ TABLE) }
         ensures err { IfErr result (λ fault. fault.kind ≢ FaultKind.OutOfMemory
             → tells bytes.now fault.row fault.kind) };

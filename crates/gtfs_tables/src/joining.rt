@@ -3,6 +3,7 @@
 ghost use Rattle.std.specs.Prelude.{◌≡◌, ◌≢◌, ◌≤◌, ◌<◌, ◌+◌, ℕ, List, length, map, filter, Ok, Err, ◌⊎◌, IfOk};
 ghost use Rattle.std.specs.Prelude.{IfErr, IsSortedBy, Some, None, Option, false, slice_index_or, option_map};
 ghost use Rattle.std.specs.List.{AllWithin, slice_range};
+ghost use Rattle.indexmap.specs.IndexSet.{hasher_of};
 ghost use Rattle.gtfs_rows.specs.declared.rows.StopTimeRow.{StopTimeRow as LinkedRow};
 ghost use Rattle.gtfs_rows.specs.Tables.{is_stop};
 ghost use Rattle.gtfs_tables.specs.First.{first_below, first_fault_of};
@@ -43,10 +44,11 @@ struct Links {
 /// The feed of the tables, or their first fault. Faults are judged in this order: the parents of stops, then the
 /// trip and the stop of each stop time, then the trips that repeat, then the times of each trip, then the transfers;
 /// each in the order of its file. An id stands for the first row that has it. With `strict` an arrival must be after
-/// the departure before it.
+/// the departure before it. The feed's ids are looked up by the hash of the tables.
 #[tactic(none)]
 pub fn join(alloc: Global, tables: Tables, strict: bool) -> Result<Feed, TableFault>
     ensures ok { IfOk result (IsJoined strict tables) }
+    ensures hash { IfOk result (λ feed. feed.hash ≡ hasher_of tables.stop_times.trips) }
     ensures err { IfErr result (λ fault. fault.kind ≢ FaultKind.OutOfMemory → IsFirstFault strict tables fault) }
 {
     let most = u32::MAX as usize;
@@ -160,6 +162,7 @@ fn judged_times(
 fn feed_of(alloc: Global, tables: Tables, links: Links, strict: bool) -> Result<Feed, TableFault>
     requires { IsLinked (stop_named tables.stops.items) (trip_named tables.trips.items) tables links }
     ensures ok { IfOk result (IsJoined strict tables) }
+    ensures hash { IfOk result (λ feed. feed.hash ≡ hasher_of tables.stop_times.trips) }
     ensures err { IfErr result (λ fault. fault.kind ≢ FaultKind.OutOfMemory → IsFirstFault strict tables fault) }
 {
     let hash = *tables.stop_times.trips.hasher();

@@ -7,10 +7,12 @@ ghost use Rattle.transfers.specs.Listed.{AreAllListed, AreListed, LeadBelow, Lis
 ghost use Rattle.transfers.specs.Claims.{AreSorted, IsFirstAt, ArePathsBelow, path_of};
 ghost use Rattle.transfers.specs.Lookup.{IsHeard, IsKnown};
 ghost use Rattle.transfers.specs.declared.fault.ListingFault.TheVariants.{TooMany};
+ghost use Rattle.footpaths.specs.declared.fault.FootFault.TheVariants.{OutOfMemory as NoMemory};
 
 use crate::claims::{Claim, Claims, Word};
 use crate::fault::ListingFault;
 use crate::lookup::{Known, Lookup, end_of_stops};
+use footpaths::FootFault;
 use gtfs_tables::Feed;
 use std::alloc::{AllocError, Global};
 use timetable::Footpath;
@@ -175,13 +177,17 @@ pub fn listed_within(alloc: Global, feed: &Feed, most: usize) -> Result<Vec<Foot
     paths_below(alloc, &known, end, most)
 }
 
-/// The footpaths that a feed lists, as [`listed_within`] gives them, however many they are. Want of
-/// memory is the only error.
-pub fn listed(alloc: Global, feed: &Feed) -> Result<Vec<Footpath>, AllocError>
+/// The footpaths that a feed lists, as [`listed_within`] gives them, however many they are.
+///
+/// # Errors
+///
+/// `OutOfMemory` alone.
+pub fn listed(alloc: Global, feed: &Feed) -> Result<Vec<Footpath>, FootFault>
     ensures all { IfOk result (λ v. AreAllListed feed.now v.items) }
+    ensures err { IfErr result (λ fault. fault ≡ NoMemory) }
 {
     match listed_within(alloc, feed, usize::MAX) {
         Ok(paths) => Ok(paths),
-        Err(_) => Err(AllocError),
+        Err(_) => Err(FootFault::OutOfMemory),
     }
 }

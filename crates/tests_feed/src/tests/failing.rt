@@ -53,6 +53,8 @@ impl<'a> FeedFiles for Failing<'a> {
 
     ghost holds = { λ files name. None };
 
+    ghost hash = { λ files. None };
+
     fn read(&mut self, alloc: Global, name: &str) -> Result<Option<Vec<u8>>, FileFault> {
         if self.left > 0 {
             self.left -= 1;

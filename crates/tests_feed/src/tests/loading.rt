@@ -1,6 +1,6 @@
 //! Feeds in memory and their images.
 
-ghost use Rattle.std.specs.Prelude.{◌≡◌};
+ghost use Rattle.std.specs.Prelude.{◌≡◌, Some};
 
 use super::failing::{Failing, ORDER};
 use super::texts::{feed_of, files_of};
@@ -108,6 +108,8 @@ impl<F: FeedFiles> FeedFiles for Hashed<F> {
     ghost failed = { λ hashed. F.failed hashed.files };
 
     ghost holds = { λ hashed. F.holds hashed.files };
+
+    ghost hash = { λ hashed. Some hashed.hash };
 
     fn read(&mut self, alloc: Global, name: &str) -> Result<Option<Vec<u8>>, FileFault> {
         self.files.read(alloc, name)

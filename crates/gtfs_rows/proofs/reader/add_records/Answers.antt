@@ -43,4 +43,5 @@ loop-taken-preserved g c =
           (left_of c.args.reader.now) (left_of c.take_record.new.reader) c.loop-taken.taken
           (fields_of c.take_record.new.fields) here good.0 c.loop-taken.invariant.good;
       held = rw more good.1;
+      hashes = c.in_default.ensures.hashes ∙ c.loop-taken.invariant.hashes;
     }

@@ -11,4 +11,5 @@ invariant-loop-taken g l = record {
   left : drop l.taken (left_of l.initial.reader) ≡ left_of l.reader;
   good : (j : ℕ) → j < l.taken → fault_at (length_first l.width (judge_of g.T.TableRows.TABLE l.places)) (left_of l.initial.reader) j ≡ None;
   held : g.T.TableRows.holds l.places (take l.taken (left_of l.initial.reader)) l.rows;
+  hashes : g.T.TableRows.hashes l.rows ≡ g.T.TableRows.hashes l.initial.rows;
 }
