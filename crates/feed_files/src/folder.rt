@@ -1,6 +1,7 @@
 //! The files of a folder.
 
-ghost use Rattle.std.specs.Prelude.{◌≡◌, ◌≤◌, ◌↔◌, ◌⊎◌, [], length, None, Some, IfErr, IfOk, IfSome, IsNone, IsOk, IsTrue};
+ghost use Rattle.std.specs.Prelude.{◌≡◌, ◌≤◌, ◌↔◌, ◌⊎◌, [], length, None, Some, IfErr, IfOk, IfSome, IsNone, IsOk};
+ghost use Rattle.std.specs.Prelude.{IsTrue};
 ghost use Rattle.std_io.specs.declared.io.kind.ErrorKind.TheVariants.{NotADirectory, NotFound, OutOfMemory};
 ghost use Rattle.feed_files.specs.Files.{one_more};
 ghost use Rattle.feed_files.specs.declared.files.FileFault.TheVariants.{OutOfMemory as WasOutOfMemory};
