@@ -43,3 +43,6 @@ returns-in-Ok-clause-ok c = record {
     calendar_dates = refl;
   };
 }
+
+pub returns-in-Ok-clause-hash : goal.returns-in-Ok-clause-hash
+returns-in-Ok-clause-hash c = c.hasher-hash.ensures

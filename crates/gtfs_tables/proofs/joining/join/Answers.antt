@@ -42,3 +42,6 @@ returns-in-Err-clause-err c = λ other.
           (first_fault_of kinds.Transfers (transfer_fault (stop_named c.args.tables.stops.items))
           c.args.tables.transfers.items)) c.in-Err.fault wrong.first;
     }
+
+pub returns-in-Ok-clause-hash : goal.returns-in-Ok-clause-hash
+returns-in-Ok-clause-hash c = c.feed_of.ensures.hash
