@@ -13,6 +13,8 @@ from csa_image import Connection, Image
 
 USAGE = 64
 CRITERIA = ("arrival", "arrival+trips", "arrival+trips+walk")
+# so many are given to csa on its command line
+MOST_LEGS = 1000
 CLOCK = re.compile("([0-9]{1,6}):([0-5][0-9]):([0-5][0-9])")
 
 
@@ -118,6 +120,8 @@ class Reader:
             if not isinstance(record["legs"], list) or not all(isinstance(leg, dict) for leg in record["legs"]):
                 raise Unreadable("its 'legs' are no list of objects")
             journey.legs = [self.leg(leg) for leg in record["legs"]]
+            if len(journey.legs) > MOST_LEGS:
+                raise Unreadable(f"it has more than {MOST_LEGS} legs")
             if not any(isinstance(leg, Ride) for leg in journey.legs):
                 raise Unreadable("it has no ride")
             journey.query = self.query(number, journey.legs, record)
@@ -147,12 +151,18 @@ class Reader:
         source, target = self.text(leg["from"]), self.text(leg["to"])
         if "trip" in leg:
             return Ride(self.text(leg["trip"]), self.day(leg.get("day")), source, self.seconds(leg["dep"]), target, self.seconds(leg["arr"]))
-        return Walk(source, target, None if leg.get("secs") is None else int(leg["secs"]))
+        return Walk(source, target, None if leg.get("secs") is None else self.whole(leg["secs"]))
 
     def text(self, value: Any) -> str:
         if not isinstance(value, str):
             raise Unreadable(f"{value!r} is no text")
         return value
+
+    def whole(self, value: Any) -> int:
+        """Whole seconds, which some planners write as 60.0."""
+        if not float(value).is_integer():
+            raise Unreadable(f"{value!r} are no whole seconds")
+        return int(float(value))
 
     def day(self, value: Any) -> int | None:
         return None if value is None else int(str(value).replace("-", ""))
