@@ -3,6 +3,7 @@
 
     release/help_pages.py PROGRAM VERSION FOLDER
 """
+import itertools
 import pathlib
 import re
 import subprocess
@@ -10,7 +11,7 @@ import sys
 
 
 class Help:
-    """What one --help says: its summary, its sections of items, and the paragraphs after them."""
+    """What one --help says: its summary, its sections of items, and the lines after them."""
 
     def __init__(self, text):
         self.text = text
@@ -47,6 +48,20 @@ def roff(text):
     return "\\&" + text if text.startswith(".") else text
 
 
+def is_shown(line):
+    """Whether a line is shown as it is: lists, examples and JSON, which nothing may break or hyphenate."""
+    return line.startswith((" ", "Example:")) or '{"' in line
+
+
+def notes(lines):
+    """The lines after the sections: filled paragraphs, and between them what is shown as it is."""
+    for shown, group in itertools.groupby(lines, is_shown):
+        if shown:
+            yield from (".PP", ".nf", *map(roff, group), ".fi")
+        else:
+            yield from (".PP", *map(roff, group))
+
+
 def page(name, version, help_, others):
     lines = [f'.TH "{name.upper()}" 1 "" "csa {version}" "User Commands"', ".SH NAME",
              f"{roff(name)} \\- {roff(help_.summary)}", ".SH SYNOPSIS", roff(help_.usage)]
@@ -55,9 +70,7 @@ def page(name, version, help_, others):
         for head, says in items:
             lines += [".TP", f"\\fB{roff(head)}\\fR", roff(says)]
     if help_.notes:
-        lines.append(".SH NOTES")
-        for note in help_.notes:
-            lines += [".PP", roff(note)]
+        lines += [".SH NOTES", *notes(help_.notes)]
     lines += [".SH SEE ALSO", ", ".join(f"{roff(other)}(1)" for other in others if other != name)]
     return "\n".join(lines) + "\n"
 
