@@ -9,6 +9,7 @@ use crate::found::{Found, in_order};
 use crate::hop::Asked;
 use crate::scan::scan_window;
 use crate::telling::tell_journeys;
+use crate::view::View;
 use crate::ways::ways_to;
 use criteria::Criterion;
 use sources::ConnSource;
@@ -52,7 +53,12 @@ pub fn profile<S: ConnSource, C: Criterion>(
     };
     let scan = scan_window(alloc, source, &asked, start..end)?;
     let points = in_order(alloc, criterion, &scan.state.origin.found)?;
-    let told = tell_journeys(alloc, source, &scan.state, &points)?;
+    let view = View {
+        trips: &scan.state.trips,
+        stops: &scan.state.stops,
+        origin: &scan.state.origin,
+    };
+    let told = tell_journeys(alloc, source, &view, &points)?;
     Ok(Found {
         criterion: *criterion,
         points: told.points,

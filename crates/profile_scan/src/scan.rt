@@ -93,9 +93,9 @@ impl<C: Criterion> State<C> {
     }
 }
 
-// Whether nothing is offered at a connection, by how many labels its trip has and the head of the list of the stop
-// where it ends.
-fn offers_nothing(
+/// Whether nothing is offered at a connection, by how many labels its trip has and the head of the list of the stop
+/// where it ends.
+pub fn offers_nothing(
     labels: u32,
     head: u32,
     alight: bool,

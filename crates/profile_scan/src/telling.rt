@@ -4,14 +4,14 @@ ghost use Rattle.std.specs.Prelude.{◌≡◌, ◌++◌, ◌∷◌, [], ℕ, IfO
 ghost use Rattle.bags.specs.declared.point.Point.{Point};
 ghost use Rattle.fronts.specs.Front.{Extends};
 ghost use Rattle.profile_scan.specs.Points.{untagged};
-ghost use Rattle.profile_scan.specs.Kept.{story_of};
+ghost use Rattle.profile_scan.specs.Views.{story_seen};
 ghost use Rattle.profile_scan.specs.declared.telling.Change.{Change};
 ghost use Rattle.profile_scan.specs.Telling.{IsRoute, change, ending, IsLabelTold, SaysLabel, IsJourneyTold};
 ghost use Rattle.profile_scan.specs.Telling.{SaysJourney, IsRetold};
 
 use crate::nodes::Node;
-use crate::scan::State;
 use crate::story::Exit;
+use crate::view::View;
 use bags::Point;
 use criteria::Criterion;
 use fronts::Step;
@@ -35,8 +35,8 @@ struct End {
 }
 
 // How one changes after a label, if one does.
-fn change_after<C: Criterion>(state: &State<C>, label: usize) -> Option<Change>
-    ensures { result ≡ change (story_of state.now) label }
+fn change_after<C: Criterion>(state: &View<'_, C>, label: usize) -> Option<Change>
+    ensures { result ≡ change (story_seen state.now) label }
 {
     match state.trips.exits.get(label).copied()? {
         Exit::Ends { .. } => None,
@@ -48,8 +48,8 @@ fn change_after<C: Criterion>(state: &State<C>, label: usize) -> Option<Change>
 }
 
 // How one ends after a label, if one does.
-fn end_after<C: Criterion>(state: &State<C>, label: usize) -> Option<End>
-    ensures { result ≡ ending (story_of state.now) label }
+fn end_after<C: Criterion>(state: &View<'_, C>, label: usize) -> Option<End>
+    ensures { result ≡ ending (story_seen state.now) label }
 {
     match state.trips.exits.get(label).copied()? {
         Exit::Ends { last, walk } => Some(End { last, walk }),
@@ -59,13 +59,13 @@ fn end_after<C: Criterion>(state: &State<C>, label: usize) -> Option<End>
 
 // The last label to which one leads, those on the way to it being noted.
 fn note_route<C: Criterion>(
-    state: &State<C>,
+    state: &View<'_, C>,
     first: usize,
     route: &mut Vec<usize>,
 ) -> Result<usize, AllocError>
-    ensures route { IfOk result (λ last. IsRoute (story_of state.now) first route.new.items last) }
-    ensures ends { IfOk result (λ last. (walks : _) → IsLabelTold walks (story_of state.now) first
-        → change (story_of state.now) last ≡ None) }
+    ensures route { IfOk result (λ last. IsRoute (story_seen state.now) first route.new.items last) }
+    ensures ends { IfOk result (λ last. (walks : _) → IsLabelTold walks (story_seen state.now) first
+        → change (story_seen state.now) last ≡ None) }
 {
     route.clear();
     let mut label = first;
@@ -94,14 +94,14 @@ fn add(nodes: &mut Vec<Node>, node: Node) -> Result<usize, AllocError>
 
 // Adds a node that says how one leaves the trip of a label for good.
 fn tell_end<C: Criterion>(
-    state: &State<C>,
+    state: &View<'_, C>,
     label: usize,
     nodes: &mut Vec<Node>,
 ) -> Result<usize, AllocError>
     ensures nodes { Extends nodes.old.items nodes.new.items }
-    ensures says { IfOk result (λ number. (walks : _) → IsLabelTold walks (story_of state.now) label
-        → change (story_of state.now) label ≡ None
-        → SaysLabel walks (story_of state.now) label nodes.new.items number) }
+    ensures says { IfOk result (λ number. (walks : _) → IsLabelTold walks (story_seen state.now) label
+        → change (story_seen state.now) label ≡ None
+        → SaysLabel walks (story_seen state.now) label nodes.new.items number) }
 {
     match end_after(state, label) {
         None => Ok(nodes.len()),
@@ -118,17 +118,17 @@ fn tell_end<C: Criterion>(
 // Adds the nodes that say how one changes after a label, `next` being the number of the node by which one rides on.
 fn tell_change<S: ConnSource, C: Criterion>(
     source: &S,
-    state: &State<C>,
+    state: &View<'_, C>,
     label: usize,
     next: usize,
     nodes: &mut Vec<Node>,
 ) -> Result<usize, AllocError>
-    requires told { IsLabelTold (S.timetable source.now).footpaths (story_of state.now) label }
-    requires next { (c : Change) × (change (story_of state.now) label ≡ Some c)
-        × SaysLabel (S.timetable source.now).footpaths (story_of state.now) c.step.label nodes.old.items next }
+    requires told { IsLabelTold (S.timetable source.now).footpaths (story_seen state.now) label }
+    requires next { (c : Change) × (change (story_seen state.now) label ≡ Some c)
+        × SaysLabel (S.timetable source.now).footpaths (story_seen state.now) c.step.label nodes.old.items next }
     ensures nodes { Extends nodes.old.items nodes.new.items }
     ensures says { IfOk result
-        (λ number. SaysLabel (S.timetable source.now).footpaths (story_of state.now) label nodes.new.items number) }
+        (λ number. SaysLabel (S.timetable source.now).footpaths (story_seen state.now) label nodes.new.items number) }
 {
     match change_after(state, label) {
         None => Ok(next),
@@ -156,15 +156,15 @@ fn tell_change<S: ConnSource, C: Criterion>(
 // Adds the nodes of the journey of a point found.
 fn tell_journey<S: ConnSource, C: Criterion>(
     source: &S,
-    state: &State<C>,
+    state: &View<'_, C>,
     tag: usize,
     route: &mut Vec<usize>,
     nodes: &mut Vec<Node>,
 ) -> Result<usize, AllocError>
-    requires { IsJourneyTold (S.timetable source.now).footpaths (story_of state.now) tag }
+    requires { IsJourneyTold (S.timetable source.now).footpaths (story_seen state.now) tag }
     ensures nodes { Extends nodes.old.items nodes.new.items }
     ensures says { IfOk result
-        (λ number. SaysJourney (S.timetable source.now).footpaths (story_of state.now) tag nodes.new.items number) }
+        (λ number. SaysJourney (S.timetable source.now).footpaths (story_seen state.now) tag nodes.new.items number) }
 {
     let set_out = state.origin.set_outs[tag];
     let last = note_route(state, set_out.label, route)?;
@@ -193,14 +193,14 @@ pub struct Told<V> {
 pub fn tell_journeys<S: ConnSource, C: Criterion>(
     alloc: Global,
     source: &S,
-    state: &State<C>,
+    state: &View<'_, C>,
     points: &[Point<C::V>],
 ) -> Result<Told<C::V>, AllocError>
     requires { (p : Point _) → Contains points.now p
-        → IsJourneyTold (S.timetable source.now).footpaths (story_of state.now) p.tag }
+        → IsJourneyTold (S.timetable source.now).footpaths (story_seen state.now) p.tag }
     ensures same { IfOk result (λ told. map untagged told.points.items ≡ map untagged points.now) }
     ensures says { IfOk result (λ told. (p : Point _) → Contains told.points.items p
-        → IsRetold (S.timetable source.now).footpaths (story_of state.now) points.now told.nodes.items p) }
+        → IsRetold (S.timetable source.now).footpaths (story_seen state.now) points.now told.nodes.items p) }
 {
     let mut told = Vec::with_capacity(alloc, points.len())?;
     let mut nodes = Vec::new(alloc);

@@ -2,6 +2,7 @@
 
 mod answering;
 mod dominating;
+mod everywhere;
 mod examples;
 mod images;
 mod in_turn;
