@@ -14,6 +14,8 @@ pub mod LeaveLemmas
 pub mod WayLemmas
 pub mod StepFacts
 pub mod LogLemmas
+mod OriginLemmas
+mod EverywhereLemmas
 pub mod OrderLemmas
 pub mod Chains
 pub mod Times

@@ -1,5 +1,5 @@
 -- What one scan for all sources keeps, and what it finds.
-use Rattle.std.specs.Prelude.{◌≡◌, ◌≢◌, ℕ, ◌<◌, List, [], length, vec_len, Contains, AllPairs, Option, Some, None, slice_get}
+use Rattle.std.specs.Prelude.{◌≡◌, ◌≢◌, ℕ, ◌<◌, List, [], length, Contains, AllPairs, Option, Some, None, slice_get}
 use Rattle.std.specs.Prelude.{slice_index_or}
 use Rattle.std.specs.Global.{Vec}
 use Rattle.criteria.specs.Laws.{Rules}
@@ -69,7 +69,7 @@ abbrev pub destination_of : {K V : Type 0} {c : _} → Profiles K V c → Destin
 destination_of profiles = profiles.destination
 
 abbrev pub stops_of : {K V : Type 0} {c : _} → Profiles K V c → ℕ
-stops_of profiles = vec_len profiles.lists
+stops_of profiles = length profiles.lists.items
 
 abbrev pub criterion_of_profiles : {K V : Type 0} {c : _} → Profiles K V c → K
 criterion_of_profiles profiles = profiles.asked.criterion
@@ -92,7 +92,7 @@ pub record AnswersFrom {K V : Type 0} {c : _} (rules : Rules V) (t : TimetableVa
 pub record AnswerAll {K V : Type 0} {c : _} (criterion : K) (rules : Rules V) (t : TimetableValue) (d : Destination)
     (profiles : Profiles K V c) : Type 0 where
   pub each : (stop : ℕ) → stop < t.stops → stop ≢ d.target → AnswersFrom rules t (query_from d stop) profiles
-  pub long : vec_len profiles.lists ≡ t.stops
+  pub long : stops_of profiles ≡ t.stops
   pub origins : AreOrigins criterion t.stops profiles.state.origins
   pub ways : length (ways_of profiles.asked.ways) ≡ t.stops
   pub keeps : (criterion_of_profiles profiles ≡ criterion) × (destination_of profiles ≡ d)

@@ -41,15 +41,21 @@ found_from origins stop = found_by (slice_get origins.each.items stop)
 abbrev pub set_outs_from : {K V : Type 0} {c : _} → Origins K V c → ℕ → List SetOut
 set_outs_from origins stop = set_outs_by (slice_get origins.each.items stop)
 
--- points found from so many stops, all under a criterion
+-- the points found from each stop are under a criterion
+abbrev pub AreUnder : {K V : Type 0} {c : _} → K → Origins K V c → Type 0
+AreUnder {K} {V} {c} criterion origins =
+    (stop : ℕ) (origin : Origin K V c) → slice_get origins.each.items stop ≡ Some origin
+    → criterion_of origin.found ≡ criterion
+
+-- and so many stops have some
 pub record AreOrigins {K V : Type 0} {c : _} (criterion : K) (count : ℕ) (origins : Origins K V c) : Type 0 where
   pub long : length origins.each.items ≡ count
-  pub under : (stop : ℕ) (origin : Origin K V c) → slice_get origins.each.items stop ≡ Some origin
-      → criterion_of origin.found ≡ criterion
+  pub under : AreUnder criterion origins
 
 -- they stay so, and ways to set out are only added
-pub record ChangesOrigins {K V : Type 0} {c : _} (criterion : K) (count : ℕ) (old new : Origins K V c) : Type 0 where
-  pub origins : AreOrigins criterion count new
+pub record ChangesOrigins {K V : Type 0} {c : _} (criterion : K) (old new : Origins K V c) : Type 0 where
+  pub long : length new.each.items ≡ length old.each.items
+  pub under : AreUnder criterion new
   pub set_outs : (stop : ℕ) → Extends (set_outs_from old stop) (set_outs_from new stop)
 
 -- the points found from a stop take an offer in

@@ -26,8 +26,8 @@ impl<C: Criterion> Origins<C> {
     ghost use Rattle.profile_scan.specs.Steps.{settings_out};
     ghost use Rattle.profile_scan.specs.Hops.{IsHopOf};
     ghost use Rattle.profile_scan.specs.Parts.{AdmitsLabels};
-    ghost use Rattle.profile_scan.specs.Origins.{AreOrigins, ChangesOrigins, SourceTakes, found_from, from_stop};
-    ghost use Rattle.profile_scan.specs.Origins.{starts_at};
+    ghost use Rattle.profile_scan.specs.Origins.{AreOrigins, AreUnder, ChangesOrigins, SourceTakes};
+    ghost use Rattle.profile_scan.specs.Origins.{found_from, from_stop, starts_at};
 
     /// So many stops without points.
     pub fn new(alloc: Global, criterion: C, count: u32) -> Result<Self, AllocError>
@@ -52,9 +52,9 @@ impl<C: Criterion> Origins<C> {
     ) -> Result<(), AllocError>
         requires secs { IfSome departure.start (λ walk. IsSecs walk.secs) }
         requires stop { stop < vec_len self.old.each }
-        requires origins { AreOrigins asked.now.criterion (vec_len self.old.each) self.old }
+        requires origins { AreUnder asked.now.criterion self.old }
         requires labels { AdmitsLabels (C.rules asked.now.criterion) labels.now }
-        ensures origins { OnOk result (ChangesOrigins asked.now.criterion (vec_len self.old.each) self.old self.new) }
+        ensures origins { OnOk result (ChangesOrigins asked.now.criterion self.old self.new) }
         ensures takes { OnOk result ((walks : List Footpath) → SourceTakes (C.rules asked.now.criterion) walks stop
             (λ tags. settings_out_after (C.rules asked.now.criterion) tags hop.now.place
             departure.time departure.start (label_points labels.now))
@@ -76,9 +76,9 @@ impl<C: Criterion> Origins<C> {
     ) -> Result<(), AllocError>
         requires secs { IfSome start (λ walk. IsSecs walk.secs) }
         requires stop { starts_at hop.now.connection start < vec_len self.old.each }
-        requires origins { AreOrigins asked.now.criterion (vec_len self.old.each) self.old }
+        requires origins { AreUnder asked.now.criterion self.old }
         requires labels { AdmitsLabels (C.rules asked.now.criterion) labels.now }
-        ensures origins { OnOk result (ChangesOrigins asked.now.criterion (vec_len self.old.each) self.old self.new) }
+        ensures origins { OnOk result (ChangesOrigins asked.now.criterion self.old self.new) }
         ensures takes { OnOk result ((walks : List Footpath) (stop : ℕ)
             → SourceTakes (C.rules asked.now.criterion) walks stop
             (λ tags. only_if (MayStart (from_stop asked.now.query stop) hop.now.connection start)
@@ -109,8 +109,7 @@ impl<C: Criterion> Origins<C> {
         requires hop { IsHopOf (C.rules asked.now.criterion) (S.timetable source.now) asked.now.query hop.now }
         requires origins { AreOrigins asked.now.criterion (S.timetable source.now).stops self.old }
         requires labels { AdmitsLabels (C.rules asked.now.criterion) labels.now }
-        ensures origins { OnOk result
-            (ChangesOrigins asked.now.criterion (S.timetable source.now).stops self.old self.new) }
+        ensures origins { OnOk result (ChangesOrigins asked.now.criterion self.old self.new) }
         ensures takes { OnOk result ((stop : ℕ)
             → SourceTakes (C.rules asked.now.criterion) (S.timetable source.now).footpaths stop
             (λ tags. settings_out (C.rules asked.now.criterion) (S.timetable source.now)

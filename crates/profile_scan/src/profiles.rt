@@ -1,9 +1,9 @@
 //! The answers of one target from all stops, by one scan.
 
-ghost use Rattle.std.specs.Prelude.{◌≡◌, ◌++◌, ℕ, IfOk, OnOk, OnErr, reverse, slice_get, take, vec_len};
+ghost use Rattle.std.specs.Prelude.{◌≡◌, ◌++◌, ℕ, IfOk, OnOk, OnErr, length, reverse, slice_get, take};
 ghost use Rattle.profile_scan.specs.Destinations.{CanBeAsked, query_from};
 ghost use Rattle.profile_scan.specs.Window.{window};
-ghost use Rattle.profile_scan.specs.Origins.{AreOrigins, found_from};
+ghost use Rattle.profile_scan.specs.Origins.{AreUnder, found_from};
 ghost use Rattle.profile_scan.specs.Everywhere.{AnswerAll, AreInOrder, points_in};
 
 use crate::destination::Destination;
@@ -32,7 +32,7 @@ pub struct Profiles<C: Criterion> {
 }
 
 impl<C: Criterion> Profiles<C> {
-    ghost use Rattle.std.specs.Prelude.{◌≡◌, ◌≢◌, ◌<◌, IfOk, length, vec_len};
+    ghost use Rattle.std.specs.Prelude.{◌≡◌, ◌≢◌, ◌<◌, IfOk, length};
     ghost use Rattle.profile_scan.specs.Destinations.{query_from};
     ghost use Rattle.profile_scan.specs.Kept.{ways_of};
     ghost use Rattle.profile_scan.specs.Found.{Answers};
@@ -83,7 +83,8 @@ impl<C: Criterion> Profiles<C> {
             stops: &self.state.stops,
             origin: &self.state.origins.each[stop as usize],
         };
-        let told = tell_journeys(alloc, source, &view, &self.lists[stop as usize])?;
+        let points = self.points(stop);
+        let told = tell_journeys(alloc, source, &view, points)?;
         let query = self.destination.query_from(stop);
         Ok(Found {
             criterion: self.asked.criterion,
@@ -102,14 +103,15 @@ fn lists_in_order<C: Criterion>(
     criterion: &C,
     origins: &Origins<C>,
 ) -> Result<Vec<Vec<Point<C::V>>>, AllocError>
-    requires { AreOrigins criterion.now (vec_len origins.now.each) origins.now }
-    ensures long { IfOk result (λ lists. vec_len lists ≡ vec_len origins.now.each) }
+    requires { AreUnder criterion.now origins.now }
+    ensures long { IfOk result (λ lists. length lists.items ≡ length origins.now.each.items) }
     ensures lists { IfOk result (λ lists. (stop : ℕ)
         → AreInOrder (C.rules criterion.now) (found_from origins.now stop) (points_in (slice_get lists.items stop))) }
 {
     let mut lists = Vec::with_capacity(alloc, origins.each.len())?;
     for stop in 0..origins.each.len() {
-        let points = in_order(alloc, criterion, &origins.each[stop].found)?;
+        let origin = &origins.each[stop];
+        let points = in_order(alloc, criterion, &origin.found)?;
         lists.push(points)?;
     }
     Ok(lists)
