@@ -9,6 +9,6 @@ pub mod statuses;
 pub use ends::Ends;
 pub use plans::{Ahead, MOST_AHEAD, MOST_DAYS, MOST_WORKERS, PlanText, Workers, ZoneText, days_of};
 pub use requests::{
-    AnswerForm, BuildRequest, JourneyRequest, NamedFolder, ProfileRequest, Question, Request,
-    ServeRequest, StopsRequest, UpgradeRequest,
+    AnswerForm, BuildRequest, DeparturesForm, DeparturesRequest, JourneyRequest, NamedFolder,
+    ProfileRequest, Question, Request, ServeRequest, StopsRequest, UpgradeRequest,
 };

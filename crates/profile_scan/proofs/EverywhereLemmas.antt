@@ -85,12 +85,11 @@ pub answered_from : {V : Type 0} (rules : Rules V) → Laws rules → (t : Timet
     → Matches rules (told t.footpaths s).journey (CountsFrom t q start) (IsPlain t q.target) (journey_value rules t) found → IsBag rules found → AreInOrder rules found points
     → IsAnswer rules t q points × ((p : Point V) → Contains points p → IsAttained (told t.footpaths s).journey (Counts t q) (IsPlain t q.target) (journey_value rules t) p)
 answered_from rules laws t q can start is_start s found points matches bag are =
-    let tags = told t.footpaths s in
-    (
+    let tags = told t.footpaths s in (
       match_is_the_answer rules laws t q can start is_start tags points
-      (listed_match rules tags.journey (CountsFrom t q start) (IsPlain t q.target) (journey_value rules t) found points are.only are.each matches)
-      (listed_bag rules laws found points bag are.ordered are.only)
-      are.ordered,
+          (listed_match rules tags.journey (CountsFrom t q start) (IsPlain t q.target) (journey_value rules t) found points are.only are.each matches)
+          (listed_bag rules laws found points bag are.ordered are.only)
+          are.ordered,
       λ p h. let a = matches.sound p (are.only p h) in record { way = a.way; spells = a.spells; there = a.there.counts; plain = a.plain; worth = a.worth },
     )
 

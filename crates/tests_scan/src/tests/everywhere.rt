@@ -107,7 +107,12 @@ fn assert_stops<C: Told>(
 }
 
 /// The same of every target and criterion.
-fn assert_targets(rt: &impl Abort, alloc: Global, words: &[u32], window: Destination) -> Result<(), Fail> {
+fn assert_targets(
+    rt: &impl Abort,
+    alloc: Global,
+    words: &[u32],
+    window: Destination,
+) -> Result<(), Fail> {
     let image = image(alloc, words)?;
     for target in 0..image.stops() {
         let asked = Destination { target, ..window };
@@ -157,23 +162,42 @@ struct Vehicle {
 }
 
 /// Adds the words of a connection of a trip, if it can depart at a time.
-fn drive(dice: &mut Dice, vehicle: &mut Vehicle, trip: u32, time: u32, stops: u32, words: &mut Vec<u32>) -> Result<u32, AllocError>
+fn drive(
+    dice: &mut Dice,
+    vehicle: &mut Vehicle,
+    trip: u32,
+    time: u32,
+    stops: u32,
+    words: &mut Vec<u32>,
+) -> Result<u32, AllocError>
     requires { 0 < stops }
 {
     if vehicle.free > time {
         return Ok(0);
     }
-    let (to, arr) = (dice.roll(stops), time.saturating_add(60 * (1 + dice.roll(8))));
+    let (to, arr) = (
+        dice.roll(stops),
+        time.saturating_add(60 * (1 + dice.roll(8))),
+    );
     let flags = if dice.roll(4) == 0 { dice.roll(4) } else { 3 };
     for word in [vehicle.stop, to, time, arr, trip, flags] {
         words.push(word)?;
     }
-    *vehicle = Vehicle { stop: to, free: arr };
+    *vehicle = Vehicle {
+        stop: to,
+        free: arr,
+    };
     Ok(1)
 }
 
 /// Adds the words of connections, and returns how many there are.
-fn add_connections(alloc: Global, dice: &mut Dice, stops: u32, trips: u32, words: &mut Vec<u32>) -> Result<u32, AllocError>
+fn add_connections(
+    alloc: Global,
+    dice: &mut Dice,
+    stops: u32,
+    trips: u32,
+    words: &mut Vec<u32>,
+) -> Result<u32, AllocError>
     requires { 0 < stops }
     requires { 0 < trips }
 {
@@ -195,7 +219,12 @@ fn add_connections(alloc: Global, dice: &mut Dice, stops: u32, trips: u32, words
 
 /// Adds the words of the foot index and of the footpaths: within groups all stops are as far from one another. Returns
 /// how many footpaths there are.
-fn add_footpaths(alloc: Global, dice: &mut Dice, stops: u32, words: &mut Vec<u32>) -> Result<u32, AllocError> {
+fn add_footpaths(
+    alloc: Global,
+    dice: &mut Dice,
+    stops: u32,
+    words: &mut Vec<u32>,
+) -> Result<u32, AllocError> {
     let (groups, change, walk) = (1 + dice.roll(6), 60 * dice.roll(3), 60 * (1 + dice.roll(5)));
     let mut paths = Vec::new(alloc);
     for to in 0..stops {

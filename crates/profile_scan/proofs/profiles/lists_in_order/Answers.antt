@@ -10,4 +10,3 @@ use Rattle.profile_scan.proofs.profiles.lists_in_order.Goals as goal
 
 pub loop-stop-init : goal.loop-stop-init
 loop-stop-init g c = none_listed_to (g.C.Criterion.rules c.args.criterion.now) (found_from c.args.origins.now) c.in_ok-lists.lists.items c.in_ok-lists.ensures.items
-
