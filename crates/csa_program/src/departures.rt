@@ -2,7 +2,7 @@
 
 ghost use Rattle.std.specs.Prelude.{◌≡◌, ◌≢◌, ◌<◌};
 ghost use Rattle.profile_scan.specs.Destinations.{CanBeAsked};
-ghost use Rattle.profile_scan.specs.Everywhere.{AnswerAll, criterion_of_profiles, destination_of};
+ghost use Rattle.profile_scan.specs.Everywhere.{AnswerAll, destination_of};
 
 use crate::asked::explain_end;
 use crate::explaining::explain;
@@ -173,7 +173,11 @@ fn append_stop<C: Told>(
     shown: &Shown<'_, C>,
     form: DeparturesForm,
     stop: u32,
-) -> Result<(), AllocError> {
+) -> Result<(), AllocError>
+    requires stop { stop < shown.now.image.now.timetable.stops }
+    requires differ { stop ≢ (destination_of shown.now.profiles.now).target }
+    requires answered { AnswerAll C.rules shown.now.image.now.timetable shown.now.profiles.now }
+{
     let name = stop_name(shown.alloc, shown.image, stop)?;
     let points = shown.profiles.points(stop);
     match form {
@@ -189,7 +193,11 @@ fn append_journeys<C: Told>(
     shown: &Shown<'_, C>,
     name: &str,
     stop: u32,
-) -> Result<(), AllocError> {
+) -> Result<(), AllocError>
+    requires stop { stop < shown.now.image.now.timetable.stops }
+    requires differ { stop ≢ (destination_of shown.now.profiles.now).target }
+    requires answered { AnswerAll C.rules shown.now.image.now.timetable shown.now.profiles.now }
+{
     let source = InPlace::new(shown.image);
     let departures = departures_from(shown.alloc, &source, shown.profiles, stop)?;
     for departure in &departures {

@@ -106,8 +106,7 @@ pub fn departures_from<S: ConnSource, C: Criterion>(
 ) -> Result<Vec<Departure<C::V>>, AllocError>
     requires stop { stop < (S.timetable source.now).stops }
     requires differ { stop ≢ (destination_of profiles.now).target }
-    requires answered { AnswerAll (criterion_of_profiles profiles.now) (C.rules (criterion_of_profiles profiles.now))
-        (S.timetable source.now) (destination_of profiles.now) profiles.now }
+    requires answered { AnswerAll C.rules (S.timetable source.now) profiles.now }
     ensures points { IfOk result (λ departures. IsAnswer (C.rules (criterion_of_profiles profiles.now))
         (S.timetable source.now) (query_from (destination_of profiles.now) stop) (map point_of departures.items)) }
     ensures journeys { IfOk result (λ departures. (departure : _) → Contains departures.items departure

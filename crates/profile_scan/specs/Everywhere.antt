@@ -88,11 +88,11 @@ pub record AnswersFrom {K V : Type 0} {c : _} (rules : Rules V) (t : TimetableVa
       (Counts t q) (IsPlain t q.target) (journey_value rules t) p
   pub direct : IsWay t q.target q.source (walk_from profiles q.source)
 
--- the same of every stop but the target, each by the query from there
-pub record AnswerAll {K V : Type 0} {c : _} (criterion : K) (rules : Rules V) (t : TimetableValue) (d : Destination)
+-- the same of every stop but the target of what was asked, each by the query from there
+pub record AnswerAll {K V : Type 0} {c : _} (rules_of : K → Rules V) (t : TimetableValue)
     (profiles : Profiles K V c) : Type 0 where
-  pub each : (stop : ℕ) → stop < t.stops → stop ≢ d.target → AnswersFrom rules t (query_from d stop) profiles
+  pub each : (stop : ℕ) → stop < t.stops → stop ≢ (destination_of profiles).target
+      → AnswersFrom (rules_of (criterion_of_profiles profiles)) t (query_from (destination_of profiles) stop) profiles
   pub long : stops_of profiles ≡ t.stops
-  pub origins : AreOrigins criterion t.stops profiles.state.origins
+  pub origins : AreOrigins (criterion_of_profiles profiles) t.stops profiles.state.origins
   pub ways : length (ways_of profiles.asked.ways) ≡ t.stops
-  pub keeps : (criterion_of_profiles profiles ≡ criterion) × (destination_of profiles ≡ d)

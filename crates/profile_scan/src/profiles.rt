@@ -4,7 +4,7 @@ ghost use Rattle.std.specs.Prelude.{◌≡◌, ◌++◌, ℕ, IfOk, OnOk, OnErr,
 ghost use Rattle.profile_scan.specs.Destinations.{CanBeAsked, query_from};
 ghost use Rattle.profile_scan.specs.Window.{window};
 ghost use Rattle.profile_scan.specs.Origins.{AreUnder, found_from};
-ghost use Rattle.profile_scan.specs.Everywhere.{AnswerAll, AreInOrder, points_in};
+ghost use Rattle.profile_scan.specs.Everywhere.{AnswerAll, AreInOrder, criterion_of_profiles, destination_of, points_in};
 
 use crate::destination::Destination;
 use crate::everywhere::{StateOfAll, scan_for_all};
@@ -72,16 +72,16 @@ impl<C: Criterion> Profiles<C> {
     ) -> Result<Found<C>, AllocError>
         requires stop { stop < (S.timetable source.now).stops }
         requires differ { stop ≢ (destination_of self.now).target }
-        requires answered { AnswerAll (criterion_of_profiles self.now) (C.rules (criterion_of_profiles self.now))
-            (S.timetable source.now) (destination_of self.now) self.now }
+        requires answered { AnswerAll C.rules (S.timetable source.now) self.now }
         ensures { IfOk result (λ found. Answers (criterion_of_profiles self.now)
             (C.rules (criterion_of_profiles self.now)) (S.timetable source.now)
             (query_from (destination_of self.now) stop) found) }
     {
+        let origin = &self.state.origins.each[stop as usize];
         let view = View {
             trips: &self.state.trips,
             stops: &self.state.stops,
-            origin: &self.state.origins.each[stop as usize],
+            origin,
         };
         let points = self.points(stop);
         let told = tell_journeys(alloc, source, &view, points)?;
@@ -130,8 +130,9 @@ pub fn profiles_to<S: ConnSource, C: Criterion>(
 ) -> Result<Profiles<C>, AllocError>
     requires { CanBeAsked (S.timetable source.old).stops destination.now }
     ensures timetable { S.timetable source.new ≡ S.timetable source.old }
-    ensures answers { IfOk result (λ profiles.
-        AnswerAll criterion.now (C.rules criterion.now) (S.timetable source.old) destination.now profiles) }
+    ensures answers { IfOk result (λ profiles. AnswerAll C.rules (S.timetable source.old) profiles) }
+    ensures keeps { IfOk result (λ profiles. (criterion_of_profiles profiles ≡ criterion.now)
+        × (destination_of profiles ≡ destination.now)) }
     ensures log { OnOk result (S.log source.new ≡ S.log source.old
         ++ reverse (window (S.timetable source.old) (query_from destination.now destination.now.target))) }
     ensures err { OnErr result ((n : ℕ) × (S.log source.new ≡ S.log source.old

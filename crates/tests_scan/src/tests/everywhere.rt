@@ -1,10 +1,8 @@
 //! All sources of a target by one scan, beside the query from each of them: over worked images and over random ones.
 
 ghost use Rattle.std.specs.Prelude.{◌≢◌, ◌<◌, length};
-ghost use Rattle.profile_scan.specs.Destinations.{CanBeAsked, query_from};
 ghost use Rattle.profile_scan.specs.Found.{listed};
-ghost use Rattle.profile_scan.specs.Everywhere.{AnswerAll, criterion_of_profiles, destination_of};
-ghost use Rattle.timetable.specs.Queries.{IsAskable};
+ghost use Rattle.profile_scan.specs.Everywhere.{AnswerAll, destination_of};
 
 use super::answering::{WITH_CHAIN, WITH_DIRECT_TRIP, WITH_WALK};
 use super::images::{REPEATED, image};
@@ -78,10 +76,18 @@ fn assert_stop<C: Told>(
     criterion: &C,
     profiles: &Profiles<C>,
     stop: u32,
-) -> Result<(), Fail> {
+) -> Result<(), Fail>
+    requires stop { stop < image.now.timetable.stops }
+    requires differ { stop ≢ (destination_of profiles.now).target }
+    requires answered { AnswerAll C.rules image.now.timetable profiles.now }
+{
     let mut source = InPlace::new(image);
     let found = profiles.found_from(alloc, &source, stop)?;
     let asked = profiles.destination().query_from(stop);
+    asked
+        .check(image.stops())
+        .ok()
+        .ok_or("the query can be asked")?;
     let alone = profile(alloc, &mut source, criterion, &asked)?;
     assert_eq!(rt; profiles.points(stop).len(), alone.len());
     assert_same(rt, alloc, image, criterion, &found, &alone, &asked)
@@ -198,8 +204,8 @@ fn add_connections(
     trips: u32,
     words: &mut Vec<u32>,
 ) -> Result<u32, AllocError>
-    requires { 0 < stops }
-    requires { 0 < trips }
+    requires stops { 0 < stops }
+    requires trips { 0 < trips }
 {
     let mut vehicles = Vec::new(alloc);
     for _trip in 0..trips {

@@ -76,5 +76,4 @@ returns-clause-answers g c =
       long = c.in_ok-lists.ensures.long ∙ origins.long;
       origins = origins;
       ways = ways.long;
-      keeps = (refl, refl);
     }
