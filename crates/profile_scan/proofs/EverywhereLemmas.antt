@@ -9,6 +9,7 @@ use Rattle.criteria.specs.Laws.{Rules, Laws}
 use Rattle.bags.specs.Dominance.{IsBag}
 use Rattle.bags.specs.declared.point.Point.{Point}
 use Rattle.timetable.specs.TimetableValue.{TimetableValue}
+use Rattle.timetable.specs.declared.network.Connection.{Connection}
 use Rattle.timetable.specs.declared.query.Query.{Query}
 use Rattle.timetable.specs.Journeys.{Counts}
 use Rattle.sources.specs.FirstAt.{IsFirstAt}
@@ -16,19 +17,21 @@ use Rattle.profile_scan.specs.Values.{journey_value}
 use Rattle.profile_scan.specs.Continuations.{CountsFrom}
 use Rattle.profile_scan.specs.Plain.{IsPlain}
 use Rattle.profile_scan.specs.Points.{Before, IsAnswer, untagged}
-use Rattle.profile_scan.specs.Matching.{IsAttained, IsOutdone, Matches}
-use Rattle.profile_scan.specs.Steps.{AreCarried}
+use Rattle.profile_scan.specs.Matching.{IsAttained, Matches, Spellings}
+use Rattle.profile_scan.specs.Steps.{AreCarried, IsIdle, Leaving, MayLeave, TakesIn, changes, ends, ends_after, leavings}
 use Rattle.profile_scan.specs.Bound.{carried, is_bettered}
 use Rattle.profile_scan.specs.Story.{Story, told}
 use Rattle.profile_scan.specs.Telling.{IsJourneyTold, IsRetold}
 use Rattle.profile_scan.specs.Kept.{IsWay}
 use Rattle.profile_scan.specs.Answered.{IsAnswered}
 use Rattle.profile_scan.specs.LawStatements.{CanScan}
+use Rattle.profile_scan.specs.Origins.{from_stop}
 use Rattle.profile_scan.specs.Everywhere.{AreInOrder, points_in}
 use Rattle.profile_scan.specs.declared.nodes.Node.{Node}
 use Rattle.profile_scan.proofs.Answer.{match_is_the_answer}
 use Rattle.profile_scan.proofs.AnsweredLemmas.{retold_answer}
 use Rattle.profile_scan.proofs.BoundLemmas.{from_carried, into_carried}
+use Rattle.profile_scan.proofs.Offers.{takes_as}
 use Rattle.profile_scan.proofs.OrderLemmas.{listed_bag, listed_match}
 
 -- by no bound all is carried
@@ -39,6 +42,28 @@ carried_by_none {V} rules t found i values none points =
       only = λ p h. (from_carried rules values points p h).0;
       all = λ p h. inl (into_carried rules values points p h (nothing (rules.ride p.value)));
     }
+
+-- where one may leave a trip doesn't depend on where one set out
+leave_from : {V : Type 0} (t : TimetableValue) (q : Query) (stop i : ℕ) (bag : List (Point V)) (way : Leaving V) → MayLeave t q i bag way → MayLeave t (from_stop q stop) i bag way
+leave_from t q stop i bag ends may = may
+leave_from t q stop i bag (ends_after f) may = may
+leave_from t q stop i bag (changes p) may = may
+
+leave_back : {V : Type 0} (t : TimetableValue) (q : Query) (stop i : ℕ) (bag : List (Point V)) (way : Leaving V) → MayLeave t (from_stop q stop) i bag way → MayLeave t q i bag way
+leave_back t q stop i bag ends may = may
+leave_back t q stop i bag (ends_after f) may = may
+leave_back t q stop i bag (changes p) may = may
+
+pub leavings_from : {V : Type 0} (rules : Rules V) (t : TimetableValue) (q : Query) (stop : ℕ) (tags : Spellings) (i : ℕ) (bag old new : List (Point V)) → TakesIn rules (leavings rules t q tags i bag) old new → TakesIn rules (leavings rules t (from_stop q stop) tags i bag) old new
+leavings_from rules t q stop tags i bag old new takes =
+    takes_as rules (leavings rules t q tags i bag) (leavings rules t (from_stop q stop) tags i bag) old new
+    (λ way opened. record { there = way; is_open = (opened.0, leave_from t q stop i bag way opened.1); departs = refl; worth = refl; fits = λ tag h. h })
+    (λ way opened. takes.covered way (opened.0, leave_back t q stop i bag way opened.1))
+    takes
+
+-- nor does whether nothing is offered
+pub idle_from : {V : Type 0} (q : Query) (stop : ℕ) (c : Connection) (way : Option ℕ) (labels bag : List (Point V)) → IsIdle q c way labels bag → IsIdle (from_stop q stop) c way labels bag
+idle_from q stop c way labels bag idle = record { no_labels = idle.no_labels; ends_here = idle.ends_here }
 
 -- lists in order, up to a stop
 pub record AreListedTo {V : Type 0} (rules : Rules V) (found : ℕ → List (Point V)) (n : ℕ) (lists : List (Vec (Point V))) : Type 0 where

@@ -16,8 +16,8 @@ use sources::ConnSource;
 use std::alloc::{AllocError, Global};
 use timetable::{Kept, Query, Timetable};
 
-// The timetable that a source stands for.
-fn timetable_of<S: ConnSource>(source: &S) -> Kept<Timetable>
+/// The timetable that a source stands for.
+pub fn timetable_of<S: ConnSource>(source: &S) -> Kept<Timetable>
     ensures { result.value ≡ S.timetable source.now }
 {
     Kept::at(source, &())

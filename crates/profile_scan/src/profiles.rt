@@ -6,6 +6,7 @@ ghost use Rattle.profile_scan.specs.Window.{window};
 ghost use Rattle.profile_scan.specs.Origins.{AreUnder, found_from};
 ghost use Rattle.profile_scan.specs.Everywhere.{AnswerAll, AreInOrder, criterion_of_profiles, destination_of, points_in};
 
+use crate::answering::timetable_of;
 use crate::destination::Destination;
 use crate::everywhere::{StateOfAll, scan_for_all};
 use crate::found::{Found, in_order};
@@ -91,7 +92,7 @@ impl<C: Criterion> Profiles<C> {
             points: told.points,
             nodes: told.nodes,
             walk: self.asked.ways.secs_from(stop),
-            timetable: Kept::at(source, &()),
+            timetable: timetable_of(source),
             query: Kept::of(&query),
         })
     }

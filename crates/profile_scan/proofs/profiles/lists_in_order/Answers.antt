@@ -10,6 +10,7 @@ use Rattle.profile_scan.proofs.profiles.lists_in_order.Goals as goal
 
 pub loop-stop-init : goal.loop-stop-init
 loop-stop-init g c = none_listed_to (g.C.Criterion.rules c.args.criterion.now) (found_from c.args.origins.now) c.in_ok-lists.lists.items c.in_ok-lists.ensures.items
+
 -- the points found from a stop are there
 at_stop : (g : given.Over) (c : goal.After-index-origin g) → slice_get c.args.origins.now.each.items c.loop-stop.stop ≡ Some c.index-origin.result.now
 at_stop g c = slice_get_read c.args.origins.now.each.items (length c.args.origins.now.each.items) c.loop-stop.stop c.index-origin.result.now refl (omega arith) c.index-origin.ensures

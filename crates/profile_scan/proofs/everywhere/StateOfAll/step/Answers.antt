@@ -5,6 +5,7 @@ use Rattle.profile_scan.specs.Story.{told}
 use Rattle.profile_scan.specs.Kept.{AreStops, IsWay}
 use Rattle.profile_scan.specs.Origins.{from_stop}
 use Rattle.profile_scan.specs.Everywhere.{kept_from, story_from}
+use Rattle.profile_scan.proofs.EverywhereLemmas.{idle_from}
 use Rattle.profile_scan.proofs.StepFacts.{ends_in, step_idle_at, trip_in}
 use Rattle.profile_scan.proofs.everywhere.StateOfAll.step.Given as given
 use Rattle.profile_scan.proofs.everywhere.StateOfAll.step.Goals.{After-secs_from-way, Start}
@@ -46,7 +47,7 @@ returns-then-is_idle-clause-steps g c stop =
     let t = g.S.ConnSource.timetable c.args.source.now in
     let state = c.args.self.now in
     step_idle_at (g.C.Criterion.rules c.args.asked.now.criterion) t (from_stop c.args.asked.now.query stop) (told t.footpaths (story_from state stop)) c.args.place (kept_from state stop) _ c.args.connection.now c.requires.stands.is
-    (way_is g (goal.at.returns-then-is_idle-clause-steps g c).After-secs_from-way) (c.is_idle.ensures c.if-is_idle.true)
+    (way_is g (goal.at.returns-then-is_idle-clause-steps g c).After-secs_from-way) (idle_from c.args.asked.now.query stop c.args.connection.now c.secs_from-way.result _ _ (c.is_idle.ensures c.if-is_idle.true))
 
 pub take-requires-clause-hop : goal.take-requires-clause-hop
 take-requires-clause-hop g c =

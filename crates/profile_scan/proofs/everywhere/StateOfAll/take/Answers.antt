@@ -16,7 +16,7 @@ use Rattle.profile_scan.specs.Origins.{found_from, from_stop, set_outs_from}
 use Rattle.profile_scan.specs.Everywhere.{story_from}
 use Rattle.profile_scan.proofs.LabelLemmas.{no_trip_points, trip_admitted}
 use Rattle.profile_scan.proofs.BoundLemmas.{from_carried}
-use Rattle.profile_scan.proofs.EverywhereLemmas.{carried_by_none}
+use Rattle.profile_scan.proofs.EverywhereLemmas.{carried_by_none, leavings_from}
 use Rattle.profile_scan.proofs.LeaveLemmas.{leavings_taken}
 use Rattle.profile_scan.proofs.PartLemmas.{hop_within}
 use Rattle.profile_scan.proofs.StepFacts.{ends_in, trip_in}
@@ -108,8 +108,9 @@ returns-clause-steps g c stop =
     let leaves =
     subst (λ (x : Connection). TakesIn rules (leavings rules t q first i (carried rules values bag)) (old x.trip) (new x.trip)) at.is
     (subst (λ (points : List (Point g.row.C-V.Denot)). TakesIn rules (leavings rules t q first i points) (old hop.connection.trip) (new hop.connection.trip)) bag_is
-    (leavings_taken rules t legal q first i hop.connection at.is hop.way c.requires.hop.way (carried rules values (points_at stops hop.connection.to)) (old hop.connection.trip) (new hop.connection.trip)
-    (c.in_ok-alight.ensures.takes t.footpaths steps outs was between (grows_none was) (grows_none between)))) in
+    (leavings_from rules t c.args.asked.now.query stop first i (carried rules values (points_at stops hop.connection.to)) (old hop.connection.trip) (new hop.connection.trip)
+    (leavings_taken rules t legal c.args.asked.now.query first i hop.connection at.is hop.way c.requires.hop.way (carried rules values (points_at stops hop.connection.to)) (old hop.connection.trip) (new hop.connection.trip)
+    (c.in_ok-alight.ensures.takes t.footpaths steps outs was between (grows_none was) (grows_none between))))) in
     let now_steps = steps_of c.board.new.self.lists in
     let now_outs = set_outs_from c.set_out.new.self stop in
     let set_out = story mid steps now_outs in
@@ -166,8 +167,9 @@ returns-then-labels-eq0-clause-steps g c stop =
     let leaves =
     subst (λ (x : Connection). TakesIn rules (leavings rules t q first i (carried rules values bag)) (old x.trip) (new x.trip)) at.is
     (subst (λ (points : List (Point g.row.C-V.Denot)). TakesIn rules (leavings rules t q first i points) (old hop.connection.trip) (new hop.connection.trip)) bag_is
-    (leavings_taken rules t legal q first i hop.connection at.is hop.way c.requires.hop.way (carried rules values (points_at stops hop.connection.to)) (old hop.connection.trip) (new hop.connection.trip)
-    (c.in_ok-alight.ensures.takes t.footpaths steps outs was between (grows_none was) (grows_none between)))) in
+    (leavings_from rules t c.args.asked.now.query stop first i (carried rules values (points_at stops hop.connection.to)) (old hop.connection.trip) (new hop.connection.trip)
+    (leavings_taken rules t legal c.args.asked.now.query first i hop.connection at.is hop.way c.requires.hop.way (carried rules values (points_at stops hop.connection.to)) (old hop.connection.trip) (new hop.connection.trip)
+    (c.in_ok-alight.ensures.takes t.footpaths steps outs was between (grows_none was) (grows_none between))))) in
     let second = from_to (told t.footpaths between) (told t.footpaths between) in
     let none = no_trip_points c.alight.new.self.labels hop.connection.trip (ap length (sym c.of-labels.ensures) ∙ c.if-labels-eq0.true) in
     let none_there : (p : Point g.row.C-V.Denot) → Contains (new trip) p → ⊥ = subst (λ (x : Connection). (p : Point g.row.C-V.Denot) → Contains (new x.trip) p → ⊥) at.is none in
