@@ -117,6 +117,7 @@ fn text_by_name(
 }
 
 // What is printed: of an image the answers from every stop.
+#[derive(Clone, Copy)]
 struct Shown<'a, C: Told> {
     alloc: Global,
     image: &'a Verified,

@@ -148,6 +148,7 @@ fn as_each_stop_alone(rt: HostRuntime) -> Result<(), Fail> {
 }
 
 /// Numbers that seem random, the same in each run.
+#[derive(Drop)]
 struct Dice(u32);
 
 impl Dice {
