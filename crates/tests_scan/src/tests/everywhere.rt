@@ -101,9 +101,8 @@ fn assert_stops<C: Told>(
     criterion: &C,
     destination: &Destination,
 ) -> Result<(), Fail> {
-    let mut source = InTurn::of(InPlace::new(image));
+    let mut source = InPlace::new(image);
     let profiles = profiles_to(alloc, &mut source, criterion, destination)?;
-    assert!(rt; source.in_turn);
     for stop in 0..image.stops() {
         if stop != destination.target {
             assert_stop(rt, alloc, image, criterion, &profiles, stop)?;
@@ -145,6 +144,21 @@ fn as_each_stop_alone(rt: HostRuntime) -> Result<(), Fail> {
         ..ASKED
     };
     assert_targets(&rt, alloc, &REPEATED, later)
+}
+
+/// Whichever growth is refused, memory is said to run out: then the test ends with `AllocError`. Either way connections
+/// were asked for from the last one on, each in its turn, and once for all stops.
+#[test]
+fn refused_growth_is_told_of_all_stops(rt: HostRuntime) -> Result<(), Fail> {
+    let alloc = rt.alloc();
+    let image = image(alloc, &sample_words())?;
+    ASKED.check(image.stops()).ok().ok_or("it can be asked")?;
+    let mut source = InTurn::of(InPlace::new(&image));
+    let profiles = profiles_to(alloc, &mut source, &ArrivalTrips, &ASKED);
+    assert!(rt; source.in_turn);
+    let profiles = profiles?;
+    assert_eq!(rt; source.left, 0);
+    assert_stop(&rt, alloc, &image, &ArrivalTrips, &profiles, 0)
 }
 
 /// Numbers that seem random, the same in each run.
