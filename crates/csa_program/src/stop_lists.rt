@@ -68,13 +68,18 @@ fn marks_of(alloc: Global, image: &Verified, bytes: &[u8]) -> Result<Vec<bool>, 
             line.clear();
             number = number.saturating_add(1);
         } else {
-            line.push(*byte)?;
+            add(&mut line, *byte)?;
         }
     }
     if line.len() > 0 {
         mark(image, &line, number, &mut marks)?;
     }
     Ok(marks)
+}
+
+fn add(line: &mut Vec<u8>, byte: u8) -> Result<(), AllocError> {
+    line.push(byte)?;
+    Ok(())
 }
 
 fn no_marks(alloc: Global, stops: usize) -> Result<Vec<bool>, AllocError> {
