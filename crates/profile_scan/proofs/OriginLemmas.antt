@@ -42,33 +42,46 @@ origins_on criterion a b c ab bc = record {
 }
 
 -- what a stop has takes an offer in
-abbrev TakesBy : {A K V : Type 0} {d : _} → Rules V → List Footpath → (Spellings → Offer A V) → Option (Origin K V d) → Option (Origin K V d) → Type 0
+abbrev pub TakesBy : {A K V : Type 0} {d : _} → Rules V → List Footpath → (Spellings → Offer A V) → Option (Origin K V d) → Option (Origin K V d) → Type 0
 TakesBy rules walks offer old new =
     (exits : List Exit) (steps : List Step) → Takes rules walks (story exits steps (set_outs_by old)) (story exits steps (set_outs_by new)) offer (found_by old) (found_by new)
 
+-- one of a list has changed
+module _ {K V : Type 0} {d : _} (stop : ℕ) (olds news : List (Origin K V d)) (a b : Origin K V d) (at : slice_get olds stop ≡ Some a) (is : news ≡ set olds stop b) where
+  set_there : slice_get news stop ≡ Some b
+  set_there = ap (λ (xs : List (Origin K V d)). slice_get xs stop) is ∙ slice_get-set_same olds stop b (slice_get_within olds stop a at)
+
+  pub set_others : (k : ℕ) → k ≢ stop → slice_get news k ≡ slice_get olds k
+  set_others k other = ap (λ (xs : List (Origin K V d)). slice_get xs k) is ∙ slice_get-set_other olds stop k b other
+
+  pub source_takes : {A : Type 0} (rules : Rules V) (walks : List Footpath) (offer : Spellings → Offer A V) → OriginTakes rules walks offer a b → TakesBy rules walks offer (slice_get olds stop) (slice_get news stop)
+  source_takes rules walks offer takes =
+      subst (λ (o : Option (Origin K V d)). TakesBy rules walks offer o (slice_get news stop)) (sym at)
+      (subst (λ (o : Option (Origin K V d)). TakesBy rules walks offer (Some a) o) (sym set_there) takes)
+
 -- one stop has changed
 module _ {K V : Type 0} {d : _} (stop : ℕ) (old new : Origins K V d) (a b : Origin K V d) (at : slice_get old.each.items stop ≡ Some a) (is : new.each.items ≡ set old.each.items stop b) where
-  pub set_there : slice_get new.each.items stop ≡ Some b
-  set_there = ap (λ (xs : List (Origin K V d)). slice_get xs stop) is ∙ slice_get-set_same old.each.items stop b (slice_get_within old.each.items stop a at)
+  there : slice_get new.each.items stop ≡ Some b
+  there = set_there stop old.each.items new.each.items a b at is
 
-  pub set_others : (k : ℕ) → k ≢ stop → slice_get new.each.items k ≡ slice_get old.each.items k
-  set_others k other = ap (λ (xs : List (Origin K V d)). slice_get xs k) is ∙ slice_get-set_other old.each.items stop k b other
+  others : (k : ℕ) → k ≢ stop → slice_get new.each.items k ≡ slice_get old.each.items k
+  others = set_others stop old.each.items new.each.items a b at is
 
   set_under : (criterion : K) → AreUnder criterion old → criterion_of b.found ≡ criterion → AreUnder criterion new
   set_under criterion are now k o at_k = elim (cases_eq k stop) [
     | inl same ↦
         let at_stop : slice_get new.each.items stop ≡ Some o = subst (λ n. slice_get new.each.items n ≡ Some o) same at_k in
-        subst (λ (x : Origin K V d). criterion_of x.found ≡ criterion) (same_Some b o (sym set_there ∙ at_stop)) now
-    | inr other ↦ are k o (sym (set_others k other) ∙ at_k)
+        subst (λ (x : Origin K V d). criterion_of x.found ≡ criterion) (same_Some b o (sym there ∙ at_stop)) now
+    | inr other ↦ are k o (sym (others k other) ∙ at_k)
   ]
 
   set_extends : Extends a.set_outs.items b.set_outs.items → (k : ℕ) → Extends (set_outs_from old k) (set_outs_from new k)
   set_extends ext k = elim (cases_eq k stop) [
     | inl same ↦
         subst (λ n. Extends (set_outs_from old n) (set_outs_from new n)) (sym same)
-        (subst (λ (o : Option (Origin K V d)). Extends (set_outs_from old stop) (set_outs_by o)) (sym set_there)
+        (subst (λ (o : Option (Origin K V d)). Extends (set_outs_from old stop) (set_outs_by o)) (sym there)
         (subst (λ (o : Option (Origin K V d)). Extends (set_outs_by o) b.set_outs.items) (sym at) ext))
-    | inr other ↦ subst (λ (o : Option (Origin K V d)). Extends (set_outs_from old k) (set_outs_by o)) (sym (set_others k other)) (extends_none (set_outs_from old k))
+    | inr other ↦ subst (λ (o : Option (Origin K V d)). Extends (set_outs_from old k) (set_outs_by o)) (sym (others k other)) (extends_none (set_outs_from old k))
   ]
 
   pub origins_set : (criterion : K) → AreUnder criterion old → ChangesOrigin criterion a b → ChangesOrigins criterion old new
@@ -77,11 +90,6 @@ module _ {K V : Type 0} {d : _} (stop : ℕ) (old new : Origins K V d) (a b : Or
     under = set_under criterion are changes.found;
     set_outs = set_extends changes.set_outs;
   }
-
-  pub source_takes : {A : Type 0} (rules : Rules V) (walks : List Footpath) (offer : Spellings → Offer A V) → OriginTakes rules walks offer a b → SourceTakes rules walks stop offer old new
-  source_takes rules walks offer takes =
-      subst (λ (o : Option (Origin K V d)). TakesBy rules walks offer o (slice_get new.each.items stop)) (sym at)
-      (subst (λ (o : Option (Origin K V d)). TakesBy rules walks offer (Some a) o) (sym set_there) takes)
 
 -- a stop that hasn't changed takes nothing in of an offer that isn't there
 pub source_unless : {A K V : Type 0} {d : _} (rules : Rules V) (walks : List Footpath) (stop : ℕ) (P : Type 0) (offer : Spellings → Offer A V) (old new : Origins K V d)

@@ -13,7 +13,7 @@ loop-stop-preserved g c =
 pub returns-clause-origins : goal.returns-clause-origins
 returns-clause-origins g c =
     let over = c.loop-stop-test.false in
-    let within = c.loop-stop.auto.stop-end in
+    let within = c.loop-stop.auto._stop-end in
     let all : c.loop-stop._stop ≡ c.args.count = omega (arith, over, within) in
     let are = subst (λ (n : ℕ). AreNew c.args.criterion n c.loop-stop.each.items) all c.loop-stop.invariant in
     record { long = are.long; under = are.under }

@@ -31,13 +31,13 @@ set_out_by-requires-clause-stop g c =
 pub set_out_by-requires-clause-origins : goal.set_out_by-requires-clause-origins
 set_out_by-requires-clause-origins g c = c.requires.origins.under
 
-pub set_out_by-in-loop-place-requires-clause-stop : goal.set_out_by-in-loop-place-requires-clause-stop
-set_out_by-in-loop-place-requires-clause-stop g c =
+pub set_out_by-requires-in-loop-place-clause-stop : goal.set_out_by-requires-in-loop-place-clause-stop
+set_out_by-requires-in-loop-place-clause-stop g c =
     let from_in = ((g.met.S.ConnSource.legal c.args.source.now).ends_in_range c.loop-place.place c.footpath_into-walk.result c.footpath_into-walk.ensures).0 in
     subst (λ (n : ℕ). c.footpath_into-walk.result.from < n) (sym (c.loop-place.self.each.ok.0 ∙ c.loop-place.invariant.origins.long ∙ c.requires.origins.long)) from_in
 
-pub set_out_by-in-loop-place-requires-clause-origins : goal.set_out_by-in-loop-place-requires-clause-origins
-set_out_by-in-loop-place-requires-clause-origins g c = c.loop-place.invariant.origins.under
+pub set_out_by-requires-in-loop-place-clause-origins : goal.set_out_by-requires-in-loop-place-clause-origins
+set_out_by-requires-in-loop-place-clause-origins g c = c.loop-place.invariant.origins.under
 
 pub loop-place-init : goal.loop-place-init
 loop-place-init g c =

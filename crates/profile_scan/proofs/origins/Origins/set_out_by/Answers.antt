@@ -44,7 +44,7 @@ returns-in-Some-clause-takes g c =
           source_unless rules walks stop (MayStart (from_stop q stop) cn start) (λ tags. settings_out_after rules tags c.args.hop.now.place (cn.dep - start_secs start) start labels) old new
           (both.1 stop other) (other_start q cn start stop (λ e. other (e ∙ sym c.source_of-stop.ensures)))
     ])
-    (on_ok_both c.set_out_from.result c.set_out_from.ensures.takes others)
+    (on_ok_both c.set_out_from.result _ _ c.set_out_from.ensures.takes others)
 
 pub returns-in-None-clause-takes : goal.returns-in-None-clause-takes
 returns-in-None-clause-takes g c walks stop =

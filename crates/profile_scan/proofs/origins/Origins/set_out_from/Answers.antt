@@ -1,4 +1,4 @@
-use Rattle.std.proofs.Common.{◌≡◌, ◌<◌, ℕ, length, slice_get, Some, refl, subst}
+use Rattle.std.proofs.Common.{◌≡◌, ◌<◌, ℕ, length, set, slice_get, Some, refl, subst}
 use Rattle.std.proofs.lemmas.Option.{slice_get_read}
 use Rattle.profile_scan.specs.Adding.{label_points, settings_out_after}
 use Rattle.profile_scan.proofs.Offers.{on_ok_more}
@@ -28,12 +28,12 @@ returns-clause-takes g c =
     let rules = g.C.Criterion.rules c.args.asked.now.criterion in
     let at = at_stop g (goal.at.returns-clause-takes g c).After-index_mut in
     on_ok_more c.set_out_after.result _ _
-    (λ takes walks. source_takes c.args.stop c.args.self.now _ c.index_mut.result.now c.set_out_after.new.self at refl rules walks (λ tags. settings_out_after rules tags c.args.hop.now.place c.args.departure.time c.args.departure.start (label_points c.args.labels.now)) (takes walks))
+    (λ takes walks. source_takes c.args.stop c.args.self.now.each.items (set c.args.self.now.each.items c.args.stop c.set_out_after.new.self) c.index_mut.result.now c.set_out_after.new.self at refl rules walks (λ tags. settings_out_after rules tags c.args.hop.now.place c.args.departure.time c.args.departure.start (label_points c.args.labels.now)) (takes walks))
     c.set_out_after.ensures.takes
 
 pub returns-clause-others : goal.returns-clause-others
 returns-clause-others g c =
     let at = at_stop g (goal.at.returns-clause-others g c).After-index_mut in
     on_ok_more c.set_out_after.result _ _
-    (λ changes other differs. set_others c.args.stop c.args.self.now _ c.index_mut.result.now c.set_out_after.new.self at refl other differs)
+    (λ changes other differs. set_others c.args.stop c.args.self.now.each.items (set c.args.self.now.each.items c.args.stop c.set_out_after.new.self) c.index_mut.result.now c.set_out_after.new.self at refl other differs)
     c.set_out_after.ensures.origin
