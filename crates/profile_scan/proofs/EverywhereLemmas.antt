@@ -6,6 +6,7 @@ use Rattle.std.proofs.lemmas.List.{length_push}
 use Rattle.std.proofs.lemmas.Option.{slice_get_cases, slice_get_within}
 use Rattle.reasoning.proofs.ListLemmas.{slice_get-front, slice_get-last}
 use Rattle.criteria.specs.Laws.{Rules, Laws}
+use Rattle.bags.specs.Bag.{points_of}
 use Rattle.bags.specs.Dominance.{IsBag}
 use Rattle.bags.specs.declared.point.Point.{Point}
 use Rattle.timetable.specs.TimetableValue.{TimetableValue}
@@ -25,9 +26,11 @@ use Rattle.profile_scan.specs.Telling.{IsJourneyTold, IsRetold}
 use Rattle.profile_scan.specs.Kept.{IsWay}
 use Rattle.profile_scan.specs.Answered.{IsAnswered}
 use Rattle.profile_scan.specs.LawStatements.{CanScan}
-use Rattle.profile_scan.specs.Origins.{from_stop}
+use Rattle.profile_scan.specs.Origins.{found_by, found_from, from_stop}
 use Rattle.profile_scan.specs.Everywhere.{AreInOrder, points_in}
 use Rattle.profile_scan.specs.declared.nodes.Node.{Node}
+use Rattle.profile_scan.specs.declared.origin.Origin.{Origin}
+use Rattle.profile_scan.specs.declared.origins.Origins.{Origins}
 use Rattle.profile_scan.proofs.Answer.{match_is_the_answer}
 use Rattle.profile_scan.proofs.AnsweredLemmas.{retold_answer}
 use Rattle.profile_scan.proofs.BoundLemmas.{from_carried, into_carried}
@@ -64,6 +67,10 @@ leavings_from rules t q stop tags i bag old new takes =
 -- nor does whether nothing is offered
 pub idle_from : {V : Type 0} (q : Query) (stop : ℕ) (c : Connection) (way : Option ℕ) (labels bag : List (Point V)) → IsIdle q c way labels bag → IsIdle (from_stop q stop) c way labels bag
 idle_from q stop c way labels bag idle = record { no_labels = idle.no_labels; ends_here = idle.ends_here }
+
+-- points in order are those found from a stop
+pub in_order_from : {K V : Type 0} {d : _} (rules : Rules V) (origins : Origins K V d) (stop : ℕ) (o : Origin K V d) (points : List (Point V)) → slice_get origins.each.items stop ≡ Some o → AreInOrder rules (points_of o.found) points → AreInOrder rules (found_from origins stop) points
+in_order_from {K} {V} {d} rules origins stop o points at are = subst (λ (x : Option (Origin K V d)). AreInOrder rules (found_by x) points) (sym at) are
 
 -- lists in order, up to a stop
 pub record AreListedTo {V : Type 0} (rules : Rules V) (found : ℕ → List (Point V)) (n : ℕ) (lists : List (Vec (Point V))) : Type 0 where

@@ -1,7 +1,7 @@
 -- The points found from each stop, as one more sets out.
 use Rattle.std.proofs.Common.{◌≡◌, ◌≢◌, ℕ, ◌+◌, ◌<◌, ◌≤◌, List, [], ◌∷◌, ◌++◌, length, set, Contains, Option, Some, None, slice_get, refl, sym, ◌∙◌, ap, subst, inl, inr, arith, length-set}
 use Rattle.std.proofs.lemmas.Bool.{cases_eq}
-use Rattle.std.proofs.lemmas.Option.{same_Some, slice_get_within, slice_get_cases}
+use Rattle.std.proofs.lemmas.Option.{same_Some, slice_get_within, slice_get_cases, slice_get_past}
 use Rattle.std.proofs.lemmas.List.{length_push}
 use Rattle.reasoning.proofs.ListLemmas.{extends_none, extends_on, slice_get-front, slice_get-last, slice_get-set_same, slice_get-set_other}
 use Rattle.criteria.specs.Laws.{Rules}
@@ -135,6 +135,10 @@ new_found {K} {V} {d} criterion count origins are stop = elim (slice_get_cases o
   | inl there ↦ ap (found_by {K = K} {V = V} {c = d}) there.2 ∙ are.none stop there.0 there.2
   | inr past ↦ ap (found_by {K = K} {V = V} {c = d}) past.1
 ]
+
+-- past the last stop nothing was found
+pub found_past : {K V : Type 0} {d : _} (origins : Origins K V d) (stop : ℕ) → length origins.each.items ≤ stop → found_from origins stop ≡ []
+found_past {K} {V} {d} origins stop past = ap (found_by {K = K} {V = V} {c = d}) (slice_get_past origins.each.items stop past)
 
 -- of each stop the points are a bag
 pub found_bag : {K V : Type 0} {d : _} (rules : Rules V) (origins : Origins K V d) → ((stop : ℕ) (origin : Origin K V d) → slice_get origins.each.items stop ≡ Some origin → IsBag rules (points_of origin.found)) → (stop : ℕ) → IsBag rules (found_from origins stop)
