@@ -1,5 +1,6 @@
 -- One scan for all sources, as each of them sees it.
-use Rattle.std.proofs.Common.{◌≡◌, ◌+◌, ◌<◌, ◌≤◌, ◌∷◌, ◌++◌, [], ℕ, List, Option, Some, None, AllPairs, Contains, false, length, map, slice_get, refl, sym, ◌∙◌, ap, subst, inl, inr, arith}
+use Rattle.std.proofs.Common.{◌≡◌, ◌+◌, ◌<◌, ◌≤◌, ◌∷◌, ◌++◌, [], ℕ, List, Option, Some, None, AllPairs, Contains, false, length, map, slice_get, refl, sym}
+use Rattle.std.proofs.Common.{◌∙◌, ap, subst, inl, inr, arith}
 use Rattle.std.specs.Global.{Vec}
 use Rattle.std.proofs.lemmas.Bool.{cases_eq}
 use Rattle.std.proofs.lemmas.List.{length_push}
@@ -38,7 +39,8 @@ use Rattle.profile_scan.proofs.Offers.{takes_as}
 use Rattle.profile_scan.proofs.OrderLemmas.{listed_bag, listed_match}
 
 -- by no bound all is carried
-pub carried_by_none : {V : Type 0} (rules : Rules V) (t : TimetableValue) (found : List (Point V)) (i : ℕ) (values : List V) → values ≡ [] → (points : List (Point V)) → AreCarried rules t found i points (carried rules values points)
+pub carried_by_none : {V : Type 0} (rules : Rules V) (t : TimetableValue) (found : List (Point V)) (i : ℕ) (values : List V) → values ≡ [] →
+    (points : List (Point V)) → AreCarried rules t found i points (carried rules values points)
 carried_by_none {V} rules t found i values none points =
     let nothing : (v : V) → is_bettered rules values v ≡ false = λ v. ap (λ (vs : List V). is_bettered rules vs v) none in
     record {
@@ -47,17 +49,21 @@ carried_by_none {V} rules t found i values none points =
     }
 
 -- where one may leave a trip doesn't depend on where one set out
-leave_from : {V : Type 0} (t : TimetableValue) (q : Query) (stop i : ℕ) (bag : List (Point V)) (way : Leaving V) → MayLeave t q i bag way → MayLeave t (from_stop q stop) i bag way
+leave_from : {V : Type 0} (t : TimetableValue) (q : Query) (stop i : ℕ) (bag : List (Point V)) (way : Leaving V) → MayLeave t q i bag way → MayLeave t
+    (from_stop q stop) i bag way
 leave_from t q stop i bag ends may = may
 leave_from t q stop i bag (ends_after f) may = may
 leave_from t q stop i bag (changes p) may = may
 
-leave_back : {V : Type 0} (t : TimetableValue) (q : Query) (stop i : ℕ) (bag : List (Point V)) (way : Leaving V) → MayLeave t (from_stop q stop) i bag way → MayLeave t q i bag way
+leave_back : {V : Type 0} (t : TimetableValue) (q : Query) (stop i : ℕ) (bag : List (Point V)) (way : Leaving V) → MayLeave t
+    (from_stop q stop) i bag way → MayLeave t q i bag way
 leave_back t q stop i bag ends may = may
 leave_back t q stop i bag (ends_after f) may = may
 leave_back t q stop i bag (changes p) may = may
 
-pub leavings_from : {V : Type 0} (rules : Rules V) (t : TimetableValue) (q : Query) (stop : ℕ) (tags : Spellings) (i : ℕ) (bag old new : List (Point V)) → TakesIn rules (leavings rules t q tags i bag) old new → TakesIn rules (leavings rules t (from_stop q stop) tags i bag) old new
+pub leavings_from : {V : Type 0} (rules : Rules V) (t : TimetableValue) (q : Query) (stop : ℕ) (tags : Spellings) (i : ℕ)
+    (bag old new : List (Point V)) → TakesIn rules (leavings rules t q tags i bag) old new → TakesIn rules
+    (leavings rules t (from_stop q stop) tags i bag) old new
 leavings_from rules t q stop tags i bag old new takes =
     takes_as rules (leavings rules t q tags i bag) (leavings rules t (from_stop q stop) tags i bag) old new
     (λ way opened. record { there = way; is_open = (opened.0, leave_from t q stop i bag way opened.1); departs = refl; worth = refl; fits = λ tag h. h })
@@ -65,11 +71,13 @@ leavings_from rules t q stop tags i bag old new takes =
     takes
 
 -- nor does whether nothing is offered
-pub idle_from : {V : Type 0} (q : Query) (stop : ℕ) (c : Connection) (way : Option ℕ) (labels bag : List (Point V)) → IsIdle q c way labels bag → IsIdle (from_stop q stop) c way labels bag
+pub idle_from : {V : Type 0} (q : Query) (stop : ℕ) (c : Connection) (way : Option ℕ) (labels bag : List (Point V)) → IsIdle q c way labels bag
+    → IsIdle (from_stop q stop) c way labels bag
 idle_from q stop c way labels bag idle = record { no_labels = idle.no_labels; ends_here = idle.ends_here }
 
 -- points in order are those found from a stop
-pub in_order_from : {K V : Type 0} {d : _} (rules : Rules V) (origins : Origins K V d) (stop : ℕ) (o : Origin K V d) (points : List (Point V)) → slice_get origins.each.items stop ≡ Some o → AreInOrder rules (points_of o.found) points → AreInOrder rules (found_from origins stop) points
+pub in_order_from : {K V : Type 0} {d : _} (rules : Rules V) (origins : Origins K V d) (stop : ℕ) (o : Origin K V d) (points : List (Point V))
+    → slice_get origins.each.items stop ≡ Some o → AreInOrder rules (points_of o.found) points → AreInOrder rules (found_from origins stop) points
 in_order_from {K} {V} {d} rules origins stop o points at are = subst (λ (x : Option (Origin K V d)). AreInOrder rules (found_by x) points) (sym at) are
 
 -- lists in order, up to a stop
@@ -80,7 +88,8 @@ pub record AreListedTo {V : Type 0} (rules : Rules V) (found : ℕ → List (Poi
 pub none_listed_to : {V : Type 0} (rules : Rules V) (found : ℕ → List (Point V)) (lists : List (Vec (Point V))) → lists ≡ [] → AreListedTo rules found 0 lists
 none_listed_to rules found lists is = record { long = ap length is; each = λ stop lt. absurd (omega (arith, lt)) }
 
-pub one_listed_to : {V : Type 0} (rules : Rules V) (found : ℕ → List (Point V)) (n : ℕ) (old new : List (Vec (Point V))) (points : Vec (Point V)) → AreListedTo rules found n old → AreInOrder rules (found n) points.items → new ≡ old ++ points ∷ [] → AreListedTo rules found (n + 1) new
+pub one_listed_to : {V : Type 0} (rules : Rules V) (found : ℕ → List (Point V)) (n : ℕ) (old new : List (Vec (Point V))) (points : Vec (Point V))
+    → AreListedTo rules found n old → AreInOrder rules (found n) points.items → new ≡ old ++ points ∷ [] → AreListedTo rules found (n + 1) new
 one_listed_to {V} rules found n old new points was here is =
     let was_long = was.long in
     record {
@@ -88,17 +97,22 @@ one_listed_to {V} rules found n old new points was here is =
       each = λ stop lt. elim (cases_eq stop n) [
         | inl last ↦
             let there : slice_get new stop ≡ Some points =
-            ap (λ (xs : List (Vec (Point V))). slice_get xs stop) is ∙ ap (λ k. slice_get (old ++ points ∷ []) k) (last ∙ sym was_long) ∙ slice_get-last old points in
-            subst (λ (o : Option (Vec (Point V))). AreInOrder rules (found stop) (points_in o)) (sym there) (subst (λ k. AreInOrder rules (found k) points.items) (sym last) here)
+            ap (λ (xs : List (Vec (Point V))). slice_get xs stop) is ∙ ap (λ k. slice_get (old ++ points ∷ []) k) (last ∙ sym was_long)
+            ∙ slice_get-last old points in
+            subst (λ (o : Option (Vec (Point V))). AreInOrder rules (found stop) (points_in o)) (sym there)
+            (subst (λ k. AreInOrder rules (found k) points.items) (sym last) here)
         | inr other ↦
             let below : stop < length old = omega (arith, lt, other, was_long) in
-            let same : slice_get new stop ≡ slice_get old stop = ap (λ (xs : List (Vec (Point V))). slice_get xs stop) is ∙ slice_get-front old (points ∷ []) stop below in
+            let same : slice_get new stop ≡ slice_get old stop = ap (λ (xs : List (Vec (Point V))). slice_get xs stop) is ∙ slice_get-front old
+            (points ∷ []) stop below in
             subst (λ (o : Option (Vec (Point V))). AreInOrder rules (found stop) (points_in o)) (sym same) (was.each stop (omega (arith, lt, other)))
       ];
     }
 
 -- past the last stop nothing was found
-pub all_listed_to : {V : Type 0} (rules : Rules V) (found : ℕ → List (Point V)) (n : ℕ) (lists : List (Vec (Point V))) → AreListedTo rules found n lists → ((stop : ℕ) → n ≤ stop → found stop ≡ []) → (stop : ℕ) → AreInOrder rules (found stop) (points_in (slice_get lists stop))
+pub all_listed_to : {V : Type 0} (rules : Rules V) (found : ℕ → List (Point V)) (n : ℕ) (lists : List (Vec (Point V)))
+    → AreListedTo rules found n lists → ((stop : ℕ) → n ≤ stop → found stop ≡ []) → (stop : ℕ) → AreInOrder rules (found stop)
+    (points_in (slice_get lists stop))
 all_listed_to {V} rules found n lists are past stop = elim (slice_get_cases lists stop).1 [
   | inl there ↦ (let long = are.long in let lt = there.1 in are.each stop (omega (arith, long, lt)))
   | inr beyond ↦
@@ -113,9 +127,12 @@ all_listed_to {V} rules found n lists are past stop = elim (slice_get_cases list
     no_points = record { ordered = λ i j e lt within. absurd (omega (arith, within)); only = λ p h. h; each = λ p h. h }
 
 -- points that match at the start of the window, in order, are the answer, and each is attained by what its tag tells
-pub answered_from : {V : Type 0} (rules : Rules V) → Laws rules → (t : TimetableValue) (q : Query) → CanScan t q → (start : ℕ) → IsFirstAt t q.from start → (s : Story) (found points : List (Point V))
-    → Matches rules (told t.footpaths s).journey (CountsFrom t q start) (IsPlain t q.target) (journey_value rules t) found → IsBag rules found → AreInOrder rules found points
-    → IsAnswer rules t q points × ((p : Point V) → Contains points p → IsAttained (told t.footpaths s).journey (Counts t q) (IsPlain t q.target) (journey_value rules t) p)
+pub answered_from : {V : Type 0} (rules : Rules V) → Laws rules → (t : TimetableValue) (q : Query) → CanScan t q → (start : ℕ)
+    → IsFirstAt t q.from start → (s : Story) (found points : List (Point V))
+    → Matches rules (told t.footpaths s).journey (CountsFrom t q start) (IsPlain t q.target) (journey_value rules t) found → IsBag rules found
+    → AreInOrder rules found points
+    → IsAnswer rules t q points × ((p : Point V) → Contains points p → IsAttained (told t.footpaths s).journey (Counts t q) (IsPlain t q.target)
+    (journey_value rules t) p)
 answered_from rules laws t q can start is_start s found points matches bag are =
     let tags = told t.footpaths s in (
       match_is_the_answer rules laws t q can start is_start tags points
@@ -126,8 +143,10 @@ answered_from rules laws t q can start is_start s found points matches bag are =
     )
 
 -- told in nodes they still are
-pub answered_in_nodes : {V : Type 0} (rules : Rules V) (t : TimetableValue) (q : Query) (s : Story) (nodes : List Node) (points retold : List (Point V)) (walk : Option ℕ)
-    → IsAnswer rules t q points → ((p : Point V) → Contains points p → IsAttained (told t.footpaths s).journey (Counts t q) (IsPlain t q.target) (journey_value rules t) p)
+pub answered_in_nodes : {V : Type 0} (rules : Rules V) (t : TimetableValue) (q : Query) (s : Story) (nodes : List Node)
+    (points retold : List (Point V)) (walk : Option ℕ)
+    → IsAnswer rules t q points → ((p : Point V) → Contains points p → IsAttained (told t.footpaths s).journey (Counts t q) (IsPlain t q.target)
+    (journey_value rules t) p)
     → map untagged retold ≡ map untagged points → ((p : Point V) → Contains retold p → IsRetold t.footpaths s points nodes p)
     → IsWay t q.target q.source walk → IsAnswered rules t q retold nodes walk
 answered_in_nodes rules t q s nodes points retold walk answer attained same says way = record {
@@ -135,10 +154,19 @@ answered_in_nodes rules t q s nodes points retold walk answer attained same says
   attained = λ p h.
       let r = says p h in
       let a = attained r.of r.is_there in
-      record { way = a.way; spells = r.says a.way a.spells; there = subst (λ (n : ℕ). Counts t q n a.way) (sym r.departs) a.there; plain = a.plain; worth = r.worth ∙ a.worth };
+      record {
+        way = a.way;
+        spells = r.says a.way a.spells;
+        there = subst (λ (n : ℕ). Counts t q n a.way)
+            (sym r.departs) a.there;
+        plain = a.plain;
+        worth = r.worth ∙ a.worth;
+      };
   direct = way;
 }
 
 -- of each point a journey is told
-pub attained_told : {V : Type 0} (rules : Rules V) (t : TimetableValue) (q : Query) (s : Story) (points : List (Point V)) → ((p : Point V) → Contains points p → IsAttained (told t.footpaths s).journey (Counts t q) (IsPlain t q.target) (journey_value rules t) p) → (p : Point V) → Contains points p → IsJourneyTold t.footpaths s p.tag
+pub attained_told : {V : Type 0} (rules : Rules V) (t : TimetableValue) (q : Query) (s : Story) (points : List (Point V)) →
+    ((p : Point V) → Contains points p → IsAttained (told t.footpaths s).journey (Counts t q) (IsPlain t q.target) (journey_value rules t) p) →
+    (p : Point V) → Contains points p → IsJourneyTold t.footpaths s p.tag
 attained_told rules t q s points attained p h = let a = attained p h in (a.way, a.spells)

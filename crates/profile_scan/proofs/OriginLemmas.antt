@@ -1,5 +1,6 @@
 -- The points found from each stop, as one more sets out.
-use Rattle.std.proofs.Common.{◌≡◌, ◌≢◌, ℕ, ◌+◌, ◌<◌, ◌≤◌, List, [], ◌∷◌, ◌++◌, length, set, Contains, Option, Some, None, slice_get, refl, sym, ◌∙◌, ap, subst, inl, inr, arith, length-set}
+use Rattle.std.proofs.Common.{◌≡◌, ◌≢◌, ℕ, ◌+◌, ◌<◌, ◌≤◌, List, [], ◌∷◌, ◌++◌, length, set, Contains, Option, Some, None, slice_get, refl, sym, ◌∙◌, ap}
+use Rattle.std.proofs.Common.{subst, inl, inr, arith, length-set}
 use Rattle.std.proofs.lemmas.Bool.{cases_eq}
 use Rattle.std.proofs.lemmas.Option.{same_Some, slice_get_within, slice_get_cases, slice_get_past}
 use Rattle.std.proofs.lemmas.List.{length_push}
@@ -34,7 +35,8 @@ other_start q c (Some walk) stop other may = other (sym may.starts.0)
 pub origins_none : {K V : Type 0} {d : _} (criterion : K) (a : Origins K V d) → AreUnder criterion a → ChangesOrigins criterion a a
 origins_none criterion a are = record { long = refl; under = are; set_outs = λ stop. extends_none (set_outs_from a stop) }
 
-pub origins_on : {K V : Type 0} {d : _} (criterion : K) (a b c : Origins K V d) → ChangesOrigins criterion a b → ChangesOrigins criterion b c → ChangesOrigins criterion a c
+pub origins_on : {K V : Type 0} {d : _} (criterion : K) (a b c : Origins K V d) → ChangesOrigins criterion a b → ChangesOrigins criterion b c
+    → ChangesOrigins criterion a c
 origins_on criterion a b c ab bc = record {
   long = bc.long ∙ ab.long;
   under = bc.under;
@@ -44,23 +46,27 @@ origins_on criterion a b c ab bc = record {
 -- what a stop has takes an offer in
 abbrev pub TakesBy : {A K V : Type 0} {d : _} → Rules V → List Footpath → (Spellings → Offer A V) → Option (Origin K V d) → Option (Origin K V d) → Type 0
 TakesBy rules walks offer old new =
-    (exits : List Exit) (steps : List Step) → Takes rules walks (story exits steps (set_outs_by old)) (story exits steps (set_outs_by new)) offer (found_by old) (found_by new)
+    (exits : List Exit) (steps : List Step) → Takes rules walks (story exits steps (set_outs_by old)) (story exits steps (set_outs_by new)) offer
+    (found_by old) (found_by new)
 
 -- one of a list has changed
-module _ {K V : Type 0} {d : _} (stop : ℕ) (olds news : List (Origin K V d)) (a b : Origin K V d) (at : slice_get olds stop ≡ Some a) (is : news ≡ set olds stop b) where
+module _ {K V : Type 0} {d : _} (stop : ℕ) (olds news : List (Origin K V d)) (a b : Origin K V d) (at : slice_get olds stop ≡ Some a)
+    (is : news ≡ set olds stop b) where
   set_there : slice_get news stop ≡ Some b
   set_there = ap (λ (xs : List (Origin K V d)). slice_get xs stop) is ∙ slice_get-set_same olds stop b (slice_get_within olds stop a at)
 
   pub set_others : (k : ℕ) → k ≢ stop → slice_get news k ≡ slice_get olds k
   set_others k other = ap (λ (xs : List (Origin K V d)). slice_get xs k) is ∙ slice_get-set_other olds stop k b other
 
-  pub source_takes : {A : Type 0} (rules : Rules V) (walks : List Footpath) (offer : Spellings → Offer A V) → OriginTakes rules walks offer a b → TakesBy rules walks offer (slice_get olds stop) (slice_get news stop)
+  pub source_takes : {A : Type 0} (rules : Rules V) (walks : List Footpath) (offer : Spellings → Offer A V) → OriginTakes rules walks offer a b
+      → TakesBy rules walks offer (slice_get olds stop) (slice_get news stop)
   source_takes rules walks offer takes =
       subst (λ (o : Option (Origin K V d)). TakesBy rules walks offer o (slice_get news stop)) (sym at)
       (subst (λ (o : Option (Origin K V d)). TakesBy rules walks offer (Some a) o) (sym set_there) takes)
 
 -- one stop has changed
-module _ {K V : Type 0} {d : _} (stop : ℕ) (old new : Origins K V d) (a b : Origin K V d) (at : slice_get old.each.items stop ≡ Some a) (is : new.each.items ≡ set old.each.items stop b) where
+module _ {K V : Type 0} {d : _} (stop : ℕ) (old new : Origins K V d) (a b : Origin K V d) (at : slice_get old.each.items stop ≡ Some a)
+    (is : new.each.items ≡ set old.each.items stop b) where
   there : slice_get new.each.items stop ≡ Some b
   there = set_there stop old.each.items new.each.items a b at is
 
@@ -81,7 +87,8 @@ module _ {K V : Type 0} {d : _} (stop : ℕ) (old new : Origins K V d) (a b : Or
         subst (λ n. Extends (set_outs_from old n) (set_outs_from new n)) (sym same)
         (subst (λ (o : Option (Origin K V d)). Extends (set_outs_from old stop) (set_outs_by o)) (sym there)
         (subst (λ (o : Option (Origin K V d)). Extends (set_outs_by o) b.set_outs.items) (sym at) ext))
-    | inr other ↦ subst (λ (o : Option (Origin K V d)). Extends (set_outs_from old k) (set_outs_by o)) (sym (others k other)) (extends_none (set_outs_from old k))
+    | inr other ↦ subst (λ (o : Option (Origin K V d)). Extends (set_outs_from old k) (set_outs_by o)) (sym (others k other))
+        (extends_none (set_outs_from old k))
   ]
 
   pub origins_set : (criterion : K) → AreUnder criterion old → ChangesOrigin criterion a b → ChangesOrigins criterion old new
@@ -92,7 +99,8 @@ module _ {K V : Type 0} {d : _} (stop : ℕ) (old new : Origins K V d) (a b : Or
   }
 
 -- a stop that hasn't changed takes nothing in of an offer that isn't there
-pub source_unless : {A K V : Type 0} {d : _} (rules : Rules V) (walks : List Footpath) (stop : ℕ) (P : Type 0) (offer : Spellings → Offer A V) (old new : Origins K V d)
+pub source_unless : {A K V : Type 0} {d : _} (rules : Rules V) (walks : List Footpath) (stop : ℕ) (P : Type 0) (offer : Spellings → Offer A V)
+    (old new : Origins K V d)
     → slice_get new.each.items stop ≡ slice_get old.each.items stop → (P → ⊥) → SourceTakes rules walks stop (λ tags. only_if P (offer tags)) old new
 source_unless {A} {K} {V} {d} rules walks stop P offer old new same fails =
     subst (λ (o : Option (Origin K V d)). TakesBy rules walks (λ tags. only_if P (offer tags)) (slice_get old.each.items stop) o) (sym same)
@@ -106,14 +114,17 @@ pub record AreNew {K V : Type 0} {d : _} (criterion : K) (count : ℕ) (each : L
 
 pub new_none : {K V : Type 0} {d : _} (criterion : K) (each : List (Origin K V d)) → each ≡ [] → AreNew criterion 0 each
 new_none {K} {V} {d} criterion each is =
-    let nothing : (stop : ℕ) (origin : Origin K V d) → slice_get each stop ≡ Some origin → ⊥ = λ stop origin at. let within = slice_get_within each stop origin at in let long = ap length is in omega (arith, within, long) in
+    let nothing : (stop : ℕ) (origin : Origin K V d) → slice_get each stop ≡ Some origin → ⊥ =
+    λ stop origin at. let within = slice_get_within each stop origin at in let long = ap length is in omega (arith, within, long) in
     record { long = ap length is; under = λ stop origin at. absurd (nothing stop origin at); none = λ stop origin at. absurd (nothing stop origin at) }
 
-pub new_more : {K V : Type 0} {d : _} (criterion : K) (count : ℕ) (old new : List (Origin K V d)) (x : Origin K V d) → AreNew criterion count old → criterion_of x.found ≡ criterion → points_of x.found ≡ [] → new ≡ old ++ x ∷ [] → AreNew criterion (count + 1) new
+pub new_more : {K V : Type 0} {d : _} (criterion : K) (count : ℕ) (old new : List (Origin K V d)) (x : Origin K V d) → AreNew criterion count old
+    → criterion_of x.found ≡ criterion → points_of x.found ≡ [] → new ≡ old ++ x ∷ [] → AreNew criterion (count + 1) new
 new_more {K} {V} {d} criterion count old new x was under none is =
     let was_long = was.long in
     let long = ap length is ∙ length_push old x in
-    let was_or_x : (P : Origin K V d → Type 0) → ((stop : ℕ) (origin : Origin K V d) → slice_get old stop ≡ Some origin → P origin) → P x → (stop : ℕ) (origin : Origin K V d) → slice_get new stop ≡ Some origin → P origin =
+    let was_or_x : (P : Origin K V d → Type 0) → ((stop : ℕ) (origin : Origin K V d) → slice_get old stop ≡ Some origin → P origin) → P x → (stop : ℕ)
+    (origin : Origin K V d) → slice_get new stop ≡ Some origin → P origin =
     λ P before now stop origin at. elim (cases_eq stop (length old)) [
       | inl last ↦
           let there = ap (λ (xs : List (Origin K V d)). slice_get xs stop) is ∙ ap (λ n. slice_get (old ++ x ∷ []) n) last ∙ slice_get-last old x in
@@ -130,7 +141,8 @@ new_more {K} {V} {d} criterion count old new x was under none is =
     }
 
 -- so nothing was found from any stop
-pub new_found : {K V : Type 0} {d : _} (criterion : K) (count : ℕ) (origins : Origins K V d) → AreNew criterion count origins.each.items → (stop : ℕ) → found_from origins stop ≡ []
+pub new_found : {K V : Type 0} {d : _} (criterion : K) (count : ℕ) (origins : Origins K V d) → AreNew criterion count origins.each.items → (stop : ℕ)
+    → found_from origins stop ≡ []
 new_found {K} {V} {d} criterion count origins are stop = elim (slice_get_cases origins.each.items stop).1 [
   | inl there ↦ ap (found_by {K = K} {V = V} {c = d}) there.2 ∙ are.none stop there.0 there.2
   | inr past ↦ ap (found_by {K = K} {V = V} {c = d}) past.1
@@ -141,7 +153,9 @@ pub found_past : {K V : Type 0} {d : _} (origins : Origins K V d) (stop : ℕ) �
 found_past {K} {V} {d} origins stop past = ap (found_by {K = K} {V = V} {c = d}) (slice_get_past origins.each.items stop past)
 
 -- of each stop the points are a bag
-pub found_bag : {K V : Type 0} {d : _} (rules : Rules V) (origins : Origins K V d) → ((stop : ℕ) (origin : Origin K V d) → slice_get origins.each.items stop ≡ Some origin → IsBag rules (points_of origin.found)) → (stop : ℕ) → IsBag rules (found_from origins stop)
+pub found_bag : {K V : Type 0} {d : _} (rules : Rules V) (origins : Origins K V d) →
+    ((stop : ℕ) (origin : Origin K V d) → slice_get origins.each.items stop ≡ Some origin → IsBag rules (points_of origin.found)) → (stop : ℕ)
+    → IsBag rules (found_from origins stop)
 found_bag {K} {V} {d} rules origins bags stop = elim (slice_get_cases origins.each.items stop).1 [
   | inl there ↦ subst (λ (o : Option (Origin K V d)). IsBag rules (found_by o)) (sym there.2) (bags stop there.0 there.2)
   | inr past ↦ subst (λ (o : Option (Origin K V d)). IsBag rules (found_by o)) (sym past.1) none_is_bag

@@ -6,6 +6,7 @@ use Rattle.csa_program.proofs.listing.append_values.Goals as goal
 pub returns : goal.returns
 unfolding values_text
 returns c =
-    three (string_bytes c.args.lines.now) (string_bytes c.append_times.new.lines) (string_bytes c.append_number.new.lines) (string_bytes c.append_number-2.new.lines)
+    three (string_bytes c.args.lines.now) (string_bytes c.append_times.new.lines) (string_bytes c.append_number.new.lines)
+    (string_bytes c.append_number-2.new.lines)
     _ _ _
     c.in_ok-append_times.ensures c.in_ok-append_number.ensures c.in_ok-append_number-2.ensures

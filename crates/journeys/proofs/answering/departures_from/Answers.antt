@@ -7,12 +7,14 @@ pub returns-clause-points : goal.returns-clause-points
 returns-clause-points g c =
     let profiles = c.args.profiles.now in
     IfOk-weaker c.departures_of.result _ _
-    (λ departures answer. answer (criterion_of_profiles profiles) (g.S.ConnSource.timetable c.args.source.now) (query_from (destination_of profiles) c.args.stop) c.in_ok-found.ensures)
+    (λ departures answer. answer (criterion_of_profiles profiles) (g.S.ConnSource.timetable c.args.source.now)
+    (query_from (destination_of profiles) c.args.stop) c.in_ok-found.ensures)
     c.departures_of.ensures.points
 
 pub returns-clause-journeys : goal.returns-clause-journeys
 returns-clause-journeys g c =
     let profiles = c.args.profiles.now in
     IfOk-weaker c.departures_of.result _ _
-    (λ departures attained. attained (criterion_of_profiles profiles) (g.S.ConnSource.timetable c.args.source.now) (query_from (destination_of profiles) c.args.stop) c.in_ok-found.ensures)
+    (λ departures attained. attained (criterion_of_profiles profiles) (g.S.ConnSource.timetable c.args.source.now)
+    (query_from (destination_of profiles) c.args.stop) c.in_ok-found.ensures)
     c.departures_of.ensures.journeys

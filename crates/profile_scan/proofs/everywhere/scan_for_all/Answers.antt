@@ -34,9 +34,16 @@ loop-place-init g c =
       state = subst (λ (n : ℕ). IsStateOfAll g.C.Criterion.rules c.args.asked.now.criterion n t.trips state) c.stops.ensures counted;
       matched = λ stop.
           let q = from_stop c.args.asked.now.query stop in
-          let can : CanScan (g.S.ConnSource.timetable c.args.source.now) (from_stop c.args.asked.now.query stop) = record { legal = g.met.S.ConnSource.legal c.args.source.now; limits = g.met.S.ConnSource.limits c.args.source.now; in_time = c.requires.can_ask.by } in
+          let can : CanScan (g.S.ConnSource.timetable c.args.source.now)
+          (from_stop c.args.asked.now.query stop) = record {
+            legal = g.met.S.ConnSource.legal c.args.source.now;
+            limits = g.met.S.ConnSource.limits
+                c.args.source.now;
+            in_time = c.requires.can_ask.by;
+          } in
           let spelled = told t.footpaths (story_from state stop) in
-          matches_alike rules t q spelled c.args.window.end (record { bag = λ _. []; labels = λ _. []; found = [] }) (kept_from state stop) made.bags made.labels (made.found stop)
+          matches_alike rules t q spelled c.args.window.end (record { bag = λ _. []; labels = λ _. []; found = [] })
+          (kept_from state stop) made.bags made.labels (made.found stop)
           (nothing_follows rules t q can c.args.window.end c.requires.past spelled);
     }
 
@@ -60,15 +67,23 @@ loop-place-preserved g c =
       high = omega arith;
       none = inv.none;
       timetable = same;
-      log = c.connection-connection.ensures.log ∙ ap (λ ks. ks ++ i ∷ []) inv.log ∙ log_more (g.S.ConnSource.log c.args.source.now) i c.loop-place.place c.args.window.end (omega arith) high;
+      log = c.connection-connection.ensures.log ∙ ap (λ ks. ks ++ i ∷ []) inv.log ∙ log_more
+          (g.S.ConnSource.log c.args.source.now) i c.loop-place.place c.args.window.end (omega arith) high;
       state = subst (λ (x : TimetableValue). IsStateOfAll g.C.Criterion.rules c.args.asked.now.criterion x.stops x.trips new) same c.in_ok-step.ensures.state;
       matched = λ stop.
           let q = from_stop c.args.asked.now.query stop in
-          let can : CanScan (g.S.ConnSource.timetable c.args.source.now) (from_stop c.args.asked.now.query stop) = record { legal = g.met.S.ConnSource.legal c.args.source.now; limits = g.met.S.ConnSource.limits c.args.source.now; in_time = c.requires.can_ask.by } in
+          let can : CanScan (g.S.ConnSource.timetable c.args.source.now)
+          (from_stop c.args.asked.now.query stop) = record {
+            legal = g.met.S.ConnSource.legal c.args.source.now;
+            limits = g.met.S.ConnSource.limits
+                c.args.source.now;
+            in_time = c.requires.can_ask.by;
+          } in
           let tags = from_to (told t.footpaths (story_from old stop)) (told t.footpaths (story_from new stop)) in
           one_index_down rules (g.met.C.Criterion.laws c.args.asked.now.criterion) t q can tags i in_i (kept_from old stop) (kept_from new stop)
           (subst (λ (n : ℕ). MatchesFrom rules t q (told t.footpaths (story_from old stop)) n (kept_from old stop)) up (inv.matched stop))
-          (subst (λ (x : TimetableValue). IsStep rules x q (from_to (told x.footpaths (story_from old stop)) (told x.footpaths (story_from new stop))) i (kept_from old stop) (kept_from new stop)) same
+          (subst (λ (x : TimetableValue). IsStep rules x q (from_to (told x.footpaths (story_from old stop)) (told x.footpaths (story_from new stop)))
+          i (kept_from old stop) (kept_from new stop)) same
           (c.in_ok-step.ensures.steps stop));
     }
 
@@ -98,7 +113,8 @@ step-requires-clause-stands g c =
 pub step-requires-clause-state : goal.step-requires-clause-state
 step-requires-clause-state g c =
     let same = c.connection-connection.ensures.same ∙ c.loop-place.invariant.timetable in
-    subst (λ (x : TimetableValue). IsStateOfAll g.C.Criterion.rules c.args.asked.now.criterion x.stops x.trips c.loop-place.state) (sym same) c.loop-place.invariant.state
+    subst (λ (x : TimetableValue). IsStateOfAll g.C.Criterion.rules c.args.asked.now.criterion x.stops x.trips c.loop-place.state)
+    (sym same) c.loop-place.invariant.state
 
 pub returns-in_err-step-clause-err : goal.returns-in_err-step-clause-err
 returns-in_err-step-clause-err g c =
@@ -107,8 +123,14 @@ returns-in_err-step-clause-err g c =
     let high = inv.high in
     let test = c.loop-place-test.true in
     let i = c.loop-place.place - 1 in
-    let log : g.S.ConnSource.log c.connection-connection.new.self ≡ g.S.ConnSource.log c.args.source.now ++ falling i (c.args.window.end - i) = c.connection-connection.ensures.log ∙ ap (λ ks. ks ++ i ∷ []) inv.log ∙ log_more (g.S.ConnSource.log c.args.source.now) i c.loop-place.place c.args.window.end (omega arith) high in
-    on_err c.from_residual-in_err-step.result _ (c.args.window.end - i, log ∙ log_front (g.S.ConnSource.log c.args.source.now) c.args.window.start i c.args.window.end (omega arith) (omega arith))
+    let log : g.S.ConnSource.log c.connection-connection.new.self ≡ g.S.ConnSource.log c.args.source.now ++ falling i
+    (c.args.window.end - i) = c.connection-connection.ensures.log ∙ ap (λ ks. ks ++ i ∷ []) inv.log ∙ log_more
+    (g.S.ConnSource.log c.args.source.now) i c.loop-place.place c.args.window.end (omega arith) high in
+    on_err c.from_residual-in_err-step.result _ (
+      c.args.window.end - i,
+      log ∙ log_front
+          (g.S.ConnSource.log c.args.source.now) c.args.window.start i c.args.window.end (omega arith) (omega arith),
+    )
 
 pub returns-clause-state : goal.returns-clause-state
 returns-clause-state g c = c.loop-place.invariant.state
@@ -123,4 +145,5 @@ returns-clause-found g c stop =
     let q = from_stop c.args.asked.now.query stop in
     let at : c.loop-place.place ≡ c.args.window.start = omega arith in
     let state = c.loop-place.state in
-    subst (λ (n : ℕ). Matches rules (told t.footpaths (story_from state stop)).journey (CountsFrom t q n) (IsPlain t q.target) (journey_value rules t) (found_from state.origins stop)) at (inv.matched stop).at_source
+    subst (λ (n : ℕ). Matches rules (told t.footpaths (story_from state stop)).journey (CountsFrom t q n) (IsPlain t q.target) (journey_value rules t)
+    (found_from state.origins stop)) at (inv.matched stop).at_source

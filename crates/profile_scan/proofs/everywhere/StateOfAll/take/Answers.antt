@@ -26,13 +26,16 @@ use Rattle.profile_scan.proofs.everywhere.StateOfAll.take.Goals as goal
 
 pub alight-requires-clause-hop : goal.alight-requires-clause-hop
 alight-requires-clause-hop g c =
-    hop_within (g.C.Criterion.rules c.args.asked.now.criterion) (g.S.ConnSource.timetable c.args.source.now) (g.met.S.ConnSource.limits c.args.source.now) c.args.asked.now.query c.args.hop.now c.requires.hop
+    hop_within (g.C.Criterion.rules c.args.asked.now.criterion) (g.S.ConnSource.timetable c.args.source.now)
+    (g.met.S.ConnSource.limits c.args.source.now) c.args.asked.now.query c.args.hop.now c.requires.hop
 
 pub alight-requires-clause-trip : goal.alight-requires-clause-trip
 alight-requires-clause-trip g c =
     let at = c.requires.hop.stands in
     record {
-      there = subst (λ (n : ℕ). c.args.hop.now.connection.trip < n) (sym c.requires.state.long) (trip_in (g.S.ConnSource.timetable c.args.source.now) (g.met.S.ConnSource.legal c.args.source.now) c.args.hop.now.place at.in_range c.args.hop.now.connection at.is);
+      there = subst (λ (n : ℕ). c.args.hop.now.connection.trip < n) (sym c.requires.state.long)
+          (trip_in (g.S.ConnSource.timetable c.args.source.now) (g.met.S.ConnSource.legal c.args.source.now) c.args.hop.now.place at.in_range
+          c.args.hop.now.connection at.is);
       labels = c.requires.state.labels;
     }
 
@@ -41,14 +44,18 @@ alight-requires-clause-stop g c =
     let at = c.requires.hop.stands in
     let stops = c.requires.state.at_stops in
     record {
-      there = subst (λ (n : ℕ). c.args.hop.now.connection.to < n) (sym stops.long) (ends_in (g.S.ConnSource.timetable c.args.source.now) (g.met.S.ConnSource.legal c.args.source.now) c.args.hop.now.place at.in_range c.args.hop.now.connection at.is);
+      there = subst (λ (n : ℕ). c.args.hop.now.connection.to < n) (sym stops.long)
+          (ends_in (g.S.ConnSource.timetable c.args.source.now) (g.met.S.ConnSource.legal c.args.source.now) c.args.hop.now.place at.in_range
+          c.args.hop.now.connection at.is);
       stops = subst (λ (n : ℕ). AreStops g.C.Criterion.rules c.args.asked.now.criterion n c.args.self.now.stops) (sym stops.long) stops;
     }
 
 pub of-labels-requires-clause-trip : goal.of-labels-requires-clause-trip
 of-labels-requires-clause-trip g c =
     let at = c.requires.hop.stands in
-    subst (λ (n : ℕ). c.args.hop.now.connection.trip < n) (sym (c.in_ok-alight.ensures.trip.labels.long ∙ c.requires.state.long)) (trip_in (g.S.ConnSource.timetable c.args.source.now) (g.met.S.ConnSource.legal c.args.source.now) c.args.hop.now.place at.in_range c.args.hop.now.connection at.is)
+    subst (λ (n : ℕ). c.args.hop.now.connection.trip < n) (sym (c.in_ok-alight.ensures.trip.labels.long ∙ c.requires.state.long))
+    (trip_in (g.S.ConnSource.timetable c.args.source.now) (g.met.S.ConnSource.legal c.args.source.now) c.args.hop.now.place at.in_range
+    c.args.hop.now.connection at.is)
 
 pub of-labels-requires-clause-labels : goal.of-labels-requires-clause-labels
 of-labels-requires-clause-labels g c = (g.C.Criterion.rules c.args.asked.now.criterion, c.in_ok-alight.ensures.trip.labels.labels)
@@ -107,9 +114,12 @@ returns-clause-steps g c stop =
     let bag_is = ap (λ (x : Connection). carried rules values (points_at stops x.to)) at.is in
     let leaves =
     subst (λ (x : Connection). TakesIn rules (leavings rules t q first i (carried rules values bag)) (old x.trip) (new x.trip)) at.is
-    (subst (λ (points : List (Point g.row.C-V.Denot)). TakesIn rules (leavings rules t q first i points) (old hop.connection.trip) (new hop.connection.trip)) bag_is
-    (leavings_from rules t c.args.asked.now.query stop first i (carried rules values (points_at stops hop.connection.to)) (old hop.connection.trip) (new hop.connection.trip)
-    (leavings_taken rules t legal c.args.asked.now.query first i hop.connection at.is hop.way c.requires.hop.way (carried rules values (points_at stops hop.connection.to)) (old hop.connection.trip) (new hop.connection.trip)
+    (subst (λ (points : List (Point g.row.C-V.Denot)). TakesIn rules (leavings rules t q first i points) (old hop.connection.trip)
+    (new hop.connection.trip)) bag_is
+    (leavings_from rules t c.args.asked.now.query stop first i (carried rules values (points_at stops hop.connection.to)) (old hop.connection.trip)
+    (new hop.connection.trip)
+    (leavings_taken rules t legal c.args.asked.now.query first i hop.connection at.is hop.way c.requires.hop.way
+    (carried rules values (points_at stops hop.connection.to)) (old hop.connection.trip) (new hop.connection.trip)
     (c.in_ok-alight.ensures.takes t.footpaths steps outs was between (grows_none was) (grows_none between))))) in
     let now_steps = steps_of c.board.new.self.lists in
     let now_outs = set_outs_from c.set_out.new.self stop in
@@ -130,12 +140,15 @@ returns-clause-steps g c stop =
       leaves = leaves;
       other_trips = λ k other. ap label_points (c.in_ok-alight.ensures.trip.labels.same k (λ e. other (e ∙ ap (λ (x : Connection). x.trip) at.is)));
       boards = λ k lt.
-          subst (λ (x : Connection). TakesIn rules (boardings rules t second i k (carried rules values (new x.trip))) (points_at stops k) (points_at c.board.new.self k)) at.is
-          (subst (λ (xs : List (Label g.row.C-V.Denot)). TakesIn rules (boardings rules t second i k (carried rules values (label_points xs))) (points_at stops k) (points_at c.board.new.self k)) c.of-labels.ensures
+          subst (λ (x : Connection). TakesIn rules (boardings rules t second i k (carried rules values (new x.trip))) (points_at stops k)
+          (points_at c.board.new.self k)) at.is
+          (subst (λ (xs : List (Label g.row.C-V.Denot)). TakesIn rules (boardings rules t second i k (carried rules values (label_points xs)))
+          (points_at stops k) (points_at c.board.new.self k)) c.of-labels.ensures
           (c.in_ok-board.ensures.takes k mid now_outs between after out_grows (grows_none after)));
       sets_out =
           subst (λ (x : Connection). TakesIn rules (settings_out rules t q second i (new x.trip)) old_found new_found) at.is
-          (subst (λ (xs : List (Label g.row.C-V.Denot)). TakesIn rules (settings_out rules t q second i (label_points xs)) old_found new_found) c.of-labels.ensures
+          (subst (λ (xs : List (Label g.row.C-V.Denot)). TakesIn rules (settings_out rules t q second i (label_points xs)) old_found new_found)
+          c.of-labels.ensures
           (c.in_ok-set_out.ensures.takes stop mid steps between after (grows_none between) in_grows));
     }
 
@@ -166,13 +179,17 @@ returns-then-labels-eq0-clause-steps g c stop =
     let bag_is = ap (λ (x : Connection). carried rules values (points_at stops x.to)) at.is in
     let leaves =
     subst (λ (x : Connection). TakesIn rules (leavings rules t q first i (carried rules values bag)) (old x.trip) (new x.trip)) at.is
-    (subst (λ (points : List (Point g.row.C-V.Denot)). TakesIn rules (leavings rules t q first i points) (old hop.connection.trip) (new hop.connection.trip)) bag_is
-    (leavings_from rules t c.args.asked.now.query stop first i (carried rules values (points_at stops hop.connection.to)) (old hop.connection.trip) (new hop.connection.trip)
-    (leavings_taken rules t legal c.args.asked.now.query first i hop.connection at.is hop.way c.requires.hop.way (carried rules values (points_at stops hop.connection.to)) (old hop.connection.trip) (new hop.connection.trip)
+    (subst (λ (points : List (Point g.row.C-V.Denot)). TakesIn rules (leavings rules t q first i points) (old hop.connection.trip)
+    (new hop.connection.trip)) bag_is
+    (leavings_from rules t c.args.asked.now.query stop first i (carried rules values (points_at stops hop.connection.to)) (old hop.connection.trip)
+    (new hop.connection.trip)
+    (leavings_taken rules t legal c.args.asked.now.query first i hop.connection at.is hop.way c.requires.hop.way
+    (carried rules values (points_at stops hop.connection.to)) (old hop.connection.trip) (new hop.connection.trip)
     (c.in_ok-alight.ensures.takes t.footpaths steps outs was between (grows_none was) (grows_none between))))) in
     let second = from_to (told t.footpaths between) (told t.footpaths between) in
     let none = no_trip_points c.alight.new.self.labels hop.connection.trip (ap length (sym c.of-labels.ensures) ∙ c.if-labels-eq0.true) in
-    let none_there : (p : Point g.row.C-V.Denot) → Contains (new trip) p → ⊥ = subst (λ (x : Connection). (p : Point g.row.C-V.Denot) → Contains (new x.trip) p → ⊥) at.is none in
+    let none_there : (p : Point g.row.C-V.Denot) → Contains (new trip) p → ⊥ = subst
+    (λ (x : Connection). (p : Point g.row.C-V.Denot) → Contains (new x.trip) p → ⊥) at.is none in
     record {
       between = told t.footpaths between;
       kept_first = grows_keeps t.footpaths was between grows_first;

@@ -9,5 +9,6 @@ invariant-loop-place g l =
     let walks = (g.S.ConnSource.timetable l.source).footpaths in
     record {
       origins : ChangesOrigins l.asked.criterion l.fn.self l.self;
-      takes : (stop : ℕ) → SourceTakes rules walks stop (λ tags. each_of (IsTried walks l.begin l.place) (settings_out_by rules tags l.hop.place l.hop.connection (from_stop l.asked.query stop) (label_points l.labels))) l.fn.self l.self;
+      takes : (stop : ℕ) → SourceTakes rules walks stop (λ tags. each_of (IsTried walks l.begin l.place)
+          (settings_out_by rules tags l.hop.place l.hop.connection (from_stop l.asked.query stop) (label_points l.labels))) l.fn.self l.self;
     }

@@ -33,15 +33,19 @@ returns-in-Some-clause-takes g c =
     on_ok_more c.set_out_from.result _ _
     (λ both walks stop. elim (cases_eq stop here) [
       | inl same ↦
-          subst (λ (n : ℕ). SourceTakes rules walks n (λ tags. only_if (MayStart (from_stop q n) cn start) (settings_out_after rules tags c.args.hop.now.place (cn.dep - start_secs start) start labels)) old new) (sym same)
+          subst (λ (n : ℕ). SourceTakes rules walks n (λ tags. only_if (MayStart (from_stop q n) cn start)
+          (settings_out_after rules tags c.args.hop.now.place (cn.dep - start_secs start) start labels)) old new) (sym same)
           (λ exits steps before all ext_before ext.
           let tags = from_to (told walks before) (told walks all) in
           takes_if rules (MayStart (from_stop q here) cn start)
           (settings_out_after rules tags c.args.hop.now.place (cn.dep - start_secs start) start labels) (found_from old here) (found_from new here) is.0
-          (subst (λ (s : Option Footpath). TakesIn rules (settings_out_after rules tags c.args.hop.now.place (cn.dep - start_secs start) s labels) (found_from old here) (found_from new here)) is.1
-          (subst (λ (n : ℕ). TakesIn rules (settings_out_after rules tags c.args.hop.now.place n c.in-Some.departure.start labels) (found_from old here) (found_from new here)) is.2 (both.0 walks exits steps before all ext_before ext))))
+          (subst (λ (s : Option Footpath). TakesIn rules (settings_out_after rules tags c.args.hop.now.place (cn.dep - start_secs start) s labels)
+          (found_from old here) (found_from new here)) is.1
+          (subst (λ (n : ℕ). TakesIn rules (settings_out_after rules tags c.args.hop.now.place n c.in-Some.departure.start labels)
+          (found_from old here) (found_from new here)) is.2 (both.0 walks exits steps before all ext_before ext))))
       | inr other ↦
-          source_unless rules walks stop (MayStart (from_stop q stop) cn start) (λ tags. settings_out_after rules tags c.args.hop.now.place (cn.dep - start_secs start) start labels) old new
+          source_unless rules walks stop (MayStart (from_stop q stop) cn start)
+          (λ tags. settings_out_after rules tags c.args.hop.now.place (cn.dep - start_secs start) start labels) old new
           (both.1 stop other) (other_start q cn start stop (λ e. other (e ∙ sym c.source_of-stop.ensures)))
     ])
     (on_ok_both c.set_out_from.result _ _ c.set_out_from.ensures.takes others)
@@ -53,7 +57,8 @@ returns-in-None-clause-takes g c walks stop =
     let cn = c.args.hop.now.connection in
     let start = c.args.start in
     let labels = label_points c.args.labels.now in
-    source_unless rules walks stop (MayStart (from_stop q stop) cn start) (λ tags. settings_out_after rules tags c.args.hop.now.place (cn.dep - start_secs start) start labels) c.args.self.now c.args.self.now refl
+    source_unless rules walks stop (MayStart (from_stop q stop) cn start)
+    (λ tags. settings_out_after rules tags c.args.hop.now.place (cn.dep - start_secs start) start labels) c.args.self.now c.args.self.now refl
     (λ may. elim (cases_eq stop c.source_of-stop.result) [
       | inl same ↦ c.in-None.ensures (subst (λ (n : ℕ). MayStart (from_stop q n) cn start) same may)
       | inr other ↦ other_start q cn start stop (λ e. other (e ∙ sym c.source_of-stop.ensures)) may

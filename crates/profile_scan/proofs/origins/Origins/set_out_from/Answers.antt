@@ -11,16 +11,19 @@ use Rattle.profile_scan.proofs.origins.Origins.set_out_from.Goals as goal
 at_stop : (g : given.Over) (c : goal.After-index_mut g) → slice_get c.args.self.now.each.items c.args.stop ≡ Some c.index_mut.result.now
 at_stop g c =
     let each = c.args.self.now.each in
-    slice_get_read each.items (length each.items) c.args.stop c.index_mut.result.now refl (subst (λ (n : ℕ). c.args.stop < n) each.ok.0 c.requires.stop) c.index_mut.ensures.value
+    slice_get_read each.items (length each.items) c.args.stop c.index_mut.result.now refl
+    (subst (λ (n : ℕ). c.args.stop < n) each.ok.0 c.requires.stop) c.index_mut.ensures.value
 
 pub set_out_after-requires-clause-found : goal.set_out_after-requires-clause-found
-set_out_after-requires-clause-found g c = c.requires.origins c.args.stop c.index_mut.result.now (at_stop g (goal.at.set_out_after-requires-clause-found g c).After-index_mut)
+set_out_after-requires-clause-found g c = c.requires.origins c.args.stop c.index_mut.result.now
+    (at_stop g (goal.at.set_out_after-requires-clause-found g c).After-index_mut)
 
 pub returns-clause-origins : goal.returns-clause-origins
 returns-clause-origins g c =
     let at = at_stop g (goal.at.returns-clause-origins g c).After-index_mut in
     on_ok_more c.set_out_after.result _ _
-    (λ changes. origins_set c.args.stop c.args.self.now _ c.index_mut.result.now c.set_out_after.new.self at refl c.args.asked.now.criterion c.requires.origins changes)
+    (λ changes. origins_set c.args.stop c.args.self.now _ c.index_mut.result.now c.set_out_after.new.self at refl c.args.asked.now.criterion
+    c.requires.origins changes)
     c.set_out_after.ensures.origin
 
 pub returns-clause-takes : goal.returns-clause-takes
@@ -28,12 +31,15 @@ returns-clause-takes g c =
     let rules = g.C.Criterion.rules c.args.asked.now.criterion in
     let at = at_stop g (goal.at.returns-clause-takes g c).After-index_mut in
     on_ok_more c.set_out_after.result _ _
-    (λ takes walks. source_takes c.args.stop c.args.self.now.each.items (set c.args.self.now.each.items c.args.stop c.set_out_after.new.self) c.index_mut.result.now c.set_out_after.new.self at refl rules walks (λ tags. settings_out_after rules tags c.args.hop.now.place c.args.departure.time c.args.departure.start (label_points c.args.labels.now)) (takes walks))
+    (λ takes walks. source_takes c.args.stop c.args.self.now.each.items
+    (set c.args.self.now.each.items c.args.stop c.set_out_after.new.self) c.index_mut.result.now c.set_out_after.new.self at refl rules walks
+    (λ tags. settings_out_after rules tags c.args.hop.now.place c.args.departure.time c.args.departure.start (label_points c.args.labels.now)) (takes walks))
     c.set_out_after.ensures.takes
 
 pub returns-clause-others : goal.returns-clause-others
 returns-clause-others g c =
     let at = at_stop g (goal.at.returns-clause-others g c).After-index_mut in
     on_ok_more c.set_out_after.result _ _
-    (λ changes other differs. set_others c.args.stop c.args.self.now.each.items (set c.args.self.now.each.items c.args.stop c.set_out_after.new.self) c.index_mut.result.now c.set_out_after.new.self at refl other differs)
+    (λ changes other differs. set_others c.args.stop c.args.self.now.each.items
+    (set c.args.self.now.each.items c.args.stop c.set_out_after.new.self) c.index_mut.result.now c.set_out_after.new.self at refl other differs)
     c.set_out_after.ensures.origin
