@@ -16,7 +16,7 @@ mod text_fault;
 mod walks;
 mod way;
 
-pub use answering::{Answer, Departure, answer_query};
+pub use answering::{Answer, Departure, answer_query, departures_from};
 pub use counts::{check, faultless_counts};
 pub use extraction::extract;
 pub use fault::JourneyFault;

@@ -207,3 +207,71 @@ fn an_answer_is_drawn(rt: HostRuntime) -> Result<(), Fail> {
     fs::remove_file(&rt, "answer.svg")?;
     Ok(())
 }
+
+const DEPARTURES: &str = "
+# Each stop but the target, in the image's order: the lines of its profile behind its stop_id. The window is read once.
+sample
+run departures - --to C --after 07:00:00 --until 09:00:00 --by 10:00:00 --criterion arrival
+prints A dep 08:00:00 arr 08:20:00 : ride 0 0 walk 1 1 0 ride 2 2
+prints B dep 08:12:00 arr 08:20:00 : ride 2 2
+answers stops 2 points 2 read 3
+run departures - --to C --after 07:00:00 --until 09:00:00 --by 10:00:00 --criterion arrival+trips
+prints A dep 08:00:00 arr 08:20:00 trips 2 : ride 0 0 walk 1 1 0 ride 2 2
+prints A dep 08:00:00 arr 08:30:00 trips 1 : ride 0 1
+prints B dep 08:12:00 arr 08:20:00 trips 1 : ride 2 2
+answers stops 2 points 3 read 3
+run departures - --to B --after 07:00:00 --until 09:00:00 --by 10:00:00 --criterion arrival+trips+walk
+prints A dep 08:00:00 arr 08:10:00 trips 1 walked 0 : ride 0 0
+answers stops 1 points 1 read 3
+run departures - --to A --after 07:00:00 --until 09:00:00 --by 10:00:00 --criterion arrival
+answers stops 0 points 0 read 3
+
+# The window cuts the departures of each stop for itself.
+run departures - --to C --after 08:00:01 --until 08:12:00 --by 08:20:00 --criterion arrival
+prints B dep 08:12:00 arr 08:20:00 : ride 2 2
+answers stops 1 points 1 read 2
+run departures - --to C --after 07:00:00 --until 08:11:59 --by 10:00:00 --criterion arrival
+prints A dep 08:00:00 arr 08:20:00 : ride 0 0 walk 1 1 0 ride 2 2
+prints B dep 08:10:00 arr 08:30:00 : ride 1 1
+answers stops 2 points 2 read 3
+
+# Without journeys, and a line a stop.
+run departures - --to C --after 07:00:00 --until 09:00:00 --by 10:00:00 --criterion arrival+trips --no-journeys
+prints A dep 08:00:00 arr 08:20:00 trips 2
+prints A dep 08:00:00 arr 08:30:00 trips 1
+prints B dep 08:12:00 arr 08:20:00 trips 1
+answers stops 2 points 3 read 3
+run departures - --to C --after 07:00:00 --until 09:00:00 --by 10:00:00 --criterion arrival+trips --summary
+prints A points 2 first 08:00:00 last 08:00:00 least 1200
+prints B points 1 first 08:12:00 last 08:12:00 least 480
+answers stops 2 points 3 read 3
+run departures - --to C --after 07:00:00 --until 09:00:00 --by 10:00:00 --criterion arrival --summary --no-journeys
+complains 64
+
+# The stops of a file alone; the target among them is left out.
+rows wanted C | B
+run departures - --to C --after 07:00:00 --until 09:00:00 --by 10:00:00 --criterion arrival --from wanted
+prints B dep 08:12:00 arr 08:20:00 : ride 2 2
+answers stops 1 points 1 read 3
+rows wanted B | D | A
+run departures - --to C --after 07:00:00 --until 09:00:00 --by 10:00:00 --criterion arrival --from wanted
+tells csa: --from wanted, line 2: no stop of the image has this stop_id
+answers refused 31 UnknownStop
+run departures - --to C --after 07:00:00 --until 09:00:00 --by 10:00:00 --criterion arrival --from nowhere
+tells csa: nowhere can't be read: no such file or folder
+ends 3
+
+# What can't be asked.
+run departures - --to D --after 07:00:00 --until 09:00:00 --by 10:00:00 --criterion arrival
+tells csa: --to D: no stop of the image has this stop_id
+answers refused 31 UnknownStop
+run departures - --to C --after 07:00:00 --until 06:00:00 --by 10:00:00 --criterion arrival
+answers refused 33 BadWindow
+run departures --help
+helps
+";
+
+#[test]
+fn departures_from_each_stop_are_printed(rt: HostRuntime) -> Result<(), Fail> {
+    try_lines(&rt, DEPARTURES)
+}

@@ -1,17 +1,17 @@
 use Rattle.std.proofs.Common.{◌≡◌, ◌++◌, ◌∷◌, [], sym, ◌∙◌, ap, subst}
 use Rattle.std.proofs.lemmas.Option.{slice_get_within, same_Some}
 use Rattle.std.proofs.lemmas.Result.{IfOk-weaker}
-use Rattle.profile_scan.specs.Kept.{story_of}
+use Rattle.profile_scan.specs.Views.{story_seen}
 use Rattle.profile_scan.specs.Telling.{SaysLabel}
 use Rattle.profile_scan.specs.declared.telling.Change.{Change}
 use Rattle.profile_scan.specs.declared.nodes.Node.TheVariants.{Changes}
 use Rattle.profile_scan.proofs.TellingLemmas.{told_change, says_change}
-use Rattle.profile_scan.proofs.scan.State.tell_change.Goals as goal
+use Rattle.profile_scan.proofs.view.View.tell_change.Goals as goal
 
 pub footpath-walk-requires : goal.footpath-walk-requires
 footpath-walk-requires g c =
     let walks = (g.S.ConnSource.timetable c.args.source.now).footpaths in
-    let s = story_of c.args.self.now in
+    let s = story_seen c.args.self.now in
     let change = c.in-Some.change in
     let t = told_change walks s c.args.label change.last change.step c.requires.told.0 (sym c.change_after.ensures ∙ c.in-Some.is) c.requires.told.1 in
     slice_get_within walks change.step.walk t.walk t.is_walk
@@ -19,7 +19,7 @@ footpath-walk-requires g c =
 pub returns-in_ok-boards-in-Some-clause-says : goal.returns-in_ok-boards-in-Some-clause-says
 returns-in_ok-boards-in-Some-clause-says g c =
     let walks = (g.S.ConnSource.timetable c.args.source.now).footpaths in
-    let s = story_of c.args.self.now in
+    let s = story_seen c.args.self.now in
     let change = c.in-Some.change in
     let is = sym c.change_after.ensures ∙ c.in-Some.is in
     let next = c.requires.next in

@@ -1,15 +1,15 @@
 use Rattle.std.proofs.Common.{sym, subst, arith}
 use Rattle.std.proofs.lemmas.Result.{IfOk-weaker}
 use Rattle.reasoning.proofs.ListLemmas.{extends_on}
-use Rattle.profile_scan.specs.Kept.{story_of}
+use Rattle.profile_scan.specs.Views.{story_seen}
 use Rattle.profile_scan.specs.Telling.{SaysLabel, SaysJourney}
 use Rattle.profile_scan.proofs.TellingLemmas.{route_over, route_popped, route_told, first_told, says_journey}
-use Rattle.profile_scan.proofs.scan.State.tell_journey.Goals as goal
+use Rattle.profile_scan.proofs.view.View.tell_journey.Goals as goal
 
 pub loop-label-init : goal.loop-label-init
 loop-label-init g c =
     let walks = (g.S.ConnSource.timetable c.args.source.now).footpaths in
-    let s = story_of c.args.self.now in
+    let s = story_seen c.args.self.now in
     let first = c.index-set_out.result.now.label in
     let told = (first_told walks s c.args.tag c.index-set_out.result.now c.requires c.index-set_out.ensures).1 in
     let last = c.in_ok-last.last in
@@ -24,7 +24,7 @@ loop-label-init g c =
 pub tell_change-requires-clause-told : goal.tell_change-requires-clause-told
 tell_change-requires-clause-told g c =
     let walks = (g.S.ConnSource.timetable c.args.source.now).footpaths in
-    let s = story_of c.args.self.now in
+    let s = story_seen c.args.self.now in
     let first = c.index-set_out.result.now.label in
     let told = (first_told walks s c.args.tag c.index-set_out.result.now c.requires c.index-set_out.ensures).1 in
     let says = c.loop-label.invariant.says in
@@ -34,7 +34,7 @@ tell_change-requires-clause-told g c =
 pub tell_change-requires-clause-next : goal.tell_change-requires-clause-next
 tell_change-requires-clause-next g c =
     let walks = (g.S.ConnSource.timetable c.args.source.now).footpaths in
-    let s = story_of c.args.self.now in
+    let s = story_seen c.args.self.now in
     let says = c.loop-label.invariant.says in
     let first = c.index-set_out.result.now.label in
     let p = route_popped s first c.loop-label.route.items c.pop.new.self.items c.in-Some.label says.0 c.in-Some.ensures.items says.1 in
@@ -42,7 +42,7 @@ tell_change-requires-clause-next g c =
 
 pub loop-label-preserved : goal.loop-label-preserved
 loop-label-preserved g c =
-    let s = story_of c.args.self.now in
+    let s = story_seen c.args.self.now in
     let says = c.loop-label.invariant.says in
     let first = c.index-set_out.result.now.label in
     let p = route_popped s first c.loop-label.route.items c.pop.new.self.items c.in-Some.label says.0 c.in-Some.ensures.items says.1 in
@@ -55,7 +55,7 @@ loop-label-preserved g c =
 pub returns-clause-says : goal.returns-clause-says
 returns-clause-says g c =
     let walks = (g.S.ConnSource.timetable c.args.source.now).footpaths in
-    let s = story_of c.args.self.now in
+    let s = story_seen c.args.self.now in
     let x = c.index-set_out.result.now in
     let at = (first_told walks s c.args.tag x c.requires c.index-set_out.ensures).0 in
     let new = c.add.new.nodes.items in

@@ -1,21 +1,21 @@
 use Rattle.std.proofs.Common.{◌≡◌, ◌-◌, ◌+◌, length, refl, sym, ◌∙◌, ap, subst, arith}
 use Rattle.profile_scan.specs.Story.{label_tells}
-use Rattle.profile_scan.specs.Kept.{story_of}
+use Rattle.profile_scan.specs.Views.{story_seen}
 use Rattle.profile_scan.specs.Telling.{IsRoute}
 use Rattle.profile_scan.proofs.TellingLemmas.{route_push, tells_change, not_told}
-use Rattle.profile_scan.proofs.scan.State.note_route.Goals as goal
+use Rattle.profile_scan.proofs.view.View.note_route.Goals as goal
 
 pub loop-i-init : goal.loop-i-init
 loop-i-init g c = record {
-  route = subst (λ ls. IsRoute (story_of c.args.self.now) c.args.first ls c.args.first) (sym c.clear.ensures.items) refl;
+  route = subst (λ ls. IsRoute (story_seen c.args.self.now) c.args.first ls c.args.first) (sym c.clear.ensures.items) refl;
   tells = λ walks is.
-      let all : length (story_of c.args.self.now).exits - 0 ≡ length (story_of c.args.self.now).exits = omega arith in
-      (is.0, ap (λ n. label_tells walks (story_of c.args.self.now) n c.args.first) all ∙ is.1);
+      let all : length (story_seen c.args.self.now).exits - 0 ≡ length (story_seen c.args.self.now).exits = omega arith in
+      (is.0, ap (λ n. label_tells walks (story_seen c.args.self.now) n c.args.first) all ∙ is.1);
 }
 
 pub loop-i-preserved : goal.loop-i-preserved
 loop-i-preserved g c =
-    let s = story_of c.args.self.now in
+    let s = story_seen c.args.self.now in
     let is = sym c.change_after.ensures ∙ c.in-Some.is in
     record {
       route = subst (λ ls. IsRoute s c.args.first ls c.in-Some.change.step.label) (sym c.in_ok-push-in-Some.ensures.items) (route_push s c.args.first c.loop-i.route.items c.loop-i.label c.in-Some.change c.loop-i.invariant.route is);
@@ -28,7 +28,7 @@ loop-i-preserved g c =
 
 pub returns-clause-ends : goal.returns-clause-ends
 returns-clause-ends g c walks told =
-    let s = story_of c.args.self.now in
+    let s = story_seen c.args.self.now in
     let t = c.loop-i.invariant.tells walks told in
     let long = c.args.self.now.trips.exits.ok.0 in
     let none : 0 ≡ length s.exits - c.loop-i._i = omega arith in
