@@ -1,4 +1,5 @@
-//! `csa departures IMAGE --to STOP_ID --after .. --until .. --by .. --criterion NAME [--from FILE] [--summary | --no-journeys]`.
+//! `csa departures IMAGE --to STOP_ID --after .. --until .. --by .. --criterion NAME [--from FILE]
+//! [--summary | --no-journeys]`.
 
 ghost use Rattle.std.specs.Prelude.{◌≡◌, ◌≢◌, ◌<◌};
 ghost use Rattle.profile_scan.specs.Destinations.{CanBeAsked};

@@ -97,8 +97,9 @@ impl<C: Criterion> Origins<C> {
         }
     }
 
-    /// Sets out for a connection from each stop that leads there, if passengers may get on: offers the points found from
-    /// where it begins each label of its trip, and so those from where a footpath begins that leads there, after it.
+    /// Sets out for a connection from each stop that leads there, if passengers may get on: offers
+    /// the points found from where it begins each label of its trip, and so those from where a
+    /// footpath begins that leads there, after it.
     pub fn set_out<S: ConnSource>(
         &mut self,
         asked: &Asked<C>,

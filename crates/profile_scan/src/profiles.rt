@@ -4,7 +4,8 @@ ghost use Rattle.std.specs.Prelude.{◌≡◌, ◌++◌, ℕ, IfOk, OnOk, OnErr,
 ghost use Rattle.profile_scan.specs.Destinations.{CanBeAsked, query_from};
 ghost use Rattle.profile_scan.specs.Window.{window};
 ghost use Rattle.profile_scan.specs.Origins.{AreUnder, found_from};
-ghost use Rattle.profile_scan.specs.Everywhere.{AnswerAll, AreInOrder, criterion_of_profiles, destination_of, points_in};
+ghost use Rattle.profile_scan.specs.Everywhere.{AnswerAll, AreInOrder, criterion_of_profiles, destination_of};
+ghost use Rattle.profile_scan.specs.Everywhere.{points_in};
 
 use crate::answering::timetable_of;
 use crate::destination::Destination;
@@ -38,7 +39,8 @@ impl<C: Criterion> Profiles<C> {
     ghost use Rattle.profile_scan.specs.Destinations.{query_from};
     ghost use Rattle.profile_scan.specs.Kept.{ways_of};
     ghost use Rattle.profile_scan.specs.Found.{Answers};
-    ghost use Rattle.profile_scan.specs.Everywhere.{AnswerAll, criterion_of_profiles, destination_of, listed_from, stops_of};
+    ghost use Rattle.profile_scan.specs.Everywhere.{AnswerAll, criterion_of_profiles, destination_of, listed_from};
+    ghost use Rattle.profile_scan.specs.Everywhere.{stops_of};
     ghost use Rattle.profile_scan.specs.Everywhere.{walk_from};
 
     /// What was asked of every stop.
@@ -64,8 +66,8 @@ impl<C: Criterion> Profiles<C> {
         self.asked.ways.secs_from(stop)
     }
 
-    /// The answer of the query from one stop, with its journeys. The source has to be of the timetable that was scanned.
-    /// The only error is that memory runs out.
+    /// The answer of the query from one stop, with its journeys. The source has to be of the
+    /// timetable that was scanned. The only error is that memory runs out.
     pub fn found_from<S: ConnSource>(
         &self,
         alloc: Global,

@@ -119,7 +119,8 @@ impl<'a, C: Criterion> View<'a, C> {
             × SaysLabel (S.timetable source.now).footpaths (story_seen self.now) c.step.label nodes.old.items next }
         ensures nodes { Extends nodes.old.items nodes.new.items }
         ensures says { IfOk result
-            (λ number. SaysLabel (S.timetable source.now).footpaths (story_seen self.now) label nodes.new.items number) }
+            (λ number. SaysLabel (S.timetable source.now).footpaths (story_seen self.now) label nodes.new.items
+            number) }
     {
         match self.change_after(label) {
             None => Ok(next),
@@ -155,7 +156,8 @@ impl<'a, C: Criterion> View<'a, C> {
         requires { IsJourneyTold (S.timetable source.now).footpaths (story_seen self.now) tag }
         ensures nodes { Extends nodes.old.items nodes.new.items }
         ensures says { IfOk result
-            (λ number. SaysJourney (S.timetable source.now).footpaths (story_seen self.now) tag nodes.new.items number) }
+            (λ number. SaysJourney (S.timetable source.now).footpaths (story_seen self.now) tag nodes.new.items
+            number) }
     {
         let set_out = self.origin.set_outs[tag];
         let last = self.note_route(set_out.label, route)?;

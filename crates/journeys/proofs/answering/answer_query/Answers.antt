@@ -6,10 +6,12 @@ pub returns-in_err-departures-clause-err : goal.returns-in_err-departures-clause
 returns-in_err-departures-clause-err g c = whole_read c.from_residual-in_err-departures.result _ _ _ c.in_ok-found.ensures.log
 
 pub returns-clause-points : goal.returns-clause-points
-returns-clause-points g c = c.in_ok-departures.ensures.points c.args.criterion.now (g.S.ConnSource.timetable c.args.source.now) c.args.query.now c.in_ok-found.ensures.answers
+returns-clause-points g c = c.in_ok-departures.ensures.points c.args.criterion.now
+    (g.S.ConnSource.timetable c.args.source.now) c.args.query.now c.in_ok-found.ensures.answers
 
 pub returns-clause-journeys : goal.returns-clause-journeys
-returns-clause-journeys g c = c.in_ok-departures.ensures.journeys c.args.criterion.now (g.S.ConnSource.timetable c.args.source.now) c.args.query.now c.in_ok-found.ensures.answers
+returns-clause-journeys g c = c.in_ok-departures.ensures.journeys c.args.criterion.now
+    (g.S.ConnSource.timetable c.args.source.now) c.args.query.now c.in_ok-found.ensures.answers
 
 pub returns-clause-read : goal.returns-clause-read
 returns-clause-read g c =

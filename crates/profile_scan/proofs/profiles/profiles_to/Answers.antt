@@ -27,7 +27,13 @@ scan_for_all-requires g c =
       order = firsts_rise t d.from d.by c.first_at-start.result c.first_at-end.result c.requires.in_time c.first_at-start.ensures c.first_at-end.ensures;
       past = c.first_at-end.ensures;
     } in
-    subst (λ (q : Query). IsWindow t (record { criterion = c.args.criterion.now; query = q; starts = c.in_ok-starts.starts; ways = c.in_ok-ways.ways }) c.first_at-start.result
+    subst (λ (q : Query). IsWindow t (record {
+      criterion = c.args.criterion.now;
+      query = q;
+      starts =
+          c.in_ok-starts.starts;
+      ways = c.in_ok-ways.ways;
+    }) c.first_at-start.result
     c.first_at-end.result) (sym c.query_from.ensures) made
 
 pub returns-in_err-state-clause-err : goal.returns-in_err-state-clause-err

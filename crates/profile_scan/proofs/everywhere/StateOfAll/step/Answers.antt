@@ -41,7 +41,8 @@ is_idle-requires-clause-trip g c =
     let state = c.requires.state in
     record {
       there = subst (λ (n : ℕ). c.args.connection.now.trip < n) (sym state.long)
-          (trip_in (g.S.ConnSource.timetable c.args.source.now) (g.met.S.ConnSource.legal c.args.source.now) c.args.place at.in_range c.args.connection.now at.is);
+          (trip_in (g.S.ConnSource.timetable c.args.source.now) (g.met.S.ConnSource.legal c.args.source.now)
+          c.args.place at.in_range c.args.connection.now at.is);
       labels = state.labels;
     }
 
