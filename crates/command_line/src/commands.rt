@@ -65,7 +65,7 @@ const DESTINATION: [Argument; 4] = [
 
 const CRITERION: [Argument; 1] = [Argument::Criterion("criterion", "NAME", "What is best")];
 
-const DEPARTURES: [Argument; 3] = [
+const DEPARTURES: [Argument; 4] = [
     Argument::MaybeOption(
         "from",
         "FILE",
@@ -73,8 +73,13 @@ const DEPARTURES: [Argument; 3] = [
     ),
     Argument::OtherFlag(
         "summary",
-        "Print a line a stop: how many departures, the first, the last, and the least seconds of travel",
+        "Print a line a stop: its number of departures, the first, the last, the least seconds of travel, the direct walk",
         "no-journeys",
+    ),
+    Argument::OtherFlag(
+        "json",
+        "Print a line of JSON a stop, and the counts as another one",
+        "summary",
     ),
     Argument::Flag("no-journeys", "Print no journeys"),
 ];

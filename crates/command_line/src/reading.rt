@@ -242,11 +242,13 @@ fn departures_request<'a>(matches: &ArgMatches<'a>) -> Option<DeparturesRequest<
 
 fn departures_form(matches: &ArgMatches<'_>) -> DeparturesForm {
     if matches.get_flag("summary") {
-        DeparturesForm::Summary
-    } else if matches.get_flag("no-journeys") {
-        DeparturesForm::Points
-    } else {
-        DeparturesForm::Journeys
+        return DeparturesForm::Summary;
+    }
+    match (matches.get_flag("json"), matches.get_flag("no-journeys")) {
+        (true, true) => DeparturesForm::JsonPoints,
+        (true, false) => DeparturesForm::Json,
+        (false, true) => DeparturesForm::Points,
+        (false, false) => DeparturesForm::Journeys,
     }
 }
 

@@ -54,8 +54,12 @@ pub enum DeparturesForm {
     Journeys,
     /// A line for each, without one.
     Points,
-    /// A line for all of them.
+    /// A line for all of them, with their number, the first, the last, and the least seconds of travel.
     Summary,
+    /// A line of JSON for all of them, with their journeys.
+    Json,
+    /// A line of JSON for all of them, without journeys.
+    JsonPoints,
 }
 
 /// Where to, by the name of the stop, and when, in seconds after the image's base; the image, what is best, and what is

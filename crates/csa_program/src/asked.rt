@@ -81,14 +81,21 @@ fn explain_question<E: Write>(image: &Verified, question: &Question<'_>, errors:
             explain_end(image, "--to", question.to, errors);
         }
         Err(QueryFault::SameStop) => explain(errors, &["csa: --from and --to are the same stop"]),
-        Err(QueryFault::BadWindow) => explain(errors, &["csa: ", window_reason(question)]),
+        Err(QueryFault::BadWindow) => explain(
+            errors,
+            &[
+                "csa: ",
+                window_reason(question.after, question.until, question.by),
+            ],
+        ),
     }
 }
 
-fn window_reason(question: &Question<'_>) -> &'static str {
-    if question.until < question.after {
+/// Which clock of a window is before another, or past all that an image can have.
+pub fn window_reason(after: u32, until: u32, by: u32) -> &'static str {
+    if until < after {
         "--until is before --after"
-    } else if question.by < question.after {
+    } else if by < after {
         "--by is before --after"
     } else {
         "a clock is past 555555:33:19, the last second that an image can have"

@@ -1,69 +1,114 @@
 //! `csa departures IMAGE --to STOP_ID --after .. --until .. --by .. --criterion NAME [--from FILE]
-//! [--summary | --no-journeys]`.
+//! [--summary | [--json] [--no-journeys]]`.
 
-ghost use Rattle.std.specs.Prelude.{◌≡◌, ◌≢◌, ◌<◌};
-ghost use Rattle.profile_scan.specs.Destinations.{CanBeAsked};
-ghost use Rattle.profile_scan.specs.Everywhere.{AnswerAll, destination_of};
+ghost use Rattle.std.specs.Prelude.{◌≡◌, ◌++◌, IfOk, MatchResult, OnOk, length, string_bytes};
+ghost use Rattle.profile_scan.specs.Destinations.{CanBeAsked, query_from};
+ghost use Rattle.profile_scan.specs.Window.{window};
+ghost use Rattle.command_requests.specs.declared.statuses.TheConstants.{ACCEPTED};
+ghost use Rattle.csa_program.specs.DeparturesOf.{AreAllPrinted, ArePrinted, AreShown, AreShownBy, AsksAll};
+ghost use Rattle.csa_program.specs.DeparturesOf.{IsNoDestination, last_line};
 
-use crate::asked::explain_end;
+use crate::asked::{explain_end, window_reason};
 use crate::explaining::explain;
-use crate::listing::{append_by_numbers, append_values};
-use crate::putting::{put_clock, put_number, put_text};
 use crate::refusal::Refusal;
 use crate::status;
+use crate::stop_json::append_json_counts;
+use crate::stop_lines::{Counts, Shown, append_stops};
 use crate::stop_lists::{ListFailure, Wanted};
-use answer_pictures::stop_name;
-use bags::Point;
+use crate::stop_words::append_counts;
 use command_requests::{DeparturesForm, DeparturesRequest};
 use criteria::{Arrival, ArrivalTrips, ArrivalTripsWalk, CriterionName, Told};
 use image_verifier::Verified;
-use journeys::departures_from;
-use profile_scan::{ConnSource, Destination, InPlace, Profiles, profiles_to};
+use profile_scan::{ConnSource, Destination, InPlace, profiles_to};
 use std::alloc::{AllocError, Global};
 use std::io::Write;
 use std::rt::Files;
 use timetable::QueryFault;
 
-/// Prints each best departure from every stop, or from those that are wanted, and then how many stops and departures
-/// that were, and how many connections were read.
+/// Prints each best departure from every stop, or from those that are wanted, and then how many
+/// stops and departures that were, and how many connections were read. A line of the file that
+/// names no stop is reported on standard error alone.
 pub fn run<H: Files + AllocGlobal, O: Write, E: Write>(
     rt: &H,
     image: &Verified,
     request: DeparturesRequest<'_>,
     output: &mut O,
     errors: &mut E,
-) -> u8 {
+) -> u8
+    ensures { result ≡ ACCEPTED
+        → AreAllPrinted image.now request.entry (O.contents output.old) (O.contents output.new) }
+{
     let destination = match destination_asked(image, &request) {
         Ok(destination) => destination,
         Err(fault) => {
-            explain_end(image, "--to", request.to, errors);
+            explain_fault(image, &request, fault, errors);
             return status::tell_refusal(rt.alloc(), output, &Refusal::Query(fault));
         }
     };
-    let wanted = match Wanted::read(rt, image, request.from) {
-        Ok(wanted) => wanted,
-        Err(failure) => return tell_failure(rt, request, failure, output, errors),
-    };
-    let text = text_by_name(rt.alloc(), image, &destination, request, &wanted);
-    status::write_line(output, text, status::ACCEPTED)
+    match Wanted::read(rt, image, request.from) {
+        Ok(wanted) => print_all(rt.alloc(), image, &destination, request, &wanted, output),
+        Err(failure) => explain_list(rt, request, failure, errors),
+    }
 }
 
-// Reports why it isn't known of which stops departures are wanted.
-fn tell_failure<H: Files + AllocGlobal, O: Write, E: Write>(
+// Prints the text that answers.
+fn print_all<O: Write>(
+    alloc: Global,
+    image: &Verified,
+    destination: &Destination,
+    request: DeparturesRequest<'_>,
+    wanted: &Wanted,
+    output: &mut O,
+) -> u8
+    requires { CanBeAsked image.now.timetable.stops destination.now }
+    ensures { result ≡ ACCEPTED → ArePrinted request.entry.criterion request.entry.form image.now destination.now
+        wanted.now
+        (O.contents output.old) (O.contents output.new) }
+{
+    match text_by_name(alloc, image, destination, request, wanted) {
+        Ok(text) => status::write_text(output, text.as_str(), status::ACCEPTED),
+        Err(_) => status::OUT_OF_MEMORY,
+    }
+}
+
+// Says what is wrong with a question of all stops: that the target is no stop of the image, or
+// which clock is before another.
+fn explain_fault<E: Write>(
+    image: &Verified,
+    request: &DeparturesRequest<'_>,
+    fault: QueryFault,
+    errors: &mut E,
+) {
+    match fault {
+        QueryFault::UnknownStop | QueryFault::SameStop => {
+            explain_end(image, "--to", request.to, errors);
+        }
+        QueryFault::BadWindow => {
+            let reason = window_reason(request.after, request.until, request.by);
+            explain(errors, &["csa: ", reason]);
+        }
+    }
+}
+
+// Says why it isn't known of which stops departures are wanted; the status.
+fn explain_list<H: Files + AllocGlobal, E: Write>(
     rt: &H,
     request: DeparturesRequest<'_>,
     failure: ListFailure,
-    output: &mut O,
     errors: &mut E,
-) -> u8 {
+) -> u8
+    ensures { result ≡ ACCEPTED → ⊥ }
+{
     let path = request.from.unwrap_or("");
     match failure {
         ListFailure::UnknownStop(line) => {
             explain_line(rt.alloc(), path, line, errors);
-            let refusal = Refusal::Query(QueryFault::UnknownStop);
-            status::tell_refusal(rt.alloc(), output, &refusal)
+            status::REFUSED
         }
-        ListFailure::Unreadable => status::tell_unread(rt, errors, path),
+        ListFailure::Unreadable => {
+            status::tell_unread(rt, errors, path);
+            status::INPUT_OUTPUT
+        }
         ListFailure::OutOfMemory => status::OUT_OF_MEMORY,
     }
 }
@@ -79,7 +124,9 @@ fn explain_line<E: Write>(alloc: Global, path: &str, line: usize, errors: &mut E
 fn destination_asked(
     image: &Verified,
     request: &DeparturesRequest<'_>,
-) -> Result<Destination, QueryFault> {
+) -> Result<Destination, QueryFault>
+    ensures { MatchResult result (AsksAll image.now request.now) (IsNoDestination image.now request.now) }
+{
     let Some(target) = image.find(request.to.as_bytes()) else {
         return Err(QueryFault::UnknownStop);
     };
@@ -104,6 +151,9 @@ fn text_by_name(
     wanted: &Wanted,
 ) -> Result<String, AllocError>
     requires { CanBeAsked image.now.timetable.stops destination.now }
+    ensures { IfOk result (λ text. AreShownBy request.entry.criterion request.entry.form image.now destination.now
+        wanted.now
+        (string_bytes text)) }
 {
     let form = request.form;
     match request.criterion {
@@ -117,22 +167,6 @@ fn text_by_name(
     }
 }
 
-// What is printed: of an image the answers from every stop.
-#[derive(Clone, Copy)]
-struct Shown<'a, C: Told> {
-    alloc: Global,
-    image: &'a Verified,
-    criterion: &'a C,
-    profiles: &'a Profiles<C>,
-}
-
-// How many stops have departures, and how many these are.
-#[derive(Clone, Copy)]
-struct Counts {
-    stops: usize,
-    points: usize,
-}
-
 // The text that answers. All stops are answered by one scan, over the image where it is.
 fn text_by<C: Told>(
     alloc: Global,
@@ -143,10 +177,11 @@ fn text_by<C: Told>(
     wanted: &Wanted,
 ) -> Result<String, AllocError>
     requires { CanBeAsked image.now.timetable.stops destination.now }
+    ensures { IfOk result (λ text. AreShown C.told (C.rules criterion.now) form image.now destination.now wanted.now
+        (string_bytes text)) }
 {
     let mut source = InPlace::new(image);
-    let end = source.first_at(destination.by);
-    let read = end.saturating_sub(source.first_at(destination.from));
+    let read = connections_read(&source, destination);
     let profiles = profiles_to(alloc, &mut source, criterion, destination)?;
     let shown = Shown {
         alloc,
@@ -155,120 +190,35 @@ fn text_by<C: Told>(
         profiles: &profiles,
     };
     let mut lines = String::new(alloc);
-    let mut counts = Counts {
-        stops: 0,
-        points: 0,
-    };
-    for stop in 0..image.stops() {
-        if stop != destination.target && wanted.has(stop) {
-            append_stop(&mut lines, &shown, form, stop)?;
-            counts = counted(counts, profiles.points(stop).len());
-        }
-    }
-    append_counts(&mut lines, counts, read)?;
+    let counts = append_stops(&mut lines, &shown, form, wanted)?;
+    append_last(&mut lines, form, counts, read)?;
     Ok(lines)
 }
 
-// Adds the lines of a stop.
-fn append_stop<C: Told>(
-    lines: &mut String,
-    shown: &Shown<'_, C>,
-    form: DeparturesForm,
-    stop: u32,
-) -> Result<(), AllocError>
-    requires stop { stop < shown.now.image.now.timetable.stops }
-    requires differ { stop ≢ (destination_of shown.now.profiles.now).target }
-    requires answered { AnswerAll C.rules shown.now.image.now.timetable shown.now.profiles.now }
+// How many connections the window has.
+fn connections_read<S: ConnSource>(source: &S, destination: &Destination) -> usize
+    ensures { result ≡ length (window (S.timetable source.now) (query_from destination.now destination.now.target)) }
 {
-    let name = stop_name(shown.alloc, shown.image, stop)?;
-    let points = shown.profiles.points(stop);
-    match form {
-        DeparturesForm::Journeys => append_journeys(lines, shown, name.as_str(), stop),
-        DeparturesForm::Points => append_points(lines, shown.criterion, name.as_str(), points),
-        DeparturesForm::Summary => append_summary(lines, shown.criterion, name.as_str(), points),
-    }
-}
-
-// Adds a line for each departure, with its journey.
-fn append_journeys<C: Told>(
-    lines: &mut String,
-    shown: &Shown<'_, C>,
-    name: &str,
-    stop: u32,
-) -> Result<(), AllocError>
-    requires stop { stop < shown.now.image.now.timetable.stops }
-    requires differ { stop ≢ (destination_of shown.now.profiles.now).target }
-    requires answered { AnswerAll C.rules shown.now.image.now.timetable shown.now.profiles.now }
-{
-    let source = InPlace::new(shown.image);
-    let departures = departures_from(shown.alloc, &source, shown.profiles, stop)?;
-    for departure in &departures {
-        put_text(lines, name)?;
-        put_text(lines, " ")?;
-        append_by_numbers(lines, shown.alloc, shown.criterion, departure)?;
-    }
-    Ok(())
-}
-
-// Adds a line for each departure, without a journey.
-fn append_points<C: Told>(
-    lines: &mut String,
-    criterion: &C,
-    name: &str,
-    points: &[Point<C::V>],
-) -> Result<(), AllocError> {
-    for point in points {
-        put_text(lines, name)?;
-        put_text(lines, " ")?;
-        append_values(lines, point.departure, criterion.tell(&point.value))?;
-        put_text(lines, "\n")?;
-    }
-    Ok(())
-}
-
-// Adds a line for all departures, if there are some.
-fn append_summary<C: Told>(
-    lines: &mut String,
-    criterion: &C,
-    name: &str,
-    points: &[Point<C::V>],
-) -> Result<(), AllocError> {
-    let (Some(first), Some(last)) = (points.first(), points.last()) else {
-        return Ok(());
-    };
-    put_text(lines, name)?;
-    put_number(lines, " points ", points.len() as u64)?;
-    put_clock(lines, " first ", first.departure)?;
-    put_clock(lines, " last ", last.departure)?;
-    put_number(lines, " least ", u64::from(least_travel(criterion, points)))?;
-    put_text(lines, "\n")
-}
-
-// The least seconds from a departure to its arrival.
-fn least_travel<C: Told>(criterion: &C, points: &[Point<C::V>]) -> u32 {
-    let mut least = u32::MAX;
-    for point in points {
-        let arrival = criterion.tell(&point.value).arrival;
-        least = least.min(arrival.saturating_sub(point.departure));
-    }
-    least
-}
-
-// One stop more, with so many departures, if it has some.
-fn counted(counts: Counts, points: usize) -> Counts {
-    if points == 0 {
-        return counts;
-    }
-    Counts {
-        stops: counts.stops.saturating_add(1),
-        points: counts.points.saturating_add(points),
-    }
+    let end = source.first_at(destination.by);
+    end.saturating_sub(source.first_at(destination.from))
 }
 
 // Adds the last line.
-fn append_counts(lines: &mut String, counts: Counts, read: usize) -> Result<(), AllocError> {
-    put_number(lines, "stops ", counts.stops as u64)?;
-    put_number(lines, " points ", counts.points as u64)?;
-    put_number(lines, " read ", read as u64)?;
-    put_text(lines, "\n")
+fn append_last(
+    lines: &mut String,
+    form: DeparturesForm,
+    counts: Counts,
+    read: usize,
+) -> Result<(), AllocError>
+    ensures { OnOk result (string_bytes lines.new ≡ string_bytes lines.old
+        ++ last_line form counts.stops counts.points read) }
+{
+    match form {
+        DeparturesForm::Json | DeparturesForm::JsonPoints => {
+            append_json_counts(lines, counts.stops, counts.points, read)
+        }
+        DeparturesForm::Journeys | DeparturesForm::Points | DeparturesForm::Summary => {
+            append_counts(lines, counts.stops, counts.points, read)
+        }
+    }
 }

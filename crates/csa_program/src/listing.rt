@@ -147,7 +147,7 @@ pub fn append_times(lines: &mut String, departure: u32, arrival: u32) -> Result<
 }
 
 /// Adds a word and a number, if there is one.
-fn append_number(lines: &mut String, word: &str, number: Option<u32>) -> Result<(), AllocError>
+pub fn append_number(lines: &mut String, word: &str, number: Option<u32>) -> Result<(), AllocError>
     ensures { OnOk result (string_bytes lines.new ≡ string_bytes lines.old ++ number_if_some word.now number) }
 {
     match number {
@@ -179,7 +179,8 @@ fn append_end(
     Ok(())
 }
 
-fn append_direct(lines: &mut String, walk: Option<u32>) -> Result<(), AllocError>
+/// Adds the seconds of the direct footpath, if there is one.
+pub fn append_direct(lines: &mut String, walk: Option<u32>) -> Result<(), AllocError>
     ensures { OnOk result (string_bytes lines.new ≡ string_bytes lines.old ++ walk_word walk) }
 {
     match walk {

@@ -1,5 +1,10 @@
 //! Files that name stops, a stop_id a line.
 
+ghost use Rattle.std.specs.Prelude.{◌≡◌, ◌<◌, ◌+◌, ℕ, true, false, IfOk, IfErr, length, option_unwrap_or, replicate};
+ghost use Rattle.std.specs.Prelude.{set, slice_get};
+ghost use Rattle.csa_program.specs.DeparturesOf.{AreMarked, IsUnknownLine};
+ghost use Rattle.csa_program.specs.declared.stop_lists.ListFailure.TheVariants.{UnknownStop};
+
 use image_verifier::Verified;
 use std::alloc::{AllocError, Global};
 use std::fs;
@@ -11,7 +16,7 @@ use std::rt::Files;
 pub enum Wanted {
     All,
     /// For each stop whether it is.
-    Some(Vec<bool>),
+    Of(Vec<bool>),
 }
 
 /// Why it isn't known which stops are wanted.
@@ -23,12 +28,24 @@ pub enum ListFailure {
     OutOfMemory,
 }
 
+impl From<AllocError> for ListFailure {
+    fn from(_error: AllocError) -> ListFailure {
+        ListFailure::OutOfMemory
+    }
+}
+
 impl Wanted {
+    ghost use Rattle.std.specs.Prelude.{◌≡◌, None, IfOk};
+    ghost use Rattle.csa_program.specs.DeparturesOf.{is_wanted};
+    ghost use Rattle.csa_program.specs.declared.stop_lists.Wanted.TheVariants.{All};
+
     /// Whether a stop is wanted.
-    pub fn has(&self, stop: u32) -> bool {
+    pub fn has(&self, stop: u32) -> bool
+        ensures { result ≡ is_wanted self.now stop }
+    {
         match self {
             Wanted::All => true,
-            Wanted::Some(marks) => marks.get(stop as usize).copied().unwrap_or(false),
+            Wanted::Of(marks) => is_marked(marks, stop),
         }
     }
 
@@ -37,68 +54,75 @@ impl Wanted {
         rt: &H,
         image: &Verified,
         path: Option<&str>,
-    ) -> Result<Wanted, ListFailure> {
-        let Some(path) = path else {
-            return Ok(Wanted::All);
-        };
-        match fs::read(rt, path) {
-            Ok(bytes) => Ok(Wanted::Some(marks_of(rt.alloc(), image, &bytes)?)),
-            Err(error) => match error.kind() {
-                ErrorKind::OutOfMemory => Err(ListFailure::OutOfMemory),
-                _ => Err(ListFailure::Unreadable),
-            },
+    ) -> Result<Wanted, ListFailure>
+        ensures { IfOk result (λ wanted. path.entry ≡ None → wanted ≡ All) }
+    {
+        match path {
+            None => Ok(Wanted::All),
+            Some(path) => read_marks(rt, image, path),
         }
     }
 }
 
-impl From<AllocError> for ListFailure {
-    fn from(_error: AllocError) -> ListFailure {
-        ListFailure::OutOfMemory
+fn is_marked(marks: &[bool], stop: u32) -> bool
+    ensures { result ≡ option_unwrap_or (slice_get marks.now stop) false }
+{
+    match marks.get(stop as usize) {
+        Some(mark) => *mark,
+        None => false,
     }
 }
 
-// For each stop whether a line is its stop_id. A line ends with a line feed, the last one may lack it.
-fn marks_of(alloc: Global, image: &Verified, bytes: &[u8]) -> Result<Vec<bool>, ListFailure> {
+fn read_marks<H: Files + AllocGlobal>(
+    rt: &H,
+    image: &Verified,
+    path: &str,
+) -> Result<Wanted, ListFailure> {
+    match fs::read_to_string(rt, path) {
+        Ok(text) => Ok(Wanted::Of(marks_of(rt.alloc(), image, text.as_str())?)),
+        Err(error) => match error.kind() {
+            ErrorKind::OutOfMemory => Err(ListFailure::OutOfMemory),
+            _ => Err(ListFailure::Unreadable),
+        },
+    }
+}
+
+// For each stop whether a line is its stop_id; or the first line that is none.
+fn marks_of(alloc: Global, image: &Verified, text: &str) -> Result<Vec<bool>, ListFailure>
+    ensures marks { IfOk result (λ marks. AreMarked image.now.names text.now marks.items) }
+    ensures unknown { IfErr result (λ failure. (number : ℕ) → failure ≡ UnknownStop number
+        → IsUnknownLine image.now.names text.now number) }
+{
     let mut marks = no_marks(alloc, image.stops() as usize)?;
-    let mut line = Vec::new(alloc);
-    let mut number: usize = 1;
-    for byte in bytes {
-        if *byte == b'\n' {
-            mark(image, &line, number, &mut marks)?;
-            line.clear();
-            number = number.saturating_add(1);
-        } else {
-            add(&mut line, *byte)?;
+    let mut number: usize = 0;
+    for line in text.lines() {
+        number = next_of(number)?;
+        match image.find(line.as_bytes()) {
+            None => return Err(ListFailure::UnknownStop(number)),
+            Some(stop) => mark(&mut marks, stop as usize),
         }
-    }
-    if line.len() > 0 {
-        mark(image, &line, number, &mut marks)?;
     }
     Ok(marks)
 }
 
-fn add(line: &mut Vec<u8>, byte: u8) -> Result<(), AllocError> {
-    line.push(byte)?;
-    Ok(())
+fn next_of(number: usize) -> Result<usize, AllocError>
+    ensures { IfOk result (λ next. next ≡ number + 1) }
+{
+    match number.checked_add(1) {
+        Some(next) => Ok(next),
+        None => Err(AllocError),
+    }
 }
 
-fn no_marks(alloc: Global, stops: usize) -> Result<Vec<bool>, AllocError> {
+fn no_marks(alloc: Global, stops: usize) -> Result<Vec<bool>, AllocError>
+    ensures { IfOk result (λ marks. marks.items ≡ replicate stops false) }
+{
     vec![in alloc; false; stops]
 }
 
-// Marks the stop of a stop_id.
-fn mark(
-    image: &Verified,
-    name: &[u8],
-    number: usize,
-    marks: &mut Vec<bool>,
-) -> Result<(), ListFailure> {
-    let Some(stop) = image.find(name) else {
-        return Err(ListFailure::UnknownStop(number));
-    };
-    let place = stop as usize;
-    if place < marks.len() {
-        marks[place] = true;
-    }
-    Ok(())
+fn mark(marks: &mut Vec<bool>, stop: usize)
+    requires { stop < length marks.old.items }
+    ensures { marks.new.items ≡ set marks.old.items stop true }
+{
+    marks[stop] = true;
 }

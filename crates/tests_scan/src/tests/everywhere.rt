@@ -288,7 +288,7 @@ fn random_words(alloc: Global, dice: &mut Dice) -> Result<Vec<u32>, AllocError> 
 fn as_each_stop_alone_over_random_images(rt: HostRuntime) -> Result<(), Fail> {
     let alloc = rt.alloc();
     let mut dice = Dice(40);
-    for _image in 0..40 {
+    for _image in 0..12 {
         let words = random_words(alloc, &mut dice)?;
         let from = 28800 + 60 * dice.roll(20);
         let until = from + 60 * dice.roll(30);
