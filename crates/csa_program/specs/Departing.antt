@@ -29,7 +29,7 @@ pub record IsLeast (numbers : List ℕ) (least : ℕ) : Type 0 where
 
 unfoldable pub sum_words : List ℕ → ℕ → ℕ → ℕ → List ℕ
 sum_words name count first last =
-    (name ++ codes " points " ++ decimal count) ++ (codes " first " ++ clock_bytes first) ++ (codes " last " ++ clock_bytes last)
+    name ++ (codes " points " ++ decimal count) ++ (codes " first " ++ clock_bytes first) ++ (codes " last " ++ clock_bytes last)
 
 unfoldable pub sum_line : List ℕ → ℕ → ℕ → ℕ → ℕ → Option ℕ → List ℕ
 sum_line name count first last least walk =
@@ -69,10 +69,12 @@ counts_json told = number_if_some (codes ",\"trips\":") told.trips ++ number_if_
 unfoldable pub point_json : {V : Type 0} → (V → ToldValue) → Point V → List ℕ
 point_json told point = times_json point.departure (told point.value).arrival ++ counts_json (told point.value)
 
+unfoldable pub journey_member : List ℕ → List ℕ
+journey_member journey = codes ",\"journey\":\"" ++ journey ++ codes "\""
+
 unfoldable pub journey_json : {V : Type 0} → (V → ToldValue) → Departure V → List ℕ
 journey_json told departure =
-    times_json departure.time (told departure.value).arrival ++ (codes ",\"journey\":\"" ++ text_of departure.journey ++ codes "\"")
-    ++ counts_json (told departure.value)
+    times_json departure.time (told departure.value).arrival ++ journey_member (text_of departure.journey) ++ counts_json (told departure.value)
 
 -- a comma before each text but the first
 abbrev pub comma_before : ℕ → List ℕ

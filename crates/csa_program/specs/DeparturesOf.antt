@@ -1,8 +1,8 @@
 -- What `csa departures` prints of an image.
-use Rattle.std.specs.Prelude.{◌≡◌, ◌↔◌, ◌⊎◌, ℕ, Bool, true, not, ◌&&◌, ◌==◌, List, [], ◌++◌, Option, None, Some, String, Contains, filter, length, map}
+use Rattle.std.specs.Prelude.{◌≡◌, ◌≢◌, ◌<◌, ◌↔◌, ◌⊎◌, ℕ, Bool, true, not, ◌&&◌, ◌==◌, List, [], ◌++◌, Option, None}
+use Rattle.std.specs.Prelude.{Some, String, Contains, filter, length, map}
 use Rattle.std.specs.Prelude.{min, suc, slice_get, string_bytes, option_unwrap_or}
 use Rattle.std.specs.List.{AllZip, flat_map, range_with_len, sum_by}
-use Rattle.std.specs.Str.Lines.{lines}
 use Rattle.std.specs.Io.KnownBytes.{Appends}
 use Rattle.criteria.specs.Laws.{Rules}
 use Rattle.criteria.specs.declared.name.CriterionName.{CriterionName}
@@ -12,18 +12,18 @@ use Rattle.timetable.specs.NamesValue.{NamesValue}
 use Rattle.timetable.specs.TimetableValue.{TimetableValue}
 use Rattle.timetable.specs.declared.query.Query.{Query}
 use Rattle.timetable.specs.declared.query.QueryFault.{QueryFault}
-use Rattle.timetable.specs.declared.query.QueryFault.TheVariants.{UnknownStop, SameStop, BadWindow}
 use Rattle.image_layout.specs.Image.{ImageValue}
 use Rattle.answer_pictures.specs.Naming.{stop_bytes}
-use Rattle.profile_scan.specs.Destinations.{CanBeAsked, IsDestinationFault, query_from}
+use Rattle.profile_scan.specs.Destinations.{query_from}
 use Rattle.profile_scan.specs.Kept.{IsWay}
 use Rattle.profile_scan.specs.Points.{IsAnswer}
 use Rattle.profile_scan.specs.Window.{window}
 use Rattle.profile_scan.specs.declared.destination.Destination.{Destination}
 use Rattle.journeys.specs.Answer.{point_of}
 use Rattle.journeys.specs.Extracted.{Attains}
-use Rattle.journeys.specs.Questions.{IsNamed, NamesNone}
+use Rattle.journeys.specs.Questions.{AsksAll, IsNamed, IsRefusedOfAll, NamesNone}
 use Rattle.journeys.specs.declared.answering.Departure.{Departure}
+use Rattle.journeys.specs.declared.question.Window.{Window}
 use Rattle.session.specs.Valuing.{arrival_told, by_arrival, by_trips, by_walking, trips_told, walking_told}
 use Rattle.command_requests.specs.declared.requests.DeparturesForm.{DeparturesForm}
 use Rattle.command_requests.specs.declared.requests.DeparturesRequest.{DeparturesRequest}
@@ -124,32 +124,23 @@ AreShownBy CriterionName.Arrival form image d wanted printed = AreShown arrival_
 AreShownBy CriterionName.ArrivalTrips form image d wanted printed = AreShown trips_told by_trips form image d wanted printed
 AreShownBy CriterionName.ArrivalTripsWalk form image d wanted printed = AreShown walking_told by_walking form image d wanted printed
 
--- a file names stops: each of its lines is a stop_id, and a stop is wanted exactly if it is the least of the stop_id of a line
-pub record AreMarked (names : NamesValue) (text : List ℕ) (marks : List Bool) : Type 0 where
-  pub all_named : (line : List ℕ) → Contains (lines text) line → (stop : ℕ) × IsNamed names line stop
-  pub exactly : (stop : ℕ) → (slice_get marks stop ≡ Some true) ↔ ((line : List ℕ) × Contains (lines text) line × IsNamed names line stop)
+-- names of stops: each is a stop_id, and a stop is marked exactly if it is the least of one of the names
+pub record AreMarked (names : NamesValue) (wanted : List (List ℕ)) (marks : List Bool) : Type 0 where
+  pub all_named : (name : List ℕ) → Contains wanted name → (stop : ℕ) × IsNamed names name stop
+  pub exactly : (stop : ℕ) → (slice_get marks stop ≡ Some true) ↔ ((name : List ℕ) × Contains wanted name × IsNamed names name stop)
 
--- the line of a number, from 1 on, is the first that is no stop_id
-pub record IsUnknownLine (names : NamesValue) (text : List ℕ) (number : ℕ) : Type 0 where
+-- the name of a number, from 1 on, is no stop_id, and those before it are
+pub record IsUnknownLine (names : NamesValue) (wanted : List (List ℕ)) (number : ℕ) : Type 0 where
   pub place : ℕ
-  pub line : List ℕ
+  pub name : List ℕ
   pub numbered : number ≡ suc place
-  pub stands : slice_get (lines text) place ≡ Some line
-  pub unknown : NamesNone names line
+  pub stands : slice_get wanted place ≡ Some name
+  pub unknown : NamesNone names name
+  pub before : (k : ℕ) (other : List ℕ) → k < place → slice_get wanted k ≡ Some other → (stop : ℕ) × IsNamed names other stop
 
--- what is asked of every stop
-pub record AsksAll (image : ImageValue) (request : DeparturesRequest) (d : Destination) : Type 0 where
-  pub target : IsNamed image.names request.to.now d.target
-  pub times : (d.from ≡ request.after) × (d.until ≡ request.until) × (d.by ≡ request.by)
-  pub can_be : CanBeAsked image.timetable.stops d
-
--- why nothing is: no stop has the name of the target, or the window is bad
-abbrev pub IsNoDestination : ImageValue → DeparturesRequest → QueryFault → Type 0
-IsNoDestination image request UnknownStop = NamesNone image.names request.to.now
-IsNoDestination image request SameStop = ⊥
-IsNoDestination image request BadWindow =
-    (d : Destination) × IsNamed image.names request.to.now d.target × ((d.from ≡ request.after) × (d.until ≡ request.until) × (d.by ≡ request.by))
-    × IsDestinationFault image.timetable.stops d BadWindow
+-- when one travels, as the command line asks it
+abbrev pub window_asked : DeparturesRequest → Window
+window_asked request = record { from = request.after; until = request.until; by = request.by }
 
 -- the departures from the stops that are wanted were added to what was printed before, and nothing else
 abbrev pub ArePrinted : CriterionName → DeparturesForm → ImageValue → Destination → Wanted → Option (List ℕ) → Option (List ℕ) → Type 0
@@ -159,5 +150,10 @@ ArePrinted criterion form image d wanted before after =
 -- those of what is asked: from every stop, if no file names some
 abbrev pub AreAllPrinted : ImageValue → DeparturesRequest → Option (List ℕ) → Option (List ℕ) → Type 0
 AreAllPrinted image request before after =
-    (d : Destination) × (wanted : Wanted) × AsksAll image request d × (request.from ≡ None → wanted ≡ All)
+    (d : Destination) × (wanted : Wanted) × AsksAll image.names request.to.now (window_asked request) d × (request.from ≡ None → wanted ≡ All)
     × ArePrinted request.criterion request.form image d wanted before after
+
+-- nothing is asked of the image, for a fault; or else a file names the stops, and isn't read or has a line that is no stop_id
+abbrev pub IsNoneAsked : ImageValue → DeparturesRequest → Type 0
+IsNoneAsked image request =
+    ((fault : QueryFault) × IsRefusedOfAll image request.to.now (window_asked request) fault) ⊎ (request.from ≢ None)

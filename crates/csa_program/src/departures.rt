@@ -1,12 +1,12 @@
 //! `csa departures IMAGE --to STOP_ID --after .. --until .. --by .. --criterion NAME [--from FILE]
 //! [--summary | [--json] [--no-journeys]]`.
 
-ghost use Rattle.std.specs.Prelude.{◌≡◌, ◌++◌, IfOk, MatchResult, OnOk, length, string_bytes};
-ghost use Rattle.profile_scan.specs.Destinations.{CanBeAsked, query_from};
-ghost use Rattle.profile_scan.specs.Window.{window};
-ghost use Rattle.command_requests.specs.declared.statuses.TheConstants.{ACCEPTED};
-ghost use Rattle.csa_program.specs.DeparturesOf.{AreAllPrinted, ArePrinted, AreShown, AreShownBy, AsksAll};
-ghost use Rattle.csa_program.specs.DeparturesOf.{IsNoDestination, last_line};
+ghost use Rattle.std.specs.Prelude.{◌≡◌, ◌≢◌, ◌++◌, IfOk, MatchResult, OnOk, string_bytes};
+ghost use Rattle.profile_scan.specs.Destinations.{CanBeAsked};
+ghost use Rattle.journeys.specs.Questions.{AsksAll, IsRefusedOfAll};
+ghost use Rattle.command_requests.specs.declared.statuses.TheConstants.{ACCEPTED, REFUSED};
+ghost use Rattle.csa_program.specs.DeparturesOf.{AreAllPrinted, ArePrinted, AreShown, AreShownBy};
+ghost use Rattle.csa_program.specs.DeparturesOf.{IsNoneAsked, last_line, window_asked};
 
 use crate::asked::{explain_end, window_reason};
 use crate::explaining::explain;
@@ -19,7 +19,8 @@ use crate::stop_words::append_counts;
 use command_requests::{DeparturesForm, DeparturesRequest};
 use criteria::{Arrival, ArrivalTrips, ArrivalTripsWalk, CriterionName, Told};
 use image_verifier::Verified;
-use profile_scan::{ConnSource, Destination, InPlace, profiles_to};
+use journeys::{Window, destination_named, window_len};
+use profile_scan::{Destination, InPlace, profiles_to};
 use std::alloc::{AllocError, Global};
 use std::io::Write;
 use std::rt::Files;
@@ -35,8 +36,9 @@ pub fn run<H: Files + AllocGlobal, O: Write, E: Write>(
     output: &mut O,
     errors: &mut E,
 ) -> u8
-    ensures { result ≡ ACCEPTED
+    ensures printed { result ≡ ACCEPTED
         → AreAllPrinted image.now request.entry (O.contents output.old) (O.contents output.new) }
+    ensures refused { result ≡ REFUSED → IsNoneAsked image.now request.entry }
 {
     let destination = match destination_asked(image, &request) {
         Ok(destination) => destination,
@@ -61,9 +63,11 @@ fn print_all<O: Write>(
     output: &mut O,
 ) -> u8
     requires { CanBeAsked image.now.timetable.stops destination.now }
-    ensures { result ≡ ACCEPTED → ArePrinted request.entry.criterion request.entry.form image.now destination.now
+    ensures printed { result ≡ ACCEPTED → ArePrinted request.entry.criterion request.entry.form image.now
+        destination.now
         wanted.now
         (O.contents output.old) (O.contents output.new) }
+    ensures not_refused { result ≢ REFUSED }
 {
     match text_by_name(alloc, image, destination, request, wanted) {
         Ok(text) => status::write_text(output, text.as_str(), status::ACCEPTED),
@@ -97,7 +101,7 @@ fn explain_list<H: Files + AllocGlobal, E: Write>(
     failure: ListFailure,
     errors: &mut E,
 ) -> u8
-    ensures { result ≡ ACCEPTED → ⊥ }
+    ensures { result ≢ ACCEPTED }
 {
     let path = request.from.unwrap_or("");
     match failure {
@@ -125,21 +129,17 @@ fn destination_asked(
     image: &Verified,
     request: &DeparturesRequest<'_>,
 ) -> Result<Destination, QueryFault>
-    ensures { MatchResult result (AsksAll image.now request.now) (IsNoDestination image.now request.now) }
+    ensures { MatchResult result
+        (λ d. CanBeAsked image.now.timetable.stops d
+        × AsksAll image.now.names request.now.to.now (window_asked request.now) d)
+        (IsRefusedOfAll image.now request.now.to.now (window_asked request.now)) }
 {
-    let Some(target) = image.find(request.to.as_bytes()) else {
-        return Err(QueryFault::UnknownStop);
-    };
-    let destination = Destination {
-        target,
+    let window = Window {
         from: request.after,
         until: request.until,
         by: request.by,
     };
-    match destination.check(image.stops()) {
-        Ok(()) => Ok(destination),
-        Err(fault) => Err(fault),
-    }
+    destination_named(image, request.to.as_bytes(), window)
 }
 
 // The text that answers, by the criterion of a name.
@@ -181,7 +181,7 @@ fn text_by<C: Told>(
         (string_bytes text)) }
 {
     let mut source = InPlace::new(image);
-    let read = connections_read(&source, destination);
+    let read = window_len(&source, &destination.query_from(destination.target));
     let profiles = profiles_to(alloc, &mut source, criterion, destination)?;
     let shown = Shown {
         alloc,
@@ -193,14 +193,6 @@ fn text_by<C: Told>(
     let counts = append_stops(&mut lines, &shown, form, wanted)?;
     append_last(&mut lines, form, counts, read)?;
     Ok(lines)
-}
-
-// How many connections the window has.
-fn connections_read<S: ConnSource>(source: &S, destination: &Destination) -> usize
-    ensures { result ≡ length (window (S.timetable source.now) (query_from destination.now destination.now.target)) }
-{
-    let end = source.first_at(destination.by);
-    end.saturating_sub(source.first_at(destination.from))
 }
 
 // Adds the last line.

@@ -4,6 +4,7 @@ ghost use Rattle.std.specs.Prelude.{◌≡◌, ◌++◌, IfOk, OnOk, map, string
 ghost use Rattle.serde_json.specs.Data.{string};
 ghost use Rattle.serde_json.specs.Written.{compact_text};
 ghost use Rattle.csa_program.specs.Departing.{comma_before, counts_json, counts_json_line, journey_json};
+ghost use Rattle.csa_program.specs.Departing.{journey_member};
 ghost use Rattle.csa_program.specs.Departing.{json_head, json_if_some, json_tail, point_json, times_json};
 ghost use Rattle.csa_program.specs.Departing.{walk_json, with_commas};
 
@@ -147,10 +148,18 @@ fn append_journey<C: Told>(
     let told = criterion.tell(&departure.value);
     let journey = journey_string(alloc, &departure.journey)?;
     append_times(lines, departure.time, told.arrival)?;
-    put_text(lines, ",\"journey\":\"")?;
-    put_text(lines, journey.as_str())?;
-    put_text(lines, "\"")?;
+    append_member(lines, journey.as_str())?;
     append_counts(lines, told)?;
+    Ok(())
+}
+
+// A journey's text has nothing that JSON escapes.
+fn append_member(lines: &mut String, journey: &str) -> Result<(), AllocError>
+    ensures { OnOk result (string_bytes lines.new ≡ string_bytes lines.old ++ journey_member journey.now) }
+{
+    put_text(lines, ",\"journey\":\"")?;
+    put_text(lines, journey)?;
+    put_text(lines, "\"")?;
     Ok(())
 }
 

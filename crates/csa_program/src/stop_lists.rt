@@ -1,6 +1,8 @@
 //! Files that name stops, a stop_id a line.
 
-ghost use Rattle.std.specs.Prelude.{◌≡◌, ◌<◌, ◌+◌, ℕ, true, false, IfOk, IfErr, length, option_unwrap_or, replicate};
+ghost use Rattle.std.specs.Prelude.{◌≡◌, ◌<◌, ◌+◌, ℕ, true, false, IfOk, IfErr, length, map, option_unwrap_or};
+ghost use Rattle.std.specs.Prelude.{replicate};
+ghost use Rattle.std.specs.Str.Lines.{lines};
 ghost use Rattle.std.specs.Prelude.{set, slice_get};
 ghost use Rattle.csa_program.specs.DeparturesOf.{AreMarked, IsUnknownLine};
 ghost use Rattle.csa_program.specs.declared.stop_lists.ListFailure.TheVariants.{UnknownStop};
@@ -35,7 +37,7 @@ impl From<AllocError> for ListFailure {
 }
 
 impl Wanted {
-    ghost use Rattle.std.specs.Prelude.{◌≡◌, None, IfOk};
+    ghost use Rattle.std.specs.Prelude.{◌≡◌, ◌≢◌, None, IfOk, IfErr};
     ghost use Rattle.csa_program.specs.DeparturesOf.{is_wanted};
     ghost use Rattle.csa_program.specs.declared.stop_lists.Wanted.TheVariants.{All};
 
@@ -55,7 +57,8 @@ impl Wanted {
         image: &Verified,
         path: Option<&str>,
     ) -> Result<Wanted, ListFailure>
-        ensures { IfOk result (λ wanted. path.entry ≡ None → wanted ≡ All) }
+        ensures all { IfOk result (λ wanted. path.entry ≡ None → wanted ≡ All) }
+        ensures named { IfErr result (λ _. path.entry ≢ None) }
     {
         match path {
             None => Ok(Wanted::All),
@@ -89,35 +92,43 @@ fn read_marks<H: Files + AllocGlobal>(
 
 // For each stop whether a line is its stop_id; or the first line that is none.
 fn marks_of(alloc: Global, image: &Verified, text: &str) -> Result<Vec<bool>, ListFailure>
-    ensures marks { IfOk result (λ marks. AreMarked image.now.names text.now marks.items) }
+    ensures marks { IfOk result (λ marks. AreMarked image.now.names (lines text.now) marks.items) }
     ensures unknown { IfErr result (λ failure. (number : ℕ) → failure ≡ UnknownStop number
-        → IsUnknownLine image.now.names text.now number) }
+        → IsUnknownLine image.now.names (lines text.now) number) }
 {
-    let mut marks = no_marks(alloc, image.stops() as usize)?;
-    let mut number: usize = 0;
-    for line in text.lines() {
-        number = next_of(number)?;
-        match image.find(line.as_bytes()) {
-            None => return Err(ListFailure::UnknownStop(number)),
-            Some(stop) => mark(&mut marks, stop as usize),
-        }
-    }
-    Ok(marks)
+    let names = lines_of(alloc, text)?;
+    let marks = no_marks(alloc, image.stops() as usize)?;
+    marks_by(image, &names, marks)
 }
 
-fn next_of(number: usize) -> Result<usize, AllocError>
-    ensures { IfOk result (λ next. next ≡ number + 1) }
+fn lines_of(alloc: Global, text: &str) -> Result<Vec<&str>, AllocError>
+    ensures { IfOk result (λ names. map (λ name. name.now) names.items ≡ lines text.now) }
 {
-    match number.checked_add(1) {
-        Some(next) => Ok(next),
-        None => Err(AllocError),
-    }
+    text.lines().collect(alloc)
 }
 
 fn no_marks(alloc: Global, stops: usize) -> Result<Vec<bool>, AllocError>
     ensures { IfOk result (λ marks. marks.items ≡ replicate stops false) }
 {
     vec![in alloc; false; stops]
+}
+
+// Marks the stop of each name, of marks where none is marked.
+fn marks_by(image: &Verified, names: &[&str], marks: Vec<bool>) -> Result<Vec<bool>, ListFailure>
+    requires { marks.items ≡ replicate image.now.timetable.stops false }
+    ensures marks { IfOk result (λ all. AreMarked image.now.names (map (λ name. name.now) names.now) all.items) }
+    ensures unknown { IfErr result (λ failure. (number : ℕ) → failure ≡ UnknownStop number
+        → IsUnknownLine image.now.names (map (λ name. name.now) names.now) number) }
+{
+    let mut marks = marks;
+    for place in 0..names.len() {
+        let name = names[place];
+        match image.find(name.as_bytes()) {
+            None => return Err(ListFailure::UnknownStop(place + 1)),
+            Some(stop) => mark(&mut marks, stop as usize),
+        }
+    }
+    Ok(marks)
 }
 
 fn mark(marks: &mut Vec<bool>, stop: usize)

@@ -41,7 +41,8 @@ fn append_line<C: Told>(
 {
     put_text(lines, name)?;
     put_text(lines, " ")?;
-    append_by_numbers(lines, alloc, criterion, departure)
+    append_by_numbers(lines, alloc, criterion, departure)?;
+    Ok(())
 }
 
 /// Adds the line of each departure, without a journey.

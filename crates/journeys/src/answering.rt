@@ -62,8 +62,7 @@ pub fn answer_query<S: ConnSource, C: Criterion>(
     ensures err { OnErr result ((n : ℕ) × (S.log source.new ≡ S.log source.old
         ++ take n (reverse (window (S.timetable source.old) query.now)))) }
 {
-    let end = source.first_at(query.by);
-    let read = end.saturating_sub(source.first_at(query.from));
+    let read = window_len(source, query);
     let found = profile(alloc, source, criterion, query)?;
     let departures = departures_of(alloc, &found)?;
     Ok(Answer {
@@ -71,6 +70,14 @@ pub fn answer_query<S: ConnSource, C: Criterion>(
         walk: found.direct_walk(),
         read,
     })
+}
+
+/// How many connections the window of a query has.
+pub fn window_len<S: ConnSource>(source: &S, query: &Query) -> usize
+    ensures { result ≡ length (window (S.timetable source.now) query.now) }
+{
+    let end = source.first_at(query.by);
+    end.saturating_sub(source.first_at(query.from))
 }
 
 // The points of an answer, each with a journey.

@@ -16,10 +16,10 @@ mod text_fault;
 mod walks;
 mod way;
 
-pub use answering::{Answer, Departure, answer_query, departures_from};
+pub use answering::{Answer, Departure, answer_query, departures_from, window_len};
 pub use counts::{check, faultless_counts};
 pub use extraction::extract;
 pub use fault::JourneyFault;
-pub use question::{Window, query_of};
+pub use question::{Window, destination_named, query_of};
 pub use text::{journey_parse, journey_string, journey_text, one_text, plain_texts};
 pub use text_fault::TextFault;
