@@ -1,10 +1,10 @@
 //! The lines of all stops' best departures.
 
-ghost use Rattle.std.specs.Prelude.{◌≡◌, ◌≢◌, ◌<◌, ◌+◌, IfOk, string_bytes};
+ghost use Rattle.std.specs.Prelude.{◌≡◌, ◌≢◌, ◌<◌, ◌+◌, ℕ, List, true, IfOk, string_bytes};
 ghost use Rattle.command_requests.specs.declared.requests.DeparturesForm.{DeparturesForm};
 ghost use Rattle.profile_scan.specs.Destinations.{query_from};
 ghost use Rattle.profile_scan.specs.Everywhere.{AnswerAll, criterion_of_profiles, destination_of};
-ghost use Rattle.csa_program.specs.DeparturesOf.{AddsStops, ShowsStop, one_if_some};
+ghost use Rattle.csa_program.specs.DeparturesOf.{AddsStops, ShowsStop, is_shown, one_if_some};
 
 use crate::stop_json::{append_json, append_json_points};
 use crate::stop_lists::Wanted;
@@ -46,18 +46,50 @@ pub fn append_stops<C: Told>(
         (destination_of shown.now.profiles.now) wanted.now shown.now.image.now.timetable.stops
         (string_bytes lines.old) (string_bytes lines.new) counts) }
 {
-    let target = shown.profiles.destination().target;
     let mut counts = Counts {
         stops: 0,
         points: 0,
     };
     for stop in 0..shown.image.stops() {
-        if stop != target && wanted.has(stop) {
-            let points = append_stop(lines, shown, form, stop)?;
-            counts = counted(counts, points)?;
-        }
+        counts = append_next(lines, shown, form, wanted, stop, counts)?;
     }
     Ok(counts)
+}
+
+// Adds the lines of the next stop, if it is shown, and counts its departures.
+fn append_next<C: Told>(
+    lines: &mut String,
+    shown: &Shown<'_, C>,
+    form: DeparturesForm,
+    wanted: &Wanted,
+    stop: u32,
+    counts: Counts,
+) -> Result<Counts, AllocError>
+    requires stop { stop < shown.now.image.now.timetable.stops }
+    requires same { criterion_of_profiles shown.now.profiles.now ≡ shown.now.criterion.now }
+    requires answered { AnswerAll C.rules shown.now.image.now.timetable shown.now.profiles.now }
+    ensures { IfOk result (λ next. (before : List ℕ) → AddsStops C.told (C.rules shown.now.criterion.now) form shown.now.image.now
+        (destination_of shown.now.profiles.now) wanted.now stop before (string_bytes lines.old) counts
+        → AddsStops C.told (C.rules shown.now.criterion.now) form shown.now.image.now
+        (destination_of shown.now.profiles.now) wanted.now (stop + 1) before (string_bytes lines.new) next) }
+{
+    let target = shown.profiles.destination().target;
+    if !is_shown(wanted, target, stop) {
+        return Ok(counts);
+    }
+    let points = append_stop(lines, shown, form, stop)?;
+    counted(counts, points)
+}
+
+// Whether a stop is wanted, and isn't the target.
+fn is_shown(wanted: &Wanted, target: u32, stop: u32) -> bool
+    ensures shown { result ≡ is_shown wanted.now target stop }
+    ensures differ { result ≡ true → stop ≢ target }
+{
+    if stop == target {
+        return false;
+    }
+    wanted.has(stop)
 }
 
 // One stop more, with so many departures, if it has some.

@@ -4,6 +4,7 @@
 
 mod answering;
 mod counts;
+mod destinations;
 mod ends;
 mod extraction;
 mod fault;
@@ -18,8 +19,9 @@ mod way;
 
 pub use answering::{Answer, Departure, answer_query, departures_from, window_len};
 pub use counts::{check, faultless_counts};
+pub use destinations::destination_named;
 pub use extraction::extract;
 pub use fault::JourneyFault;
-pub use question::{Window, destination_named, query_of};
+pub use question::{Window, query_of};
 pub use text::{journey_parse, journey_string, journey_text, one_text, plain_texts};
 pub use text_fault::TextFault;

@@ -2,11 +2,9 @@
 
 ghost use Rattle.std.specs.Prelude.{MatchResult};
 ghost use Rattle.timetable.specs.Queries.{IsAskable};
-ghost use Rattle.profile_scan.specs.Destinations.{CanBeAsked};
-ghost use Rattle.journeys.specs.Questions.{Asks, AsksAll, IsRefused, IsRefusedOfAll};
+ghost use Rattle.journeys.specs.Questions.{Asks, IsRefused};
 
 use image_verifier::Verified;
-use profile_scan::Destination;
 use timetable::{Query, QueryFault};
 
 /// When one travels, in seconds after the base.
@@ -49,34 +47,6 @@ pub fn query_of(
     };
     match query.check(image.stops()) {
         Ok(()) => Ok(query),
-        Err(fault) => Err(fault),
-    }
-}
-
-/// What asks, of an image, for journeys from every stop to the stop of a name. Where stops share a
-/// name, the least of them is meant. Names are compared byte by byte.
-///
-/// The error is `UnknownStop` where no stop has the name, else `BadWindow`.
-pub fn destination_named(
-    image: &Verified,
-    to: &[u8],
-    window: Window,
-) -> Result<Destination, QueryFault>
-    ensures { MatchResult result
-        (λ d. CanBeAsked image.now.timetable.stops d × AsksAll image.now.names to.now window d)
-        (IsRefusedOfAll image.now to.now window) }
-{
-    let Some(target) = image.find(to) else {
-        return Err(QueryFault::UnknownStop);
-    };
-    let destination = Destination {
-        target,
-        from: window.from,
-        until: window.until,
-        by: window.by,
-    };
-    match destination.check(image.stops()) {
-        Ok(()) => Ok(destination),
         Err(fault) => Err(fault),
     }
 }

@@ -3,7 +3,7 @@ use Rattle.profile_scan.specs.Destinations.{CanBeAsked, IsDestinationFault}
 use Rattle.profile_scan.specs.declared.destination.Destination.{Destination}
 use Rattle.journeys.specs.Questions.{AsksAll}
 use Rattle.journeys.proofs.QuestionLemmas.{refused_of_all}
-use Rattle.journeys.proofs.question.destination_named.Goals as goal
+use Rattle.journeys.proofs.destinations.destination_named.Goals as goal
 
 pub returns-in-Err : goal.returns-in-Err
 returns-in-Err c =
