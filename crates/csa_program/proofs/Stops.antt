@@ -6,21 +6,30 @@ use Rattle.std.specs.List.{AllZip, flat_map, range_with_len, sum_by}
 use Rattle.std.proofs.lemmas.Bool.{cases_eq, cases_lt, ne_eqb}
 use Rattle.std.proofs.lemmas.Bool.Decides.{eqb_tells}
 use Rattle.std.proofs.lemmas.Grind.{flat_map-append}
-use Rattle.std.proofs.lemmas.List.{append-nil, take_more}
-use Rattle.std.proofs.lemmas.List.Elements.{filter-append, Contains-push, Contains-push_cases}
+use Rattle.std.proofs.lemmas.List.{append-nil, length-map, take_more}
+use Rattle.std.proofs.lemmas.List.Elements.{filter-append, Contains-append_left, Contains-push, Contains-push_cases}
 use Rattle.std.proofs.lemmas.List.FromFn.{counting_more}
 use Rattle.std.proofs.lemmas.List.Sums.{sum_by-append}
 use Rattle.std.proofs.lemmas.Slice.Zip.{all_zipped_more}
-use Rattle.reasoning.proofs.ListLemmas.{not_in_nil, slice_get-set_same, slice_get-set_other}
+use Rattle.reasoning.proofs.ListLemmas.{not_in_nil, slice_get-replicate-is, slice_get-set_same, slice_get-set_other}
 use Rattle.criteria.specs.Laws.{Rules}
 use Rattle.criteria.specs.declared.told.ToldValue.{ToldValue}
 use Rattle.timetable.specs.NamesValue.{NamesValue}
 use Rattle.image_layout.specs.Image.{ImageValue}
 use Rattle.profile_scan.specs.Destinations.{query_from}
+use Rattle.profile_scan.specs.Points.{IsAnswer}
+use Rattle.profile_scan.specs.Everywhere.{AnswerAll, criterion_of_profiles, destination_of, listed_from, walk_from}
 use Rattle.profile_scan.specs.declared.destination.Destination.{Destination}
+use Rattle.profile_scan.specs.declared.profiles.Profiles.{Profiles}
+use Rattle.bags.specs.declared.point.Point.{Point}
+use Rattle.timetable.specs.TimetableValue.{TimetableValue}
+use Rattle.timetable.specs.declared.query.Query.{Query}
+use Rattle.journeys.specs.Answer.{point_of}
+use Rattle.journeys.specs.Extracted.{Attains}
+use Rattle.journeys.specs.declared.answering.Departure.{Departure}
 use Rattle.journeys.specs.Questions.{IsNamed, NamesNone}
 use Rattle.command_requests.specs.declared.requests.DeparturesForm.{DeparturesForm}
-use Rattle.csa_program.specs.DeparturesOf.{AddsStops, AreListed, AreMarked, IsShownFrom, IsUnknownLine, ShowsStop, is_shown, is_wanted, one_if_some, shown_stops}
+use Rattle.csa_program.specs.DeparturesOf.{AddsStops, AreMarked, HasJourneys, IsInForm, IsShownFrom, ShowsStop, is_shown, is_wanted, one_if_some, shown_stops}
 use Rattle.csa_program.specs.declared.stop_lines.Counts.{Counts}
 use Rattle.csa_program.specs.declared.stop_lists.Wanted.{Wanted}
 
@@ -129,10 +138,10 @@ none_marked names n marks is = record {
 }
   where
     never : (stop n : ℕ) → slice_get (replicate n false) stop ≡ Some true → ⊥
-    never stop n at = not_true (same_Some false true (sym (slice_get-replicate n stop false (slice_get_within (replicate n false) stop true at)) ∙ at))
+    never stop n at = not_false (slice_get-replicate-is n stop false true at)
 
-    not_true : false ≡ true → ⊥
-    not_true e = absurd (search rules)
+    not_false : true ≡ false → ⊥
+    not_false e = subst (λ (b : Bool). cond b Unit ⊥) e tt
 
 -- one name more
 pub name_marked : (names : NamesValue) (wanted : List (List ℕ)) (name : List ℕ) (stop : ℕ) (marks now : List Bool) → AreMarked names wanted marks
@@ -147,7 +156,7 @@ name_marked names wanted name stop marks now are named within is = record {
       | inl here ↦ (name, Contains-push wanted name, subst (IsNamed names name) (sym here) named)
       | inr other ↦
           let w = (are.exactly k).0 (sym (slice_get-set_other marks stop k true other) ∙ sym (ap (λ (xs : List Bool). slice_get xs k) is) ∙ marked) in
-          (w.0, Contains-before wanted name w.0 w.1, w.2)
+          (w.0, Contains-append_left wanted (name ∷ []) w.0 w.1, w.2)
     ]),
     (λ w. elim (cases_eq k stop) [
       | inl here ↦ ap (λ (xs : List Bool). slice_get xs k) is ∙ ap (slice_get (set marks stop true)) here ∙ slice_get-set_same marks stop true within
@@ -158,4 +167,64 @@ name_marked names wanted name stop marks now are named within is = record {
           ]
     ]),
   );
+}
+
+-- the text of a stop's points, without journeys
+pub points_shown : {K V : Type 0} {c : _} (rules_of : K → Rules V) (told : V → ToldValue) (form : DeparturesForm) (image : ImageValue)
+    (profiles : Profiles K V c) (criterion : K) (stop : ℕ) (points : List (Point V)) (text old new : List ℕ)
+    → stop < image.timetable.stops → stop ≢ (destination_of profiles).target → criterion_of_profiles profiles ≡ criterion
+    → AnswerAll rules_of image.timetable profiles → points ≡ listed_from profiles stop
+    → IsInForm told (rules_of criterion) form image (query_from (destination_of profiles) stop) points (walk_from profiles stop) text → new ≡ old ++ text
+    → ShowsStop told (rules_of criterion) form image (query_from (destination_of profiles) stop) old new (length points)
+points_shown {K} {V} {c} rules_of told form image profiles criterion stop points text old new lt other same all is in_form added =
+    let q = query_from (destination_of profiles) stop in
+    let from = all.each stop lt other in
+    record {
+      text = text;
+      added = added;
+      shown = record {
+        points = points;
+        walk = walk_from profiles stop;
+        answer = subst (λ (k : K). IsAnswer (rules_of k) image.timetable q points) same
+            (subst (λ (ps : List (Point V)). IsAnswer (rules_of (criterion_of_profiles profiles)) image.timetable q ps) (sym is) from.answer);
+        direct = from.direct;
+        counted = refl;
+        shown = in_form;
+      };
+    }
+
+-- the text of a stop's departures, with journeys
+pub journeys_shown : {K V : Type 0} {c : _} (rules_of : K → Rules V) (told : V → ToldValue) (form : DeparturesForm) (image : ImageValue)
+    (profiles : Profiles K V c) (criterion : K) (stop : ℕ) (departures : List (Departure V)) (text old new : List ℕ)
+    → stop < image.timetable.stops → stop ≢ (destination_of profiles).target → criterion_of_profiles profiles ≡ criterion
+    → AnswerAll rules_of image.timetable profiles
+    → IsAnswer (rules_of (criterion_of_profiles profiles)) image.timetable (query_from (destination_of profiles) stop) (map point_of departures)
+    → IsInForm told (rules_of criterion) form image (query_from (destination_of profiles) stop) (map point_of departures) (walk_from profiles stop) text
+    → new ≡ old ++ text
+    → ShowsStop told (rules_of criterion) form image (query_from (destination_of profiles) stop) old new (length departures)
+journeys_shown {K} {V} {c} rules_of told form image profiles criterion stop departures text old new lt other same all answer in_form added =
+    let q = query_from (destination_of profiles) stop in
+    record {
+      text = text;
+      added = added;
+      shown = record {
+        points = map point_of departures;
+        walk = walk_from profiles stop;
+        answer = subst (λ (k : K). IsAnswer (rules_of k) image.timetable q (map point_of departures)) same answer;
+        direct = (all.each stop lt other).direct;
+        counted = sym (length-map departures point_of);
+        shown = in_form;
+      };
+    }
+
+-- departures have journeys that attain them, by one criterion's rules and by the same one's
+pub has_journeys : {K V : Type 0} (rules_of : K → Rules V) (t : TimetableValue) (q : Query) (old criterion : K) (departures : List (Departure V))
+    (said : List (Departure V) → Type 0) → old ≡ criterion
+    → ((d : Departure V) → Contains departures d → Attains (rules_of old) t q (point_of d) d.journey) → said departures
+    → HasJourneys (rules_of criterion) t q (map point_of departures) said
+has_journeys {K} {V} rules_of t q old criterion departures said same attained holds = record {
+  departures = departures;
+  are = refl;
+  attained = λ d has. subst (λ (k : K). Attains (rules_of k) t q (point_of d) d.journey) same (attained d has);
+  holds = holds;
 }

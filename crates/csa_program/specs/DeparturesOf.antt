@@ -1,6 +1,6 @@
 -- What `csa departures` prints of an image.
-use Rattle.std.specs.Prelude.{◌≡◌, ◌≢◌, ◌<◌, ◌↔◌, ◌⊎◌, ℕ, Bool, true, not, ◌&&◌, ◌==◌, List, [], ◌++◌, Option, None}
-use Rattle.std.specs.Prelude.{Some, String, Contains, filter, length, map}
+use Rattle.std.specs.Prelude.{◌≡◌, ◌≢◌, ◌↔◌, ◌⊎◌, ℕ, Bool, true, not, ◌&&◌, ◌==◌, List, [], ◌++◌, Option, None}
+use Rattle.std.specs.Prelude.{Some, String, Contains, filter, length, map, take}
 use Rattle.std.specs.Prelude.{min, suc, slice_get, string_bytes, option_unwrap_or}
 use Rattle.std.specs.List.{AllZip, flat_map, range_with_len, sum_by}
 use Rattle.std.specs.Io.KnownBytes.{Appends}
@@ -136,7 +136,7 @@ pub record IsUnknownLine (names : NamesValue) (wanted : List (List ℕ)) (number
   pub numbered : number ≡ suc place
   pub stands : slice_get wanted place ≡ Some name
   pub unknown : NamesNone names name
-  pub before : (k : ℕ) (other : List ℕ) → k < place → slice_get wanted k ≡ Some other → (stop : ℕ) × IsNamed names other stop
+  pub before : (other : List ℕ) → Contains (take place wanted) other → (stop : ℕ) × IsNamed names other stop
 
 -- when one travels, as the command line asks it
 abbrev pub window_asked : DeparturesRequest → Window

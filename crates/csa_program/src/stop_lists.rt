@@ -97,8 +97,8 @@ fn marks_of(alloc: Global, image: &Verified, text: &str) -> Result<Vec<bool>, Li
         → IsUnknownLine image.now.names (lines text.now) number) }
 {
     let names = lines_of(alloc, text)?;
-    let marks = no_marks(alloc, image.stops() as usize)?;
-    marks_by(image, &names, marks)
+    let none = no_marks(alloc, image.stops() as usize)?;
+    marks_by(image, &names, none)
 }
 
 fn lines_of(alloc: Global, text: &str) -> Result<Vec<&str>, AllocError>
@@ -113,14 +113,20 @@ fn no_marks(alloc: Global, stops: usize) -> Result<Vec<bool>, AllocError>
     vec![in alloc; false; stops]
 }
 
-// Marks the stop of each name, of marks where none is marked.
-fn marks_by(image: &Verified, names: &[&str], marks: Vec<bool>) -> Result<Vec<bool>, ListFailure>
-    requires { marks.items ≡ replicate image.now.timetable.stops false }
-    ensures marks { IfOk result (λ all. AreMarked image.now.names (map (λ name. name.now) names.now) all.items) }
+// Marks the stop of each name. Before, none is marked.
+fn marks_by(
+    image: &Verified,
+    names: &[&str],
+    none: Vec<bool>,
+) -> Result<Vec<bool>, ListFailure>
+    requires { none.items ≡ replicate image.now.timetable.stops false }
+    ensures marks { IfOk result (λ marks. AreMarked image.now.names (map (λ name. name.now) names.now) marks.items) }
     ensures unknown { IfErr result (λ failure. (number : ℕ) → failure ≡ UnknownStop number
         → IsUnknownLine image.now.names (map (λ name. name.now) names.now) number) }
 {
-    let mut marks = marks;
+    // Says of the image what each one keeps: each name is that of one of its stops.
+    image.stops();
+    let mut marks = none;
     for place in 0..names.len() {
         let name = names[place];
         match image.find(name.as_bytes()) {
