@@ -94,7 +94,8 @@ module _ {V : Type 0} (told : V → ToldValue) (rules : Rules V) (form : Departu
               ∙ ap (λ (z : List ℕ). flat_map (λ (p : ℕ × List ℕ). p.1) parts ++ z) (sym (append-nil shows.text))
               ∙ sym (flat_map-append (λ (p : ℕ × List ℕ). p.1) parts (part ∷ []));
           stops_are = stops_now ∙ ap (λ k. k + one_if_some points) adds.listed.stops_are
-              ∙ sym (sum_by-append (λ (p : ℕ × List ℕ). one_if_some p.0) parts (part ∷ []) ∙ ap (λ k. sum_by (λ (p : ℕ × List ℕ). one_if_some p.0) parts + k) (one_sum (one_if_some points)));
+              ∙ sym (sum_by-append (λ (p : ℕ × List ℕ). one_if_some p.0) parts (part ∷ [])
+              ∙ ap (λ k. sum_by (λ (p : ℕ × List ℕ). one_if_some p.0) parts + k) (one_sum (one_if_some points)));
           points_are = points_now ∙ ap (λ k. k + points) adds.listed.points_are
               ∙ sym (sum_by-append (λ (p : ℕ × List ℕ). p.0) parts (part ∷ []) ∙ ap (λ k. sum_by (λ (p : ℕ × List ℕ). p.0) parts + k) (one_sum points));
         };
@@ -111,7 +112,7 @@ pub target_not_shown : (wanted : Wanted) (target stop : ℕ) → stop ≡ target
 target_not_shown wanted target stop same = ap (λ b. not b && is_wanted wanted stop) (sym (eqb_same stop target same))
   where
     eqb_same : (a b : ℕ) → a ≡ b → (a == b) ≡ true
-    eqb_same a b e = elim (eqb_tells a b) [ | inl yes_same ↦ yes_same.0 | inr other ↦ absurd (other.1 e) ]
+    eqb_same a b e = elim (eqb_tells a b) [ inl yes_same ↦ yes_same.0 | inr other ↦ absurd (other.1 e) ]
 
 -- another one is if it is wanted
 pub other_shown : (wanted : Wanted) (target stop : ℕ) (has : Bool) → (stop ≡ target → ⊥) → has ≡ is_wanted wanted stop → has ≡ is_shown wanted target stop
@@ -122,8 +123,8 @@ named_once : (names : NamesValue) (name : List ℕ) (a b : ℕ) → IsNamed name
 named_once names name a b first second = elim (cases_lt a b) [
   | inl less ↦ absurd (second.1 a less first.0)
   | inr not_less ↦ elim (cases_lt b a) [
-      | inl more ↦ absurd (first.1 b more second.0)
-      | inr not_more ↦ omega (arith, not_less, not_more)
+    | inl more ↦ absurd (first.1 b more second.0)
+    | inr not_more ↦ omega (arith, not_less, not_more)
   ]
 ]
 

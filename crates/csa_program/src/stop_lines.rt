@@ -68,7 +68,8 @@ fn append_next<C: Told>(
     requires stop { stop < shown.now.image.now.timetable.stops }
     requires same { criterion_of_profiles shown.now.profiles.now ≡ shown.now.criterion.now }
     requires answered { AnswerAll C.rules shown.now.image.now.timetable shown.now.profiles.now }
-    ensures { IfOk result (λ next. (before : List ℕ) → AddsStops C.told (C.rules shown.now.criterion.now) form shown.now.image.now
+    ensures { IfOk result (λ next. (before : List ℕ)
+        → AddsStops C.told (C.rules shown.now.criterion.now) form shown.now.image.now
         (destination_of shown.now.profiles.now) wanted.now stop before (string_bytes lines.old) counts
         → AddsStops C.told (C.rules shown.now.criterion.now) form shown.now.image.now
         (destination_of shown.now.profiles.now) wanted.now (stop + 1) before (string_bytes lines.new) next) }

@@ -114,11 +114,7 @@ fn no_marks(alloc: Global, stops: usize) -> Result<Vec<bool>, AllocError>
 }
 
 // Marks the stop of each name. Before, none is marked.
-fn marks_by(
-    image: &Verified,
-    names: &[&str],
-    none: Vec<bool>,
-) -> Result<Vec<bool>, ListFailure>
+fn marks_by(image: &Verified, names: &[&str], none: Vec<bool>) -> Result<Vec<bool>, ListFailure>
     requires { none.items ≡ replicate image.now.timetable.stops false }
     ensures marks { IfOk result (λ marks. AreMarked image.now.names (map (λ name. name.now) names.now) marks.items) }
     ensures unknown { IfErr result (λ failure. (number : ℕ) → failure ≡ UnknownStop number

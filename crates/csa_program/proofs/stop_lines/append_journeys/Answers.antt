@@ -15,7 +15,9 @@ returns g c =
     let old = criterion_of_profiles shown.profiles.now in
     let departures = c.in_ok-departures.departures.items in
     let text = flat_map (line_from g.C.Told.told (stop_bytes shown.image.now.names c.args.stop)) departures in
-    let added = c.in_ok-append_lines.ensures ∙ ap (λ name. string_bytes c.args.lines.now ++ flat_map (line_from g.C.Told.told name) departures) c.in_ok-name.ensures in
+    let added = c.in_ok-append_lines.ensures
+    ∙ ap (λ name. string_bytes c.args.lines.now
+    ++ flat_map (line_from g.C.Told.told name) departures) c.in_ok-name.ensures in
     journeys_shown g.C.Criterion.rules g.C.Told.told _ shown.image.now shown.profiles.now shown.criterion.now c.args.stop departures text
     (string_bytes c.args.lines.now) (string_bytes c.append_lines.new.lines)
     c.requires.stop c.requires.differ c.requires.same c.requires.answered c.in_ok-departures.ensures.points
