@@ -1,6 +1,6 @@
 -- Stops shown one by one, and names of stops marked one by one.
 use Rattle.std.proofs.Common.{◌≡◌, ◌≢◌, ◌⊎◌, ◌<◌, ◌≤◌, ◌+◌, ◌&&◌, ◌==◌, ℕ, Bool, true, false, not, List, [], ◌∷◌, ◌++◌, Option, None, Some, All}
-use Rattle.std.proofs.Common.{Contains, length, map, take, set, filter, min, replicate, slice_get, get_or, option_unwrap_or, refl, sym, ◌∙◌, ap}
+use Rattle.std.proofs.Common.{Contains, length, map, take, set, filter, min, replicate, slice_get, get_or, refl, sym, ◌∙◌, ap}
 use Rattle.std.proofs.Common.{subst, inl, inr, append_assoc, arith}
 use Rattle.std.specs.List.{AllZip, flat_map, range_with_len, sum_by}
 use Rattle.std.proofs.lemmas.Bool.{cases_eq, cases_lt, ne_eqb}

@@ -1,7 +1,7 @@
 -- What `csa departures` prints of an image.
-use Rattle.std.specs.Prelude.{◌≡◌, ◌≢◌, ◌↔◌, ◌⊎◌, ℕ, Bool, true, not, ◌&&◌, ◌==◌, List, [], ◌++◌, Option, None}
+use Rattle.std.specs.Prelude.{◌≡◌, ◌≢◌, ◌↔◌, ◌⊎◌, ℕ, Bool, true, false, not, ◌&&◌, ◌==◌, List, [], ◌++◌, Option, None}
 use Rattle.std.specs.Prelude.{Some, String, Contains, filter, length, map, take}
-use Rattle.std.specs.Prelude.{min, suc, slice_get, string_bytes, option_unwrap_or}
+use Rattle.std.specs.Prelude.{min, suc, slice_get}
 use Rattle.std.specs.List.{AllZip, flat_map, range_with_len, sum_by}
 use Rattle.std.specs.Io.KnownBytes.{Appends}
 use Rattle.criteria.specs.Laws.{Rules}
@@ -69,10 +69,15 @@ pub record ShowsStop {V : Type 0} (told : V → ToldValue) (rules : Rules V) (fo
   pub added : new ≡ old ++ text
   pub shown : IsShownFrom told rules form image q count text
 
+-- whether there is a mark, and it is set
+abbrev pub is_set : Option Bool → Bool
+is_set None = false
+is_set (Some mark) = mark
+
 -- the stops that are wanted, but for the target
 abbrev pub is_wanted : Wanted → ℕ → Bool
 is_wanted All stop = true
-is_wanted (Of marks) stop = option_unwrap_or (slice_get marks.items stop) Bool.false
+is_wanted (Of marks) stop = is_set (slice_get marks.items stop)
 
 abbrev pub is_shown : Wanted → ℕ → ℕ → Bool
 is_shown wanted target stop = not (stop == target) && is_wanted wanted stop

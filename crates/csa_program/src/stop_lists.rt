@@ -1,10 +1,10 @@
 //! Files that name stops, a stop_id a line.
 
-ghost use Rattle.std.specs.Prelude.{◌≡◌, ◌<◌, ◌+◌, ℕ, true, false, IfOk, IfErr, length, map, option_unwrap_or};
+ghost use Rattle.std.specs.Prelude.{◌≡◌, ◌<◌, ◌+◌, ℕ, true, false, IfOk, IfErr, length, map};
 ghost use Rattle.std.specs.Prelude.{replicate};
 ghost use Rattle.std.specs.Str.Lines.{lines};
 ghost use Rattle.std.specs.Prelude.{set, slice_get};
-ghost use Rattle.csa_program.specs.DeparturesOf.{AreMarked, IsUnknownLine};
+ghost use Rattle.csa_program.specs.DeparturesOf.{AreMarked, IsUnknownLine, is_set};
 ghost use Rattle.csa_program.specs.declared.stop_lists.ListFailure.TheVariants.{UnknownStop};
 
 use image_verifier::Verified;
@@ -68,7 +68,7 @@ impl Wanted {
 }
 
 fn is_marked(marks: &[bool], stop: u32) -> bool
-    ensures { result ≡ option_unwrap_or (slice_get marks.now stop) false }
+    ensures { result ≡ is_set (slice_get marks.now stop) }
 {
     match marks.get(stop as usize) {
         Some(mark) => *mark,
