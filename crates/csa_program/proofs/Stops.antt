@@ -1,5 +1,5 @@
 -- Stops shown one by one, and names of stops marked one by one.
-use Rattle.std.proofs.Common.{◌≡◌, ◌≢◌, ◌⊎◌, ◌<◌, ◌≤◌, ◌+◌, ◌&&◌, ◌==◌, ℕ, Bool, true, false, not, List, [], ◌∷◌, ◌++◌, Option, None, Some, All}
+use Rattle.std.proofs.Common.{◌≡◌, ◌≢◌, ◌⊎◌, ◌<◌, ◌≤◌, ◌+◌, ◌&&◌, eqb, ℕ, Bool, true, false, not, List, [], ◌∷◌, ◌++◌, Option, None, Some, All}
 use Rattle.std.proofs.Common.{Contains, length, map, take, set, filter, min, replicate, slice_get, get_or, refl, sym, ◌∙◌, ap}
 use Rattle.std.proofs.Common.{subst, inl, inr, append_assoc, arith}
 use Rattle.std.specs.List.{AllZip, flat_map, range_with_len, sum_by}
@@ -111,7 +111,7 @@ module _ {V : Type 0} (told : V → ToldValue) (rules : Rules V) (form : Departu
 pub target_not_shown : (wanted : Wanted) (target stop : ℕ) → stop ≡ target → false ≡ is_shown wanted target stop
 target_not_shown wanted target stop same = ap (λ b. not b && is_wanted wanted stop) (sym (eqb_same stop target same))
   where
-    eqb_same : (a b : ℕ) → a ≡ b → (a == b) ≡ true
+    eqb_same : (a b : ℕ) → a ≡ b → eqb a b ≡ true
     eqb_same a b e = elim (eqb_tells a b) [ inl yes_same ↦ yes_same.0 | inr other ↦ absurd (other.1 e) ]
 
 -- another one is if it is wanted

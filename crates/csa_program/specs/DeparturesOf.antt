@@ -1,5 +1,5 @@
 -- What `csa departures` prints of an image.
-use Rattle.std.specs.Prelude.{◌≡◌, ◌≢◌, ◌↔◌, ◌⊎◌, ℕ, Bool, true, false, not, ◌&&◌, ◌==◌, List, [], ◌++◌, Option, None}
+use Rattle.std.specs.Prelude.{◌≡◌, ◌≢◌, ◌↔◌, ◌⊎◌, ℕ, Bool, true, false, not, ◌&&◌, nat_eq, List, [], ◌++◌, Option, None}
 use Rattle.std.specs.Prelude.{Some, String, Contains, filter, length, map, take}
 use Rattle.std.specs.Prelude.{min, suc, slice_get}
 use Rattle.std.specs.List.{AllZip, flat_map, range_with_len, sum_by}
@@ -80,7 +80,7 @@ is_wanted All stop = true
 is_wanted (Of marks) stop = is_set (slice_get marks.items stop)
 
 abbrev pub is_shown : Wanted → ℕ → ℕ → Bool
-is_shown wanted target stop = not (stop == target) && is_wanted wanted stop
+is_shown wanted target stop = not (nat_eq stop target) && is_wanted wanted stop
 
 -- those below a number, rising
 abbrev pub shown_stops : Wanted → ℕ → ℕ → List ℕ

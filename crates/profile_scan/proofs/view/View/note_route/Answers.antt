@@ -32,6 +32,6 @@ pub returns-clause-ends : goal.returns-clause-ends
 returns-clause-ends g c walks told =
     let s = story_seen c.args.self.now in
     let t = c.loop-i.invariant.tells walks told in
-    let long = c.args.self.now.trips.exits.ok.0 in
+    let long = c.args.self.now.trips.now.exits.ok.0 in
     let none : 0 ≡ length s.exits - c.loop-i._i = omega arith in
     absurd (not_told walks s c.loop-i.label t.0 (ap (λ n. label_tells walks s n c.loop-i.label) none ∙ t.1))
