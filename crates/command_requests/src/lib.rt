@@ -12,6 +12,6 @@ pub use plans::{
     Ahead, FirstDay, MOST_AHEAD, MOST_DAYS, MOST_WORKERS, PlanText, Workers, ZoneText, days_of,
 };
 pub use requests::{
-    AnswerForm, BuildRequest, JourneyRequest, NamedFolder, ProfileRequest, Question, Request,
-    ServeRequest, StopsRequest, UpgradeRequest,
+    AnswerForm, BuildRequest, DeparturesForm, DeparturesRequest, JourneyRequest, NamedFolder,
+    ProfileRequest, Question, Request, ServeRequest, StopsRequest, UpgradeRequest,
 };

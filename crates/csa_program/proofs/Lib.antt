@@ -1,3 +1,5 @@
 mod AnswerLemmas
+mod Commas
 mod Joined
 mod Picturing
+mod Stops

@@ -1,6 +1,8 @@
 pub mod Answering
 pub mod Asking
 pub mod Building
+pub mod Departing
+pub mod DeparturesOf
 pub mod Judging
 pub mod Listing
 pub mod Opening

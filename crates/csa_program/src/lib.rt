@@ -4,6 +4,7 @@
 mod asked;
 mod bases;
 mod build;
+mod departures;
 mod explaining;
 mod folders;
 mod journey;
@@ -23,6 +24,10 @@ mod replying;
 mod serve;
 mod sockets;
 mod status;
+mod stop_json;
+mod stop_lines;
+mod stop_lists;
+mod stop_words;
 mod stops;
 mod suspects;
 mod table_fault;
@@ -76,6 +81,9 @@ fn run_command<
         Ok(Request::Verify(image)) => answer(rt, Asked::Verify(image), input, output, errors),
         Ok(Request::Journey(request)) => answer(rt, Asked::Journey(request), input, output, errors),
         Ok(Request::Profile(request)) => answer(rt, Asked::Profile(request), input, output, errors),
+        Ok(Request::Departures(request)) => {
+            answer(rt, Asked::Departures(request), input, output, errors)
+        }
         Ok(Request::Stops(request)) => answer(rt, Asked::Stops(request), input, output, errors),
         Ok(Request::Tables(folder)) => tables::run(rt, folder, output, errors),
         Ok(Request::Build(request)) => build::run(

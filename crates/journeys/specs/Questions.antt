@@ -7,6 +7,8 @@ use Rattle.timetable.specs.declared.query.Query.{Query}
 use Rattle.timetable.specs.declared.query.QueryFault.{QueryFault}
 use Rattle.timetable.specs.declared.query.QueryFault.TheVariants.{UnknownStop, SameStop, BadWindow}
 use Rattle.image_layout.specs.Image.{ImageValue}
+use Rattle.profile_scan.specs.Destinations.{IsDestinationFault}
+use Rattle.profile_scan.specs.declared.destination.Destination.{Destination}
 use Rattle.journeys.specs.declared.question.Window.{Window}
 
 -- the least stop of a name
@@ -28,3 +30,15 @@ abbrev pub IsRefused : ImageValue → List ℕ → List ℕ → Window → Query
 IsRefused image from to window UnknownStop = NamesNone image.names from ⊎ NamesNone image.names to
 IsRefused image from to window SameStop = (q : Query) × Asks image.names from to window q × IsFirstFault image.timetable.stops q SameStop
 IsRefused image from to window BadWindow = (q : Query) × Asks image.names from to window q × IsFirstFault image.timetable.stops q BadWindow
+
+-- every stop is asked, to the least stop of a name, in the window
+pub record AsksAll (names : NamesValue) (to : List ℕ) (window : Window) (d : Destination) : Type 0 where
+  pub target : IsNamed names to d.target
+  pub times : (d.from ≡ window.from) × (d.until ≡ window.until) × (d.by ≡ window.by)
+
+-- why no stop is: the name is that of no stop, else the window is bad
+abbrev pub IsRefusedOfAll : ImageValue → List ℕ → Window → QueryFault → Type 0
+IsRefusedOfAll image to window UnknownStop = NamesNone image.names to
+IsRefusedOfAll image to window SameStop = ⊥
+IsRefusedOfAll image to window BadWindow =
+    (d : Destination) × AsksAll image.names to window d × IsDestinationFault image.timetable.stops d BadWindow

@@ -1,15 +1,21 @@
 //! The answer of a profile query, each point with a journey.
 
-ghost use Rattle.std.specs.Prelude.{◌≡◌, ◌++◌, ℕ, IfOk, OnOk, OnErr, length, reverse, take};
+ghost use Rattle.std.specs.Prelude.{◌≡◌, ◌≢◌, ◌<◌, ◌++◌, ℕ, Contains, IfOk, OnOk, OnErr, length, map, reverse, take};
+ghost use Rattle.timetable.specs.TimetableValue.{TimetableValue};
+ghost use Rattle.timetable.specs.declared.query.Query.{Query};
 ghost use Rattle.timetable.specs.Queries.{IsAskable};
 ghost use Rattle.profile_scan.specs.Window.{window};
 ghost use Rattle.profile_scan.specs.Points.{IsAnswer};
 ghost use Rattle.profile_scan.specs.Kept.{IsWay};
-ghost use Rattle.journeys.specs.Answer.{AreAttained, points_of, walk_of_answer};
+ghost use Rattle.profile_scan.specs.Destinations.{query_from};
+ghost use Rattle.profile_scan.specs.Found.{Answers};
+ghost use Rattle.profile_scan.specs.Everywhere.{AnswerAll, criterion_of_profiles, destination_of};
+ghost use Rattle.journeys.specs.Answer.{AreAttained, point_of, points_of, walk_of_answer};
+ghost use Rattle.journeys.specs.Extracted.{Attains};
 
 use crate::extraction::extract;
 use criteria::Criterion;
-use profile_scan::{ConnSource, profile};
+use profile_scan::{ConnSource, Found, Profiles, profile};
 use std::alloc::{AllocError, Global};
 use timetable::{Journey, Query};
 
@@ -56,23 +62,70 @@ pub fn answer_query<S: ConnSource, C: Criterion>(
     ensures err { OnErr result ((n : ℕ) × (S.log source.new ≡ S.log source.old
         ++ take n (reverse (window (S.timetable source.old) query.now)))) }
 {
-    let end = source.first_at(query.by);
-    let read = end.saturating_sub(source.first_at(query.from));
+    let read = window_len(source, query);
     let found = profile(alloc, source, criterion, query)?;
+    let departures = departures_of(alloc, &found)?;
+    Ok(Answer {
+        departures,
+        walk: found.direct_walk(),
+        read,
+    })
+}
+
+/// How many connections the window of a query has.
+pub fn window_len<S: ConnSource>(source: &S, query: &Query) -> usize
+    ensures { result ≡ length (window (S.timetable source.now) query.now) }
+{
+    let end = source.first_at(query.by);
+    end.saturating_sub(source.first_at(query.from))
+}
+
+// The points of an answer, each with a journey.
+fn departures_of<C: Criterion>(
+    alloc: Global,
+    found: &Found<C>,
+) -> Result<Vec<Departure<C::V>>, AllocError>
+    ensures points { IfOk result (λ departures. (criterion : _) (t : TimetableValue) (q : Query)
+        → Answers criterion (C.rules criterion) t q found.now
+        → IsAnswer (C.rules criterion) t q (map point_of departures.items)) }
+    ensures journeys { IfOk result (λ departures. (criterion : _) (t : TimetableValue) (q : Query)
+        → Answers criterion (C.rules criterion) t q found.now
+        → (departure : _) → Contains departures.items departure
+        → Attains (C.rules criterion) t q (point_of departure) departure.journey) }
+{
     let points = found.points();
     let mut departures = Vec::with_capacity(alloc, points.len())?;
     for i in 0..points.len() {
         let point = points[i];
-        let journey = extract(alloc, &found, i)?;
+        let journey = extract(alloc, found, i)?;
         departures.push(Departure {
             time: point.departure,
             value: point.value,
             journey,
         })?;
     }
-    Ok(Answer {
-        departures,
-        walk: found.direct_walk(),
-        read,
-    })
+    Ok(departures)
+}
+
+/// The best departures from one stop, of the answers from all stops, each with a journey that counts, departs when the
+/// point does, and is worth the point's value. So journeys are made stop by stop, and need not be in memory at once.
+///
+/// The source has to be of the timetable that was scanned. The only error is that memory runs out.
+pub fn departures_from<S: ConnSource, C: Criterion>(
+    alloc: Global,
+    source: &S,
+    profiles: &Profiles<C>,
+    stop: u32,
+) -> Result<Vec<Departure<C::V>>, AllocError>
+    requires stop { stop < (S.timetable source.now).stops }
+    requires differ { stop ≢ (destination_of profiles.now).target }
+    requires answered { AnswerAll C.rules (S.timetable source.now) profiles.now }
+    ensures points { IfOk result (λ departures. IsAnswer (C.rules (criterion_of_profiles profiles.now))
+        (S.timetable source.now) (query_from (destination_of profiles.now) stop) (map point_of departures.items)) }
+    ensures journeys { IfOk result (λ departures. (departure : _) → Contains departures.items departure
+        → Attains (C.rules (criterion_of_profiles profiles.now)) (S.timetable source.now)
+        (query_from (destination_of profiles.now) stop) (point_of departure) departure.journey) }
+{
+    let found = profiles.found_from(alloc, source, stop)?;
+    departures_of(alloc, &found)
 }

@@ -4,6 +4,7 @@
 
 mod answering;
 mod counts;
+mod destinations;
 mod ends;
 mod extraction;
 mod fault;
@@ -16,8 +17,9 @@ mod text_fault;
 mod walks;
 mod way;
 
-pub use answering::{Answer, Departure, answer_query};
+pub use answering::{Answer, Departure, answer_query, departures_from, window_len};
 pub use counts::{check, faultless_counts};
+pub use destinations::destination_named;
 pub use extraction::extract;
 pub use fault::JourneyFault;
 pub use question::{Window, query_of};

@@ -55,7 +55,7 @@ retold_before {V} rules old new same pairs i j d lt within =
       ap (λ (v : V). rules.list_order v s.value) (sym (ap (λ (x : ℕ × V). x.1) e)) ∙ ap (rules.list_order p.value) (sym (ap (λ (x : ℕ × V). x.1) f)) ∙ less,
     )
 
-retold_answer : {V : Type 0} (rules : Rules V) (t : TimetableValue) (q : Query) (old new : List (Point V))
+pub retold_answer : {V : Type 0} (rules : Rules V) (t : TimetableValue) (q : Query) (old new : List (Point V))
     → map untagged new ≡ map untagged old → IsAnswer rules t q old → IsAnswer rules t q new
 retold_answer {V} rules t q old new same is = record {
   exactly = λ d v. (

@@ -15,6 +15,8 @@ pub mod StartLemmas
 pub mod WayLemmas
 pub mod StepFacts
 pub mod LogLemmas
+mod OriginLemmas
+mod EverywhereLemmas
 pub mod OrderLemmas
 pub mod Chains
 pub mod Times

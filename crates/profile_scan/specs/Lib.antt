@@ -17,3 +17,7 @@ pub mod Kept
 pub mod Telling
 pub mod Answered
 pub mod Found
+pub mod Views
+pub mod Origins
+pub mod Destinations
+pub mod Everywhere

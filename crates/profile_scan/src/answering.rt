@@ -10,14 +10,15 @@ use crate::hop::Asked;
 use crate::scan::scan_window;
 use crate::starts::starts_from;
 use crate::telling::tell_journeys;
+use crate::view::View;
 use crate::ways::ways_to;
 use criteria::Criterion;
 use sources::ConnSource;
 use std::alloc::{AllocError, Global};
 use timetable::{Kept, Query, Timetable};
 
-// The timetable that a source stands for.
-fn timetable_of<S: ConnSource>(source: &S) -> Kept<Timetable>
+/// The timetable that a source stands for.
+pub fn timetable_of<S: ConnSource>(source: &S) -> Kept<Timetable>
     ensures { result.value ≡ S.timetable source.now }
 {
     Kept::at(source, &())
@@ -55,7 +56,12 @@ pub fn profile<S: ConnSource, C: Criterion>(
     };
     let scan = scan_window(alloc, source, &asked, start..end)?;
     let points = in_order(alloc, criterion, &scan.state.origin.found)?;
-    let told = tell_journeys(alloc, source, &scan.state, &points)?;
+    let view = View {
+        trips: &scan.state.trips,
+        stops: &scan.state.stops,
+        origin: &scan.state.origin,
+    };
+    let told = tell_journeys(alloc, source, &view, &points)?;
     Ok(Found {
         criterion: *criterion,
         points: told.points,

@@ -9,11 +9,15 @@
 
 mod answering;
 mod bound;
+mod destination;
+mod everywhere;
 mod found;
 mod hop;
 pub mod laws;
 mod nodes;
 mod origin;
+mod origins;
+mod profiles;
 mod riding;
 mod scan;
 mod starts;
@@ -21,9 +25,12 @@ mod stops;
 mod story;
 mod telling;
 mod trips;
+mod view;
 mod ways;
 
 pub use answering::profile;
+pub use destination::Destination;
 pub use found::Found;
 pub use nodes::Node;
+pub use profiles::{Profiles, profiles_to};
 pub use sources::{ConnSource, Decoded, InPlace};

@@ -69,9 +69,9 @@ impl<C: Criterion> Origin<C> {
         Ok(())
     }
 
-    // Offers the points found each label of the connection's trip, boarded by a way of setting out.
+    /// Offers the points found each label of the connection's trip, boarded by a way of setting out.
     #[inline(never)]
-    fn set_out_after(
+    pub fn set_out_after(
         &mut self,
         asked: &Asked<C>,
         hop: &Hop<C::V>,
@@ -160,17 +160,17 @@ impl<C: Criterion> Origin<C> {
     }
 }
 
-// How one sets out: the start, and when one leaves the source.
+/// How one sets out: the start, and when one leaves the source.
 #[derive(Clone, Copy)]
-struct Departure {
-    start: Option<Footpath>,
-    time: u32,
+pub struct Departure {
+    pub start: Option<Footpath>,
+    pub time: u32,
 }
 
-// How one sets out from the source by a start to board a connection, if that departs in the window. Hardly a start is
-// from the source, so that is asked first.
+/// How one sets out from the source by a start to board a connection, if that departs in the window. Hardly a start is
+/// from the source, so that is asked first.
 #[inline(always)]
-fn departure_by(
+pub fn departure_by(
     query: &Query,
     connection: &Connection,
     start: Option<Footpath>,

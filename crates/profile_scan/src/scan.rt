@@ -88,9 +88,9 @@ impl<C: Criterion> State<C> {
     }
 }
 
-// Whether nobody who gets off where a connection ends may be at the target or go on: neither there nor on foot, and by
-// no point of that stop, whose list has this head.
-fn ends_nothing(connection: &Connection, target: u32, way: Option<u32>, head: u32) -> bool
+/// Whether nobody who gets off where a connection ends may be at the target or go on: neither there nor on foot, and by
+/// no point of that stop, whose list has this head.
+pub fn ends_nothing(connection: &Connection, target: u32, way: Option<u32>, head: u32) -> bool
     ensures { (result ≡ true)
         ↔ (connection.now.alight ≡ true → (connection.now.to ≢ target) × (way ≡ None) × (head ≡ 0)) }
 {

@@ -4,14 +4,14 @@ ghost use Rattle.std.specs.Prelude.{◌≡◌, ◌++◌, ◌∷◌, [], ℕ, IfO
 ghost use Rattle.bags.specs.declared.point.Point.{Point};
 ghost use Rattle.fronts.specs.Front.{Extends};
 ghost use Rattle.profile_scan.specs.Points.{untagged};
-ghost use Rattle.profile_scan.specs.Kept.{story_of};
+ghost use Rattle.profile_scan.specs.Views.{story_seen};
 ghost use Rattle.profile_scan.specs.declared.telling.Change.{Change};
 ghost use Rattle.profile_scan.specs.Telling.{IsRoute, change, ending, IsLabelTold, SaysLabel, IsJourneyTold};
 ghost use Rattle.profile_scan.specs.Telling.{SaysJourney, IsRetold};
 
 use crate::nodes::Node;
-use crate::scan::State;
 use crate::story::Exit;
+use crate::view::View;
 use bags::Point;
 use criteria::Criterion;
 use fronts::Step;
@@ -34,19 +34,19 @@ struct End {
     walk: Option<Footpath>,
 }
 
-impl<C: Criterion> State<C> {
+impl<'a, C: Criterion> View<'a, C> {
     ghost use Rattle.std.specs.Prelude.{◌≡◌, ◌++◌, ◌∷◌, [], ℕ, IfOk, Contains, Some, None, length, map};
     ghost use Rattle.bags.specs.declared.point.Point.{Point};
     ghost use Rattle.fronts.specs.Front.{Extends};
     ghost use Rattle.profile_scan.specs.Points.{untagged};
-    ghost use Rattle.profile_scan.specs.Kept.{story_of};
+    ghost use Rattle.profile_scan.specs.Views.{story_seen};
     ghost use Rattle.profile_scan.specs.declared.telling.Change.{Change};
     ghost use Rattle.profile_scan.specs.Telling.{IsRoute, change, ending, IsLabelTold, SaysLabel, IsJourneyTold};
     ghost use Rattle.profile_scan.specs.Telling.{SaysJourney, IsRetold};
 
     // How one changes after a label, if one does.
     fn change_after(&self, label: usize) -> Option<Change>
-        ensures { result ≡ change (story_of self.now) label }
+        ensures { result ≡ change (story_seen self.now) label }
     {
         match self.trips.exits.get(label).copied()? {
             Exit::Ends { .. } => None,
@@ -59,7 +59,7 @@ impl<C: Criterion> State<C> {
 
     // How one ends after a label, if one does.
     fn end_after(&self, label: usize) -> Option<End>
-        ensures { result ≡ ending (story_of self.now) label }
+        ensures { result ≡ ending (story_seen self.now) label }
     {
         match self.trips.exits.get(label).copied()? {
             Exit::Ends { last, walk } => Some(End { last, walk }),
@@ -69,9 +69,9 @@ impl<C: Criterion> State<C> {
 
     // The last label to which one leads, those on the way to it being noted.
     fn note_route(&self, first: usize, route: &mut Vec<usize>) -> Result<usize, AllocError>
-        ensures route { IfOk result (λ last. IsRoute (story_of self.now) first route.new.items last) }
-        ensures ends { IfOk result (λ last. (walks : _) → IsLabelTold walks (story_of self.now) first
-            → change (story_of self.now) last ≡ None) }
+        ensures route { IfOk result (λ last. IsRoute (story_seen self.now) first route.new.items last) }
+        ensures ends { IfOk result (λ last. (walks : _) → IsLabelTold walks (story_seen self.now) first
+            → change (story_seen self.now) last ≡ None) }
     {
         route.clear();
         let mut label = first;
@@ -90,9 +90,9 @@ impl<C: Criterion> State<C> {
     // Adds a node that says how one leaves the trip of a label for good.
     fn tell_end(&self, label: usize, nodes: &mut Vec<Node>) -> Result<usize, AllocError>
         ensures nodes { Extends nodes.old.items nodes.new.items }
-        ensures says { IfOk result (λ number. (walks : _) → IsLabelTold walks (story_of self.now) label
-            → change (story_of self.now) label ≡ None
-            → SaysLabel walks (story_of self.now) label nodes.new.items number) }
+        ensures says { IfOk result (λ number. (walks : _) → IsLabelTold walks (story_seen self.now) label
+            → change (story_seen self.now) label ≡ None
+            → SaysLabel walks (story_seen self.now) label nodes.new.items number) }
     {
         match self.end_after(label) {
             None => Ok(nodes.len()),
@@ -114,12 +114,13 @@ impl<C: Criterion> State<C> {
         next: usize,
         nodes: &mut Vec<Node>,
     ) -> Result<usize, AllocError>
-        requires told { IsLabelTold (S.timetable source.now).footpaths (story_of self.now) label }
-        requires next { (c : Change) × (change (story_of self.now) label ≡ Some c)
-            × SaysLabel (S.timetable source.now).footpaths (story_of self.now) c.step.label nodes.old.items next }
+        requires told { IsLabelTold (S.timetable source.now).footpaths (story_seen self.now) label }
+        requires next { (c : Change) × (change (story_seen self.now) label ≡ Some c)
+            × SaysLabel (S.timetable source.now).footpaths (story_seen self.now) c.step.label nodes.old.items next }
         ensures nodes { Extends nodes.old.items nodes.new.items }
         ensures says { IfOk result
-            (λ number. SaysLabel (S.timetable source.now).footpaths (story_of self.now) label nodes.new.items number) }
+            (λ number. SaysLabel (S.timetable source.now).footpaths (story_seen self.now) label nodes.new.items
+            number) }
     {
         match self.change_after(label) {
             None => Ok(next),
@@ -152,10 +153,11 @@ impl<C: Criterion> State<C> {
         route: &mut Vec<usize>,
         nodes: &mut Vec<Node>,
     ) -> Result<usize, AllocError>
-        requires { IsJourneyTold (S.timetable source.now).footpaths (story_of self.now) tag }
+        requires { IsJourneyTold (S.timetable source.now).footpaths (story_seen self.now) tag }
         ensures nodes { Extends nodes.old.items nodes.new.items }
         ensures says { IfOk result
-            (λ number. SaysJourney (S.timetable source.now).footpaths (story_of self.now) tag nodes.new.items number) }
+            (λ number. SaysJourney (S.timetable source.now).footpaths (story_seen self.now) tag nodes.new.items
+            number) }
     {
         let set_out = self.origin.set_outs[tag];
         let last = self.note_route(set_out.label, route)?;
@@ -196,21 +198,21 @@ pub struct Told<V> {
 pub fn tell_journeys<S: ConnSource, C: Criterion>(
     alloc: Global,
     source: &S,
-    state: &State<C>,
+    view: &View<'_, C>,
     points: &[Point<C::V>],
 ) -> Result<Told<C::V>, AllocError>
     requires { (p : Point _) → Contains points.now p
-        → IsJourneyTold (S.timetable source.now).footpaths (story_of state.now) p.tag }
+        → IsJourneyTold (S.timetable source.now).footpaths (story_seen view.now) p.tag }
     ensures same { IfOk result (λ told. map untagged told.points.items ≡ map untagged points.now) }
     ensures says { IfOk result (λ told. (p : Point _) → Contains told.points.items p
-        → IsRetold (S.timetable source.now).footpaths (story_of state.now) points.now told.nodes.items p) }
+        → IsRetold (S.timetable source.now).footpaths (story_seen view.now) points.now told.nodes.items p) }
 {
     let mut told = Vec::with_capacity(alloc, points.len())?;
     let mut nodes = Vec::new(alloc);
     let mut route = Vec::new(alloc);
     for i in 0..points.len() {
         let point = points[i];
-        let tag = state.tell_journey(source, point.tag, &mut route, &mut nodes)?;
+        let tag = view.tell_journey(source, point.tag, &mut route, &mut nodes)?;
         told.push(Point {
             departure: point.departure,
             value: point.value,

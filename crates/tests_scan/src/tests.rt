@@ -4,6 +4,7 @@
 mod answering;
 mod bonus;
 mod dominating;
+mod everywhere;
 mod examples;
 mod images;
 mod in_turn;

@@ -1,6 +1,6 @@
 use Rattle.std.proofs.Common.{◌≡◌, Contains, map, take}
 use Rattle.profile_scan.specs.Points.{untagged}
-use Rattle.profile_scan.specs.Kept.{story_of}
+use Rattle.profile_scan.specs.Views.{story_seen}
 use Rattle.profile_scan.specs.Telling.{IsRetold}
 use Rattle.profile_scan.proofs.telling.tell_journeys.Given as goal
 
@@ -9,5 +9,5 @@ invariant-loop-i g l =
     let walks = (g.S.ConnSource.timetable l.source).footpaths in
     record {
       same : map untagged l.told.items ≡ map untagged (take l.i l.points);
-      says : (p : _) → Contains l.told.items p → IsRetold walks (story_of l.state) l.points l.nodes.items p;
+      says : (p : _) → Contains l.told.items p → IsRetold walks (story_seen l.view) l.points l.nodes.items p;
     }

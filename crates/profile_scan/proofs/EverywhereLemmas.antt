@@ -1,0 +1,172 @@
+-- One scan for all sources, as each of them sees it.
+use Rattle.std.proofs.Common.{◌≡◌, ◌+◌, ◌<◌, ◌≤◌, ◌∷◌, ◌++◌, [], ℕ, List, Option, Some, None, AllPairs, Contains, false, length, map, slice_get, refl, sym}
+use Rattle.std.proofs.Common.{◌∙◌, ap, subst, inl, inr, arith}
+use Rattle.std.specs.Global.{Vec}
+use Rattle.std.proofs.lemmas.Bool.{cases_eq}
+use Rattle.std.proofs.lemmas.List.{length_push}
+use Rattle.std.proofs.lemmas.Option.{slice_get_cases, slice_get_within}
+use Rattle.reasoning.proofs.ListLemmas.{slice_get-front, slice_get-last}
+use Rattle.criteria.specs.Laws.{Rules, Laws}
+use Rattle.bags.specs.Bag.{points_of}
+use Rattle.bags.specs.Dominance.{IsBag}
+use Rattle.bags.specs.declared.point.Point.{Point}
+use Rattle.timetable.specs.TimetableValue.{TimetableValue}
+use Rattle.timetable.specs.declared.network.Connection.{Connection}
+use Rattle.timetable.specs.declared.query.Query.{Query}
+use Rattle.timetable.specs.Journeys.{Counts}
+use Rattle.sources.specs.FirstAt.{IsFirstAt}
+use Rattle.profile_scan.specs.Values.{journey_value}
+use Rattle.profile_scan.specs.Continuations.{CountsFrom}
+use Rattle.profile_scan.specs.Plain.{IsPlain}
+use Rattle.profile_scan.specs.Points.{Before, IsAnswer, untagged}
+use Rattle.profile_scan.specs.Matching.{IsAttained, Matches, Spellings}
+use Rattle.profile_scan.specs.Steps.{AreCarried, IsIdle, Leaving, MayLeave, TakesIn, changes, ends, ends_after, leavings}
+use Rattle.profile_scan.specs.Bound.{carried, is_bettered}
+use Rattle.profile_scan.specs.Story.{Story, told}
+use Rattle.profile_scan.specs.Telling.{IsJourneyTold, IsRetold}
+use Rattle.profile_scan.specs.Kept.{IsWay}
+use Rattle.profile_scan.specs.Answered.{IsAnswered}
+use Rattle.profile_scan.specs.LawStatements.{CanScan}
+use Rattle.profile_scan.specs.Origins.{found_by, found_from, from_stop}
+use Rattle.profile_scan.specs.Everywhere.{AreInOrder, points_in}
+use Rattle.profile_scan.specs.declared.nodes.Node.{Node}
+use Rattle.profile_scan.specs.declared.origin.Origin.{Origin}
+use Rattle.profile_scan.specs.declared.origins.Origins.{Origins}
+use Rattle.profile_scan.proofs.Answer.{match_is_the_answer}
+use Rattle.profile_scan.proofs.AnsweredLemmas.{retold_answer}
+use Rattle.profile_scan.proofs.BoundLemmas.{from_carried, into_carried}
+use Rattle.profile_scan.proofs.Offers.{takes_as}
+use Rattle.profile_scan.proofs.OrderLemmas.{listed_bag, listed_match}
+
+-- by no bound all is carried
+pub carried_by_none : {V : Type 0} (rules : Rules V) (t : TimetableValue) (found : List (Point V)) (i : ℕ) (values : List V) → values ≡ [] →
+    (points : List (Point V)) → AreCarried rules t found i points (carried rules values points)
+carried_by_none {V} rules t found i values none points =
+    let nothing : (v : V) → is_bettered rules values v ≡ false = λ v. ap (λ (vs : List V). is_bettered rules vs v) none in
+    record {
+      only = λ p h. (from_carried rules values points p h).0;
+      all = λ p h. inl (into_carried rules values points p h (nothing (rules.ride p.value)));
+    }
+
+-- where one may leave a trip doesn't depend on where one set out
+leave_from : {V : Type 0} (t : TimetableValue) (q : Query) (stop i : ℕ) (bag : List (Point V)) (way : Leaving V) → MayLeave t q i bag way → MayLeave t
+    (from_stop q stop) i bag way
+leave_from t q stop i bag ends may = may
+leave_from t q stop i bag (ends_after f) may = may
+leave_from t q stop i bag (changes p) may = may
+
+leave_back : {V : Type 0} (t : TimetableValue) (q : Query) (stop i : ℕ) (bag : List (Point V)) (way : Leaving V) → MayLeave t
+    (from_stop q stop) i bag way → MayLeave t q i bag way
+leave_back t q stop i bag ends may = may
+leave_back t q stop i bag (ends_after f) may = may
+leave_back t q stop i bag (changes p) may = may
+
+pub leavings_from : {V : Type 0} (rules : Rules V) (t : TimetableValue) (q : Query) (stop : ℕ) (tags : Spellings) (i : ℕ)
+    (bag old new : List (Point V)) → TakesIn rules (leavings rules t q tags i bag) old new → TakesIn rules
+    (leavings rules t (from_stop q stop) tags i bag) old new
+leavings_from rules t q stop tags i bag old new takes =
+    takes_as rules (leavings rules t q tags i bag) (leavings rules t (from_stop q stop) tags i bag) old new
+    (λ way opened. record { there = way; is_open = (opened.0, leave_from t q stop i bag way opened.1); departs = refl; worth = refl; fits = λ tag h. h })
+    (λ way opened. takes.covered way (opened.0, leave_back t q stop i bag way opened.1))
+    takes
+
+-- nor does whether nothing is offered
+pub idle_from : {V : Type 0} (q : Query) (stop : ℕ) (c : Connection) (way : Option ℕ) (labels bag : List (Point V)) → IsIdle q c way labels bag
+    → IsIdle (from_stop q stop) c way labels bag
+idle_from q stop c way labels bag idle = record { no_labels = idle.no_labels; ends_here = idle.ends_here }
+
+-- points in order are those found from a stop
+pub in_order_from : {K V : Type 0} {d : _} (rules : Rules V) (origins : Origins K V d) (stop : ℕ) (o : Origin K V d) (points : List (Point V))
+    → slice_get origins.each.items stop ≡ Some o → AreInOrder rules (points_of o.found) points → AreInOrder rules (found_from origins stop) points
+in_order_from {K} {V} {d} rules origins stop o points at are = subst (λ (x : Option (Origin K V d)). AreInOrder rules (found_by x) points) (sym at) are
+
+-- lists in order, up to a stop
+pub record AreListedTo {V : Type 0} (rules : Rules V) (found : ℕ → List (Point V)) (n : ℕ) (lists : List (Vec (Point V))) : Type 0 where
+  pub long : length lists ≡ n
+  pub each : (stop : ℕ) → stop < n → AreInOrder rules (found stop) (points_in (slice_get lists stop))
+
+pub none_listed_to : {V : Type 0} (rules : Rules V) (found : ℕ → List (Point V)) (lists : List (Vec (Point V))) → lists ≡ [] → AreListedTo rules found 0 lists
+none_listed_to rules found lists is = record { long = ap length is; each = λ stop lt. absurd (omega (arith, lt)) }
+
+pub one_listed_to : {V : Type 0} (rules : Rules V) (found : ℕ → List (Point V)) (n : ℕ) (old new : List (Vec (Point V))) (points : Vec (Point V))
+    → AreListedTo rules found n old → AreInOrder rules (found n) points.items → new ≡ old ++ points ∷ [] → AreListedTo rules found (n + 1) new
+one_listed_to {V} rules found n old new points was here is =
+    let was_long = was.long in
+    record {
+      long = ap length is ∙ length_push old points ∙ ap (λ k. k + 1) was_long;
+      each = λ stop lt. elim (cases_eq stop n) [
+        | inl last ↦
+            let there : slice_get new stop ≡ Some points =
+            ap (λ (xs : List (Vec (Point V))). slice_get xs stop) is ∙ ap (λ k. slice_get (old ++ points ∷ []) k) (last ∙ sym was_long)
+            ∙ slice_get-last old points in
+            subst (λ (o : Option (Vec (Point V))). AreInOrder rules (found stop) (points_in o)) (sym there)
+            (subst (λ k. AreInOrder rules (found k) points.items) (sym last) here)
+        | inr other ↦
+            let below : stop < length old = omega (arith, lt, other, was_long) in
+            let same : slice_get new stop ≡ slice_get old stop = ap (λ (xs : List (Vec (Point V))). slice_get xs stop) is ∙ slice_get-front old
+            (points ∷ []) stop below in
+            subst (λ (o : Option (Vec (Point V))). AreInOrder rules (found stop) (points_in o)) (sym same) (was.each stop (omega (arith, lt, other)))
+      ];
+    }
+
+-- past the last stop nothing was found
+pub all_listed_to : {V : Type 0} (rules : Rules V) (found : ℕ → List (Point V)) (n : ℕ) (lists : List (Vec (Point V)))
+    → AreListedTo rules found n lists → ((stop : ℕ) → n ≤ stop → found stop ≡ []) → (stop : ℕ) → AreInOrder rules (found stop)
+    (points_in (slice_get lists stop))
+all_listed_to {V} rules found n lists are past stop = elim (slice_get_cases lists stop).1 [
+  | inl there ↦ (let long = are.long in let lt = there.1 in are.each stop (omega (arith, long, lt)))
+  | inr beyond ↦
+      let long = are.long in
+      let le = beyond.0 in
+      let none = past stop (omega (arith, long, le)) in
+      subst (λ (o : Option (Vec (Point V))). AreInOrder rules (found stop) (points_in o)) (sym beyond.1)
+      (subst (λ (ps : List (Point V)). AreInOrder rules ps []) (sym none) no_points)
+]
+  where
+    no_points : AreInOrder rules [] []
+    no_points = record { ordered = λ i j e lt within. absurd (omega (arith, within)); only = λ p h. h; each = λ p h. h }
+
+-- points that match at the start of the window, in order, are the answer, and each is attained by what its tag tells
+pub answered_from : {V : Type 0} (rules : Rules V) → Laws rules → (t : TimetableValue) (q : Query) → CanScan t q → (start : ℕ)
+    → IsFirstAt t q.from start → (s : Story) (found points : List (Point V))
+    → Matches rules (told t.footpaths s).journey (CountsFrom t q start) (IsPlain t q.target) (journey_value rules t) found → IsBag rules found
+    → AreInOrder rules found points
+    → IsAnswer rules t q points × ((p : Point V) → Contains points p → IsAttained (told t.footpaths s).journey (Counts t q) (IsPlain t q.target)
+    (journey_value rules t) p)
+answered_from rules laws t q can start is_start s found points matches bag are =
+    let tags = told t.footpaths s in (
+      match_is_the_answer rules laws t q can start is_start tags points
+          (listed_match rules tags.journey (CountsFrom t q start) (IsPlain t q.target) (journey_value rules t) found points are.only are.each matches)
+          (listed_bag rules laws found points bag are.ordered are.only)
+          are.ordered,
+      λ p h. let a = matches.sound p (are.only p h) in record { way = a.way; spells = a.spells; there = a.there.counts; plain = a.plain; worth = a.worth },
+    )
+
+-- told in nodes they still are
+pub answered_in_nodes : {V : Type 0} (rules : Rules V) (t : TimetableValue) (q : Query) (s : Story) (nodes : List Node)
+    (points retold : List (Point V)) (walk : Option ℕ)
+    → IsAnswer rules t q points → ((p : Point V) → Contains points p → IsAttained (told t.footpaths s).journey (Counts t q) (IsPlain t q.target)
+    (journey_value rules t) p)
+    → map untagged retold ≡ map untagged points → ((p : Point V) → Contains retold p → IsRetold t.footpaths s points nodes p)
+    → IsWay t q.target q.source walk → IsAnswered rules t q retold nodes walk
+answered_in_nodes rules t q s nodes points retold walk answer attained same says way = record {
+  answer = retold_answer rules t q points retold same answer;
+  attained = λ p h.
+      let r = says p h in
+      let a = attained r.of r.is_there in
+      record {
+        way = a.way;
+        spells = r.says a.way a.spells;
+        there = subst (λ (n : ℕ). Counts t q n a.way)
+            (sym r.departs) a.there;
+        plain = a.plain;
+        worth = r.worth ∙ a.worth;
+      };
+  direct = way;
+}
+
+-- of each point a journey is told
+pub attained_told : {V : Type 0} (rules : Rules V) (t : TimetableValue) (q : Query) (s : Story) (points : List (Point V)) →
+    ((p : Point V) → Contains points p → IsAttained (told t.footpaths s).journey (Counts t q) (IsPlain t q.target) (journey_value rules t) p) →
+    (p : Point V) → Contains points p → IsJourneyTold t.footpaths s p.tag
+attained_told rules t q s points attained p h = let a = attained p h in (a.way, a.spells)

@@ -1,0 +1,107 @@
+use Rattle.std.proofs.Common.{◌≡◌, ◌<◌, ℕ, length, sym, ◌∙◌, subst, arith}
+use Rattle.profile_scan.specs.Matching.{from_to}
+use Rattle.profile_scan.specs.Story.{story, told}
+use Rattle.profile_scan.specs.Steps.{TakesIn}
+use Rattle.profile_scan.specs.Adding.{label_points, each_of, IsTried, settings_out_by}
+use Rattle.profile_scan.specs.Origins.{found_from, from_stop, set_outs_from}
+use Rattle.profile_scan.proofs.StoryLemmas.{grows_on, set_outs_grow}
+use Rattle.profile_scan.proofs.BoardLemmas.{starts_first, starts_next, settings_out_taken}
+use Rattle.profile_scan.proofs.OriginLemmas.{origins_none, origins_on}
+use Rattle.profile_scan.proofs.StepFacts.{begins_in}
+use Rattle.profile_scan.proofs.origins.Origins.set_out.Given as given
+use Rattle.profile_scan.proofs.origins.Origins.set_out.Goals.{Start}
+use Rattle.profile_scan.proofs.origins.Origins.set_out.Goals as goal
+
+-- the connection begins at a stop
+begins : (g : given.Over) (c : goal.Start g) → c.args.hop.now.connection.from < (g.S.ConnSource.timetable c.args.source.now).stops
+begins g c =
+    let at = c.requires.hop.stands in
+    begins_in (g.S.ConnSource.timetable c.args.source.now) (g.met.S.ConnSource.legal c.args.source.now) c.args.hop.now.place at.in_range
+    c.args.hop.now.connection at.is
+
+pub walks_into-begin-requires : goal.walks_into-begin-requires
+walks_into-begin-requires g c = begins g (goal.at.walks_into-begin-requires g c).Start
+
+pub footpath_into-walk-requires-clause-stop : goal.footpath_into-walk-requires-clause-stop
+footpath_into-walk-requires-clause-stop g c = begins g (goal.at.footpath_into-walk-requires-clause-stop g c).Start
+
+pub set_out_by-requires-clause-stop : goal.set_out_by-requires-clause-stop
+set_out_by-requires-clause-stop g c =
+    subst (λ (n : ℕ). c.args.hop.now.connection.from < n) (sym (c.args.self.now.each.ok.0 ∙ c.requires.origins.long))
+    (begins g (goal.at.set_out_by-requires-clause-stop g c).Start)
+
+pub set_out_by-requires-clause-origins : goal.set_out_by-requires-clause-origins
+set_out_by-requires-clause-origins g c = c.requires.origins.under
+
+pub set_out_by-requires-in-loop-place-clause-stop : goal.set_out_by-requires-in-loop-place-clause-stop
+set_out_by-requires-in-loop-place-clause-stop g c =
+    let from_in = ((g.met.S.ConnSource.legal c.args.source.now).ends_in_range c.loop-place.place c.footpath_into-walk.result c.footpath_into-walk.ensures).0 in
+    subst (λ (n : ℕ). c.footpath_into-walk.result.from < n) (sym (c.loop-place.self.each.ok.0 ∙ c.loop-place.invariant.origins.long
+    ∙ c.requires.origins.long)) from_in
+
+pub set_out_by-requires-in-loop-place-clause-origins : goal.set_out_by-requires-in-loop-place-clause-origins
+set_out_by-requires-in-loop-place-clause-origins g c = c.loop-place.invariant.origins.under
+
+pub loop-place-init : goal.loop-place-init
+loop-place-init g c =
+    let rules = g.C.Criterion.rules c.args.asked.now.criterion in
+    let walks = (g.S.ConnSource.timetable c.args.source.now).footpaths in
+    record {
+      origins = c.in_ok-set_out_by.ensures.origins;
+      takes = λ stop exits steps before all ext_before ext. starts_first rules walks
+          (settings_out_by rules (from_to (told walks before) (told walks all)) c.args.hop.now.place c.args.hop.now.connection
+          (from_stop c.args.asked.now.query stop) (label_points c.args.labels.now)) c.walks_into-begin.result.0 (found_from c.args.self.now stop)
+          (found_from c.set_out_by.new.self stop) (c.in_ok-set_out_by.ensures.takes walks stop exits steps before all ext_before ext);
+    }
+
+pub loop-place-preserved : goal.loop-place-preserved
+loop-place-preserved g c =
+    let t = g.S.ConnSource.timetable c.args.source.now in
+    let inv = c.loop-place.invariant in
+    let walk = c.footpath_into-walk.result in
+    let old = c.args.self.now in
+    let mid = c.loop-place.self in
+    let new = c.set_out_by-in-loop-place.new.self in
+    record {
+      origins = origins_on c.args.asked.now.criterion old mid new inv.origins c.in_ok-set_out_by-2.ensures.origins;
+      takes = λ stop exits steps before all ext_before ext.
+          let old_outs = set_outs_from old stop in
+          let mid_outs = set_outs_from mid stop in
+          let new_outs = set_outs_from new stop in
+          let s0 = story exits steps old_outs in
+          let s1 = story exits steps mid_outs in
+          let s2 = story exits steps new_outs in
+          starts_next (g.C.Criterion.rules c.args.asked.now.criterion) (g.met.C.Criterion.laws c.args.asked.now.criterion) t
+          (g.met.S.ConnSource.limits c.args.source.now) (label_points c.args.labels.now) c.requires.labels
+          (from_to (told t.footpaths before) (told t.footpaths all)) c.args.hop.now.place c.args.hop.now.connection
+          (from_stop c.args.asked.now.query stop) c.walks_into-begin.result.0 c.loop-place.place walk (found_from old stop) (found_from mid stop)
+          (found_from new stop)
+          c.loop-place.auto.place c.footpath_into-walk.ensures
+          (inv.takes stop exits steps before all ext_before (grows_on s1 s2 all
+          (set_outs_grow exits steps mid_outs new_outs (c.in_ok-set_out_by-2.ensures.origins.set_outs stop)) ext))
+          (c.in_ok-set_out_by-2.ensures.takes t.footpaths stop exits steps before all
+          (grows_on before s0 s1 ext_before (set_outs_grow exits steps old_outs mid_outs (inv.origins.set_outs stop))) ext);
+    }
+
+pub returns-clause-takes : goal.returns-clause-takes
+returns-clause-takes g c stop exits steps before all ext_before ext =
+    let rules = g.C.Criterion.rules c.args.asked.now.criterion in
+    let t = g.S.ConnSource.timetable c.args.source.now in
+    let labels = label_points c.args.labels.now in
+    let q = from_stop c.args.asked.now.query stop in
+    let tags = from_to (told t.footpaths before) (told t.footpaths all) in
+    let begin = c.walks_into-begin.result.0 in
+    let over = c.loop-place-test.false in
+    let within = c.loop-place.auto.place-end c.walks_into-begin.ensures.order in
+    let at_end : c.loop-place.place ≡ c.walks_into-begin.result.1 = omega arith in
+    let old = found_from c.args.self.now stop in
+    let new = found_from c.loop-place.self stop in
+    settings_out_taken rules t tags c.args.hop.now.place c.args.hop.now.connection c.requires.hop.stands.is c.if-not-hop.false begin
+    c.walks_into-begin.result.1 c.walks_into-begin.ensures.exact labels
+    q old new
+    (subst (λ (n : ℕ). TakesIn rules (each_of (IsTried t.footpaths begin n)
+    (settings_out_by rules tags c.args.hop.now.place c.args.hop.now.connection q labels)) old new) at_end
+    (c.loop-place.invariant.takes stop exits steps before all ext_before ext))
+
+pub returns-then-not-hop-clause-origins : goal.returns-then-not-hop-clause-origins
+returns-then-not-hop-clause-origins g c = origins_none c.args.asked.now.criterion c.args.self.now c.requires.origins.under

@@ -1,0 +1,68 @@
+use Rattle.std.proofs.Common.{◌≡◌, ◌<◌, ◌-◌, ℕ, List, Option, IfSome, refl, sym, ◌∙◌, subst, inl, inr}
+use Rattle.std.proofs.lemmas.Bool.{cases_eq}
+use Rattle.criteria.specs.Laws.{IsSecs}
+use Rattle.timetable.specs.declared.network.Footpath.{Footpath}
+use Rattle.timetable.specs.Journeys.{start_secs}
+use Rattle.profile_scan.specs.Steps.{TakesIn}
+use Rattle.profile_scan.specs.Matching.{from_to}
+use Rattle.profile_scan.specs.Story.{told}
+use Rattle.profile_scan.specs.Adding.{label_points, MayStart, only_if, settings_out_after}
+use Rattle.profile_scan.specs.Origins.{SourceTakes, found_from, from_stop, starts_at}
+use Rattle.profile_scan.proofs.Offers.{on_ok_both, on_ok_more, takes_if}
+use Rattle.profile_scan.proofs.OriginLemmas.{origins_none, other_start, source_unless}
+use Rattle.profile_scan.proofs.origins.Origins.set_out_by.Goals as goal
+
+pub set_out_from-requires-clause-secs : goal.set_out_from-requires-clause-secs
+set_out_from-requires-clause-secs g c = subst (λ (start : Option Footpath). IfSome start (λ walk. IsSecs walk.secs)) (sym c.in-Some.ensures.1) c.requires.secs
+
+pub set_out_from-requires-clause-stop : goal.set_out_from-requires-clause-stop
+set_out_from-requires-clause-stop g c = subst (λ (n : ℕ). n < c.args.self.now.each.len) (sym c.source_of-stop.ensures) c.requires.stop
+
+pub returns-in-Some-clause-takes : goal.returns-in-Some-clause-takes
+returns-in-Some-clause-takes g c =
+    let rules = g.C.Criterion.rules c.args.asked.now.criterion in
+    let q = c.args.asked.now.query in
+    let cn = c.args.hop.now.connection in
+    let start = c.args.start in
+    let is = c.in-Some.ensures in
+    let old = c.args.self.now in
+    let new = c.set_out_from.new.self in
+    let labels = label_points c.args.labels.now in
+    let here = c.source_of-stop.result in
+    let others = c.set_out_from.ensures.others in
+    on_ok_more c.set_out_from.result _ _
+    (λ both walks stop. elim (cases_eq stop here) [
+      | inl same ↦
+          subst (λ (n : ℕ). SourceTakes rules walks n (λ tags. only_if (MayStart (from_stop q n) cn start)
+          (settings_out_after rules tags c.args.hop.now.place (cn.dep - start_secs start) start labels)) old new) (sym same)
+          (λ exits steps before all ext_before ext.
+          let tags = from_to (told walks before) (told walks all) in
+          takes_if rules (MayStart (from_stop q here) cn start)
+          (settings_out_after rules tags c.args.hop.now.place (cn.dep - start_secs start) start labels) (found_from old here) (found_from new here) is.0
+          (subst (λ (s : Option Footpath). TakesIn rules (settings_out_after rules tags c.args.hop.now.place (cn.dep - start_secs start) s labels)
+          (found_from old here) (found_from new here)) is.1
+          (subst (λ (n : ℕ). TakesIn rules (settings_out_after rules tags c.args.hop.now.place n c.in-Some.departure.start labels)
+          (found_from old here) (found_from new here)) is.2 (both.0 walks exits steps before all ext_before ext))))
+      | inr other ↦
+          source_unless rules walks stop (MayStart (from_stop q stop) cn start)
+          (λ tags. settings_out_after rules tags c.args.hop.now.place (cn.dep - start_secs start) start labels) old new
+          (both.1 stop other) (other_start q cn start stop (λ e. other (e ∙ sym c.source_of-stop.ensures)))
+    ])
+    (on_ok_both c.set_out_from.result _ _ c.set_out_from.ensures.takes others)
+
+pub returns-in-None-clause-takes : goal.returns-in-None-clause-takes
+returns-in-None-clause-takes g c walks stop =
+    let rules = g.C.Criterion.rules c.args.asked.now.criterion in
+    let q = c.args.asked.now.query in
+    let cn = c.args.hop.now.connection in
+    let start = c.args.start in
+    let labels = label_points c.args.labels.now in
+    source_unless rules walks stop (MayStart (from_stop q stop) cn start)
+    (λ tags. settings_out_after rules tags c.args.hop.now.place (cn.dep - start_secs start) start labels) c.args.self.now c.args.self.now refl
+    (λ may. elim (cases_eq stop c.source_of-stop.result) [
+      | inl same ↦ c.in-None.ensures (subst (λ (n : ℕ). MayStart (from_stop q n) cn start) same may)
+      | inr other ↦ other_start q cn start stop (λ e. other (e ∙ sym c.source_of-stop.ensures)) may
+    ])
+
+pub returns-in-None-clause-origins : goal.returns-in-None-clause-origins
+returns-in-None-clause-origins g c = origins_none c.args.asked.now.criterion c.args.self.now c.requires.origins

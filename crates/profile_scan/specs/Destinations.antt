@@ -1,0 +1,25 @@
+-- What is asked of every stop at once, and when it can be.
+use Rattle.std.specs.Prelude.{◌≡◌, ◌≢◌, ℕ, ◌<◌, ◌≤◌}
+use Rattle.timetable.specs.declared.limits.TheConstants.{TIME_END}
+use Rattle.timetable.specs.declared.query.Query.{Query}
+use Rattle.timetable.specs.declared.query.QueryFault.{QueryFault}
+use Rattle.timetable.specs.declared.query.QueryFault.TheVariants.{UnknownStop, SameStop, BadWindow}
+use Rattle.timetable.specs.Queries.{IsAskable, HasBadWindow}
+use Rattle.profile_scan.specs.declared.destination.Destination.{Destination}
+
+-- the query from a stop
+abbrev pub query_from : Destination → ℕ → Query
+query_from d stop = record { source = stop; target = d.target; from = d.from; until = d.until; by = d.by }
+
+-- to a stop of a timetable with so many, in a window that is there
+pub record CanBeAsked (stops : ℕ) (d : Destination) : Type 0 where
+  pub target : d.target < stops
+  pub window : d.from ≤ d.until
+  pub in_time : d.from ≤ d.by
+  pub small : (d.from < TIME_END) × (d.until < TIME_END) × (d.by < TIME_END)
+
+-- what is wrong with it, and that nothing before it is
+abbrev pub IsDestinationFault : ℕ → Destination → QueryFault → Type 0
+IsDestinationFault stops d UnknownStop = stops ≤ d.target
+IsDestinationFault stops d SameStop = ⊥
+IsDestinationFault stops d BadWindow = (d.target < stops) × HasBadWindow (query_from d d.target)

@@ -1,0 +1,98 @@
+-- What one scan for all sources keeps, and what it finds.
+use Rattle.std.specs.Prelude.{◌≡◌, ◌≢◌, ℕ, ◌<◌, List, [], length, Contains, AllPairs, Option, Some, None, slice_get}
+use Rattle.std.specs.Prelude.{slice_index_or}
+use Rattle.std.specs.Global.{Vec}
+use Rattle.criteria.specs.Laws.{Rules}
+use Rattle.bags.specs.declared.point.Point.{Point}
+use Rattle.timetable.specs.TimetableValue.{TimetableValue}
+use Rattle.timetable.specs.declared.query.Query.{Query}
+use Rattle.timetable.specs.Journeys.{Counts}
+use Rattle.fronts.specs.Labels.{AreLabels, runs_of}
+use Rattle.fronts.specs.Lists.{steps_of}
+use Rattle.profile_scan.specs.Values.{journey_value}
+use Rattle.profile_scan.specs.Continuations.{CountsFrom}
+use Rattle.profile_scan.specs.Plain.{IsPlain}
+use Rattle.profile_scan.specs.Points.{Before, IsAnswer}
+use Rattle.profile_scan.specs.Matching.{IsAttained, Matches, ScanValue}
+use Rattle.profile_scan.specs.Adding.{trip_points}
+use Rattle.profile_scan.specs.Story.{Story, story, told}
+use Rattle.profile_scan.specs.Kept.{AreStops, IsWay, points_at, ways_of}
+use Rattle.profile_scan.specs.Destinations.{query_from}
+use Rattle.profile_scan.specs.Origins.{AreOrigins, found_from, from_stop, set_outs_from}
+use Rattle.profile_scan.specs.declared.destination.Destination.{Destination}
+use Rattle.profile_scan.specs.declared.everywhere.StateOfAll.{StateOfAll}
+use Rattle.profile_scan.specs.declared.profiles.Profiles.{Profiles}
+
+-- what is kept, as one source sees it
+abbrev pub kept_from : {K V : Type 0} {c : _} → StateOfAll K V c → ℕ → ScanValue V
+kept_from state stop = record {
+  bag = points_at state.stops;
+  labels = trip_points state.trips.labels;
+  found = found_from state.origins stop;
+}
+
+-- what is written down, as one source sees it
+abbrev pub story_from : {K V : Type 0} {c : _} → StateOfAll K V c → ℕ → Story
+story_from state stop =
+    story state.trips.exits.items (steps_of state.stops.lists) (set_outs_from state.origins stop)
+
+-- a state over so many stops and trips, under a criterion
+pub record IsStateOfAll {K V : Type 0} {c : _} (rules_of : K → Rules V) (criterion : K) (stops trips : ℕ)
+    (state : StateOfAll K V c) : Type 0 where
+  pub at_stops : AreStops rules_of criterion stops state.stops
+  pub long : length (runs_of state.trips.labels) ≡ trips
+  pub labels : AreLabels (rules_of criterion) state.trips.labels
+  pub origins : AreOrigins criterion stops state.origins
+
+-- the points found from a stop match every journey from there that boards at a place or later
+abbrev pub HasFoundFrom : {K V : Type 0} {c : _} → Rules V → TimetableValue → Query → ℕ → StateOfAll K V c → ℕ → Type 0
+HasFoundFrom rules t q start state stop =
+    Matches rules (told t.footpaths (story_from state stop)).journey
+    (CountsFrom t (from_stop q stop) start) (IsPlain t q.target) (journey_value rules t) (found_from state.origins stop)
+
+-- points are those of another list, in order
+pub record AreInOrder {V : Type 0} (rules : Rules V) (found points : List (Point V)) : Type 0 where
+  pub ordered : AllPairs (Before rules) points
+  pub only : (p : Point V) → Contains points p → Contains found p
+  pub each : (p : Point V) → Contains found p → Contains points p
+
+abbrev pub points_in : {V : Type 0} → Option (Vec (Point V)) → List (Point V)
+points_in None = []
+points_in (Some points) = points.items
+
+-- the points of a stop, at their places
+abbrev pub listed_from : {K V : Type 0} {c : _} → Profiles K V c → ℕ → List (Point V)
+listed_from profiles stop = points_in (slice_get profiles.lists.items stop)
+
+-- what was asked of every stop, and of how many
+abbrev pub destination_of : {K V : Type 0} {c : _} → Profiles K V c → Destination
+destination_of profiles = profiles.destination
+
+abbrev pub stops_of : {K V : Type 0} {c : _} → Profiles K V c → ℕ
+stops_of profiles = length profiles.lists.items
+
+abbrev pub criterion_of_profiles : {K V : Type 0} {c : _} → Profiles K V c → K
+criterion_of_profiles profiles = profiles.asked.criterion
+
+-- the seconds of the footpath from a stop to the target, if there is one
+abbrev pub walk_from : {K V : Type 0} {c : _} → Profiles K V c → ℕ → Option ℕ
+walk_from profiles stop = slice_index_or (ways_of profiles.asked.ways) stop None
+
+-- of a stop: its list is the answer of a query, each point's tag tells a plain journey that counts, with the point's
+-- departure and value, and the walk is the footpath from there to the target
+pub record AnswersFrom {K V : Type 0} {c : _} (rules : Rules V) (t : TimetableValue) (q : Query)
+    (profiles : Profiles K V c) : Type 0 where
+  pub answer : IsAnswer rules t q (listed_from profiles q.source)
+  pub attained : (p : Point V) → Contains (listed_from profiles q.source) p
+      → IsAttained (told t.footpaths (story_from profiles.state q.source)).journey
+      (Counts t q) (IsPlain t q.target) (journey_value rules t) p
+  pub direct : IsWay t q.target q.source (walk_from profiles q.source)
+
+-- the same of every stop but the target of what was asked, each by the query from there
+pub record AnswerAll {K V : Type 0} {c : _} (rules_of : K → Rules V) (t : TimetableValue)
+    (profiles : Profiles K V c) : Type 0 where
+  pub each : (stop : ℕ) → stop < t.stops → stop ≢ (destination_of profiles).target
+      → AnswersFrom (rules_of (criterion_of_profiles profiles)) t (query_from (destination_of profiles) stop) profiles
+  pub long : stops_of profiles ≡ t.stops
+  pub origins : AreOrigins (criterion_of_profiles profiles) t.stops profiles.state.origins
+  pub ways : length (ways_of profiles.asked.ways) ≡ t.stops

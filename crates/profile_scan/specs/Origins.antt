@@ -1,0 +1,67 @@
+-- What a scan keeps for each stop as a source.
+use Rattle.std.specs.Prelude.{◌≡◌, ℕ, List, [], length, Option, Some, None, slice_get}
+use Rattle.criteria.specs.Laws.{Rules}
+use Rattle.bags.specs.Bag.{criterion_of, points_of}
+use Rattle.bags.specs.declared.point.Point.{Point}
+use Rattle.timetable.specs.declared.network.Connection.{Connection}
+use Rattle.timetable.specs.declared.network.Footpath.{Footpath}
+use Rattle.timetable.specs.declared.query.Query.{Query}
+use Rattle.fronts.specs.Front.{Extends}
+use Rattle.fronts.specs.declared.entry.Step.{Step}
+use Rattle.profile_scan.specs.Matching.{Spellings}
+use Rattle.profile_scan.specs.Steps.{Offer}
+use Rattle.profile_scan.specs.Adding.{Takes}
+use Rattle.profile_scan.specs.Story.{story}
+use Rattle.profile_scan.specs.declared.origin.Origin.{Origin}
+use Rattle.profile_scan.specs.declared.origins.Origins.{Origins}
+use Rattle.profile_scan.specs.declared.story.Exit.{Exit}
+use Rattle.profile_scan.specs.declared.story.SetOut.{SetOut}
+
+-- the same query from another stop
+abbrev pub from_stop : Query → ℕ → Query
+from_stop q stop = record q { source = stop }
+
+-- the stop where one sets out by a start to board a connection
+abbrev pub starts_at : Connection → Option Footpath → ℕ
+starts_at c None = c.from
+starts_at c (Some walk) = walk.from
+
+abbrev pub found_by : {K V : Type 0} {c : _} → Option (Origin K V c) → List (Point V)
+found_by None = []
+found_by (Some origin) = points_of origin.found
+
+abbrev pub set_outs_by : {K V : Type 0} {c : _} → Option (Origin K V c) → List SetOut
+set_outs_by None = []
+set_outs_by (Some origin) = origin.set_outs.items
+
+-- the points found from a stop, and how one sets out for each
+abbrev pub found_from : {K V : Type 0} {c : _} → Origins K V c → ℕ → List (Point V)
+found_from origins stop = found_by (slice_get origins.each.items stop)
+
+abbrev pub set_outs_from : {K V : Type 0} {c : _} → Origins K V c → ℕ → List SetOut
+set_outs_from origins stop = set_outs_by (slice_get origins.each.items stop)
+
+-- the points found from each stop are under a criterion
+abbrev pub AreUnder : {K V : Type 0} {c : _} → K → Origins K V c → Type 0
+AreUnder {K} {V} {c} criterion origins =
+    (stop : ℕ) (origin : Origin K V c) → slice_get origins.each.items stop ≡ Some origin
+    → criterion_of origin.found ≡ criterion
+
+-- and so many stops have some
+pub record AreOrigins {K V : Type 0} {c : _} (criterion : K) (count : ℕ) (origins : Origins K V c) : Type 0 where
+  pub long : length origins.each.items ≡ count
+  pub under : AreUnder criterion origins
+
+-- they stay so, and ways to set out are only added
+pub record ChangesOrigins {K V : Type 0} {c : _} (criterion : K) (old new : Origins K V c) : Type 0 where
+  pub long : length new.each.items ≡ length old.each.items
+  pub under : AreUnder criterion new
+  pub set_outs : (stop : ℕ) → Extends (set_outs_from old stop) (set_outs_from new stop)
+
+-- the points found from a stop take an offer in
+abbrev pub SourceTakes : {A K V : Type 0} {c : _}
+    → Rules V → List Footpath → ℕ → (Spellings → Offer A V) → Origins K V c → Origins K V c → Type 0
+SourceTakes rules walks stop offer old new =
+    (exits : List Exit) (steps : List Step)
+    → Takes rules walks (story exits steps (set_outs_from old stop)) (story exits steps (set_outs_from new stop))
+    offer (found_from old stop) (found_from new stop)
