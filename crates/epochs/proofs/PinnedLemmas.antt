@@ -1,5 +1,5 @@
 -- What a seat shows it knows, and what is pinned is left alone.
-use Rattle.std.proofs.Common.{◌≡◌, ◌≢◌, ℕ, ◌+◌, ◌*◌, List, [], ◌∷◌, map, Option, Some, None, MatchOption, refl, ap, sym, ◌∙◌, subst}
+use Rattle.std.proofs.Common.{◌≡◌, ℕ, ◌+◌, ◌*◌, List, [], map, Option, Some, None, MatchOption, refl, ap, sym, ◌∙◌, subst}
 use Rattle.std.specs.Arc.{arc_value}
 use mathlib.Core.Option.{some, none}
 use lib.ListN.{get_elem?}
@@ -8,7 +8,6 @@ use Rattle.image_layout.specs.Image.{ImageValue}
 use Rattle.version_core.specs.declared.state.Worker.{Worker}
 use Rattle.shelf_steps.specs.declared.edition.Edition.{Edition}
 use Rattle.shelf_steps.specs.declared.views.WorkerView.{WorkerView}
-use Rattle.shelf_steps.specs.declared.views.LoaderView.{LoaderView}
 use Rattle.shelf_steps.specs.declared.views.View.{View}
 use Rattle.shelf_steps.specs.Course.{NeverFreedSince}
 use Rattle.shelf_steps.specs.Events.{known_of}
@@ -16,8 +15,7 @@ use Rattle.shelf_steps.specs.Plays.{Mine, OfWorker}
 use Rattle.shelf_steps.proofs.Says.{held_have}
 use Rattle.shelf_steps.proofs.Held.{slots_are_out, in_use, held_stay}
 use Rattle.epochs.specs.declared.seats.Answer.{Answer}
-use Rattle.epochs.specs.Seats.{SeatValue}
-use Rattle.epochs.specs.ShelfSeats.{ShelfSeatValue, FitsSeat, IsHolding, ShowsWhatItKnows, slots_of, held_at, seen_of}
+use Rattle.epochs.specs.ShelfSeats.{ShelfSeatValue, FitsSeat, HoldsByView, ShowsWhatItKnows, slots_of, held_at, seen_of}
 use Rattle.epochs.specs.Pinned.{PinnedAreLeftAlone}
 
 -- the worker's view of which something holds
@@ -61,9 +59,9 @@ shows table number (Some x) m answers h =
 
 pub pinned_left_alone : PinnedAreLeftAlone
 pinned_left_alone seat version image table l i r shown held loads at =
-    let h : IsHolding seat version image =
+    let h : HoldsByView seat version image =
     subst (λ (o : Option (ℕ × ImageValue)). MatchOption o (OfWorker seat.view (λ v. v.now ≡ Worker.Idle)
-    × (seat.slots ≡ [])) (λ x. IsHolding seat x.0 x.1)) held shown in
+    × (seat.slots ≡ [])) (λ x. HoldsByView seat x.0 x.1)) held shown in
     let k = h.shelf in let w = h.worker in
     let here : get_elem? table.views i ≡ some (View.Working w) = at ∙ ap (λ (u : View). some u) h.is_worker in
     let has = held_have table l i k version w r loads here h.now in

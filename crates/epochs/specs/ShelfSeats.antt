@@ -41,7 +41,7 @@ FitsSeat number None m = IsIdleAs number m
 FitsSeat number (Some h) m = (h.0 < 8) × IsHoldingAs number h.0 h.1 m × HoldsIn (known_of m.0) number h.1.version (arc_value h.1.image)
 
 -- by what the seat knows its worker holds this version with this image, on a shelf of which its own slot is out with the seat, and no other
-pub record IsHolding (a : ShelfSeatValue) (version : ℕ) (image : ImageValue) : Type 0 where
+pub record HoldsByView (a : ShelfSeatValue) (version : ℕ) (image : ImageValue) : Type 0 where
   pub shelf : ℕ
   pub small : shelf < 8
   pub worker : WorkerView
@@ -53,7 +53,7 @@ pub record IsHolding (a : ShelfSeatValue) (version : ℕ) (image : ImageValue) :
 
 -- the seat shows what it knows: what it shows that it holds, its worker holds; else its worker is idle, and no slot is out with it
 abbrev pub ShowsWhatItKnows : ShelfSeatValue → Type 0
-ShowsWhatItKnows a = MatchOption a.shown.held (OfWorker a.view (λ v. v.now ≡ Worker.Idle) × (a.slots ≡ [])) (λ h. IsHolding a h.0 h.1)
+ShowsWhatItKnows a = MatchOption a.shown.held (OfWorker a.view (λ v. v.now ≡ Worker.Idle) × (a.slots ≡ [])) (λ h. HoldsByView a h.0 h.1)
 
 -- one to four looks that rise, of which the last found the version that is held; or four that rise, each followed by a
 -- take that came late and a drop; or nothing, where the seat held a version. No other fault comes
@@ -82,7 +82,13 @@ JoinsByStep a version b = (b.view ≡ joins_notice a.view (View.Noting version))
 
 -- the seat of a worker that has done nothing
 abbrev pub new_seat : TableId → ℕ → ShelfSeatValue
-new_seat table number = record { table = table; number = number; view = View.Working (newcomer number); slots = []; shown = record { answers = []; held = None; seen = 0 } }
+new_seat table number = record {
+  table = table;
+  number = number;
+  view = View.Working (newcomer number);
+  slots = [];
+  shown = record { answers = []; held = None; seen = 0 };
+}
 
 -- n seats of the table, numbered from 0
 abbrev pub SeatsHanded : TableId → ℕ → List ShelfSeatValue → Type 0

@@ -1,9 +1,7 @@
 -- What a worker holds stays: its slot is out, its shelf in use, and no event frees it.
 use Rattle.std.proofs.Common.{◌≡◌, ◌≢◌, ℕ, suc, ◌+◌, ◌*◌, ◌<◌, ◌≤◌, List, [], ◌∷◌, ◌++◌, length, Option, Some, slice_get, get_or, ap, sym, ◌∙◌}
 use Rattle.std.proofs.Common.{subst, arith, refl, inl, inr}
-use mathlib.Core.Logic.{dite}
 use mathlib.Core.Option.{some, none}
-use native.Mathlib.Decide.{ℕ_discrete}
 use lib.ListN.{get_elem?}
 use Rattle.reasoning.proofs.ListLemmas.{slice_get-set_other}
 use Rattle.version_core.specs.declared.event.Event.{Event}
@@ -18,7 +16,6 @@ use Rattle.version_core.specs.Kept.{Kept, version_of}
 use Rattle.version_core.specs.Shown.{shelf_word}
 use Rattle.version_core.proofs.Keeps.{start_kept, step_kept, held_known, stays_fits}
 use Rattle.version_core.proofs.Runs.{run_kept, runs_part}
-use Rattle.shelf_steps.specs.declared.edition.Edition.{Edition}
 use Rattle.shelf_steps.specs.declared.views.WorkerView.{WorkerView}
 use Rattle.shelf_steps.specs.declared.views.LoaderView.{LoaderView}
 use Rattle.shelf_steps.specs.declared.views.View.{View}
@@ -31,7 +28,7 @@ use Rattle.shelf_steps.specs.Laws.{Shelved, IsLoader, HoldersSlotsAreOut, FreeSl
 use Rattle.shelf_steps.proofs.Courses.{kept_of}
 use Rattle.shelf_steps.proofs.Works.{held_on}
 use Rattle.shelf_steps.proofs.WordsAfter.{few_counted}
-use Rattle.shelf_steps.proofs.Says.{is_loader, knows, same_shelf}
+use Rattle.shelf_steps.proofs.Says.{is_loader, same_shelf}
 
 -- the holder's slot of its shelf
 slot_out : (y : Shelf) (images : List ImageValue) (workers : List Worker) (hand : Option ℕ) (k w v : ℕ) (slot : Slot)

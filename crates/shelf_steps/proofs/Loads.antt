@@ -453,7 +453,8 @@ collects_found id k version l table r at many small shelf hand true found =
           (slice_get-set_same s.shelves k Shelf.Free (omega arith)) (λ j ne. slice_get-set_other s.shelves k j Shelf.Free ne)
           (λ i h. block_else table.homes [] f (16 * k) 16 i h) (prefix_same r.course.images)
           (λ j ne q. let z : None ≡ Some j = sym hand ∙ q in absurd (cc)) (λ j ne q. absurd (ne (cc)))
-          (λ u less. inr (refl, block_out table.homes [] f (16 * k) 16 (16 * k + u) (omega arith) (omega arith) (omega arith))) (loader_slots table r id l at)) in (
+          (λ u less. inr (refl, block_out table.homes [] f (16 * k) 16 (16 * k + u) (omega arith) (omega arith) (omega arith)))
+          (loader_slots table r id l at)) in (
       View.Loading l',
       take_block f (16 * k) 16,
       block_valid table.homes [] f (16 * k) 16 home,

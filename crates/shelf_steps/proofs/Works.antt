@@ -315,7 +315,8 @@ leaves_with : (id k : ℕ) (v : WorkerView) (table : Table (Option Edition) View
     → (known : Known) × (after : Ruled (stepped table (k + 1)
     ((get_or table.words (k + 1) 0 + (18446744073709551616 - 1)) % 18446744073709551616) id c
     (View.Working (gone v known)) a))
-    × IsLonger r.course (Event.Drop v.number) Reply.Dropped after.course × (known ≡ all_of after.course) × Happened v.known (Event.Drop v.number) Reply.Dropped known
+    × IsLonger r.course (Event.Drop v.number) Reply.Dropped after.course × (known ≡ all_of after.course)
+    × Happened v.known (Event.Drop v.number) Reply.Dropped known
     × ShowsIn (gone v known)
 leaves_with id k v table r at stays c a small slots =
     let s = r.course.state in let w = v.number in let n = get_or table.words (k + 1) 0 in

@@ -5,7 +5,7 @@ use Rattle.std.specs.Prelude.{slice_index, slice_set}
 use mathlib.Core.Option.{some, none}
 use lib.ListN.{get_elem?}
 use prog.Atomic.{either}
-use Rattle.atomic_table.specs.Table.{Act, Step, step, stepped, Valid, carried_after, opening}
+use Rattle.atomic_table.specs.Table.{Act, step, stepped, Valid, carried_after, opening}
 use Rattle.version_core.specs.declared.event.Event.{Event}
 use Rattle.version_core.specs.declared.event.Reply.{Reply}
 use Rattle.version_core.specs.declared.state.Worker.{Worker}

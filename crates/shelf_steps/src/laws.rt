@@ -2,7 +2,8 @@
 //! arguments do nothing: their contracts are the laws.
 ghost use Rattle.shelf_steps.specs.Laws.{WordsAreTheLoaders, CountsAreWorkers, NumbersDiffer, HeldHaveEditions};
 ghost use Rattle.shelf_steps.specs.Laws.{SlotsOutAreHeld, SlotsAtHomeAreFilled};
-ghost use Rattle.shelf_steps.specs.Laws.{HoldersSlotsAreOut, FreeSlotsAreTheLoaders, HeldShelvesAreInUse, HeldShelvesStay};
+ghost use Rattle.shelf_steps.specs.Laws.{HoldersSlotsAreOut, FreeSlotsAreTheLoaders};
+ghost use Rattle.shelf_steps.specs.Laws.{HeldShelvesAreInUse, HeldShelvesStay};
 ghost use Rattle.shelf_steps.specs.Laws.{LooksAreSo, OneSeatLoads, OneHistory, NoticesAreOfTheirTime, OneStateIsShown};
 ghost use Rattle.shelf_steps.specs.Events.{LooksAreEvents, TakesAreEvents, DropsAreEvents, OpensAreEvents};
 ghost use Rattle.shelf_steps.specs.Events.{PublishesAreEvents, ClosesAreEvents};
