@@ -8,3 +8,4 @@ pub mod Locked
 pub mod SeatLaws
 pub mod ShelfSeats
 pub mod ShelfLoads
+pub mod Pinned

@@ -1,23 +1,30 @@
 -- What the calls of a worker's seat tell at shelves without a lock.
-use Rattle.std.specs.Prelude.{◌≡◌, ◌≢◌, ℕ, ◌<◌, List, [], length, slice_get, Option, Some, None, Result, Ok, Err}
+use Rattle.std.specs.Prelude.{◌≡◌, ◌≢◌, ℕ, ◌+◌, ◌*◌, ◌<◌, List, [], ◌∷◌, map, length, slice_get, Option, Some, None, MatchOption, Result, Ok, Err}
 use Rattle.std.specs.Arc.{arc_value}
 use Rattle.atomic_table.specs.Seated.{TableId}
 use Rattle.image_layout.specs.Image.{ImageValue}
 use Rattle.shelf_steps.specs.declared.edition.Edition.{Edition}
 use Rattle.shelf_steps.specs.declared.views.View.{View}
-use Rattle.shelf_steps.specs.Plays.{Mine, newcomer, joins_notice}
+use Rattle.version_core.specs.declared.state.Worker.{Worker}
+use Rattle.shelf_steps.specs.declared.views.WorkerView.{WorkerView}
+use Rattle.shelf_steps.specs.Plays.{Mine, OfWorker, newcomer, joins_notice}
 use Rattle.shelf_steps.specs.Pinning.{Pins, Moves, Releases, IsIdleAs, IsHoldingAs}
 use Rattle.epochs.specs.declared.faults.PinFault.{PinFault}
 use Rattle.epochs.specs.Seats.{SeatValue}
 use Rattle.epochs.specs.SeatHistory.{HoldsIn}
 use Rattle.shelf_steps.specs.Events.{known_of}
 
--- the shelves that the seat is at, the number of its worker, what it knows, and what it shows
+-- the shelves that the seat is at, the number of its worker, what it knows, the slots that are out with it, and what it shows
 pub record ShelfSeatValue : Type 0 where
   pub table : TableId
   pub number : ℕ
   pub view : View
+  pub slots : List ℕ
   pub shown : SeatValue
+
+-- the numbers of the slots that are out with a seat
+abbrev pub slots_of : Mine → List ℕ
+slots_of m = map (λ (s : ℕ × Option Edition). s.0) m.1
 
 -- the greatest version that a worker has seen
 abbrev pub seen_of : View → ℕ
@@ -32,6 +39,21 @@ held_at (Some h) = Some (h.1.version, arc_value h.1.image)
 abbrev pub FitsSeat : ℕ → Option (ℕ × Edition) → Mine → Type 0
 FitsSeat number None m = IsIdleAs number m
 FitsSeat number (Some h) m = (h.0 < 8) × IsHoldingAs number h.0 h.1 m × HoldsIn (known_of m.0) number h.1.version (arc_value h.1.image)
+
+-- by what the seat knows its worker holds this version with this image, on a shelf of which its own slot is out with the seat, and no other
+pub record HoldsByView (a : ShelfSeatValue) (version : ℕ) (image : ImageValue) : Type 0 where
+  pub shelf : ℕ
+  pub small : shelf < 8
+  pub worker : WorkerView
+  pub is_worker : a.view ≡ View.Working worker
+  pub number : worker.number ≡ a.number
+  pub now : worker.now ≡ Worker.Holding shelf version
+  pub edition : (e : Edition) × (worker.edition ≡ Some e) × (e.version ≡ version) × (arc_value e.image ≡ image)
+  pub slot : a.slots ≡ 16 * shelf + a.number ∷ []
+
+-- the seat shows what it knows: what it shows that it holds, its worker holds; else its worker is idle, and no slot is out with it
+abbrev pub ShowsWhatItKnows : ShelfSeatValue → Type 0
+ShowsWhatItKnows a = MatchOption a.shown.held (OfWorker a.view (λ v. v.now ≡ Worker.Idle) × (a.slots ≡ [])) (λ h. HoldsByView a h.0 h.1)
 
 -- one to four looks that rise, of which the last found the version that is held; or four that rise, each followed by a
 -- take that came late and a drop; or nothing, where the seat held a version. No other fault comes
@@ -60,7 +82,13 @@ JoinsByStep a version b = (b.view ≡ joins_notice a.view (View.Noting version))
 
 -- the seat of a worker that has done nothing
 abbrev pub new_seat : TableId → ℕ → ShelfSeatValue
-new_seat table number = record { table = table; number = number; view = View.Working (newcomer number); shown = record { answers = []; held = None; seen = 0 } }
+new_seat table number = record {
+  table = table;
+  number = number;
+  view = View.Working (newcomer number);
+  slots = [];
+  shown = record { answers = []; held = None; seen = 0 };
+}
 
 -- n seats of the table, numbered from 0
 abbrev pub SeatsHanded : TableId → ℕ → List ShelfSeatValue → Type 0

@@ -5,6 +5,7 @@ ghost use Rattle.epochs.specs.SeatLaws.{CollectsLeaveSeats};
 ghost use Rattle.epochs.specs.SeatHistory.{GrowthsJoin, OneImageEach, PublishedStay};
 ghost use Rattle.epochs.specs.SeatLaws.{PinsHoldPublished, CallsKeepPublished, JoinedVersionsStay};
 ghost use Rattle.epochs.specs.SeatLaws.{JoinedVersionsStayAtShelves};
+ghost use Rattle.epochs.specs.Pinned.{PinnedAreLeftAlone};
 
 /// A new seat fits a new table, and what others do leaves it so. After its own pins and releases it
 /// fits by their contracts. So a seat that is used at the table that it was handed out with, and
@@ -21,6 +22,15 @@ pub fn seats_keep_fitting()
 pub fn held_images_stay_published()
     ensures held { PinsHoldPublished }
     ensures keep { CallsKeepPublished }
+{}
+
+/// No image is collected while a seat of shelves without a lock has it pinned, at whatever moment
+/// between two steps of any seats: its version is on a shelf, its slot out with the seat and out of
+/// the loader's reach, and no collection frees the shelf. That a seat shows what it knows is
+/// `ShelfSeat::shows_what_it_knows`; that each step keeps the rule is
+/// `shelf_steps::laws::each_step_keeps_the_rule`.
+pub fn pinned_images_are_left_alone()
+    ensures { PinnedAreLeftAlone }
 {}
 
 /// In what one seat comes to know, from its first call to its last, a version has one image.

@@ -6,7 +6,7 @@ ghost use Rattle.shelf_steps.specs.declared.views.View.{View};
 ghost use Rattle.epochs.specs.SeatHistory.{Grows, HoldsAsKnown};
 ghost use Rattle.shelf_steps.specs.Events.{known_of};
 ghost use Rattle.epochs.specs.Seats.{PinStep, ReleaseStep, JoinStep, PublishStep, RefuseStep, CollectStep};
-ghost use Rattle.epochs.specs.ShelfSeats.{PinsBySteps, ReleasesBySteps, JoinsByStep};
+ghost use Rattle.epochs.specs.ShelfSeats.{PinsBySteps, ReleasesBySteps, JoinsByStep, ShowsWhatItKnows};
 ghost use Rattle.epochs.specs.ShelfLoads.{CollectsBySteps, MakesRoomBySteps, PublishesWithNotice, RefusesBySteps};
 ghost use Rattle.epochs.specs.declared.faults.PublishFault.{PublishFault};
 
@@ -104,6 +104,13 @@ impl<B: Named> NamedSeat<B> {
         ensures { result ≡ self.now.number }
     {
         self.inner.number()
+    }
+
+    /// The seat shows what it knows, as [`ShelfSeat::shows_what_it_knows`] has it.
+    pub fn shows_what_it_knows(&self)
+        ensures { ShowsWhatItKnows self.now }
+    {
+        self.inner.shows_what_it_knows();
     }
 }
 

@@ -7,7 +7,7 @@ ghost use Rattle.shelf_steps.specs.declared.views.View.{View};
 ghost use Rattle.epochs.specs.SeatHistory.{Grows, HoldsAsKnown};
 ghost use Rattle.shelf_steps.specs.Events.{known_of};
 ghost use Rattle.epochs.specs.Seats.{PinStep, ReleaseStep, JoinStep};
-ghost use Rattle.epochs.specs.ShelfSeats.{PinsBySteps, ReleasesBySteps, JoinsByStep, new_seat};
+ghost use Rattle.epochs.specs.ShelfSeats.{PinsBySteps, ReleasesBySteps, JoinsByStep, ShowsWhatItKnows, new_seat};
 
 use crate::faults::PinFault;
 use crate::notice::Notice;
@@ -28,7 +28,7 @@ pub struct ShelfSeat {
 
 impl Model for ShelfSeat {
     ghost use Rattle.std.specs.Prelude.{◌<◌};
-    ghost use Rattle.epochs.specs.ShelfSeats.{ShelfSeatValue, FitsSeat, held_at, seen_of};
+    ghost use Rattle.epochs.specs.ShelfSeats.{ShelfSeatValue, FitsSeat, slots_of, held_at, seen_of};
 
     ghost Value = { ShelfSeatValue };
 
@@ -36,6 +36,7 @@ impl Model for ShelfSeat {
       table = s.place.table;
       number = s.number;
       view = s.place.me.0;
+      slots = slots_of s.place.me;
       shown =
           record { answers = s.answers; held = held_at s.held; seen = seen_of s.place.me.0 };
     } };
@@ -63,6 +64,12 @@ impl ShelfSeat {
     {
         self.number
     }
+
+    /// The seat shows what it knows, whatever was done with it: its worker holds what it shows that it
+    /// holds, and the slot of that is out with the seat. It does nothing: its contract is the law.
+    pub fn shows_what_it_knows(&self)
+        ensures { ShowsWhatItKnows self.now }
+    {}
 
     /// The version that the seat holds, with its image.
     pub fn edition(&self) -> Option<&Edition>

@@ -19,7 +19,7 @@ use Rattle.shelf_steps.specs.declared.views.WorkerView.{WorkerView}
 use Rattle.shelf_steps.specs.declared.views.LoaderView.{LoaderView}
 use Rattle.version_core.specs.Shown.{WorkerShows}
 use Rattle.shelf_steps.specs.Course.{Course, Goes, extended, all_of, Begins, Happened, image_of, IsEdition}
-use Rattle.shelf_steps.specs.Course.{note_of, notes_in, join_of, joined_by, HasDoneNothing}
+use Rattle.shelf_steps.specs.Course.{note_of, notes_in, join_of, joined_by, HasDoneNothing, IsOfSixteen, AreOfSixteen}
 use Rattle.shelf_steps.specs.Seats.{HasEdition, WorkerFits, LoaderFits}
 
 pub kept_of : (c : Course) → Goes c → Kept c.state
@@ -28,6 +28,38 @@ kept_of c g = reached_kept c.state (c.events, record { replies = c.replies; run 
 pub none_snoc : (a : Option ℕ) (es : List Event) (e : Event) → actor e ≢ a → NoneOf a es → NoneOf a (es ++ e ∷ [])
 none_snoc a [] e n h = (n, tt)
 none_snoc a (x ∷ xs) e n h = (h.0, none_snoc a xs e n h.1)
+
+-- whose events are those of sixteen workers
+pub sixteen_snoc : (es : List Event) (e : Event) → AreOfSixteen es → IsOfSixteen e → AreOfSixteen (es ++ e ∷ [])
+sixteen_snoc [] e all one = (one, tt)
+sixteen_snoc (x ∷ xs) e all one = (all.0, sixteen_snoc xs e all.1 one)
+
+same_worker : (u w : ℕ) → Some u ≡ Some w → w < 16 → u < 16
+same_worker u w q small = let same : u ≡ w = cc in omega arith
+
+pub workers_event : (e : Event) (w : ℕ) → actor e ≡ Some w → w < 16 → IsOfSixteen e
+workers_event (Event.Look u) w q small = same_worker u w q small
+workers_event (Event.Take u) w q small = same_worker u w q small
+workers_event (Event.Drop u) w q small = same_worker u w q small
+workers_event (Event.Ask u) w q small = same_worker u w q small
+workers_event (Event.Join u v) w q small = absurd (let less = same_worker 16 w q small in omega arith)
+workers_event (Event.Open i) w q small = tt
+workers_event Event.Publish w q small = tt
+workers_event (Event.Close k) w q small = tt
+workers_event (Event.Collect k) w q small = tt
+workers_event Event.Note w q small = tt
+
+pub loaders_event : (e : Event) → actor e ≡ None → IsOfSixteen e
+loaders_event (Event.Look u) q = absurd (cc)
+loaders_event (Event.Take u) q = absurd (cc)
+loaders_event (Event.Drop u) q = absurd (cc)
+loaders_event (Event.Ask u) q = absurd (cc)
+loaders_event (Event.Join u v) q = absurd (cc)
+loaders_event (Event.Open i) q = tt
+loaders_event Event.Publish q = tt
+loaders_event (Event.Close k) q = tt
+loaders_event (Event.Collect k) q = tt
+loaders_event Event.Note q = tt
 
 -- notices, after one event more
 pub notes_snoc : (es : List Event) (e : Event) → notes_in (es ++ e ∷ []) ≡ notes_in es + note_of e
@@ -106,18 +138,19 @@ module _ (c : Course) (e : Event) (r : Reply) (t : State) (images : List ImageVa
     images = prefix_trans k.images c.images images b.images more;
   }
 
-  pub goes_on : Goes c → Step c.state e r t → length images ≡ newest t
+  pub goes_on : Goes c → Step c.state e r t → IsOfSixteen e → length images ≡ newest t
       → ((i edition : ℕ) → slice_get t.editions i ≡ Some edition → edition ≡ i) → Goes (extended c e r t images)
-  goes_on g stepped many numbered = record {
+  goes_on g stepped one many numbered = record {
     run = list_grows_with_replies start c.state t c.events (c.events ++ e ∷ []) e c.replies (c.replies ++ r ∷ []) r g.run refl refl stepped;
+    workers = sixteen_snoc c.events e g.workers one;
     as_many = many;
     numbered = numbered;
   }
 
-pub goes_same : (c : Course) (e : Event) (r : Reply) (t : State) → Goes c → Step c.state e r t
+pub goes_same : (c : Course) (e : Event) (r : Reply) (t : State) → Goes c → Step c.state e r t → IsOfSixteen e
     → t.editions ≡ c.state.editions → Goes (extended c e r t c.images)
-goes_same c e r t g stepped same =
-    goes_on c e r t c.images g stepped (g.as_many ∙ sym (ap (λ (l : List ℕ). length l) same))
+goes_same c e r t g stepped one same =
+    goes_on c e r t c.images g stepped one (g.as_many ∙ sym (ap (λ (l : List ℕ). length l) same))
     (λ i edition at. g.numbered i edition (ap (λ (l : List ℕ). slice_get l i) (sym same) ∙ at))
 
 pub begins_all : (c : Course) (a : Option ℕ) → Begins (all_of c) a c

@@ -15,3 +15,4 @@ pub mod Loadings
 pub mod Says
 pub mod Events
 pub mod Shown
+pub mod Held

@@ -2,7 +2,7 @@
 use Rattle.reasoning.proofs.ListLemmas.{slice_get-append, slice_get-last, slice_get-set_same, slice_get-set_other}
 use Rattle.version_core.specs.Actors.{nobody, actor}
 use Rattle.image_layout.specs.Image.{ImageValue}
-use Rattle.std.proofs.Common.{◌≡◌, ◌≢◌, ℕ, zero, suc, ◌+◌, ◌-◌, ◌*◌, ◌%◌, ◌<◌, ◌≤◌, ◌==◌, ◌⊎◌, Bool, true, false, List}
+use Rattle.std.proofs.Common.{◌≡◌, ◌≢◌, ℕ, zero, suc, ◌+◌, ◌-◌, ◌*◌, ◌%◌, ◌<◌, ◌≤◌, ◌==◌, ◌⊎◌, Bool, true, false, cond, List}
 use Rattle.std.proofs.Common.{[], ◌∷◌, ◌++◌, length, set, get_or, Option, Some, None, slice_get, refl, ap, sym, ◌∙◌}
 use Rattle.std.proofs.Common.{subst, arith, get_or-set_same, get_or-set_other, length-set, length-append, inl, inr}
 use Rattle.std.proofs.lemmas.Bool.Decides.{nat_tests}
@@ -19,14 +19,15 @@ use Rattle.version_core.specs.declared.state.Worker.{Worker}
 use Rattle.version_core.specs.State.{State, newest, opened, published, shelved}
 use Rattle.version_core.specs.Steps.{IsFree, IsOpen, IsClosing, IsOutdated, MayOpen, Step}
 use Rattle.version_core.specs.Kept.{Kept, is_at}
-use Rattle.version_core.proofs.Keeps.{none_waits}
+use Rattle.version_core.proofs.Keeps.{none_waits, held_known}
+use Rattle.version_core.proofs.Shelves.{version_at}
 use Rattle.version_core.proofs.Counts.{no_one_at}
 use Rattle.shelf_steps.specs.declared.edition.Edition.{Edition}
 use Rattle.shelf_steps.specs.declared.views.Known.{Known}
 use Rattle.shelf_steps.specs.declared.views.WorkerView.{WorkerView}
 use Rattle.shelf_steps.specs.declared.views.LoaderView.{LoaderView}
 use Rattle.shelf_steps.specs.declared.views.View.{View}
-use Rattle.shelf_steps.specs.Course.{Course, Goes, extended, all_of, Begins, Happened, image_of}
+use Rattle.shelf_steps.specs.Course.{Course, Goes, IsLonger, extended, all_of, Begins, Happened, image_of}
 use Rattle.version_core.specs.Shown.{WordsShow, shelf_word}
 use Rattle.shelf_steps.specs.Seats.{WorkerFits, LoaderFits}
 use Rattle.shelf_steps.specs.Slots.{SlotsFit, SlotFits, down_from, nothings}
@@ -35,7 +36,10 @@ use Rattle.shelf_steps.specs.Plays.{OfLoader, Mine, newest_of, with_open, with_c
 use Rattle.shelf_steps.specs.Plays.{with_hand, AllHave, Noted, Opens, Publishes, Closes, CollectsFound, Collects}
 use Rattle.shelf_steps.specs.Plays.{Gathers, PutsBack, MayOpenOn, MayPublish, MayClose, MayCollect, MayGather}
 use Rattle.shelf_steps.specs.Plays.{MayPutBack}
-use Rattle.shelf_steps.proofs.Courses.{kept_of, joined_same, no_join, nothing_snoc}
+use Rattle.shelf_steps.specs.Events.{known_of}
+use Rattle.shelf_steps.specs.Steps.{Adds, OpensAdd, PublishesAdd, ClosesAdd, CollectsAdd, GatheringsAdd, PuttingsAdd}
+use Rattle.shelf_steps.proofs.Works.{allows}
+use Rattle.shelf_steps.proofs.Courses.{kept_of, joined_same, no_join, nothing_snoc, loaders_event}
 use Rattle.shelf_steps.proofs.Courses.{begins_longer, happened, goes_on, goes_same, loader_next, prefix_same, other_fits}
 use Rattle.shelf_steps.proofs.Frames.{loader_moves}
 use Rattle.shelf_steps.proofs.WordsAfter.{words_same, words_after, few_counted, version_bound, found_at}
@@ -81,20 +85,26 @@ module _ (table : Table (Option Edition) View) (r : Ruled table) (id : ℕ) (l l
       (begins_longer r.course e reply t images u.known (Some u.number) (not_of u.number) more f.known)
       (joined_same u.number r.course.events e (no_join u.number e not_nobodys)) f
 
-  loader_ruled : (words' : List ℕ) (homes' : List (Maybe (Option Edition)))
+  loader_ruled : (words' : List ℕ) (homes' : List (Maybe (Option Edition))) → Step r.course.state e reply t
+      → l'.known ≡ all_of (extended r.course e reply t images)
       → LoaderFits (extended r.course e reply t images) l' → WordsShow words' t
       → SlotsFit homes' t.shelves t.workers images l'.hand
-      → Ruled record { words = words'; homes = homes'; views = set table.views id (View.Loading l') }
-  loader_ruled words' homes' fits words slots = record {
-    course = extended r.course e reply t images;
-    loader = l';
-    goes = goes;
-    words = words;
-    seats = loader_moves r.course (extended r.course e reply t images) table.views r.loader r.seats id l l' at as_many others fits workers seen (λ w small h.
-        nothing_snoc w r.course.events e (not_of w) (no_join w e not_nobodys) h);
-    notices = notices_loader table.views id l l' at ∙ (r.notices ∙ sym notices);
-    slots = slots;
-  }
+      → (after : Ruled record { words = words'; homes = homes'; views = set table.views id (View.Loading l') })
+      × IsLonger r.course e reply after.course × (l'.known ≡ all_of after.course)
+  loader_ruled words' homes' is_step known fits words slots = (
+    record {
+      course = extended r.course e reply t images;
+      loader = l';
+      goes = goes;
+      words = words;
+      seats = loader_moves r.course (extended r.course e reply t images) table.views r.loader r.seats id l l' at as_many others fits workers seen (λ w small h.
+          nothing_snoc w r.course.events e (not_of w) (no_join w e not_nobodys) h);
+      notices = notices_loader table.views id l l' at ∙ (r.notices ∙ sym notices);
+      slots = slots;
+    },
+    record { is_step = is_step; events = refl; replies = refl; images = more },
+    known,
+  )
 
   loader_happened : Happened l.known e reply (all_of (extended r.course e reply t images))
   loader_happened = happened r.course e reply t images l.known
@@ -140,13 +150,17 @@ close_word : (n count version : ℕ) → n ≡ count + 256 + 65536 * version →
     → (n + 256) % 18446744073709551616 ≡ count + 512 + 65536 * version
 close_word n count version is few small = omega arith
 
+-- nobody holds a shelf that is free
+none_hold : (s : State) (k v u : ℕ) → Kept s → IsFree s k → slice_get s.workers u ≢ Some (Worker.Holding k v)
+none_hold s k v u kept free h = let z : None ≡ Some v = sym (version_at s.shelves k Shelf.Free free) ∙ (held_known s u k v kept h).0 in cc
+
 opens_as : (slots id k version : ℕ) (l : LoaderView) (image : ImageValue) (f : ℕ → Option Edition) → slots ≡ 128 → k < 8
     → slice_get l.shelves k ≡ Some Shelf.Free → l.hand ≡ Some k → l.current ≡ newest_of l → version ≡ newest_of l + 1
     → version ≤ 1000000000 → AllHave version image k f
-    → Allows Ruled slots id (
+    → Adds slots id (
       View.Loading l,
       down_from f (16 * k) 16 [],
-    ) (k + 1) (λ n. (n + (256 + 65536 * version)) % 18446744073709551616)
+    ) (k + 1) (λ n. (n + (256 + 65536 * version)) % 18446744073709551616) (Event.Open (newest_of l)) (λ _. Reply.Opened version k)
     (Opens (step slots (k + 1) (256 + 65536 * version) 0 none) (View.Loading l, down_from f (16 * k) 16 []))
 opens_as slots id k version l image f many small free hand current next few all table r full at fits =
     let s = r.course.state in let n = get_or table.words (k + 1) 0 in let top = newest_of l in
@@ -162,7 +176,7 @@ opens_as slots id k version l image f many small free hand current next few all 
     let images : List ImageValue = r.course.images ++ image ∷ [] in
     let more : IsPrefix r.course.images images = (image ∷ [], refl) in
     let a1 = length-append r.course.images (image ∷ []) in let a2 = length-append s.editions (top ∷ []) in let a3 = r.goes.as_many in
-    let goes' : Goes (extended r.course e reply t images) = goes_on r.course e reply t images r.goes is_step (omega arith)
+    let goes' : Goes (extended r.course e reply t images) = goes_on r.course e reply t images r.goes is_step tt (omega arith)
     (λ i edition q. elim (got_snoc s.editions top edition i q) [ inl a ↦ r.goes.numbered i edition a | inr b ↦ sym b.1 ∙ (is_newest ∙ sym b.0) ]) in
     let d : Course = extended r.course e reply t images in
     let l' : LoaderView = with_open l k (top + 1) (all_of d) in
@@ -173,32 +187,39 @@ opens_as slots id k version l image f many small free hand current next few all 
     open_word n (get_or s.counts k 0) version found counted few ∙ ap (λ m. get_or s.counts k 0 + 256 + 65536 * m) (next ∙ ap (λ m. m + 1) is_newest) in
     let here : (u : ℕ) → u < 16 → SlotFits images s.workers None (Shelf.Open (newest s + 1)) k u
     (get_elem? (homes_after table.homes (down_from f (16 * k) 16 []) (give_block 16)) (16 * k + u)) =
-    λ u less. let h = all (16 * k + u) (omega arith) (omega arith) in
-    inl (
-      f (16 * k + u),
-      given_home table.homes [] f (16 * k) 16 (16 * k + u) (omega arith) (omega arith) (omega arith),
-      (
-        h.0,
-        h.1,
-        h.2 ∙ (next ∙ ap (λ m. m + 1) is_newest),
-        image_last r.course.images image (newest s + 1) (omega arith) ∙ ap (λ (x : ImageValue). Some x) (sym h.3),
+    λ u less. let h = all (16 * k + u) (omega arith) (omega arith) in (
+      (λ q. cc),
+      inl (
+        f (16 * k + u),
+        given_home table.homes [] f (16 * k) 16 (16 * k + u) (omega arith) (omega arith) (omega arith),
+        (
+          h.0,
+          h.1,
+          h.2 ∙ (next ∙ ap (λ m. m + 1) is_newest),
+          image_last r.course.images image (newest s + 1) (omega arith) ∙ ap (λ (x : ImageValue). Some x) (sym h.3),
+        ),
+        none_hold s k (newest s + 1) u kept is_free,
       ),
     ) in
     let fits' : LoaderFits d l' = loader_next r.course d e l l' knows refl refl refl refl goes'.as_many knows.shows.current knows.shows.current_shelf
-    (λ i. set (knows.shows.shelves i) k (Shelf.Open (is_newest i + 1))) in (
+    (λ i. set (knows.shows.shelves i) k (Shelf.Open (is_newest i + 1))) in
+    let after =
+    loader_ruled table r id l l' at refl e reply t images refl goes' more refl refl refl (omega arith)
+    (set table.words (k + 1) ((n + (256 + 65536 * version)) % 18446744073709551616))
+    (homes_after table.homes (down_from f (16 * k) 16 []) (give_block 16)) is_step refl fits'
+    (words_shelved table.words k ((n + (256 + 65536 * version)) % 18446744073709551616)
+    (Shelf.Open (newest s + 1)) s t r.words small eight refl refl refl refl word)
+    (slots_block table.homes (homes_after table.homes (down_from f (16 * k) 16 []) (give_block 16)) s.shelves
+    t.shelves s.workers r.course.images images l.hand None k (Shelf.Open (newest s + 1))
+    (slice_get-set_same s.shelves k (Shelf.Open (newest s + 1)) (omega arith)) (λ j ne. slice_get-set_other s.shelves k j (Shelf.Open (newest s + 1)) ne)
+    (λ i h. given_else table.homes [] f (16 * k) 16 i h) more
+    (λ j ne q. let z : Some k ≡ Some j = sym hand ∙ q in absurd (ne (cc))) (λ j ne q. absurd (cc)) here (loader_slots table r id l at)) in (
       View.Loading l',
       give_block 16,
       gives_valid table.homes (down_from f (16 * k) 16 []) 16,
-      loader_ruled table r id l l' at refl e reply t images refl goes' more refl refl refl (omega arith)
-          (set table.words (k + 1) ((n + (256 + 65536 * version)) % 18446744073709551616))
-          (homes_after table.homes (down_from f (16 * k) 16 []) (give_block 16)) fits'
-          (words_shelved table.words k ((n + (256 + 65536 * version)) % 18446744073709551616)
-          (Shelf.Open (newest s + 1)) s t r.words small eight refl refl refl refl word)
-          (slots_block table.homes (homes_after table.homes (down_from f (16 * k) 16 []) (give_block 16)) s.shelves
-          t.shelves s.workers r.course.images images l.hand None k (Shelf.Open (newest s + 1))
-          (slice_get-set_same s.shelves k (Shelf.Open (newest s + 1)) (omega arith)) (λ j ne. slice_get-set_other s.shelves k j (Shelf.Open (newest s + 1)) ne)
-          (λ i h. given_else table.homes [] f (16 * k) 16 i h) more
-          (λ j ne q. let z : Some k ≡ Some j = sym hand ∙ q in absurd (ne (cc))) (λ j ne q. absurd (cc)) here (loader_slots table r id l at)),
+      after.0,
+      subst (λ m. IsLonger r.course e (Reply.Opened m k) after.0.course) (sym next) after.1,
+      after.2,
       (
         k,
         refl,
@@ -215,6 +236,16 @@ opens_as slots id k version l image f many small free hand current next few all 
       ),
     )
 
+pub opens_add : OpensAdd
+opens_add slots id k version l c many small may =
+    let block = may.5 in
+    subst (λ (x : List (ℕ × Option Edition)). Adds slots id (
+      View.Loading l,
+      x,
+    ) (k + 1) (λ n. (n + (256 + 65536 * version)) % 18446744073709551616) (Event.Open (newest_of l)) (λ _. Reply.Opened version k)
+    (Opens (step slots (k + 1) (256 + 65536 * version) 0 none) (View.Loading l, x))) (sym block.2)
+    (opens_as slots id k version l block.0 block.1 many small may.0 may.1 may.2 may.3 may.4 block.3)
+
 openings_as : (slots id k version : ℕ) (u : View) (c : List (ℕ × Option Edition)) → slots ≡ 128 → k < 8 → MayOpenOn k version u c
     → Allows Ruled slots id (u, c) (k + 1) (λ n. (n + (256 + 65536 * version)) % 18446744073709551616)
     (Opens (step slots (k + 1) (256 + 65536 * version) 0 none) (u, c))
@@ -222,13 +253,9 @@ openings_as slots id k version (View.Working v) c many small may = absurd may
 openings_as slots id k version (View.Noting x') c many small may = absurd may
 openings_as slots id k version View.Spent c many small may = absurd may
 openings_as slots id k version (View.Loading l) c many small may =
-    let block = may.5 in
-    subst (λ (x : List (ℕ × Option Edition)). Allows Ruled slots id (
-      View.Loading l,
-      x,
-    ) (k + 1) (λ n. (n + (256 + 65536 * version)) % 18446744073709551616)
-    (Opens (step slots (k + 1) (256 + 65536 * version) 0 none) (View.Loading l, x))) (sym block.2)
-    (opens_as slots id k version l block.0 block.1 many small may.0 may.1 may.2 may.3 may.4 block.3)
+    allows slots id (View.Loading l, c) (k + 1) (λ n. (n + (256 + 65536 * version)) % 18446744073709551616) (Event.Open (newest_of l))
+    (λ _. Reply.Opened version k) (Opens (step slots (k + 1) (256 + 65536 * version) 0 none) (View.Loading l, c))
+    (opens_add slots id k version l c many small may)
 
 pub openings : (slots id k version : ℕ) (me : Mine) → slots ≡ 128 → k < 8 → MayOpenOn k version me.0 me.1
     → Allows Ruled slots id me (k + 1) (λ n. (n + (256 + 65536 * version)) % 18446744073709551616)
@@ -241,26 +268,28 @@ module _ (table : Table (Option Edition) View) (r : Ruled table) (id : ℕ) (l l
     (e : Event) (reply : Reply) (t : State) (whose : actor e ≡ None) (is_step : Step r.course.state e reply t) (editions : t.editions ≡ r.course.state.editions)
     (workers : t.workers ≡ r.course.state.workers) (seen : t.seen ≡ r.course.state.seen) (notices : t.notices ≡ r.course.state.notices)
     (up : r.course.state.current ≤ t.current) where
+  goes' : Goes (extended r.course e reply t r.course.images)
+  goes' = goes_same r.course e reply t r.goes is_step (loaders_event e whose) editions
+
   pub noted_ruled : (words' : List ℕ) (homes' : List (Maybe (Option Edition)))
+      → l'.known ≡ all_of (extended r.course e reply t r.course.images)
       → LoaderFits (extended r.course e reply t r.course.images) l' → WordsShow words' t
       → SlotsFit homes' t.shelves t.workers r.course.images l'.hand
-      → Ruled record { words = words'; homes = homes'; views = set table.views id (View.Loading l') }
-  noted_ruled = loader_ruled table r id l l' at as_many e reply t r.course.images whose (goes_same r.course e reply t r.goes is_step editions)
-      (prefix_same r.course.images) workers seen notices up
+      → (after : Ruled record { words = words'; homes = homes'; views = set table.views id (View.Loading l') })
+      × IsLonger r.course e reply after.course × (l'.known ≡ all_of after.course)
+  noted_ruled words' homes' known fits words slots =
+      loader_ruled table r id l l' at as_many e reply t r.course.images whose goes'
+      (prefix_same r.course.images) workers seen notices up words' homes' is_step known fits words slots
 
   pub noted : Noted l e reply (all_of (extended r.course e reply t r.course.images))
   noted = (
-    loader_happened table r id l l' at as_many e reply t r.course.images whose (goes_same r.course e reply t r.goes is_step editions)
+    loader_happened table r id l l' at as_many e reply t r.course.images whose goes'
         (prefix_same r.course.images) workers seen notices up,
     sym (loader_knows table r id l at).images,
   )
 
-publishings_as : (slots id k version : ℕ) (u : View) (c : List (ℕ × Option Edition)) → k < 8 → MayPublish version k u
-    → Allows Ruled slots id (u, c) 0 (λ _. 8 * version + k) (λ _. Publishes (step slots 0 (8 * version + k) 0 none) (u, c) (8 * version + k))
-publishings_as slots id k version (View.Working v) c small may table r full at fits = absurd may
-publishings_as slots id k version (View.Noting x') c small may table r full at fits = absurd may
-publishings_as slots id k version View.Spent c small may table r full at fits = absurd may
-publishings_as slots id k version (View.Loading l) c small may table r full at fits =
+pub publishes_add : PublishesAdd
+publishes_add slots id k version l c small may table r full at fits =
     let s = r.course.state in
     let knows = loader_knows table r id l at in
     let stands : IsOpen s k version = shelf_is table r id l at k (Shelf.Open version) may.0 in
@@ -270,25 +299,34 @@ publishings_as slots id k version (View.Loading l) c small may table r full at f
     let is_step : Step s e reply t = (k, (stands, later), refl) in
     let d : Course = extended r.course e reply t r.course.images in
     let l' : LoaderView = with_current l version k (all_of d) in
-    let fits' : LoaderFits d l' = loader_next r.course d e l l' knows refl refl refl refl r.goes.as_many refl refl knows.shows.shelves in (
+    let fits' : LoaderFits d l' = loader_next r.course d e l l' knows refl refl refl refl r.goes.as_many refl refl knows.shows.shelves in
+    let after =
+    noted_ruled table r id l l' at refl e reply t refl is_step refl refl refl refl (omega arith) (set table.words 0 (8 * version + k)) table.homes refl fits'
+    (words_current table.words (8 * version + k) s t r.words refl refl refl) (loader_slots table r id l at) in (
       View.Loading l',
       keeps,
       tt,
-      noted_ruled table r id l l' at refl e reply t refl is_step refl refl refl refl (omega arith) (set table.words 0 (8 * version + k)) table.homes fits'
-          (words_current table.words (8 * version + k) s t r.words refl refl refl) (loader_slots table r id l at),
+      after.0,
+      after.1,
+      after.2,
       (version, k, refl, small, (all_of d, refl, noted table r id l l' at refl e reply t refl is_step refl refl refl refl (omega arith))),
     )
+
+publishings_as : (slots id k version : ℕ) (u : View) (c : List (ℕ × Option Edition)) → k < 8 → MayPublish version k u
+    → Allows Ruled slots id (u, c) 0 (λ _. 8 * version + k) (λ _. Publishes (step slots 0 (8 * version + k) 0 none) (u, c) (8 * version + k))
+publishings_as slots id k version (View.Working v) c small may = absurd may
+publishings_as slots id k version (View.Noting x') c small may = absurd may
+publishings_as slots id k version View.Spent c small may = absurd may
+publishings_as slots id k version (View.Loading l) c small may =
+    allows slots id (View.Loading l, c) 0 (λ _. 8 * version + k) Event.Publish (λ _. Reply.Published version)
+    (λ _. Publishes (step slots 0 (8 * version + k) 0 none) (View.Loading l, c) (8 * version + k)) (publishes_add slots id k version l c small may)
 
 pub publishings : (slots id k version : ℕ) (me : Mine) → k < 8 → MayPublish version k me.0
     → Allows Ruled slots id me 0 (λ _. 8 * version + k) (λ _. Publishes (step slots 0 (8 * version + k) 0 none) me (8 * version + k))
 publishings slots id k version me small may = publishings_as slots id k version me.0 me.1 small may
 
-closings_as : (slots id k : ℕ) (u : View) (c : List (ℕ × Option Edition)) → k < 8 → MayClose k u
-    → Allows Ruled slots id (u, c) (k + 1) (λ n. (n + 256) % 18446744073709551616) (Closes (step slots (k + 1) 256 0 none) (u, c))
-closings_as slots id k (View.Working v) c small may table r full at fits = absurd may
-closings_as slots id k (View.Noting x') c small may table r full at fits = absurd may
-closings_as slots id k View.Spent c small may table r full at fits = absurd may
-closings_as slots id k (View.Loading l) c small may table r full at fits =
+pub closes_add : ClosesAdd
+closes_add slots id k l c small may table r full at fits =
     let s = r.course.state in let version = may.0 in let n = get_or table.words (k + 1) 0 in
     let kept : Kept s = kept_of r.course r.goes in
     let knows = loader_knows table r id l at in
@@ -304,20 +342,33 @@ closings_as slots id k (View.Loading l) c small may table r full at fits =
     let bound = version_bound s k (Shelf.Open version) kept stands version (inl refl) in
     let word = close_word n (get_or s.counts k 0) version (r.words.each k (Shelf.Open version) stands) (few_counted s k kept small) bound in
     let fits' : LoaderFits d l' = loader_next r.course d e l l' knows refl refl refl refl r.goes.as_many knows.shows.current knows.shows.current_shelf
-    (λ i. set (knows.shows.shelves i) k (Shelf.Closing version)) in (
-      View.Loading l',
-      keeps,
-      tt,
-      noted_ruled table r id l l' at refl e reply t refl is_step refl refl refl refl (omega arith) (set table.words (k + 1)
-          ((n + 256) % 18446744073709551616)) table.homes fits'
+    (λ i. set (knows.shows.shelves i) k (Shelf.Closing version)) in
+    let after =
+    noted_ruled table r id l l' at refl e reply t refl is_step refl refl refl refl (omega arith) (set table.words (k + 1)
+          ((n + 256) % 18446744073709551616)) table.homes refl fits'
           (words_shelved table.words k ((n + 256) % 18446744073709551616) (Shelf.Closing version) s t r.words small eight refl refl refl refl word)
           (slots_block table.homes table.homes s.shelves t.shelves s.workers r.course.images r.course.images l.hand l.hand k (Shelf.Closing version)
           (slice_get-set_same s.shelves k (Shelf.Closing version) (omega arith)) (λ j ne. slice_get-set_other s.shelves k j (Shelf.Closing version) ne)
           (λ i h. refl) (prefix_same r.course.images) (λ j ne q. q) (λ j ne q. q)
           (λ u less. loader_slots table r id l at k u (Shelf.Open version) stands less)
-          (loader_slots table r id l at)),
+          (loader_slots table r id l at)) in (
+      View.Loading l',
+      keeps,
+      tt,
+      after.0,
+      after.1,
+      after.2,
       (k, refl, (version, all_of d, may.1, refl, noted table r id l l' at refl e reply t refl is_step refl refl refl refl (omega arith))),
     )
+
+closings_as : (slots id k : ℕ) (u : View) (c : List (ℕ × Option Edition)) → k < 8 → MayClose k u
+    → Allows Ruled slots id (u, c) (k + 1) (λ n. (n + 256) % 18446744073709551616) (Closes (step slots (k + 1) 256 0 none) (u, c))
+closings_as slots id k (View.Working v) c small may = absurd may
+closings_as slots id k (View.Noting x') c small may = absurd may
+closings_as slots id k View.Spent c small may = absurd may
+closings_as slots id k (View.Loading l) c small may =
+    allows slots id (View.Loading l, c) (k + 1) (λ n. (n + 256) % 18446744073709551616) (Event.Close k) (λ _. Reply.Closing)
+    (Closes (step slots (k + 1) 256 0 none) (View.Loading l, c)) (closes_add slots id k l c small may)
 
 pub closings : (slots id k : ℕ) (me : Mine) → k < 8 → MayClose k me.0
     → Allows Ruled slots id me (k + 1) (λ n. (n + 256) % 18446744073709551616)
@@ -338,7 +389,7 @@ all_home : (homes : List (Maybe (Option Edition))) (shelves : List Shelf) (count
 all_home homes shelves counts workers images hand k version away closing fit j from to =
     let e : 16 * k + (j - 16 * k) ≡ j = omega arith in
     subst (λ i. get_elem? homes i ≡ some (some (value_at (get_elem? homes i)))) e
-    (elim (fit k (j - 16 * k) (Shelf.Closing version) closing (omega arith)) [
+    (elim (fit k (j - 16 * k) (Shelf.Closing version) closing (omega arith)).1 [
       | inl a ↦ a.1 ∙ ap (λ (x : Maybe (Maybe (Option Edition))). some (some (value_at x))) (sym a.1)
       | inr b ↦ absurd (let q = away (j - 16 * k) (Worker.Holding k version) b.1 in let z : (k == k) ≡ false = q in let z' = own_equal k in cc)
     ])
@@ -373,7 +424,9 @@ collects_found : (id k version : ℕ) (l : LoaderView) (table : Table (Option Ed
     → get_elem? table.views id ≡ some (View.Loading l) → length table.homes ≡ 128 → k < 8
     → slice_get l.shelves k ≡ Some (Shelf.Closing version) → l.hand ≡ None → (b : Bool) → (get_or table.words (k + 1) 0 == 512 + 65536 * version) ≡ b
     → (w : View) × (a : Act (Option Edition)) × Valid table.homes [] a
-    × Ruled (stepped table (k + 1) (either b 0 (get_or table.words (k + 1) 0)) id [] w a)
+    × (after : Ruled (stepped table (k + 1) (either b 0 (get_or table.words (k + 1) 0)) id [] w a))
+    × IsLonger r.course (Event.Collect k) (cond b Reply.Freed (Reply.Busy (get_or table.words (k + 1) 0 % 256))) after.course
+    × (known_of w ≡ all_of after.course)
     × CollectsFound l k version (get_or table.words (k + 1) 0) b (w, carried_after [] a)
 collects_found id k version l table r at many small shelf hand true found =
     let s = r.course.state in let kept : Kept s = kept_of r.course r.goes in
@@ -390,19 +443,24 @@ collects_found id k version l table r at many small shelf hand true found =
     all_home table.homes s.shelves s.counts s.workers r.course.images l.hand k version
     (no_one_at s.counts s.workers k kept.counts small nobody) here.0 (loader_slots table r id l at) in
     let fits' : LoaderFits d l' = loader_next r.course d e l l' knows refl refl refl refl r.goes.as_many knows.shows.current knows.shows.current_shelf
-    (λ i. set (knows.shows.shelves i) k Shelf.Free) in (
-      View.Loading l',
-      take_block f (16 * k) 16,
-      block_valid table.homes [] f (16 * k) 16 home,
-      noted_ruled table r id l l' at refl e reply t refl is_step refl refl refl refl (omega arith) (set table.words (k + 1) 0) (homes_after table.homes []
-          (take_block f (16 * k) 16)) fits'
+    (λ i. set (knows.shows.shelves i) k Shelf.Free) in
+    let after =
+    noted_ruled table r id l l' at refl e reply t refl is_step refl refl refl refl (omega arith) (set table.words (k + 1) 0) (homes_after table.homes []
+          (take_block f (16 * k) 16)) refl fits'
           (words_shelved table.words k 0 Shelf.Free s t r.words small eight refl refl refl refl (sym nobody))
           (slots_block table.homes (homes_after table.homes [] (take_block f (16 * k) 16)) s.shelves t.shelves s.workers
           r.course.images r.course.images l.hand (Some k) k Shelf.Free
           (slice_get-set_same s.shelves k Shelf.Free (omega arith)) (λ j ne. slice_get-set_other s.shelves k j Shelf.Free ne)
           (λ i h. block_else table.homes [] f (16 * k) 16 i h) (prefix_same r.course.images)
           (λ j ne q. let z : None ≡ Some j = sym hand ∙ q in absurd (cc)) (λ j ne q. absurd (ne (cc)))
-          (λ u less. inr (refl, block_out table.homes [] f (16 * k) 16 (16 * k + u) (omega arith) (omega arith) (omega arith))) (loader_slots table r id l at)),
+          (λ u less. inr (refl, block_out table.homes [] f (16 * k) 16 (16 * k + u) (omega arith) (omega arith) (omega arith)))
+          (loader_slots table r id l at)) in (
+      View.Loading l',
+      take_block f (16 * k) 16,
+      block_valid table.homes [] f (16 * k) 16 home,
+      after.0,
+      after.1,
+      after.2,
       (
         f,
         all_of d,
@@ -420,14 +478,17 @@ collects_found id k version l table r at many small shelf hand false found =
     let d : Course = extended r.course e reply s r.course.images in
     let l' : LoaderView = with_hand l None (all_of d) in
     let fits' : LoaderFits d l' = loader_next r.course d e l l' knows refl refl refl refl r.goes.as_many knows.shows.current knows.shows.current_shelf
-    knows.shows.shelves in (
+    knows.shows.shelves in
+    let after =
+    noted_ruled table r id l l' at refl e reply s refl is_step refl refl refl refl (omega arith) (set table.words (k + 1) n) table.homes refl fits'
+    (words_same table.words (k + 1) s s r.words refl refl refl refl)
+    (subst (λ (x : Option ℕ). SlotsFit table.homes s.shelves s.workers r.course.images x) hand (loader_slots table r id l at)) in (
       View.Loading l',
       keeps,
       tt,
-      noted_ruled table r id l l' at refl e reply s refl is_step refl refl refl refl (omega arith) (set table.words (k + 1) n) table.homes fits'
-          (words_same table.words (k + 1) s s r.words refl refl refl refl)
-          (subst (λ (x : Option ℕ). SlotsFit table.homes s.shelves s.workers r.course.images x) hand
-          (loader_slots table r id l at)),
+      after.0,
+      after.1,
+      after.2,
       (
         all_of d,
         refl,
@@ -437,21 +498,28 @@ collects_found id k version l table r at many small shelf hand false found =
       ),
     )
 
+pub collects_add : CollectsAdd
+collects_add slots id k version l c many small may =
+    subst (λ (x : List (ℕ × Option Edition)). Adds slots id (
+      View.Loading l,
+      x,
+    ) (k + 1) (λ n. either (n == 512 + 65536 * version) 0 n) (Event.Collect k)
+    (λ n. cond (n == 512 + 65536 * version) Reply.Freed (Reply.Busy (n % 256)))
+    (Collects (step slots (k + 1) (512 + 65536 * version) 0 none) (View.Loading l, x))) (sym may.2)
+    (λ table r full at fits.
+    let n = get_or table.words (k + 1) 0 in
+    let z = collects_found id k version l table r at (full ∙ many) small may.0 may.1 (n == 512 + 65536 * version) refl in
+    (z.0, z.1, z.2, z.3, z.4, z.5, (k, version, refl, refl, z.6)))
+
 collectings_as : (slots id k version : ℕ) (u : View) (c : List (ℕ × Option Edition)) → slots ≡ 128 → k < 8 → MayCollect k version u c
     → Allows Ruled slots id (u, c) (k + 1) (λ n. either (n == 512 + 65536 * version) 0 n) (Collects (step slots (k + 1) (512 + 65536 * version) 0 none) (u, c))
 collectings_as slots id k version (View.Working v) c many small may = absurd may
 collectings_as slots id k version (View.Noting x') c many small may = absurd may
 collectings_as slots id k version View.Spent c many small may = absurd may
 collectings_as slots id k version (View.Loading l) c many small may =
-    subst (λ (x : List (ℕ × Option Edition)). Allows Ruled slots id (
-      View.Loading l,
-      x,
-    ) (k + 1) (λ n. either (n == 512 + 65536 * version) 0 n)
-    (Collects (step slots (k + 1) (512 + 65536 * version) 0 none) (View.Loading l, x))) (sym may.2)
-    (λ table r full at fits.
-    let n = get_or table.words (k + 1) 0 in
-    let z = collects_found id k version l table r at (full ∙ many) small may.0 may.1 (n == 512 + 65536 * version) refl in
-    (z.0, z.1, z.2, z.3, (k, version, refl, refl, z.4)))
+    allows slots id (View.Loading l, c) (k + 1) (λ n. either (n == 512 + 65536 * version) 0 n) (Event.Collect k)
+    (λ n. cond (n == 512 + 65536 * version) Reply.Freed (Reply.Busy (n % 256)))
+    (Collects (step slots (k + 1) (512 + 65536 * version) 0 none) (View.Loading l, c)) (collects_add slots id k version l c many small may)
 
 pub collectings : (slots id k version : ℕ) (me : Mine) → slots ≡ 128 → k < 8 → MayCollect k version me.0 me.1
     → Allows Ruled slots id me (k + 1) (λ n. either (n == 512 + 65536 * version) 0 n) (Collects (step slots (k + 1) (512 + 65536 * version) 0 none) me)
@@ -476,8 +544,9 @@ tries_free : (id k : ℕ) (l : LoaderView) (c : List (ℕ
     → slice_get l.shelves k ≡ Some Shelf.Free
     → SlotsFit (homes_after table.homes c a) r.course.state.shelves r.course.state.workers r.course.images hand'
     → (b : Bool) → (get_or table.words (k + 1) 0 == 512) ≡ b
-    → (known : Known) × Ruled (stepped table (k + 1) (either b 0 (get_or table.words (k + 1) 0)) id c
-    (View.Loading (with_hand l hand' known)) a) × Noted l (Event.Collect k) Reply.NotNow known
+    → (known : Known) × (after : Ruled (stepped table (k + 1) (either b 0 (get_or table.words (k + 1) 0)) id c
+    (View.Loading (with_hand l hand' known)) a)) × IsLonger r.course (Event.Collect k) Reply.NotNow after.course
+    × (known ≡ all_of after.course) × Noted l (Event.Collect k) Reply.NotNow known
 tries_free id k l c hand' a table r at small free slots true found =
     let s = r.course.state in let n = get_or table.words (k + 1) 0 in let kept : Kept s = kept_of r.course r.goes in
     let word = r.words.each k Shelf.Free (shelf_is table r id l at k Shelf.Free free) in let few =
@@ -496,10 +565,14 @@ tries_free id k l c hand' a table r at small free slots false found =
     let d : Course = extended r.course e reply s r.course.images in
     let l' : LoaderView = with_hand l hand' (all_of d) in
     let fits' : LoaderFits d l' = loader_next r.course d e l l' knows refl refl refl refl r.goes.as_many knows.shows.current knows.shows.current_shelf
-    knows.shows.shelves in (
+    knows.shows.shelves in
+    let after =
+    noted_ruled table r id l l' at refl e reply s refl is_step refl refl refl refl (omega arith) (set table.words (k + 1) n)
+    (homes_after table.homes c a) refl fits' (words_same table.words (k + 1) s s r.words refl refl refl refl) slots in (
       all_of d,
-      noted_ruled table r id l l' at refl e reply s refl is_step refl refl refl refl (omega arith) (set table.words (k + 1) n)
-          (homes_after table.homes c a) fits' (words_same table.words (k + 1) s s r.words refl refl refl refl) slots,
+      after.0,
+      after.1,
+      after.2,
       noted table r id l l' at refl e reply s refl is_step refl refl refl refl (omega arith),
     )
 
@@ -521,15 +594,35 @@ spare_tries : (slots id k : ℕ) (l : LoaderView) (c was : List (ℕ × Option E
     → ((table : Table (Option Edition) View) (r : Ruled table) → length table.homes ≡ slots
     → get_elem? table.views id ≡ some (View.Loading l) → IsFree r.course.state k
     → Valid table.homes was a × SlotsFit (homes_after table.homes was a) r.course.state.shelves r.course.state.workers r.course.images (hand k))
-    → Allows Ruled slots id (View.Loading l, c) (k + 1) (λ n. either (n == 512) 0 n)
+    → Adds slots id (View.Loading l, c) (k + 1) (λ n. either (n == 512) 0 n) (Event.Collect k) (λ _. Reply.NotNow)
     (λ n m'. (j : ℕ) × (k + 1 ≡ j + 1) × SparedOn l hand after j m')
 spare_tries slots id k l c was hand after a is small free moves moved =
-    subst (λ (x : List (ℕ × Option Edition)). Allows Ruled slots id (View.Loading l, x) (k + 1) (λ n. either (n == 512) 0 n)
-    (λ n m'. (j : ℕ) × (k + 1 ≡ j + 1) × SparedOn l hand after j m')) (sym is)
+    subst (λ (x : List (ℕ × Option Edition)). Adds slots id (View.Loading l, x) (k + 1) (λ n. either (n == 512) 0 n) (Event.Collect k)
+    (λ _. Reply.NotNow) (λ n m'. (j : ℕ) × (k + 1 ≡ j + 1) × SparedOn l hand after j m')) (sym is)
     (λ table r full at fits.
     let m = moved table r full at (shelf_is table r id l at k Shelf.Free free) in
     let z = tries_free id k l was (hand k) a table r at small free m.1 (get_or table.words (k + 1) 0 == 512) refl in
-    (View.Loading (with_hand l (hand k) z.0), a, m.0, z.1, (k, refl, (z.0, (λ i. (View.Loading (with_hand l (hand k) z.0), moves i)), z.2))))
+    (View.Loading (with_hand l (hand k) z.0), a, m.0, z.1, z.2, z.3, (k, refl, (z.0, (λ i. (View.Loading (with_hand l (hand k) z.0), moves i)), z.4))))
+
+pub gathers_add : GatheringsAdd
+gathers_add slots id k l c many small may =
+    spare_tries slots id k l c [] (λ j. Some j) (λ j. down_from nothings (16 * j) 16 [])
+    (take_block nothings (16 * k) 16) may.2 small may.0 (carried_down nothings (16 * k) 16 [])
+    (λ table r full at is_free.
+    let s = r.course.state in (
+      block_valid table.homes [] nothings (16 * k) 16
+          (spares_home table.homes s.shelves s.workers r.course.images l.hand k may.1 is_free
+          (loader_slots table r id l at)),
+      slots_block table.homes (homes_after table.homes [] (take_block nothings (16 * k) 16)) s.shelves s.shelves
+          s.workers r.course.images r.course.images l.hand (Some k) k Shelf.Free is_free (λ j ne. refl)
+          (λ i h. block_else table.homes [] nothings (16 * k) 16 i h) (prefix_same r.course.images)
+          (λ j ne q. let y : None ≡ Some j = sym may.1 ∙ q in absurd (cc)) (λ j ne q. absurd (ne (cc)))
+          (λ w less. inr (
+            refl,
+            block_out table.homes [] nothings (16 * k) 16 (16 * k + w) (omega arith) (omega arith)
+                (omega arith),
+          )) (loader_slots table r id l at),
+    ))
 
 pub gatherings : (slots id k : ℕ) (me : Mine) → slots ≡ 128 → k < 8 → MayGather k me.0 me.1
     → Allows Ruled slots id me (k + 1) (λ n. either (n == 512) 0 n) (Gathers (step slots (k + 1) 512 0 none) me)
@@ -538,23 +631,26 @@ gatherings slots id k me many small may =
       u,
       me.1,
     ) (k + 1) (λ n. either (n == 512) 0 n) (Gathers (step slots (k + 1) 512 0 none) (u, me.1))) me.0
-    (λ l free. spare_tries slots id k l me.1 [] (λ j. Some j) (λ j. down_from nothings (16 * j) 16 [])
-    (take_block nothings (16 * k) 16) free.2 small free.0 (carried_down nothings (16 * k) 16 [])
-    (λ table r full at is_free.
+    (λ l free. allows slots id (View.Loading l, me.1) (k + 1) (λ n. either (n == 512) 0 n) (Event.Collect k) (λ _. Reply.NotNow)
+    (Gathers (step slots (k + 1) 512 0 none) (View.Loading l, me.1)) (gathers_add slots id k l me.1 many small free)) may
+
+pub puts_add : PuttingsAdd
+puts_add slots id k l c many small may =
+    let full = down_from nothings (16 * k) 16 [] in
+    spare_tries slots id k l c full (λ j. None) (λ j. []) (give_block 16) may.2 small may.0 (given_rest nothings (16 * k) 16 [])
+    (λ table r long at is_free.
     let s = r.course.state in (
-      block_valid table.homes [] nothings (16 * k) 16
-          (spares_home table.homes s.shelves s.workers r.course.images l.hand k free.1 is_free
-          (loader_slots table r id l at)),
-      slots_block table.homes (homes_after table.homes [] (take_block nothings (16 * k) 16)) s.shelves s.shelves
-          s.workers r.course.images r.course.images l.hand (Some k) k Shelf.Free is_free (λ j ne. refl)
-          (λ i h. block_else table.homes [] nothings (16 * k) 16 i h) (prefix_same r.course.images)
-          (λ j ne q. let y : None ≡ Some j = sym free.1 ∙ q in absurd (cc)) (λ j ne q. absurd (ne (cc)))
-          (λ w less. inr (
-            refl,
-            block_out table.homes [] nothings (16 * k) 16 (16 * k + w) (omega arith) (omega arith)
-                (omega arith),
+      gives_valid table.homes full 16,
+      slots_block table.homes (homes_after table.homes full (give_block 16)) s.shelves s.shelves s.workers r.course.images
+          r.course.images l.hand None k Shelf.Free is_free (λ j ne. refl)
+          (λ i h. given_else table.homes [] nothings (16 * k) 16 i h) (prefix_same r.course.images)
+          (λ j ne q. let y : Some k ≡ Some j = sym may.1 ∙ q in absurd (ne (cc))) (λ j ne q. absurd (cc))
+          (λ w less. inl (
+            (λ q. cc),
+            given_home table.homes [] nothings (16 * k) 16 (16 * k + w) (omega arith)
+                (omega arith) (omega arith),
           )) (loader_slots table r id l at),
-    ))) may
+    ))
 
 pub puttings : (slots id k : ℕ) (me : Mine) → slots ≡ 128 → k < 8 → MayPutBack k me.0 me.1
     → Allows Ruled slots id me (k + 1) (λ n. either (n == 512) 0 n) (PutsBack (step slots (k + 1) 512 0 none) me)
@@ -563,21 +659,8 @@ puttings slots id k me many small may =
       u,
       me.1,
     ) (k + 1) (λ n. either (n == 512) 0 n) (PutsBack (step slots (k + 1) 512 0 none) (u, me.1))) me.0
-    (λ l free. let c = down_from nothings (16 * k) 16 [] in
-    spare_tries slots id k l me.1 c (λ j. None) (λ j. []) (give_block 16) free.2 small free.0 (given_rest nothings (16 * k) 16 [])
-    (λ table r full at is_free.
-    let s = r.course.state in (
-      gives_valid table.homes c 16,
-      slots_block table.homes (homes_after table.homes c (give_block 16)) s.shelves s.shelves s.workers r.course.images
-          r.course.images l.hand None k Shelf.Free is_free (λ j ne. refl)
-          (λ i h. given_else table.homes [] nothings (16 * k) 16 i h) (prefix_same r.course.images)
-          (λ j ne q. let y : Some k ≡ Some j = sym free.1 ∙ q in absurd (ne (cc))) (λ j ne q. absurd (cc))
-          (λ w less. inl (
-            (λ q. cc),
-            given_home table.homes [] nothings (16 * k) 16 (16 * k + w) (omega arith)
-                (omega arith) (omega arith),
-          )) (loader_slots table r id l at),
-    ))) may
+    (λ l free. allows slots id (View.Loading l, me.1) (k + 1) (λ n. either (n == 512) 0 n) (Event.Collect k) (λ _. Reply.NotNow)
+    (PutsBack (step slots (k + 1) 512 0 none) (View.Loading l, me.1)) (puts_add slots id k l me.1 many small free)) may
 
 -- an image stays while others come
 pub image_of-append : (images more : List ImageValue) (v : ℕ) (image : ImageValue) → image_of images v ≡ Some image → image_of (images ++ more) v ≡ Some image

@@ -116,7 +116,7 @@ notes_events table id l r at =
       record {
         course = d;
         loader = l';
-        goes = goes_same r.course e reply t r.goes is_step refl;
+        goes = goes_same r.course e reply t r.goes is_step tt refl;
         words = record { nine = r.words.nine; cur = r.words.cur; each = r.words.each };
         seats = seat_more d views l' l.current moved;
         notices = notices_more views (View.Noting l.current) ∙ (λ i. (notices_loader table.views id l l' at ∙ r.notices) i ++ knows.shows.current i ∷ []);
@@ -160,6 +160,7 @@ joins_events table id other n v r at settled at' =
     let is_step : Step s e reply t = (settled_so s v f.shows.now settled, sym more, (place, is_noted, refl)) in
     let d : Course = extended r.course e reply t r.course.images in
     let within = slice_get_within s.workers w v.now f.shows.now in let many = kept.workers.sixteen in let many' = kept.workers.sixteen_seen in
+    let low : w < 16 = omega arith in
     let fits : WorkerFits d v' = record {
       shows = record { now = f.shows.now; seen = get_or-set_same s.seen w (max (get_or s.seen w 0) n) 0 (omega arith) ∙ more };
       last = (f.last.0, (let a = f.last.1 in let b = most_left v.seen n in omega arith));
@@ -177,7 +178,7 @@ joins_events table id other n v r at settled at' =
       record {
         course = d;
         loader = r.loader;
-        goes = goes_same r.course e reply t r.goes is_step refl;
+        goes = goes_same r.course e reply t r.goes is_step low refl;
         words = record { nine = r.words.nine; cur = r.words.cur; each = r.words.each };
         seats = seat_spent d views r.loader other n there moved;
         notices = less.2 ∙ ap (λ (xs : List ℕ). remove xs place) same;

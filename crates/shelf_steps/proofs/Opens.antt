@@ -23,6 +23,7 @@ use Rattle.version_core.specs.Shown.{shelf_word}
 use Rattle.shelf_steps.specs.Seats.{WorkerFits, SeatsFit, SeatFits}
 use Rattle.shelf_steps.specs.Slots.{SlotsFit, SlotFits}
 use Rattle.shelf_steps.specs.Ruled.{Ruled, notices_of, first_loader, first_words, FirstSlot, FirstSlots}
+use Rattle.shelf_steps.specs.Steps.{StartIsRuled, HandingsAddNothing}
 use Rattle.shelf_steps.specs.Plays.{MayHandOut, one_more, newcomer, keeps_loading, new_worker_view}
 use Rattle.shelf_steps.proofs.Courses.{kept_of, begins_all}
 use Rattle.shelf_steps.proofs.Frames.{there}
@@ -36,7 +37,7 @@ only_first zero edition e = cc
 only_first (suc i) edition e = absurd (cc)
 
 first_goes : (image : ImageValue) → Goes (first_course image)
-first_goes image = record { run = refl; as_many = refl; numbered = only_first }
+first_goes image = record { run = refl; workers = tt; as_many = refl; numbered = only_first }
 
 first_each : (k : ℕ) (x : Shelf) → slice_get start.shelves k ≡ Some x → get_or first_words (k + 1) 0 ≡ shelf_word x (get_or start.counts k 0)
 first_each = search rules
@@ -56,6 +57,11 @@ free_at zero k x e = absurd (cc)
 free_at (suc n) zero x e = (cc, omega arith)
 free_at (suc n) (suc k) x e = let z = free_at n k x e in (z.0, (let q = z.1 in omega arith))
 
+idle_at : (n w : ℕ) (x : Worker) → slice_get (replicate n Worker.Idle) w ≡ Some x → Worker.Idle ≡ x
+idle_at zero w x e = absurd (cc)
+idle_at (suc n) zero x e = cc
+idle_at (suc n) (suc w) x e = idle_at n w x e
+
 first_at : (image : ImageValue) (items : List (Option Edition)) → FirstSlots image 128 items
     → SlotsFit (map some items) start.shelves start.workers (image ∷ []) None
 first_at image items f zero w x at less =
@@ -63,16 +69,23 @@ first_at image items f zero w x at less =
     let h = q.2.0 (omega arith) in
     let same : Shelf.Open 1 ≡ x = cc in
     subst (λ (y : Shelf). SlotFits (image ∷ []) start.workers None y zero w (get_elem? (map some items) (16 * zero + w))) same
-    (inl (q.0, at_map some items (16 * zero + w) q.0 q.1, (h.0, h.1, h.2, ap (λ (i : ImageValue). Some i) (sym h.3))))
+    (
+      (λ e. cc),
+      inl (
+        q.0,
+        at_map some items (16 * zero + w) q.0 q.1,
+        (h.0, h.1, h.2, ap (λ (i : ImageValue). Some i) (sym h.3)),
+        (λ e. let z = idle_at 16 w (Worker.Holding zero 1) e in cc),
+      ),
+    )
 first_at image items f (suc k) w x at less =
     let z = free_at 7 k x at in
     let q = f.1 (16 * suc k + w) (let a = z.1 in omega arith) in
     subst (λ (y : Shelf). SlotFits (image ∷ []) start.workers None y (suc k) w (get_elem? (map some items) (16 * suc k + w))) z.0
     (inl ((λ e. cc), at_map some items (16 * suc k + w) q.0 q.1 ∙ ap (λ (y : Option Edition). some (some y)) (q.2.1 (omega arith))))
 
-pub opens_ruled : (image : ImageValue) (items : List (Option Edition)) → FirstSlots image 128 items
-    → Ruled (opening first_words items (View.Loading (first_loader image)))
-opens_ruled image items f = record {
+pub start_ruled : StartIsRuled
+start_ruled image items f = (record {
   course = first_course image;
   loader = first_loader image;
   goes = first_goes image;
@@ -93,7 +106,11 @@ opens_ruled image items f = record {
   };
   notices = refl;
   slots = first_at image items f;
-}
+}, refl)
+
+pub opens_ruled : (image : ImageValue) (items : List (Option Edition)) → FirstSlots image 128 items
+    → Ruled (opening first_words items (View.Loading (first_loader image)))
+opens_ruled image items f = (start_ruled image items f).0
 
 -- one slot more at the start
 pub first_slots_grow : (image : ImageValue) (n : ℕ) (items : List (Option Edition)) (x : Option Edition)
@@ -190,23 +207,28 @@ split_seats c views l fit id first at kept room =
       unseated = λ w past small. fit.unseated w (omega arith) small;
     }
 
+pub hands_out : HandingsAddNothing
+hands_out table id l r at room =
+    let is = r.seats.each id (View.Loading l) at in
+    let fit : SeatsFit r.course table.views l = subst (λ (x : LoaderView). SeatsFit r.course table.views x) (sym is.1) r.seats in (
+      record {
+        course = r.course;
+        loader = one_more l;
+        goes = r.goes;
+        words = r.words;
+        seats = split_seats r.course table.views l fit id is.0 at (kept_of r.course r.goes) room;
+        notices = notices_more (set table.views id (View.Loading (one_more l))) (View.Working (newcomer l.handed))
+            ∙ (append-nil (notices_of (set table.views id (View.Loading (one_more l)))) ∙ (notices_loader table.views id l (one_more l) at ∙ r.notices));
+        slots = subst (λ (x : LoaderView). SlotsFit table.homes r.course.state.shelves r.course.state.workers r.course.images x.hand) (sym is.1) r.slots;
+      },
+      refl,
+    )
+
 splits_as : (id : ℕ) (u : View) → MayHandOut u → Splits Ruled id u (keeps_loading u) (new_worker_view u)
 splits_as id (View.Working v) room table r at = absurd room
 splits_as id (View.Noting x') room table r at = absurd room
 splits_as id View.Spent room table r at = absurd room
-splits_as id (View.Loading l) room table r at =
-    let is = r.seats.each id (View.Loading l) at in
-    let fit : SeatsFit r.course table.views l = subst (λ (x : LoaderView). SeatsFit r.course table.views x) (sym is.1) r.seats in
-    record {
-      course = r.course;
-      loader = one_more l;
-      goes = r.goes;
-      words = r.words;
-      seats = split_seats r.course table.views l fit id is.0 at (kept_of r.course r.goes) room;
-      notices = notices_more (set table.views id (View.Loading (one_more l))) (View.Working (newcomer l.handed))
-          ∙ (append-nil (notices_of (set table.views id (View.Loading (one_more l)))) ∙ (notices_loader table.views id l (one_more l) at ∙ r.notices));
-      slots = subst (λ (x : LoaderView). SlotsFit table.homes r.course.state.shelves r.course.state.workers r.course.images x.hand) (sym is.1) r.slots;
-    }
+splits_as id (View.Loading l) room table r at = (hands_out table id l r at room).0
 
 pub splits : (id : ℕ) (u : View) → MayHandOut u → Splits Ruled id u (keeps_loading u) (new_worker_view u)
 splits = splits_as

@@ -34,7 +34,7 @@ module _ (table : Shelved) (l : LoaderView) (r : Ruled table) (at : IsLoader tab
   pub knows : LoaderFits r.course l
   knows = subst (λ (x : LoaderView). LoaderFits r.course x) (sym is_loader) r.seats.loads
 
-  same_shelf : (k : ℕ) (x : Shelf) → slice_get l.shelves k ≡ Some x → slice_get r.course.state.shelves k ≡ Some x
+  pub same_shelf : (k : ℕ) (x : Shelf) → slice_get l.shelves k ≡ Some x → slice_get r.course.state.shelves k ≡ Some x
   same_shelf k x e = ap (λ (xs : List Shelf). slice_get xs k) (sym knows.shows.shelves) ∙ e
 
 pub words_are : WordsAreTheLoaders
@@ -76,8 +76,8 @@ held_have table l i k v w r loads at now =
 filled : (images : List ImageValue) (ws : List Worker) (hand : Option ℕ) (y : Shelf) (k w v : ℕ) (slot : Slot)
     → version_of y ≡ Some v → SlotFits images ws hand y k w slot → IsFilled images ws k w v slot
 filled images ws hand Shelf.Free k w v slot e f = absurd (cc)
-filled images ws hand (Shelf.Open x) k w v slot e f = let same : x ≡ v = cc in subst (λ n. IsFilled images ws k w n slot) same f
-filled images ws hand (Shelf.Closing x) k w v slot e f = let same : x ≡ v = cc in subst (λ n. IsFilled images ws k w n slot) same f
+filled images ws hand (Shelf.Open x) k w v slot e f = let same : x ≡ v = cc in subst (λ n. IsFilled images ws k w n slot) same f.1
+filled images ws hand (Shelf.Closing x) k w v slot e f = let same : x ≡ v = cc in subst (λ n. IsFilled images ws k w n slot) same f.1
 
 slot_of : (table : Shelved) (l : LoaderView) (k w v : ℕ) (r : Ruled table) → IsLoader table l
     → version_on l.shelves k ≡ Some v → w < 16

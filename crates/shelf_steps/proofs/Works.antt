@@ -2,7 +2,7 @@
 use Rattle.reasoning.proofs.ListLemmas.{slice_get-set_same, slice_get-set_other}
 use Rattle.version_core.specs.Actors.{nobody, actor}
 use Rattle.image_layout.specs.Image.{ImageValue}
-use Rattle.std.proofs.Common.{◌≡◌, ◌≢◌, ℕ, zero, suc, ◌+◌, ◌-◌, ◌*◌, ◌/◌, ◌%◌, ◌<◌, ◌≤◌, Bool, true, false, MatchBool}
+use Rattle.std.proofs.Common.{◌≡◌, ◌≢◌, ℕ, zero, suc, ◌+◌, ◌-◌, ◌*◌, ◌/◌, ◌%◌, ◌<◌, ◌≤◌, Bool, true, false, cond, MatchBool}
 use Rattle.std.proofs.Common.{List, [], ◌∷◌, length, set, get_or, Option, Some, None, slice_get, refl, ap, sym, ◌∙◌}
 use Rattle.std.proofs.Common.{subst, arith, get_or-set_same, get_or-set_other, le_refl, inl, inr}
 use Rattle.std.proofs.lemmas.Option.{slice_get_within}
@@ -21,14 +21,16 @@ use Rattle.shelf_steps.specs.declared.edition.Edition.{Edition}
 use Rattle.shelf_steps.specs.declared.views.Known.{Known}
 use Rattle.shelf_steps.specs.declared.views.WorkerView.{WorkerView}
 use Rattle.shelf_steps.specs.declared.views.View.{View}
-use Rattle.shelf_steps.specs.Course.{Course, Goes, extended, all_of, Begins, Happened, IsEdition}
+use Rattle.shelf_steps.specs.Course.{Course, Goes, IsLonger, extended, all_of, Begins, Happened, IsEdition}
 use Rattle.version_core.specs.Shown.{WordsShow, WorkerShows, shelf_word}
 use Rattle.shelf_steps.specs.Seats.{WorkerFits, LoaderFits, SeatsFit, HasEdition}
-use Rattle.shelf_steps.specs.Slots.{SlotsFit, SlotFits}
+use Rattle.shelf_steps.specs.Slots.{SlotsFit, SlotFits, Slot}
 use Rattle.shelf_steps.specs.Ruled.{Ruled}
 use Rattle.shelf_steps.specs.Plays.{Mine, looked_at, is_open, holding, come_late, gone, Looks, TakesFound, TakesAs}
 use Rattle.shelf_steps.specs.Plays.{Takes, Leaves, GivesBack, IsIdle, HasLooked, IsLate, HoldsOut, ShowsIn}
-use Rattle.shelf_steps.proofs.Courses.{kept_of, joined_same, no_note, no_join, nothing_snoc}
+use Rattle.shelf_steps.specs.Events.{known_of}
+use Rattle.shelf_steps.specs.Steps.{Adds, LooksAdd, TakesAdd, LeavesAdd, GivingsAdd}
+use Rattle.shelf_steps.proofs.Courses.{kept_of, joined_same, no_note, no_join, nothing_snoc, workers_event}
 use Rattle.shelf_steps.proofs.Courses.{begins_longer, happened, goes_same, loader_apart, prefix_same, other_fits, worker_next}
 use Rattle.shelf_steps.proofs.Frames.{there, worker_moves}
 use Rattle.shelf_steps.proofs.WordsAfter.{current_word, words_same, words_after, word_rises, word_falls, word_tells, found_at}
@@ -47,7 +49,8 @@ module _ (table : Table (Option Edition) View) (r : Ruled table) (id : ℕ) (v v
   next = extended r.course e reply t r.course.images
 
   pub next_goes : Goes (extended r.course e reply t r.course.images)
-  next_goes = goes_same r.course e reply t r.goes is_step editions
+  next_goes = goes_same r.course e reply t r.goes is_step
+      (workers_event e v.number whose (let a = (r.seats.each id (View.Working v) at).0 in let b = r.seats.few in omega arith)) editions
 
   not_loaders : actor e ≢ None
   not_loaders q = let z : Some v.number ≡ None = sym whose ∙ q in cc
@@ -76,28 +79,36 @@ module _ (table : Table (Option Edition) View) (r : Ruled table) (id : ℕ) (v v
   next_seats fits = worker_moves r.course (extended r.course e reply t r.course.images) table.views r.loader r.seats id v v' at named others loads rest
       (λ w low other h. nothing_snoc w r.course.events e (not_of w other) (no_join w e not_nobodys) h) fits
 
-  pub next_ruled : (words' : List ℕ) (homes' : List (Maybe (Option Edition))) → WorkerFits (extended r.course e reply t r.course.images) v' → WordsShow words' t
-      → SlotsFit homes' t.shelves t.workers r.course.images r.loader.hand
-      → t.notices ≡ r.course.state.notices → Ruled record { words = words'; homes = homes'; views = set table.views id (View.Working v') }
-  next_ruled words' homes' fits words slots notices = record {
-    course = extended r.course e reply t r.course.images;
-    loader = r.loader;
-    goes = next_goes;
-    words = words;
-    seats = next_seats fits;
-    notices = notices_worker table.views id v v' at ∙ (r.notices ∙ sym notices);
-    slots = slots;
-  }
+  pub next_ruled : (words' : List ℕ) (homes' : List (Maybe (Option Edition))) → v'.known ≡ all_of (extended r.course e reply t r.course.images)
+      → WorkerFits (extended r.course e reply t r.course.images) v' → WordsShow words' t
+      → SlotsFit homes' t.shelves t.workers r.course.images r.loader.hand → t.notices ≡ r.course.state.notices
+      → (after : Ruled record { words = words'; homes = homes'; views = set table.views id (View.Working v') })
+      × IsLonger r.course e reply after.course × (v'.known ≡ all_of after.course)
+  next_ruled words' homes' knows fits words slots notices = (
+    record {
+      course = extended r.course e reply t r.course.images;
+      loader = r.loader;
+      goes = next_goes;
+      words = words;
+      seats = next_seats fits;
+      notices = notices_worker table.views id v v' at ∙ (r.notices ∙ sym notices);
+      slots = slots;
+    },
+    record { is_step = is_step; events = refl; replies = refl; images = prefix_same r.course.images },
+    knows,
+  )
 
   pub next_happened : Happened v.known e reply (all_of (extended r.course e reply t r.course.images))
   next_happened = happened r.course e reply t r.course.images v.known
       (subst (λ (a : Option ℕ). Begins v.known a r.course) (sym whose) (r.seats.each id (View.Working v) at).2.known) next_goes (prefix_same r.course.images)
 
-looks_as : (slots id : ℕ) (u : View) (c : List (ℕ × Option Edition)) → IsIdle u → Allows Ruled slots id (u, c) 0 (λ n. n) (Looks (u, c))
-looks_as slots id (View.Loading l) c idle table r full at small = absurd idle
-looks_as slots id (View.Noting x') c idle table r full at small = absurd idle
-looks_as slots id View.Spent c idle table r full at small = absurd idle
-looks_as slots id (View.Working v) c idle table r full at small =
+-- what the kit asks of an operation on a word, where the history grows by its event
+pub allows : (slots id : ℕ) (me : Mine) (i : ℕ) (f : ℕ → ℕ) (e : Event) (reply : ℕ → Reply) (tells : ℕ → Mine → Type 0)
+    → Adds slots id me i f e reply tells → Allows Ruled slots id me i f tells
+allows slots id me i f e reply tells adds table r full at small = let z = adds table r full at small in (z.0, z.1, z.2, z.3, z.6)
+
+pub looks_add : LooksAdd
+looks_add slots id v c idle table r full at small =
     let s = r.course.state in let w = v.number in let n = get_or table.words 0 0 in
     let kept : Kept s = kept_of r.course r.goes in
     let f : WorkerFits r.course v = (r.seats.each id (View.Working v) at).2 in
@@ -118,14 +129,18 @@ looks_as slots id (View.Working v) c idle table r full at small =
       seen = get_or-set_same s.seen w s.current 0 (omega arith) ∙ sym z.1;
     } in
     let fits : WorkerFits d v' = worker_next r.course d e v v' f refl refl refl (refl, refl) shows
-    ((let q = z.1 in omega arith), le_refl (n / 8)) (λ p. absurd (cc)) refl in (
+    ((let q = z.1 in omega arith), le_refl (n / 8)) (λ p. absurd (cc)) refl in
+    let after =
+    next_ruled table r id v v' at refl e reply t refl is_step refl refl refl refl rest (set table.words 0 n) table.homes refl fits
+    (words_same table.words 0 s t r.words refl refl refl refl)
+    (slots_worker table.homes s.shelves s.workers r.course.images r.loader.hand w Worker.Idle (Worker.Looked s.current s.current_shelf) is_idle
+    (λ k x q. cc) (λ k x q. cc) r.slots) refl in (
       View.Working v',
       keeps,
       tt,
-      next_ruled table r id v v' at refl e reply t refl is_step refl refl refl refl rest (set table.words 0 n) table.homes fits
-          (words_same table.words 0 s t r.words refl refl refl refl)
-          (slots_worker table.homes s.shelves s.workers r.course.images r.loader.hand w Worker.Idle (Worker.Looked s.current s.current_shelf) is_idle
-          (λ k x q. cc) r.slots) refl,
+      after.0,
+      after.1,
+      after.2,
       (
         all_of d,
         refl,
@@ -140,6 +155,14 @@ looks_as slots id (View.Working v) c idle table r full at small =
         ),
       ),
     )
+
+looks_as : (slots id : ℕ) (u : View) (c : List (ℕ × Option Edition)) → IsIdle u → Allows Ruled slots id (u, c) 0 (λ n. n) (Looks (u, c))
+looks_as slots id (View.Loading l) c idle = absurd idle
+looks_as slots id (View.Noting x') c idle = absurd idle
+looks_as slots id View.Spent c idle = absurd idle
+looks_as slots id (View.Working v) c idle =
+    allows slots id (View.Working v, c) 0 (λ n. n) (Event.Look v.number) (λ n. Reply.Looked (n / 8) (n % 8)) (Looks (View.Working v, c))
+    (looks_add slots id v c idle)
 
 pub looks : (slots id : ℕ) (me : Mine) → IsIdle me.0 → Allows Ruled slots id me 0 (λ n. n) (Looks me)
 looks slots id me idle = looks_as slots id me.0 me.1 idle
@@ -174,7 +197,8 @@ takes_found : (id k : ℕ) (v : WorkerView) (version : ℕ) (c : List (ℕ
     → get_elem? table.views id ≡ some (View.Working v) → v.now ≡ Worker.Looked version k
     → (b : Bool) → MatchBool b (IsOpen r.course.state k version) (¬ (IsOpen r.course.state k version))
     → (w : View) × (a : Act (Option Edition)) × Valid table.homes c a
-    × Ruled (stepped table (k + 1) ((get_or table.words (k + 1) 0 + 1) % 18446744073709551616) id c w a)
+    × (after : Ruled (stepped table (k + 1) ((get_or table.words (k + 1) 0 + 1) % 18446744073709551616) id c w a))
+    × IsLonger r.course (Event.Take v.number) (cond b (Reply.Holds version) Reply.Late) after.course × (known_of w ≡ all_of after.course)
     × TakesFound v c version k (get_or table.words (k + 1) 0) b (w, carried_after c a)
 takes_found id k v version c table r at now true stands =
     let s = r.course.state in let w = v.number in let n = get_or table.words (k + 1) 0 in
@@ -187,8 +211,8 @@ takes_found id k v version c table r at now true stands =
     × (get_or t.seen j 0 ≡ get_or s.seen j 0) =
     λ j other. (slice_get-set_other s.workers w j (Worker.Holding k version) other, refl) in
     let home : (x : Option Edition) × (get_elem? table.homes (16 * k + w) ≡ some (some x)) × IsEdition r.course.images version x =
-    elim (r.slots k w (Shelf.Open version) stands z.0) [
-      | inl a ↦ a
+    elim (r.slots k w (Shelf.Open version) stands z.0).1 [
+      | inl a ↦ (a.0, a.1, a.2)
       | inr a ↦ absurd (let q : Some (Worker.Looked version k) ≡ Some (Worker.Holding k version) = sym has ∙ a.1 in cc)
     ] in
     let edition : Edition = home.2.0 in
@@ -197,17 +221,21 @@ takes_found id k v version c table r at now true stands =
     let d : Course = extended r.course e reply t r.course.images in
     let v' : WorkerView = holding v k version edition (all_of d) in
     let shows : WorkerShows w v'.now v'.seen d.state = record { now = slice_get-set_same s.workers w (Worker.Holding k version) within; seen = f.shows.seen } in
-    let fits : WorkerFits d v' = worker_next r.course d e v v' f refl refl refl (refl, refl) shows f.last f.passed is_its in (
+    let fits : WorkerFits d v' = worker_next r.course d e v v' f refl refl refl (refl, refl) shows f.last f.passed is_its in
+    let after =
+    next_ruled table r id v v' at refl e reply t refl is_step refl refl refl refl rest (set table.words (k + 1) ((n + 1) % 18446744073709551616))
+    (homes_after table.homes c (takes (16 * k + w) (Some edition))) refl fits
+    (words_counted table.words k ((n + 1) % 18446744073709551616) (get_or s.counts k 0 + 1) t.workers s kept r.words z.1
+    (word_rises table.words s k kept r.words z.1))
+    (slots_one table.homes s.shelves s.workers r.course.images r.loader.hand k w (Worker.Looked version k) (Worker.Holding k version)
+    (Shelf.Open version) none has (λ j x ne q. cc) (λ j x ne q. ne (cc)) stands z.0 (there table.homes (16 * k + w) _ filled)
+    ((r.slots k w (Shelf.Open version) stands z.0).0, inr (refl, slice_get-set_same s.workers w (Worker.Holding k version) within)) r.slots) refl in (
       View.Working v',
       takes (16 * k + w) (Some edition),
       filled,
-      next_ruled table r id v v' at refl e reply t refl is_step refl refl refl refl rest (set table.words (k + 1) ((n + 1) % 18446744073709551616))
-          (homes_after table.homes c (takes (16 * k + w) (Some edition))) fits
-          (words_counted table.words k ((n + 1) % 18446744073709551616) (get_or s.counts k 0 + 1) t.workers s kept r.words z.1
-          (word_rises table.words s k kept r.words z.1))
-          (slots_one table.homes s.shelves s.workers r.course.images r.loader.hand k w (Worker.Looked version k) (Worker.Holding k version)
-          (Shelf.Open version) none has (λ j x ne q. cc) stands z.0 (there table.homes (16 * k + w) _ filled)
-          (inr (refl, slice_get-set_same s.workers w (Worker.Holding k version) within)) r.slots) refl,
+      after.0,
+      after.1,
+      after.2,
       (
         edition,
         all_of d,
@@ -231,19 +259,23 @@ takes_found id k v version c table r at now false shut =
     let d : Course = extended r.course e reply t r.course.images in
     let v' : WorkerView = come_late v k (all_of d) in
     let goes' : Goes d = next_goes table r id v v' at refl e reply t refl is_step refl refl refl refl rest in
-    let after = (kept_of d goes').workers.each w (Worker.Late k) (slice_get-set_same s.workers w (Worker.Late k) within) in
+    let late = (kept_of d goes').workers.each w (Worker.Late k) (slice_get-set_same s.workers w (Worker.Late k) within) in
     let shows : WorkerShows w v'.now v'.seen d.state = record { now = slice_get-set_same s.workers w (Worker.Late k) within; seen = f.shows.seen } in
     let fits : WorkerFits d v' = worker_next r.course d e v v' f refl refl refl (refl, refl) shows f.last
-    (λ p. let a = f.last.1 in let b = f.shows.seen in let q = after.1 in omega arith) refl in (
+    (λ p. let a = f.last.1 in let b = f.shows.seen in let q = late.1 in omega arith) refl in
+    let after =
+    next_ruled table r id v v' at refl e reply t refl is_step refl refl refl refl rest
+    (set table.words (k + 1) ((n + 1) % 18446744073709551616)) table.homes refl fits
+    (words_counted table.words k ((n + 1) % 18446744073709551616) (get_or s.counts k 0 + 1) t.workers s kept r.words z.1
+    (word_rises table.words s k kept r.words z.1))
+    (slots_worker table.homes s.shelves s.workers r.course.images r.loader.hand w (Worker.Looked version k)
+    (Worker.Late k) has (λ j x q. cc) (λ j x q. cc) r.slots) refl in (
       View.Working v',
       keeps,
       tt,
-      next_ruled table r id v v' at refl e reply t refl is_step refl refl refl refl rest
-          (set table.words (k + 1) ((n + 1) % 18446744073709551616)) table.homes fits
-          (words_counted table.words k ((n + 1) % 18446744073709551616) (get_or s.counts k 0 + 1) t.workers s kept r.words z.1
-          (word_rises table.words s k kept r.words z.1))
-          (slots_worker table.homes s.shelves s.workers r.course.images r.loader.hand w (Worker.Looked version k)
-          (Worker.Late k) has (λ j x q. cc) r.slots) refl,
+      after.0,
+      after.1,
+      after.2,
       (
         all_of d,
         refl,
@@ -253,18 +285,23 @@ takes_found id k v version c table r at now false shut =
       ),
     )
 
-takes_as : (slots id k : ℕ) (u : View) (c : List (ℕ × Option Edition)) → HasLooked k u
-    → Allows Ruled slots id (u, c) (k + 1) (λ n. (n + 1) % 18446744073709551616) (Takes (u, c))
-takes_as slots id k (View.Loading l) c has table r full at fits = absurd has
-takes_as slots id k (View.Noting x') c has table r full at fits = absurd has
-takes_as slots id k View.Spent c has table r full at fits = absurd has
-takes_as slots id k (View.Working v) c has table r full at fits =
+pub takes_add : TakesAdd
+takes_add slots id k version v c now table r full at fits =
     let s = r.course.state in let n = get_or table.words (k + 1) 0 in
     let kept : Kept s = kept_of r.course r.goes in
     let f : WorkerFits r.course v = (r.seats.each id (View.Working v) at).2 in
-    let z = looked_fits s v.number has.0 k kept (f.shows.now ∙ ap (λ (x : Worker). Some x) has.1) in
-    let t = takes_found id k v has.0 c table r at has.1 (is_open n has.0) (word_tells table.words s k has.0 kept r.words z.1) in
-    (t.0, t.1, t.2, t.3, subst (λ (now : Worker). TakesAs v c now n (t.0, carried_after c t.1)) (sym has.1) t.4)
+    let z = looked_fits s v.number version k kept (f.shows.now ∙ ap (λ (x : Worker). Some x) now) in
+    let t = takes_found id k v version c table r at now (is_open n version) (word_tells table.words s k version kept r.words z.1) in
+    (t.0, t.1, t.2, t.3, t.4, t.5, subst (λ (x : Worker). TakesAs v c x n (t.0, carried_after c t.1)) (sym now) t.6)
+
+takes_as : (slots id k : ℕ) (u : View) (c : List (ℕ × Option Edition)) → HasLooked k u
+    → Allows Ruled slots id (u, c) (k + 1) (λ n. (n + 1) % 18446744073709551616) (Takes (u, c))
+takes_as slots id k (View.Loading l) c has = absurd has
+takes_as slots id k (View.Noting x') c has = absurd has
+takes_as slots id k View.Spent c has = absurd has
+takes_as slots id k (View.Working v) c has =
+    allows slots id (View.Working v, c) (k + 1) (λ n. (n + 1) % 18446744073709551616) (Event.Take v.number)
+    (λ n. cond (is_open n has.0) (Reply.Holds has.0) Reply.Late) (Takes (View.Working v, c)) (takes_add slots id k has.0 v c has.1)
 
 pub takings : (slots id k : ℕ) (me : Mine) → HasLooked k me.0 → Allows Ruled slots id me (k + 1) (λ n. (n + 1) % 18446744073709551616) (Takes me)
 takings slots id k me has = takes_as slots id k me.0 me.1 has
@@ -275,9 +312,11 @@ leaves_with : (id k : ℕ) (v : WorkerView) (table : Table (Option Edition) View
     × Option Edition)) (a : Act (Option Edition))
     → get_or table.words (k + 1) 0 < 18446744073709551616
     → SlotsFit (homes_after table.homes c a) r.course.state.shelves (set r.course.state.workers v.number Worker.Idle) r.course.images r.loader.hand
-    → (known : Known) × Ruled (stepped table (k + 1)
+    → (known : Known) × (after : Ruled (stepped table (k + 1)
     ((get_or table.words (k + 1) 0 + (18446744073709551616 - 1)) % 18446744073709551616) id c
-    (View.Working (gone v known)) a) × Happened v.known (Event.Drop v.number) Reply.Dropped known
+    (View.Working (gone v known)) a))
+    × IsLonger r.course (Event.Drop v.number) Reply.Dropped after.course × (known ≡ all_of after.course)
+    × Happened v.known (Event.Drop v.number) Reply.Dropped known
     × ShowsIn (gone v known)
 leaves_with id k v table r at stays c a small slots =
     let s = r.course.state in let w = v.number in let n = get_or table.words (k + 1) 0 in
@@ -294,30 +333,39 @@ leaves_with id k v table r at stays c a small slots =
     let d : Course = extended r.course e reply t r.course.images in
     let v' : WorkerView = gone v (all_of d) in
     let shows : WorkerShows w v'.now v'.seen d.state = record { now = slice_get-set_same s.workers w Worker.Idle within; seen = f.shows.seen } in
-    let fits : WorkerFits d v' = worker_next r.course d e v v' f refl refl refl (refl, refl) shows f.last f.passed refl in (
+    let fits : WorkerFits d v' = worker_next r.course d e v v' f refl refl refl (refl, refl) shows f.last f.passed refl in
+    let after =
+    next_ruled table r id v v' at refl e reply t refl is_step refl refl refl refl rest
+    (set table.words (k + 1) ((n + (18446744073709551616 - 1)) % 18446744073709551616)) (homes_after table.homes c a) refl fits
+    (words_counted table.words k ((n + (18446744073709551616 - 1)) % 18446744073709551616) (get_or s.counts k 0 - 1) t.workers s kept r.words z.1
+    (word_falls table.words s k kept r.words z.1 z.2)) slots refl in (
       all_of d,
-      next_ruled table r id v v' at refl e reply t refl is_step refl refl refl refl rest
-          (set table.words (k + 1) ((n + (18446744073709551616 - 1)) % 18446744073709551616)) (homes_after table.homes c a) fits
-          (words_counted table.words k ((n + (18446744073709551616 - 1)) % 18446744073709551616) (get_or s.counts k 0 - 1) t.workers s kept r.words z.1
-          (word_falls table.words s k kept r.words z.1 z.2)) slots refl,
+      after.0,
+      after.1,
+      after.2,
       next_happened table r id v v' at refl e reply t refl is_step refl refl refl refl rest,
       (t, next_goes table r id v v' at refl e reply t refl is_step refl refl refl refl rest, fits.shows),
     )
 
-leaves_as : (slots id k : ℕ) (u : View) (c : List (ℕ × Option Edition)) → IsLate k u
-    → Allows Ruled slots id (u, c) (k + 1) (λ n. (n + (18446744073709551616 - 1)) % 18446744073709551616)
-    (λ _. Leaves (u, c))
-leaves_as slots id k (View.Loading l) c late table r full at fits = absurd late
-leaves_as slots id k (View.Noting x') c late table r full at fits = absurd late
-leaves_as slots id k View.Spent c late table r full at fits = absurd late
-leaves_as slots id k (View.Working v) c late table r full at small =
+pub leaves_add : LeavesAdd
+leaves_add slots id k v c late table r full at small =
     let s = r.course.state in
     let f : WorkerFits r.course v = (r.seats.each id (View.Working v) at).2 in
     let here : slice_get s.workers v.number ≡ Some (Worker.Late k) = f.shows.now ∙ ap (λ (x : Worker). Some x) late in
     let t = leaves_with id k v table r at (inl here) c keeps small
     (slots_worker table.homes s.shelves s.workers r.course.images r.loader.hand v.number (Worker.Late k)
-    Worker.Idle here (λ j x q. cc) r.slots) in
-    (View.Working (gone v t.0), keeps, tt, t.1, (t.0, refl, t.2, t.3))
+    Worker.Idle here (λ j x q. cc) (λ j x q. cc) r.slots) in
+    (View.Working (gone v t.0), keeps, tt, t.1, t.2, t.3, (t.0, refl, t.4, t.5))
+
+leaves_as : (slots id k : ℕ) (u : View) (c : List (ℕ × Option Edition)) → IsLate k u
+    → Allows Ruled slots id (u, c) (k + 1) (λ n. (n + (18446744073709551616 - 1)) % 18446744073709551616)
+    (λ _. Leaves (u, c))
+leaves_as slots id k (View.Loading l) c late = absurd late
+leaves_as slots id k (View.Noting x') c late = absurd late
+leaves_as slots id k View.Spent c late = absurd late
+leaves_as slots id k (View.Working v) c late =
+    allows slots id (View.Working v, c) (k + 1) (λ n. (n + (18446744073709551616 - 1)) % 18446744073709551616) (Event.Drop v.number)
+    (λ _. Reply.Dropped) (λ _. Leaves (View.Working v, c)) (leaves_add slots id k v c late)
 
 pub leavings : (slots id k : ℕ) (me : Mine) → IsLate k me.0
     → Allows Ruled slots id me (k + 1) (λ n. (n + (18446744073709551616 - 1)) % 18446744073709551616) (λ _. Leaves me)
@@ -334,45 +382,37 @@ held_shelf : (s : State) (w k version : ℕ) → Kept s → slice_get s.workers 
     → (y : Shelf) × (slice_get s.shelves k ≡ Some y) × (version_of y ≡ Some version)
 held_shelf s w k version kept here = held_on s.shelves k version (held_known s w k version kept here).0
 
--- a slot at home with the edition of the shelf's version
-fills : (y : Shelf) (images : List ImageValue) (ws : List Worker) (hand : Option ℕ) (k w version : ℕ)
+-- a slot at home with the edition of the shelf's version, if its worker doesn't hold the shelf
+fills : (y : Shelf) (images : List ImageValue) (before ws : List Worker) (hand : Option ℕ) (k w version : ℕ) (slot : Slot)
     (edition : Option Edition) → version_of y ≡ Some version → IsEdition images version edition
+    → ((x : ℕ) → slice_get ws w ≢ Some (Worker.Holding k x)) → SlotFits images before hand y k w slot
     → SlotFits images ws hand y k w (some (some edition))
-fills Shelf.Free images ws hand k w version edition e its = absurd (cc)
-fills (Shelf.Open v) images ws hand k w version edition e its = let same : version ≡ v =
-    cc in inl (
-      edition,
-      refl,
-      subst (λ n. IsEdition images n edition) same its,
-    )
-fills (Shelf.Closing v) images ws hand k w version edition e its = let same : version ≡ v =
-    cc in inl (
-      edition,
-      refl,
-      subst (λ n. IsEdition images n edition) same
-          its,
-    )
+fills Shelf.Free images before ws hand k w version slot edition e its away was = absurd (cc)
+fills (Shelf.Open v) images before ws hand k w version slot edition e its away was =
+    let same : version ≡ v = cc in
+    (was.0, inl (edition, refl, subst (λ n. IsEdition images n edition) same its, away v))
+fills (Shelf.Closing v) images before ws hand k w version slot edition e its away was =
+    let same : version ≡ v = cc in
+    (was.0, inl (edition, refl, subst (λ n. IsEdition images n edition) same its, away v))
 
-gives_as : (slots id k version : ℕ) (v : WorkerView) → slots ≡ 128 → v.now ≡ Worker.Holding k version
-    → Allows Ruled slots id (
-      View.Working v,
-      (16 * k + v.number, v.edition) ∷ [],
-    ) (k + 1) (λ n. (n + (18446744073709551616 - 1)) % 18446744073709551616)
-    (λ _. GivesBack (View.Working v, (16 * k + v.number, v.edition) ∷ []))
-gives_as slots id k version v many now table r full at small =
+pub gives_add : GivingsAdd
+gives_add slots id k version v many now table r full at small =
     let s = r.course.state in let w = v.number in let kept : Kept s = kept_of r.course r.goes in
     let f : WorkerFits r.course v = (r.seats.each id (View.Working v) at).2 in
     let here : slice_get s.workers w ≡ Some (Worker.Holding k version) = f.shows.now ∙ ap (λ (x : Worker). Some x) now in
     let z = stays_fits s w k kept (inr (version, here)) in
     let its : IsEdition r.course.images version v.edition = subst (λ (x : Worker). HasEdition r.course.images x v.edition) now f.edition in
     let stands = held_shelf s w k version kept here in
+    let idle : slice_get (set s.workers w Worker.Idle) w ≡ Some Worker.Idle =
+    slice_get-set_same s.workers w Worker.Idle (slice_get_within s.workers w _ here) in
+    let away : (x : ℕ) → slice_get (set s.workers w Worker.Idle) w ≢ Some (Worker.Holding k x) =
+    λ x q. let y : Some Worker.Idle ≡ Some (Worker.Holding k x) = sym idle ∙ q in cc in
     let t = leaves_with id k v table r at (inr (version, here)) ((16 * k + w, v.edition) ∷ []) gives small
     (slots_one table.homes s.shelves s.workers r.course.images r.loader.hand k w (Worker.Holding k version) Worker.Idle stands.0 (some v.edition) here
-    (λ j x ne q. ne (cc)) stands.1 z.0 (let a = z.0 in let b =
-    z.1 in omega arith) (fills stands.0 r.course.images
-    (set s.workers w Worker.Idle) r.loader.hand k w version
-    v.edition stands.2 its) r.slots) in
-    (View.Working (gone v t.0), gives, tt, t.1, (t.0, refl, t.2, t.3))
+    (λ j x ne q. ne (cc)) (λ j x ne q. cc) stands.1 z.0 (let a = z.0 in let b = z.1 in omega arith)
+    (fills stands.0 r.course.images s.workers (set s.workers w Worker.Idle) r.loader.hand k w version
+    (get_elem? table.homes (16 * k + w)) v.edition stands.2 its away (r.slots k w stands.0 stands.1 z.0)) r.slots) in
+    (View.Working (gone v t.0), gives, tt, t.1, t.2, t.3, (t.0, refl, t.4, t.5))
 
 givings_as : (slots id k : ℕ) (u : View) (c : List (ℕ × Option Edition)) → slots ≡ 128 → HoldsOut k u c
     → Allows Ruled slots id (u, c) (k + 1) (λ n. (n + (18446744073709551616 - 1)) % 18446744073709551616)
@@ -386,7 +426,9 @@ givings_as slots id k (View.Working v) c many h =
       x,
     ) (k + 1) (λ n. (n + (18446744073709551616 - 1)) % 18446744073709551616) (λ _. GivesBack (View.Working v, x)))
     (sym h.2)
-    (gives_as slots id k h.0 v many h.1)
+    (allows slots id (View.Working v, (16 * k + v.number, v.edition) ∷ []) (k + 1)
+    (λ n. (n + (18446744073709551616 - 1)) % 18446744073709551616) (Event.Drop v.number) (λ _. Reply.Dropped)
+    (λ _. GivesBack (View.Working v, (16 * k + v.number, v.edition) ∷ [])) (gives_add slots id k h.0 v many h.1))
 
 pub givings : (slots id k : ℕ) (me : Mine) → slots ≡ 128 → HoldsOut k me.0 me.1
     → Allows Ruled slots id me (k + 1) (λ n. (n + (18446744073709551616 - 1)) % 18446744073709551616)

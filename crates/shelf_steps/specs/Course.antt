@@ -1,5 +1,5 @@
 -- What happened so far: one list of events with their replies, the state that it leads to, and the image of each version.
-use Rattle.std.specs.Prelude.{◌≡◌, ℕ, zero, suc, ◌+◌, ◌==◌, cond, List, [], ◌∷◌, ◌++◌, length, slice_get, slice_index, Option, Some, None}
+use Rattle.std.specs.Prelude.{◌≡◌, ◌≢◌, ℕ, zero, suc, ◌+◌, ◌<◌, ◌==◌, cond, List, [], ◌∷◌, ◌++◌, length, slice_get, slice_index, Option, Some, None}
 use Rattle.std.specs.Arc.{arc_value}
 use mathlib.Core.List.{IsPrefix}
 use Rattle.image_layout.specs.Image.{ImageValue}
@@ -8,6 +8,7 @@ use Rattle.version_core.specs.declared.event.Reply.{Reply}
 use Rattle.version_core.specs.declared.state.Shelf.{Shelf}
 use Rattle.version_core.specs.State.{State, start, newest}
 use Rattle.version_core.specs.Shown.{shelf_word}
+use Rattle.version_core.specs.Steps.{Step}
 use Rattle.version_core.specs.Runs.{Run}
 use Rattle.version_core.specs.Actors.{actor, NoneOf}
 use Rattle.shelf_steps.specs.declared.edition.Edition.{Edition}
@@ -20,15 +21,38 @@ pub record Course : Type 0 where
   pub replies : List Reply
   pub images : List ImageValue
 
--- the events lead from the start to the state, with the replies. Edition numbers are places in the list of images
+-- the event is of one of the sixteen workers, or of none
+abbrev pub IsOfSixteen : Event → Type 0
+IsOfSixteen (Event.Look w) = w < 16
+IsOfSixteen (Event.Take w) = w < 16
+IsOfSixteen (Event.Drop w) = w < 16
+IsOfSixteen (Event.Ask w) = w < 16
+IsOfSixteen (Event.Join w v) = w < 16
+IsOfSixteen _ = Unit {0}
+
+-- so is each of these
+abbrev pub AreOfSixteen : List Event → Type 0
+AreOfSixteen [] = Unit {0}
+AreOfSixteen (e ∷ es) = IsOfSixteen e × AreOfSixteen es
+
+-- the events, of sixteen workers and the loader, lead from the start to the state, with the replies. Edition numbers are places in the
+-- list of images
 pub record Goes (c : Course) : Type 0 where
   pub run : Run start c.events c.replies c.state
+  pub workers : AreOfSixteen c.events
   pub as_many : length c.images ≡ newest c.state
   pub numbered : (i edition : ℕ) → slice_get c.state.editions i ≡ Some edition → edition ≡ i
 
 -- one event more
 abbrev pub extended : Course → Event → Reply → State → List ImageValue → Course
 extended c e r t images = record { state = t; events = c.events ++ e ∷ []; replies = c.replies ++ r ∷ []; images = images }
+
+-- the history d is the history c and this event with its reply, which is a step from the state of c to that of d. Images are only added
+pub record IsLonger (c : Course) (e : Event) (r : Reply) (d : Course) : Type 0 where
+  pub is_step : Step c.state e r d.state
+  pub events : d.events ≡ c.events ++ e ∷ []
+  pub replies : d.replies ≡ c.replies ++ r ∷ []
+  pub images : IsPrefix c.images d.images
 
 -- all of it, as a seat knows such
 abbrev pub all_of : Course → Known
@@ -73,6 +97,22 @@ pub record Happened (before : Known) (e : Event) (r : Reply) (after : Known) : T
   pub events : (rest : List Event) × (after.events ≡ (before.events ++ rest) ++ e ∷ []) × NoneOf (actor e) rest
   pub replies : (rest : List Reply) × (after.replies ≡ (before.replies ++ rest) ++ r ∷ [])
   pub images : IsPrefix before.images after.images
+
+-- no try at the shelf is answered that it was freed
+abbrev pub NeverFreed : ℕ → List Event → List Reply → Type 0
+NeverFreed k (Event.Collect j ∷ es) (Reply.Freed ∷ rs) = (j ≢ k) × NeverFreed k es rs
+NeverFreed k (e ∷ es) (r ∷ rs) = NeverFreed k es rs
+NeverFreed k _ _ = Unit {0}
+
+-- nor was it freed by any event behind what is known
+pub record NeverFreedSince (k : ℕ) (known : Known) (c : Course) : Type 0 where
+  pub events : List Event
+  pub replies : List Reply
+  pub first : List Reply
+  pub since : known.events ++ events ≡ c.events
+  pub answered : first ++ replies ≡ c.replies
+  pub as_many : length replies ≡ length events
+  pub never : NeverFreed k events replies
 
 -- the word at which this event, the last that is known, found the shelf k: all that happened before leads to a state that has the shelf and its count so
 pub record FoundAt (known : Known) (e : Event) (k word : ℕ) : Type 0 where

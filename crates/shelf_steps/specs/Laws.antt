@@ -1,5 +1,5 @@
 -- What the rule says of words, views and slots, part by part.
-use Rattle.std.specs.Prelude.{◌≡◌, ℕ, ◌+◌, ◌*◌, ◌<◌, ◌≤◌, true, List, Option, Some, None, length, count_by, slice_get, slice_index}
+use Rattle.std.specs.Prelude.{◌≡◌, ◌≢◌, ℕ, ◌+◌, ◌*◌, ◌<◌, ◌≤◌, true, List, Option, Some, None, length, count_by, slice_get, slice_index}
 use mathlib.Core.Option.{some, none}
 use lib.ListN.{get_elem?}
 use Rattle.atomic_table.specs.Table.{State as Table}
@@ -11,8 +11,9 @@ use Rattle.shelf_steps.specs.declared.edition.Edition.{Edition}
 use Rattle.shelf_steps.specs.declared.views.WorkerView.{WorkerView}
 use Rattle.shelf_steps.specs.declared.views.LoaderView.{LoaderView}
 use Rattle.shelf_steps.specs.declared.views.View.{View}
-use Rattle.shelf_steps.specs.Course.{Course, Goes, Begins, IsEdition, notes_in, joined_by}
+use Rattle.shelf_steps.specs.Course.{Course, Goes, Begins, IsEdition, NeverFreedSince, notes_in, joined_by}
 use Rattle.version_core.specs.Shown.{WordsShow, WorkerShows, LoaderShows, shelf_word}
+use Rattle.shelf_steps.specs.Slots.{IsSpare}
 use Rattle.shelf_steps.specs.Ruled.{Ruled, notices_of}
 
 abbrev pub Shelved : Type 0
@@ -74,6 +75,33 @@ SlotsAtHomeAreFilled =
     (table : Shelved) (l : LoaderView) (k w v : ℕ) (x : Option Edition) → Ruled table → IsLoader table l
     → version_on l.shelves k ≡ Some v → w < 16 → get_elem? table.homes (16 * k + w) ≡ some (some x)
     → IsEdition l.known.images v x
+
+-- the slot of who holds a version is out: it isn't at home, from where a step could take it, and the loader has none of that shelf in its hand
+abbrev pub HoldersSlotsAreOut : Type 0
+HoldersSlotsAreOut =
+    (table : Shelved) (l : LoaderView) (i k v : ℕ) (w : WorkerView) → Ruled table → IsLoader table l
+    → get_elem? table.views i ≡ some (View.Working w) → w.now ≡ Worker.Holding k v
+    → (get_elem? table.homes (16 * k + w.number) ≡ some none) × (l.hand ≢ Some k)
+
+-- the slots of a free shelf are the loader's: out with it, or at home and empty
+abbrev pub FreeSlotsAreTheLoaders : Type 0
+FreeSlotsAreTheLoaders =
+    (table : Shelved) (l : LoaderView) (k w : ℕ) → Ruled table → IsLoader table l
+    → slice_get l.shelves k ≡ Some Shelf.Free → w < 16 → IsSpare l.hand k (get_elem? table.homes (16 * k + w))
+
+-- the word of a shelf that a worker holds is none that a collection frees
+abbrev pub HeldShelvesAreInUse : Type 0
+HeldShelvesAreInUse =
+    (table : Shelved) (l : LoaderView) (i k v version : ℕ) (w : WorkerView) → Ruled table → IsLoader table l
+    → get_elem? table.views i ≡ some (View.Working w) → w.now ≡ Worker.Holding k v
+    → slice_index table.words (k + 1) ≢ 512 + 65536 * version
+
+-- and behind what the worker's seat knows, no event has freed the shelf
+abbrev pub HeldShelvesStay : Type 0
+HeldShelvesStay =
+    (table : Shelved) (i k v : ℕ) (w : WorkerView) (r : Ruled table)
+    → get_elem? table.views i ≡ some (View.Working w) → w.now ≡ Worker.Holding k v
+    → NeverFreedSince k w.known r.course
 
 -- seen and looked versions are at most the current one; a looked version that is still current names its shelf; one that was found late is below
 abbrev pub LooksAreSo : Type 0

@@ -10,3 +10,4 @@ pub mod Handed
 pub mod Splits
 pub mod Laws
 pub mod Events
+pub mod Steps

@@ -12,21 +12,22 @@ use Rattle.shelf_steps.specs.Course.{IsEdition}
 abbrev pub Slot : Type 0
 Slot = Maybe (Maybe (Option Edition))
 
--- the slot is at home with the version's edition, or out with its own worker, who holds the shelf
+-- the slot is out with its own worker, if that holds the shelf; if not, it is at home with the version's edition
 abbrev pub IsFilled : List ImageValue → List Worker → ℕ → ℕ → ℕ → Slot → Type 0
 IsFilled images workers k w v slot =
-    ((x : Option Edition) × (slot ≡ some (some x)) × IsEdition images v x)
+    ((x : Option Edition) × (slot ≡ some (some x)) × IsEdition images v x
+    × (slice_get workers w ≢ Some (Worker.Holding k v)))
     ⊎ ((slot ≡ some none) × (slice_get workers w ≡ Some (Worker.Holding k v)))
 
 -- the slot is at home and empty, or out with the loader
 abbrev pub IsSpare : Option ℕ → ℕ → Slot → Type 0
 IsSpare hand k slot = ((hand ≢ Some k) × (slot ≡ some (some None))) ⊎ ((hand ≡ Some k) × (slot ≡ some none))
 
--- a slot is spare where its shelf is free, else filled
+-- a slot is spare if its shelf is free, else filled, and then no slot of that shelf is in the loader's hand
 abbrev pub SlotFits : List ImageValue → List Worker → Option ℕ → Shelf → ℕ → ℕ → Slot → Type 0
 SlotFits images workers hand Shelf.Free k w slot = IsSpare hand k slot
-SlotFits images workers hand (Shelf.Open v) k w slot = IsFilled images workers k w v slot
-SlotFits images workers hand (Shelf.Closing v) k w slot = IsFilled images workers k w v slot
+SlotFits images workers hand (Shelf.Open v) k w slot = (hand ≢ Some k) × IsFilled images workers k w v slot
+SlotFits images workers hand (Shelf.Closing v) k w slot = (hand ≢ Some k) × IsFilled images workers k w v slot
 
 -- each slot fits its shelf
 abbrev pub SlotsFit : List (Maybe (Option Edition)) → List Shelf → List Worker → List ImageValue → Option ℕ → Type 0

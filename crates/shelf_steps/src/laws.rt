@@ -2,11 +2,15 @@
 //! arguments do nothing: their contracts are the laws.
 ghost use Rattle.shelf_steps.specs.Laws.{WordsAreTheLoaders, CountsAreWorkers, NumbersDiffer, HeldHaveEditions};
 ghost use Rattle.shelf_steps.specs.Laws.{SlotsOutAreHeld, SlotsAtHomeAreFilled};
+ghost use Rattle.shelf_steps.specs.Laws.{HoldersSlotsAreOut, FreeSlotsAreTheLoaders};
+ghost use Rattle.shelf_steps.specs.Laws.{HeldShelvesAreInUse, HeldShelvesStay};
 ghost use Rattle.shelf_steps.specs.Laws.{LooksAreSo, OneSeatLoads, OneHistory, NoticesAreOfTheirTime, OneStateIsShown};
 ghost use Rattle.shelf_steps.specs.Events.{LooksAreEvents, TakesAreEvents, DropsAreEvents, OpensAreEvents};
 ghost use Rattle.shelf_steps.specs.Events.{PublishesAreEvents, ClosesAreEvents};
 ghost use Rattle.shelf_steps.specs.Events.{CollectsAreEvents, SpareTriesAreEvents, NotesAreEvents, JoinsAreEvents};
 ghost use Rattle.shelf_steps.specs.Events.{LateTakesTell, LateTakesRise};
+ghost use Rattle.shelf_steps.specs.Steps.{StartIsRuled, HandingsAddNothing, LooksAdd, TakesAdd, LeavesAdd, GivingsAdd};
+ghost use Rattle.shelf_steps.specs.Steps.{OpensAdd, PublishesAdd, ClosesAdd, CollectsAdd, GatheringsAdd, PuttingsAdd};
 
 pub use crate::blocks::{empty_block, fill_block};
 pub use crate::loader_steps::{close, collect, gather, open, publish, put_back};
@@ -23,6 +27,7 @@ pub fn the_rule_says()
     ensures held { HeldHaveEditions }
     ensures out { SlotsOutAreHeld }
     ensures home { SlotsAtHomeAreFilled }
+    ensures free { FreeSlotsAreTheLoaders }
     ensures looks { LooksAreSo }
     ensures loader { OneSeatLoads }
     ensures history { OneHistory }
@@ -32,6 +37,34 @@ pub fn the_rule_says()
 /// The words and what the seats know show one state of the table of versions, and no two.
 pub fn one_state_is_shown()
     ensures { OneStateIsShown }
+{}
+
+/// Whatever is held is left alone: the holder's slot is out, so that no step can take it, and none of
+/// its shelf is in the loader's hand; the word of the shelf is none that a collection frees; and since
+/// the holder's last step no event has freed the shelf.
+pub fn what_is_held_stays()
+    ensures slot { HoldersSlotsAreOut }
+    ensures in_use { HeldShelvesAreInUse }
+    ensures never_freed { HeldShelvesStay }
+{}
+
+/// Each step keeps the rule, and makes the one history longer by its own event and by no other,
+/// whatever the table is at that moment; the seat that made it knows all of that history then. At
+/// the start the rule holds of an empty history, and a seat that is handed out is no event. Notices
+/// are those of [`notices_are_events`].
+pub fn each_step_keeps_the_rule()
+    ensures start { StartIsRuled }
+    ensures seat { HandingsAddNothing }
+    ensures look { LooksAdd }
+    ensures take { TakesAdd }
+    ensures leave { LeavesAdd }
+    ensures give_back { GivingsAdd }
+    ensures open { OpensAdd }
+    ensures publish { PublishesAdd }
+    ensures close { ClosesAdd }
+    ensures collect { CollectsAdd }
+    ensures gather { GatheringsAdd }
+    ensures put_back { PuttingsAdd }
 {}
 
 /// Each step is one event of the table of versions: it is the last of which the seat then knows,

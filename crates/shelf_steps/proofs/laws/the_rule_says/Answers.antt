@@ -1,4 +1,5 @@
 use Rattle.shelf_steps.proofs.Says.{words_are, counts_are, numbers_differ, held_have, slots_out, slots_home, looks_are, one_loads, notices_old}
+use Rattle.shelf_steps.proofs.Held.{spares_are}
 use Rattle.shelf_steps.proofs.Shown.{one_history}
 use Rattle.shelf_steps.proofs.laws.the_rule_says.Goals as goal
 
@@ -19,6 +20,9 @@ returns-clause-out c = slots_out
 
 pub returns-clause-home : goal.returns-clause-home
 returns-clause-home c = slots_home
+
+pub returns-clause-free : goal.returns-clause-free
+returns-clause-free c = spares_are
 
 pub returns-clause-looks : goal.returns-clause-looks
 returns-clause-looks c = looks_are

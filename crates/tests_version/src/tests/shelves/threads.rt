@@ -104,6 +104,7 @@ fn goes_with(edition: &Edition) -> bool {
 
 /// Whether the seat holds the image of its version.
 fn holds_well<B: Named>(seat: &NamedSeat<B>) -> bool {
+    seat.shows_what_it_knows();
     match NamedShelves::<B>::edition(seat) {
         Some(edition) => goes_with(edition),
         None => false,

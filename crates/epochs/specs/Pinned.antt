@@ -1,0 +1,32 @@
+-- What is pinned at shelves without a lock is left alone.
+use Rattle.std.specs.Prelude.{◌≡◌, ◌≢◌, ℕ, ◌+◌, ◌*◌, [], ◌∷◌, Some, slice_index}
+use mathlib.Core.Option.{some, none}
+use lib.ListN.{get_elem?}
+use Rattle.image_layout.specs.Image.{ImageValue}
+use Rattle.version_core.specs.Kept.{version_on}
+use Rattle.shelf_steps.specs.declared.views.LoaderView.{LoaderView}
+use Rattle.shelf_steps.specs.Course.{NeverFreedSince, image_of}
+use Rattle.shelf_steps.specs.Events.{known_of}
+use Rattle.shelf_steps.specs.Ruled.{Ruled}
+use Rattle.shelf_steps.specs.Laws.{Shelved, IsLoader}
+use Rattle.epochs.specs.ShelfSeats.{ShelfSeatValue, ShowsWhatItKnows}
+
+-- the version is on a shelf, open or closing, with the image that the loader's list has for it; the seat's slot of that shelf is out with the
+-- seat, and with nobody else: it isn't at home, and the loader has no slot of the shelf in its hand; the shelf's word is none that a
+-- collection frees; and no event has freed the shelf since the seat's last step
+pub record IsLeftAlone (seat : ShelfSeatValue) (version : ℕ) (image : ImageValue) (table : Shelved) (l : LoaderView) (r : Ruled table) : Type 0 where
+  pub shelf : ℕ
+  pub stands : version_on l.shelves shelf ≡ Some version
+  pub published : image_of l.known.images version ≡ Some image
+  pub slot : seat.slots ≡ 16 * shelf + seat.number ∷ []
+  pub out : get_elem? table.homes (16 * shelf + seat.number) ≡ some none
+  pub not_loaders : l.hand ≢ Some shelf
+  pub in_use : (v : ℕ) → slice_index table.words (shelf + 1) ≢ 512 + 65536 * v
+  pub never_freed : NeverFreedSince shelf (known_of seat.view) r.course
+
+-- so it is while a seat shows that it holds the version, at each moment between two steps of any seats
+abbrev pub PinnedAreLeftAlone : Type 0
+PinnedAreLeftAlone =
+    (seat : ShelfSeatValue) (version : ℕ) (image : ImageValue) (table : Shelved) (l : LoaderView) (i : ℕ) (r : Ruled table)
+    → ShowsWhatItKnows seat → seat.shown.held ≡ Some (version, image)
+    → IsLoader table l → get_elem? table.views i ≡ some seat.view → IsLeftAlone seat version image table l r

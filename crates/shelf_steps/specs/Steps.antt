@@ -1,0 +1,121 @@
+-- Each step keeps the rule, and makes the one history longer by its own event.
+use Rattle.image_layout.specs.Image.{ImageValue}
+use Rattle.std.specs.Prelude.{◌≡◌, ℕ, ◌+◌, ◌-◌, ◌*◌, ◌/◌, ◌%◌, ◌<◌, ◌==◌, cond, List, [], ◌∷◌, ◌++◌, Option, length}
+use Rattle.std.specs.Prelude.{slice_index, slice_set}
+use mathlib.Core.Option.{some, none}
+use lib.ListN.{get_elem?}
+use prog.Atomic.{either}
+use Rattle.atomic_table.specs.Table.{Act, step, stepped, Valid, carried_after, opening}
+use Rattle.version_core.specs.declared.event.Event.{Event}
+use Rattle.version_core.specs.declared.event.Reply.{Reply}
+use Rattle.version_core.specs.declared.state.Worker.{Worker}
+use Rattle.version_core.specs.State.{start}
+use Rattle.shelf_steps.specs.declared.edition.Edition.{Edition}
+use Rattle.shelf_steps.specs.declared.views.WorkerView.{WorkerView}
+use Rattle.shelf_steps.specs.declared.views.LoaderView.{LoaderView}
+use Rattle.shelf_steps.specs.declared.views.View.{View}
+use Rattle.shelf_steps.specs.Course.{IsLonger, all_of}
+use Rattle.shelf_steps.specs.Ruled.{Ruled, first_words, first_loader, FirstSlots}
+use Rattle.shelf_steps.specs.Plays.{Mine, is_open, newest_of, Looks, Takes, Leaves, GivesBack, Opens, Publishes, Closes, Collects}
+use Rattle.shelf_steps.specs.Plays.{Gathers, PutsBack, MayOpenOn, MayPublish, MayClose, MayCollect, MayGather, MayPutBack}
+use Rattle.shelf_steps.specs.Plays.{newcomer, one_more}
+use Rattle.shelf_steps.specs.Laws.{Shelved}
+use Rattle.shelf_steps.specs.Events.{known_of}
+
+-- A seat's step on the word i, which becomes f of what it was; `slots` is how many slots the table has, id the seat, me its view and the
+-- slots that are out with it. Whatever the table is at that moment, if the rule holds of it: the seat has a new view and moves slots so that
+-- the rule holds of the table after the step, by the history before and this event; all of that the seat knows then; and `tells` holds of
+-- the number that was found, and of the seat after. The kit asks for as much of each operation on a word (`Allows`), but for the history
+abbrev pub Adds : ℕ → ℕ → Mine → ℕ → (ℕ → ℕ) → Event → (ℕ → Reply) → (ℕ → Mine → Type 0) → Type 0
+Adds slots id me i f e reply tells =
+    (table : Shelved) (r : Ruled table) → length table.homes ≡ slots → get_elem? table.views id ≡ some me.0
+    → slice_index table.words i < 18446744073709551616
+    → (w : View) × (a : Act (Option Edition)) × Valid table.homes me.1 a
+    × (after : Ruled (stepped table i (f (slice_index table.words i)) id me.1 w a))
+    × IsLonger r.course e (reply (slice_index table.words i)) after.course × (known_of w ≡ all_of after.course)
+    × tells (slice_index table.words i) (w, carried_after me.1 a)
+
+-- the slots that are out with a seat
+abbrev pub Carried : Type 0
+Carried = List (ℕ × Option Edition)
+
+-- an idle worker looks at the first word
+abbrev pub LooksAdd : Type 0
+LooksAdd = (slots id : ℕ) (v : WorkerView) (c : Carried) → v.now ≡ Worker.Idle
+    → Adds slots id (View.Working v, c) 0 (λ n. n) (Event.Look v.number) (λ n. Reply.Looked (n / 8) (n % 8))
+    (Looks (View.Working v, c))
+
+-- a worker that has looked adds one to its shelf's word: it holds the version if the word says so, else it is late
+abbrev pub TakesAdd : Type 0
+TakesAdd = (slots id k version : ℕ) (v : WorkerView) (c : Carried) → v.now ≡ Worker.Looked version k
+    → Adds slots id (View.Working v, c) (k + 1) (λ n. (n + 1) % 18446744073709551616) (Event.Take v.number)
+    (λ n. cond (is_open n version) (Reply.Holds version) Reply.Late) (Takes (View.Working v, c))
+
+-- one that is late takes one from it
+abbrev pub LeavesAdd : Type 0
+LeavesAdd = (slots id k : ℕ) (v : WorkerView) (c : Carried) → v.now ≡ Worker.Late k
+    → Adds slots id (View.Working v, c) (k + 1) (λ n. (n + (18446744073709551616 - 1)) % 18446744073709551616)
+    (Event.Drop v.number) (λ _. Reply.Dropped) (λ _. Leaves (View.Working v, c))
+
+-- and so does a holder, whose slot is out with it, the edition in it
+abbrev pub GivingsAdd : Type 0
+GivingsAdd = (slots id k version : ℕ) (v : WorkerView) → slots ≡ 128 → v.now ≡ Worker.Holding k version
+    → Adds slots id (View.Working v, (16 * k + v.number, v.edition) ∷ []) (k + 1)
+    (λ n. (n + (18446744073709551616 - 1)) % 18446744073709551616) (Event.Drop v.number) (λ _. Reply.Dropped)
+    (λ _. GivesBack (View.Working v, (16 * k + v.number, v.edition) ∷ []))
+
+-- the loader opens a free shelf by adding to its word, makes the version current by a store, and closes the shelf before by adding to its word
+abbrev pub OpensAdd : Type 0
+OpensAdd = (slots id k version : ℕ) (l : LoaderView) (c : Carried) → slots ≡ 128 → k < 8
+    → MayOpenOn k version (View.Loading l) c
+    → Adds slots id (View.Loading l, c) (k + 1) (λ n. (n + (256 + 65536 * version)) % 18446744073709551616)
+    (Event.Open (newest_of l)) (λ _. Reply.Opened version k)
+    (Opens (step slots (k + 1) (256 + 65536 * version) 0 none) (View.Loading l, c))
+
+abbrev pub PublishesAdd : Type 0
+PublishesAdd = (slots id k version : ℕ) (l : LoaderView) (c : Carried) → k < 8
+    → MayPublish version k (View.Loading l)
+    → Adds slots id (View.Loading l, c) 0 (λ _. 8 * version + k) Event.Publish (λ _. Reply.Published version)
+    (λ _. Publishes (step slots 0 (8 * version + k) 0 none) (View.Loading l, c) (8 * version + k))
+
+abbrev pub ClosesAdd : Type 0
+ClosesAdd = (slots id k : ℕ) (l : LoaderView) (c : Carried) → k < 8 → MayClose k (View.Loading l)
+    → Adds slots id (View.Loading l, c) (k + 1) (λ n. (n + 256) % 18446744073709551616) (Event.Close k)
+    (λ _. Reply.Closing) (Closes (step slots (k + 1) 256 0 none) (View.Loading l, c))
+
+-- an exchange frees a closing shelf if its word has no count, and else finds the count
+abbrev pub CollectsAdd : Type 0
+CollectsAdd = (slots id k version : ℕ) (l : LoaderView) (c : Carried) → slots ≡ 128 → k < 8
+    → MayCollect k version (View.Loading l) c
+    → Adds slots id (View.Loading l, c) (k + 1) (λ n. either (n == 512 + 65536 * version) 0 n) (Event.Collect k)
+    (λ n. cond (n == 512 + 65536 * version) Reply.Freed (Reply.Busy (n % 256)))
+    (Collects (step slots (k + 1) (512 + 65536 * version) 0 none) (View.Loading l, c))
+
+-- the slots of a free shelf are moved by exchanges that fail
+abbrev pub GatheringsAdd : Type 0
+GatheringsAdd = (slots id k : ℕ) (l : LoaderView) (c : Carried) → slots ≡ 128 → k < 8
+    → MayGather k (View.Loading l) c
+    → Adds slots id (View.Loading l, c) (k + 1) (λ n. either (n == 512) 0 n) (Event.Collect k) (λ _. Reply.NotNow)
+    (Gathers (step slots (k + 1) 512 0 none) (View.Loading l, c))
+
+abbrev pub PuttingsAdd : Type 0
+PuttingsAdd = (slots id k : ℕ) (l : LoaderView) (c : Carried) → slots ≡ 128 → k < 8
+    → MayPutBack k (View.Loading l) c
+    → Adds slots id (View.Loading l, c) (k + 1) (λ n. either (n == 512) 0 n) (Event.Collect k) (λ _. Reply.NotNow)
+    (PutsBack (step slots (k + 1) 512 0 none) (View.Loading l, c))
+
+-- at the start the rule holds, and nothing has happened
+abbrev pub StartIsRuled : Type 0
+StartIsRuled = (image : ImageValue) (items : List (Option Edition)) → FirstSlots image 128 items
+    → (r : Ruled (opening first_words items (View.Loading (first_loader image))))
+    × (r.course ≡ record { state = start; events = []; replies = []; images = image ∷ [] })
+
+-- the table once a worker's seat was split from the loader's
+abbrev pub handing : Shelved → ℕ → LoaderView → Shelved
+handing table id l = record table { views = slice_set table.views id (View.Loading (one_more l)) ++ View.Working (newcomer l.handed) ∷ [] }
+
+-- by that nothing happens
+abbrev pub HandingsAddNothing : Type 0
+HandingsAddNothing = (table : Shelved) (id : ℕ) (l : LoaderView) (r : Ruled table)
+    → get_elem? table.views id ≡ some (View.Loading l) → l.handed < 16
+    → (after : Ruled (handing table id l)) × (after.course ≡ r.course)
