@@ -36,8 +36,7 @@ slot_out : (y : Shelf) (images : List ImageValue) (workers : List Worker) (hand 
     → (slot ≡ some none) × (hand ≢ Some k)
 slot_out Shelf.Free images workers hand k w v slot e here f = absurd (cc)
 slot_out (Shelf.Open x) images workers hand k w v slot e here f =
-    let same : v ≡ x = cc in
-    (
+    let same : v ≡ x = cc in (
       elim f.1 [
         | inl a ↦ absurd (a.3 (here ∙ ap (λ n. Some (Worker.Holding k n)) same))
         | inr b ↦ b.0
@@ -45,8 +44,7 @@ slot_out (Shelf.Open x) images workers hand k w v slot e here f =
       f.0,
     )
 slot_out (Shelf.Closing x) images workers hand k w v slot e here f =
-    let same : v ≡ x = cc in
-    (
+    let same : v ≡ x = cc in (
       elim f.1 [
         | inl a ↦ absurd (a.3 (here ∙ ap (λ n. Some (Worker.Holding k n)) same))
         | inr b ↦ b.0
@@ -175,9 +173,11 @@ step_others s t (Event.Join u v) r w ne h = join_others s t u v w r h
 -- one event more in front, which frees no shelf that a worker holds
 held_busy : (s t : State) (j k v w : ℕ) (r : Reply) (es : List Event) (rs : List Reply) → Kept s → Holds s w k v
     → CollectStep s j r t → NeverFreed k es rs → NeverFreed k (Event.Collect j ∷ es) (r ∷ rs)
-held_busy s t j k v w Reply.Freed es rs fit holds h never =
-    ((λ e. let a = (stays_fits s w k fit (inr (v, holds))).2 in let b = h.2 in
-    let c : get_or s.counts k 0 ≡ 0 = ap (λ n. get_or s.counts n 0) (sym e) ∙ b in omega arith), never)
+held_busy s t j k v w Reply.Freed es rs fit holds h never = (
+  (λ e. let a = (stays_fits s w k fit (inr (v, holds))).2 in let b = h.2 in
+      let c : get_or s.counts k 0 ≡ 0 = ap (λ n. get_or s.counts n 0) (sym e) ∙ b in omega arith),
+  never,
+)
 held_busy s t j k v w (Reply.Busy count) es rs fit holds h never = never
 held_busy s t j k v w Reply.NotNow es rs fit holds h never = never
 held_busy s t j k v w _ es rs fit holds h never = absurd h

@@ -345,13 +345,13 @@ closes_add slots id k l c small may table r full at fits =
     (λ i. set (knows.shows.shelves i) k (Shelf.Closing version)) in
     let after =
     noted_ruled table r id l l' at refl e reply t refl is_step refl refl refl refl (omega arith) (set table.words (k + 1)
-          ((n + 256) % 18446744073709551616)) table.homes refl fits'
-          (words_shelved table.words k ((n + 256) % 18446744073709551616) (Shelf.Closing version) s t r.words small eight refl refl refl refl word)
-          (slots_block table.homes table.homes s.shelves t.shelves s.workers r.course.images r.course.images l.hand l.hand k (Shelf.Closing version)
-          (slice_get-set_same s.shelves k (Shelf.Closing version) (omega arith)) (λ j ne. slice_get-set_other s.shelves k j (Shelf.Closing version) ne)
-          (λ i h. refl) (prefix_same r.course.images) (λ j ne q. q) (λ j ne q. q)
-          (λ u less. loader_slots table r id l at k u (Shelf.Open version) stands less)
-          (loader_slots table r id l at)) in (
+    ((n + 256) % 18446744073709551616)) table.homes refl fits'
+    (words_shelved table.words k ((n + 256) % 18446744073709551616) (Shelf.Closing version) s t r.words small eight refl refl refl refl word)
+    (slots_block table.homes table.homes s.shelves t.shelves s.workers r.course.images r.course.images l.hand l.hand k (Shelf.Closing version)
+    (slice_get-set_same s.shelves k (Shelf.Closing version) (omega arith)) (λ j ne. slice_get-set_other s.shelves k j (Shelf.Closing version) ne)
+    (λ i h. refl) (prefix_same r.course.images) (λ j ne q. q) (λ j ne q. q)
+    (λ u less. loader_slots table r id l at k u (Shelf.Open version) stands less)
+    (loader_slots table r id l at)) in (
       View.Loading l',
       keeps,
       tt,
@@ -446,15 +446,15 @@ collects_found id k version l table r at many small shelf hand true found =
     (λ i. set (knows.shows.shelves i) k Shelf.Free) in
     let after =
     noted_ruled table r id l l' at refl e reply t refl is_step refl refl refl refl (omega arith) (set table.words (k + 1) 0) (homes_after table.homes []
-          (take_block f (16 * k) 16)) refl fits'
-          (words_shelved table.words k 0 Shelf.Free s t r.words small eight refl refl refl refl (sym nobody))
-          (slots_block table.homes (homes_after table.homes [] (take_block f (16 * k) 16)) s.shelves t.shelves s.workers
-          r.course.images r.course.images l.hand (Some k) k Shelf.Free
-          (slice_get-set_same s.shelves k Shelf.Free (omega arith)) (λ j ne. slice_get-set_other s.shelves k j Shelf.Free ne)
-          (λ i h. block_else table.homes [] f (16 * k) 16 i h) (prefix_same r.course.images)
-          (λ j ne q. let z : None ≡ Some j = sym hand ∙ q in absurd (cc)) (λ j ne q. absurd (ne (cc)))
-          (λ u less. inr (refl, block_out table.homes [] f (16 * k) 16 (16 * k + u) (omega arith) (omega arith) (omega arith)))
-          (loader_slots table r id l at)) in (
+    (take_block f (16 * k) 16)) refl fits'
+    (words_shelved table.words k 0 Shelf.Free s t r.words small eight refl refl refl refl (sym nobody))
+    (slots_block table.homes (homes_after table.homes [] (take_block f (16 * k) 16)) s.shelves t.shelves s.workers
+    r.course.images r.course.images l.hand (Some k) k Shelf.Free
+    (slice_get-set_same s.shelves k Shelf.Free (omega arith)) (λ j ne. slice_get-set_other s.shelves k j Shelf.Free ne)
+    (λ i h. block_else table.homes [] f (16 * k) 16 i h) (prefix_same r.course.images)
+    (λ j ne q. let z : None ≡ Some j = sym hand ∙ q in absurd (cc)) (λ j ne q. absurd (ne (cc)))
+    (λ u less. inr (refl, block_out table.homes [] f (16 * k) 16 (16 * k + u) (omega arith) (omega arith) (omega arith)))
+    (loader_slots table r id l at)) in (
       View.Loading l',
       take_block f (16 * k) 16,
       block_valid table.homes [] f (16 * k) 16 home,

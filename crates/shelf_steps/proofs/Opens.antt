@@ -68,8 +68,7 @@ first_at image items f zero w x at less =
     let q = f.1 (16 * zero + w) (omega arith) in
     let h = q.2.0 (omega arith) in
     let same : Shelf.Open 1 ≡ x = cc in
-    subst (λ (y : Shelf). SlotFits (image ∷ []) start.workers None y zero w (get_elem? (map some items) (16 * zero + w))) same
-    (
+    subst (λ (y : Shelf). SlotFits (image ∷ []) start.workers None y zero w (get_elem? (map some items) (16 * zero + w))) same (
       (λ e. cc),
       inl (
         q.0,
@@ -85,28 +84,31 @@ first_at image items f (suc k) w x at less =
     (inl ((λ e. cc), at_map some items (16 * suc k + w) q.0 q.1 ∙ ap (λ (y : Option Edition). some (some y)) (q.2.1 (omega arith))))
 
 pub start_ruled : StartIsRuled
-start_ruled image items f = (record {
-  course = first_course image;
-  loader = first_loader image;
-  goes = first_goes image;
-  words = record { nine = refl; cur = refl; each = first_each };
-  seats = record {
-    owner = λ n. 0;
-    loader_seat = refl;
-    loads = record {
-      shows = record { current = refl; current_shelf = refl; shelves = refl; newest_is = refl };
-      images = refl;
-      known = begins_all (first_course image) None;
-      notes = refl;
+start_ruled image items f = (
+  record {
+    course = first_course image;
+    loader = first_loader image;
+    goes = first_goes image;
+    words = record { nine = refl; cur = refl; each = first_each };
+    seats = record {
+      owner = λ n. 0;
+      loader_seat = refl;
+      loads = record {
+        shows = record { current = refl; current_shelf = refl; shelves = refl; newest_is = refl };
+        images = refl;
+        known = begins_all (first_course image) None;
+        notes = refl;
+      };
+      few = omega arith;
+      each = first_seat image;
+      every = λ w less. absurd (omega arith);
+      unseated = first_workers;
     };
-    few = omega arith;
-    each = first_seat image;
-    every = λ w less. absurd (omega arith);
-    unseated = first_workers;
-  };
-  notices = refl;
-  slots = first_at image items f;
-}, refl)
+    notices = refl;
+    slots = first_at image items f;
+  },
+  refl,
+)
 
 pub opens_ruled : (image : ImageValue) (items : List (Option Edition)) → FirstSlots image 128 items
     → Ruled (opening first_words items (View.Loading (first_loader image)))
