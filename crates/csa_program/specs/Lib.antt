@@ -3,6 +3,7 @@ pub mod Asking
 pub mod Building
 pub mod Judging
 pub mod Listing
+pub mod Logging
 pub mod Opening
 pub mod Picturing
 pub mod Serving
