@@ -37,7 +37,8 @@ pub fn picture_text<C: Told>(
     query: &Query,
     answer: &Answer<C>,
 ) -> Result<String, AllocError>
-    ensures { IfOk result (λ text. IsPictureOf C.told image.now request.entry.criterion request.entry.rows.number query.now
+    ensures { IfOk result (λ text. IsPictureOf C.told image.now request.entry.criterion request.entry.rows.number
+        query.now
         answer.now.departures.items answer.now.walk (string_bytes text)) }
 {
     let rows = request.rows.number;

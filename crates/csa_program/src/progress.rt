@@ -20,7 +20,8 @@ use std::time::{Clock, Duration};
 /// The file of a feed that is read last.
 const LAST_FILE: &str = "frequencies.txt";
 
-/// Loads a feed as `load` does, and reports each file and then what the image has, if there is anything to report it to.
+/// Loads a feed as `load` does, and reports each file and then what the image has, if there is
+/// anything to report it to.
 pub fn load_told<F: FeedFiles, C: Clock, W: Write>(
     alloc: Global,
     files: &mut ToldFiles<'_, F, C, W>,
@@ -45,8 +46,9 @@ pub fn load_told<F: FeedFiles, C: Clock, W: Write>(
     loaded
 }
 
-/// Where progress is reported: on a terminal by one line that is rewritten, else by a line for each thing that begins and one
-/// for each that is done. What can't be reported, or finds no memory, is left out.
+/// Where progress is reported: on a terminal by one line that is rewritten, else by a line for each
+/// thing that begins and one for each that is done. What can't be reported, or finds no memory, is
+/// left out.
 #[derive(Drop)]
 pub struct Progress<'c, C, W> {
     alloc: Global,

@@ -21,8 +21,9 @@ pub struct Worker<'a, R, T, G> {
 }
 
 impl<'a, R: Wait, N: Drop, T: Versions<Notice = N>, G: Gate> Worker<'a, R, T, G> {
-    /// Serves a client at this seat, and adds how its session ended. A client that can't be opened is a session that failed, and then
-    /// there is no reader and no writer to give back. How it ended is returned beside them.
+    /// Serves a client at this seat, and adds how its session ended. A client that can't be opened
+    /// is a session that failed, and then there is no reader and no writer to give back. How it
+    /// ended is returned beside them.
     pub fn serve_client<C: Client, O: Orders<Notice = N>>(
         &self,
         client: C,
@@ -38,7 +39,8 @@ impl<'a, R: Wait, N: Drop, T: Versions<Notice = N>, G: Gate> Worker<'a, R, T, G>
         ensures profiles { TellPublished (T.known seat.new) (T.value seat.old) (T.value seat.new) }
         ensures idle { (T.value seat.old).held ≡ None → (T.value seat.new).held ≡ None }
         ensures served { served.new ≡ served.old ++ result.1 ∷ [] }
-        ensures session { IsServed self.now.desk.form C.opens C.Reader.remaining C.Writer.contents (T.number seat.old) client
+        ensures session { IsServed self.now.desk.form C.opens C.Reader.remaining C.Writer.contents
+            (T.number seat.old) client
             result.0 result.1 (T.value seat.old) (O.asked orders.old) (T.value seat.new) (O.asked orders.new) }
     {
         match client.open() {
