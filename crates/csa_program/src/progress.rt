@@ -106,7 +106,7 @@ impl<'c, C: Clock, W: Write> Progress<'c, C, W> {
             self.say(format!(in self.alloc; "no file {name}"));
             return;
         };
-        let (length, lines) = (bytes.len() as u64, line_ends(bytes));
+        let (length, lines) = (bytes.len() as u64, lines_of(bytes));
         if self.is_terminal {
             self.say(format!(in self.alloc; "reading {name}: bytes {length} lines {lines}"));
         }
@@ -127,6 +127,15 @@ impl<'c, C: Clock, W: Write> Progress<'c, C, W> {
         if self.is_terminal {
             let _ = self.errors.write_all(b"\r\x1b[K");
         }
+    }
+}
+
+/// How many lines the bytes have; the last one need not end.
+fn lines_of(bytes: &[u8]) -> u64 {
+    let ended = line_ends(bytes);
+    match bytes.last() {
+        Some(b'\n') | None => ended,
+        Some(_) => ended.saturating_add(1),
     }
 }
 
