@@ -23,6 +23,7 @@ use feed_plans::plan_at;
 use image_verifier::Verified;
 use orders::OpenGate;
 use std::alloc::{AllocError, Global};
+use std::io;
 use std::io::{ErrorKind, Read, Write};
 use std::marker::Brand;
 use std::net::{Ipv4Addr, Net, TcpListener, TcpStream};
@@ -187,17 +188,13 @@ fn listen<
     let Ok((shelves, loader, seats)) = shelves_of(alloc, image, request.workers.number) else {
         return status::OUT_OF_MEMORY;
     };
-    let listener = match TcpListener::bind(rt, (Ipv4Addr::LOCALHOST, request.port)) {
-        Ok(listener) => listener,
-        Err(error) => return unheard(alloc, errors, request.port, error.kind()),
-    };
-    let address = match listener.local_addr() {
-        Ok(address) => address,
+    let (listener, port) = match listener_at(rt, request.port) {
+        Ok(bound) => bound,
         Err(error) => return unheard(alloc, errors, request.port, error.kind()),
     };
     let begun = status::write_line(
         output,
-        format!(in alloc; "listening {}\n", address.port()),
+        format!(in alloc; "listening {port}\n"),
         status::ACCEPTED,
     );
     if begun != status::ACCEPTED {
@@ -205,12 +202,7 @@ fn listen<
     }
     let errors = Mutex::new(errors);
     let shared = SharedErrors::of(rt, alloc, &errors);
-    let log = if request.log {
-        Some(shared.another())
-    } else {
-        None
-    };
-    let door = Door::new(&listener, request.sessions, log);
+    let door = Door::new(&listener, request.sessions, log_of(request.log, &shared));
     match run_shelves::<Brand, _, _, _, _, _, _, _, _, _>(
         rt,
         alloc,
@@ -225,6 +217,28 @@ fn listen<
     ) {
         Ok((served, door)) => tell_served(alloc, &served, door.has_failed(), output),
         Err(_) => status::OUT_OF_MEMORY,
+    }
+}
+
+// What listens at the port, and at which one, if that one is free.
+fn listener_at<H: Net<Listener = TcpListener, Stream = TcpStream>>(
+    rt: &H,
+    port: u16,
+) -> io::Result<(TcpListener, u16)> {
+    let listener = TcpListener::bind(rt, (Ipv4Addr::LOCALHOST, port))?;
+    let address = listener.local_addr()?;
+    Ok((listener, address.port()))
+}
+
+// Where sessions are logged, if they are.
+fn log_of<'a, H, E>(
+    is_wanted: bool,
+    errors: &SharedErrors<'a, H, E>,
+) -> Option<SharedErrors<'a, H, E>> {
+    if is_wanted {
+        Some(errors.another())
+    } else {
+        None
     }
 }
 
