@@ -34,7 +34,7 @@ tells csa: no file frequencies.txt
 tells csa: making connections and footpaths
 tells csa: made runs 2 connections 3 footpaths 3 seconds #
 tells csa: writing built.csa
-tells csa: wrote built.csa: bytes 188 seconds #
+tells csa: wrote built.csa: bytes 196 seconds #
 ends 0
 holds built.csa
 

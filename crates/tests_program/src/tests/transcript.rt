@@ -303,12 +303,15 @@ fn masked(alloc: Global, text: &str) -> Result<String, AllocError> {
     let mut masked = String::new(alloc);
     let mut is_first = true;
     for piece in text.split(" seconds ") {
-        if is_first {
-            masked.push_str(piece)?;
-        } else {
-            let (_, rest) = piece.split_once('\n').unwrap_or(("", ""));
-            masked.push_str(" seconds #\n")?;
-            masked.push_str(rest)?;
+        if !is_first {
+            masked.push_str(" seconds ")?;
+        }
+        match piece.split_once('\n') {
+            Some((seconds, rest)) if !is_first && seconds.contains('.') => {
+                masked.push_str("#\n")?;
+                masked.push_str(rest)?;
+            }
+            _ => masked.push_str(piece)?,
         }
         is_first = false;
     }
