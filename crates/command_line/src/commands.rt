@@ -20,6 +20,8 @@ enum Argument {
     MaybeOption(&'static str, &'static str, &'static str),
     /// An option whose value is the name of a criterion.
     Criterion(&'static str, &'static str, &'static str),
+    /// An option with a value that is given only beside the one of the id behind.
+    OptionBeside(&'static str, &'static str, &'static str, &'static str),
     /// An option without a value.
     Flag(&'static str, &'static str),
     /// An option without a value that isn't given beside the one of the id behind.
@@ -90,11 +92,17 @@ const JOURNEY: [Argument; 1] = [Argument::Word(
     "The journey: `walk FROM TO SECS` and `ride FIRST LAST`, with a space between",
 )];
 
-const PROFILE: [Argument; 4] = [
+const PROFILE: [Argument; 5] = [
     Argument::MaybeOption(
         "picture",
         "FILE",
         "Write a picture of the answer to FILE, as SVG (- is a file name here)",
+    ),
+    Argument::OptionBeside(
+        "rows",
+        "N",
+        "With --picture: draw the first N journeys, 1 to 10000, and say how many more there are [default: 200]",
+        "picture",
     ),
     Argument::OtherFlag(
         "names",
@@ -158,7 +166,7 @@ const BUILD: [Argument; 3] = [
     Argument::Flag("no-warnings", "Leave out warnings on standard error"),
 ];
 
-const SERVER: [Argument; 6] = [
+const SERVER: [Argument; 7] = [
     Argument::Option(
         "image",
         "IMAGE",
@@ -182,6 +190,10 @@ const SERVER: [Argument; 6] = [
     Argument::Flag(
         "legs",
         "Reply each point of a profile with its legs, by trip_id, stop_id and clock",
+    ),
+    Argument::Flag(
+        "log",
+        "Log each session that ends and each load on standard error",
     ),
     Argument::Words(
         "feeds",
@@ -284,6 +296,9 @@ fn arg_of<'a>(alloc: Global, argument: Argument) -> Result<Arg<'a>, AllocError> 
         Argument::MaybeOption(id, name, help) => Ok(value(alloc, id, name, help).long(id)),
         Argument::Criterion(id, name, help) => {
             Ok(option(alloc, id, name, help).value_parser(CriterionName::NAMES.as_slice()))
+        }
+        Argument::OptionBeside(id, name, help, other) => {
+            value(alloc, id, name, help).long(id).requires_arg(other)
         }
         Argument::Flag(id, help) => Ok(flag(alloc, id, help)),
         Argument::OtherFlag(id, help, other) => flag(alloc, id, help).conflicts_with(other),

@@ -5,9 +5,9 @@ use crate::values::{clock, count, named_folder, number, port, zone};
 use clap::error::ErrorKind;
 use clap::{ArgMatches, Error};
 use command_requests::{
-    AnswerForm, BuildRequest, DeparturesForm, DeparturesRequest, JourneyRequest, NamedFolder,
-    PlanText, ProfileRequest, Question, Request, ServeRequest, StopsRequest, UpgradeRequest,
-    Workers, days_of,
+    AnswerForm, BuildRequest, DeparturesForm, DeparturesRequest, FirstDay, JourneyRequest,
+    NamedFolder, PlanText, ProfileRequest, Question, Request, Rows, ServeRequest, StopsRequest,
+    UpgradeRequest, Workers, days_of,
 };
 use criteria::CriterionName;
 use std::alloc::{AllocError, Global};
@@ -33,10 +33,11 @@ enum Form {
     Port,
     Workers,
     Sessions,
+    Rows,
 }
 
 /// The options whose values have a form of their own.
-const FORMS: [(&str, Form); 9] = [
+const FORMS: [(&str, Form); 10] = [
     ("after", Form::Clock),
     ("until", Form::Clock),
     ("by", Form::Clock),
@@ -46,6 +47,7 @@ const FORMS: [(&str, Form); 9] = [
     ("port", Form::Port),
     ("workers", Form::Workers),
     ("sessions", Form::Sessions),
+    ("rows", Form::Rows),
 ];
 
 impl Form {
@@ -58,6 +60,7 @@ impl Form {
             Form::Port => port(value).is_some(),
             Form::Workers => is_workers(value),
             Form::Sessions => count(value).is_some(),
+            Form::Rows => rows_of(value).is_some(),
         }
     }
 
@@ -75,6 +78,7 @@ impl Form {
             Form::Port => "a port is 0 to 65535",
             Form::Workers => "the number of workers is 1 to 16",
             Form::Sessions => "the number of sessions is decimal, 0 for no limit",
+            Form::Rows => "the number of rows is 1 to 10000",
         }
     }
 }
@@ -84,6 +88,10 @@ fn is_days(value: &str) -> bool {
         Some(number) => days_of(number).is_some(),
         None => false,
     }
+}
+
+fn rows_of(value: &str) -> Option<Rows> {
+    Rows::of(number(value)?)
 }
 
 fn is_workers(value: &str) -> bool {
@@ -224,6 +232,7 @@ fn profile_request<'a>(matches: &ArgMatches<'a>) -> Option<ProfileRequest<'a>> {
         criterion: CriterionName::of(matches.get_str("criterion")?)?,
         form: answer_form(matches),
         picture: matches.get_str("picture"),
+        rows: rows(matches)?,
     })
 }
 
@@ -249,6 +258,14 @@ fn departures_form(matches: &ArgMatches<'_>) -> DeparturesForm {
         (true, false) => DeparturesForm::Json,
         (false, true) => DeparturesForm::Points,
         (false, false) => DeparturesForm::Journeys,
+    }
+}
+
+/// How many rows of a picture are asked for, none in a wrong form.
+fn rows(matches: &ArgMatches<'_>) -> Option<Rows> {
+    match matches.get_str("rows") {
+        Some(value) => rows_of(value),
+        None => Some(Rows::plain()),
     }
 }
 
@@ -310,6 +327,7 @@ fn serve_request<'a>(alloc: Global, matches: &ArgMatches<'a>) -> Result<Request<
         workers,
         sessions,
         legs: matches.get_flag("legs"),
+        log: matches.get_flag("log"),
         plan,
         feeds: named_folders(alloc, matches)?,
     }))

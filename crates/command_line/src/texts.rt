@@ -45,7 +45,8 @@ Example: csa profile examples/base.csa --from A --to C --after 07:00:00 --until 
 --by 10:00:00 --criterion arrival+trips\n\
 With --names a line is: dep 08:00:00 arr 08:30:00 trips 1 : ride T1 08:00:00 A 08:30:00 C\n\
 With --json it is: {\"ok\":\"profile\",\"points\":[{\"arr\":\"08:30:00\",\"dep\":\"08:00:00\",\
-\"journey\":\"ride 0 1\",\"trips\":1}],\"version\":1,\"walk\":null}";
+\"journey\":\"ride 0 1\",\"trips\":1}],\"version\":1,\"walk\":null}\n\
+With --picture answer.svg --rows 50 the first 50 journeys are drawn too.";
 
 pub(crate) const DEPARTURES: &str =
     "Each line is one of `csa profile` from a stop, with the stop_id before it. All stops are answered at once, but for\n\
@@ -74,6 +75,10 @@ pub(crate) const BUILD: &str = "Standard output has one line of counts:\n\
 \x20 skipped      rows of transfers.txt left out: between trips or routes, or of a transfer_type beyond 0 to 3\n\
 The counts lifted, flex and frequencies include trips that run on none of the days.\n\
 \n\
+With --progress standard error has a line for each file, with its bytes and the seconds that it took, and for each\n\
+phase with its counts; of a file that takes longer than a second also how many rows were read so far. On a\n\
+terminal one line is rewritten.\n\
+\n\
 Example: csa build examples/base base.csa --first 20240115 --days 1 --zone fixed:0 --progress";
 
 pub(crate) const SERVE: &str =
@@ -86,6 +91,12 @@ A session is lines of JSON over TCP:\n\
 \x20     (with \"wait\":true the reply comes once the feed is loaded, or says why it is not)\n\
 \x20 {\"do\":\"profile\",\"from\":\"A\",\"to\":\"C\",\"after\":\"07:00:00\",\"until\":\"09:00:00\",\
 \"by\":\"10:00:00\",\"criterion\":\"arrival\"}\n\
+Standard error has a line for each load, and what is wrong with a feed that is refused. With --log it also has,\n\
+with the instant in UTC and the seconds that it took:\n\
+\x20 2024-01-15T06:00:00Z session 1 ended seconds 0.250 requests 4\n\
+\x20     (ended: all was replied; failed: a read or a write failed; spent: it sent too many requests)\n\
+\x20 2024-01-15T06:00:00Z load slow version 2 runs 2 connections 3 seconds 0.015\n\
+\x20 2024-01-15T06:00:00Z load slow refused 8 seconds 0.001\n\
 \n\
 Example: csa serve --image examples/base.csa --port 7077 --workers 2 --sessions 0 --first 20240115 \
 --days 1 --zone fixed:0 slow=examples/slow";

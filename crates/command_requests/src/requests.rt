@@ -1,6 +1,6 @@
 //! What a command line asks for.
 
-use crate::plans::{PlanText, Workers};
+use crate::plans::{PlanText, Rows, Workers};
 use criteria::CriterionName;
 
 /// A command with its arguments.
@@ -102,6 +102,8 @@ pub struct ProfileRequest<'a> {
     pub form: AnswerForm,
     /// The file into which the answer is drawn.
     pub picture: Option<&'a str>,
+    /// How many of its journeys are drawn.
+    pub rows: Rows,
 }
 
 /// The image, and what the names of the stops that are listed have in them.
@@ -145,6 +147,8 @@ pub struct ServeRequest<'a> {
     pub sessions: u64,
     /// Whether profiles are replied with the legs of journeys.
     pub legs: bool,
+    /// Whether each session and each load is logged.
+    pub log: bool,
     pub plan: PlanText<'a>,
     pub feeds: Vec<NamedFolder<'a>>,
 }

@@ -5,6 +5,7 @@ pub mod Departing
 pub mod DeparturesOf
 pub mod Judging
 pub mod Listing
+pub mod Logging
 pub mod Opening
 pub mod Picturing
 pub mod Serving

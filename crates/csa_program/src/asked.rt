@@ -8,6 +8,7 @@ use command_requests::{
     DeparturesRequest, JourneyRequest, ProfileRequest, Question, StopsRequest, UpgradeRequest,
 };
 use image_verifier::Verified;
+use std::alloc::Global;
 use std::io::{Read, Write};
 use std::rt::Files;
 use timetable::QueryFault;
@@ -64,12 +65,20 @@ pub fn answer<H: Files + AllocGlobal, I: Read, O: Write, E: Write>(
         Asked::Stops(request) => stops::run(rt.alloc(), &image, request, output),
         Asked::Upgrade(request) => upgrade::run(rt, &image, request, output, errors),
     };
-    if status == status::REFUSED
-        && let Some(question) = asked.question()
-    {
-        explain_question(&image, &question, errors);
+    if status == status::REFUSED {
+        explain_asked(rt.alloc(), &image, asked, errors);
     }
     status
+}
+
+/// Says why what is asked of an image is refused.
+fn explain_asked<E: Write>(alloc: Global, image: &Verified, asked: Asked<'_>, errors: &mut E) {
+    if let Some(question) = asked.question() {
+        explain_question(image, &question, errors);
+    }
+    if let Asked::Journey(request) = asked {
+        journey::explain_journey(alloc, image, &request, errors);
+    }
 }
 
 /// Says what is wrong with a question: which end is no stop of the image, or which clock is before another.

@@ -5,13 +5,16 @@
 use crate::folders::explain_folder;
 use crate::table_fault::{explain_failed, explain_table};
 use crate::warnings::zone_path;
+use epochs::PublishFault;
 use feed_loader::LoadFault;
 use std::alloc::{AllocError, Global};
 use std::convert::AsStr;
+use std::fmt;
 use std::fmt::Write as _;
 use std::fs::{self, File};
 use std::io::{ErrorKind, Write};
 use std::rt::Files;
+use workers::LoadRefusal;
 
 /// How many bytes of a value are shown.
 const LONGEST_SHOWN: usize = 60;
@@ -88,6 +91,47 @@ fn push_shown(text: &mut String, byte: u8) -> Result<(), AllocError> {
         b'\\' => text.push_str("\\\\"),
         b' '..=b'~' => text.push(byte as char),
         _ => write!(text, "\\x{byte:02X}"),
+    }
+}
+
+/// Who can say more of a feed that isn't loaded, on any thread: it has no type of its own.
+pub trait Explains {
+    /// Says why the feed of a folder isn't loaded.
+    fn explain_feed<E: Write>(&self, folder: &str, refusal: &LoadRefusal, errors: &mut E);
+}
+
+impl<H: Files + AllocGlobal> Explains for H {
+    fn explain_feed<E: Write>(&self, folder: &str, refusal: &LoadRefusal, errors: &mut E) {
+        match refusal {
+            LoadRefusal::Load(fault) => explain_refused(self, folder, fault, errors),
+            LoadRefusal::Publish(fault) => explain_unpublished(*fault, errors),
+        }
+    }
+}
+
+/// Says why an image isn't published, and what to do. The counts of all shelves are in the refusal.
+fn explain_unpublished<E: Write>(fault: PublishFault, errors: &mut E) {
+    let reason = match fault {
+        PublishFault::ShelvesFull { .. } => {
+            "sessions hold all eight versions that there may be: one is free once those who pinned it release it or end"
+        }
+        PublishFault::VersionsSpent =>
+            "there is no further number of a version: start the server anew",
+        PublishFault::OutOfMemory => return,
+    };
+    explain(errors, &["csa: ", reason]);
+}
+
+/// Says what is wrong with the image at a path.
+pub fn explain_image<F: fmt::Display, E: Write>(
+    alloc: Global,
+    path: &str,
+    fault: &F,
+    errors: &mut E,
+) {
+    let name = if path == "-" { "standard input" } else { path };
+    if let Ok(reason) = format!(in alloc; "{fault}") {
+        explain(errors, &["csa: ", name, ": ", reason.as_str()]);
     }
 }
 

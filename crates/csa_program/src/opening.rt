@@ -3,6 +3,7 @@
 ghost use Rattle.std.specs.Prelude.{◌≡◌, codes, IfOk, IfSome};
 ghost use Rattle.csa_program.specs.Opening.{SpellsImage};
 
+use crate::explaining::explain_image;
 use crate::refusal::Refusal;
 use crate::status;
 use image_files::{ImageFileFault, image_words};
@@ -23,6 +24,8 @@ pub fn open_image<H: Files + AllocGlobal, I: Read, O: Write, E: Write>(
     let words = match image_words(rt, path, input) {
         Ok(words) => words,
         Err(ImageFileFault::OddLength) => {
+            let reason = "its bytes aren't whole words of four";
+            explain_image(rt.alloc(), path, &reason, errors);
             return Err(status::tell_refusal(rt.alloc(), output, &Refusal::OddLength));
         }
         Err(ImageFileFault::Unreadable) => {
@@ -34,6 +37,7 @@ pub fn open_image<H: Files + AllocGlobal, I: Read, O: Write, E: Write>(
         Ok(image) => Ok(image),
         Err((_words, ImageFault::OutOfMemory)) => Err(status::OUT_OF_MEMORY),
         Err((_words, fault)) => {
+            explain_image(rt.alloc(), path, &fault, errors);
             Err(status::tell_refusal(rt.alloc(), output, &Refusal::Image(fault)))
         }
     }

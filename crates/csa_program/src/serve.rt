@@ -1,4 +1,4 @@
-//! `csa serve --image IMAGE --port P --workers W --sessions N [--legs] --first DAY --days N --zone ZONE
+//! `csa serve --image IMAGE --port P --workers W --sessions N [--legs] [--log] --first DAY --days N --zone ZONE
 //! [NAME=FOLDER]..`.
 
 ghost use Rattle.std.specs.Prelude.{◌≡◌, ◌≤◌, All, length, IfOk};
@@ -6,7 +6,8 @@ ghost use Rattle.csa_program.specs.Serving.{counts_of, form_with};
 ghost use Rattle.feed_plans.specs.Planning.{IsPlanNow};
 
 use crate::bases::tell_bases;
-use crate::explaining::{explain_load, reason_of};
+use crate::explaining::{Explains, explain_load, reason_of};
+use crate::logging::{Begun, LoaderErrors, SharedErrors, log_load};
 use crate::machine::Machine;
 use crate::opening::open_image;
 use crate::planning::{PlanFailure, zone_bytes};
@@ -22,19 +23,21 @@ use feed_plans::plan_at;
 use image_verifier::Verified;
 use orders::OpenGate;
 use std::alloc::{AllocError, Global};
+use std::io;
 use std::io::{ErrorKind, Read, Write};
 use std::marker::Brand;
 use std::net::{Ipv4Addr, Net, TcpListener, TcpStream};
 use std::rt::Files;
-use std::sync::{Arc, Wait};
+use std::sync::{Arc, Mutex, Wait};
 use std::thread::Threads;
 use std::time::Clock;
-use workers::{Feeds, PointForm, Served, run_shelves};
+use workers::{Feeds, LoadRefusal, Loaded, PointForm, Served, run_shelves};
 
 /// The folders of the feeds that may be loaded.
 #[derive(Drop)]
 struct Folders<'a, H> {
     disk: &'a H,
+    alloc: Global,
     names: Vec<String>,
     feeds: &'a [NamedFolder<'a>],
     /// What is asked for, and the bytes of the zone's file: a plan is made of them for each load.
@@ -42,12 +45,16 @@ struct Folders<'a, H> {
     zone_bytes: Vec<u8>,
     /// The plan that was made when the server began.
     first: Plan,
+    /// Whether each load is logged.
+    is_logged: bool,
     ghost named: { length names.items ≡ length feeds.now },
     ghost made: { IsPlanNow asked.now zone_bytes.items first },
 }
 
-impl<'a, H: Disk + Clock + Sync> Feeds for Folders<'a, H> {
+impl<'a, H: Disk + Explains + Clock + Sync> Feeds for Folders<'a, H> {
     type Files = FolderFiles<'a, H>;
+
+    type Begun = Begun;
 
     ghost named = { λ folders. folders.names.items };
 
@@ -69,6 +76,29 @@ impl<'a, H: Disk + Clock + Sync> Feeds for Folders<'a, H> {
         match self.feeds.get(place) {
             Some(feed) => Some(FolderFiles::new(self.disk, feed.folder)),
             None => None,
+        }
+    }
+
+    fn begin(&self, _place: usize) -> Begun {
+        Begun::now(self.disk)
+    }
+
+    // What is wrong with a feed is looked for in its folder once more.
+    fn finish<W: Write>(
+        &self,
+        errors: &mut W,
+        place: usize,
+        begun: Begun,
+        outcome: Result<Loaded, LoadRefusal>,
+    ) {
+        let Some(feed) = self.feeds.get(place) else {
+            return;
+        };
+        if self.is_logged {
+            log_load(self.disk, self.alloc, feed.name, begun, outcome, errors);
+        }
+        if let Err(refusal) = &outcome {
+            self.disk.explain_feed(feed.folder, refusal, errors);
         }
     }
 }
@@ -99,11 +129,13 @@ pub fn run<
     };
     let folders = Folders {
         disk: rt,
+        alloc,
         names,
         feeds: &request.feeds,
         asked: &request.plan,
         zone_bytes,
         first,
+        is_logged: request.log,
     };
     if !request.feeds.is_empty() {
         tell_bases(alloc, &image, &folders.first, errors);
@@ -135,7 +167,13 @@ fn names_of(alloc: Global, feeds: &[NamedFolder<'_>]) -> Result<Vec<String>, All
 
 // Listens at the port, and serves whoever comes.
 fn listen<
-    H: Disk + Clock + Net<Listener = TcpListener, Stream = TcpStream> + Threads + Wait + Sync,
+    H: Disk
+        + Explains
+        + Clock
+        + Net<Listener = TcpListener, Stream = TcpStream>
+        + Threads
+        + Wait
+        + Sync,
     O: Write,
     E: Write + Send,
 >(
@@ -150,23 +188,21 @@ fn listen<
     let Ok((shelves, loader, seats)) = shelves_of(alloc, image, request.workers.number) else {
         return status::OUT_OF_MEMORY;
     };
-    let listener = match TcpListener::bind(rt, (Ipv4Addr::LOCALHOST, request.port)) {
-        Ok(listener) => listener,
-        Err(error) => return unheard(alloc, errors, request.port, error.kind()),
-    };
-    let address = match listener.local_addr() {
-        Ok(address) => address,
+    let (listener, port) = match listener_at(rt, request.port) {
+        Ok(bound) => bound,
         Err(error) => return unheard(alloc, errors, request.port, error.kind()),
     };
     let begun = status::write_line(
         output,
-        format!(in alloc; "listening {}\n", address.port()),
+        format!(in alloc; "listening {port}\n"),
         status::ACCEPTED,
     );
     if begun != status::ACCEPTED {
         return begun;
     }
-    let door = Door::new(&listener, request.sessions);
+    let errors = Mutex::new(errors);
+    let shared = SharedErrors::of(rt, alloc, &errors);
+    let door = Door::new(&listener, request.sessions, log_of(request.log, &shared));
     match run_shelves::<Brand, _, _, _, _, _, _, _, _, _>(
         rt,
         alloc,
@@ -177,10 +213,32 @@ fn listen<
         folders,
         &OpenGate,
         form_of(request.legs),
-        errors,
+        LoaderErrors::of(shared),
     ) {
         Ok((served, door)) => tell_served(alloc, &served, door.has_failed(), output),
         Err(_) => status::OUT_OF_MEMORY,
+    }
+}
+
+// What listens at the port, and at which one, if that one is free.
+fn listener_at<H: Net<Listener = TcpListener, Stream = TcpStream>>(
+    rt: &H,
+    port: u16,
+) -> io::Result<(TcpListener, u16)> {
+    let listener = TcpListener::bind(rt, (Ipv4Addr::LOCALHOST, port))?;
+    let address = listener.local_addr()?;
+    Ok((listener, address.port()))
+}
+
+// Where sessions are logged, if they are.
+fn log_of<'a, H, E>(
+    is_wanted: bool,
+    errors: &SharedErrors<'a, H, E>,
+) -> Option<SharedErrors<'a, H, E>> {
+    if is_wanted {
+        Some(errors.another())
+    } else {
+        None
     }
 }
 

@@ -8,7 +8,7 @@ ghost use Rattle.workers.specs.Carrying.{CarriesOut, IsCarriedOut, IsLoadOf};
 ghost use Rattle.workers.specs.Loading.{IsOutcome, load_answer};
 
 use crate::feeds::Feeds;
-use crate::loading::load_one;
+use crate::loading::{Loaded, load_one};
 use crate::refusal::LoadRefusal;
 use epochs::{Loads, Versions};
 use feed_loader::LoadFault;
@@ -95,9 +95,12 @@ fn load_place<R: Wait, N, T: Versions<Notice = N> + Loads, F: Feeds, E: Write>(
 {
     match (feeds.names().get(place), feeds.files(place)) {
         (Some(name), Some(files)) => {
+            let begun = feeds.begin(place);
             let outcome = load_planned(rt, alloc, files, feeds, shelves, loader);
+            let loaded = loaded_or_refusal(&outcome);
             // The loader goes on where its line can't be written.
-            let _ = tell(errors, name.as_str(), version_or_refusal(&outcome));
+            let _ = tell(errors, name.as_str(), loaded);
+            feeds.finish(errors, place, begun, loaded);
             answer_of(outcome)
         }
         _ => LoadAnswer::Refused {
@@ -114,7 +117,7 @@ fn load_planned<R: Wait, N, T: Versions<Notice = N> + Loads, F: Feeds>(
     feeds: &F,
     shelves: &T,
     loader: &mut T::Loader,
-) -> Result<(u64, Option<N>), LoadRefusal>
+) -> Result<(Loaded, Option<N>), LoadRefusal>
     requires loads { T.Loads.loads shelves.now loader.old }
     requires failures { F.Files.failures files ≡ 0 }
     ensures loads { T.Loads.loads shelves.now loader.new }
@@ -128,18 +131,18 @@ fn load_planned<R: Wait, N, T: Versions<Notice = N> + Loads, F: Feeds>(
     }
 }
 
-fn version_or_refusal<N>(
-    outcome: &Result<(u64, Option<N>), LoadRefusal>,
-) -> Result<u64, LoadRefusal> {
+fn loaded_or_refusal<N>(
+    outcome: &Result<(Loaded, Option<N>), LoadRefusal>,
+) -> Result<Loaded, LoadRefusal> {
     match outcome {
-        Ok((version, _)) => Ok(*version),
+        Ok((loaded, _)) => Ok(*loaded),
         Err(refusal) => Err(*refusal),
     }
 }
 
 // What whoever waits for a load is told of it: its version's notice, that there was no memory for
 // one, or the refusal's number.
-fn answer_of<N>(outcome: Result<(u64, Option<N>), LoadRefusal>) -> LoadAnswer<N>
+fn answer_of<N>(outcome: Result<(Loaded, Option<N>), LoadRefusal>) -> LoadAnswer<N>
     ensures { result ≡ load_answer outcome }
 {
     match outcome {
@@ -152,9 +155,13 @@ fn answer_of<N>(outcome: Result<(u64, Option<N>), LoadRefusal>) -> LoadAnswer<N>
 }
 
 // Tells what came of an order. It takes no memory.
-fn tell<E: Write>(errors: &mut E, name: &str, outcome: Result<u64, LoadRefusal>) -> io::Result<()> {
+fn tell<E: Write>(
+    errors: &mut E,
+    name: &str,
+    outcome: Result<Loaded, LoadRefusal>,
+) -> io::Result<()> {
     match outcome {
-        Ok(version) => write!(errors, "loaded {name} version {version}\n"),
+        Ok(loaded) => write!(errors, "loaded {name} version {}\n", loaded.version),
         Err(refusal) => write!(errors, "load {name} refused {refusal}\n"),
     }
 }

@@ -15,7 +15,7 @@ mod shares;
 
 pub use clients::{Client, Clients, ConnFault};
 pub use feeds::Feeds;
-pub use loading::load_one;
+pub use loading::{Loaded, load_one};
 pub use naming::run_shelves;
 pub use refusal::LoadRefusal;
 pub use running::{WorkersFault, run_workers};

@@ -22,7 +22,8 @@ loop-preserved g c =
       learns = learns_on _ _ _ _ _ _ was.learns one.ensures.learns;
       served = serves_next c.args.self.now.desk.form g.C.Client.opens g.C.Reader.Read.remaining g.C.Writer.Write.contents
           (g.T.Versions.number c.args.seat) (g.T.Versions.number c.loop.seat) _ _ _
-          c.loop.served one.new.served c.in-Some-next.client one.result
+          c.loop.served one.new.served c.in-Some-next.client one.result.0
           (value c.args.seat) (value c.loop.seat) (value one.new.seat)
-          (asked c.args.orders) (asked c.loop.orders) (asked one.new.orders) was.number was.served c.in-Some-next.ensures one.ensures.session;
+          (asked c.args.orders) (asked c.loop.orders) (asked one.new.orders) was.number was.served c.in-Some-next.ensures
+          (one.result.1, one.ensures.served, one.ensures.session);
     }
