@@ -146,7 +146,7 @@ fn listen<
         form_of(request),
         errors,
     ) {
-        Ok((served, door)) => tell_served(alloc, &served, door.has_failed(), output),
+        Ok(ran) => tell_served(alloc, &ran.served, ran.clients.has_failed(), output),
         Err(_) => status::OUT_OF_MEMORY,
     }
 }
