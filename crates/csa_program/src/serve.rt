@@ -1,7 +1,7 @@
 //! `csa serve --image IMAGE --port P --workers W --sessions N [--legs] --first DAY --days N --zone ZONE
 //! [NAME=FOLDER]..`.
 
-ghost use Rattle.std.specs.Prelude.{◌≡◌, ◌≤◌, All, length, IfOk};
+ghost use Rattle.std.specs.Prelude.{◌≡◌, ◌≤◌, All, length, map, string_bytes, IfOk};
 ghost use Rattle.connections.specs.declared.days.TheConstants.{MAX_DAYS};
 ghost use Rattle.csa_program.specs.Serving.{counts_of};
 
@@ -34,6 +34,7 @@ struct Folders<'a, H> {
     feeds: &'a [NamedFolder<'a>],
     plan: Plan,
     ghost named: { length names.items ≡ length feeds.now },
+    ghost texts: { map string_bytes names.items ≡ map (λ feed. feed.name.now) feeds.now },
     ghost some: { 1 ≤ plan.days },
     ghost few: { plan.days ≤ MAX_DAYS },
 }
@@ -42,6 +43,8 @@ impl<'a, H: Disk + Sync> Feeds for Folders<'a, H> {
     type Files = FolderFiles<'a, H>;
 
     ghost named = { λ folders. folders.names.items };
+
+    ghost is_plan = { λ folders plan. plan ≡ folders.plan };
 
     fn names(&self) -> &[String] {
         &self.names
@@ -93,11 +96,12 @@ pub fn run<
 }
 
 fn names_of(alloc: Global, feeds: &[NamedFolder<'_>]) -> Result<Vec<String>, AllocError>
-    ensures { IfOk result (λ names. length names.items ≡ length feeds.now) }
+    ensures count { IfOk result (λ names. length names.items ≡ length feeds.now) }
+    ensures texts { IfOk result (λ names. map string_bytes names.items ≡ map (λ feed. feed.name.now) feeds.now) }
 {
     let mut names = Vec::with_capacity(alloc, feeds.len())?;
-    for place in 0..feeds.len() {
-        names.push(String::from_str(alloc, feeds[place].name)?)?;
+    for feed in feeds {
+        names.push(String::from_str(alloc, feed.name)?)?;
     }
     Ok(names)
 }
