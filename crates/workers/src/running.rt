@@ -106,16 +106,16 @@ pub fn run_workers<
                 AllCarriedOut T.Versions.noted (F.are_files feeds.entry.now) D.holds (F.is_plan feeds.entry.now)
                 (length (F.named feeds.entry.now)) ran.orders (T.Loads.answers loader) (T.Loads.answers ran.loader)) }
         {
+            let seat = loader;
             let Ok(loading) = scope.spawn_with(
-                LoadsAt::<T, F>::of(&loader, feeds),
+                LoadsAt::<T, F>::of(&seat, feeds),
                 move || -> (LoaderOrders<N>, L)
-                    requires { T.Loads.loads shelves.now loader × (orders.taken ≡ []) × (orders.answered ≡ []) }
+                    requires { T.Loads.loads shelves.now seat × (orders.taken ≡ []) × (orders.answered ≡ []) }
                     ensures { AllCarriedOut T.Versions.noted (F.are_files feeds.entry.now) D.holds (F.is_plan feeds.entry.now)
-                        (length (F.named feeds.entry.now)) result.0 (T.Loads.answers loader) (T.Loads.answers result.1) }
+                        (length (F.named feeds.entry.now)) result.0 (T.Loads.answers seat) (T.Loads.answers result.1) }
                 {
-                    let (orders, loader, _) =
-                        load_all(rt, alloc, orders, shelves, loader, feeds, errors);
-                    (orders, loader)
+                    let (orders, seat, _) = load_all(rt, alloc, orders, shelves, seat, feeds, errors);
+                    (orders, seat)
                 },
             ) else {
                 return Err(WorkersFault);
