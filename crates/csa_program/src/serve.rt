@@ -1,7 +1,7 @@
 //! `csa serve --image IMAGE --port P --workers W --sessions N [--legs] --first DAY --days N --zone ZONE
 //! [NAME=FOLDER]..`.
 
-ghost use Rattle.std.specs.Prelude.{◌≡◌, ◌≤◌, All, length, IfOk};
+ghost use Rattle.std.specs.Prelude.{◌≡◌, ◌≤◌, All, length, map, string_bytes, IfOk};
 ghost use Rattle.csa_program.specs.Serving.{counts_of, form_with};
 ghost use Rattle.feed_plans.specs.Planning.{IsPlanNow};
 
@@ -43,6 +43,7 @@ struct Folders<'a, H> {
     /// The plan that was made when the server began.
     first: Plan,
     ghost named: { length names.items ≡ length feeds.now },
+    ghost texts: { map string_bytes names.items ≡ map (λ feed. feed.name.now) feeds.now },
     ghost made: { IsPlanNow asked.now zone_bytes.items first },
 }
 
@@ -124,11 +125,12 @@ fn first_plan<'a, H: Files + AllocGlobal + Clock>(
 }
 
 fn names_of(alloc: Global, feeds: &[NamedFolder<'_>]) -> Result<Vec<String>, AllocError>
-    ensures { IfOk result (λ names. length names.items ≡ length feeds.now) }
+    ensures count { IfOk result (λ names. length names.items ≡ length feeds.now) }
+    ensures texts { IfOk result (λ names. map string_bytes names.items ≡ map (λ feed. feed.name.now) feeds.now) }
 {
     let mut names = Vec::with_capacity(alloc, feeds.len())?;
-    for place in 0..feeds.len() {
-        names.push(String::from_str(alloc, feeds[place].name)?)?;
+    for feed in feeds {
+        names.push(String::from_str(alloc, feed.name)?)?;
     }
     Ok(names)
 }
@@ -179,7 +181,7 @@ fn listen<
         form_of(request.legs),
         errors,
     ) {
-        Ok((served, door)) => tell_served(alloc, &served, door.has_failed(), output),
+        Ok(ran) => tell_served(alloc, &ran.served, ran.clients.has_failed(), output),
         Err(_) => status::OUT_OF_MEMORY,
     }
 }

@@ -1,6 +1,6 @@
 //! Sessions over TCP.
 
-ghost use Rattle.std.specs.Prelude.{◌≡◌, ◌⊎◌, true, false, MatchOption, ⊤};
+ghost use Rattle.std.specs.Prelude.{◌≡◌, ◌⊎◌, ◌↔◌, ◌+◌, true, false, IfSome, IsTrue, MatchOption, ⊤};
 
 use std::io::ErrorKind;
 use std::net::{TcpListener, TcpStream};
@@ -40,7 +40,11 @@ pub struct Door<'a> {
 
 impl<'a> Door<'a> {
     /// So many connections, or without end for 0.
-    pub fn new(listener: &'a TcpListener, connections: u64) -> Door<'a> {
+    pub fn new(listener: &'a TcpListener, connections: u64) -> Door<'a>
+        ensures left { result.left ≡ connections }
+        ensures endless { IsTrue result.is_endless ↔ (connections ≡ 0) }
+        ensures whole { result.failed ≡ false }
+    {
         Door {
             listener,
             left: connections,
@@ -50,13 +54,17 @@ impl<'a> Door<'a> {
     }
 
     /// Whether accepting failed.
-    pub fn has_failed(&self) -> bool {
+    pub fn has_failed(&self) -> bool
+        ensures { result ≡ self.now.failed }
+    {
         self.failed
     }
 
     // Whoever is gone before it was accepted isn't counted.
     fn accept(&mut self) -> Option<Visitor>
-        ensures { MatchOption result (self.new.failed ≡ true) (λ _. ⊤) }
+        ensures failed { MatchOption result (self.new.failed ≡ true) (λ _. self.new.failed ≡ self.old.failed) }
+        ensures left { self.new.left ≡ self.old.left }
+        ensures endless { self.new.is_endless ≡ self.old.is_endless }
     {
         for _ in 0..u64::MAX {
             match self.listener.accept() {
@@ -78,7 +86,13 @@ impl<'a> Clients<Visitor> for Door<'a> {
     // Accepting failed, or as many as are wanted were accepted.
     ghost none_left = { λ door. (door.failed ≡ true) ⊎ ((door.is_endless ≡ false) × (door.left ≡ 0)) };
 
-    fn next(&mut self) -> Option<Visitor> {
+    /// The next connection. Without end none is counted off, and otherwise one.
+    fn next(&mut self) -> Option<Visitor>
+        ensures none { MatchOption result ((self.new.failed ≡ true) ⊎ ((self.new.is_endless ≡ false) × (self.new.left ≡ 0))) (λ _. ⊤) }
+        ensures endless { self.new.is_endless ≡ self.old.is_endless }
+        ensures left { IfSome result (λ _. (self.old.is_endless ≡ true) ⊎ (self.new.left + 1 ≡ self.old.left)) }
+        ensures failed { IfSome result (λ _. self.new.failed ≡ self.old.failed) }
+    {
         if !self.is_endless {
             if self.left == 0 {
                 return None;

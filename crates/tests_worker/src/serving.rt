@@ -242,12 +242,12 @@ fn serve_all<R: Threads + Wait + Sync + Abort, G: Gate + Sync>(
         bytes: &told,
         is_gone: false,
     };
-    let Ok((served, _)) = run_shelves::<Brand, _, _, _, _, _, _, _, _, _>(
+    let Ok(ran) = run_shelves::<Brand, _, _, _, _, _, _, _, _, _>(
         rt, alloc, row, shelves, seats, loader, &feeds, gate, form, errors,
     ) else {
         return Err(AllocError.into());
     };
-    Ok((served, told.into_inner()))
+    Ok((ran.served, told.into_inner()))
 }
 
 /// What a visitor does with the replies.

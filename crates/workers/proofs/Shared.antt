@@ -71,3 +71,15 @@ module _ {S H : Type 0} (seat_of : H → S) where
   pub seated_all : (all left : List S) (workers : List H) → all ≡ map seat_of workers ++ left → length left ≡ 0 → map seat_of workers ≡ all
   seated_all all left workers before none =
       sym (before ∙ ap (λ list. map seat_of workers ++ list) (nothing_left left none) ∙ append-nil (map seat_of workers))
+
+-- the next seat of those that are left was moved behind those that were
+pub moved_next : {X : Type 0} (all left left_then moved moved_then : List X) (put x : X)
+    → all ≡ moved ++ left → left ≡ x ∷ left_then → moved_then ≡ moved ++ put ∷ [] → put ≡ x
+    → all ≡ moved_then ++ left_then
+moved_next all left left_then moved moved_then put x before step grows same =
+    let more : moved_then ≡ moved ++ x ∷ [] = grows ∙ ap (λ last. moved ++ last ∷ []) same in
+    before ∙ ap (λ list. moved ++ list) step ∙ sym (append_assoc moved (x ∷ []) left_then) ∙ sym (ap (λ list. list ++ left_then) more)
+
+-- and all were
+pub moved_all : {X : Type 0} (all left moved : List X) → all ≡ moved ++ left → length left ≡ 0 → moved ≡ all
+moved_all all left moved before none = sym (before ∙ ap (λ list. moved ++ list) (nothing_left left none) ∙ append-nil moved)

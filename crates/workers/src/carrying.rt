@@ -4,7 +4,7 @@ ghost use Rattle.std.specs.Prelude.{◌≡◌, ◌≤◌, ◌∷◌, ◌++◌, [
 ghost use Rattle.feed_loader.specs.declared.plan.Plan.{Plan};
 ghost use Rattle.load_orders.specs.Queue.{mark_of};
 ghost use Rattle.load_orders.specs.Telling.{AnsweredValue};
-ghost use Rattle.workers.specs.Carrying.{CarriesOut, IsCarriedOut, IsLoadOf};
+ghost use Rattle.workers.specs.Carrying.{AllCarriedOut, IsCarriedOut, IsLoadOf};
 ghost use Rattle.workers.specs.Loading.{IsOutcome, load_answer};
 
 use crate::feeds::Feeds;
@@ -19,8 +19,8 @@ use std::io;
 use std::io::Write;
 use std::sync::Wait;
 
-/// Carries out orders until no more come: the feed of each is loaded once, in turn, and by its own way back it is told what came of
-/// that. The orders' end and the loader's seat come back.
+/// Carries out the orders that come to a new end of their queue, until no more come: the feed of each is loaded once, in turn, and
+/// by its own way back it is told what came of that. The orders' end and the loader's seat come back.
 pub(crate) fn load_all<R: Wait, N: Drop, T: Versions<Notice = N> + Loads, F: Feeds, E: Write>(
     rt: &R,
     alloc: Global,
@@ -30,14 +30,15 @@ pub(crate) fn load_all<R: Wait, N: Drop, T: Versions<Notice = N> + Loads, F: Fee
     feeds: &F,
     mut errors: E,
 ) -> (LoaderOrders<N>, T::Loader, E)
-    requires { T.Loads.loads shelves.now loader }
+    requires loads { T.Loads.loads shelves.now loader }
+    requires none { (orders.taken ≡ []) × (orders.answered ≡ []) }
     ensures loads { T.Loads.loads shelves.now result.1 }
-    ensures carried { CarriesOut T.Versions.noted (F.are_files feeds.now) F.Files.holds (F.is_plan feeds.now) (length (F.named feeds.now))
-        orders result.0 (T.Loads.answers loader) (T.Loads.answers result.1) }
+    ensures carried { AllCarriedOut T.Versions.noted (F.are_files feeds.now) F.Files.holds (F.is_plan feeds.now) (length (F.named feeds.now))
+        result.0 (T.Loads.answers loader) (T.Loads.answers result.1) }
 {
     for _ in rt.forever() {
         let Some(order) = orders.next(rt) else {
-            break;
+            return (orders, loader, errors);
         };
         load_feed(
             rt,
@@ -50,7 +51,7 @@ pub(crate) fn load_all<R: Wait, N: Drop, T: Versions<Notice = N> + Loads, F: Fee
             &mut errors,
         );
     }
-    (orders, loader, errors)
+    unreachable!()
 }
 
 // Loads the feed that is ordered, and tells what came of it, also whoever waits for that.

@@ -1,7 +1,8 @@
 //! The workers and the loader, in one scope.
 
 ghost use denote.Param.Send.{IsSend, IsSync};
-ghost use Rattle.std.specs.Prelude.{◌≤◌, All, length, IfOk};
+ghost use Rattle.std.specs.Prelude.{◌≡◌, ◌≤◌, [], All, length, IfOk};
+ghost use Rattle.workers.specs.Carrying.{AllCarriedOut};
 ghost use Rattle.workers.specs.Sessions.{AreShares, IsShare};
 
 use crate::arrivals::Arrivals;
@@ -10,11 +11,11 @@ use crate::clients::{Client, Clients};
 use crate::feeds::Feeds;
 use crate::served::Served;
 use crate::serving::Worker;
-use crate::shares::{ShareAt, join_workers};
+use crate::shares::{LoadsAt, ShareAt, join_workers};
 use crossbeam_channel::Sender;
 use epochs::{Loads, Versions};
 use feed_loader::FeedFiles;
-use load_orders::{WorkerOrders, order_queue};
+use load_orders::{LoaderOrders, WorkerOrders, order_queue};
 use orders::Gate;
 use session::{Desk, PointForm};
 use std::alloc::{AllocError, Global};
@@ -35,10 +36,22 @@ impl From<AllocError> for WorkersFault {
     }
 }
 
+/// What is left once all clients were served.
+#[derive(Drop)]
+pub struct Ran<K, L, N: Drop> {
+    /// How the sessions ended, seat after seat.
+    pub served: Served,
+    /// The clients' source.
+    pub clients: K,
+    /// The loader's end of the queue of orders.
+    pub orders: LoaderOrders<N>,
+    /// The loader's seat.
+    pub loader: L,
+}
+
 /// Serves all clients, with a worker for each seat, and loads the feeds that they order. Profiles are replied in this form.
 /// What came of a load is written to the error writer, and goes to whoever waits for it. It returns when there are no more
-/// clients, all sessions have ended, and all orders were carried out: how the sessions ended, seat after seat, and the
-/// clients' source.
+/// clients, all sessions have ended, and all orders were carried out.
 pub fn run_workers<
     I: Read + Send + Drop,
     O: Write + Send + Drop,
@@ -64,33 +77,45 @@ pub fn run_workers<
     gate: &G,
     form: PointForm,
     errors: E,
-) -> Result<(Served, K), WorkersFault>
+) -> Result<Ran<K, L, N>, WorkersFault>
     requires seats { All (T.Versions.fits shelves.now) seats.items }
     requires loader { T.Loads.loads shelves.now loader }
     requires some { 1 ≤ length seats.items }
     requires few { length seats.items ≤ 16 }
-    ensures none_left { IfOk result (λ served. K.none_left served.1) }
-    ensures shares { IfOk result (λ served.
-        AreShares form C.opens I.remaining O.contents T.number T.value seats.items served.0) }
+    ensures none_left { IfOk result (λ ran. K.none_left ran.clients) }
+    ensures shares { IfOk result (λ ran.
+        AreShares form C.opens I.remaining O.contents T.number T.value seats.items ran.served) }
+    ensures loads { IfOk result (λ ran.
+        AllCarriedOut T.Versions.noted (F.are_files feeds.now) D.holds (F.is_plan feeds.now) (length (F.named feeds.now))
+        ran.orders (T.Loads.answers loader) (T.Loads.answers ran.loader)) }
 {
     let (to, from) = crossbeam_channel::bounded(alloc, 1)?;
     let (mut asks, orders) = order_queue(alloc)?;
     thread::scope(
         thread::scope_env(),
         rt,
-        move |scope| -> Result<(Served, K), WorkersFault>
+        move |scope| -> Result<Ran<K, L, N>, WorkersFault>
             requires { IsSync R.row × IsSync T.row × IsSync F.row × IsSync G.row × IsSend S.row × IsSend L.row × IsSend N.row
                 × IsSend C.row × IsSend I.row × IsSend O.row × IsSend D.row × IsSend E.row
-                × All (T.Versions.fits shelves.now) seats.items × T.Loads.loads shelves.now loader }
-            ensures none_left { IfOk result (λ served. K.none_left served.1) }
-            ensures shares { IfOk result (λ served.
-                AreShares form C.opens I.remaining O.contents T.number T.value seats.items served.0) }
+                × All (T.Versions.fits shelves.now) seats.items × T.Loads.loads shelves.now loader
+                × (orders.taken ≡ []) × (orders.answered ≡ []) }
+            ensures none_left { IfOk result (λ ran. K.none_left ran.clients) }
+            ensures shares { IfOk result (λ ran.
+                AreShares form C.opens I.remaining O.contents T.number T.value seats.items ran.served) }
+            ensures loads { IfOk result (λ ran.
+                AllCarriedOut T.Versions.noted (F.are_files feeds.entry.now) D.holds (F.is_plan feeds.entry.now)
+                (length (F.named feeds.entry.now)) ran.orders (T.Loads.answers loader) (T.Loads.answers ran.loader)) }
         {
-            let Ok(loading) = scope.spawn(
-                move || -> ()
-                    requires { T.Loads.loads shelves.now loader }
+            let seat = loader;
+            let Ok(loading) = scope.spawn_with(
+                LoadsAt::<T, F>::of(&seat, feeds),
+                move || -> (LoaderOrders<N>, L)
+                    requires { T.Loads.loads shelves.now seat × (orders.taken ≡ []) × (orders.answered ≡ []) }
+                    ensures { AllCarriedOut T.Versions.noted (F.are_files feeds.entry.now) D.holds (F.is_plan feeds.entry.now)
+                        (length (F.named feeds.entry.now)) result.0 (T.Loads.answers seat) (T.Loads.answers result.1) }
                 {
-                    load_all(rt, alloc, orders, shelves, loader, feeds, errors);
+                    let (orders, seat, _) = load_all(rt, alloc, orders, shelves, seat, feeds, errors);
+                    (orders, seat)
                 },
             ) else {
                 return Err(WorkersFault);
@@ -130,8 +155,13 @@ pub fn run_workers<
             let served = join_workers(rt, form, workers);
             // No order is refused for want of a loader before all sessions have ended.
             drop(asks);
-            loading.join(rt);
-            Ok((served, clients))
+            let (orders, loader) = loading.join(rt);
+            Ok(Ran {
+                served,
+                clients,
+                orders,
+                loader,
+            })
         },
     )
 }

@@ -1,11 +1,13 @@
-//! Workers' shares of what is served.
+//! What the workers and the loader hand on when they are joined.
 
 ghost use Rattle.std.specs.Prelude.{◌≡◌, All, map};
 ghost use Rattle.workers.specs.Sessions.{AreShares};
 
 use crate::clients::Client;
+use crate::feeds::Feeds;
 use crate::served::Served;
-use epochs::Versions;
+use epochs::{Loads, Versions};
+use load_orders::LoaderOrders;
 use session::PointForm;
 use std::marker::PhantomData;
 use std::snapshot::Snapshot;
@@ -40,6 +42,37 @@ impl<C: Client, T: Versions> Promise<Served> for ShareAt<C, T> {
     ghost kept_by = { λ promise share.
         IsShare promise.form C.opens C.Reader.remaining C.Writer.contents
         (T.number promise.seat.value) (T.value promise.seat.value) share };
+}
+
+/// That all orders of these feeds that came to the loader were carried out, from what its seat was when it began.
+#[derive(Drop)]
+pub(crate) struct LoadsAt<T: Loads, F> {
+    pub seat: Snapshot<T::Loader>,
+    pub feeds: Snapshot<F>,
+}
+
+impl<T: Loads, F> LoadsAt<T, F> {
+    /// With this seat, as it is now, and these feeds.
+    pub(crate) fn of(seat: &T::Loader, feeds: &F) -> LoadsAt<T, F>
+        ensures seat { result.seat.value ≡ seat.now }
+        ensures feeds { result.feeds.value ≡ feeds.now }
+    {
+        LoadsAt {
+            seat: Snapshot::of(seat),
+            feeds: Snapshot::of(feeds),
+        }
+    }
+}
+
+impl<L, N: Drop, T: Versions<Notice = N> + Loads<Loader = L>, F: Feeds> Promise<(LoaderOrders<N>, L)>
+    for LoadsAt<T, F>
+{
+    ghost use Rattle.std.specs.Prelude.{length};
+    ghost use Rattle.workers.specs.Carrying.{AllCarriedOut};
+
+    ghost kept_by = { λ promise done.
+        AllCarriedOut T.Versions.noted (F.are_files promise.feeds.value) F.Files.holds (F.is_plan promise.feeds.value)
+        (length (F.named promise.feeds.value)) done.0 (T.Loads.answers promise.seat.value) (T.Loads.answers done.1) };
 }
 
 /// Joins the workers in turn: their shares, put together.

@@ -10,9 +10,9 @@ loop-init g c =
     record {
       next = tt;
       finite = tt;
-      loads = c.requires;
+      loads = c.requires.loads;
       carried = carries_nothing g.T.Versions.noted (g.F.Feeds.are_files feeds) g.F.Files.FeedFiles.holds (g.F.Feeds.is_plan feeds)
-          (length (g.F.Feeds.named feeds)) c.args.orders (g.T.Loads.answers c.args.loader);
+          (length (g.F.Feeds.named feeds)) c.args.orders (g.T.Loads.answers c.args.loader) c.requires.none.0 c.requires.none.1;
     }
 
 -- an order more was taken and carried out
@@ -25,7 +25,7 @@ loop-preserved g c =
       finite = tt;
       loads = one.loads;
       carried = carries_also g.T.Versions.noted (g.F.Feeds.are_files feeds) g.F.Files.FeedFiles.holds (g.F.Feeds.is_plan feeds)
-          (length (g.F.Feeds.named feeds)) c.args.orders c.loop.orders c.next-in-loop.new.self c.load_feed.new.orders (mark_of c.in-Some-next.order)
+          (length (g.F.Feeds.named feeds)) c.loop.orders c.next-in-loop.new.self c.load_feed.new.orders (mark_of c.in-Some-next.order)
           (g.T.Loads.answers c.args.loader) (g.T.Loads.answers c.loop.loader) (g.T.Loads.answers c.load_feed.new.loader)
           c.loop.invariant.carried c.in-Some-next.ensures.taken c.in-Some-next.ensures.answered one.taken one.carried;
     }
