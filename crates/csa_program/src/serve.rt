@@ -169,7 +169,7 @@ fn listen<
         return begun;
     }
     let door = Door::new(&listener, request.sessions);
-    match run_shelves::<Brand, _, _, _, _, _, _, _, _, _>(
+    match run_shelves::<Brand, _, _, _, _, _, _>(
         rt,
         alloc,
         door,

@@ -242,7 +242,7 @@ fn serve_all<R: Threads + Wait + Sync + Abort, G: Gate + Sync>(
         bytes: &told,
         is_gone: false,
     };
-    let Ok(ran) = run_shelves::<Brand, _, _, _, _, _, _, _, _, _>(
+    let Ok(ran) = run_shelves::<Brand, _, _, _, _, _, _>(
         rt, alloc, row, shelves, seats, loader, &feeds, gate, form, errors,
     ) else {
         return Err(AllocError.into());

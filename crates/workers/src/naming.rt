@@ -1,6 +1,7 @@
 //! Workers at shelves without a lock, under a name that the caller picks.
 
 ghost use Rattle.std.specs.Prelude.{◌≡◌, ◌≤◌, All, length, IfOk};
+ghost use Rattle.shelf_steps.specs.Events.{known_of};
 ghost use Rattle.workers.specs.Carrying.{AllCarriedOut};
 ghost use Rattle.workers.specs.Sessions.{AreShares};
 
@@ -9,23 +10,19 @@ use crate::feeds::Feeds;
 use crate::running::{Ran, WorkersFault, run_workers};
 use epochs::{Named, NamedLoader, NamedNotice, NamedSeat, NamedShelves};
 use epochs::{ShelfLoader, ShelfSeat, Shelves};
-use feed_loader::FeedFiles;
 use orders::Gate;
 use session::PointForm;
 use std::alloc::{AllocError, Global};
-use std::io::{Read, Write};
+use std::io::Write;
 use std::sync::Wait;
 use std::thread::Threads;
 
 /// `run_workers` at these shelves: their notices are of them by their type. The loader's seat comes back under their name.
 pub fn run_shelves<
     B: Named + Send + Sync,
-    I: Read + Send + Drop,
-    O: Write + Send + Drop,
-    C: Client<Reader = I, Writer = O> + Drop + Send,
+    C: Client + Drop + Send,
     K: Clients<C> + Drop,
-    D: FeedFiles + Send + Drop,
-    F: Feeds<Files = D> + Sync,
+    F: Feeds + Sync,
     G: Gate + Sync,
     E: Write + Send + Drop,
     R: Threads + Wait + Sync,
@@ -47,9 +44,9 @@ pub fn run_shelves<
     requires some { 1 ≤ length seats.items }
     requires few { length seats.items ≤ 16 }
     ensures none_left { IfOk result (λ ran. K.none_left ran.clients) }
-    ensures shares { IfOk result (λ ran. AreShares form C.opens I.remaining O.contents
-        (λ seat. seat.number) (λ seat. seat.shown) seats.items ran.served) }
-    ensures loads { IfOk result (λ ran. AllCarriedOut (λ notice. notice.version) (F.are_files feeds.now) D.holds
+    ensures shares { IfOk result (λ ran. AreShares form C.opens C.Reader.remaining C.Writer.contents
+        (λ seat. seat.number) (λ seat. seat.shown) (λ seat. known_of seat.view) seats.items ran.served) }
+    ensures loads { IfOk result (λ ran. AllCarriedOut (λ notice. notice.version) (F.are_files feeds.now) F.Files.holds
         (F.is_plan feeds.now) (length (F.named feeds.now)) ran.orders loader.answers ran.loader.answers) }
 {
     let seats = named_seats::<B>(alloc, seats)?;

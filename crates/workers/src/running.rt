@@ -1,25 +1,24 @@
 //! The workers and the loader, in one scope.
 
 ghost use denote.Param.Send.{IsSend, IsSync};
-ghost use Rattle.std.specs.Prelude.{◌≡◌, ◌≤◌, [], All, length, IfOk};
+ghost use Rattle.std.specs.Prelude.{◌≡◌, ◌≤◌, [], true, All, length, IfOk};
 ghost use Rattle.workers.specs.Carrying.{AllCarriedOut};
 ghost use Rattle.workers.specs.Sessions.{AreShares, IsShare};
 
 use crate::arrivals::Arrivals;
-use crate::carrying::load_all;
+use crate::carrying::Loading;
 use crate::clients::{Client, Clients};
 use crate::feeds::Feeds;
 use crate::served::Served;
 use crate::serving::Worker;
-use crate::shares::{LoadsAt, ShareAt, join_workers};
+use crate::shares::{LoadsAt, Share, ShareAt, join_workers};
 use crossbeam_channel::Sender;
 use epochs::{Loads, Versions};
-use feed_loader::FeedFiles;
 use load_orders::{LoaderOrders, WorkerOrders, order_queue};
 use orders::Gate;
 use session::{Desk, PointForm};
 use std::alloc::{AllocError, Global};
-use std::io::{Read, Write};
+use std::io::Write;
 use std::sync::Wait;
 use std::thread;
 use std::thread::Threads;
@@ -53,16 +52,10 @@ pub struct Ran<K, L, N: Drop> {
 /// What came of a load is written to the error writer, and goes to whoever waits for it. It returns when there are no more
 /// clients, all sessions have ended, and all orders were carried out.
 pub fn run_workers<
-    I: Read + Send + Drop,
-    O: Write + Send + Drop,
-    C: Client<Reader = I, Writer = O> + Drop + Send,
+    C: Client + Drop + Send,
     K: Clients<C> + Drop,
-    S: Send + Drop,
-    L: Send + Drop,
-    N: Send + Drop,
-    T: Versions<Seat = S, Notice = N> + Loads<Loader = L> + Sync,
-    D: FeedFiles + Send + Drop,
-    F: Feeds<Files = D> + Sync,
+    T: Versions + Loads + Sync,
+    F: Feeds + Sync,
     G: Gate + Sync,
     E: Write + Send + Drop,
     R: Threads + Wait + Sync,
@@ -71,50 +64,54 @@ pub fn run_workers<
     alloc: Global,
     clients: K,
     shelves: &T,
-    seats: Vec<S>,
-    loader: L,
+    seats: Vec<T::Seat>,
+    loader: T::Loader,
     feeds: &F,
     gate: &G,
     form: PointForm,
     errors: E,
-) -> Result<Ran<K, L, N>, WorkersFault>
+) -> Result<Ran<K, T::Loader, T::Notice>, WorkersFault>
+where
+    T::Seat: Send + Drop,
+    T::Loader: Send + Drop,
+    T::Notice: Send + Drop,
     requires seats { All (T.Versions.fits shelves.now) seats.items }
     requires loader { T.Loads.loads shelves.now loader }
     requires some { 1 ≤ length seats.items }
     requires few { length seats.items ≤ 16 }
     ensures none_left { IfOk result (λ ran. K.none_left ran.clients) }
-    ensures shares { IfOk result (λ ran.
-        AreShares form C.opens I.remaining O.contents T.number T.value seats.items ran.served) }
-    ensures loads { IfOk result (λ ran.
-        AllCarriedOut T.Versions.noted (F.are_files feeds.now) D.holds (F.is_plan feeds.now) (length (F.named feeds.now))
-        ran.orders (T.Loads.answers loader) (T.Loads.answers ran.loader)) }
+    ensures shares { IfOk result (λ ran. AreShares form C.opens C.Reader.remaining C.Writer.contents
+        T.Versions.number T.Versions.value T.Versions.known seats.items ran.served) }
+    ensures loads { IfOk result (λ ran. AllCarriedOut T.Versions.noted (F.are_files feeds.now) F.Files.holds
+        (F.is_plan feeds.now) (length (F.named feeds.now)) ran.orders (T.Loads.answers loader) (T.Loads.answers ran.loader)) }
 {
     let (to, from) = crossbeam_channel::bounded(alloc, 1)?;
     let (mut asks, orders) = order_queue(alloc)?;
     thread::scope(
         thread::scope_env(),
         rt,
-        move |scope| -> Result<Ran<K, L, N>, WorkersFault>
-            requires { IsSync R.row × IsSync T.row × IsSync F.row × IsSync G.row × IsSend S.row × IsSend L.row × IsSend N.row
-                × IsSend C.row × IsSend I.row × IsSend O.row × IsSend D.row × IsSend E.row
+        move |scope| -> Result<Ran<K, T::Loader, T::Notice>, WorkersFault>
+            requires { IsSync R.row × IsSync T.row × IsSync F.row × IsSync G.row × IsSend T.Seat.row × IsSend T.Loader.row
+                × IsSend T.Notice.row × IsSend C.row × IsSend C.Reader.row × IsSend C.Writer.row × IsSend F.Files.row × IsSend E.row
                 × All (T.Versions.fits shelves.now) seats.items × T.Loads.loads shelves.now loader
                 × (orders.taken ≡ []) × (orders.answered ≡ []) }
             ensures none_left { IfOk result (λ ran. K.none_left ran.clients) }
-            ensures shares { IfOk result (λ ran.
-                AreShares form C.opens I.remaining O.contents T.number T.value seats.items ran.served) }
+            ensures shares { IfOk result (λ ran. AreShares form C.opens C.Reader.remaining C.Writer.contents
+                T.Versions.number T.Versions.value T.Versions.known seats.items ran.served) }
             ensures loads { IfOk result (λ ran.
-                AllCarriedOut T.Versions.noted (F.are_files feeds.entry.now) D.holds (F.is_plan feeds.entry.now)
+                AllCarriedOut T.Versions.noted (F.are_files feeds.entry.now) F.Files.holds (F.is_plan feeds.entry.now)
                 (length (F.named feeds.entry.now)) ran.orders (T.Loads.answers loader) (T.Loads.answers ran.loader)) }
         {
             let seat = loader;
             let Ok(loading) = scope.spawn_with(
                 LoadsAt::<T, F>::of(&seat, feeds),
-                move || -> (LoaderOrders<N>, L)
+                move || -> (LoaderOrders<T::Notice>, T::Loader)
                     requires { T.Loads.loads shelves.now seat × (orders.taken ≡ []) × (orders.answered ≡ []) }
-                    ensures { AllCarriedOut T.Versions.noted (F.are_files feeds.entry.now) D.holds (F.is_plan feeds.entry.now)
+                    ensures { AllCarriedOut T.Versions.noted (F.are_files feeds.entry.now) F.Files.holds (F.is_plan feeds.entry.now)
                         (length (F.named feeds.entry.now)) result.0 (T.Loads.answers seat) (T.Loads.answers result.1) }
                 {
-                    let (orders, seat, _) = load_all(rt, alloc, orders, shelves, seat, feeds, errors);
+                    let loading = Loading { rt, alloc, shelves, feeds };
+                    let (orders, seat, _) = loading.load_all(orders, seat, errors);
                     (orders, seat)
                 },
             ) else {
@@ -126,9 +123,10 @@ pub fn run_workers<
                 let end = asks.another()?;
                 match scope.spawn_with(
                     ShareAt::<C, T>::of(&seat, form),
-                    move || -> Served
+                    move || -> Share<C>
                         requires { T.Versions.fits shelves.now seat }
-                        ensures { IsShare form C.opens I.remaining O.contents (T.number seat) (T.value seat) result }
+                        ensures { (result.arrivals.over ≡ true) × IsShare form C.opens C.Reader.remaining C.Writer.contents
+                            T.Versions.number T.Versions.value T.Versions.known seat result.arrivals.taken result.served }
                     {
                         let desk = Desk {
                             rt,
@@ -138,8 +136,7 @@ pub fn run_workers<
                             form,
                         };
                         let orders = WorkerOrders::new(alloc, feeds.names(), shelves, end);
-                        let mut arrivals = Arrivals::of(mine);
-                        Worker { desk }.work(&mut arrivals, seat, orders).0
+                        Worker { desk }.work(Arrivals::of(mine), seat, orders).0
                     },
                 ) {
                     Ok(worker) => {
