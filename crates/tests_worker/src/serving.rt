@@ -68,7 +68,7 @@ const WAITING: (&str, &str) = (
 
 /// What the loader tells of the second.
 const LOADED: &str =
-    "loaded slow version 2\nload bad refused 1 MissingFile stops.txt 0\nloaded slow version 3\n";
+    "loaded slow version 2\n0 0: 2 3 2 3\nload bad refused 1 MissingFile stops.txt 0\n1 1: 1\nloaded slow version 3\n0 0: 3 3 0 0\n";
 
 /// A writer to bytes that several threads may share, or one that nobody reads any more.
 #[derive(Drop)]
@@ -112,6 +112,12 @@ impl<'a, R: Wait + Sync> Client for Visitor<'a, R> {
             None => Err(ConnFault),
         }
     }
+
+    fn close(_reader: &'static [u8], mut writer: Shared<'a, R>, end: End) {
+        if end == End::Spent {
+            let _ = writer.write_all(b"spent\n");
+        }
+    }
 }
 
 /// Visitors who wait in a row: the last comes first.
@@ -138,6 +144,8 @@ struct TwoFeeds {
 impl Feeds for TwoFeeds {
     type Files = MemoryFiles<'static>;
 
+    type Begun = usize;
+
     ghost named = { λ feed. feed.names.items };
 
     fn names(&self) -> &[String] {
@@ -163,6 +171,27 @@ impl Feeds for TwoFeeds {
             return Some(MemoryFiles { files: &BAD_FILES });
         }
         Some(MemoryFiles { files: &FILES })
+    }
+
+    fn begin(&self, place: usize) -> usize {
+        place
+    }
+
+    fn finish<E: Write>(
+        &self,
+        errors: &mut E,
+        place: usize,
+        begun: usize,
+        outcome: Result<Loaded, LoadRefusal>,
+    ) {
+        let _ = match outcome {
+            Ok(Loaded { version, report }) => write!(
+                errors,
+                "{begun} {place}: {version} {} {} {}\n",
+                report.stops, report.runs, report.connections
+            ),
+            Err(refusal) => write!(errors, "{begun} {place}: {}\n", refusal.number()),
+        };
     }
 }
 
@@ -319,7 +348,7 @@ fn a_client_is_served(rt: HostRuntime) -> Result<(), Fail> {
     assert_eq!(&rt; served.failed(), 1);
     assert_eq!(&rt; served.spent(), 0);
     assert!(&rt; replies.as_slice() == expected.as_bytes());
-    assert!(&rt; told.as_slice() == b"loaded slow version 2\n".as_slice());
+    assert!(&rt; told.as_slice() == b"loaded slow version 2\n0 0: 2 3 2 3\n".as_slice());
     Ok(())
 }
 
@@ -366,7 +395,7 @@ fn whoever_waits_may_go_away(rt: HostRuntime) -> Result<(), Fail> {
     assert!(&rt;
         replies.as_slice() == b"{\"base\":1705276800,\"ok\":\"pin\",\"version\":2}\n".as_slice()
     );
-    assert!(&rt; told.as_slice() == b"loaded slow version 2\n".as_slice());
+    assert!(&rt; told.as_slice() == b"loaded slow version 2\n0 0: 2 3 2 3\n".as_slice());
     Ok(())
 }
 

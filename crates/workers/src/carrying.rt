@@ -8,7 +8,7 @@ ghost use Rattle.workers.specs.Carrying.{AllCarriedOut, IsCarriedOut, IsLoadOf};
 ghost use Rattle.workers.specs.Loading.{IsOutcome, load_answer};
 
 use crate::feeds::Feeds;
-use crate::loading::load_one;
+use crate::loading::{Loaded, load_one};
 use crate::refusal::LoadRefusal;
 use epochs::{Loads, Versions};
 use feed_loader::LoadFault;
@@ -86,9 +86,12 @@ impl<'a, R: Wait, N: Drop, T: Versions<Notice = N> + Loads, F: Feeds> Loading<'a
     {
         match (self.feeds.names().get(place), self.feeds.files(place)) {
             (Some(name), Some(files)) => {
+                let begun = self.feeds.begin(place);
                 let outcome = self.load_planned(files, seat);
+                let loaded = loaded_or_refusal(&outcome);
                 // The loader goes on where its line can't be written.
-                let _ = tell(errors, name.as_str(), version_or_refusal(&outcome));
+                let _ = tell(errors, name.as_str(), loaded);
+                self.feeds.finish(errors, place, begun, loaded);
                 answer_of(outcome)
             }
             _ => LoadAnswer::Refused {
@@ -102,7 +105,7 @@ impl<'a, R: Wait, N: Drop, T: Versions<Notice = N> + Loads, F: Feeds> Loading<'a
         &self,
         mut files: F::Files,
         seat: &mut T::Loader,
-    ) -> Result<(u64, Option<N>), LoadRefusal>
+    ) -> Result<(Loaded, Option<N>), LoadRefusal>
         requires loads { T.Loads.loads self.now.shelves.now seat.old }
         requires failures { F.Files.failures files ≡ 0 }
         ensures loads { T.Loads.loads self.now.shelves.now seat.new }
@@ -123,17 +126,17 @@ impl<'a, R: Wait, N: Drop, T: Versions<Notice = N> + Loads, F: Feeds> Loading<'a
     }
 }
 
-fn version_or_refusal<N>(
-    outcome: &Result<(u64, Option<N>), LoadRefusal>,
-) -> Result<u64, LoadRefusal> {
+fn loaded_or_refusal<N>(
+    outcome: &Result<(Loaded, Option<N>), LoadRefusal>,
+) -> Result<Loaded, LoadRefusal> {
     match outcome {
-        Ok((version, _)) => Ok(*version),
+        Ok((loaded, _)) => Ok(*loaded),
         Err(refusal) => Err(*refusal),
     }
 }
 
 // What whoever waits for a load is told of it: its version's notice, that there was no memory for one, or the refusal's number.
-fn answer_of<N>(outcome: Result<(u64, Option<N>), LoadRefusal>) -> LoadAnswer<N>
+fn answer_of<N>(outcome: Result<(Loaded, Option<N>), LoadRefusal>) -> LoadAnswer<N>
     ensures { result ≡ load_answer outcome }
 {
     match outcome {
@@ -146,9 +149,13 @@ fn answer_of<N>(outcome: Result<(u64, Option<N>), LoadRefusal>) -> LoadAnswer<N>
 }
 
 // Tells what came of an order. It takes no memory.
-fn tell<E: Write>(errors: &mut E, name: &str, outcome: Result<u64, LoadRefusal>) -> io::Result<()> {
+fn tell<E: Write>(
+    errors: &mut E,
+    name: &str,
+    outcome: Result<Loaded, LoadRefusal>,
+) -> io::Result<()> {
     match outcome {
-        Ok(version) => write!(errors, "loaded {name} version {version}\n"),
+        Ok(loaded) => write!(errors, "loaded {name} version {}\n", loaded.version),
         Err(refusal) => write!(errors, "load {name} refused {refusal}\n"),
     }
 }

@@ -5,12 +5,18 @@ ghost use Rattle.std.specs.Global.{Global};
 ghost use Rattle.connections.specs.declared.days.TheConstants.{MAX_DAYS};
 ghost use Rattle.feed_loader.specs.declared.plan.Plan.{Plan};
 
+use crate::loading::Loaded;
+use crate::refusal::LoadRefusal;
 use feed_loader::{FeedFiles, Plan};
 use std::alloc::{AllocError, Global};
+use std::io::Write;
 
 /// The feeds that may be ordered by their names.
 pub trait Feeds {
     type Files: FeedFiles + Send + Drop;
+
+    /// What is kept of a load while it lasts.
+    type Begun: Drop;
 
     // Their names, by place.
     ghost named: { Self → List (String Global) };
@@ -36,4 +42,17 @@ pub trait Feeds {
     /// The files of the feed at the place, of which no read has failed yet. None only where there is no such place.
     fn files(&self, place: usize) -> Option<Self::Files>
         ensures { MatchOption result (length (named self.now) ≤ place) (λ files. (Self.Files.failures files ≡ 0) × are_files self.now place files) };
+
+    /// Called before the feed at the place is loaded.
+    fn begin(&self, place: usize) -> Self::Begun;
+
+    /// Called when that load has ended, behind the loader's own line, with its writer. Nothing else hangs on what is done
+    /// here.
+    fn finish<E: Write>(
+        &self,
+        errors: &mut E,
+        place: usize,
+        begun: Self::Begun,
+        outcome: Result<Loaded, LoadRefusal>,
+    );
 }

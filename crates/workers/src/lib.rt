@@ -16,7 +16,7 @@ mod shares;
 pub use clients::{Client, Clients, ConnFault};
 pub use feeds::Feeds;
 pub use load_orders::LoaderOrders;
-pub use loading::load_one;
+pub use loading::{Loaded, load_one};
 pub use naming::run_shelves;
 pub use refusal::LoadRefusal;
 pub use running::{Ran, WorkersFault, run_workers};

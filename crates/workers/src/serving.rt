@@ -23,14 +23,14 @@ pub struct Worker<'a, R, T, G> {
 
 impl<'a, R: Wait, N: Drop, T: Versions<Notice = N>, G: Gate> Worker<'a, R, T, G> {
     /// Serves a client at this seat, and adds how its session ended. A client that can't be opened is a session that failed, and then
-    /// there is no reader and no writer to give back.
+    /// there is no reader and no writer to give back. How it ended is returned beside them.
     pub fn serve_client<C: Client, O: Orders<Notice = N>>(
         &self,
         client: C,
         seat: &mut T::Seat,
         orders: &mut O,
         served: &mut Served,
-    ) -> Option<Streams<C::Reader, C::Writer>>
+    ) -> (Option<Streams<C::Reader, C::Writer>>, End)
         requires fits { T.fits self.now.desk.shelves.now seat.old }
         requires notices { AgreeOnNotices O.told T.noted }
         ensures fits { T.fits self.now.desk.shelves.now seat.new }
@@ -38,19 +38,21 @@ impl<'a, R: Wait, N: Drop, T: Versions<Notice = N>, G: Gate> Worker<'a, R, T, G>
         ensures learns { Learns (T.known seat.old) (T.value seat.old) (T.known seat.new) (T.value seat.new) }
         ensures profiles { TellPublished (T.known seat.new) (T.value seat.old) (T.value seat.new) }
         ensures idle { (T.value seat.old).held ≡ None → (T.value seat.new).held ≡ None }
-        ensures session { (end : End) × (served.new ≡ served.old ++ end ∷ [])
-            × IsServed self.now.desk.form C.opens C.Reader.remaining C.Writer.contents (T.number seat.old) client result end (T.value seat.old) (O.asked orders.old) (T.value seat.new) (O.asked orders.new) }
+        ensures served { served.new ≡ served.old ++ result.1 ∷ [] }
+        ensures session { IsServed self.now.desk.form C.opens C.Reader.remaining C.Writer.contents (T.number seat.old) client
+            result.0 result.1 (T.value seat.old) (O.asked orders.old) (T.value seat.new) (O.asked orders.new) }
     {
         match client.open() {
             Ok((reader, writer)) => {
                 let mut streams = Streams::new(reader, writer);
                 let outcome = self.desk.serve(&mut streams, seat, orders);
-                served.add(end_of(outcome));
-                Some(streams)
+                let end = end_of(outcome);
+                served.add(end);
+                (Some(streams), end)
             }
             Err(ConnFault) => {
                 served.add(End::Failed);
-                None
+                (None, End::Failed)
             }
         }
     }
@@ -76,7 +78,10 @@ impl<'a, R: Wait, N: Drop, T: Versions<Notice = N>, G: Gate> Worker<'a, R, T, G>
             let Some(client) = arrivals.next(self.desk.rt) else {
                 return (Share { served, arrivals }, seat, orders);
             };
-            drop(self.serve_client(client, &mut seat, &mut orders, &mut served));
+            let (streams, end) = self.serve_client(client, &mut seat, &mut orders, &mut served);
+            if let Some(Streams { reader, writer }) = streams {
+                C::close(reader.into_inner(), writer.into_inner(), end);
+            }
         }
         unreachable!()
     }
