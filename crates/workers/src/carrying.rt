@@ -113,14 +113,7 @@ impl<'a, R: Wait, N: Drop, T: Versions<Notice = N> + Loads, F: Feeds> Loading<'a
             × IsOutcome T.Versions.noted (F.Files.holds files) plan (T.Loads.answers seat.old) result (T.Loads.answers seat.new) }
     {
         match self.feeds.plan(self.alloc) {
-            Ok(plan) => load_one(
-                self.rt,
-                self.alloc,
-                &mut files,
-                &plan,
-                self.shelves,
-                seat,
-            ),
+            Ok(plan) => load_one(self.rt, self.alloc, &mut files, &plan, self.shelves, seat),
             Err(_) => Err(LoadRefusal::Load(LoadFault::Day(DayFault::OutOfMemory))),
         }
     }

@@ -8,8 +8,9 @@ ghost use Rattle.workers.specs.Sessions.{AreShares};
 use crate::clients::{Client, Clients};
 use crate::feeds::Feeds;
 use crate::running::{Ran, WorkersFault, run_workers};
-use epochs::{Named, NamedLoader, NamedNotice, NamedSeat, NamedShelves};
-use epochs::{ShelfLoader, ShelfSeat, Shelves};
+use epochs::{
+    Named, NamedLoader, NamedNotice, NamedSeat, NamedShelves, ShelfLoader, ShelfSeat, Shelves,
+};
 use orders::Gate;
 use session::PointForm;
 use std::alloc::{AllocError, Global};

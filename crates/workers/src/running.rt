@@ -110,7 +110,12 @@ where
                     ensures { AllCarriedOut T.Versions.noted (F.are_files feeds.entry.now) F.Files.holds (F.is_plan feeds.entry.now)
                         (length (F.named feeds.entry.now)) result.0 (T.Loads.answers seat) (T.Loads.answers result.1) }
                 {
-                    let loading = Loading { rt, alloc, shelves, feeds };
+                    let loading = Loading {
+                        rt,
+                        alloc,
+                        shelves,
+                        feeds,
+                    };
                     let (orders, seat, _) = loading.load_all(orders, seat, errors);
                     (orders, seat)
                 },

@@ -73,9 +73,9 @@ impl<T: Loads, F> LoadsAt<T, F> {
     }
 }
 
-impl<L, N: Drop, T: Versions<Notice = N> + Loads<Loader = L>, F: Feeds> Promise<(LoaderOrders<N>, L)>
-    for LoadsAt<T, F>
-{
+impl<L, N: Drop, T: Versions<Notice = N> + Loads<Loader = L>, F: Feeds> Promise<
+    (LoaderOrders<N>, L),
+> for LoadsAt<T, F> {
     ghost use Rattle.std.specs.Prelude.{length};
     ghost use Rattle.workers.specs.Carrying.{AllCarriedOut};
 
