@@ -88,7 +88,8 @@ impl<'a> Clients<Visitor> for Door<'a> {
 
     /// The next connection. Without end none is counted off, and otherwise one.
     fn next(&mut self) -> Option<Visitor>
-        ensures none { MatchOption result ((self.new.failed ≡ true) ⊎ ((self.new.is_endless ≡ false) × (self.new.left ≡ 0))) (λ _. ⊤) }
+        ensures none { MatchOption result ((self.new.failed ≡ true)
+            ⊎ ((self.new.is_endless ≡ false) × (self.new.left ≡ 0))) (λ _. ⊤) }
         ensures endless { self.new.is_endless ≡ self.old.is_endless }
         ensures left { IfSome result (λ _. (self.old.is_endless ≡ true) ⊎ (self.new.left + 1 ≡ self.old.left)) }
         ensures failed { IfSome result (λ _. self.new.failed ≡ self.old.failed) }

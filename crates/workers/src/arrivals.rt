@@ -7,8 +7,8 @@ use load_orders::Notes;
 use std::marker::Model;
 use std::sync::Wait;
 
-/// The clients that come to a worker. Contracts see those that it took, in order, and whether it asked for another one and
-/// none came.
+/// The clients that come to a worker. Contracts see those that it took, in order, and whether it
+/// asked for another one and none came.
 #[derive(Drop)]
 pub(crate) struct Arrivals<C> {
     receiver: Receiver<C>,

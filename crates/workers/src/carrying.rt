@@ -29,8 +29,9 @@ pub(crate) struct Loading<'a, R, T, F> {
 }
 
 impl<'a, R: Wait, N: Drop, T: Versions<Notice = N> + Loads, F: Feeds> Loading<'a, R, T, F> {
-    /// Carries out the orders that come to a new end of their queue, until no more come: the feed of each is loaded once, in
-    /// turn, and by its own way back it is told what came of that. The orders' end and the loader's seat come back.
+    /// Carries out the orders that come to a new end of their queue, until no more come: the feed
+    /// of each is loaded once, in turn, and by its own way back it is told what came of that. The
+    /// orders' end and the loader's seat come back.
     pub(crate) fn load_all<E: Write>(
         &self,
         mut orders: LoaderOrders<N>,
@@ -65,7 +66,8 @@ impl<'a, R: Wait, N: Drop, T: Versions<Notice = N> + Loads, F: Feeds> Loading<'a
         ensures loads { T.Loads.loads self.now.shelves.now seat.new }
         ensures taken { orders.new.taken ≡ orders.old.taken }
         ensures carried { (answer : AnsweredValue N) × (orders.new.answered ≡ orders.old.answered ++ answer ∷ [])
-            × IsCarriedOut T.Versions.noted (F.are_files self.now.feeds.now) F.Files.holds (F.is_plan self.now.feeds.now)
+            × IsCarriedOut T.Versions.noted (F.are_files self.now.feeds.now) F.Files.holds
+            (F.is_plan self.now.feeds.now)
             (length (F.named self.now.feeds.now)) (mark_of order) answer (T.Loads.answers seat.old) (T.Loads.answers seat.new) }
     {
         let answer = self.load_place(order.feed, seat, errors);
@@ -81,7 +83,8 @@ impl<'a, R: Wait, N: Drop, T: Versions<Notice = N> + Loads, F: Feeds> Loading<'a
     ) -> LoadAnswer<N>
         requires { T.Loads.loads self.now.shelves.now seat.old }
         ensures loads { T.Loads.loads self.now.shelves.now seat.new }
-        ensures load { IsLoadOf T.Versions.noted (F.are_files self.now.feeds.now) F.Files.holds (F.is_plan self.now.feeds.now)
+        ensures load { IsLoadOf T.Versions.noted (F.are_files self.now.feeds.now) F.Files.holds
+            (F.is_plan self.now.feeds.now)
             (length (F.named self.now.feeds.now)) place result (T.Loads.answers seat.old) (T.Loads.answers seat.new) }
     {
         match (self.feeds.names().get(place), self.feeds.files(place)) {
@@ -110,7 +113,8 @@ impl<'a, R: Wait, N: Drop, T: Versions<Notice = N> + Loads, F: Feeds> Loading<'a
         requires failures { F.Files.failures files ≡ 0 }
         ensures loads { T.Loads.loads self.now.shelves.now seat.new }
         ensures outcome { (plan : Plan) × F.is_plan self.now.feeds.now plan
-            × IsOutcome T.Versions.noted (F.Files.holds files) plan (T.Loads.answers seat.old) result (T.Loads.answers seat.new) }
+            × IsOutcome T.Versions.noted (F.Files.holds files) plan (T.Loads.answers seat.old) result
+            (T.Loads.answers seat.new) }
     {
         match self.feeds.plan(self.alloc) {
             Ok(plan) => load_one(self.rt, self.alloc, &mut files, &plan, self.shelves, seat),
@@ -128,7 +132,8 @@ fn loaded_or_refusal<N>(
     }
 }
 
-// What whoever waits for a load is told of it: its version's notice, that there was no memory for one, or the refusal's number.
+// What whoever waits for a load is told of it: its version's notice, that there was no memory for
+// one, or the refusal's number.
 fn answer_of<N>(outcome: Result<(Loaded, Option<N>), LoadRefusal>) -> LoadAnswer<N>
     ensures { result ≡ load_answer outcome }
 {

@@ -23,7 +23,8 @@ pub trait Client {
     fn open(self) -> Result<(Self::Reader, Self::Writer), ConnFault>
         ensures { opens self result };
 
-    /// Called once its session has ended, with what was opened and how it ended. Nothing else hangs on what is done here.
+    /// Called once its session has ended, with what was opened and how it ended. Nothing else hangs
+    /// on what is done here.
     fn close(reader: Self::Reader, writer: Self::Writer, end: End);
 }
 

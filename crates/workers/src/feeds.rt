@@ -41,13 +41,14 @@ pub trait Feeds {
 
     /// The files of the feed at the place, of which no read has failed yet. None only where there is no such place.
     fn files(&self, place: usize) -> Option<Self::Files>
-        ensures { MatchOption result (length (named self.now) ≤ place) (λ files. (Self.Files.failures files ≡ 0) × are_files self.now place files) };
+        ensures { MatchOption result (length (named self.now) ≤ place) (λ files. (Self.Files.failures files ≡ 0)
+            × are_files self.now place files) };
 
     /// Called before the feed at the place is loaded.
     fn begin(&self, place: usize) -> Self::Begun;
 
-    /// Called when that load has ended, behind the loader's own line, with its writer. Nothing else hangs on what is done
-    /// here.
+    /// Called when that load has ended, behind the loader's own line, with its writer. Nothing else
+    /// hangs on what is done here.
     fn finish<E: Write>(
         &self,
         errors: &mut E,

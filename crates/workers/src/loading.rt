@@ -22,8 +22,8 @@ pub struct Loaded {
     pub report: Report,
 }
 
-/// Loads a feed and publishes its image as the next version, which is told with a notice of it, where there was memory for one; then
-/// shelves that nobody needs are freed.
+/// Loads a feed and publishes its image as the next version, which is told with a notice of it,
+/// where there was memory for one; then shelves that nobody needs are freed.
 pub fn load_one<R: Wait, F: FeedFiles, N, T: Versions<Notice = N> + Loads>(
     rt: &R,
     alloc: Global,
@@ -40,7 +40,8 @@ pub fn load_one<R: Wait, F: FeedFiles, N, T: Versions<Notice = N> + Loads>(
     ensures same { F.holds files.new ≡ F.holds files.old }
     ensures failures { F.failures files.new ≡ F.failures files.old + failed_in (reading result) }
     ensures failed { F.failed files.new ≡ failed_by (F.failed files.old) (reading result) }
-    ensures outcome { IsOutcome T.Versions.noted (F.holds files.old) plan.now (T.Loads.answers loader.old) result (T.Loads.answers loader.new) }
+    ensures outcome { IsOutcome T.Versions.noted (F.holds files.old) plan.now (T.Loads.answers loader.old) result
+        (T.Loads.answers loader.new) }
 {
     match shared_image(alloc, files, plan) {
         Ok((image, report)) => match publish_image(rt, shelves, loader, image) {

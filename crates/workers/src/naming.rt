@@ -18,7 +18,8 @@ use std::io::Write;
 use std::sync::Wait;
 use std::thread::Threads;
 
-/// `run_workers` at these shelves: their notices are of them by their type. The loader's seat comes back under their name.
+/// `run_workers` at these shelves: their notices are of them by their type. The loader's seat comes
+/// back under their name.
 pub fn run_shelves<
     B: Named + Send + Sync,
     C: Client + Drop + Send,

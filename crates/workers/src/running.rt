@@ -48,9 +48,10 @@ pub struct Ran<K, L, N: Drop> {
     pub loader: L,
 }
 
-/// Serves all clients, with a worker for each seat, and loads the feeds that they order. Profiles are replied in this form.
-/// What came of a load is written to the error writer, and goes to whoever waits for it. It returns when there are no more
-/// clients, all sessions have ended, and all orders were carried out.
+/// Serves all clients, with a worker for each seat, and loads the feeds that they order. Profiles
+/// are replied in this form. What came of a load is written to the error writer, and goes to
+/// whoever waits for it. It returns when there are no more clients, all sessions have ended, and
+/// all orders were carried out.
 pub fn run_workers<
     C: Client + Drop + Send,
     K: Clients<C> + Drop,
@@ -91,8 +92,10 @@ where
         thread::scope_env(),
         rt,
         move |scope| -> Result<Ran<K, T::Loader, T::Notice>, WorkersFault>
-            requires { IsSync R.row × IsSync T.row × IsSync F.row × IsSync G.row × IsSend T.Seat.row × IsSend T.Loader.row
-                × IsSend T.Notice.row × IsSend C.row × IsSend C.Reader.row × IsSend C.Writer.row × IsSend F.Files.row × IsSend E.row
+            requires { IsSync R.row × IsSync T.row × IsSync F.row × IsSync G.row × IsSend T.Seat.row
+                × IsSend T.Loader.row
+                × IsSend T.Notice.row × IsSend C.row × IsSend C.Reader.row × IsSend C.Writer.row
+                × IsSend F.Files.row × IsSend E.row
                 × All (T.Versions.fits shelves.now) seats.items × T.Loads.loads shelves.now loader
                 × (orders.taken ≡ []) × (orders.answered ≡ []) }
             ensures none_left { IfOk result (λ ran. K.none_left ran.clients) }
@@ -107,7 +110,8 @@ where
                 LoadsAt::<T, F>::of(&seat, feeds),
                 move || -> (LoaderOrders<T::Notice>, T::Loader)
                     requires { T.Loads.loads shelves.now seat × (orders.taken ≡ []) × (orders.answered ≡ []) }
-                    ensures { AllCarriedOut T.Versions.noted (F.are_files feeds.entry.now) F.Files.holds (F.is_plan feeds.entry.now)
+                    ensures { AllCarriedOut T.Versions.noted (F.are_files feeds.entry.now) F.Files.holds
+                        (F.is_plan feeds.entry.now)
                         (length (F.named feeds.entry.now)) result.0 (T.Loads.answers seat) (T.Loads.answers result.1) }
                 {
                     let loading = Loading {
@@ -130,7 +134,8 @@ where
                     ShareAt::<C, T>::of(&seat, form),
                     move || -> Share<C>
                         requires { T.Versions.fits shelves.now seat }
-                        ensures { (result.arrivals.over ≡ true) × IsShare form C.opens C.Reader.remaining C.Writer.contents
+                        ensures { (result.arrivals.over ≡ true)
+                            × IsShare form C.opens C.Reader.remaining C.Writer.contents
                             T.Versions.number T.Versions.value T.Versions.known seat result.arrivals.taken result.served }
                     {
                         let desk = Desk {

@@ -22,8 +22,9 @@ pub struct Worker<'a, R, T, G> {
 }
 
 impl<'a, R: Wait, N: Drop, T: Versions<Notice = N>, G: Gate> Worker<'a, R, T, G> {
-    /// Serves a client at this seat, and adds how its session ended. A client that can't be opened is a session that failed, and then
-    /// there is no reader and no writer to give back. How it ended is returned beside them.
+    /// Serves a client at this seat, and adds how its session ended. A client that can't be opened
+    /// is a session that failed, and then there is no reader and no writer to give back. How it
+    /// ended is returned beside them.
     pub fn serve_client<C: Client, O: Orders<Notice = N>>(
         &self,
         client: C,
@@ -39,7 +40,8 @@ impl<'a, R: Wait, N: Drop, T: Versions<Notice = N>, G: Gate> Worker<'a, R, T, G>
         ensures profiles { TellPublished (T.known seat.new) (T.value seat.old) (T.value seat.new) }
         ensures idle { (T.value seat.old).held ≡ None → (T.value seat.new).held ≡ None }
         ensures served { served.new ≡ served.old ++ result.1 ∷ [] }
-        ensures session { IsServed self.now.desk.form C.opens C.Reader.remaining C.Writer.contents (T.number seat.old) client
+        ensures session { IsServed self.now.desk.form C.opens C.Reader.remaining C.Writer.contents
+            (T.number seat.old) client
             result.0 result.1 (T.value seat.old) (O.asked orders.old) (T.value seat.new) (O.asked orders.new) }
     {
         match client.open() {
@@ -57,8 +59,8 @@ impl<'a, R: Wait, N: Drop, T: Versions<Notice = N>, G: Gate> Worker<'a, R, T, G>
         }
     }
 
-    /// Serves each client that comes, until no more do: how their sessions ended, in turn, with the queue at which they came,
-    /// the seat, and the orders.
+    /// Serves each client that comes, until no more do: how their sessions ended, in turn, with the
+    /// queue at which they came, the seat, and the orders.
     pub(crate) fn work<C: Client + Drop, O: Orders<Notice = N>>(
         &self,
         mut arrivals: Arrivals<C>,
@@ -70,7 +72,8 @@ impl<'a, R: Wait, N: Drop, T: Versions<Notice = N>, G: Gate> Worker<'a, R, T, G>
         requires none { arrivals.taken ≡ [] }
         ensures over { result.0.arrivals.over ≡ true }
         ensures learns { Learns (T.known seat) (T.value seat) (T.known result.1) (T.value result.1) }
-        ensures served { AreServed self.now.desk.form C.opens C.Reader.remaining C.Writer.contents T.number T.value T.known
+        ensures served { AreServed self.now.desk.form C.opens C.Reader.remaining C.Writer.contents T.number T.value
+            T.known
             result.0.arrivals.taken result.0.served seat (O.asked orders) result.1 (O.asked result.2) }
     {
         let mut served = Served::new();

@@ -21,8 +21,8 @@ pub(crate) struct Share<C> {
     pub arrivals: Arrivals<C>,
 }
 
-/// That a worker took clients until none came, and that its share is the ends of their sessions at its seat, from what the seat
-/// was when the worker began, with replies in this form.
+/// That a worker took clients until none came, and that its share is the ends of their sessions at
+/// its seat, from what the seat was when the worker began, with replies in this form.
 #[derive(Drop)]
 pub(crate) struct ShareAt<C, T: Versions> {
     pub seat: Snapshot<T::Seat>,
