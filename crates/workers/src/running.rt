@@ -105,14 +105,15 @@ where
                 AllCarriedOut T.Versions.noted (F.are_files feeds.entry.now) F.Files.holds (F.is_plan feeds.entry.now)
                 (length (F.named feeds.entry.now)) ran.orders (T.Loads.answers loader) (T.Loads.answers ran.loader)) }
         {
-            let seat = loader;
-            let Ok(loading) = scope.spawn_with(
-                LoadsAt::<T, F>::of(&seat, feeds),
+            let loader_seat = loader;
+            let promise = LoadsAt::<T, F>::of(&loader_seat, feeds);
+            let started = scope.spawn_with(
+                promise,
                 move || -> (LoaderOrders<T::Notice>, T::Loader)
-                    requires { T.Loads.loads shelves.now seat × (orders.taken ≡ []) × (orders.answered ≡ []) }
+                    requires { T.Loads.loads shelves.now loader_seat × (orders.taken ≡ []) × (orders.answered ≡ []) }
                     ensures { AllCarriedOut T.Versions.noted (F.are_files feeds.entry.now) F.Files.holds
-                        (F.is_plan feeds.entry.now)
-                        (length (F.named feeds.entry.now)) result.0 (T.Loads.answers seat) (T.Loads.answers result.1) }
+                        (F.is_plan feeds.entry.now) (length (F.named feeds.entry.now))
+                        result.0 (T.Loads.answers loader_seat) (T.Loads.answers result.1) }
                 {
                     let loading = Loading {
                         rt,
@@ -120,10 +121,11 @@ where
                         shelves,
                         feeds,
                     };
-                    let (orders, seat, _) = loading.load_all(orders, seat, errors);
-                    (orders, seat)
+                    let (orders, loader_seat, _) = loading.load_all(orders, loader_seat, errors);
+                    (orders, loader_seat)
                 },
-            ) else {
+            );
+            let Ok(loading) = started else {
                 return Err(WorkersFault);
             };
             let mut workers = Vec::new(alloc);
