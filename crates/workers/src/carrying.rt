@@ -46,10 +46,10 @@ impl<'a, R: Wait, N: Drop, T: Versions<Notice = N> + Loads, F: Feeds> Loading<'a
             result.0 (T.Loads.answers seat) (T.Loads.answers result.1) }
     {
         for _ in self.rt.forever() {
-            let Some(order) = orders.next(self.rt) else {
-                return (orders, seat, errors);
-            };
-            self.load_feed(order, &mut orders, &mut seat, &mut errors);
+            match orders.next(self.rt) {
+                Some(order) => self.load_feed(order, &mut orders, &mut seat, &mut errors),
+                None => return (orders, seat, errors),
+            }
         }
         unreachable!()
     }

@@ -78,14 +78,26 @@ impl<'a, R: Wait, N: Drop, T: Versions<Notice = N>, G: Gate> Worker<'a, R, T, G>
     {
         let mut served = Served::new();
         for _ in self.desk.rt.forever() {
-            let Some(client) = arrivals.next(self.desk.rt) else {
-                return (Share { served, arrivals }, seat, orders);
-            };
-            let (streams, end) = self.serve_client(client, &mut seat, &mut orders, &mut served);
-            if let Some(Streams { reader, writer }) = streams {
-                C::close(reader.into_inner(), writer.into_inner(), end);
+            match arrivals.next(self.desk.rt) {
+                Some(client) => {
+                    let (streams, end) = self.serve_client(
+                        client,
+                        &mut seat,
+                        &mut orders,
+                        &mut served,
+                    );
+                    close::<C>(streams, end);
+                }
+                None => return (Share { served, arrivals }, seat, orders),
             }
         }
         unreachable!()
+    }
+}
+
+// Gives a client's reader and writer back, if there are any.
+fn close<C: Client>(streams: Option<Streams<C::Reader, C::Writer>>, end: End) {
+    if let Some(Streams { reader, writer }) = streams {
+        C::close(reader.into_inner(), writer.into_inner(), end);
     }
 }

@@ -1,6 +1,6 @@
 use Rattle.std.proofs.Common.{length}
 use Rattle.load_orders.specs.Queue.{mark_of}
-use Rattle.workers.proofs.Carried.{carries_also, carries_nothing}
+use Rattle.workers.proofs.Carried.{all_carried, carries_also, carries_nothing}
 use Rattle.workers.proofs.carrying.Loading.load_all.Goals as goal
 
 -- nothing was taken yet
@@ -29,3 +29,14 @@ loop-preserved g c =
           (g.T.Loads.answers c.args.seat) (g.T.Loads.answers c.loop.seat) (g.T.Loads.answers c.load_feed.new.seat)
           c.loop.invariant.carried c.in-Some-next.ensures.taken c.in-Some-next.ensures.answered one.taken one.carried;
     }
+
+-- none came any more
+pub returns-in-None-next : goal.returns-in-None-next
+returns-in-None-next g c =
+    let feeds = c.args.self.now.feeds.now in
+    let last = c.in-None-next.ensures in
+    let carried = all_carried g.T.Versions.noted (g.F.Feeds.are_files feeds) g.F.Files.FeedFiles.holds (g.F.Feeds.is_plan feeds)
+    (length (g.F.Feeds.named feeds)) c.loop.orders c.next-in-loop.new.self
+    (g.T.Loads.answers c.args.seat) (g.T.Loads.answers c.loop.seat)
+    c.loop.invariant.carried last.taken last.answered last.over in
+    record { loads = c.loop.invariant.loads; carried = carried }
