@@ -144,3 +144,19 @@ module _ {V : Type 0} (rules : Rules V) (laws : Laws rules) (entries : List (Ent
               | inr c ↦ union.kept_second departure v a c
             ]);
       }
+
+  -- what is kept is put before the whole list
+  pub takes_put : (put : List (Item V)) → CoversAll rules (points_from entries items head) (points_from entries items after)
+      → IsUnion rules kept (points_from entries items after) put
+      → TakesBoardings rules steps departure first walk secs ridden (points_from entries items head) put
+  takes_put put whole union = record {
+    only = λ p h. elim (union.only p h) [ inl k ↦ inr (are.boarded p k) | inr a ↦ inl (are.late.only p a) ];
+    kept = λ d v a c. union.kept_second d v a (whole d v a c);
+    covered = λ r h.
+        let v = rules.walk secs r.value in
+        let a = laws.walk_admits secs r.value are.short (are.fair r h) in
+        elim (bettered r h) [
+          | inl k ↦ (let at = (are.boarded k.0 k.1).departs in union.kept_first departure v a (k.0, k.1, omega arith, k.2))
+          | inr c ↦ union.kept_second departure v a c
+        ];
+  }

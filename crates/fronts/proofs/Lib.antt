@@ -10,3 +10,4 @@ pub mod Walks
 pub mod Inserted
 pub mod Mapped
 pub mod Runs
+pub mod Ahead

@@ -2,7 +2,8 @@
 
 use crate::entry::{Arena, Boarding, Entry, Item, Ridden, Step};
 use crate::insertion::insert;
-use crate::search::late;
+use crate::putting::{place_of, put};
+use crate::search::{front_betters, late};
 use bags::Point;
 use criteria::Criterion;
 use std::alloc::{AllocError, Global};
@@ -22,9 +23,11 @@ pub struct FrontLists<C: Criterion> {
 }
 
 impl<C: Criterion> FrontLists<C> {
-    ghost use Rattle.std.specs.Prelude.{◌≡◌, [], ℕ, ◌<◌, ◌≤◌, Contains, IfOk, length, slice_get, Some};
+    ghost use Rattle.std.specs.Prelude.{◌≡◌, [], ◌∷◌, ℕ, ◌<◌, ◌≤◌, Contains, IfOk, IfSome, length};
+    ghost use Rattle.std.specs.Prelude.{slice_get, Some};
     ghost use Rattle.criteria.specs.Laws.{Admits, IsSecs};
-    ghost use Rattle.fronts.specs.Front.{Extends};
+    ghost use Rattle.fronts.specs.Front.{Extends, departure_of, points_from};
+    ghost use Rattle.fronts.specs.Walking.{TakesBoardings};
     ghost use Rattle.fronts.specs.Lists.{IsSound, lists_criterion, entries_of, items_of, steps_of, list_points};
     ghost use Rattle.fronts.specs.Lists.{front_at, IsBettered, TakesRidden};
 
@@ -135,21 +138,97 @@ impl<C: Criterion> FrontLists<C> {
         ensures takes { IfOk result (λ new. TakesRidden (C.rules (lists_criterion self.old)) (steps_of self.new)
             departure first walk secs ridden.now (list_points self.old head) (list_points self.new new)) }
     {
-        insert(
+        let boarding = Boarding {
+            departure,
+            first,
+            walk,
+            secs,
+        };
+        match self.lone_ahead(head, departure, ridden) {
+            Some(ride) => self.insert_ahead(head, boarding, ride),
+            None => insert(
+                &self.criterion,
+                &mut self.entries,
+                &mut self.items,
+                &mut self.steps,
+                &mut self.passed,
+                &mut self.kept,
+                head,
+                boarding,
+                ridden,
+            ),
+        }
+    }
+
+    // The value, where there is one alone and the first entry of a list departs no earlier. That is so at most
+    // insertions.
+    #[inline(always)]
+    fn lone_ahead(&self, head: u32, departure: u32, ridden: &[Ridden<C::V>]) -> Option<Ridden<C::V>>
+        requires { head < length (entries_of self.now) }
+        ensures { IfSome result (λ ride. (ridden.now ≡ ride ∷ [])
+            × (departure ≤ departure_of (entries_of self.now) head)) }
+    {
+        if ridden.len() != 1 {
+            return None;
+        }
+        if self.entries[head as usize].departure < departure {
+            return None;
+        }
+        Some(ridden[0])
+    }
+
+    // Takes one ridden value in before a list whose first entry departs no earlier: no entry is passed, and what is
+    // kept is this value or none.
+    #[inline(always)]
+    fn insert_ahead(
+        &mut self,
+        head: u32,
+        boarding: Boarding,
+        ride: Ridden<C::V>,
+    ) -> Result<u32, AllocError>
+        requires sound { IsSound C.rules self.old }
+        requires head { head < length (entries_of self.old) }
+        requires ahead { boarding.departure ≤ departure_of (entries_of self.old) head }
+        requires secs { IsSecs boarding.secs }
+        requires ride { Admits (C.rules (lists_criterion self.old)) ride.value }
+        ensures sound { IsSound C.rules self.new }
+        ensures criterion { lists_criterion self.new ≡ lists_criterion self.old }
+        ensures more_entries { Extends (entries_of self.old) (entries_of self.new) }
+        ensures more_items { Extends (items_of self.old) (items_of self.new) }
+        ensures more_steps { Extends (steps_of self.old) (steps_of self.new) }
+        ensures within { IfOk result (λ new. new < length (entries_of self.new)) }
+        ensures takes { IfOk result (λ new. TakesBoardings (C.rules (lists_criterion self.old)) (steps_of self.new)
+            boarding.departure boarding.first boarding.walk boarding.secs (ride ∷ [])
+            (points_from (entries_of self.old) (items_of self.old) head)
+            (points_from (entries_of self.new) (items_of self.new) new)) }
+    {
+        let value = self.criterion.walk(boarding.secs, &ride.value);
+        let arena = Arena {
+            entries: &self.entries,
+            items: &self.items,
+        };
+        if front_betters(&self.criterion, arena, head, &value) {
+            return Ok(head);
+        }
+        let tag = place_of(self.steps.len())?;
+        self.steps.push(Step {
+            first: boarding.first,
+            label: ride.label,
+            walk: boarding.walk,
+        })?;
+        self.kept.clear();
+        self.kept.push(Item {
+            departure: boarding.departure,
+            value,
+            tag,
+        })?;
+        put(
             &self.criterion,
             &mut self.entries,
             &mut self.items,
-            &mut self.steps,
-            &mut self.passed,
-            &mut self.kept,
+            &self.kept,
             head,
-            Boarding {
-                departure,
-                first,
-                walk,
-                secs,
-            },
-            ridden,
+            boarding.departure,
         )
     }
 }

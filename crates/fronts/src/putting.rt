@@ -119,6 +119,7 @@ fn follow<V: Copy>(entry: &Entry<V>, place: u32, departure: u32) -> u32
 }
 
 /// Puts points of one departure, and what they leave of a list's front, as a front before that list.
+#[inline(always)]
 pub fn put<C: Criterion>(
     criterion: &C,
     entries: &mut Vec<Entry<C::V>>,

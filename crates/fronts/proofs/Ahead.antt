@@ -1,0 +1,105 @@
+-- One value taken in before a list that begins no earlier.
+use Rattle.std.proofs.Common.{◌≡◌, ◌⊎◌, ℕ, zero, suc, ◌<◌, ◌≤◌, Bool, true, List, [], ◌∷◌, ◌++◌, length, get_or}
+use Rattle.std.proofs.Common.{Contains, inl, inr, refl, sym, ◌∙◌, ap, subst, arith}
+use Rattle.std.proofs.lemmas.List.Elements.{Contains-push, Contains-push_cases}
+use Rattle.reasoning.proofs.ListLemmas.{not_in_nil}
+use Rattle.criteria.specs.Laws.{Rules, Laws, Admits, IsSecs}
+use Rattle.fronts.specs.declared.entry.Item.{Item}
+use Rattle.fronts.specs.declared.entry.Entry.{Entry}
+use Rattle.fronts.specs.declared.entry.Ridden.{Ridden}
+use Rattle.fronts.specs.declared.entry.Step.{Step}
+use Rattle.fronts.specs.Front.{front, departure_of, points_from, Betters}
+use Rattle.fronts.specs.Entries.{AreEntries}
+use Rattle.fronts.specs.Putting.{betters, IsLate, MayPut, IsUnion}
+use Rattle.fronts.specs.Walking.{AllWalked, TakesBoardings}
+use Rattle.fronts.proofs.Walks.{boardings_none, boardings_more}
+use Rattle.fronts.proofs.OnePut.{betters_some}
+use Rattle.fronts.proofs.Inserted.{AreWalked, takes_none, takes_may, takes_put}
+
+-- a list of one element
+pub one_alone : {X : Type 0} (xs : List X) (x : X) → length xs ≡ 1 → x ≡ get_or xs 0 x → xs ≡ x ∷ []
+one_alone [] x long is = absurd (omega arith)
+one_alone (y ∷ []) x long is = ap (λ z. z ∷ []) (sym is)
+one_alone (y ∷ z ∷ zs) x long is = absurd (omega arith)
+
+-- a front that was read betters a value
+pub read_low : {V : Type 0} (rules : Rules V) (entries met : List (Entry V)) (items met_items : List (Item V)) (m : ℕ) (v w : V) (test : Bool)
+    → met ≡ entries → met_items ≡ items → v ≡ w → test ≡ betters rules (front met met_items m) v → test ≡ true
+    → Betters rules (front entries items m) w
+read_low rules entries met items met_items m v w test met_is items_are worth is low =
+    let read = betters_some rules (front met met_items m) v (sym is ∙ low) in
+    subst (λ es. Betters rules (front es items m) w) met_is (subst (λ ps. Betters rules (front met ps m) w) items_are
+    (subst (λ z. Betters rules (front met met_items m) z) worth read))
+
+module _ {V : Type 0} (rules : Rules V) (laws : Laws rules) (entries : List (Entry V)) (items : List (Item V))
+    (are : AreEntries rules entries items) (head departure first walk secs : ℕ) (ride : Ridden V)
+    (within : head < length entries) (ahead : departure ≤ departure_of entries head) (short : IsSecs secs)
+    (fair : Admits rules ride.value) where
+  -- the list itself is what departs then or later
+  late_here : IsLate entries items head departure head
+  late_here = record { within = within; late = ahead; only = λ p h. h; all = λ p h late. h }
+
+  fair_one : (r : Ridden V) → Contains (ride ∷ []) r → Admits rules r.value
+  fair_one r h = elim (Contains-push_cases [] ride r h) [
+    | inl n ↦ absurd (not_in_nil r n)
+    | inr e ↦ subst (λ (z : Ridden V). Admits rules z.value) e fair
+  ]
+
+  one_walked : (kept : List (Item V)) → Betters rules kept (rules.walk secs ride.value) ⊎ Betters rules (front entries items head) (rules.walk secs ride.value)
+      → AllWalked rules (front entries items head) secs (ride ∷ []) (length (ride ∷ [])) kept
+  one_walked kept low zero d lt = low
+  one_walked kept low (suc k) d lt = absurd (omega arith)
+
+  -- the value is bettered
+  pub ahead_none : (steps : List Step) → Betters rules (front entries items head) (rules.walk secs ride.value)
+      → TakesBoardings rules steps departure first walk secs (ride ∷ []) (points_from entries items head) (points_from entries items head)
+  ahead_none steps low =
+      let known : AreWalked rules entries items head departure first walk secs head (ride ∷ []) steps [] = record {
+        short = short;
+        fair = fair_one;
+        are = are;
+        late = late_here;
+        boarded = boardings_none rules departure first walk secs (ride ∷ []) steps [] refl;
+        all = one_walked [] (inr low);
+      } in
+      takes_none rules laws entries items head departure first walk secs head (ride ∷ []) steps [] known refl
+
+  module _ (steps new : List Step) (tag : ℕ) (v : V) (worth : v ≡ rules.walk secs ride.value)
+      (pushed : new ≡ steps ++ record { first = first; label = ride.label; walk = walk } ∷ []) (numbered : tag ≡ length steps) where
+    -- the value, with its step's place
+    value_kept : ℕ → List (Item V)
+    value_kept n = record { departure = departure; value = v; tag = n } ∷ []
+
+    known_at : AreWalked rules entries items head departure first walk secs head (ride ∷ []) new (value_kept (length steps))
+    unfolding value_kept
+    known_at =
+        let admitted = subst (Admits rules) (sym worth) (laws.walk_admits secs ride.value short fair) in
+        let m = boardings_more rules departure first walk secs (ride ∷ []) laws steps new [] (value_kept (length steps)) v ride
+        (boardings_none rules departure first walk secs (ride ∷ []) steps [] refl) admitted (Contains-push [] ride) worth
+        (record { steps_more = pushed; kept_more = refl }) in
+        record {
+          short = short;
+          fair = fair_one;
+          are = are;
+          late = late_here;
+          boarded = m.0;
+          all = one_walked (value_kept (length steps)) (inl (subst (Betters rules (value_kept (length steps))) worth m.2));
+        }
+
+    known_one : AreWalked rules entries items head departure first walk secs head (ride ∷ []) new
+        (record { departure = departure; value = v; tag = tag } ∷ [])
+    unfolding value_kept
+    known_one = subst (λ n. AreWalked rules entries items head departure first walk secs head (ride ∷ []) new (value_kept n))
+        (sym numbered) known_at
+
+    -- it may be put
+    pub ahead_may : MayPut rules entries departure head (record { departure = departure; value = v; tag = tag } ∷ [])
+    ahead_may = takes_may rules laws entries items head departure first walk secs head (ride ∷ []) new
+        (record { departure = departure; value = v; tag = tag } ∷ []) known_one (omega arith)
+
+    -- and is then taken in
+    pub ahead_one : (put : List (Item V))
+        → IsUnion rules (record { departure = departure; value = v; tag = tag } ∷ []) (points_from entries items head) put
+        → TakesBoardings rules new departure first walk secs (ride ∷ []) (points_from entries items head) put
+    ahead_one put union = takes_put rules laws entries items head departure first walk secs head (ride ∷ []) new
+        (record { departure = departure; value = v; tag = tag } ∷ []) known_one put (λ d w a c. c) union
