@@ -18,7 +18,7 @@ pub record IsLeftAlone (seat : ShelfSeatValue) (version : ℕ) (image : ImageVal
   pub shelf : ℕ
   pub stands : version_on l.shelves shelf ≡ Some version
   pub published : image_of l.known.images version ≡ Some image
-  pub slot : seat.slots ≡ 16 * shelf + seat.number ∷ []
+  pub slot : seat.slots ≡ (16 * shelf + seat.number) ∷ []
   pub out : get_elem? table.homes (16 * shelf + seat.number) ≡ some none
   pub not_loaders : l.hand ≢ Some shelf
   pub in_use : (v : ℕ) → slice_index table.words (shelf + 1) ≢ 512 + 65536 * v

@@ -49,7 +49,7 @@ pub record HoldsByView (a : ShelfSeatValue) (version : ℕ) (image : ImageValue)
   pub number : worker.number ≡ a.number
   pub now : worker.now ≡ Worker.Holding shelf version
   pub edition : (e : Edition) × (worker.edition ≡ Some e) × (e.version ≡ version) × (arc_value e.image ≡ image)
-  pub slot : a.slots ≡ 16 * shelf + a.number ∷ []
+  pub slot : a.slots ≡ (16 * shelf + a.number) ∷ []
 
 -- the seat shows what it knows: what it shows that it holds, its worker holds; else its worker is idle, and no slot is out with it
 abbrev pub ShowsWhatItKnows : ShelfSeatValue → Type 0
