@@ -69,7 +69,9 @@ impl ShelfSeat {
     /// holds, and the slot of that is out with the seat. It does nothing: its contract is the law.
     pub fn shows_what_it_knows(&self)
         ensures { ShowsWhatItKnows self.now }
-    {}
+    {
+        let _ = &self.number;
+    }
 
     /// The version that the seat holds, with its image.
     pub fn edition(&self) -> Option<&Edition>
