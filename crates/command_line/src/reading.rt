@@ -5,9 +5,9 @@ use crate::values::{clock, count, named_folder, number, port, zone};
 use clap::error::ErrorKind;
 use clap::{ArgMatches, Error};
 use command_requests::{
-    AnswerForm, BuildRequest, DeparturesForm, DeparturesRequest, JourneyRequest, NamedFolder,
-    PlanText, ProfileRequest, Question, Request, ServeRequest, StopsRequest, UpgradeRequest,
-    Workers, days_of,
+    AnswerForm, BuildRequest, DeparturesForm, DeparturesRequest, FirstDay, JourneyRequest,
+    NamedFolder, PlanText, ProfileRequest, Question, Request, ServeRequest, StopsRequest,
+    UpgradeRequest, Workers, days_of,
 };
 use criteria::CriterionName;
 use std::alloc::{AllocError, Global};
