@@ -18,6 +18,7 @@ use Rattle.timetable.specs.NamesValue.{NamesValue}
 use Rattle.image_layout.specs.Image.{ImageValue}
 use Rattle.profile_scan.specs.Destinations.{query_from}
 use Rattle.profile_scan.specs.Points.{IsAnswer}
+use Rattle.profile_scan.specs.Window.{window}
 use Rattle.profile_scan.specs.Everywhere.{AnswerAll, criterion_of_profiles, destination_of, listed_from, walk_from}
 use Rattle.profile_scan.specs.declared.destination.Destination.{Destination}
 use Rattle.profile_scan.specs.declared.profiles.Profiles.{Profiles}
@@ -29,7 +30,7 @@ use Rattle.journeys.specs.Extracted.{Attains}
 use Rattle.journeys.specs.declared.answering.Departure.{Departure}
 use Rattle.journeys.specs.Questions.{IsNamed, NamesNone}
 use Rattle.command_requests.specs.declared.requests.DeparturesForm.{DeparturesForm}
-use Rattle.csa_program.specs.DeparturesOf.{AddsStops, AreMarked, HasJourneys, IsInForm, IsShownFrom, ShowsStop, is_shown, is_wanted, one_if_some, shown_stops}
+use Rattle.csa_program.specs.DeparturesOf.{AddsStops, AreListed, AreMarked, AreShown, HasJourneys, IsInForm, IsShownFrom, ShowsStop, is_shown, is_wanted, last_line, one_if_some, shown_stops}
 use Rattle.csa_program.specs.declared.stop_lines.Counts.{Counts}
 use Rattle.csa_program.specs.declared.stop_lists.Wanted.{Wanted}
 
@@ -229,3 +230,24 @@ has_journeys {K} {V} rules_of t q old criterion departures said same attained ho
   attained = λ d has. subst (λ (k : K). Attains (rules_of k) t q (point_of d) d.journey) same (attained d has);
   holds = holds;
 }
+
+-- all stops, and then the counts
+pub all_shown : {K V : Type 0} {c : _} (rules_of : K → Rules V) (told : V → ToldValue) (form : DeparturesForm) (image : ImageValue)
+    (t : TimetableValue) (d kept : Destination) (wanted : Wanted) (criterion : K) (old mid now : List ℕ) (counts : Counts) (read : ℕ)
+    → t ≡ image.timetable → kept ≡ d → old ≡ []
+    → AddsStops told (rules_of criterion) form image kept wanted image.timetable.stops old mid counts
+    → read ≡ length (window t (query_from d d.target)) → now ≡ mid ++ last_line form counts.stops counts.points read
+    → AreShown told (rules_of criterion) form image d wanted now
+all_shown {K} {V} {c} rules_of told form image t d kept wanted criterion old mid now counts read same is_kept none adds read_is last =
+    let of_image : read ≡ length (window image.timetable (query_from d d.target)) =
+    read_is ∙ ap (λ (x : TimetableValue). length (window x (query_from d d.target))) same in
+    record {
+      stops = counts.stops;
+      points = counts.points;
+      text = adds.text;
+      listed = subst (λ (x : Destination). AreListed told (rules_of criterion) form image x wanted image.timetable.stops counts.stops counts.points adds.text)
+          is_kept adds.listed;
+      printed_is = last ∙ ap (λ (n : ℕ). mid ++ last_line form counts.stops counts.points n) of_image
+          ∙ ap (λ (z : List ℕ). z ++ last_line form counts.stops counts.points (length (window image.timetable (query_from d d.target))))
+          (adds.added ∙ ap (λ (z : List ℕ). z ++ adds.text) none);
+    }

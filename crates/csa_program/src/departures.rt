@@ -109,10 +109,7 @@ fn explain_list<H: Files + AllocGlobal, E: Write>(
             explain_line(rt.alloc(), path, line, errors);
             status::REFUSED
         }
-        ListFailure::Unreadable => {
-            status::tell_unread(rt, errors, path);
-            status::INPUT_OUTPUT
-        }
+        ListFailure::Unreadable => status::tell_unread(rt, errors, path),
         ListFailure::OutOfMemory => status::OUT_OF_MEMORY,
     }
 }
