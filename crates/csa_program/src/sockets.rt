@@ -135,7 +135,9 @@ impl<'a, H, E> Door<'a, H, E> {
     }
 
     // The client behind a connection.
-    fn visitor(&mut self, stream: TcpStream) -> Visitor<'a, H, E> {
+    fn visitor(&mut self, stream: TcpStream) -> Visitor<'a, H, E>
+        ensures number { result.number ≡ self.new.accepted }
+    {
         self.accepted = self.accepted.saturating_add(1);
         let log = match &self.log {
             Some(log) => Some(log.another()),
