@@ -1,5 +1,5 @@
 -- The lines that a server logs, behind the instant and ahead of the seconds.
-use Rattle.std.specs.Prelude.{List, ℕ, ◌++◌, Bool, true, false, codes, decimal}
+use Rattle.std.specs.Prelude.{List, ℕ, ◌++◌, ◌==◌, Bool, codes, decimal}
 use Rattle.workers.specs.declared.loading.Loaded.{Loaded}
 use Rattle.workers.specs.declared.served.End.{End}
 
@@ -22,5 +22,4 @@ loaded_text loaded =
 
 -- the end of a line
 abbrev pub is_line_end : ℕ → Bool
-is_line_end 10 = true
-is_line_end _ = false
+is_line_end byte = byte == 10

@@ -9,7 +9,6 @@ use epochs::PublishFault;
 use feed_loader::LoadFault;
 use std::alloc::{AllocError, Global};
 use std::convert::AsStr;
-use std::fmt;
 use std::fmt::Write as _;
 use std::fs::{self, File};
 use std::io::{ErrorKind, Write};
@@ -120,19 +119,6 @@ fn explain_unpublished<E: Write>(fault: PublishFault, errors: &mut E) {
         PublishFault::OutOfMemory => return,
     };
     explain(errors, &["csa: ", reason]);
-}
-
-/// Says what is wrong with the image at a path.
-pub fn explain_image<F: fmt::Display, E: Write>(
-    alloc: Global,
-    path: &str,
-    fault: &F,
-    errors: &mut E,
-) {
-    let name = if path == "-" { "standard input" } else { path };
-    if let Ok(reason) = format!(in alloc; "{fault}") {
-        explain(errors, &["csa: ", name, ": ", reason.as_str()]);
-    }
 }
 
 /// Explains the refusal of a feed: what is wrong with its folder, or where a fault of a table is.

@@ -88,32 +88,30 @@ pub fn explain_journey<E: Write>(
                 "csa: a journey is `ride FIRST LAST` and `walk FROM TO SECS`, with one space between words",
             ],
         ),
-        Err(Failure::Faulty(fault)) => explain_fault(alloc, fault, errors),
+        Err(Failure::Faulty(fault)) => explain_fault(fault, errors),
         _ => {}
     }
 }
 
-fn explain_fault<E: Write>(alloc: Global, fault: JourneyFault, errors: &mut E) {
+// It takes no memory.
+fn explain_fault<E: Write>(fault: JourneyFault, errors: &mut E) {
     let reason = reason_of(fault);
-    match place_of(alloc, fault) {
-        Some(place) => explain(errors, &["csa: ", place.as_str(), reason]),
-        None => explain(errors, &["csa: ", reason]),
-    }
-}
-
-/// Which leg or walk a fault is of, if it is of one.
-fn place_of(alloc: Global, fault: JourneyFault) -> Option<String> {
-    match fault {
+    let _ = match fault {
         JourneyFault::LegRange(leg)
         | JourneyFault::TwoTrips(leg)
         | JourneyFault::NoBoarding(leg)
         | JourneyFault::NoAlighting(leg)
-        | JourneyFault::TooEarly(leg) => format!(in alloc; "ride {leg}, counted from 0: ").ok(),
-        JourneyFault::NoFootpath(walk) | JourneyFault::WalkBroken(walk) => {
-            format!(in alloc; "walk {walk}, walk 0 being the one before the first ride: ").ok()
+        | JourneyFault::TooEarly(leg) => {
+            write!(errors, "csa: ride {leg}, counted from 0: {reason}\n")
         }
-        JourneyFault::WrongEnds | JourneyFault::OutsideWindow => None,
-    }
+        JourneyFault::NoFootpath(walk) | JourneyFault::WalkBroken(walk) => {
+            write!(
+                errors,
+                "csa: walk {walk}, walk 0 being the one before the first ride: {reason}\n"
+            )
+        }
+        JourneyFault::WrongEnds | JourneyFault::OutsideWindow => write!(errors, "csa: {reason}\n"),
+    };
 }
 
 fn reason_of(fault: JourneyFault) -> &'static str {

@@ -7,6 +7,7 @@ ghost use Rattle.std.specs.Prelude.{◌≡◌, ◌++◌, codes, OnOk, string_byt
 ghost use Rattle.csa_program.specs.Logging.{end_word, loaded_text, session_text};
 
 use crate::putting::{put_number, put_text, put_word};
+use arrayvec::ArrayVec;
 use clock_days::instant;
 use jiff::Timestamp;
 use std::alloc::{AllocError, Global};
@@ -16,6 +17,9 @@ use std::io::Write;
 use std::sync::{Mutex, Wait};
 use std::time::{Clock, Duration, Instant};
 use workers::{End, LoadRefusal, Loaded};
+
+/// How many bytes of a line are kept until it ends.
+const LONGEST_LINE: usize = 4096;
 
 /// When something began; nothing if the clock couldn't be read.
 #[derive(Clone, Copy, Drop)]
@@ -81,33 +85,34 @@ impl<'a, H: Wait + Clock, E: Write> SharedErrors<'a, H, E> {
     }
 }
 
-/// The loader's end of standard error: each of its lines is written whole.
+/// The loader's end of standard error: each of its lines is written whole, if it isn't longer than
+/// what is kept. It takes no memory.
 #[derive(Drop)]
 pub struct LoaderErrors<'a, H, E> {
     errors: SharedErrors<'a, H, E>,
     /// The line that has begun.
-    line: Vec<u8>,
+    line: ArrayVec<u8, LONGEST_LINE>,
 }
 
 impl<'a, H: Wait, E: Write> LoaderErrors<'a, H, E> {
     /// No line has begun yet.
     pub fn of(errors: SharedErrors<'a, H, E>) -> LoaderErrors<'a, H, E> {
         LoaderErrors {
-            line: Vec::new(errors.alloc),
             errors,
+            line: ArrayVec::new(),
         }
     }
 
     fn write_line(&mut self) {
-        self.errors.put(&self.line);
-        self.line.clear();
+        self.errors.put(self.line.as_slice());
+        self.line = ArrayVec::new();
     }
 }
 
-/// Where there is no memory to keep a line, its pieces are written as they come.
+/// The pieces of a line that is too long are written as they come.
 impl<'a, H: Wait, E: Write> Write for LoaderErrors<'a, H, E> {
     fn write(&mut self, piece: &[u8]) -> io::Result<usize> {
-        match self.line.extend_from_slice(piece) {
+        match self.line.try_extend_from_slice(piece) {
             Ok(()) => {
                 if piece.ends_with(b"\n") {
                     self.write_line();

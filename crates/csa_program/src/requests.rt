@@ -71,8 +71,5 @@ pub fn line_ends(bytes: &[u8]) -> u64
 fn is_end(byte: u8) -> bool
     ensures { result ≡ is_line_end byte }
 {
-    match byte {
-        b'\n' => true,
-        _ => false,
-    }
+    byte == b'\n'
 }

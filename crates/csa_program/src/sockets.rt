@@ -147,6 +147,7 @@ impl<'a, H, E> Door<'a, H, E> {
         ensures left { self.new.left ≡ self.old.left }
         ensures endless { self.new.is_endless ≡ self.old.is_endless }
         ensures failed { self.new.failed ≡ self.old.failed }
+        ensures number { result.number ≡ self.new.accepted }
     {
         self.accepted = self.accepted.saturating_add(1);
         let log = match &self.log {
