@@ -1,7 +1,7 @@
 //! `csa serve --image IMAGE --port P --workers W --sessions N [--legs] [--log] --first DAY --days N --zone ZONE
 //! [NAME=FOLDER]..`.
 
-ghost use Rattle.std.specs.Prelude.{◌≡◌, ◌≤◌, All, length, IfOk};
+ghost use Rattle.std.specs.Prelude.{◌≡◌, ◌≤◌, All, length, map, string_bytes, IfOk};
 ghost use Rattle.csa_program.specs.Serving.{counts_of, form_with};
 ghost use Rattle.feed_plans.specs.Planning.{IsPlanNow};
 
@@ -48,6 +48,7 @@ struct Folders<'a, H> {
     /// Whether each load is logged.
     is_logged: bool,
     ghost named: { length names.items ≡ length feeds.now },
+    ghost texts: { map string_bytes names.items ≡ map (λ feed. feed.name.now) feeds.now },
     ghost made: { IsPlanNow asked.now zone_bytes.items first },
 }
 
@@ -156,11 +157,12 @@ fn first_plan<'a, H: Files + AllocGlobal + Clock>(
 }
 
 fn names_of(alloc: Global, feeds: &[NamedFolder<'_>]) -> Result<Vec<String>, AllocError>
-    ensures { IfOk result (λ names. length names.items ≡ length feeds.now) }
+    ensures count { IfOk result (λ names. length names.items ≡ length feeds.now) }
+    ensures texts { IfOk result (λ names. map string_bytes names.items ≡ map (λ feed. feed.name.now) feeds.now) }
 {
     let mut names = Vec::with_capacity(alloc, feeds.len())?;
-    for place in 0..feeds.len() {
-        names.push(String::from_str(alloc, feeds[place].name)?)?;
+    for feed in feeds {
+        names.push(String::from_str(alloc, feed.name)?)?;
     }
     Ok(names)
 }

@@ -1,6 +1,6 @@
 //! Sessions over TCP.
 
-ghost use Rattle.std.specs.Prelude.{◌≡◌, ◌⊎◌, true, false, MatchOption, ⊤};
+ghost use Rattle.std.specs.Prelude.{◌≡◌, ◌⊎◌, ◌↔◌, ◌+◌, true, false, IfSome, IsTrue, MatchOption, ⊤};
 
 use crate::logging::{Begun, SharedErrors};
 use crate::requests::Requests;
@@ -99,7 +99,11 @@ impl<'a, H, E> Door<'a, H, E> {
         listener: &'a TcpListener,
         connections: u64,
         log: Option<SharedErrors<'a, H, E>>,
-    ) -> Door<'a, H, E> {
+    ) -> Door<'a, H, E>
+        ensures left { result.left ≡ connections }
+        ensures endless { IsTrue result.is_endless ↔ (connections ≡ 0) }
+        ensures whole { result.failed ≡ false }
+    {
         Door {
             listener,
             left: connections,
@@ -111,13 +115,17 @@ impl<'a, H, E> Door<'a, H, E> {
     }
 
     /// Whether accepting failed.
-    pub fn has_failed(&self) -> bool {
+    pub fn has_failed(&self) -> bool
+        ensures { result ≡ self.now.failed }
+    {
         self.failed
     }
 
     // Whoever is gone before it was accepted isn't counted.
     fn accept(&mut self) -> Option<TcpStream>
-        ensures { MatchOption result (self.new.failed ≡ true) (λ _. ⊤) }
+        ensures failed { MatchOption result (self.new.failed ≡ true) (λ _. self.new.failed ≡ self.old.failed) }
+        ensures left { self.new.left ≡ self.old.left }
+        ensures endless { self.new.is_endless ≡ self.old.is_endless }
     {
         for _ in 0..u64::MAX {
             match self.listener.accept() {
@@ -136,6 +144,9 @@ impl<'a, H, E> Door<'a, H, E> {
 
     // The client behind a connection.
     fn visitor(&mut self, stream: TcpStream) -> Visitor<'a, H, E>
+        ensures left { self.new.left ≡ self.old.left }
+        ensures endless { self.new.is_endless ≡ self.old.is_endless }
+        ensures failed { self.new.failed ≡ self.old.failed }
         ensures number { result.number ≡ self.new.accepted }
     {
         self.accepted = self.accepted.saturating_add(1);
@@ -155,7 +166,14 @@ impl<'a, H, E> Clients<Visitor<'a, H, E>> for Door<'a, H, E> {
     // Accepting failed, or as many as are wanted were accepted.
     ghost none_left = { λ door. (door.failed ≡ true) ⊎ ((door.is_endless ≡ false) × (door.left ≡ 0)) };
 
-    fn next(&mut self) -> Option<Visitor<'a, H, E>> {
+    /// The next connection. Without end none is counted off, and otherwise one.
+    fn next(&mut self) -> Option<Visitor<'a, H, E>>
+        ensures none { MatchOption result ((self.new.failed ≡ true)
+            ⊎ ((self.new.is_endless ≡ false) × (self.new.left ≡ 0))) (λ _. ⊤) }
+        ensures endless { self.new.is_endless ≡ self.old.is_endless }
+        ensures left { IfSome result (λ _. (self.old.is_endless ≡ true) ⊎ (self.new.left + 1 ≡ self.old.left)) }
+        ensures failed { IfSome result (λ _. self.new.failed ≡ self.old.failed) }
+    {
         if !self.is_endless {
             if self.left == 0 {
                 return None;
