@@ -8,6 +8,8 @@ use criteria::CriterionName;
 pub enum Request<'a> {
     /// To verify the image in a file, or in the standard input for `-`.
     Verify(&'a str),
+    /// To print what the image in a file has, or in the standard input for `-`.
+    Info(&'a str),
     /// To check a journey against an image.
     Journey(JourneyRequest<'a>),
     /// To answer a profile query over an image.

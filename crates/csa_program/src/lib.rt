@@ -6,6 +6,7 @@ mod bases;
 mod build;
 mod explaining;
 mod folders;
+mod info;
 mod journey;
 mod listing;
 mod machine;
@@ -72,6 +73,7 @@ fn run_command<
 >(rt: &H, words: &[S], input: &mut I, output: &mut O, errors: &mut E, is_terminal: bool) -> u8 {
     match read(rt.alloc(), words) {
         Ok(Request::Verify(image)) => answer(rt, Asked::Verify(image), input, output, errors),
+        Ok(Request::Info(image)) => answer(rt, Asked::Info(image), input, output, errors),
         Ok(Request::Journey(request)) => answer(rt, Asked::Journey(request), input, output, errors),
         Ok(Request::Profile(request)) => answer(rt, Asked::Profile(request), input, output, errors),
         Ok(Request::Stops(request)) => answer(rt, Asked::Stops(request), input, output, errors),

@@ -1,0 +1,3 @@
+mod Headers
+mod Joined
+mod Lines

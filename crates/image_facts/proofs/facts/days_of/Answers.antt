@@ -1,0 +1,10 @@
+use Rattle.std.proofs.Common.{List, ℕ, subst}
+use Rattle.std.specs.List.Sorted.{IsPermutation}
+use Rattle.std.proofs.lemmas.List.Sorted.{IsNonDecreasingBy-from_sort}
+use Rattle.image_facts.proofs.facts.days_of.Goals as goal
+
+pub returns : goal.returns
+returns c = record {
+  same = subst (λ (xs : List ℕ). IsPermutation xs c.sort_unstable.new.self.items) c.in_ok-unsorted_days.ensures c.sort_unstable.ensures.permutation;
+  rising = IsNonDecreasingBy-from_sort (λ (x : ℕ). x) c.sort_unstable.new.self.items c.sort_unstable.ensures.sorted;
+}

@@ -1,0 +1,8 @@
+//! What an image has, as text: a line `WORD VALUE` for each fact.
+#![tactic(auto)]
+
+mod days;
+mod facts;
+mod putting;
+
+pub use facts::facts_of;
