@@ -1,14 +1,24 @@
 //! How many trips each day has: the days are a list in order, with an entry for each trip.
 
-ghost use Rattle.std.specs.Prelude.{◌≡◌, ◌≤◌, ◌<◌, ◌+◌, ◌++◌, ◌∷◌, IfOk, OnOk, length, string_bytes};
-ghost use Rattle.image_facts.specs.Days.{day_line, days_text, is_last_of};
+ghost use Rattle.std.specs.Prelude.{◌≡◌, ◌≤◌, ◌<◌, ◌+◌, ◌++◌, ◌∷◌, List, ℕ, IfOk, OnOk, string_bytes};
+ghost use Rattle.std.specs.List.Sorted.{IsNonDecreasing};
+ghost use Rattle.image_facts.specs.Days.{HasDays, day_line};
+ghost use Rattle.image_facts.specs.Entries.{is_last_of, rest_text};
 
+use crate::putting::{put_number, put_text};
 use std::alloc::AllocError;
-use std::fmt::Write as _;
 
-/// Adds a line for each day of a list, with how many entries in a row it has: of a list in order each day has one line.
+/// Adds a line for each day of a list in order, the earliest first, with how many entries the day has.
 pub fn append_days(lines: &mut String, days: &[u32]) -> Result<(), AllocError>
-    ensures { OnOk result (string_bytes lines.new ≡ string_bytes lines.old ++ days_text 0 days.now) }
+    requires { IsNonDecreasing days.now }
+    ensures { OnOk result ((text : List ℕ) × HasDays days.now text × (string_bytes lines.new ≡ string_bytes lines.old ++ text)) }
+{
+    append_entries(lines, days)
+}
+
+// Adds a line for each day of a list, with how many entries in a row it has.
+fn append_entries(lines: &mut String, days: &[u32]) -> Result<(), AllocError>
+    ensures { OnOk result (string_bytes lines.new ≡ string_bytes lines.old ++ rest_text 0 days.now) }
 {
     let mut rest = days;
     let mut count = 0;
@@ -27,8 +37,8 @@ fn append_entry(
     more: &[u32],
 ) -> Result<usize, AllocError>
     requires { count < usize.MAX }
-    ensures lines { IfOk result (λ counted. string_bytes lines.new ++ days_text counted more.now
-        ≡ string_bytes lines.old ++ days_text count (day ∷ more.now)) }
+    ensures lines { IfOk result (λ counted. string_bytes lines.new ++ rest_text counted more.now
+        ≡ string_bytes lines.old ++ rest_text count (day ∷ more.now)) }
     ensures counted { IfOk result (λ counted. counted ≤ count + 1) }
 {
     if is_last(day, more) {
@@ -52,6 +62,8 @@ fn is_last(day: u32, more: &[u32]) -> bool
 fn append_day(lines: &mut String, count: usize, day: u32) -> Result<(), AllocError>
     ensures { OnOk result (string_bytes lines.new ≡ string_bytes lines.old ++ day_line count day) }
 {
-    write!(lines, "trips-{day} ")?;
-    write!(lines, "{count}\n")
+    put_number(lines, "trips-", u64::from(day))?;
+    put_number(lines, " ", count as u64)?;
+    put_text(lines, "\n")?;
+    Ok(())
 }

@@ -1,6 +1,7 @@
 //! What an image has, as text: a line `WORD VALUE` for each fact.
 #![tactic(auto)]
 
+mod base;
 mod days;
 mod facts;
 mod putting;

@@ -6,6 +6,6 @@ use Rattle.image_facts.proofs.facts.append_file.Goals as goal
 pub returns : goal.returns
 unfolding file_text
 returns c =
-    two (string_bytes c.args.lines.now) (string_bytes c.put_number.new.lines) (string_bytes c.put_number-2.new.lines) _ _
-    (c.in_ok-put_number.ensures ∙ ap (λ layout. string_bytes c.args.lines.now ++ number_line (codes "layout ") layout) c.header_of.ensures.layout)
-    (c.in_ok-put_number-2.ensures ∙ ap (λ size. string_bytes c.put_number.new.lines ++ number_line (codes "bytes ") size) c.byte_count.ensures)
+    two (string_bytes c.args.lines.now) (string_bytes c.put_line.new.lines) (string_bytes c.put_line-2.new.lines) _ _
+    (c.in_ok-put_line.ensures ∙ ap (λ layout. string_bytes c.args.lines.now ++ number_line (codes "layout ") layout) c.header_of.ensures.layout)
+    (c.in_ok-put_line-2.ensures ∙ ap (λ size. string_bytes c.put_line.new.lines ++ number_line (codes "bytes ") size) c.byte_count.ensures)
