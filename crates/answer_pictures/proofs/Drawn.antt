@@ -1,5 +1,6 @@
 -- Journeys drawn one after another.
-use Rattle.std.proofs.Common.{◌≡◌, codes, refl, ℕ, Bool, ◌+◌, ◌<◌, Option, List, [], ◌∷◌, ◌++◌, length, take, get_or, sym, ◌∙◌, ap, subst, append_assoc, append-nil}
+use Rattle.std.proofs.Common.{◌≡◌, codes, refl, ℕ, Bool, ◌+◌, ◌<◌, Option, List, [], ◌∷◌, ◌++◌, length, take, get_or}
+use Rattle.std.proofs.Common.{sym, ◌∙◌, ap, subst, append_assoc, append-nil}
 use Rattle.std.proofs.lemmas.List.{take_more}
 use Rattle.answer_pictures.specs.declared.axis.Axis.{Axis}
 use Rattle.answer_pictures.specs.LineValue.{HeadingValue, LineValue}

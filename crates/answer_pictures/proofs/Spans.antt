@@ -12,5 +12,7 @@ pub covers_more : (first last early late : ℕ) (lines : List LineValue) (i : �
     → early ≤ first → early ≤ line.departure → last ≤ late → line.arrival ≤ late
     → All (IsBetween first last) (take i lines) → All (IsBetween early late) (take (i + 1) lines)
 covers_more first last early late lines i line lt there a b d e before =
-    All-more (IsBetween early late) lines i line lt (λ k other small. widen first last early late (slice_index_or (take i lines) k other) a d (before k other small))
+    All-more (IsBetween early late) lines i line lt
+    (λ k other small. widen first last early late (slice_index_or (take i lines) k other) a d
+    (before k other small))
     (subst (IsBetween early late) there (b, e))

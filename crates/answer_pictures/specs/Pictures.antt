@@ -87,7 +87,8 @@ abbrev pub has_room : Axis → StretchValue → Bool
 has_room axis s = nat_le (length s.trip) ((length_between axis s.start s.end - 10) / 7)
 
 unfoldable pub trip_text : Axis → StretchValue → List ℕ
-trip_text axis s = codes "<text class=\"trip\" y=\"4\" dx=\"5\"" ++ attribute_text (codes " x") (place axis s.start) ++ (codes ">" ++ escaped s.trip ++ codes "</text>\n")
+trip_text axis s = codes "<text class=\"trip\" y=\"4\" dx=\"5\"" ++ attribute_text (codes " x") (place axis s.start)
+    ++ (codes ">" ++ escaped s.trip ++ codes "</text>\n")
 
 abbrev pub badge_text : Axis → StretchValue → List ℕ
 badge_text axis s = if has_room axis s then trip_text axis s else []
@@ -128,7 +129,8 @@ AreDrawn axis exact (line ∷ lines) text =
 unfoldable pub walk_row : Axis → ℕ → ℕ → List ℕ
 walk_row axis y secs =
     group_text y ++ codes "<text class=\"time\" x=\"16\" y=\"5\">direct walk</text>\n<path class=\"walk\" d=\"M190 0h"
-    ++ decimal (length_between axis axis.start (later axis.start secs)) ++ codes "\"/>\n<text class=\"note\" x=\"190\" y=\"22\">on foot all the way, at any time: "
+    ++ decimal (length_between axis axis.start (later axis.start secs))
+    ++ codes "\"/>\n<text class=\"note\" x=\"190\" y=\"22\">on foot all the way, at any time: "
     ++ (decimal secs ++ codes " s</text>\n</g>\n")
 
 abbrev pub walk_text : Axis → ℕ → Option ℕ → List ℕ
@@ -148,7 +150,8 @@ remark_text y shown left =
 -- the beginning of a picture: its size, its title and how it looks
 unfoldable pub size_text : ℕ → List ℕ
 size_text height =
-    codes "<svg xmlns=\"http://www.w3.org/2000/svg\" viewBox=\"0 0 960 " ++ decimal height ++ codes "\" width=\"960\"" ++ attribute_text (codes " height") height
+    codes "<svg xmlns=\"http://www.w3.org/2000/svg\" viewBox=\"0 0 960 " ++ decimal height ++ codes "\" width=\"960\""
+    ++ attribute_text (codes " height") height
 
 unfoldable pub title_text : HeadingValue → List ℕ
 title_text h =

@@ -46,7 +46,8 @@ impl Axis {
         Axis { start, end, step }
     }
 
-    /// An axis on which each journey lies from its departure to its arrival; if there is none, one that covers two times.
+    /// An axis on which each journey lies from its departure to its arrival; if there is none, one
+    /// that covers two times.
     pub fn of_lines(lines: &[JourneyLine], from: u32, until: u32) -> Axis
         ensures { All (LiesOn result) lines.now }
     {

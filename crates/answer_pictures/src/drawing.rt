@@ -2,7 +2,9 @@
 
 ghost use Rattle.std.specs.Prelude.{◌≡◌, ◌++◌, ℕ, List, Bool, codes, decimal, IfOk, OnOk, length, string_bytes};
 ghost use Rattle.std.specs.List.{flat_map};
-ghost use Rattle.answer_pictures.specs.Pictures.{AreDrawn, IsPicture, axis_text, grid_text, heading_text, remark_text, remark_words, scale_text, shown_title, size_text, tick_text, title_text, walk_row, walk_text};
+ghost use Rattle.answer_pictures.specs.Pictures.{AreDrawn, IsPicture, axis_text, grid_text, heading_text};
+ghost use Rattle.answer_pictures.specs.Pictures.{remark_text, remark_words, scale_text, shown_title, size_text};
+ghost use Rattle.answer_pictures.specs.Pictures.{tick_text, title_text, walk_row, walk_text};
 ghost use Rattle.answer_pictures.specs.Style.{style};
 
 use crate::axis::Axis;
@@ -25,9 +27,9 @@ const LINES_A_SCALE: usize = 30;
 
 const SCALE_HEIGHT: u64 = 32;
 
-/// The picture of journeys along an axis, as the text of an SVG file: the title, the times at the marks of the axis, a line for the direct
-/// walk of so many seconds if there is one, a group for each journey in order, and how many more there are. The only error is that memory
-/// runs out.
+/// The picture of journeys along an axis, as the text of an SVG file: the title, the times at the
+/// marks of the axis, a line for the direct walk of so many seconds if there is one, a group for
+/// each journey in order, and how many more there are. The only error is that memory runs out.
 pub fn picture(
     alloc: Global,
     heading: &Heading,
@@ -75,7 +77,8 @@ fn height_of(first: u64, index: usize) -> u64 {
         .saturating_add(first)
 }
 
-/// Where the times of the axis are: above the first of so many lines, above each thirtieth behind it, and below the last.
+/// Where the times of the axis are: above the first of so many lines, above each thirtieth behind
+/// it, and below the last.
 fn scale_heights(alloc: Global, first: u64, lines: usize) -> Result<Vec<u64>, AllocError> {
     let mut heights = Vec::new(alloc);
     heights.push(FIRST_SCALE)?;
@@ -175,7 +178,8 @@ fn put_beginning(
     shown: usize,
     left: usize,
 ) -> Result<(), AllocError>
-    ensures { OnOk result (string_bytes out.new ≡ string_bytes out.old ++ (size_text height ++ heading_text heading.now shown left)) }
+    ensures { OnOk result (string_bytes out.new ≡ string_bytes out.old
+        ++ (size_text height ++ heading_text heading.now shown left)) }
 {
     put_size(out, height)?;
     put_heading(out, heading, shown, left)?;
@@ -240,7 +244,8 @@ fn put_scales(
     marks: &[u32],
     heights: &[u64],
 ) -> Result<(), AllocError>
-    ensures { OnOk result (string_bytes out.new ≡ string_bytes out.old ++ flat_map (scale_text axis marks.now) heights.now) }
+    ensures { OnOk result (string_bytes out.new ≡ string_bytes out.old
+        ++ flat_map (scale_text axis marks.now) heights.now) }
 {
     for y in heights {
         put_scale(out, axis, marks, *y)?;
@@ -306,7 +311,8 @@ fn put_lines(
     first: u64,
     lines: &[JourneyLine],
 ) -> Result<(), AllocError>
-    ensures { OnOk result ((drawn : List ℕ) × AreDrawn axis exact lines.now drawn × (string_bytes out.new ≡ string_bytes out.old ++ drawn)) }
+    ensures { OnOk result ((drawn : List ℕ) × AreDrawn axis exact lines.now drawn
+        × (string_bytes out.new ≡ string_bytes out.old ++ drawn)) }
 {
     let mut index = 0;
     for line in lines {

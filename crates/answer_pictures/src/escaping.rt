@@ -12,7 +12,8 @@ fn is_xml(letter: char) -> bool
     letter >= ' ' && letter != '\u{FFFE}' && letter != '\u{FFFF}'
 }
 
-/// Adds a character so that XML tells it: by its name where it would be markup, and as a replacement where XML has none.
+/// Adds a character so that XML tells it: by its name where it would be markup, and as a
+/// replacement where XML has none.
 fn put_letter(out: &mut String, letter: char) -> Result<(), AllocError>
     ensures { OnOk result (string_bytes out.new ≡ string_bytes out.old ++ escaped_letter letter) }
 {

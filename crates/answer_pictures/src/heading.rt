@@ -20,7 +20,8 @@ const DAY: i64 = 86400;
 
 const MOST_AHEAD: i64 = 46800;
 
-/// Both ends of a query's journeys by their names, and what it asks: the date from which times count, the window, and what is best.
+/// Both ends of a query's journeys by their names, and what it asks: the date from which times
+/// count, the window, and what is best.
 pub fn heading_of(
     alloc: Global,
     image: &Verified,

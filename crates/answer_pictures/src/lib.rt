@@ -1,4 +1,5 @@
-//! Pictures of answers as SVG: a line for each journey along an axis of time, rides and walks drawn apart, readable in light and dark.
+//! Pictures of answers as SVG: a line for each journey along an axis of time, rides and walks drawn
+//! apart, readable in light and dark.
 #![tactic(auto)]
 
 mod axis;

@@ -12,7 +12,8 @@ pub enum Way {
     Change,
 }
 
-/// A part of a journey: how one gets on, from when to when in seconds after the base, from where to where, and for a ride by which trip.
+/// A part of a journey: how one gets on, from when to when in seconds after the base, from where to
+/// where, and for a ride by which trip.
 #[derive(Drop)]
 pub struct Stretch {
     pub way: Way,
@@ -62,7 +63,13 @@ impl Model for JourneyLine {
 
     ghost Value = { LineValue };
 
-    ghost view = { λ l. record { departure = l.departure; arrival = l.arrival; stretches = l.stretches.items; note = string_bytes l.note } };
+    ghost view = { λ l. record {
+      departure = l.departure;
+      arrival = l.arrival;
+      stretches = l.stretches.items;
+      note =
+          string_bytes l.note;
+    } };
 }
 
 impl Model for Heading {

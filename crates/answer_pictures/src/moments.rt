@@ -2,7 +2,8 @@
 
 ghost use Rattle.std.specs.Prelude.{◌≡◌, ◌++◌, OnOk, string_bytes};
 ghost use Rattle.std.specs.List.{list_all};
-ghost use Rattle.answer_pictures.specs.Moments.{days_text, is_line_whole, is_part_whole, is_whole, minute_text, moment_text, seconds_text, shows_seconds};
+ghost use Rattle.answer_pictures.specs.Moments.{days_text, is_line_whole, is_part_whole, is_whole, minute_text};
+ghost use Rattle.answer_pictures.specs.Moments.{moment_text, seconds_text, shows_seconds};
 
 use crate::lines::{JourneyLine, Stretch};
 use crate::putting::put_text;

@@ -2,7 +2,9 @@
 
 ghost use Rattle.std.specs.Prelude.{◌≡◌, ◌++◌, Bool, codes, decimal, OnOk, string_bytes};
 ghost use Rattle.std.specs.List.{flat_map};
-ghost use Rattle.answer_pictures.specs.Pictures.{badge_text, between_text, end_at, end_text, group_text, has_room, label_text, lead_text, line_text, note_text, shape_text, stretch_text, told_text, trip_text, wait_text, way_text};
+ghost use Rattle.answer_pictures.specs.Pictures.{badge_text, between_text, end_at, end_text, group_text, has_room};
+ghost use Rattle.answer_pictures.specs.Pictures.{label_text, lead_text, line_text, note_text, shape_text};
+ghost use Rattle.answer_pictures.specs.Pictures.{stretch_text, told_text, trip_text, wait_text, way_text};
 
 use crate::axis::Axis;
 use crate::escaping::{put_cut, put_words};
@@ -153,7 +155,8 @@ fn put_stretches(
     exact: bool,
     stretches: &[Stretch],
 ) -> Result<(), AllocError>
-    ensures { OnOk result (string_bytes out.new ≡ string_bytes out.old ++ flat_map (stretch_text axis exact) stretches.now) }
+    ensures { OnOk result (string_bytes out.new ≡ string_bytes out.old
+        ++ flat_map (stretch_text axis exact) stretches.now) }
 {
     for stretch in stretches {
         put_stretch(out, axis, exact, stretch)?;
@@ -191,7 +194,8 @@ fn put_parts(
     exact: bool,
     line: &JourneyLine,
 ) -> Result<(), AllocError>
-    ensures { OnOk result (string_bytes out.new ≡ string_bytes out.old ++ flat_map (stretch_text axis exact) line.now.stretches) }
+    ensures { OnOk result (string_bytes out.new ≡ string_bytes out.old
+        ++ flat_map (stretch_text axis exact) line.now.stretches) }
 {
     put_stretches(out, axis, exact, &line.stretches)
 }

@@ -31,7 +31,8 @@ pub(crate) fn put_numbers(
     second: u64,
     closing: &str,
 ) -> Result<(), AllocError>
-    ensures { OnOk result (string_bytes out.new ≡ string_bytes out.old ++ (opening.now ++ decimal first ++ between.now ++ decimal second ++ closing.now)) }
+    ensures { OnOk result (string_bytes out.new ≡ string_bytes out.old
+        ++ (opening.now ++ decimal first ++ between.now ++ decimal second ++ closing.now)) }
 {
     put_text(out, opening)?;
     put_number(out, first)?;
@@ -58,7 +59,8 @@ pub(crate) fn put_element(
     words: &str,
     closing: &str,
 ) -> Result<(), AllocError>
-    ensures { OnOk result (string_bytes out.new ≡ string_bytes out.old ++ (opening.now ++ escaped words.now ++ closing.now)) }
+    ensures { OnOk result (string_bytes out.new ≡ string_bytes out.old
+        ++ (opening.now ++ escaped words.now ++ closing.now)) }
 {
     put_text(out, opening)?;
     put_words(out, words)?;
@@ -73,7 +75,8 @@ pub(crate) fn put_short(
     most: usize,
     closing: &str,
 ) -> Result<(), AllocError>
-    ensures { OnOk result (string_bytes out.new ≡ string_bytes out.old ++ (opening.now ++ escaped_cut most words.now ++ closing.now)) }
+    ensures { OnOk result (string_bytes out.new ≡ string_bytes out.old
+        ++ (opening.now ++ escaped_cut most words.now ++ closing.now)) }
 {
     put_text(out, opening)?;
     put_cut(out, words, most)?;

@@ -1,7 +1,8 @@
 //! Journeys over an image as lines of a picture.
 
 ghost use Rattle.std.specs.Prelude.{◌≡◌, ◌++◌, ◌∷◌, [], map, IfOk, OnOk};
-ghost use Rattle.answer_pictures.specs.Told.{IsLineOf, journey_parts, later, ride_part, ride_parts, walk_part, walk_parts, way_on_foot};
+ghost use Rattle.answer_pictures.specs.Told.{IsLineOf, journey_parts, later, ride_part, ride_parts, walk_part};
+ghost use Rattle.answer_pictures.specs.Told.{walk_parts, way_on_foot};
 
 use crate::lines::{JourneyLine, Stretch, Way};
 use crate::naming::{connection_at, stop_name, trip_name};
@@ -11,8 +12,8 @@ use std::alloc::{AllocError, Global};
 use std::fmt::Write as _;
 use timetable::{Connection, Footpath, Journey, Ride};
 
-/// A journey over an image that departs at a time, as a line of a picture: when it departs and arrives, its rides and walks, and below them
-/// its trips and where each is left.
+/// A journey over an image that departs at a time, as a line of a picture: when it departs and
+/// arrives, its rides and walks, and below them its trips and where each is left.
 pub fn journey_line(
     alloc: Global,
     image: &Verified,
@@ -32,7 +33,8 @@ pub fn journey_line(
     })
 }
 
-/// What one does: how many trips and how much on foot where that counts, each trip with where it is left, and each walk to another stop.
+/// What one does: how many trips and how much on foot where that counts, each trip with where it is
+/// left, and each walk to another stop.
 fn note_of(
     alloc: Global,
     image: &Verified,
@@ -118,7 +120,8 @@ fn stretches_of(
     departure: u32,
     journey: &Journey,
 ) -> Result<Vec<Stretch>, AllocError>
-    ensures { IfOk result (λ stretches. stretches.items ≡ journey_parts image.now.timetable image.now.names departure journey.now) }
+    ensures { IfOk result (λ stretches. stretches.items
+        ≡ journey_parts image.now.timetable image.now.names departure journey.now) }
 {
     let mut stretches = Vec::new(alloc);
     if let Some(footpath) = journey.start {
@@ -137,7 +140,8 @@ fn add_ride(
     image: &Verified,
     ride: &Ride,
 ) -> Result<(), AllocError>
-    ensures { OnOk result (stretches.new.items ≡ stretches.old.items ++ ride_parts image.now.timetable image.now.names ride.now) }
+    ensures { OnOk result (stretches.new.items ≡ stretches.old.items
+        ++ ride_parts image.now.timetable image.now.names ride.now) }
 {
     let (Some(first), Some(last)) = (
         connection_at(image, ride.leg.first),
@@ -196,7 +200,8 @@ fn add_walk(
     time: u32,
     footpath: Footpath,
 ) -> Result<u32, AllocError>
-    ensures stretches { OnOk result (stretches.new.items ≡ stretches.old.items ++ walk_part image.now.names time footpath ∷ []) }
+    ensures stretches { OnOk result (stretches.new.items ≡ stretches.old.items
+        ++ walk_part image.now.names time footpath ∷ []) }
     ensures end { IfOk result (λ end. end ≡ later time footpath.secs) }
 {
     let walked = walk_stretch(alloc, image, time, footpath)?;

@@ -1,4 +1,5 @@
-//! A bag: points under a criterion, none of which dominates another, with what is asked of it and how a point is taken in.
+//! A bag: points under a criterion, none of which dominates another, with what is asked of it and
+//! how a point is taken in.
 
 ghost use Rattle.std.specs.Prelude.{length};
 ghost use Rattle.bags.specs.Dominance.{IsBag};
@@ -64,10 +65,18 @@ impl<C: Criterion> Bag<C> {
     pub fn insert(&mut self, departure: u32, value: C::V, tag: usize) -> Result<bool, AllocError>
         requires { Admits (C.rules (criterion_of self.old)) value }
         ensures criterion { criterion_of self.new ≡ criterion_of self.old }
-        ensures stands { IfOk result (Stands (C.rules (criterion_of self.old)) (points_of self.old) (record { departure = departure; value = value; tag = tag })) }
-        ensures inserted { IfOk result (λ stands. Inserted (C.rules (criterion_of self.old)) (points_of self.old) (record { departure = departure; value = value; tag = tag }) stands (points_of self.new)) }
+        ensures stands { IfOk result (Stands (C.rules (criterion_of self.old)) (points_of self.old)
+            (record { departure = departure; value = value; tag = tag })) }
+        ensures inserted { IfOk result (λ stands.
+            Inserted (C.rules (criterion_of self.old)) (points_of self.old) (record {
+              departure = departure;
+              value =
+                  value;
+              tag = tag;
+            }) stands (points_of self.new)) }
         ensures err { OnErr result (points_of self.new ≡ points_of self.old) }
-        ensures err_stands { OnErr result (Stands (C.rules (criterion_of self.old)) (points_of self.old) (record { departure = departure; value = value; tag = tag }) true) }
+        ensures err_stands { OnErr result (Stands (C.rules (criterion_of self.old)) (points_of self.old)
+            (record { departure = departure; value = value; tag = tag }) true) }
     {
         let point = Point {
             departure,
@@ -77,12 +86,14 @@ impl<C: Criterion> Bag<C> {
         insert_point(&self.criterion, &mut self.entries, point)
     }
 
-    // Whether the point at a place is a best one from a time on, `late` points departing then or later: none behind it has a value no
-    // worse.
+    // Whether the point at a place is a best one from a time on, `late` points departing then or
+    // later: none behind it has a value no worse.
     pub(crate) fn is_best_before(&self, place: usize, late: usize) -> bool
         requires place { place < late }
         requires late { late ≤ length (points_of self.now) }
-        ensures { (time : ℕ) → AreLate (points_of self.now) time late → (p : _) → slice_get (points_of self.now) place ≡ Some p → result ≡ is_best (C.rules (criterion_of self.now)) (points_of self.now) time p }
+        ensures { (time : ℕ) → AreLate (points_of self.now) time late → (p : _)
+            → slice_get (points_of self.now) place ≡ Some p
+            → result ≡ is_best (C.rules (criterion_of self.now)) (points_of self.now) time p }
     {
         let value = self.entries[place].point.value;
         !some_no_worse(&self.criterion, &self.entries, place + 1, late, &value)
@@ -95,11 +106,14 @@ impl<C: Criterion> Bag<C> {
         count_late(&self.entries, time)
     }
 
-    // A place from which on no point before the one at a place is a best one, from any time on at which that one hasn't departed.
+    // A place from which on no point before the one at a place is a best one, from any time on at
+    // which that one hasn't departed.
     pub(crate) fn skip(&self, place: usize) -> usize
         requires place { place < length (points_of self.now) }
         ensures back { result ≤ place }
-        ensures passed { (time late : ℕ) → place < late → AreLate (points_of self.now) time late → (k : ℕ) (p : _) → result ≤ k → k < place → slice_get (points_of self.now) k ≡ Some p → is_best (C.rules (criterion_of self.now)) (points_of self.now) time p ≡ false }
+        ensures passed { (time late : ℕ) → place < late → AreLate (points_of self.now) time late → (k : ℕ) (p : _)
+            → result ≤ k → k < place → slice_get (points_of self.now) k ≡ Some p
+            → is_best (C.rules (criterion_of self.now)) (points_of self.now) time p ≡ false }
     {
         self.entries[place].skip
     }

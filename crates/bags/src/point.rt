@@ -14,8 +14,9 @@ pub struct Point<V> {
     pub tag: usize,
 }
 
-/// Whether a point comes before another: its time does, or their times are equal and the criterion lists its value first. The times are
-/// told apart from the points, since some lists begin with the first departure and some with the last.
+/// Whether a point comes before another: its time does, or their times are equal and the criterion
+/// lists its value first. The times are told apart from the points, since some lists begin with the
+/// first departure and some with the last.
 pub fn comes_first<C: Criterion>(
     criterion: &C,
     time: u32,
@@ -25,7 +26,8 @@ pub fn comes_first<C: Criterion>(
 ) -> bool
     requires point { Admits (C.rules criterion.now) point.now.value }
     requires other { Admits (C.rules criterion.now) other.now.value }
-    ensures { result ≡ (nat_lt time other_time || (time == other_time && is_lt ((C.rules criterion.now).list_order point.now.value other.now.value))) }
+    ensures { result ≡ (nat_lt time other_time ||
+        (time == other_time && is_lt ((C.rules criterion.now).list_order point.now.value other.now.value))) }
 {
     time < other_time
         || (time == other_time && criterion.list_order(&point.value, &other.value).is_lt())

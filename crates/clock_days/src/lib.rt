@@ -5,7 +5,8 @@
 ghost use Rattle.std.specs.Prelude.{◌≡◌, ◌≤ℤ◌, IfOk, IfErr, pos, ℤ};
 ghost use Rattle.jiff.specs.Types.{DateTime};
 ghost use Rattle.jiff.specs.Words.{offset_at, plain_zone};
-ghost use Rattle.clock_days.specs.Shown.{HasNoDay, HasNoDayBefore, IsDayAt, IsDayBefore, IsDayOf, IsShownAt, offset_in, IsOutside};
+ghost use Rattle.clock_days.specs.Shown.{HasNoDay, HasNoDayBefore, IsDayAt, IsDayBefore, IsDayOf, IsShownAt};
+ghost use Rattle.clock_days.specs.Shown.{offset_in, IsOutside};
 
 use gtfs_rows::Day;
 use jiff::Timestamp;
@@ -14,8 +15,8 @@ use jiff::tz::TimeZone;
 use service_days::{DayFault, Zone};
 use std::time::{Clock, SystemTime};
 
-/// The instant that a clock shows, in seconds after 1970-01-01T00:00:00Z, without the part of a second. None if it can't
-/// be read, or shows an earlier one.
+/// The instant that a clock shows, in seconds after 1970-01-01T00:00:00Z, without the part of a
+/// second. None if it can't be read, or shows an earlier one.
 pub fn instant<C: Clock>(clock: &C) -> Option<i64> {
     let now = SystemTime::now(clock).ok()?;
     let since = now.duration_since(SystemTime::UNIX_EPOCH).ok()?;

@@ -1,4 +1,5 @@
-//! What a command line asks for: each command with its arguments, whose numbers lie within their limits. And what commands end with.
+//! What a command line asks for: each command with its arguments, whose numbers lie within their
+//! limits. And what commands end with.
 #![tactic(auto)]
 
 mod ends;

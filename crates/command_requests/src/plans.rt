@@ -105,7 +105,8 @@ impl FirstDay {
 
 // A civil date.
 fn date_of(word: &str) -> Option<FirstDay>
-    ensures { MatchOption result (day_of word.now ≡ None) (λ first. (day : Day) × (first ≡ FirstDay.On day) × (day_of word.now ≡ Some day)) }
+    ensures { MatchOption result (day_of word.now ≡ None) (λ first. (day : Day) × (first ≡ FirstDay.On day)
+        × (day_of word.now ≡ Some day)) }
 {
     match Day::parse(word.as_bytes()) {
         Ok(day) => Some(FirstDay::On(day)),

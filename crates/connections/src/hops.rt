@@ -1,7 +1,9 @@
 //! The connections of one run: a row to the next at which it stops, in seconds from the zero of the timetable.
 
-ghost use Rattle.std.specs.Prelude.{◌≡◌, ◌≤◌, ◌<◌, ◌+◌, ◌-◌, ◌^◌, pos, ◌+ℤ◌, ◌≤ℤ◌, length, OnOk, MatchOption, MatchBool, All, IsSome};
-ghost use Rattle.connections.specs.Hops.{AddsHops, HaveClocks, IsClock, IsHop, IsInside, IsOutside, LackClocks, LiesOutside, zero_of};
+ghost use Rattle.std.specs.Prelude.{◌≡◌, ◌≤◌, ◌<◌, ◌+◌, ◌-◌, ◌^◌, pos, ◌+ℤ◌, ◌≤ℤ◌, length, OnOk, MatchOption};
+ghost use Rattle.std.specs.Prelude.{MatchBool, All, IsSome};
+ghost use Rattle.connections.specs.Hops.{AddsHops, HaveClocks, IsClock, IsHop, IsInside, IsOutside, LackClocks};
+ghost use Rattle.connections.specs.Hops.{LiesOutside, zero_of};
 ghost use Rattle.connections.specs.Times.{AreTimesBefore};
 
 use crate::times::RowTimes;
@@ -17,8 +19,8 @@ pub(crate) struct DayClock {
     pub start: i64,
 }
 
-// A run's clock. A repeat departs from its first stop so many seconds after the day's start, in place of its first row's
-// own departure; another run keeps the times of its rows.
+// A run's clock. A repeat departs from its first stop so many seconds after the day's start, in
+// place of its first row's own departure; another run keeps the times of its rows.
 #[derive(Clone, Copy, Debug)]
 pub(crate) struct RunClock {
     pub day: DayClock,
@@ -41,7 +43,8 @@ impl RunClock {
 
     // The seconds after the base of a time of the rows; none before the base and from the end of time on.
     fn at(&self, time: u64) -> Option<u32>
-        ensures { MatchOption result (IsOutside self.now.day.base (zero_of self.now) time) (IsClock self.now.day.base (zero_of self.now) time) }
+        ensures { MatchOption result (IsOutside self.now.day.base (zero_of self.now) time)
+            (IsClock self.now.day.base (zero_of self.now) time) }
     {
         let after = self.zero() + time as i128 - self.day.base as i128;
         if after < 0 {
@@ -53,8 +56,8 @@ impl RunClock {
         Some(after as u32)
     }
 
-    // Whether the times of the row at a position lie from the base to before the end of time. The arrival at a repeat's first
-    // row doesn't count.
+    // Whether the times of the row at a position lie from the base to before the end of time. The
+    // arrival at a repeat's first row doesn't count.
     fn is_inside(&self, position: usize, times: RowTimes) -> bool
         ensures { MatchBool result (IsInside self.now.day.base (zero_of self.now) self.now.start position times)
             (LiesOutside self.now.day.base (zero_of self.now) self.now.start position times) }
@@ -135,7 +138,8 @@ pub(crate) fn add_hops(
     requires times_are { AreTimesBefore rows.now times.now (length rows.now) }
     requires inside { HaveClocks clock.day.base (zero_of clock) clock.start times.now }
     requires stops { All (λ row. IsSome row.stop) rows.now }
-    ensures { OnOk result (AddsHops clock.day.base (zero_of clock) rows.now run (length rows.now - 1) connections.old.items connections.new.items) }
+    ensures { OnOk result (AddsHops clock.day.base (zero_of clock) rows.now run (length rows.now - 1)
+        connections.old.items connections.new.items) }
 {
     for position in 0..rows.len() - 1 {
         let hop = connection(clock, rows, times, position, run);

@@ -1,6 +1,7 @@
 //! Laws of listed connections. The functions do nothing: their contracts are the laws.
 
-ghost use Rattle.std.specs.Prelude.{◌≡◌, ◌≤◌, ◌<◌, ◌+◌, ◌*◌, ◌↔◌, ℕ, ℤ, List, [], ◌∷◌, None, Contains, length, slice_index_or, if◌then◌else◌, false};
+ghost use Rattle.std.specs.Prelude.{◌≡◌, ◌≤◌, ◌<◌, ◌+◌, ◌*◌, ◌↔◌, ℕ, ℤ, List, [], ◌∷◌, None, Contains, length};
+ghost use Rattle.std.specs.Prelude.{slice_index_or, if◌then◌else◌, false};
 ghost use Rattle.gtfs_rows.specs.declared.rows.StopTimeRow.{StopTimeRow};
 ghost use Rattle.gtfs_rows.specs.declared.values.Day.{Day};
 ghost use Rattle.gtfs_tables.specs.Joined.{IsRunnable};
@@ -26,18 +27,21 @@ pub fn limits()
     ensures { MAX_DAYS ≡ 14 }
 {}
 
-/// The starts of a trip are those of its rows, each once, rising: a row with a headway starts the trip at its start time and a
-/// whole number of headways later, before its end time.
+/// The starts of a trip are those of its rows, each once, rising: a row with a headway starts the
+/// trip at its start time and a whole number of headways later, before its end time.
 pub fn starts_are_theirs()
     ensures only { (rows : List Frequency) (s : ℕ) → Contains (starts_of rows) s
-        → (row : Frequency) × Contains rows row × (0 < row.headway) × (n : ℕ) × (s ≡ row.start + n * row.headway) × (s < row.end) }
-    ensures each { (rows : List Frequency) (row : Frequency) (n : ℕ) → Contains rows row → 0 < row.headway → row.start + n * row.headway < row.end
+        → (row : Frequency) × Contains rows row × (0 < row.headway) × (n : ℕ) × (s ≡ row.start + n * row.headway)
+        × (s < row.end) }
+    ensures each { (rows : List Frequency) (row : Frequency) (n : ℕ) → Contains rows row → 0 < row.headway
+        → row.start + n * row.headway < row.end
         → Contains (starts_of rows) (row.start + n * row.headway) }
     ensures rising { (rows : List Frequency) (i j d : ℕ) → i < j → j < length (starts_of rows)
         → slice_index_or (starts_of rows) i d < slice_index_or (starts_of rows) j d }
 {}
 
-/// Where no trip repeats, each trip that runs on a day runs once, as its stop times stand: its times count from the day's start.
+/// Where no trip repeats, each trip that runs on a day runs once, as its stop times stand: its
+/// times count from the day's start.
 pub fn without_frequencies()
     ensures once { (feed : Feed) (day : Day) (t : ℕ) (trip : Trip) → trip.repeats ≡ false
         → runs_at feed day t trip ≡ (if runs_on feed day trip then run_as_it_stands day t ∷ [] else []) }
@@ -47,29 +51,34 @@ pub fn without_frequencies()
 
 /// A feed makes one list of runs and one list of connections on some days.
 pub fn one_listing()
-    ensures { (feed : Feed) (zone : Zone) (first : Day) (days : ℕ) (connections others : List Connection) (runs rest : List Run) → 1 ≤ days
+    ensures { (feed : Feed) (zone : Zone) (first : Day) (days : ℕ) (connections others : List Connection)
+        (runs rest : List Run) → 1 ≤ days
         → IsListing feed zone first days connections runs
         → IsListing feed zone first days others rest → (connections ≡ others) × (runs ≡ rest) }
 {}
 
-/// The connections of a feed are those that a legal timetable may have, over the feed's stops and the runs as its trips.
+/// The connections of a feed are those that a legal timetable may have, over the feed's stops and
+/// the runs as its trips.
 pub fn listing_is_legal()
-    ensures { (feed : Feed) (zone : Zone) (first : Day) (days : ℕ) (connections : List Connection) (runs : List Run) → IsRunnable feed → 1 ≤ days
+    ensures { (feed : Feed) (zone : Zone) (first : Day) (days : ℕ) (connections : List Connection) (runs : List Run)
+        → IsRunnable feed → 1 ≤ days
         → IsListing feed zone first days connections runs
         → HasLegalConnections (length feed.stops.items) (length runs) connections }
 {}
 
 /// They are within the limits of an image.
 pub fn listing_is_within_limits()
-    ensures { (feed : Feed) (zone : Zone) (first : Day) (days : ℕ) (connections : List Connection) (runs : List Run) → 1 ≤ days
+    ensures { (feed : Feed) (zone : Zone) (first : Day) (days : ℕ) (connections : List Connection) (runs : List Run)
+        → 1 ≤ days
         → IsListing feed zone first days connections runs
         → AreWithinLimits (length runs) connections }
 {}
 
-/// What is asked of connections is what a legal timetable asks: a legal timetable has such connections, and with others of that
-/// kind it is legal too.
+/// What is asked of connections is what a legal timetable asks: a legal timetable has such
+/// connections, and with others of that kind it is legal too.
 pub fn legal_connections()
     ensures has { (t : TimetableValue) → IsLegal t → HasLegalConnections t.stops t.trips t.connections }
-    ensures takes { (t : TimetableValue) (trips : ℕ) (connections : List Connection) → IsLegal t → HasLegalConnections t.stops trips connections
+    ensures takes { (t : TimetableValue) (trips : ℕ) (connections : List Connection) → IsLegal t
+        → HasLegalConnections t.stops trips connections
         → IsLegal (record t { trips = trips; connections = connections }) }
 {}

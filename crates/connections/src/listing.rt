@@ -1,8 +1,10 @@
 //! The connections of all runs in the order of a timetable: by departure, then by arrival, then by run.
 
-ghost use Rattle.std.specs.Prelude.{◌≡◌, ◌≤◌, ◌<◌, ◌-◌, ◌^◌, ◌⊎◌, ℤ, min, length, map, IfOk, IfErr, OnOk, OnErr, All, Contains, IsPermutation, true};
+ghost use Rattle.std.specs.Prelude.{◌≡◌, ◌≤◌, ◌<◌, ◌-◌, ◌^◌, ◌⊎◌, ℤ, min, length, map, IfOk, IfErr, OnOk, OnErr};
+ghost use Rattle.std.specs.Prelude.{All, Contains, IsPermutation, true};
 ghost use Rattle.std.specs.Prelude.{slice_index_or};
-ghost use Rattle.gtfs_tables.specs.Joined.{HasTimedEnds, IsRunnable, makes_connections as makes, rows_of as rows_between};
+ghost use Rattle.gtfs_tables.specs.Joined.{HasTimedEnds, IsRunnable, makes_connections as makes};
+ghost use Rattle.gtfs_tables.specs.Joined.{rows_of as rows_between};
 ghost use Rattle.service_days.specs.Zones.{IsDayStart};
 ghost use Rattle.service_days.specs.declared.zone.Zone.{Zone as DayZone};
 ghost use Rattle.connections.specs.Building.{AddsRun, AreByRun, AreSorted, HasDigits, LeavesRange, order_of};
@@ -108,7 +110,8 @@ fn list_run(
     ensures ok { (zone : DayZone) → IsDayStart zone run.now.day day.start
         → OnOk result (AddsRun feed.now zone day.base run.now number connections.old.items connections.new.items) }
     ensures err { (zone : DayZone) → IsDayStart zone run.now.day day.start
-        → IfErr result (λ fault. IsWantOfMemory fault ⊎ ((fault ≡ range_fault) × LeavesRange feed.now zone day.base run.now)) }
+        → IfErr result (λ fault. IsWantOfMemory fault
+        ⊎ ((fault ≡ range_fault) × LeavesRange feed.now zone day.base run.now)) }
 {
     let place = run.trip as usize;
     let trip = &feed.trips[place];
@@ -143,10 +146,13 @@ fn connections_by_run(
     requires days { All (λ run. Contains (map (λ d. d.day) days.now) run.day) runs.now }
     requires few { length runs.now < 2 ^ 32 }
     requires some { 0 < length days.now }
-    ensures ok { (zone : DayZone) (base : ℤ) (d : ServiceDay) → base ≡ (slice_index_or days.now 0 d).start → All (λ d. IsDayStart zone d.day d.start) days.now
+    ensures ok { (zone : DayZone) (base : ℤ) (d : ServiceDay) → base ≡ (slice_index_or days.now 0 d).start
+        → All (λ d. IsDayStart zone d.day d.start) days.now
         → IfOk result (λ connections. AreByRun feed.now zone base runs.now (length runs.now) connections.items) }
-    ensures err { (zone : DayZone) (base : ℤ) (d : ServiceDay) → base ≡ (slice_index_or days.now 0 d).start → All (λ d. IsDayStart zone d.day d.start) days.now
-        → IfErr result (λ fault. IsWantOfMemory fault ⊎ ((fault ≡ range_fault) × HasRunOutside feed.now zone base runs.now)) }
+    ensures err { (zone : DayZone) (base : ℤ) (d : ServiceDay) → base ≡ (slice_index_or days.now 0 d).start
+        → All (λ d. IsDayStart zone d.day d.start) days.now
+        → IfErr result (λ fault. IsWantOfMemory fault
+        ⊎ ((fault ≡ range_fault) × HasRunOutside feed.now zone base runs.now)) }
 {
     let Ok(mut connections) = Vec::with_capacity(alloc, count) else {
         return Err(out_of_memory());
@@ -166,8 +172,8 @@ fn connections_by_run(
     Ok(connections)
 }
 
-// The number by which a connection stands in the order: departure, arrival and run, each a digit of 32 bits. One number is
-// compared faster than three.
+// The number by which a connection stands in the order: departure, arrival and run, each a digit of
+// 32 bits. One number is compared faster than three.
 fn order_number(connection: &Connection) -> u128
     ensures { result ≡ order_of connection.now }
 {
@@ -183,19 +189,23 @@ fn put_in_order(connections: &mut Vec<Connection>)
     connections.sort_unstable_by_key(|connection| order_number(connection));
 }
 
-/// The connections and the runs of a feed on so many days, 1 to [`MAX_DAYS`], from the first one on, and what was counted.
+/// The connections and the runs of a feed on so many days, 1 to [`MAX_DAYS`], from the first one
+/// on, and what was counted.
 ///
-/// A run is a day and a trip whose service is active then; a trip that `frequencies.txt` names has one for each of its starts,
-/// its repeats ([`starts_are_theirs`](crate::laws::starts_are_theirs)), and none as it stands. A flex trip, and one with fewer
-/// than two rows, never runs. Runs are numbered by day, then by the order of the trips, then by repeat, from the earliest start
-/// on. Each two neighbouring rows of a run give a connection. Its times are those of [`trip_times`] after the day's start, in a
-/// repeat moved so that it departs from its first row at its start, and are told in seconds after the base, the start of the
-/// first day. Connections stand by departure, arrival, run and position in the trip. Passengers may board where they may at the
-/// row that the connection leaves, and alight where they may at the row that it reaches.
+/// A run is a day and a trip whose service is active then; a trip that `frequencies.txt` names has
+/// one for each of its starts, its repeats ([`starts_are_theirs`](crate::laws::starts_are_theirs)),
+/// and none as it stands. A flex trip, and one with fewer than two rows, never runs. Runs are
+/// numbered by day, then by the order of the trips, then by repeat, from the earliest start on.
+/// Each two neighbouring rows of a run give a connection. Its times are those of [`trip_times`]
+/// after the day's start, in a repeat moved so that it departs from its first row at its start, and
+/// are told in seconds after the base, the start of the first day. Connections stand by departure,
+/// arrival, run and position in the trip. Passengers may board where they may at the row that the
+/// connection leaves, and alight where they may at the row that it reaches.
 ///
-/// Refusals are told in this order: a day without a start (`DayOutOfRange`), too many runs (`TooMany`, `trips.txt`), too many
-/// connections (`TooMany`, `stop_times.txt`), a run of which a time lies before the base, or at `TIME_END` or later
-/// (`DayOutOfRange`); a repeat's arrival at its first row isn't judged. Want of memory may be told before any of them.
+/// Refusals are told in this order: a day without a start (`DayOutOfRange`), too many runs
+/// (`TooMany`, `trips.txt`), too many connections (`TooMany`, `stop_times.txt`), a run of which a
+/// time lies before the base, or at `TIME_END` or later (`DayOutOfRange`); a repeat's arrival at
+/// its first row isn't judged. Want of memory may be told before any of them.
 pub fn runs_of(
     alloc: Global,
     feed: &Feed,

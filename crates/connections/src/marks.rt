@@ -1,4 +1,5 @@
-//! The starts of a trip with many rows, marked second by second: rows that overlap cost no more than the starts that they give.
+//! The starts of a trip with many rows, marked second by second: rows that overlap cost no more
+//! than the starts that they give.
 
 ghost use Rattle.std.specs.Prelude.{◌≡◌, ◌≤◌, ◌<◌, ◌||◌, ◌⊎◌, ℕ, Bool, true, length, All, IfOk, IsPermutation};
 ghost use Rattle.connections.specs.Marks.{AreMarks, Covers};
@@ -74,7 +75,8 @@ fn covers(other: Frequency, row: Frequency) -> bool
 fn mark_row(marks: &mut Vec<bool>, row: Frequency, from: u32)
     requires { row.end ≤ length marks.old.items }
     ensures len { length marks.new.items ≡ length marks.old.items }
-    ensures marks { (test : ℕ → Bool) → AreMarks test marks.old.items → ((s : ℕ) → s < from → leaves_at s row ≡ true → test s ≡ true)
+    ensures marks { (test : ℕ → Bool) → AreMarks test marks.old.items
+        → ((s : ℕ) → s < from → leaves_at s row ≡ true → test s ≡ true)
         → AreMarks (λ s. test s || leaves_at s row) marks.new.items }
 {
     let mut next = from;

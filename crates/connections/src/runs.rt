@@ -1,6 +1,7 @@
 //! Runs: which trips leave on which service days, how often, and with which repeats.
 
-ghost use Rattle.std.specs.Prelude.{◌≡◌, ◌≤◌, ◌<◌, ◌^◌, ◌-◌, ◌+◌, ◌++◌, min, length, map, IfOk, IfErr, OnOk, All, ◌⊎◌, ℕ};
+ghost use Rattle.std.specs.Prelude.{◌≡◌, ◌≤◌, ◌<◌, ◌^◌, ◌-◌, ◌+◌, ◌++◌, min, length, map, IfOk, IfErr, OnOk, All};
+ghost use Rattle.std.specs.Prelude.{◌⊎◌, ℕ};
 ghost use Rattle.gtfs_tables.specs.Joined.{makes_connections as makes};
 ghost use Rattle.gtfs_rows.specs.declared.values.Day.{Day as RunDay};
 ghost use Rattle.gtfs_tables.specs.declared.tables.Feed.{Feed as JoinedFeed};
@@ -10,7 +11,8 @@ ghost use Rattle.connections.specs.Counting.{IsCount};
 ghost use Rattle.connections.specs.Faults.{IsWantOfMemory, too_many_of};
 ghost use Rattle.connections.specs.Grouping.{AreGrouped};
 ghost use Rattle.connections.specs.Repeats.{rows_for, starts_of};
-ghost use Rattle.connections.specs.Runs.{repeats_from, runs_at, runs_from, runs_of_days, runs_of_trip, runs_on as runs_then};
+ghost use Rattle.connections.specs.Runs.{repeats_from, runs_at, runs_from, runs_of_days, runs_of_trip};
+ghost use Rattle.connections.specs.Runs.{runs_on as runs_then};
 
 use crate::days::ServiceDay;
 use crate::fault::{RunsFault, out_of_memory, too_many};
@@ -28,8 +30,8 @@ pub struct Run {
     pub trip: u32,
     /// The number of the run among those of its trip on the day, from 0.
     pub repeat: u32,
-    /// Where `frequencies.txt` names the trip, when the run departs from its first stop, in seconds after the start of the
-    /// day. None where it runs as its stop times stand.
+    /// Where `frequencies.txt` names the trip, when the run departs from its first stop, in seconds
+    /// after the start of the day. None where it runs as its stop times stand.
     pub start: Option<u32>,
 }
 
@@ -53,7 +55,8 @@ fn is_running(
         → AreOfDay feed.calendar.items feed.calendar_dates.items day asked.old
         → OnOk result (AreOfDay feed.calendar.items feed.calendar_dates.items day asked.new) }
     ensures told { (feed : JoinedFeed) → HoldsServices feed.calendar.items feed.calendar_dates.items services.now
-        → AreOfDay feed.calendar.items feed.calendar_dates.items day asked.old → IfOk result (λ runs. runs ≡ runs_then feed day trip.now) }
+        → AreOfDay feed.calendar.items feed.calendar_dates.items day asked.old
+        → IfOk result (λ runs. runs ≡ runs_then feed day trip.now) }
 {
     if makes_connections(trip) {
         return asked.runs(services, &trip.service, day);
@@ -89,7 +92,8 @@ fn count_trip(
     trip: &Trip,
     rows: &[Frequency],
 ) -> Result<usize, AllocError>
-    ensures { (feed : JoinedFeed) (day : RunDay) (t : ℕ) → running ≡ runs_then feed day trip.now → rows.now ≡ rows_for feed.frequencies.items t
+    ensures { (feed : JoinedFeed) (day : RunDay) (t : ℕ) → running ≡ runs_then feed day trip.now
+        → rows.now ≡ rows_for feed.frequencies.items t
         → IfOk result (λ count. count ≡ length (runs_at feed day t trip.now)) }
 {
     if !running {
@@ -134,7 +138,8 @@ fn count_runs(
 ) -> Result<usize, AllocError>
     requires rising { All (λ trip. trip.first ≤ trip.end) trips.now }
     requires same { length groups.now ≡ length trips.now }
-    ensures { (feed : JoinedFeed) → feed.trips.items ≡ trips.now → AreGrouped feed.frequencies.items (length trips.now) groups.now
+    ensures { (feed : JoinedFeed) → feed.trips.items ≡ trips.now
+        → AreGrouped feed.frequencies.items (length trips.now) groups.now
         → HoldsServices feed.calendar.items feed.calendar_dates.items services.now
         → IfOk result (λ count. IsCount MAX_TRIPS count (length (runs_of_days feed (map (λ d. d.day) days.now)))) }
 {
@@ -191,7 +196,8 @@ fn add_run(
     place: usize,
     rows: &[Frequency],
 ) -> Result<(), AllocError>
-    ensures { (feed : JoinedFeed) → running ≡ runs_then feed day trip.now → rows.now ≡ rows_for feed.frequencies.items place
+    ensures { (feed : JoinedFeed) → running ≡ runs_then feed day trip.now
+        → rows.now ≡ rows_for feed.frequencies.items place
         → OnOk result (runs.new.items ≡ runs.old.items ++ runs_at feed day place trip.now) }
 {
     if running {
@@ -251,7 +257,8 @@ fn list_runs(
 ) -> Result<Vec<Run>, AllocError>
     requires rising { All (λ trip. trip.first ≤ trip.end) trips.now }
     requires same { length groups.now ≡ length trips.now }
-    ensures { (feed : JoinedFeed) → feed.trips.items ≡ trips.now → AreGrouped feed.frequencies.items (length trips.now) groups.now
+    ensures { (feed : JoinedFeed) → feed.trips.items ≡ trips.now
+        → AreGrouped feed.frequencies.items (length trips.now) groups.now
         → HoldsServices feed.calendar.items feed.calendar_dates.items services.now
         → IfOk result (λ runs. runs.items ≡ runs_of_days feed (map (λ d. d.day) days.now)) }
 {
@@ -263,7 +270,8 @@ fn list_runs(
     Ok(runs)
 }
 
-// The runs of the days: by day, then by the order of the trips, then by repeat. Those that a `u32` can't number count as want of memory.
+// The runs of the days: by day, then by the order of the trips, then by repeat. Those that a `u32`
+// can't number count as want of memory.
 pub(crate) fn runs_on(
     alloc: Global,
     feed: &Feed,
@@ -273,7 +281,8 @@ pub(crate) fn runs_on(
     ensures ok { IfOk result (λ runs. runs.items ≡ runs_of_days feed.now (map (λ d. d.day) days.now)) }
     ensures few { IfOk result (λ runs. length runs.items ≤ MAX_TRIPS) }
     ensures err { IfErr result (λ fault. IsWantOfMemory fault
-        ⊎ ((fault ≡ too_many_of Table.Trips) × (MAX_TRIPS < length (runs_of_days feed.now (map (λ d. d.day) days.now))))) }
+        ⊎ ((fault ≡ too_many_of Table.Trips) × (MAX_TRIPS < length
+        (runs_of_days feed.now (map (λ d. d.day) days.now))))) }
 {
     let Ok(services) = Services::new(alloc, feed.hash, &feed.calendar, &feed.calendar_dates) else {
         return Err(out_of_memory());
@@ -298,7 +307,8 @@ fn runs_by(
     ensures ok { IfOk result (λ runs. runs.items ≡ runs_of_days feed.now (map (λ d. d.day) days.now)) }
     ensures few { IfOk result (λ runs. length runs.items ≤ MAX_TRIPS) }
     ensures err { IfErr result (λ fault. IsWantOfMemory fault
-        ⊎ ((fault ≡ too_many_of Table.Trips) × (MAX_TRIPS < length (runs_of_days feed.now (map (λ d. d.day) days.now))))) }
+        ⊎ ((fault ≡ too_many_of Table.Trips) × (MAX_TRIPS < length
+        (runs_of_days feed.now (map (λ d. d.day) days.now))))) }
 {
     let Ok(count) = count_runs(alloc, services, days, &feed.trips, groups) else {
         return Err(out_of_memory());

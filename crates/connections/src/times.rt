@@ -1,6 +1,8 @@
-//! The times of a trip's rows: spread over the blank ones, then lifted, so that each arrival is after the departure before it.
+//! The times of a trip's rows: spread over the blank ones, then lifted, so that each arrival is
+//! after the departure before it.
 
-ghost use Rattle.std.specs.Prelude.{◌≡◌, ◌≤◌, ◌<◌, ◌+◌, ◌-◌, ◌^◌, max, not, ◌&&◌, ◌==◌, length, IfOk, IfSome, MatchOption, IsSome};
+ghost use Rattle.std.specs.Prelude.{◌≡◌, ◌≤◌, ◌<◌, ◌+◌, ◌-◌, ◌^◌, max, not, ◌&&◌, ◌==◌, length, IfOk, IfSome};
+ghost use Rattle.std.specs.Prelude.{MatchOption, IsSome};
 ghost use Rattle.gtfs_tables.specs.Spread.{arrival_at};
 ghost use Rattle.connections.specs.Times.{AreTimes, lifted_by};
 
@@ -24,9 +26,10 @@ pub struct TripTimes {
     pub lifted: bool,
 }
 
-/// The times of a trip's rows, which are by rising stop_sequence: spread over the blank rows, and then lifted, so that
-/// each arrival is after the departure before it. An arrival becomes the greater of itself and one second after the
-/// departure before it as lifted, a departure the greater of itself and its arrival as lifted; the first row's times stay.
+/// The times of a trip's rows, which are by rising stop_sequence: spread over the blank rows, and
+/// then lifted, so that each arrival is after the departure before it. An arrival becomes the
+/// greater of itself and one second after the departure before it as lifted, a departure the
+/// greater of itself and its arrival as lifted; the first row's times stay.
 ///
 /// The only error is want of memory.
 pub fn trip_times(alloc: Global, rows: &[StopTimeRow]) -> Result<TripTimes, AllocError>

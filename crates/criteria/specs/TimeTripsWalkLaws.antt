@@ -33,30 +33,35 @@ parts v w h =
 
 pub all_parts : (v w : TimeTripsWalk) → nat_le v.time w.time ≡ true → nat_le v.trips w.trips ≡ true → nat_le v.walked w.walked ≡ true → IsNoWorse v w
 all_parts v w time trips walked =
-    and_from (nat_le v.time w.time) (nat_le v.trips w.trips && nat_le v.walked w.walked) time (and_from (nat_le v.trips w.trips) (nat_le v.walked w.walked) trips walked)
+    and_from (nat_le v.time w.time) (nat_le v.trips w.trips && nat_le v.walked w.walked) time
+    (and_from (nat_le v.trips w.trips) (nat_le v.walked w.walked) trips walked)
 
 pub same_parts : (v w : TimeTripsWalk) → v.time ≡ w.time → v.trips ≡ w.trips → v.walked ≡ w.walked → v ≡ w
 same_parts v w time trips walked = λ i. record { time = time i; trips = trips i; walked = walked i }
 
 -- which values are admitted
-admitted_from : (v : TimeTripsWalk) (trips walked : ℕ) → IsAdmitted v → nat_le trips 65535 ≡ true → nat_le walked 4294967295 ≡ true → IsAdmitted (record { time = v.time; trips = trips; walked = walked })
+admitted_from : (v : TimeTripsWalk) (trips walked : ℕ) → IsAdmitted v → nat_le trips 65535 ≡ true
+    → nat_le walked 4294967295 ≡ true → IsAdmitted (record { time = v.time; trips = trips; walked = walked })
 admitted_from v trips walked a few short =
     and_from (nat_lt v.time time_limit) (nat_le trips 65535 && nat_le walked 4294967295)
     (and_parts (nat_lt v.time time_limit) (nat_le v.trips 65535 && nat_le v.walked 4294967295) a).0
     (and_from (nat_le trips 65535) (nat_le walked 4294967295) few short)
 
 limits : (v : TimeTripsWalk) → IsAdmitted v → (nat_le v.trips 65535 ≡ true) × (nat_le v.walked 4294967295 ≡ true)
-limits v a = and_parts (nat_le v.trips 65535) (nat_le v.walked 4294967295) (and_parts (nat_lt v.time time_limit) (nat_le v.trips 65535 && nat_le v.walked 4294967295) a).1
+limits v a = and_parts (nat_le v.trips 65535) (nat_le v.walked 4294967295)
+    (and_parts (nat_lt v.time time_limit) (nat_le v.trips 65535 && nat_le v.walked 4294967295) a).1
 
 pub arrival_admitted : (time : ℕ) → time < time_limit → IsAdmitted (record { time = time; trips = 0; walked = 0 })
 arrival_admitted time h = and_from (nat_lt time time_limit) (nat_le 0 65535 && nat_le 0 4294967295) (lt-ltb time time_limit h) refl
 
 pub ride_admitted : (v : TimeTripsWalk) → IsAdmitted v → IsAdmitted (ridden v)
-ride_admitted v a = admitted_from v (min (v.trips + 1) 65535) v.walked a (le-leb (min (v.trips + 1) 65535) 65535 (min-le_right (v.trips + 1) 65535)) (limits v a).1
+ride_admitted v a = admitted_from v (min (v.trips + 1) 65535) v.walked a
+    (le-leb (min (v.trips + 1) 65535) 65535 (min-le_right (v.trips + 1) 65535)) (limits v a).1
 
 pub walk_admitted : (secs : ℕ) (v : TimeTripsWalk) → IsAdmitted v → IsAdmitted (walked_on secs v)
 walk_admitted secs v a =
-    admitted_from v v.trips (min (v.walked + secs) 4294967295) a (limits v a).0 (le-leb (min (v.walked + secs) 4294967295) 4294967295 (min-le_right (v.walked + secs) 4294967295))
+    admitted_from v v.trips (min (v.walked + secs) 4294967295) a (limits v a).0
+    (le-leb (min (v.walked + secs) 4294967295) 4294967295 (min-le_right (v.walked + secs) 4294967295))
 
 -- no worse is a partial order
 pub no_worse-refl : (v : TimeTripsWalk) → IsNoWorse v v
@@ -107,14 +112,17 @@ walk-joins d first last v h =
     (le-leb (min (v.walked + d) 4294967295) (min (min (v.walked + last) 4294967295 + first) 4294967295) (sums_join v.walked d first last 4294967295 h))
 
 -- by time, then by trips, then by walking
-pub by_time_trips_walk : IsTotalOrder (λ (v w : TimeTripsWalk). ordering_then (nat_cmp v.time w.time) (ordering_then (nat_cmp v.trips w.trips) (nat_cmp v.walked w.walked)))
+pub by_time_trips_walk : IsTotalOrder (λ (v w : TimeTripsWalk).
+    ordering_then (nat_cmp v.time w.time) (ordering_then (nat_cmp v.trips w.trips) (nat_cmp v.walked w.walked)))
 by_time_trips_walk =
     then_total (on_total (λ (v : TimeTripsWalk). v.time) nat_cmp_total)
     (then_total (on_total (λ (v : TimeTripsWalk). v.trips) nat_cmp_total) (on_total (λ (v : TimeTripsWalk). v.walked) nat_cmp_total))
 
-pub tied_parts : (v w : TimeTripsWalk) → ordering_then (nat_cmp v.time w.time) (ordering_then (nat_cmp v.trips w.trips) (nat_cmp v.walked w.walked)) ≡ Equal → v ≡ w
+pub tied_parts : (v w : TimeTripsWalk) → ordering_then (nat_cmp v.time w.time)
+    (ordering_then (nat_cmp v.trips w.trips) (nat_cmp v.walked w.walked)) ≡ Equal → v ≡ w
 tied_parts v w h =
     let inner = exact_pairs nat_cmp nat_cmp exact_unsigned exact_unsigned in
     let e : (v.time, (v.trips, v.walked)) ≡ (w.time, (w.trips, w.walked)) =
-    exact_pairs nat_cmp (λ (p q : ℕ × ℕ). ordering_then (nat_cmp p.0 q.0) (nat_cmp p.1 q.1)) exact_unsigned inner (v.time, (v.trips, v.walked)) (w.time, (w.trips, w.walked)) h in
+    exact_pairs nat_cmp (λ (p q : ℕ × ℕ). ordering_then (nat_cmp p.0 q.0) (nat_cmp p.1 q.1)) exact_unsigned inner
+    (v.time, (v.trips, v.walked)) (w.time, (w.trips, w.walked)) h in
     same_parts v w (ap (λ (p : ℕ × (ℕ × ℕ)). p.0) e) (ap (λ (p : ℕ × (ℕ × ℕ)). p.1.0) e) (ap (λ (p : ℕ × (ℕ × ℕ)). p.1.1) e)

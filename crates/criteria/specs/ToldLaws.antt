@@ -35,4 +35,6 @@ two_told v w e = pairs.same_parts v w (arrival_of (by_two v) (by_two w) e) (same
 
 pub three_told : (v w : TimeTripsWalk) → by_three v ≡ by_three w → v ≡ w
 three_told v w e =
-    triples.same_parts v w (arrival_of (by_three v) (by_three w) e) (same_Some v.trips w.trips (trips_of (by_three v) (by_three w) e)) (same_Some v.walked w.walked (walked_of (by_three v) (by_three w) e))
+    triples.same_parts v w (arrival_of (by_three v) (by_three w) e)
+    (same_Some v.trips w.trips (trips_of (by_three v) (by_three w) e))
+    (same_Some v.walked w.walked (walked_of (by_three v) (by_three w) e))

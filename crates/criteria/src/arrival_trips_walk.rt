@@ -5,7 +5,10 @@ ghost use Rattle.std.specs.Ordering.{nat_cmp, ordering_then};
 ghost use Rattle.std.proofs.lemmas.Bool.{le-leb};
 ghost use Rattle.criteria.specs.Laws.{time_limit};
 ghost use Rattle.criteria.specs.NumberLaws.{nat_le-refl};
-ghost use Rattle.criteria.specs.TimeTripsWalkLaws.{all_parts, arrival_admitted, ride_admitted, walk_admitted, no_worse-refl, no_worse-trans, no_worse-antisymm, no_worse-ride, no_worse-walk, walk-worsens, walk-joins, by_time_trips_walk, tied_parts};
+ghost use Rattle.criteria.specs.TimeTripsWalkLaws.{all_parts, arrival_admitted, ride_admitted, walk_admitted};
+ghost use Rattle.criteria.specs.TimeTripsWalkLaws.{no_worse-refl, no_worse-trans, no_worse-antisymm, no_worse-ride};
+ghost use Rattle.criteria.specs.TimeTripsWalkLaws.{no_worse-walk, walk-worsens, walk-joins, by_time_trips_walk};
+ghost use Rattle.criteria.specs.TimeTripsWalkLaws.{tied_parts};
 ghost use Rattle.criteria.specs.ToldLaws.{three_told};
 
 use crate::{Criterion, Told, ToldValue};
@@ -34,7 +37,8 @@ impl Criterion for ArrivalTripsWalk {
       ride = λ v. record { time = v.time; trips = min (v.trips + 1) 65535; walked = v.walked };
       walk = λ secs v. record { time = v.time; trips = v.trips; walked = min (v.walked + secs) 4294967295 };
       no_worse = λ v w. nat_le v.time w.time && (nat_le v.trips w.trips && nat_le v.walked w.walked);
-      list_order = λ v w. ordering_then (nat_cmp v.time w.time) (ordering_then (nat_cmp v.trips w.trips) (nat_cmp v.walked w.walked));
+      list_order = λ v w. ordering_then (nat_cmp v.time w.time)
+          (ordering_then (nat_cmp v.trips w.trips) (nat_cmp v.walked w.walked));
       admits = λ v. nat_lt v.time time_limit && (nat_le v.trips 65535 && nat_le v.walked 4294967295);
     } };
 
@@ -86,7 +90,12 @@ impl Criterion for ArrivalTripsWalk {
       reflexive = λ v a. no_worse-refl v;
       transitive = λ u v w a b c h k. no_worse-trans u v w h k;
       antisymmetric = λ v w a b h k. no_worse-antisymm v w h k;
-      arrive_monotone = λ s t h k le. all_parts (record { time = s; trips = 0; walked = 0 }) (record { time = t; trips = 0; walked = 0 }) (le-leb s t le) (nat_le-refl 0) (nat_le-refl 0);
+      arrive_monotone = λ s t h k le. all_parts (record { time = s; trips = 0; walked = 0 }) (record {
+        time =
+            t;
+        trips = 0;
+        walked = 0;
+      }) (le-leb s t le) (nat_le-refl 0) (nat_le-refl 0);
       ride_monotone = λ v w a b h. no_worse-ride v w h;
       walk_monotone = λ c d v w p q a b le h. no_worse-walk c d v w le h;
       walk_worsens = λ d v h a. walk-worsens d v a;

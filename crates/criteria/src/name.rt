@@ -20,7 +20,8 @@ impl CriterionName {
 
     /// The criterion of a name.
     pub fn of(name: &str) -> Option<CriterionName>
-        ensures { MatchOption result ((criterion : CriterionName) → name.now ≢ name_text criterion) (λ criterion. name.now ≡ name_text criterion) }
+        ensures { MatchOption result ((criterion : CriterionName)
+            → name.now ≢ name_text criterion) (λ criterion. name.now ≡ name_text criterion) }
     {
         match name {
             "arrival" => Some(CriterionName::Arrival),

@@ -5,8 +5,8 @@ ghost use Rattle.criteria.specs.WrongRules.{discounted, hurried, listed_by_time,
 
 use crate::{Arrival, ArrivalTrips, Criterion};
 
-/// Over the time and the trips the laws are false where riding makes two trips one, where only a better value is no worse, and where values
-/// are listed by their times alone.
+/// Over the time and the trips the laws are false where riding makes two trips one, where only a
+/// better value is no worse, and where values are listed by their times alone.
 pub fn no_wrong_rule_of_trips(criterion: &ArrivalTrips)
     ensures discounted { Laws (discounted (⟦<ArrivalTrips as Criterion>⟧.rules criterion.now)) → ⊥ }
     ensures strict { Laws (strict (⟦<ArrivalTrips as Criterion>⟧.rules criterion.now)) → ⊥ }

@@ -12,7 +12,8 @@ use std::rt::Env;
 const FOLDER: &str = "/";
 
 fn main(rt: HostRuntime) -> ExitCode {
-    // In the place of a stream that was closed the next file or client that is opened would stand: these do, until the end.
+    // In the place of a stream that was closed the next file or client that is opened would stand:
+    // these do, until the end.
     let _held = [
         File::open(&rt, FOLDER),
         File::open(&rt, FOLDER),

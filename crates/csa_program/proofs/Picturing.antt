@@ -24,7 +24,8 @@ drawn_more R xs i x ys zs y lt there before last grown =
 -- a picture, whose lines are those of the departures that are drawn
 pub picture_made : {V : Type 0} (told : V → ToldValue) (image : ImageValue) (name : CriterionName) (q : Query) (departures drawn : List (Departure V))
     (walk : Option ℕ) (text : List ℕ) (heading shown : HeadingValue) (axis : Axis) (lines seen drew : List LineValue) (left : ℕ)
-    → IsHeadingOf image.names name q heading → drawn ≡ take 200 departures → seen ≡ lines → drew ≡ lines → shown ≡ heading → AllZip (IsDrawnAs told image) drawn lines
+    → IsHeadingOf image.names name q heading → drawn ≡ take 200 departures → seen ≡ lines → drew ≡ lines
+    → shown ≡ heading → AllZip (IsDrawnAs told image) drawn lines
     → All (LiesOn axis) seen → left ≡ length departures - 200 → IsPicture shown axis walk drew left text
     → IsPictureOf told image name q departures walk text
 picture_made told image name q departures drawn walk text heading shown axis lines seen drew left asked some same last above are covered rest is =

@@ -91,7 +91,8 @@ fn push_shown(text: &mut String, byte: u8) -> Result<(), AllocError> {
     }
 }
 
-/// Explains the refusal of a feed: what is wrong with its folder, or where a fault of a table is. Nothing is said if memory ran out.
+/// Explains the refusal of a feed: what is wrong with its folder, or where a fault of a table is.
+/// Nothing is said if memory ran out.
 pub fn explain_refused<H: Files + AllocGlobal, E: Write>(
     rt: &H,
     folder: &str,

@@ -36,7 +36,8 @@ pub fn run<O: Write>(
     request: JourneyRequest<'_>,
     output: &mut O,
 ) -> u8
-    ensures accepted { result ≡ ACCEPTED → IsAccepted image.now request.entry.question request.entry.text.now (O.contents output.old) (O.contents output.new) }
+    ensures accepted { result ≡ ACCEPTED → IsAccepted image.now request.entry.question request.entry.text.now
+        (O.contents output.old) (O.contents output.new) }
     ensures refused { result ≡ REFUSED → IsFaulty image.now request.entry.question request.entry.text.now }
 {
     match judge(alloc, image, &request) {

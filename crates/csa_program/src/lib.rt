@@ -45,10 +45,12 @@ use std::net::{Net, TcpListener, TcpStream};
 
 /// Runs the command that the words ask for; the first word is the program's name.
 ///
-/// What a command finds goes to `output`, what is wrong with the command line or with a file to `errors`. The status is 0 for an
-/// accepted request, 2 for a refused one and for a server of which a session had too many requests, 3 where a file can't be read or
-/// written, a line can't be written, or a socket or a session fails, 4 where memory ran out, which is also said in `errors`, and 64
-/// for a command line that asks for nothing. Where `errors` is a terminal, progress is shown there.
+/// What a command finds goes to `output`, what is wrong with the command line or with a file to
+/// `errors`. The status is 0 for an accepted request, 2 for a refused one and for a server of which
+/// a session had too many requests, 3 where a file can't be read or written, a line can't be
+/// written, or a socket or a session fails, 4 where memory ran out, which is also said in `errors`,
+/// and 64 for a command line that asks for nothing. Where `errors` is a terminal, progress is shown
+/// there.
 pub fn run<
     H: Machine + Net<Listener = TcpListener, Stream = TcpStream>,
     S: AsStr,

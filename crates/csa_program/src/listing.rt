@@ -3,7 +3,8 @@
 ghost use Rattle.std.specs.Prelude.{◌≡◌, ◌++◌, IfOk, OnOk, length, string_bytes};
 ghost use Rattle.std.specs.List.{flat_map};
 ghost use Rattle.criteria.specs.declared.told.ToldValue.{ToldValue};
-ghost use Rattle.csa_program.specs.Listing.{departure_line, end_line, lines_text, named_text, number_if_some, numbered_text, point_text, times_text, walk_word};
+ghost use Rattle.csa_program.specs.Listing.{departure_line, end_line, lines_text, named_text, number_if_some};
+ghost use Rattle.csa_program.specs.Listing.{numbered_text, point_text, times_text, walk_word};
 
 use crate::naming::append_named;
 use crate::putting::{put_clock, put_number, put_text, put_word};
@@ -19,7 +20,8 @@ pub fn numbered_lines<C: Told>(
     criterion: &C,
     answer: &Answer<C>,
 ) -> Result<String, AllocError>
-    ensures { IfOk result (λ lines. string_bytes lines ≡ lines_text C.told numbered_text answer.now.departures.items answer.now.read answer.now.walk) }
+    ensures { IfOk result (λ lines. string_bytes lines
+        ≡ lines_text C.told numbered_text answer.now.departures.items answer.now.read answer.now.walk) }
 {
     let mut lines = String::new(alloc);
     append_numbered(&mut lines, alloc, criterion, &answer.departures)?;
@@ -39,7 +41,8 @@ pub fn named_lines<C: Told>(
     criterion: &C,
     answer: &Answer<C>,
 ) -> Result<String, AllocError>
-    ensures { IfOk result (λ lines. string_bytes lines ≡ lines_text C.told (named_text image.now) answer.now.departures.items answer.now.read answer.now.walk) }
+    ensures { IfOk result (λ lines. string_bytes lines
+        ≡ lines_text C.told (named_text image.now) answer.now.departures.items answer.now.read answer.now.walk) }
 {
     let mut lines = String::new(alloc);
     append_all_named(&mut lines, alloc, image, criterion, &answer.departures)?;
@@ -58,7 +61,8 @@ fn append_numbered<C: Told>(
     criterion: &C,
     departures: &[Departure<C::V>],
 ) -> Result<(), AllocError>
-    ensures { OnOk result (string_bytes lines.new ≡ string_bytes lines.old ++ flat_map (departure_line C.told numbered_text) departures.now) }
+    ensures { OnOk result (string_bytes lines.new ≡ string_bytes lines.old
+        ++ flat_map (departure_line C.told numbered_text) departures.now) }
 {
     for departure in departures {
         append_by_numbers(lines, alloc, criterion, departure)?;
@@ -73,7 +77,8 @@ fn append_all_named<C: Told>(
     criterion: &C,
     departures: &[Departure<C::V>],
 ) -> Result<(), AllocError>
-    ensures { OnOk result (string_bytes lines.new ≡ string_bytes lines.old ++ flat_map (departure_line C.told (named_text image.now)) departures.now) }
+    ensures { OnOk result (string_bytes lines.new ≡ string_bytes lines.old
+        ++ flat_map (departure_line C.told (named_text image.now)) departures.now) }
 {
     for departure in departures {
         append_by_names(lines, alloc, image, criterion, departure)?;
@@ -87,7 +92,8 @@ fn append_by_numbers<C: Told>(
     criterion: &C,
     departure: &Departure<C::V>,
 ) -> Result<(), AllocError>
-    ensures { OnOk result (string_bytes lines.new ≡ string_bytes lines.old ++ departure_line C.told numbered_text departure.now) }
+    ensures { OnOk result (string_bytes lines.new ≡ string_bytes lines.old
+        ++ departure_line C.told numbered_text departure.now) }
 {
     append_point(lines, departure.time, criterion.tell(&departure.value))?;
     append_journey(lines, alloc, &departure.journey)?;
@@ -102,7 +108,8 @@ fn append_by_names<C: Told>(
     criterion: &C,
     departure: &Departure<C::V>,
 ) -> Result<(), AllocError>
-    ensures { OnOk result (string_bytes lines.new ≡ string_bytes lines.old ++ departure_line C.told (named_text image.now) departure.now) }
+    ensures { OnOk result (string_bytes lines.new ≡ string_bytes lines.old
+        ++ departure_line C.told (named_text image.now) departure.now) }
 {
     append_point(lines, departure.time, criterion.tell(&departure.value))?;
     append_named(lines, alloc, image, &departure.journey)?;

@@ -7,8 +7,8 @@ use std::sync::Wait;
 use std::thread::Threads;
 use std::time::Clock;
 
-/// What the program needs of the machine that it runs on, beside sockets: a bound on their types can't stand in a bundle, since callers
-/// wouldn't know the types.
+/// What the program needs of the machine that it runs on, beside sockets: a bound on their types
+/// can't stand in a bundle, since callers wouldn't know the types.
 pub trait Machine: Files + RandomSource + Disk + AllocGlobal + Clock + Threads + Wait + Sync {}
 
 impl<H: Files + RandomSource + AllocGlobal + Clock + Threads + Wait + Sync> Machine for H {}

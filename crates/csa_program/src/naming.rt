@@ -3,7 +3,8 @@
 ghost use Rattle.std.specs.Prelude.{◌≡◌, ◌++◌, slice_get, OnOk, string_bytes};
 ghost use Rattle.std.specs.List.{flat_map};
 ghost use Rattle.journeys.specs.Texts.{number_text};
-ghost use Rattle.csa_program.specs.Listing.{call_text, named_between, named_hops, named_ride, named_start, named_text, named_walk, word_text};
+ghost use Rattle.csa_program.specs.Listing.{call_text, named_between, named_hops, named_ride, named_start};
+ghost use Rattle.csa_program.specs.Listing.{named_text, named_walk, word_text};
 ghost use Rattle.answer_pictures.specs.Naming.{stop_bytes, trip_bytes};
 
 use crate::putting::{put_clock, put_number, put_text, put_word};
@@ -45,7 +46,8 @@ fn append_rides(
     image: &Verified,
     rides: &[Ride],
 ) -> Result<(), AllocError>
-    ensures { OnOk result (string_bytes lines.new ≡ string_bytes lines.old ++ flat_map (named_ride image.now) rides.now) }
+    ensures { OnOk result (string_bytes lines.new ≡ string_bytes lines.old
+        ++ flat_map (named_ride image.now) rides.now) }
 {
     for ride in rides {
         append_ride(lines, alloc, image, ride)?;
@@ -71,7 +73,8 @@ fn append_walks(
     image: &Verified,
     walk: &[Footpath],
 ) -> Result<(), AllocError>
-    ensures { OnOk result (string_bytes lines.new ≡ string_bytes lines.old ++ flat_map (named_walk image.now.names) walk.now) }
+    ensures { OnOk result (string_bytes lines.new ≡ string_bytes lines.old
+        ++ flat_map (named_walk image.now.names) walk.now) }
 {
     for footpath in walk {
         append_walk(lines, alloc, image, *footpath)?;
@@ -106,7 +109,8 @@ fn append_stop(
     image: &Verified,
     stop: u32,
 ) -> Result<(), AllocError>
-    ensures { OnOk result (string_bytes lines.new ≡ string_bytes lines.old ++ word_text (stop_bytes image.now.names stop)) }
+    ensures { OnOk result (string_bytes lines.new ≡ string_bytes lines.old
+        ++ word_text (stop_bytes image.now.names stop)) }
 {
     let name = stop_name(alloc, image, stop)?;
     put_word(lines, name.as_str())
@@ -118,7 +122,8 @@ fn append_trip(
     image: &Verified,
     trip: u32,
 ) -> Result<(), AllocError>
-    ensures { OnOk result (string_bytes lines.new ≡ string_bytes lines.old ++ word_text (trip_bytes image.now.names trip)) }
+    ensures { OnOk result (string_bytes lines.new ≡ string_bytes lines.old
+        ++ word_text (trip_bytes image.now.names trip)) }
 {
     let name = trip_name(alloc, image, trip)?;
     put_word(lines, name.as_str())
@@ -167,7 +172,8 @@ fn append_call(
     time: u32,
     stop: u32,
 ) -> Result<(), AllocError>
-    ensures { OnOk result (string_bytes lines.new ≡ string_bytes lines.old ++ call_text time (stop_bytes image.now.names stop)) }
+    ensures { OnOk result (string_bytes lines.new ≡ string_bytes lines.old
+        ++ call_text time (stop_bytes image.now.names stop)) }
 {
     put_clock(lines, " ", time)?;
     append_stop(lines, alloc, image, stop)

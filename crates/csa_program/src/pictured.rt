@@ -39,7 +39,8 @@ pub fn picture_text<C: Told>(
     query: &Query,
     answer: &Answer<C>,
 ) -> Result<String, AllocError>
-    ensures { IfOk result (λ text. IsPictureOf C.told image.now name query.now answer.now.departures.items answer.now.walk (string_bytes text)) }
+    ensures { IfOk result (λ text. IsPictureOf C.told image.now name query.now answer.now.departures.items
+        answer.now.walk (string_bytes text)) }
 {
     let heading = heading_of(alloc, image, query, name)?;
     let drawn = first_of(&answer.departures);

@@ -33,8 +33,9 @@ pub enum Failure<'a> {
     OutOfMemory,
 }
 
-/// Prints each best departure with a journey, and then how many there are, how many connections were read, and the direct footpath;
-/// or else what a session replies. A picture that is asked for is written before.
+/// Prints each best departure with a journey, and then how many there are, how many connections
+/// were read, and the direct footpath; or else what a session replies. A picture that is asked for
+/// is written before.
 pub fn run<H: Files + AllocGlobal, O: Write, E: Write>(
     rt: &H,
     image: &Verified,
@@ -42,7 +43,8 @@ pub fn run<H: Files + AllocGlobal, O: Write, E: Write>(
     output: &mut O,
     errors: &mut E,
 ) -> u8
-    ensures printed { result ≡ ACCEPTED → IsPrinted image.now request.entry (O.contents output.old) (O.contents output.new) }
+    ensures printed { result ≡ ACCEPTED → IsPrinted image.now request.entry (O.contents output.old)
+        (O.contents output.new) }
     ensures refused { result ≡ REFUSED → IsNoRequest image.now request.entry }
 {
     match profile_text(rt, image, request) {
@@ -82,7 +84,8 @@ fn text_by_name<'a, H: Files + AllocGlobal>(
     request: ProfileRequest<'a>,
 ) -> Result<String, PictureFailure<'a>>
     requires { IsAskable image.now.timetable.stops query.now }
-    ensures { IfOk result (λ text. IsShownBy request.entry.criterion request.entry.form image.now query.now (string_bytes text)) }
+    ensures { IfOk result (λ text. IsShownBy request.entry.criterion request.entry.form image.now query.now
+        (string_bytes text)) }
 {
     match request.criterion {
         CriterionName::Arrival => answer_text(rt, image, &Arrival, query, request),
@@ -102,7 +105,8 @@ fn answer_text<'a, H: Files + AllocGlobal, C: Told>(
     request: ProfileRequest<'a>,
 ) -> Result<String, PictureFailure<'a>>
     requires { IsAskable image.now.timetable.stops query.now }
-    ensures { IfOk result (λ text. IsShown C.told (C.rules criterion.now) request.entry.form image.now query.now (string_bytes text)) }
+    ensures { IfOk result (λ text. IsShown C.told (C.rules criterion.now) request.entry.form image.now query.now
+        (string_bytes text)) }
 {
     let mut source = InPlace::new(image);
     let answer = answer_query(rt.alloc(), &mut source, criterion, query)?;

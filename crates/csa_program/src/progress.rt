@@ -17,8 +17,8 @@ use std::io::Write;
 /// The file of a feed that is read last.
 const LAST_FILE: &str = "frequencies.txt";
 
-/// Loads a feed as `load` does, and reports each file as it is read, and then that the image is written at a path, if there is
-/// anything to report it to.
+/// Loads a feed as `load` does, and reports each file as it is read, and then that the image is
+/// written at a path, if there is anything to report it to.
 pub fn load_told<F: FeedFiles, W: Write>(
     alloc: Global,
     files: &mut ToldFiles<F, W>,

@@ -10,10 +10,12 @@ use image_verifier::Verified;
 use journeys::{Window, query_of};
 use timetable::{Query, QueryFault};
 
-/// The query between the stops of these names, from the earliest departure until the latest and by the latest arrival; or its first fault.
+/// The query between the stops of these names, from the earliest departure until the latest and by
+/// the latest arrival; or its first fault.
 pub fn query_asked(image: &Verified, question: &Question<'_>) -> Result<Query, QueryFault>
     ensures { MatchResult result
-        (λ query. IsAskable image.now.timetable.stops query × Asks image.now.names question.now.from.now question.now.to.now (window_of question.now) query)
+        (λ query. IsAskable image.now.timetable.stops query
+        × Asks image.now.names question.now.from.now question.now.to.now (window_of question.now) query)
         (IsRefused image.now question.now.from.now question.now.to.now (window_of question.now)) }
 {
     let window = Window {

@@ -1,4 +1,5 @@
-//! The records of a feed's file, read once more to say where a fault is. It takes the memory of a piece and of two records.
+//! The records of a feed's file, read once more to say where a fault is. It takes the memory of a
+//! piece and of two records.
 //!
 //! No contract says that this finds the record that the tables' reader refused; transcripts show it.
 

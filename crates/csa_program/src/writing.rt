@@ -20,8 +20,9 @@ fn is_special<H: Files>(rt: &H, path: &str) -> bool {
     }
 }
 
-/// Puts an image's words at the path. A plain file is replaced by a whole one, made beside it: so it is never half an image, also where
-/// it is the one that was read. Into anything else the words are written.
+/// Puts an image's words at the path. A plain file is replaced by a whole one, made beside it: so
+/// it is never half an image, also where it is the one that was read. Into anything else the words
+/// are written.
 pub fn put_image<H: Files + AllocGlobal>(rt: &H, path: &str, words: &[u32]) -> io::Result<()> {
     if is_special(rt, path) {
         let mut file = File::create(rt, path)?;

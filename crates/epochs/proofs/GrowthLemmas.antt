@@ -87,7 +87,8 @@ join_knows View.Spent n = refl
 pub joins_grow : (u u' : View) (n : ℕ) → u' ≡ joins_notice u (View.Noting n) → Grows (known_of u) (known_of u')
 joins_grow u u' n is = subst (λ (k : Known). Grows (known_of u) k) (sym (ap (λ (x : View). known_of x) is ∙ join_knows u n)) (grows_same (known_of u))
 
-image_stays : (images more : List ImageValue) (version : ℕ) (image : ImageValue) → IsPrefix images more → image_of images version ≡ Some image → image_of more version ≡ Some image
+image_stays : (images more : List ImageValue) (version : ℕ) (image : ImageValue) → IsPrefix images more
+    → image_of images version ≡ Some image → image_of more version ≡ Some image
 image_stays images more zero image p is = is
 image_stays images more (suc n) image p is = subst (λ (l : List ImageValue). slice_get l n ≡ Some image) p.1 (slice_get-append images p.0 n image is)
 

@@ -42,7 +42,8 @@ drop_same s t w Reply.NotNow h = same_by s t s h.1 (record { shelves = refl; edi
 drop_same s t w _ h = absurd h
 
 -- an event that is no load and opens nothing
-pub history_goes_on : (s t : State) (before events : List Event) (images : List ImageValue) (event : Event) (r : Reply) → RunsGrow → RestStays → IsHistory s before images
+pub history_goes_on : (s t : State) (before events : List Event) (images : List ImageValue) (event : Event) (r : Reply)
+    → RunsGrow → RestStays → IsHistory s before images
     → IsNoLoad event → Step s event r t → t.editions ≡ s.editions → events ≡ before ++ event ∷ [] → IsHistory t events images
 history_goes_on s t before events images event r grow stays h no_load step same more = record {
   run = grow start s t before events event r h.run more step;
@@ -51,18 +52,21 @@ history_goes_on s t before events images event r grow stays h no_load step same 
   numbered = λ i e is. h.numbered i e (ap (λ (l : List ℕ). slice_get l i) (sym same) ∙ is);
 }
 
-pub still_shelved : (s t : State) (editions : List (Option Edition)) (images : List ImageValue) → SameShelves s t → AreShelved s.shelves editions images → AreShelved t.shelves editions images
+pub still_shelved : (s t : State) (editions : List (Option Edition)) (images : List ImageValue) → SameShelves s t
+    → AreShelved s.shelves editions images → AreShelved t.shelves editions images
 still_shelved s t editions images same h = subst (λ (l : List Shelf). AreShelved l editions images) (sym same.shelves) h
 
 -- the shelf of the current version has its edition
-pub current_there : (s : State) (editions : List (Option Edition)) (images : List ImageValue) (version shelf : ℕ) (d : Option Edition) → Kept s → AreShelved s.shelves editions images
+pub current_there : (s : State) (editions : List (Option Edition)) (images : List ImageValue) (version shelf : ℕ)
+    (d : Option Edition) → Kept s → AreShelved s.shelves editions images
     → version ≡ s.current → shelf ≡ s.current_shelf → d ≡ get_or editions shelf d → IsEdition images version d
 current_there s editions images version shelf d kept h v k is =
     let within = slice_get_within s.shelves s.current_shelf _ kept.shelves.current_open in let l = kept.shelves.eight in let m = h.eight in
     let there : slice_get editions shelf ≡ Some d = slice_get-get_or editions shelf d (omega arith) ∙ ap (λ (x : Option Edition). Some x) (sym is) in
     h.each shelf (Shelf.Open version) d (ap (λ n. slice_get s.shelves n) k ∙ (kept.shelves.current_open ∙ ap (λ n. Some (Shelf.Open n)) (sym v))) there
 
-pub current_is : (s : State) (events : List Event) (images : List ImageValue) (version shelf : ℕ) (d : Option Edition) (e : Edition) (image : ImageValue) → IsEdition images version d → d ≡ Some e → image ≡ arc_value e.image
+pub current_is : (s : State) (events : List Event) (images : List ImageValue) (version shelf : ℕ) (d : Option Edition)
+    (e : Edition) (image : ImageValue) → IsEdition images version d → d ≡ Some e → image ≡ arc_value e.image
     → version ≡ s.current → shelf ≡ s.current_shelf → IsCurrent (record { state = s; events = events; images = images }) shelf version image
 current_is s events images version shelf d e image there some same v k =
     let both : Some there.0 ≡ Some e = sym there.1 ∙ some in
@@ -82,7 +86,8 @@ looked_seen s w kept idle =
     let within = slice_get_within s.workers w _ idle in let m = kept.workers.sixteen in let n = kept.workers.sixteen_seen in
     slice_get-set_same s.seen w s.current (omega arith)
 
-pub looks_and_takes : (s t u : State) (w : ℕ) (first second : Reply) (before events : List Event) (images : List ImageValue) → LooksAndTakesHold → Kept s → IsIdle s w → LookStep s w first t → TakeStep t w second u
+pub looks_and_takes : (s t u : State) (w : ℕ) (first second : Reply) (before events : List Event)
+    (images : List ImageValue) → LooksAndTakesHold → Kept s → IsIdle s w → LookStep s w first t → TakeStep t w second u
     → events ≡ before ++ Event.Look w ∷ Event.Take w ∷ []
     → IsLookAndTake (record { state = s; events = before; images = images }) w (record { state = u; events = events; images = images })
 looks_and_takes s t u w first second before events images law kept idle look take more =
@@ -95,7 +100,8 @@ looks_and_takes s t u w first second before events images law kept idle look tak
       seen = subst (λ (x : State). slice_get x.seen w ≡ Some s.current) (sym both.2) (looked_seen s w kept idle);
     }
 
-pub drops : (s t : State) (w k v : ℕ) (r : Reply) (before events : List Event) (images : List ImageValue) → DropsLetGo → Kept s → Holds s w k v → DropStep s w r t
+pub drops : (s t : State) (w k v : ℕ) (r : Reply) (before events : List Event) (images : List ImageValue) → DropsLetGo
+    → Kept s → Holds s w k v → DropStep s w r t
     → events ≡ before ++ Event.Drop w ∷ []
     → IsDrop (record { state = s; events = before; images = images }) w (record { state = t; events = events; images = images })
 drops s t w k v r before events images law kept holds drop more =

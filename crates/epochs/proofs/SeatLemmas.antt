@@ -23,7 +23,8 @@ freed_is_left (Shelf.Open v) count h = refl
 freed_is_left (Shelf.Closing v) zero h = refl
 freed_is_left (Shelf.Closing v) (suc n) h = absurd (cc)
 
-pub freed_never_busy : (a : TableValue) (found : Collected) (b : TableValue) → Kept a.state → Collects a found b → (k : ℕ) → k < 8 → slice_get found.freed k ≡ Some true → slice_get found.busy k ≡ Some 0
+pub freed_never_busy : (a : TableValue) (found : Collected) (b : TableValue) → Kept a.state → Collects a found b
+    → (k : ℕ) → k < 8 → slice_get found.freed k ≡ Some true → slice_get found.busy k ≡ Some 0
 freed_never_busy a found b kept h k small is =
     let eight = kept.shelves.eight in
     let shelf = get_or a.state.shelves k Shelf.Free in
@@ -41,13 +42,17 @@ same_newest a room h = elim h [
   | inr y ↦ ap (λ (s : State). newest s) y.1.1.state
 ]
 
-pub version_within : (a room b : TableValue) (image : ImageValue) (version : ℕ) → Kept a.state → IsAtRest a.state → Kept b.state → IsAtRest b.state → MakesRoom a room → Publishes room image version b → (1 < version) × (version ≤ 1000000000)
+pub version_within : (a room b : TableValue) (image : ImageValue) (version : ℕ) → Kept a.state → IsAtRest a.state
+    → Kept b.state → IsAtRest b.state → MakesRoom a room → Publishes room image version b
+    → (1 < version) × (version ≤ 1000000000)
 version_within a room b image version kept rest after rested made h =
     let first = some_version a.state kept in let same = same_newest a room made in let p = rest.published in let next = h.next in
     let q = rested.published in let current = h.current in let most = after.room in
     ((omega arith), (omega arith))
 
-pub refused_so : (a b : TableValue) (before after : List LoaderAnswer) (fault : PublishFault) → Kept a.state → RefusesPublish a fault b → after ≡ before ++ LoaderAnswer.PublishRefused fault ∷ [] → RefuseStep before fault after
+pub refused_so : (a b : TableValue) (before after : List LoaderAnswer) (fault : PublishFault) → Kept a.state
+    → RefusesPublish a fault b → after ≡ before ++ LoaderAnswer.PublishRefused fault ∷ []
+    → RefuseStep before fault after
 refused_so a b before after PublishFault.VersionsSpent kept h told = told
 refused_so a b before after PublishFault.OutOfMemory kept h told = told
 refused_so a b before after (PublishFault.ShelvesFull counts) kept h told =
@@ -58,10 +63,12 @@ refused_so a b before after (PublishFault.ShelvesFull counts) kept h told =
 pub new_seats_fit : (number : ℕ) → number < 16 → SeatFits start (idle_seat number)
 new_seats_fit number small = (slice_get-replicate 16 number Worker.Idle small, slice_get-replicate 16 number 0 small)
 
-fits_still : (s t : State) (seat : WorkerSeatValue) → slice_get t.workers seat.number ≡ slice_get s.workers seat.number → slice_get t.seen seat.number ≡ slice_get s.seen seat.number → SeatFits s seat → SeatFits t seat
+fits_still : (s t : State) (seat : WorkerSeatValue) → slice_get t.workers seat.number ≡ slice_get s.workers seat.number
+    → slice_get t.seen seat.number ≡ slice_get s.seen seat.number → SeatFits s seat → SeatFits t seat
 fits_still s t seat workers seen h = (workers ∙ h.0, seen ∙ h.1)
 
-pub pins_leave_others : (a b : TableValue) (seat after other : WorkerSeatValue) → Pins a seat b after → other.number ≢ seat.number → SeatFits a.state other → SeatFits b.state other
+pub pins_leave_others : (a b : TableValue) (seat after other : WorkerSeatValue) → Pins a seat b after
+    → other.number ≢ seat.number → SeatFits a.state other → SeatFits b.state other
 pins_leave_others a b seat after other h apart fits =
     let s = a.state in let w = seat.number in let n = other.number in
     let mid = h.run.0 in let look = h.run.1.3 in
@@ -69,11 +76,14 @@ pins_leave_others a b seat after other h apart fits =
     let is : b.state ≡ last = h.run.2.2 in
     let gone = take.3 in
     fits_still s b.state other
-    (ap (λ (x : State). slice_get x.workers n) (is ∙ gone) ∙ (slice_get-set_other mid.workers w n _ apart ∙ (ap (λ (x : State). slice_get x.workers n) look ∙ slice_get-set_other s.workers w n _ apart)))
+    (ap (λ (x : State). slice_get x.workers n) (is ∙ gone)
+    ∙ (slice_get-set_other mid.workers w n _ apart
+    ∙ (ap (λ (x : State). slice_get x.workers n) look ∙ slice_get-set_other s.workers w n _ apart)))
     (ap (λ (x : State). slice_get x.seen n) (is ∙ gone) ∙ (ap (λ (x : State). slice_get x.seen n) look ∙ slice_get-set_other s.seen w n _ apart))
     fits
 
-pub releases_leave_others : (a b : TableValue) (seat after other : WorkerSeatValue) → Releases a seat b after → other.number ≢ seat.number → SeatFits a.state other → SeatFits b.state other
+pub releases_leave_others : (a b : TableValue) (seat after other : WorkerSeatValue) → Releases a seat b after
+    → other.number ≢ seat.number → SeatFits a.state other → SeatFits b.state other
 releases_leave_others a b seat after other h apart fits =
     let s = a.state in let n = other.number in
     let drop = h.run.1 in
@@ -83,17 +93,23 @@ releases_leave_others a b seat after other h apart fits =
     (ap (λ (x : State). slice_get x.seen n) (is ∙ drop.2))
     fits
 
-pub publishes_leave_seats : (a b : TableValue) (seat : WorkerSeatValue) (image : ImageValue) (version : ℕ) → Publishes a image version b → SeatFits a.state seat → SeatFits b.state seat
+pub publishes_leave_seats : (a b : TableValue) (seat : WorkerSeatValue) (image : ImageValue) (version : ℕ)
+    → Publishes a image version b → SeatFits a.state seat → SeatFits b.state seat
 publishes_leave_seats a b seat image version h fits =
     let first = h.run.1 in let second = h.run.2.1 in let third = h.run.2.2.1 in
     let is : b.state ≡ h.run.2.2.0 = h.run.2.2.2 in
-    let workers : b.state.workers ≡ a.state.workers = ap (λ (x : State). x.workers) is ∙ (ap (λ (x : State). x.workers) third.2 ∙ (ap (λ (x : State). x.workers) second.2 ∙ ap (λ (x : State). x.workers) first.3)) in
-    let seen : b.state.seen ≡ a.state.seen = ap (λ (x : State). x.seen) is ∙ (ap (λ (x : State). x.seen) third.2 ∙ (ap (λ (x : State). x.seen) second.2 ∙ ap (λ (x : State). x.seen) first.3)) in
+    let workers : b.state.workers ≡ a.state.workers =
+    ap (λ (x : State). x.workers) is ∙ (ap (λ (x : State). x.workers) third.2
+    ∙ (ap (λ (x : State). x.workers) second.2 ∙ ap (λ (x : State). x.workers) first.3)) in
+    let seen : b.state.seen ≡ a.state.seen =
+    ap (λ (x : State). x.seen) is ∙ (ap (λ (x : State). x.seen) third.2
+    ∙ (ap (λ (x : State). x.seen) second.2 ∙ ap (λ (x : State). x.seen) first.3)) in
     fits_still a.state b.state seat (ap (λ l. slice_get l seat.number) workers) (ap (λ l. slice_get l seat.number) seen) fits
 
 pub collects_leave_seats : (a b : TableValue) (seat : WorkerSeatValue) (found : Collected) → Collects a found b → SeatFits a.state seat → SeatFits b.state seat
 collects_leave_seats a b seat found h fits =
-    fits_still a.state b.state seat (ap (λ (x : State). slice_get x.workers seat.number) h.state) (ap (λ (x : State). slice_get x.seen seat.number) h.state) fits
+    fits_still a.state b.state seat (ap (λ (x : State). slice_get x.workers seat.number) h.state)
+    (ap (λ (x : State). slice_get x.seen seat.number) h.state) fits
 
 collected_stays : (a b : TableValue) (found : Collected) → Collects a found b → StaysCurrent a b
 collected_stays a b found h = record {

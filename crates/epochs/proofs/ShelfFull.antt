@@ -1,5 +1,6 @@
 -- Where each closing shelf was tried and none is free, workers are at all but the current one.
-use Rattle.std.proofs.Common.{◌≡◌, ◌≢◌, ℕ, zero, suc, ◌<◌, ◌≤◌, ◌⊎◌, Bool, true, false, List, [], ◌∷◌, ◌++◌, get_or, Option, Some, None, slice_get, refl, ap, sym, ◌∙◌, subst, arith, inl, inr}
+use Rattle.std.proofs.Common.{◌≡◌, ◌≢◌, ℕ, zero, suc, ◌<◌, ◌≤◌, ◌⊎◌, Bool, true, false, List, [], ◌∷◌, ◌++◌, get_or}
+use Rattle.std.proofs.Common.{Option, Some, None, slice_get, refl, ap, sym, ◌∙◌, subst, arith, inl, inr}
 use mathlib.Core.Logic.{dite}
 use native.Mathlib.Decide.{ℕ_discrete}
 use Rattle.std.proofs.lemmas.Option.{slice_get_within}
@@ -21,7 +22,9 @@ free_other k j (View.Loading a) _ f ne = absurd f
 free_other k j _ u' f ne = absurd f
 
 free_here : (k : ℕ) (x : Shelf) (u u' : View) → Frees k u u' → shelf_of u k ≡ Some x → shelf_of u' k ≡ Some Shelf.Free
-free_here k x (View.Loading a) (View.Loading b) f is = ap (λ (xs : List Shelf). slice_get xs k) f.shelves ∙ slice_get-set_same a.shelves k Shelf.Free (slice_get_within a.shelves k x is)
+free_here k x (View.Loading a) (View.Loading b) f is =
+    ap (λ (xs : List Shelf). slice_get xs k) f.shelves
+    ∙ slice_get-set_same a.shelves k Shelf.Free (slice_get_within a.shelves k x is)
 free_here k x (View.Loading a) _ f is = absurd f
 free_here k x _ u' f is = absurd f
 
@@ -39,7 +42,9 @@ tried_other k j None u f b u' t ne = ap (λ x. shelf_of x j) t.2
 
 -- what a shelf was, and the count that was found at it
 abbrev Told : Option Shelf → ℕ → Option Shelf → Type 0
-Told was count now = (now ≡ Some Shelf.Free) ⊎ ((now ≡ was) × ((v : ℕ) → was ≡ Some (Shelf.Closing v) → 0 < count) × ((v : ℕ) → was ≡ Some (Shelf.Open v) → count ≡ 0))
+Told was count now = (now ≡ Some Shelf.Free)
+    ⊎ ((now ≡ was) × ((v : ℕ) → was ≡ Some (Shelf.Closing v) → 0 < count)
+    × ((v : ℕ) → was ≡ Some (Shelf.Open v) → count ≡ 0))
 
 tried_here : (k : ℕ) (s : Option Shelf) (u : View) (f : Bool) (b : ℕ) (u' : View) → TriedShelf k s u f b u' → shelf_of u k ≡ s → Told s b (shelf_of u' k)
 tried_here k (Some (Shelf.Closing v)) u true b u' t is = inl (free_here k (Shelf.Closing v) u u' t.1 is)
@@ -53,25 +58,35 @@ untried zero u freed busy u' t j past = ap (λ x. shelf_of x j) t
 untried (suc n) u freed busy u' t j past =
     tried_other n j (shelf_of t.0 n) t.0 (get_or freed n false) (get_or busy n 0) u' t.2 (λ e. omega arith) ∙ untried n u freed busy t.0 t.1 j (omega arith)
 
-tried_all : (n : ℕ) (u : View) (freed : List Bool) (busy : List ℕ) (u' : View) → TriesBelow n u freed busy u' → (j : ℕ) → j < n → Told (shelf_of u j) (get_or busy j 0) (shelf_of u' j)
+tried_all : (n : ℕ) (u : View) (freed : List Bool) (busy : List ℕ) (u' : View) → TriesBelow n u freed busy u' → (j : ℕ)
+    → j < n → Told (shelf_of u j) (get_or busy j 0) (shelf_of u' j)
 tried_all zero u freed busy u' t j less = absurd (omega arith)
 tried_all (suc n) u freed busy u' t j less = dite (ℕ_discrete j n)
     (λ e. subst (λ m. Told (shelf_of u m) (get_or busy m 0) (shelf_of u' m)) (sym e)
-    (subst (λ (s : Option Shelf). Told s (get_or busy n 0) (shelf_of u' n)) (untried n u freed busy t.0 t.1 n (omega arith)) (tried_here n (shelf_of t.0 n) t.0 (get_or freed n false) (get_or busy n 0) u' t.2 refl)))
-    (λ ne. subst (λ (s : Option Shelf). Told (shelf_of u j) (get_or busy j 0) s) (sym (tried_other n j (shelf_of t.0 n) t.0 (get_or freed n false) (get_or busy n 0) u' t.2 ne)) (tried_all n u freed busy t.0 t.1 j (omega arith)))
+    (subst (λ (s : Option Shelf). Told s (get_or busy n 0) (shelf_of u' n))
+    (untried n u freed busy t.0 t.1 n (omega arith))
+    (tried_here n (shelf_of t.0 n) t.0 (get_or freed n false) (get_or busy n 0) u' t.2 refl)))
+    (λ ne. subst (λ (s : Option Shelf). Told (shelf_of u j) (get_or busy j 0) s)
+    (sym (tried_other n j (shelf_of t.0 n) t.0 (get_or freed n false) (get_or busy n 0) u' t.2 ne))
+    (tried_all n u freed busy t.0 t.1 j (omega arith)))
 
 -- a shelf that is neither free nor open is closing
-busy_at : (l : LoaderView) (k count : ℕ) (x : Shelf) → slice_get l.shelves k ≡ Some x → x ≢ Shelf.Free → ((v : ℕ) → x ≢ Shelf.Open v) → ((v : ℕ) → slice_get l.shelves k ≡ Some (Shelf.Closing v) → 0 < count) → 0 < count
+busy_at : (l : LoaderView) (k count : ℕ) (x : Shelf) → slice_get l.shelves k ≡ Some x → x ≢ Shelf.Free
+    → ((v : ℕ) → x ≢ Shelf.Open v) → ((v : ℕ) → slice_get l.shelves k ≡ Some (Shelf.Closing v) → 0 < count) → 0 < count
 busy_at l k count Shelf.Free is a b f = absurd (a refl)
 busy_at l k count (Shelf.Open v) is a b f = absurd (b v refl)
 busy_at l k count (Shelf.Closing v) is a b f = f v is
 
-pub full_so : (current current_shelf : ℕ) (shelves : List Shelf) (u u' : View) (found : Collected) → OfLoader u (λ l. Rests current current_shelf shelves l) → ¬ (HasFree u) → TriesBelow 8 u found.freed found.busy u' → ¬ (HasFree u') → AreFull u found.busy
+pub full_so : (current current_shelf : ℕ) (shelves : List Shelf) (u u' : View) (found : Collected)
+    → OfLoader u (λ l. Rests current current_shelf shelves l) → ¬ (HasFree u) → TriesBelow 8 u found.freed found.busy u'
+    → ¬ (HasFree u') → AreFull u found.busy
 full_so current current_shelf shelves (View.Working v) u' found rest none t none' = absurd rest
 full_so current current_shelf shelves (View.Noting x') u' found rest none t none' = absurd rest
 full_so current current_shelf shelves View.Spent u' found rest none t none' = absurd rest
 full_so current current_shelf shelves (View.Loading l) u' found rest none t none' =
-    let told : (j : ℕ) → j < 8 → (shelf_of u' j ≡ shelf_of (View.Loading l) j) × ((v : ℕ) → shelf_of (View.Loading l) j ≡ Some (Shelf.Closing v) → 0 < get_or found.busy j 0) × ((v : ℕ) → shelf_of (View.Loading l) j ≡ Some (Shelf.Open v) → get_or found.busy j 0 ≡ 0) =
+    let told : (j : ℕ) → j < 8 → (shelf_of u' j ≡ shelf_of (View.Loading l) j)
+    × ((v : ℕ) → shelf_of (View.Loading l) j ≡ Some (Shelf.Closing v) → 0 < get_or found.busy j 0)
+    × ((v : ℕ) → shelf_of (View.Loading l) j ≡ Some (Shelf.Open v) → get_or found.busy j 0 ≡ 0) =
     λ j less. elim (tried_all 8 (View.Loading l) found.freed found.busy u' t j less) [ inl a ↦ absurd (none' (j, a)) | inr b ↦ b ] in
     let cur : l.current_shelf ≡ current_shelf = rest.current_shelf_is in
     let same : (j : ℕ) → slice_get l.shelves j ≡ slice_get shelves j = λ j. ap (λ (xs : List Shelf). slice_get xs j) rest.shelves_are in
@@ -81,10 +96,15 @@ full_so current current_shelf shelves (View.Loading l) u' found rest none t none
       λ k less ne.
           let x = at_below shelves k (omega arith) in
           let is : slice_get l.shelves k ≡ Some x.0 = same k ∙ x.1 in
-          busy_at l k (get_or found.busy k 0) x.0 is (λ e. none (k, is ∙ ap (λ (y : Shelf). Some y) e)) (λ v e. ne (rest.one_open k v (x.1 ∙ ap (λ (y : Shelf). Some y) e) ∙ sym cur)) (told k less).1,
+          busy_at l k (get_or found.busy k 0) x.0 is (λ e. none (
+            k,
+            is ∙ ap (λ (y : Shelf). Some y) e,
+          )) (λ v e.
+          ne (rest.one_open k v (x.1 ∙ ap (λ (y : Shelf). Some y) e) ∙ sym cur)) (told k less).1,
     )
 
-pub unspent : (current current_shelf : ℕ) (shelves : List Shelf) (u : View) → OfLoader u (λ l. Rests current current_shelf shelves l) → current < 1000000000 → IsUnspent u
+pub unspent : (current current_shelf : ℕ) (shelves : List Shelf) (u : View)
+    → OfLoader u (λ l. Rests current current_shelf shelves l) → current < 1000000000 → IsUnspent u
 unspent current current_shelf shelves (View.Working v) rest less = absurd rest
 unspent current current_shelf shelves (View.Noting x') rest less = absurd rest
 unspent current current_shelf shelves View.Spent rest less = absurd rest
@@ -97,7 +117,8 @@ busy_but_one View.Spent counts full = absurd full
 busy_but_one (View.Loading l) counts full = (l.current_shelf, full.0, full.1, full.2)
 
 -- what is noted of a refusal
-pub refuses : (u u' : View) (fault : PublishFault) (before after : List LoaderAnswer) → RefusesBySteps u fault u' → after ≡ before ++ LoaderAnswer.PublishRefused fault ∷ [] → RefuseStep before fault after
+pub refuses : (u u' : View) (fault : PublishFault) (before after : List LoaderAnswer) → RefusesBySteps u fault u'
+    → after ≡ before ++ LoaderAnswer.PublishRefused fault ∷ [] → RefuseStep before fault after
 refuses u u' PublishFault.VersionsSpent before after told is = is
 refuses u u' PublishFault.OutOfMemory before after told is = is
 refuses u u' (PublishFault.ShelvesFull counts) before after told is = (busy_but_one u counts told.4, is)
@@ -110,8 +131,10 @@ freed_empty k (Some (Shelf.Open v)) u f b u' t is = t.1
 freed_empty k (Some Shelf.Free) u f b u' t is = t.1
 freed_empty k None u f b u' t is = t.1
 
-pub freed_are_empty : (n : ℕ) (u : View) (freed : List Bool) (busy : List ℕ) (u' : View) → TriesBelow n u freed busy u' → (k : ℕ) → k < n → get_or freed k false ≡ true → get_or busy k 0 ≡ 0
+pub freed_are_empty : (n : ℕ) (u : View) (freed : List Bool) (busy : List ℕ) (u' : View) → TriesBelow n u freed busy u'
+    → (k : ℕ) → k < n → get_or freed k false ≡ true → get_or busy k 0 ≡ 0
 freed_are_empty zero u freed busy u' t k less is = absurd (omega arith)
 freed_are_empty (suc n) u freed busy u' t k less is = dite (ℕ_discrete k n)
-    (λ e. freed_empty k (shelf_of t.0 k) t.0 (get_or freed k false) (get_or busy k 0) u' (subst (λ m. TriedShelf m (shelf_of t.0 m) t.0 (get_or freed m false) (get_or busy m 0) u') (sym e) t.2) is)
+    (λ e. freed_empty k (shelf_of t.0 k) t.0 (get_or freed k false) (get_or busy k 0) u'
+    (subst (λ m. TriedShelf m (shelf_of t.0 m) t.0 (get_or freed m false) (get_or busy m 0) u') (sym e) t.2) is)
     (λ ne. freed_are_empty n u freed busy t.0 t.1 k (omega arith) is)

@@ -54,10 +54,13 @@ releases_seen (View.Working a) (View.Working b) h = h.seen
 releases_seen (View.Working a) _ h = absurd h
 releases_seen _ u' h = absurd h
 
-well_holds : (u : View) (m : Mine) (number n shelf : ℕ) (e : Edition) → Well u n shelf e m.0 → IsHoldingAs number shelf e m → e.version ≡ n → HoldsIn (known_of m.0) number e.version (arc_value e.image)
+well_holds : (u : View) (m : Mine) (number n shelf : ℕ) (e : Edition) → Well u n shelf e m.0
+    → IsHoldingAs number shelf e m → e.version ≡ n → HoldsIn (known_of m.0) number e.version (arc_value e.image)
 well_holds u m number n shelf e h is same = of_view u m.0 h is.0
   where
-    of_view : (u u' : View) → Well u n shelf e u' → OfWorker u' (λ a. (a.now ≡ Worker.Holding shelf e.version) × (a.number ≡ number) × (a.edition ≡ Some e)) → HoldsIn (known_of u') number e.version (arc_value e.image)
+    of_view : (u u' : View) → Well u n shelf e u'
+        → OfWorker u' (λ a. (a.now ≡ Worker.Holding shelf e.version) × (a.number ≡ number) × (a.edition ≡ Some e))
+        → HoldsIn (known_of u') number e.version (arc_value e.image)
     of_view (View.Loading l) u' h is = absurd h
     of_view (View.Noting x') u' h is = absurd h
     of_view View.Spent u' h is = absurd h
@@ -76,7 +79,8 @@ well_holds u m number n shelf e h is same = of_view u m.0 h is.0
           published = ap (λ m. image_of b.known.images m) same ∙ (its.3 ∙ ap (λ (x : Edition). Some (arc_value x.image)) (sym is_it));
         }
 
-pub pins_hold : (u : View) (m : Mine) (number shelf : ℕ) (e : Edition) → Pins u e.version shelf e m.0 → IsHoldingAs number shelf e m → HoldsIn (known_of m.0) number e.version (arc_value e.image)
+pub pins_hold : (u : View) (m : Mine) (number shelf : ℕ) (e : Edition) → Pins u e.version shelf e m.0
+    → IsHoldingAs number shelf e m → HoldsIn (known_of m.0) number e.version (arc_value e.image)
 pins_hold u m number shelf e h is = well_holds h.2 m number e.version shelf e h.4 is refl
 
 -- what a seat shows after a pin
@@ -86,12 +90,15 @@ pub pinned_is : (a : SeatValue) (answers : List Answer) (image : Snapshot ImageV
 pinned_is a answers image shown version seen noted shows same = λ i. record { answers = noted i; held = Some (version, sym shows i); seen = same i }
 
 -- one more seat is handed out
-pub one_more_seat : (table : TableId) (n : ℕ) (seats more : List ShelfSeatValue) (seat : ShelfSeatValue) → SeatsHanded table n seats → more ≡ seats ++ seat ∷ [] → seat ≡ new_seat table n → SeatsHanded table (n + 1) more
+pub one_more_seat : (table : TableId) (n : ℕ) (seats more : List ShelfSeatValue) (seat : ShelfSeatValue)
+    → SeatsHanded table n seats → more ≡ seats ++ seat ∷ [] → seat ≡ new_seat table n → SeatsHanded table (n + 1) more
 one_more_seat table n seats more seat handed added new = (
   ap (λ (l : List ShelfSeatValue). length l) added ∙ (length-append seats (seat ∷ []) ∙ ap (λ m. m + 1) handed.0),
   λ j less. dite (ℕ_discrete j n)
       (λ e. ap (λ (l : List ShelfSeatValue). slice_get l j) added
-      ∙ (ap (λ m. slice_get (seats ++ seat ∷ []) m) (e ∙ sym handed.0) ∙ (slice_get-last seats seat ∙ ap (λ (x : ShelfSeatValue). Some x) (new ∙ ap (λ m. new_seat table m) (sym e)))))
+      ∙ (ap (λ m. slice_get (seats ++ seat ∷ []) m) (e ∙ sym handed.0)
+      ∙ (slice_get-last seats seat ∙ ap (λ (x : ShelfSeatValue). Some x) (new
+      ∙ ap (λ m. new_seat table m) (sym e)))))
       (λ ne. ap (λ (l : List ShelfSeatValue). slice_get l j) added ∙ slice_get-append seats (seat ∷ []) j (new_seat table j) (handed.1 j (omega arith))),
 )
 

@@ -1,5 +1,7 @@
 -- The loader's seat between two loads.
-use Rattle.std.proofs.Common.{◌≡◌, ◌≢◌, ℕ, zero, suc, ◌+◌, ◌<◌, ◌≤◌, Bool, false, List, [], ◌∷◌, ◌++◌, length, set, get_or, Some, slice_get, ap, sym, ◌∙◌, subst, arith, length-set, length-append, get_or-set_same, get_or-set_other, inl, inr}
+use Rattle.std.proofs.Common.{◌≡◌, ◌≢◌, ℕ, zero, suc, ◌+◌, ◌<◌, ◌≤◌, Bool, false, List, [], ◌∷◌, ◌++◌, length, set}
+use Rattle.std.proofs.Common.{get_or, Some, slice_get, ap, sym, ◌∙◌, subst, arith, length-set, length-append}
+use Rattle.std.proofs.Common.{get_or-set_same, get_or-set_other, inl, inr}
 use Rattle.std.proofs.lemmas.Option.{slice_get_within}
 use Rattle.reasoning.proofs.ListLemmas.{slice_get-set_same, slice_get-set_other}
 use Rattle.version_core.specs.declared.state.Shelf.{Shelf}
@@ -11,15 +13,18 @@ use Rattle.shelf_steps.specs.Plays.{OfLoader, newest_of}
 use Rattle.shelf_steps.specs.Loading.{Loaded, Loads}
 use Rattle.epochs.specs.ShelfLoads.{Rests, TriedShelf, TriesBelow, shelf_of}
 
-rests_loaded : (a b : LoaderView) (current current_shelf : ℕ) (shelves : List Shelf) (image : ImageValue) (shelf version : ℕ) → Rests current current_shelf shelves a → slice_get a.shelves shelf ≡ Some Shelf.Free
-    → version ≡ current + 1 → version ≤ 1000000000 → Loaded a image version shelf current_shelf b → Rests version shelf (set (set shelves shelf (Shelf.Open version)) current_shelf (Shelf.Closing current)) b
+rests_loaded : (a b : LoaderView) (current current_shelf : ℕ) (shelves : List Shelf) (image : ImageValue)
+    (shelf version : ℕ) → Rests current current_shelf shelves a → slice_get a.shelves shelf ≡ Some Shelf.Free
+    → version ≡ current + 1 → version ≤ 1000000000 → Loaded a image version shelf current_shelf b
+    → Rests version shelf (set (set shelves shelf (Shelf.Open version)) current_shelf (Shelf.Closing current)) b
 rests_loaded a b current current_shelf shelves image shelf version rest free next few loaded =
     let free' : slice_get shelves shelf ≡ Some Shelf.Free = ap (λ (xs : List Shelf). slice_get xs shelf) (sym rest.shelves_are) ∙ free in
     let within = slice_get_within shelves shelf _ free' in
     let eight = rest.small.1 in
     let first : List Shelf = set shelves shelf (Shelf.Open version) in
     let long : length first ≡ 8 = length-set shelves shelf (Shelf.Open version) ∙ eight in
-    let other : shelf ≢ current_shelf = λ e. let z : Some Shelf.Free ≡ Some (Shelf.Open current) = sym free' ∙ (ap (λ n. slice_get shelves n) e ∙ rest.stands) in cc in
+    let other : shelf ≢ current_shelf = λ e. let z : Some Shelf.Free ≡ Some (Shelf.Open current) =
+    sym free' ∙ (ap (λ n. slice_get shelves n) e ∙ rest.stands) in cc in
     let n1 = rest.newest in let n2 = rest.current_is in let n3 = length-append a.known.images (image ∷ []) in
     let n4 : newest_of b ≡ length (a.known.images ++ image ∷ []) = ap (λ (l : List ImageValue). length l) loaded.images in
     record {
@@ -47,26 +52,42 @@ rests_loaded a b current current_shelf shelves image shelf version rest free nex
       ];
     }
 
-pub rests_after : (current current_shelf : ℕ) (shelves : List Shelf) (image : ImageValue) (shelf version : ℕ) (u u' : View) → OfLoader u (λ l. Rests current current_shelf shelves l) → shelf_of u shelf ≡ Some Shelf.Free
-    → version ≡ current + 1 → version ≤ 1000000000 → Loads shelf version current_shelf image u u' → OfLoader u' (λ l. Rests version shelf (set (set shelves shelf (Shelf.Open version)) current_shelf (Shelf.Closing current)) l)
+pub rests_after : (current current_shelf : ℕ) (shelves : List Shelf) (image : ImageValue) (shelf version : ℕ)
+    (u u' : View) → OfLoader u (λ l. Rests current current_shelf shelves l) → shelf_of u shelf ≡ Some Shelf.Free
+    → version ≡ current + 1 → version ≤ 1000000000 → Loads shelf version current_shelf image u u'
+    → OfLoader u' (λ l. Rests version shelf
+    (set (set shelves shelf (Shelf.Open version)) current_shelf (Shelf.Closing current)) l)
 rests_after current current_shelf shelves image shelf version (View.Working v) u' rest free next few loaded = absurd rest
 rests_after current current_shelf shelves image shelf version (View.Noting x') u' rest free next few loaded = absurd rest
 rests_after current current_shelf shelves image shelf version View.Spent u' rest free next few loaded = absurd rest
 rests_after current current_shelf shelves image shelf version (View.Loading a) (View.Working v) rest free next few loaded = absurd loaded
 rests_after current current_shelf shelves image shelf version (View.Loading a) (View.Noting x') rest free next few loaded = absurd loaded
 rests_after current current_shelf shelves image shelf version (View.Loading a) View.Spent rest free next few loaded = absurd loaded
-rests_after current current_shelf shelves image shelf version (View.Loading a) (View.Loading b) rest free next few loaded = rests_loaded a b current current_shelf shelves image shelf version rest free next few loaded
+rests_after current current_shelf shelves image shelf version (View.Loading a) (View.Loading b) rest free next few
+    loaded = rests_loaded a b current current_shelf shelves image shelf version rest free next few loaded
 
 -- what was found below k stays found
-tries_stay : (k n : ℕ) (u u' : View) (freed : List Bool) (busy : List ℕ) (f : Bool) (b : ℕ) → k ≤ n → TriesBelow k u freed busy u' → TriesBelow k u (set freed n f) (set busy n b) u'
+tries_stay : (k n : ℕ) (u u' : View) (freed : List Bool) (busy : List ℕ) (f : Bool) (b : ℕ) → k ≤ n
+    → TriesBelow k u freed busy u' → TriesBelow k u (set freed n f) (set busy n b) u'
 tries_stay zero n u u' freed busy f b less t = t
 tries_stay (suc k) n u u' freed busy f b less t =
     let e1 = get_or-set_other freed n k f false (λ e. omega arith) in
-    let e2 = get_or-set_other busy n k b 0 (λ e. omega arith) in
-    (t.0, tries_stay k n u t.0 freed busy f b (omega arith) t.1, subst (λ x. TriedShelf k (shelf_of t.0 k) t.0 x (get_or (set busy n b) k 0) u') (sym e1) (subst (λ x. TriedShelf k (shelf_of t.0 k) t.0 (get_or freed k false) x u') (sym e2) t.2))
+    let e2 = get_or-set_other busy n k b 0 (λ e. omega arith) in (
+      t.0,
+      tries_stay k n u t.0 freed busy f b (omega arith) t.1,
+      subst (λ x. TriedShelf k (shelf_of t.0 k) t.0 x (get_or (set busy n b) k 0) u') (sym e1)
+          (subst (λ x. TriedShelf k (shelf_of t.0 k) t.0 (get_or freed k false) x u') (sym e2) t.2),
+    )
 
-pub one_more_try : (k : ℕ) (u mid u' : View) (freed : List Bool) (busy : List ℕ) (f : Bool) (b : ℕ) → k < length freed → k < length busy → TriesBelow k u freed busy mid → TriedShelf k (shelf_of mid k) mid f b u' → TriesBelow (k + 1) u (set freed k f) (set busy k b) u'
+pub one_more_try : (k : ℕ) (u mid u' : View) (freed : List Bool) (busy : List ℕ) (f : Bool) (b : ℕ) → k < length freed
+    → k < length busy → TriesBelow k u freed busy mid → TriedShelf k (shelf_of mid k) mid f b u'
+    → TriesBelow (k + 1) u (set freed k f) (set busy k b) u'
 one_more_try k u mid u' freed busy f b l1 l2 t new =
     let e : suc k ≡ k + 1 = omega arith in
-    subst (λ n. TriesBelow n u (set freed k f) (set busy k b) u') e
-    (mid, tries_stay k k u mid freed busy f b (omega arith) t, subst (λ x. TriedShelf k (shelf_of mid k) mid x (get_or (set busy k b) k 0) u') (sym (get_or-set_same freed k f false l1)) (subst (λ x. TriedShelf k (shelf_of mid k) mid f x u') (sym (get_or-set_same busy k b 0 l2)) new))
+    subst (λ n. TriesBelow n u (set freed k f) (set busy k b) u') e (
+      mid,
+      tries_stay k k u mid freed busy f b (omega arith) t,
+      subst (λ x. TriedShelf k (shelf_of mid k) mid x (get_or (set busy k b) k 0) u')
+          (sym (get_or-set_same freed k f false l1))
+          (subst (λ x. TriedShelf k (shelf_of mid k) mid f x u') (sym (get_or-set_same busy k b 0 l2)) new),
+    )

@@ -1,5 +1,7 @@
 -- Tries at closing shelves.
-use Rattle.std.proofs.Common.{◌≡◌, ℕ, zero, suc, ◌+◌, ◌<◌, ◌≤◌, Bool, true, false, List, [], ◌∷◌, ◌++◌, length, set, replicate, Option, Some, None, slice_get, get_or, refl, ap, sym, ◌∙◌, subst, arith, inl, inr, append_assoc, length-set}
+use Rattle.std.proofs.Common.{◌≡◌, ℕ, zero, suc, ◌+◌, ◌<◌, ◌≤◌, Bool, true, false, List, [], ◌∷◌, ◌++◌, length, set}
+use Rattle.std.proofs.Common.{replicate, Option, Some, None, slice_get, get_or, refl, ap, sym, ◌∙◌, subst, arith, inl}
+use Rattle.std.proofs.Common.{inr, append_assoc, length-set}
 use Rattle.std.proofs.lemmas.Option.{get_or_from_slice_get, slice_get_within}
 use mathlib.Core.Logic.{dite}
 use native.Mathlib.Decide.{ℕ_discrete}
@@ -21,7 +23,9 @@ use Rattle.epochs.specs.History.{TableValue, AreShelved, StandsOn}
 use Rattle.epochs.specs.Publishing.{TriesShelf, Collects, tries, try_at, is_freed, busy_count, after_try, HasFree, AreFull}
 
 -- a closing shelf with nobody there is freed
-pub tries_freed : (s t : State) (k v : ℕ) (before events : List Event) (images : List ImageValue) → IsClosing s k v → get_or s.counts k 0 ≡ 0 → t ≡ shelved s k Shelf.Free → CollectStep s k Reply.Freed t → events ≡ before ++ Event.Collect k ∷ []
+pub tries_freed : (s t : State) (k v : ℕ) (before events : List Event) (images : List ImageValue) → IsClosing s k v
+    → get_or s.counts k 0 ≡ 0 → t ≡ shelved s k Shelf.Free → CollectStep s k Reply.Freed t
+    → events ≡ before ++ Event.Collect k ∷ []
     → TriesShelf (record { state = s; events = before; images = images }) k true 0 (record { state = t; events = events; images = images })
 tries_freed s t k v before events images closing none is step more =
     let tried : try_at k (slice_get s.shelves k) ≡ Event.Collect k ∷ [] = ap (λ o. try_at k o) closing in
@@ -34,13 +38,17 @@ tries_freed s t k v before events images closing none is step more =
       found = λ shelf here.
           let both : Some (Shelf.Closing v) ≡ Some shelf = sym closing ∙ here in
           let one : Shelf.Closing v ≡ shelf = cc in
-          subst (λ (x : Shelf). (true ≡ is_freed x (get_or s.counts k 0)) × (0 ≡ busy_count x (get_or s.counts k 0)) × (slice_get t.shelves k ≡ Some (after_try x (get_or s.counts k 0)))) one
-          (subst (λ n. (true ≡ is_freed (Shelf.Closing v) n) × (0 ≡ busy_count (Shelf.Closing v) n) × (slice_get t.shelves k ≡ Some (after_try (Shelf.Closing v) n))) (sym none)
+          subst (λ (x : Shelf). (true ≡ is_freed x (get_or s.counts k 0)) × (0 ≡ busy_count x (get_or s.counts k 0))
+          × (slice_get t.shelves k ≡ Some (after_try x (get_or s.counts k 0)))) one
+          (subst (λ n. (true ≡ is_freed (Shelf.Closing v) n) × (0 ≡ busy_count (Shelf.Closing v) n)
+          × (slice_get t.shelves k ≡ Some (after_try (Shelf.Closing v) n))) (sym none)
           (refl, refl, ap (λ (x : State). slice_get x.shelves k) is ∙ slice_get-set_same s.shelves k Shelf.Free (slice_get_within s.shelves k _ closing)));
     }
 
 -- one with workers there stays
-pub tries_busy : (s t : State) (k v count : ℕ) (before events : List Event) (images : List ImageValue) → IsClosing s k v → get_or s.counts k 0 ≡ count → 0 < count → t ≡ s → CollectStep s k (Reply.Busy count) t → events ≡ before ++ Event.Collect k ∷ []
+pub tries_busy : (s t : State) (k v count : ℕ) (before events : List Event) (images : List ImageValue) → IsClosing s k v
+    → get_or s.counts k 0 ≡ count → 0 < count → t ≡ s → CollectStep s k (Reply.Busy count) t
+    → events ≡ before ++ Event.Collect k ∷ []
     → TriesShelf (record { state = s; events = before; images = images }) k false count (record { state = t; events = events; images = images })
 tries_busy s t k v zero before events images closing some more_than is step more = absurd (omega arith)
 tries_busy s t k v (suc n) before events images closing some more_than is step more =
@@ -54,13 +62,17 @@ tries_busy s t k v (suc n) before events images closing some more_than is step m
       found = λ shelf here.
           let both : Some (Shelf.Closing v) ≡ Some shelf = sym closing ∙ here in
           let one : Shelf.Closing v ≡ shelf = cc in
-          subst (λ (x : Shelf). (false ≡ is_freed x (get_or s.counts k 0)) × (suc n ≡ busy_count x (get_or s.counts k 0)) × (slice_get t.shelves k ≡ Some (after_try x (get_or s.counts k 0)))) one
-          (subst (λ m. (false ≡ is_freed (Shelf.Closing v) m) × (suc n ≡ busy_count (Shelf.Closing v) m) × (slice_get t.shelves k ≡ Some (after_try (Shelf.Closing v) m))) (sym some)
+          subst (λ (x : Shelf). (false ≡ is_freed x (get_or s.counts k 0))
+          × (suc n ≡ busy_count x (get_or s.counts k 0))
+          × (slice_get t.shelves k ≡ Some (after_try x (get_or s.counts k 0)))) one
+          (subst (λ m. (false ≡ is_freed (Shelf.Closing v) m) × (suc n ≡ busy_count (Shelf.Closing v) m)
+          × (slice_get t.shelves k ≡ Some (after_try (Shelf.Closing v) m))) (sym some)
           (refl, refl, ap (λ (x : State). slice_get x.shelves k) is ∙ closing));
     }
 
 -- a shelf that is freed lets its edition go
-pub free_shelved : (shelves : List Shelf) (editions : List (Option Edition)) (images : List ImageValue) (k : ℕ) (was : Shelf) → slice_get shelves k ≡ Some was → k < 8 → AreShelved shelves editions images
+pub free_shelved : (shelves : List Shelf) (editions : List (Option Edition)) (images : List ImageValue) (k : ℕ)
+    (was : Shelf) → slice_get shelves k ≡ Some was → k < 8 → AreShelved shelves editions images
     → AreShelved (set shelves k Shelf.Free) (set editions k None) images
 free_shelved shelves editions images k was here small h = record {
   eight = length-set editions k None ∙ h.eight;
@@ -113,7 +125,8 @@ nothing_tried a = record {
 join_runs : (s t u : State) (first second : List Event) → RunsJoin → IsRun s first t → IsRun t second u → IsRun s (first ++ second) u
 join_runs s t u first second law a b = record { replies = a.replies ++ b.replies; run = law s t u first second a.replies b.replies a.run b.run }
 
-one_more : (n : ℕ) (a m b : TableValue) (freed : List Bool) (busy : List ℕ) (f : Bool) (c : ℕ) → RunsJoin → n < 8 → CollectsBelow n a freed busy m → TriesShelf m n f c b
+one_more : (n : ℕ) (a m b : TableValue) (freed : List Bool) (busy : List ℕ) (f : Bool) (c : ℕ) → RunsJoin → n < 8
+    → CollectsBelow n a freed busy m → TriesShelf m n f c b
     → CollectsBelow (suc n) a (set freed n f) (set busy n c) b
 one_more n a m b freed busy f c law small h t =
     let same : slice_get m.state.shelves n ≡ slice_get a.state.shelves n = h.later n (omega arith) in
@@ -122,8 +135,11 @@ one_more n a m b freed busy f c law small h t =
     let l = h.eight_freed in let q = h.eight_busy in
     record {
       most = omega arith;
-      run = join_runs a.state m.state b.state (tries a.state.shelves n) (try_at n (slice_get a.state.shelves n)) law h.run (subst (λ (x : List Event). IsRun m.state x b.state) tried t.run);
-      events = t.events ∙ (ap (λ (x : List Event). m.events ++ x) tried ∙ (ap (λ (x : List Event). x ++ try_at n (slice_get a.state.shelves n)) h.events ∙ append_assoc a.events (tries a.state.shelves n) (try_at n (slice_get a.state.shelves n))));
+      run = join_runs a.state m.state b.state (tries a.state.shelves n) (try_at n (slice_get a.state.shelves n)) law
+          h.run (subst (λ (x : List Event). IsRun m.state x b.state) tried t.run);
+      events = t.events ∙ (ap (λ (x : List Event). m.events ++ x) tried
+          ∙ (ap (λ (x : List Event). x ++ try_at n (slice_get a.state.shelves n)) h.events
+          ∙ append_assoc a.events (tries a.state.shelves n) (try_at n (slice_get a.state.shelves n))));
       images = t.images ∙ h.images;
       state = t.state ∙ ap (λ (x : State). record x { shelves = b.state.shelves }) h.state;
       eight_freed = length-set freed n f ∙ h.eight_freed;
@@ -133,9 +149,14 @@ one_more n a m b freed busy f c law small h t =
           (λ e.
           let at_n : slice_get m.state.shelves n ≡ Some shelf = same ∙ (ap (λ i. slice_get a.state.shelves i) (sym e) ∙ here) in
           let found = t.found shelf at_n in
-          let at_count : get_or m.state.counts n 0 ≡ get_or a.state.counts k 0 = ap (λ (x : List ℕ). get_or x n 0) counts ∙ ap (λ i. get_or a.state.counts i 0) (sym e) in (
-            ap (λ i. slice_get (set freed n f) i) e ∙ (slice_get-set_same freed n f (omega arith) ∙ (ap (λ (x : Bool). Some x) found.0 ∙ ap (λ i. Some (is_freed shelf i)) at_count)),
-            ap (λ i. slice_get (set busy n c) i) e ∙ (slice_get-set_same busy n c (omega arith) ∙ (ap (λ (x : ℕ). Some x) found.1 ∙ ap (λ i. Some (busy_count shelf i)) at_count)),
+          let at_count : get_or m.state.counts n 0 ≡ get_or a.state.counts k 0 =
+          ap (λ (x : List ℕ). get_or x n 0) counts ∙ ap (λ i. get_or a.state.counts i 0) (sym e) in (
+            ap (λ i. slice_get (set freed n f) i) e
+                ∙ (slice_get-set_same freed n f (omega arith)
+                ∙ (ap (λ (x : Bool). Some x) found.0 ∙ ap (λ i. Some (is_freed shelf i)) at_count)),
+            ap (λ i. slice_get (set busy n c) i) e
+                ∙ (slice_get-set_same busy n c (omega arith)
+                ∙ (ap (λ (x : ℕ). Some x) found.1 ∙ ap (λ i. Some (busy_count shelf i)) at_count)),
             ap (λ i. slice_get b.state.shelves i) e ∙ (found.2 ∙ ap (λ i. Some (after_try shelf i)) at_count),
           ))
           (λ other.
@@ -146,13 +167,15 @@ one_more n a m b freed busy f c law small h t =
           ));
     }
 
-pub one_more_tried : (n : ℕ) (a m b : TableValue) (freed : List Bool) (busy : List ℕ) (f : Bool) (c : ℕ) → RunsJoin → n < 8 → CollectsBelow n a freed busy m → TriesShelf m n f c b
+pub one_more_tried : (n : ℕ) (a m b : TableValue) (freed : List Bool) (busy : List ℕ) (f : Bool) (c : ℕ) → RunsJoin
+    → n < 8 → CollectsBelow n a freed busy m → TriesShelf m n f c b
     → CollectsBelow (n + 1) a (set freed n f) (set busy n c) b
 one_more_tried n a m b freed busy f c law small h t =
     let e : suc n ≡ n + 1 = omega arith in
     subst (λ i. CollectsBelow i a (set freed n f) (set busy n c) b) e (one_more n a m b freed busy f c law small h t)
 
-pub all_tried : (n : ℕ) (a : TableValue) (found : Collected) (b : TableValue) → Kept a.state → 8 ≤ n → CollectsBelow n a found.freed found.busy b → Collects a found b
+pub all_tried : (n : ℕ) (a : TableValue) (found : Collected) (b : TableValue) → Kept a.state → 8 ≤ n
+    → CollectsBelow n a found.freed found.busy b → Collects a found b
 all_tried n a found b kept done h =
     let most = h.most in
     let eight : n ≡ 8 = omega arith in
@@ -167,12 +190,14 @@ all_tried n a found b kept done h =
 nothing_waits : (s : State) → IsAtRest s → (k v : ℕ) → ¬ (IsUnpublished s k v)
 nothing_waits s rest k v new = let e = rest.one_open k v new.0 in let l = new.1 in omega arith
 
-left_busy : (count : ℕ) (v : ℕ) (b : TableValue) (k : ℕ) → ¬ (HasFree b.state) → slice_get b.state.shelves k ≡ Some (after_try (Shelf.Closing v) count) → 0 < count
+left_busy : (count : ℕ) (v : ℕ) (b : TableValue) (k : ℕ) → ¬ (HasFree b.state)
+    → slice_get b.state.shelves k ≡ Some (after_try (Shelf.Closing v) count) → 0 < count
 left_busy zero v b k none here = absurd (none (k, here))
 left_busy (suc n) v b k none here = omega arith
 
 -- where no shelf is free after all tries, workers are at each but the current one
-pub full_after : (a : TableValue) (found : Collected) (b : TableValue) → RestIsFull → Kept a.state → IsAtRest a.state → newest a.state < 1000000000 → ¬ (HasFree a.state) → ¬ (HasFree b.state) → Collects a found b
+pub full_after : (a : TableValue) (found : Collected) (b : TableValue) → RestIsFull → Kept a.state → IsAtRest a.state
+    → newest a.state < 1000000000 → ¬ (HasFree a.state) → ¬ (HasFree b.state) → Collects a found b
     → AreFull a.state found.busy
 full_after a found b law kept rest left none still h = record {
   current =

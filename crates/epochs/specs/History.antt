@@ -41,4 +41,5 @@ HeldHaveImages s images = (w k v : ℕ) → Holds s w k v → (image : ImageValu
 -- each shelf has the image of its version, and a free one has none
 pub record AreShelved (shelves : List Shelf) (editions : List (Option Edition)) (images : List ImageValue) : Type 0 where
   pub eight : length editions ≡ 8
-  pub each : (k : ℕ) (shelf : Shelf) (edition : Option Edition) → slice_get shelves k ≡ Some shelf → slice_get editions k ≡ Some edition → StandsOn images shelf edition
+  pub each : (k : ℕ) (shelf : Shelf) (edition : Option Edition) → slice_get shelves k ≡ Some shelf
+      → slice_get editions k ≡ Some edition → StandsOn images shelf edition

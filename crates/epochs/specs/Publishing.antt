@@ -70,7 +70,8 @@ pub record Publishes (a : TableValue) (image : ImageValue) (version : ℕ) (b : 
   pub free : IsFree a.state shelf
   pub least : (j : ℕ) → j < shelf → ¬ (IsFree a.state j)
   pub next : version ≡ newest a.state + 1
-  pub run : Run a.state (Event.Open (newest a.state) ∷ Event.Publish ∷ Event.Close a.state.current_shelf ∷ []) (Reply.Opened version shelf ∷ Reply.Published version ∷ Reply.Closing ∷ []) b.state
+  pub run : Run a.state (Event.Open (newest a.state) ∷ Event.Publish ∷ Event.Close a.state.current_shelf
+      ∷ []) (Reply.Opened version shelf ∷ Reply.Published version ∷ Reply.Closing ∷ []) b.state
   pub events : b.events ≡ a.events ++ Event.Open (newest a.state) ∷ Event.Publish ∷ Event.Close a.state.current_shelf ∷ []
   pub images : b.images ≡ a.images ++ image ∷ []
   pub current : b.state.current ≡ version

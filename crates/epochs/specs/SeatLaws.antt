@@ -19,14 +19,17 @@ NewSeatsFit = (number : ℕ) → number < 16 → SeatFits start (idle_seat numbe
 
 -- what one seat does leaves the others fitting
 abbrev pub PinsLeaveOthers : Type 0
-PinsLeaveOthers = (a b : TableValue) (seat after other : WorkerSeatValue) → LockedPins a seat b after → other.number ≢ seat.number → SeatFits a.state other → SeatFits b.state other
+PinsLeaveOthers = (a b : TableValue) (seat after other : WorkerSeatValue) → LockedPins a seat b after
+    → other.number ≢ seat.number → SeatFits a.state other → SeatFits b.state other
 
 abbrev pub ReleasesLeaveOthers : Type 0
-ReleasesLeaveOthers = (a b : TableValue) (seat after other : WorkerSeatValue) → Releases a seat b after → other.number ≢ seat.number → SeatFits a.state other → SeatFits b.state other
+ReleasesLeaveOthers = (a b : TableValue) (seat after other : WorkerSeatValue) → Releases a seat b after
+    → other.number ≢ seat.number → SeatFits a.state other → SeatFits b.state other
 
 -- and so does what the loader does
 abbrev pub PublishesLeaveSeats : Type 0
-PublishesLeaveSeats = (a b : TableValue) (seat : WorkerSeatValue) (image : ImageValue) (version : ℕ) → Publishes a image version b → SeatFits a.state seat → SeatFits b.state seat
+PublishesLeaveSeats = (a b : TableValue) (seat : WorkerSeatValue) (image : ImageValue) (version : ℕ)
+    → Publishes a image version b → SeatFits a.state seat → SeatFits b.state seat
 
 abbrev pub CollectsLeaveSeats : Type 0
 CollectsLeaveSeats = (a b : TableValue) (seat : WorkerSeatValue) (found : Collected) → Collects a found b → SeatFits a.state seat → SeatFits b.state seat

@@ -50,7 +50,8 @@ JoinStep a version b = b ≡ record a { seen = max a.seen version }
 
 -- a loader's seat shows its answers so far. From one list to the next, by a publish of this image as this version
 abbrev pub PublishStep : List LoaderAnswer → ImageValue → ℕ → List LoaderAnswer → Type 0
-PublishStep a image version b = (1 < version) × (version ≤ 1000000000) × ((shown : Snapshot ImageValue) × (shown.value ≡ image) × (b ≡ a ++ LoaderAnswer.Published version shown ∷ []))
+PublishStep a image version b = (1 < version) × (version ≤ 1000000000)
+    × ((shown : Snapshot ImageValue) × (shown.value ≡ image) × (b ≡ a ++ LoaderAnswer.Published version shown ∷ []))
 
 -- workers are at every shelf but one, the current one
 abbrev pub AreBusyButOne : List ℕ → Type 0

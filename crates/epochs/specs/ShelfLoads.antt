@@ -47,7 +47,8 @@ shelf_of _ k = None
 -- a try at each closing shelf below n, one after another
 abbrev pub TriesBelow : ℕ → View → List Bool → List ℕ → View → Type 0
 TriesBelow zero u freed busy u' = u' ≡ u
-TriesBelow (suc k) u freed busy u' = (mid : View) × TriesBelow k u freed busy mid × TriedShelf k (shelf_of mid k) mid (slice_index_or freed k false) (slice_index_or busy k 0) u'
+TriesBelow (suc k) u freed busy u' = (mid : View) × TriesBelow k u freed busy mid
+    × TriedShelf k (shelf_of mid k) mid (slice_index_or freed k false) (slice_index_or busy k 0) u'
 
 abbrev pub CollectsBySteps : View → Collected → View → Type 0
 CollectsBySteps u found u' = TriesBelow 8 u found.freed found.busy u'
@@ -75,7 +76,8 @@ PublishesWithNotice u image version u' = (loaded : View) × PublishesBySteps u i
 
 -- so many workers at each shelf but the current one
 abbrev pub AreFull : View → List ℕ → Type 0
-AreFull u counts = OfLoader u (λ l. (l.current_shelf < 8) × (slice_index_or counts l.current_shelf 0 ≡ 0) × ((k : ℕ) → k < 8 → k ≢ l.current_shelf → 0 < slice_index_or counts k 0))
+AreFull u counts = OfLoader u (λ l. (l.current_shelf < 8) × (slice_index_or counts l.current_shelf 0 ≡ 0)
+    × ((k : ℕ) → k < 8 → k ≢ l.current_shelf → 0 < slice_index_or counts k 0))
 
 -- there is a number left
 abbrev pub IsUnspent : View → Type 0
@@ -85,4 +87,6 @@ IsUnspent u = OfLoader u (λ l. l.current < 1000000000)
 abbrev pub RefusesBySteps : View → PublishFault → View → Type 0
 RefusesBySteps u PublishFault.VersionsSpent u' = OfLoader u (λ l. l.current ≡ 1000000000) × (u' ≡ u)
 RefusesBySteps u PublishFault.OutOfMemory u' = IsUnspent u × MakesRoomBySteps u u' × HasFree u'
-RefusesBySteps u (PublishFault.ShelvesFull counts) u' = IsUnspent u × (¬ (HasFree u)) × ((found : Collected) × CollectsBySteps u found u' × (counts ≡ found.busy)) × (¬ (HasFree u')) × AreFull u counts
+RefusesBySteps u (PublishFault.ShelvesFull counts) u' =
+    IsUnspent u × (¬ (HasFree u)) × ((found : Collected) × CollectsBySteps u found u' × (counts ≡ found.busy))
+    × (¬ (HasFree u')) × AreFull u counts

@@ -33,9 +33,12 @@ abbrev pub FitsSeat : ℕ → Option (ℕ × Edition) → Mine → Type 0
 FitsSeat number None m = IsIdleAs number m
 FitsSeat number (Some h) m = (h.0 < 8) × IsHoldingAs number h.0 h.1 m × HoldsIn (known_of m.0) number h.1.version (arc_value h.1.image)
 
--- one to four looks that rise, of which the last found the version that is held; or four that rise, each followed by a take that came late and a drop; or nothing, where the seat held a version. No other fault comes
+-- one to four looks that rise, of which the last found the version that is held; or four that rise, each followed by a
+-- take that came late and a drop; or nothing, where the seat held a version. No other fault comes
 abbrev pub PinsBySteps : ShelfSeatValue → Result (Unit {0}) PinFault → ShelfSeatValue → Type 0
-PinsBySteps a (Ok u) b = (a.shown.held ≡ None) × ((shelf : ℕ) × (e : Edition) × Pins a.view e.version shelf e b.view × (b.shown.held ≡ Some (e.version, arc_value e.image)))
+PinsBySteps a (Ok u) b = (a.shown.held ≡ None)
+    × ((shelf : ℕ) × (e : Edition) × Pins a.view e.version shelf e b.view
+    × (b.shown.held ≡ Some (e.version, arc_value e.image)))
 PinsBySteps a (Err (PinFault.Moved newest)) b = (a.shown.held ≡ None) × Moves a.view newest b.view × (b.shown.held ≡ None)
 PinsBySteps a (Err PinFault.AlreadyPinned) b = (a.shown.held ≢ None) × (b.view ≡ a.view) × (b.shown.held ≡ a.shown.held)
 PinsBySteps a (Err _) b = ⊥

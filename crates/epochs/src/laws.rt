@@ -1,11 +1,14 @@
 //! Laws over what seats do to a table. The functions do nothing: their contracts are the laws.
 
-ghost use Rattle.epochs.specs.SeatLaws.{NewSeatsFit, PinsLeaveOthers, ReleasesLeaveOthers, PublishesLeaveSeats, CollectsLeaveSeats};
+ghost use Rattle.epochs.specs.SeatLaws.{NewSeatsFit, PinsLeaveOthers, ReleasesLeaveOthers, PublishesLeaveSeats};
+ghost use Rattle.epochs.specs.SeatLaws.{CollectsLeaveSeats};
 ghost use Rattle.epochs.specs.SeatHistory.{GrowthsJoin, OneImageEach, PublishedStay};
-ghost use Rattle.epochs.specs.SeatLaws.{PinsHoldPublished, CallsKeepPublished, JoinedVersionsStay, JoinedVersionsStayAtShelves};
+ghost use Rattle.epochs.specs.SeatLaws.{PinsHoldPublished, CallsKeepPublished, JoinedVersionsStay};
+ghost use Rattle.epochs.specs.SeatLaws.{JoinedVersionsStayAtShelves};
 
-/// A new seat fits a new table, and what others do leaves it so. After its own pins and releases it fits by their contracts.
-/// So a seat that is used at the table that it was handed out with, and nowhere else, is never lost.
+/// A new seat fits a new table, and what others do leaves it so. After its own pins and releases it
+/// fits by their contracts. So a seat that is used at the table that it was handed out with, and
+/// nowhere else, is never lost.
 pub fn seats_keep_fitting()
     ensures new { NewSeatsFit }
     ensures pins { PinsLeaveOthers }
@@ -27,14 +30,14 @@ pub fn versions_have_one_image()
     ensures join { GrowthsJoin }
 {}
 
-/// Once a seat has taken in a notice of a version, each of its pins that isn't refused since it holds one already gives that
-/// version or a newer one, or tells that it moved, with a newer one.
+/// Once a seat has taken in a notice of a version, each of its pins that isn't refused since it
+/// holds one already gives that version or a newer one, or tells that it moved, with a newer one.
 pub fn joined_versions_stay()
     ensures { JoinedVersionsStay }
 {}
 
-/// The same of the calls of shelves without a lock, whatever their name: such a pin looks and takes, and what it holds is what
-/// its last look found; it is refused for no other reason.
+/// The same of the calls of shelves without a lock, whatever their name: such a pin looks and
+/// takes, and what it holds is what its last look found; it is refused for no other reason.
 pub fn joined_versions_stay_at_shelves()
     ensures { JoinedVersionsStayAtShelves }
 {}

@@ -20,12 +20,13 @@ use std::sync::{Arc, Mutex, MutexGuard, Wait};
 
 /// A table of versions under one lock.
 ///
-/// Each call says what it does to the seat, and that a table with its history was there, of which it made another one as the
-/// same call of `VersionTable` does. No clause says that two calls meet one table: a lock can't be asked what it holds. So the
-/// exact clauses are those of `VersionTable`, which is lent the table; here each call only hands it on.
+/// Each call says what it does to the seat, and that a table with its history was there, of which
+/// it made another one as the same call of `VersionTable` does. No clause says that two calls meet
+/// one table: a lock can't be asked what it holds. So the exact clauses are those of
+/// `VersionTable`, which is lent the table; here each call only hands it on.
 ///
-/// A lock can't know its seats either. A seat of another table may be used too, and is answered `SeatLost` where its worker
-/// isn't what the seat says.
+/// A lock can't know its seats either. A seat of another table may be used too, and is answered
+/// `SeatLost` where its worker isn't what the seat says.
 #[derive(Drop)]
 pub struct LockedShelves {
     table: Mutex<VersionTable>,
@@ -82,8 +83,10 @@ fn publish_at(
 ) -> Result<u64, (Arc<Verified, Global>, PublishFault)>
     requires { HasHistory table.old }
     ensures back { IfErr result (λ e. e.0 ≡ image) }
-    ensures loader { MatchResult result (λ v. PublishStep loader.old (arc_value image) v loader.new) (λ e. RefuseStep loader.old e.1 loader.new) }
-    ensures table { MatchResult result (λ v. UnderLock (λ a b. PublishesAt a (arc_value image) (Ok v) b)) (λ e. UnderLock (λ a b. PublishesAt a (arc_value image) (Err e.1) b)) }
+    ensures loader { MatchResult result (λ v. PublishStep loader.old (arc_value image) v loader.new)
+        (λ e. RefuseStep loader.old e.1 loader.new) }
+    ensures table { MatchResult result (λ v. UnderLock (λ a b. PublishesAt a (arc_value image) (Ok v) b))
+        (λ e. UnderLock (λ a b. PublishesAt a (arc_value image) (Err e.1) b)) }
 {
     let answer = table.publish(loader, image);
     table.history();
@@ -116,7 +119,10 @@ impl LockedShelves {
 
     /// The version that the seat holds, with its image.
     pub fn edition(seat: &WorkerSeat) -> Option<&Edition>
-        ensures { MatchOption result (seat.now.shown.held ≡ None) (λ e. seat.now.shown.held ≡ Some (e.now.version, arc_value e.now.image)) }
+        ensures { MatchOption result (seat.now.shown.held ≡ None) (λ e. seat.now.shown.held ≡ Some (
+          e.now.version,
+          arc_value e.now.image,
+        )) }
     {
         seat.edition()
     }
@@ -142,8 +148,10 @@ impl LockedShelves {
         image: Arc<Verified, Global>,
     ) -> Result<u64, (Arc<Verified, Global>, PublishFault)>
         ensures back { IfErr result (λ e. e.0 ≡ image) }
-        ensures loader { MatchResult result (λ v. PublishStep loader.old (arc_value image) v loader.new) (λ e. RefuseStep loader.old e.1 loader.new) }
-        ensures table { MatchResult result (λ v. UnderLock (λ a b. PublishesAt a (arc_value image) (Ok v) b)) (λ e. UnderLock (λ a b. PublishesAt a (arc_value image) (Err e.1) b)) }
+        ensures loader { MatchResult result (λ v. PublishStep loader.old (arc_value image) v loader.new)
+            (λ e. RefuseStep loader.old e.1 loader.new) }
+        ensures table { MatchResult result (λ v. UnderLock (λ a b. PublishesAt a (arc_value image) (Ok v) b))
+            (λ e. UnderLock (λ a b. PublishesAt a (arc_value image) (Err e.1) b)) }
     {
         let mut table = told(self.table.lock(rt));
         publish_at(&mut table, loader, image)

@@ -23,8 +23,8 @@ use std::alloc::Global;
 use std::marker::{Brand, Model, PhantomData};
 use std::sync::{Arc, Wait};
 
-/// A name of shelves: a type that stands for one table, so that a seat, a notice or a loader of it is known by its type. `Brand`
-/// gives a fresh one for each call.
+/// A name of shelves: a type that stands for one table, so that a seat, a notice or a loader of it
+/// is known by its type. `Brand` gives a fresh one for each call.
 pub trait Named {
     ghost use Rattle.atomic_table.specs.Seated.{TableId};
 
@@ -34,7 +34,16 @@ pub trait Named {
 impl Named for Brand {
     ghost use Rattle.std.specs.Prelude.{[]};
 
-    ghost table = { record { words = 9; slots = 128; views_name = 0; atom = 0; block = 0; offset = 0; slot_names = [] } };
+    ghost table = { record {
+      words = 9;
+      slots = 128;
+      views_name = 0;
+      atom = 0;
+      block = 0;
+      offset = 0;
+      slot_names =
+          [];
+    } };
 }
 
 /// Something that belongs to one table of shelves; contracts see to which.
@@ -116,8 +125,8 @@ impl<B: Named> NamedNotice<B> {
 /// That shelves are for as many workers as there are seats. No value of it is made.
 pub struct ManySeats;
 
-/// Shelves without a lock, under a name: seats, the loader's seat and notices of the name are of these shelves. `K` says for
-/// whom they are, `ManySeats` or `OneSeat`.
+/// Shelves without a lock, under a name: seats, the loader's seat and notices of the name are of
+/// these shelves. `K` says for whom they are, `ManySeats` or `OneSeat`.
 #[derive(Drop)]
 pub struct NamedShelves<B: Named, K = ManySeats> {
     shelves: Shelves,
@@ -246,10 +255,15 @@ impl<B: Named, K> Loads for NamedShelves<B, K> {
         image: Arc<Verified, Global>,
     ) -> Result<(u64, Option<NamedNotice<B>>), (Arc<Verified, Global>, PublishFault)>
         ensures back { IfErr result (λ e. e.0 ≡ image) }
-        ensures current { MatchResult result (λ r. loader.new.current ≡ r.0) (λ _. loader.new.current ≡ loader.old.current) }
+        ensures current { MatchResult result (λ r. loader.new.current ≡ r.0) (λ _. loader.new.current
+            ≡ loader.old.current) }
         ensures next { IfOk result (λ r. r.0 ≡ loader.old.current + 1) }
-        ensures loader { MatchResult result (λ r. PublishStep loader.old.answers (arc_value image) r.0 loader.new.answers) (λ e. RefuseStep loader.old.answers e.1 loader.new.answers) }
-        ensures steps { MatchResult result (λ r. (room : View) × MakesRoomBySteps loader.old.view room × PublishesWithNotice room (arc_value image) r.0 loader.new.view) (λ e. RefusesBySteps loader.old.view e.1 loader.new.view) }
+        ensures loader { MatchResult result (λ r.
+            PublishStep loader.old.answers (arc_value image) r.0 loader.new.answers)
+            (λ e. RefuseStep loader.old.answers e.1 loader.new.answers) }
+        ensures steps { MatchResult result (λ r. (room : View) × MakesRoomBySteps loader.old.view room
+            × PublishesWithNotice room (arc_value image) r.0 loader.new.view)
+            (λ e. RefusesBySteps loader.old.view e.1 loader.new.view) }
         ensures notice { IfOk result (λ r. r.1 ≡ Some (record { table = self.now; version = r.0 })) }
     {
         let published = match self.shelves.publish(&mut loader.inner, image) {

@@ -38,8 +38,8 @@ struct Pin {
     edition: Edition,
 }
 
-/// A worker's seat at shelves under one lock: the number of its worker, what that is doing, and the greatest version that
-/// it has seen.
+/// A worker's seat at shelves under one lock: the number of its worker, what that is doing, and the
+/// greatest version that it has seen.
 #[derive(Drop)]
 pub struct WorkerSeat {
     number: usize,
@@ -53,7 +53,12 @@ impl Model for WorkerSeat {
 
     ghost Value = { WorkerSeatValue };
 
-    ghost view = { λ s. record { number = s.number; worker = worker_of s.held; shown = record { answers = s.answers; held = held_of s.held; seen = s.seen } } };
+    ghost view = { λ s. record {
+      number = s.number;
+      worker = worker_of s.held;
+      shown =
+          record { answers = s.answers; held = held_of s.held; seen = s.seen };
+    } };
 }
 
 impl WorkerSeat {
@@ -85,7 +90,10 @@ impl WorkerSeat {
 
     /// The version that the seat holds, with its image.
     pub fn edition(&self) -> Option<&Edition>
-        ensures { MatchOption result (self.now.shown.held ≡ None) (λ e. self.now.shown.held ≡ Some (e.now.version, arc_value e.now.image)) }
+        ensures { MatchOption result (self.now.shown.held ≡ None) (λ e. self.now.shown.held ≡ Some (
+          e.now.version,
+          arc_value e.now.image,
+        )) }
     {
         match &self.held {
             Some(pin) => Some(&pin.edition),

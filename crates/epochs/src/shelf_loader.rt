@@ -1,6 +1,7 @@
 //! The seat from which a loader publishes versions without a lock.
 
-ghost use Rattle.std.specs.Prelude.{◌≡◌, ℕ, ◌+◌, ◌<◌, ◌≤◌, [], ◌∷◌, ◌++◌, Some, IfOk, IfErr, OnErr, MatchBool, MatchOption, MatchResult};
+ghost use Rattle.std.specs.Prelude.{◌≡◌, ℕ, ◌+◌, ◌<◌, ◌≤◌, [], ◌∷◌, ◌++◌, Some, IfOk, IfErr, OnErr, MatchBool};
+ghost use Rattle.std.specs.Prelude.{MatchOption, MatchResult};
 ghost use Rattle.std.specs.Arc.{arc_value};
 ghost use Rattle.image_layout.specs.Image.{ImageValue};
 ghost use Rattle.version_core.specs.declared.state.Shelf.{Shelf};
@@ -9,7 +10,8 @@ ghost use Rattle.shelf_steps.specs.Loading.{Loads};
 ghost use Rattle.shelf_steps.specs.Plays.{gives_notice};
 ghost use Rattle.shelf_steps.specs.declared.views.View.{View};
 ghost use Rattle.epochs.specs.Seats.{PublishStep, RefuseStep, CollectStep};
-ghost use Rattle.epochs.specs.ShelfLoads.{CollectsBySteps, TriedShelf, shelf_of, IsFreeIn, HasFree, IsLeastFree, MakesRoomBySteps, PublishesBySteps, RefusesBySteps, IsUnspent};
+ghost use Rattle.epochs.specs.ShelfLoads.{CollectsBySteps, TriedShelf, shelf_of, IsFreeIn, HasFree, IsLeastFree};
+ghost use Rattle.epochs.specs.ShelfLoads.{MakesRoomBySteps, PublishesBySteps, RefusesBySteps, IsUnspent};
 ghost use Rattle.epochs.specs.declared.faults.PublishFault.{PublishFault};
 
 use crate::collected::Collected;
@@ -25,8 +27,8 @@ use std::sync::Arc;
 use timetable::Trace;
 use version_core::{MOST_VERSIONS, Shelf};
 
-/// The loader's seat at shelves without a lock. It remembers the current version and what each shelf is for, which nobody else
-/// changes.
+/// The loader's seat at shelves without a lock. It remembers the current version and what each
+/// shelf is for, which nobody else changes.
 #[derive(Drop)]
 pub struct ShelfLoader {
     place: Place,
@@ -41,7 +43,13 @@ impl Model for ShelfLoader {
 
     ghost Value = { ShelfLoaderValue };
 
-    ghost view = { λ s. record { table = s.place.table; view = s.place.me.0; current = s.current; answers = s.answers } };
+    ghost view = { λ s. record {
+      table = s.place.table;
+      view = s.place.me.0;
+      current = s.current;
+      answers =
+          s.answers;
+    } };
 
     ghost invariant = { λ s. RestsHere s.current s.current_shelf s.shelves s.place.me };
 }
@@ -105,8 +113,11 @@ impl ShelfLoader {
         ensures back { IfErr result (λ e. e.0 ≡ image) }
         ensures current { MatchResult result (λ v. self.new.current ≡ v) (λ _. self.new.current ≡ self.old.current) }
         ensures next { IfOk result (λ v. v ≡ self.old.current + 1) }
-        ensures loader { MatchResult result (λ v. PublishStep self.old.answers (arc_value image) v self.new.answers) (λ e. RefuseStep self.old.answers e.1 self.new.answers) }
-        ensures steps { MatchResult result (λ v. (room : View) × MakesRoomBySteps self.old.view room × PublishesBySteps room (arc_value image) v self.new.view) (λ e. RefusesBySteps self.old.view e.1 self.new.view) }
+        ensures loader { MatchResult result (λ v. PublishStep self.old.answers (arc_value image) v self.new.answers)
+            (λ e. RefuseStep self.old.answers e.1 self.new.answers) }
+        ensures steps { MatchResult result (λ v. (room : View) × MakesRoomBySteps self.old.view room
+            × PublishesBySteps room (arc_value image) v self.new.view)
+            (λ e. RefusesBySteps self.old.view e.1 self.new.view) }
     {
         match self.publish_quietly(table, alloc, &image) {
             Ok(version) => {
@@ -136,7 +147,8 @@ impl ShelfLoader {
         ensures number { IfOk result (λ v. (1 < v) × (v ≤ 1000000000)) }
         ensures next { IfOk result (λ v. v ≡ self.old.current + 1) }
         ensures current { MatchResult result (λ v. self.new.current ≡ v) (λ _. self.new.current ≡ self.old.current) }
-        ensures published { IfOk result (λ v. (room : View) × MakesRoomBySteps self.old.view room × PublishesBySteps room (arc_value image.now) v self.new.view) }
+        ensures published { IfOk result (λ v. (room : View) × MakesRoomBySteps self.old.view room
+            × PublishesBySteps room (arc_value image.now) v self.new.view) }
         ensures refused { IfErr result (λ e. RefusesBySteps self.old.view e self.new.view) }
     {
         if self.current >= MOST_VERSIONS {
@@ -156,9 +168,12 @@ impl ShelfLoader {
     fn make_room(&mut self, table: &ShelfTable) -> Result<usize, [u8; 8]>
         requires table { self.old.table ≡ table.now }
         requires left { self.old.current < 1000000000 }
-        ensures table { (self.new.table ≡ self.old.table) × (self.new.current ≡ self.old.current) × (self.new.answers ≡ self.old.answers) }
-        ensures room { IfOk result (λ k. (k < 8) × IsLeastFree self.new.view k × MakesRoomBySteps self.old.view self.new.view × IsUnspent self.old.view) }
-        ensures full { IfErr result (λ counts. RefusesBySteps self.old.view (PublishFault.ShelvesFull counts) self.new.view) }
+        ensures table { (self.new.table ≡ self.old.table) × (self.new.current ≡ self.old.current)
+            × (self.new.answers ≡ self.old.answers) }
+        ensures room { IfOk result (λ k. (k < 8) × IsLeastFree self.new.view k
+            × MakesRoomBySteps self.old.view self.new.view × IsUnspent self.old.view) }
+        ensures full { IfErr result (λ counts.
+            RefusesBySteps self.old.view (PublishFault.ShelvesFull counts) self.new.view) }
     {
         let _ = &self.current;
         if let Some(shelf) = self.free_shelf() {
@@ -207,7 +222,8 @@ impl ShelfLoader {
         ensures table { (self.new.table ≡ self.old.table) × (self.new.answers ≡ self.old.answers) }
         ensures number { IfOk result (λ v. (1 < v) × (v ≤ 1000000000) × (self.new.current ≡ v)) }
         ensures next { IfOk result (λ v. v ≡ self.old.current + 1) }
-        ensures loads { IfOk result (λ version. (before : ℕ) × Loads shelf version before (arc_value image.now) self.old.view self.new.view) }
+        ensures loads { IfOk result (λ version. (before : ℕ)
+            × Loads shelf version before (arc_value image.now) self.old.view self.new.view) }
         ensures refused { OnErr result (self.new ≡ self.old) }
     {
         let version = self.current + 1;
@@ -229,7 +245,8 @@ impl ShelfLoader {
     // Tries each closing shelf, one after another.
     fn try_all(&mut self, table: &ShelfTable) -> Collected
         requires { self.old.table ≡ table.now }
-        ensures table { (self.new.table ≡ self.old.table) × (self.new.current ≡ self.old.current) × (self.new.answers ≡ self.old.answers) }
+        ensures table { (self.new.table ≡ self.old.table) × (self.new.current ≡ self.old.current)
+            × (self.new.answers ≡ self.old.answers) }
         ensures steps { CollectsBySteps self.old.view result self.new.view }
     {
         let mut found = Collected {
@@ -246,7 +263,8 @@ impl ShelfLoader {
 
     fn try_at(&mut self, table: &ShelfTable, shelf: usize) -> (bool, u8)
         requires { (self.old.table ≡ table.now) × (shelf < 8) }
-        ensures table { (self.new.table ≡ self.old.table) × (self.new.current ≡ self.old.current) × (self.new.answers ≡ self.old.answers) }
+        ensures table { (self.new.table ≡ self.old.table) × (self.new.current ≡ self.old.current)
+            × (self.new.answers ≡ self.old.answers) }
         ensures tried { TriedShelf shelf (shelf_of self.old.view shelf) self.old.view result.0 result.1 self.new.view }
     {
         let Shelf::Closing { version } = self.shelves[shelf] else {

@@ -32,7 +32,13 @@ impl Model for ShelfSeat {
 
     ghost Value = { ShelfSeatValue };
 
-    ghost view = { λ s. record { table = s.place.table; number = s.number; view = s.place.me.0; shown = record { answers = s.answers; held = held_at s.held; seen = seen_of s.place.me.0 } } };
+    ghost view = { λ s. record {
+      table = s.place.table;
+      number = s.number;
+      view = s.place.me.0;
+      shown =
+          record { answers = s.answers; held = held_at s.held; seen = seen_of s.place.me.0 };
+    } };
 
     ghost invariant = { λ s. (s.number < 16) × FitsSeat s.number s.held s.place.me };
 }
@@ -60,7 +66,8 @@ impl ShelfSeat {
 
     /// The version that the seat holds, with its image.
     pub fn edition(&self) -> Option<&Edition>
-        ensures lent { MatchOption result (self.now.shown.held ≡ None) (λ e. self.now.shown.held ≡ Some (e.now.version, arc_value e.now.image)) }
+        ensures lent { MatchOption result (self.now.shown.held ≡ None) (λ e. self.now.shown.held
+            ≡ Some (e.now.version, arc_value e.now.image)) }
         ensures known { HoldsAsKnown (known_of self.now.view) self.now.number self.now.shown.held }
     {
         match &self.held {

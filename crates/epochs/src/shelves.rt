@@ -24,8 +24,9 @@ use std::alloc::{AllocError, Global};
 use std::marker::Model;
 use std::sync::Arc;
 
-/// Shelves without a lock: pins, releases and collections of any number of threads go through a `&`, wait for nobody and take
-/// no memory. Contracts see which table they are, so that a seat of other shelves can't be used here.
+/// Shelves without a lock: pins, releases and collections of any number of threads go through a
+/// `&`, wait for nobody and take no memory. Contracts see which table they are, so that a seat of
+/// other shelves can't be used here.
 #[derive(Drop)]
 pub struct Shelves {
     table: ShelfTable,
@@ -46,7 +47,13 @@ impl Shelves {
         alloc: Global,
         first: Arc<Verified, Global>,
     ) -> Result<(Shelves, ShelfLoader, Vec<ShelfSeat>), (Arc<Verified, Global>, PublishFault)>
-        ensures loader { IfOk result (λ made. made.1 ≡ record { table = made.0; view = View.Loading (handed 16 (arc_value first)); current = 1; answers = [] }) }
+        ensures loader { IfOk result (λ made. made.1 ≡ record {
+          table = made.0;
+          view =
+              View.Loading (handed 16 (arc_value first));
+          current = 1;
+          answers = [];
+        }) }
         ensures seats { IfOk result (λ made. SeatsHanded made.0 16 made.2.items) }
         ensures fits { IfOk result (λ made. All (λ seat. seat.table ≡ made.0) made.2.items) }
         ensures refused { IfErr result (λ e. (e.0 ≡ first) × (e.1 ≡ PublishFault.OutOfMemory)) }
@@ -57,16 +64,18 @@ impl Shelves {
         }
     }
 
-    /// A word as it is found: word 0 has eight times the current version, and its shelf; the words from 1 on have the shelves,
-    /// each with its count in bits 0 to 7, its state in bits 8 and 9 (0 free, 1 open, 2 closing) and its version from bit 16 on.
+    /// A word as it is found: word 0 has eight times the current version, and its shelf; the words
+    /// from 1 on have the shelves, each with its count in bits 0 to 7, its state in bits 8 and 9 (0
+    /// free, 1 open, 2 closing) and its version from bit 16 on.
     pub fn word(&self, word: usize) -> u64
         requires { word < 9 }
     {
         self.table.word(word)
     }
 
-    /// Pins the current version: looks one to four times. 92 exactly where the seat holds a version already; 91 where four looks
-    /// gave four versions, each greater than the one before, and each was gone before it could be held.
+    /// Pins the current version: looks one to four times. 92 exactly where the seat holds a version
+    /// already; 91 where four looks gave four versions, each greater than the one before, and each
+    /// was gone before it could be held.
     pub fn pin(&self, seat: &mut ShelfSeat) -> Result<(), PinFault>
         requires { seat.old.table ≡ self.now }
         ensures table { (seat.new.table ≡ seat.old.table) × (seat.new.number ≡ seat.old.number) }
@@ -89,10 +98,11 @@ impl Shelves {
         seat.release_at(&self.table)
     }
 
-    /// The image becomes the next version, which is current, on the least free shelf; the shelf that was current is closing. A
-    /// notice of the version always comes with it.
-    /// Where no shelf is free, each closing one is tried first. A refusal gives the image back and leaves the current version:
-    /// 95 at the last version; else 94 where each closing shelf was found in use; else 96 before a shelf was opened.
+    /// The image becomes the next version, which is current, on the least free shelf; the shelf
+    /// that was current is closing. A notice of the version always comes with it. Where no shelf is
+    /// free, each closing one is tried first. A refusal gives the image back and leaves the current
+    /// version: 95 at the last version; else 94 where each closing shelf was found in use; else 96
+    /// before a shelf was opened.
     pub fn publish(
         &self,
         loader: &mut ShelfLoader,
@@ -101,10 +111,15 @@ impl Shelves {
         requires { loader.old.table ≡ self.now }
         ensures table { loader.new.table ≡ loader.old.table }
         ensures back { IfErr result (λ e. e.0 ≡ image) }
-        ensures current { MatchResult result (λ r. loader.new.current ≡ r.0) (λ _. loader.new.current ≡ loader.old.current) }
+        ensures current { MatchResult result (λ r. loader.new.current ≡ r.0) (λ _. loader.new.current
+            ≡ loader.old.current) }
         ensures next { IfOk result (λ r. r.0 ≡ loader.old.current + 1) }
-        ensures loader { MatchResult result (λ r. PublishStep loader.old.answers (arc_value image) r.0 loader.new.answers) (λ e. RefuseStep loader.old.answers e.1 loader.new.answers) }
-        ensures steps { MatchResult result (λ r. (room : View) × MakesRoomBySteps loader.old.view room × PublishesWithNotice room (arc_value image) r.0 loader.new.view) (λ e. RefusesBySteps loader.old.view e.1 loader.new.view) }
+        ensures loader { MatchResult result (λ r.
+            PublishStep loader.old.answers (arc_value image) r.0 loader.new.answers)
+            (λ e. RefuseStep loader.old.answers e.1 loader.new.answers) }
+        ensures steps { MatchResult result (λ r. (room : View) × MakesRoomBySteps loader.old.view room
+            × PublishesWithNotice room (arc_value image) r.0 loader.new.view)
+            (λ e. RefusesBySteps loader.old.view e.1 loader.new.view) }
         ensures notice { IfOk result (λ r. r.1 ≡ Some (record { table = self.now; version = r.0 })) }
     {
         match loader.publish_at(&self.table, self.alloc, image) {
@@ -127,7 +142,8 @@ impl Shelves {
         seat.join_at(&self.table, notice);
     }
 
-    /// Tries each closing shelf: it is free where its count was found to be 0, and else `busy` has the count that was found.
+    /// Tries each closing shelf: it is free where its count was found to be 0, and else `busy` has
+    /// the count that was found.
     pub fn collect(&self, loader: &mut ShelfLoader) -> Collected
         requires { loader.old.table ≡ self.now }
         ensures table { (loader.new.table ≡ loader.old.table) × (loader.new.current ≡ loader.old.current) }
@@ -143,7 +159,13 @@ fn open(
     alloc: Global,
     first: &Arc<Verified, Global>,
 ) -> Result<(ShelfTable, ShelfLoader, Vec<ShelfSeat>), AllocError>
-    ensures loader { IfOk result (λ made. made.1 ≡ record { table = made.0; view = View.Loading (handed 16 (arc_value first.now)); current = 1; answers = [] }) }
+    ensures loader { IfOk result (λ made. made.1 ≡ record {
+      table = made.0;
+      view =
+          View.Loading (handed 16 (arc_value first.now));
+      current = 1;
+      answers = [];
+    }) }
     ensures seats { IfOk result (λ made. SeatsHanded made.0 16 made.2.items) }
 {
     let mut seats = Vec::with_capacity(alloc, 16)?;

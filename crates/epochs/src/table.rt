@@ -1,6 +1,7 @@
 //! The table of versions beside the editions on its shelves.
 
-ghost use Rattle.std.specs.Prelude.{◌≡◌, ◌≢◌, ℕ, ◌+◌, ◌<◌, ◌≤◌, Ok, Err, ◌++◌, ◌∷◌, [], IfOk, IfErr, OnOk, OnErr, MatchBool, MatchResult};
+ghost use Rattle.std.specs.Prelude.{◌≡◌, ◌≢◌, ℕ, ◌+◌, ◌<◌, ◌≤◌, Ok, Err, ◌++◌, ◌∷◌, [], IfOk, IfErr, OnOk, OnErr};
+ghost use Rattle.std.specs.Prelude.{MatchBool, MatchResult};
 ghost use Rattle.std.specs.Arc.{arc_value};
 ghost use Rattle.version_core.specs.State.{start, newest};
 ghost use Rattle.version_core.specs.Steps.{IsIdle, Holds, IsClosing};
@@ -10,8 +11,10 @@ ghost use Rattle.version_core.specs.Rest.{RestStays};
 ghost use Rattle.version_core.specs.declared.state.Worker.{Worker};
 ghost use Rattle.epochs.specs.Seats.{PinStep, ReleaseStep, PublishStep, RefuseStep, CollectStep};
 ghost use Rattle.epochs.specs.History.{IsHistory, LeadsTo, HeldHaveImages, TableValue};
-ghost use Rattle.epochs.specs.Pins.{HoldsAt, SeatFits, Pins, RefusesPin, Releases, RefusesRelease, IsOffer, IsCurrent, IsLookAndTake, IsDrop};
-ghost use Rattle.epochs.specs.Publishing.{TriesShelf, Collects, HasFree, MakesRoom, Publishes, RefusesPublish, StaysCurrent};
+ghost use Rattle.epochs.specs.Pins.{HoldsAt, SeatFits, Pins, RefusesPin, Releases, RefusesRelease, IsOffer};
+ghost use Rattle.epochs.specs.Pins.{IsCurrent, IsLookAndTake, IsDrop};
+ghost use Rattle.epochs.specs.Publishing.{TriesShelf, Collects, HasFree, MakesRoom, Publishes, RefusesPublish};
+ghost use Rattle.epochs.specs.Publishing.{StaysCurrent};
 ghost use Rattle.epochs.specs.declared.faults.PublishFault.{PublishFault};
 
 use crate::collected::Collected;
@@ -72,8 +75,8 @@ impl VersionTable {
         })
     }
 
-    /// What holds of every table, and so under every lock, whatever was done before: the state is where the events lead from
-    /// the start. It does nothing: its contract is the promise.
+    /// What holds of every table, and so under every lock, whatever was done before: the state is
+    /// where the events lead from the start. It does nothing: its contract is the promise.
     pub fn history(&self)
         ensures history { IsHistory self.now.state self.now.events self.now.images }
         ensures leads { LeadsTo self.now.state self.now.events self.now.images }
@@ -235,7 +238,8 @@ impl VersionTable {
         found
     }
 
-    // Frees the shelf, if it is closing and no worker is there. Tells whether it did, and how many workers kept it from that.
+    // Frees the shelf, if it is closing and no worker is there. Tells whether it did, and how many
+    // workers kept it from that.
     fn try_shelf(&mut self, shelf: usize) -> (bool, u8)
         requires { shelf < 8 }
         ensures { TriesShelf self.old shelf result.0 result.1 self.new }
@@ -248,7 +252,8 @@ impl VersionTable {
     }
 
     fn is_closing(&self, shelf: usize) -> bool
-        ensures { MatchBool result ((v : ℕ) × IsClosing self.now.state shelf v) ((v : ℕ) → ¬ (IsClosing self.now.state shelf v)) }
+        ensures { MatchBool result ((v : ℕ) × IsClosing self.now.state shelf v) ((v : ℕ)
+            → ¬ (IsClosing self.now.state shelf v)) }
     {
         match self.core.shelf(shelf) {
             Some(Shelf::Closing { version: _ }) => true,
@@ -275,18 +280,21 @@ impl VersionTable {
         }
     }
 
-    /// The image becomes the next version, which is current, on the least free shelf. Where no shelf is free, each closing
-    /// one is tried first. A refusal gives the image back, and the current version stays.
+    /// The image becomes the next version, which is current, on the least free shelf. Where no
+    /// shelf is free, each closing one is tried first. A refusal gives the image back, and the
+    /// current version stays.
     pub fn publish(
         &mut self,
         loader: &mut LoaderSeat,
         image: Arc<Verified, Global>,
     ) -> Result<u64, (Arc<Verified, Global>, PublishFault)>
-        ensures published { IfOk result (λ v. (room : TableValue) × MakesRoom self.old room × Publishes room (arc_value image) v self.new) }
+        ensures published { IfOk result (λ v. (room : TableValue) × MakesRoom self.old room
+            × Publishes room (arc_value image) v self.new) }
         ensures refused { IfErr result (λ e. RefusesPublish self.old e.1 self.new) }
         ensures back { IfErr result (λ e. e.0 ≡ image) }
         ensures same { OnErr result (StaysCurrent self.old self.new) }
-        ensures loader { MatchResult result (λ v. PublishStep loader.old (arc_value image) v loader.new) (λ e. RefuseStep loader.old e.1 loader.new) }
+        ensures loader { MatchResult result (λ v. PublishStep loader.old (arc_value image) v loader.new)
+            (λ e. RefuseStep loader.old e.1 loader.new) }
     {
         self.history();
         let shown = Snapshot::of(&*image);
@@ -310,7 +318,8 @@ impl VersionTable {
         &mut self,
         image: Arc<Verified, Global>,
     ) -> Result<u64, (Arc<Verified, Global>, PublishFault)>
-        ensures published { IfOk result (λ v. (room : TableValue) × MakesRoom self.old room × Publishes room (arc_value image) v self.new) }
+        ensures published { IfOk result (λ v. (room : TableValue) × MakesRoom self.old room
+            × Publishes room (arc_value image) v self.new) }
         ensures refused { IfErr result (λ e. RefusesPublish self.old e.1 self.new) }
         ensures back { IfErr result (λ e. e.0 ≡ image) }
     {

@@ -48,7 +48,8 @@ pub trait Versions {
     /// The version that the seat holds, with its image: the one that the history published as that version.
     fn edition(seat: &Self::Seat) -> Option<&Edition>
         ensures known { HoldsAsKnown (known seat.now) (number seat.now) (value seat.now).held }
-        ensures lent { MatchOption result ((value seat.now).held ≡ None) (λ e. (value seat.now).held ≡ Some (e.now.version, arc_value e.now.image)) };
+        ensures lent { MatchOption result ((value seat.now).held ≡ None) (λ e. (value seat.now).held
+            ≡ Some (e.now.version, arc_value e.now.image)) };
 
     /// Gives back what the seat holds.
     fn release<R: Wait>(&self, rt: &R, seat: &mut Self::Seat) -> Result<(), PinFault>
@@ -84,8 +85,8 @@ pub trait Loads: Versions {
     // The version that it published last, which is current.
     ghost current: { Self.Loader → ℕ };
 
-    /// Publishes the image as the next version, and gives a notice of it. A refusal gives the image back. No notice comes only
-    /// where there was no memory for one.
+    /// Publishes the image as the next version, and gives a notice of it. A refusal gives the image
+    /// back. No notice comes only where there was no memory for one.
     fn publish<R: Wait>(
         &self,
         rt: &R,
@@ -95,9 +96,12 @@ pub trait Loads: Versions {
         requires { loads self.now loader.old }
         ensures loads { loads self.now loader.new }
         ensures back { IfErr result (λ e. e.0 ≡ image) }
-        ensures current { MatchResult result (λ r. current loader.new ≡ r.0) (λ _. current loader.new ≡ current loader.old) }
+        ensures current { MatchResult result (λ r. current loader.new ≡ r.0) (λ _. current loader.new
+            ≡ current loader.old) }
         ensures next { IfOk result (λ r. r.0 ≡ current loader.old + 1) }
-        ensures loader { MatchResult result (λ r. PublishStep (answers loader.old) (arc_value image) r.0 (answers loader.new)) (λ e. RefuseStep (answers loader.old) e.1 (answers loader.new)) }
+        ensures loader { MatchResult result (λ r.
+            PublishStep (answers loader.old) (arc_value image) r.0 (answers loader.new))
+            (λ e. RefuseStep (answers loader.old) e.1 (answers loader.new)) }
         ensures notice { IfOk result (λ r. IfSome r.1 (λ n. Self.Versions.noted n ≡ r.0)) };
 
     /// Tries each closing shelf: it is freed, if no worker is there.

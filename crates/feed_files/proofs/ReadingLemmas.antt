@@ -17,7 +17,9 @@ use Rattle.gtfs_rows.specs.declared.rows.CalendarRow.{CalendarRow}
 use Rattle.gtfs_rows.specs.declared.rows.StopRow.{StopRow}
 use Rattle.gtfs_rows.specs.declared.rows.TripRow.{TripRow}
 use Rattle.gtfs_rows.specs.declared.stop_times.StopTimes.{StopTimes}
-use Rattle.feed_files.specs.Reading.{AreFine, CalendarFault, Content, FaultIn, FineBefore, HasRows, HoldsCalendars, HoldsRequired, IsFine, IsFirstFault, IsHeld, NoRows, NoTables, Optional, OptionalFault, Required, Tells, earlier}
+use Rattle.feed_files.specs.Reading.{AreFine, CalendarFault, Content, FaultIn, FineBefore, HasRows, HoldsCalendars}
+use Rattle.feed_files.specs.Reading.{HoldsRequired, IsFine, IsFirstFault, IsHeld, NoRows, NoTables, Optional}
+use Rattle.feed_files.specs.Reading.{OptionalFault, Required, Tells, earlier}
 
 -- what stops the reading of one file stops that of the feed
 pub no_tables : (content : Content) (table : Table) (IsFault : ℕ → FaultKind → Type 0) (fault : ReadFault)
@@ -65,7 +67,11 @@ fine_more content (table ∷ rest) next (here, fine) h = (here, fine_more conten
 pub calendars_missing : (content : Content) (fault : TableFault) → content tables.Calendar ≡ None → content tables.CalendarDates ≡ None
     → fault.table ≡ tables.Calendar → fault.row ≡ 0 → fault.kind ≡ kinds.MissingFile → FineBefore content tables.Calendar → IsFirstFault content fault
 calendars_missing content fault calendar dates table row kind fine = record {
-  stands = subst (λ t. FaultIn content t fault.row fault.kind) (sym table) (subst (λ c. CalendarFault c (content tables.CalendarDates) fault.row fault.kind) (sym calendar) (dates, (row, kind)));
+  stands = subst (λ t. FaultIn content t fault.row fault.kind) (sym table)
+      (subst (λ c. CalendarFault c (content tables.CalendarDates) fault.row fault.kind) (sym calendar) (
+        dates,
+        (row, kind),
+      ));
   first = subst (FineBefore content) (sym table) fine;
 }
 
@@ -94,5 +100,7 @@ pub calendars_fine : (content : Content) (calendar : List CalendarRow) (dates : 
     → FineBefore content tables.Calendar → HoldsCalendars content calendar dates → FineBefore content tables.Transfers
 calendars_fine content calendar dates fine h =
     let first = optional_rows (calendar ≡ []) ⊤ (λ rows. rows) HoldsCalendar (content tables.Calendar) calendar (λ _. tt) h.calendar_txt in
-    let second = optional_rows (dates ≡ []) (content tables.Calendar ≢ None) (λ rows. rows) HoldsCalendarDates (content tables.CalendarDates) dates (λ missing calendar. h.some_calendar calendar missing) h.calendar_dates_txt in
+    let second = optional_rows (dates ≡ []) (content tables.Calendar ≢ None) (λ rows. rows) HoldsCalendarDates
+    (content tables.CalendarDates) dates (λ missing calendar. h.some_calendar calendar missing)
+    h.calendar_dates_txt in
     fine_more content (earlier tables.CalendarDates) tables.CalendarDates (fine_more content (earlier tables.Calendar) tables.Calendar fine first) second

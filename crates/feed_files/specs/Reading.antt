@@ -2,7 +2,10 @@
 use Rattle.std.specs.Prelude.{◌≡◌, ◌≢◌, ◌∷◌, ℕ, List, [], Option, Some, None, ⊤, Vec}
 use Rattle.std.specs.declared.alloc.Global.{Global}
 use Rattle.gtfs_rows.specs.Faults.{IsFaultOf}
-use Rattle.gtfs_rows.specs.Tables.{HoldsAgencies, HoldsCalendar, HoldsCalendarDates, HoldsFrequencies, HoldsStopTimes, HoldsStopsWithin, HoldsTransfers, HoldsTripsWithin, IsStopsFault, IsTripsFault, agency_shape, calendar_dates_shape, calendar_shape, frequencies_shape, stop_times_shape, transfers_shape}
+use Rattle.gtfs_rows.specs.Tables.{HoldsAgencies, HoldsCalendar, HoldsCalendarDates, HoldsFrequencies, HoldsStopTimes}
+use Rattle.gtfs_rows.specs.Tables.{HoldsStopsWithin, HoldsTransfers, HoldsTripsWithin, IsStopsFault, IsTripsFault}
+use Rattle.gtfs_rows.specs.Tables.{agency_shape, calendar_dates_shape, calendar_shape, frequencies_shape}
+use Rattle.gtfs_rows.specs.Tables.{stop_times_shape, transfers_shape}
 use Rattle.feed_files.specs.Outcome.{RefusedOrFailed}
 use Rattle.feed_files.specs.declared.reading.ReadFault.{ReadFault}
 use Rattle.gtfs_rows.specs.Told.{file_name}
@@ -134,7 +137,8 @@ IsHeld Holds (Some bytes) (Some rows) = Holds bytes rows
 
 -- why one file's rows can't be had: want of memory, its fault, or a read of it that failed
 abbrev pub NoRows : Table → (ℕ → FaultKind → Type 0) → ReadFault → Type 0
-NoRows table IsFault = RefusedOrFailed (λ fault. (fault.table ≡ table) × (fault.kind ≢ kinds.OutOfMemory → IsFault fault.row fault.kind)) (λ failed. failed ≡ table)
+NoRows table IsFault = RefusedOrFailed (λ fault. (fault.table ≡ table)
+    × (fault.kind ≢ kinds.OutOfMemory → IsFault fault.row fault.kind)) (λ failed. failed ≡ table)
 
 -- why a feed's tables can't be had: its first fault, or a read that failed, where nothing was wrong with the files before
 abbrev pub NoTables : Content → ReadFault → Type 0

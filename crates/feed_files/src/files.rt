@@ -32,12 +32,13 @@ pub trait FeedFiles {
 
     /// The bytes of a file, none where there is no such file. Want of memory is no failure.
     fn read(&mut self, alloc: Global, name: &str) -> Result<Option<Vec<u8>>, FileFault>
-        ensures told { IfOk result (λ file. IfSome (holds self.old name.now) (λ bytes. option_map (λ read. read.items) file ≡ bytes)) }
+        ensures told { IfOk result (λ file. IfSome (holds self.old name.now)
+            (λ bytes. option_map (λ read. read.items) file ≡ bytes)) }
         ensures same { holds self.new ≡ holds self.old }
         ensures failures { failures self.new ≡ counted (failures self.old) result }
         ensures failed { failed self.new ≡ failed_also (failed self.old) name.now result };
 
-    /// The hash by which ids that the files have are looked up: of a random key where strangers may have made them. No answer
-    /// depends on it.
+    /// The hash by which ids that the files have are looked up: of a random key where strangers may
+    /// have made them. No answer depends on it.
     fn id_hash(&self) -> IdHash;
 }

@@ -61,7 +61,8 @@ pub struct FolderFiles<'a, H> {
 }
 
 impl<'a, H: Disk> FolderFiles<'a, H> {
-    /// The files of the folder at a path, which need not be there: then no file is. Their ids get a hash of a random key.
+    /// The files of the folder at a path, which need not be there: then no file is. Their ids get a
+    /// hash of a random key.
     pub fn new(disk: &'a H, folder: &'a str) -> FolderFiles<'a, H>
         ensures failures { result.failures ≡ 0 }
         ensures failed { result.failed ≡ [] }
@@ -131,7 +132,8 @@ fn none_or_fault(kind: ErrorKind) -> Result<Option<Vec<u8>>, FileFault>
     Err(fault_of(kind))
 }
 
-/// The bytes of a file of a folder, at most so many. There is no such file where the folder isn't there, or is no folder.
+/// The bytes of a file of a folder, at most so many. There is no such file where the folder isn't
+/// there, or is no folder.
 ///
 /// # Errors
 ///

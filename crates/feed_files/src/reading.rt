@@ -1,10 +1,13 @@
 //! The tables of a feed's files, read one after another.
 
-ghost use Rattle.std.specs.Prelude.{◌≡◌, ◌≢◌, ◌+◌, ◌-◌, ◌^◌, ◌<◌, ℕ, List, [], Option, None, Some, IfOk, IfErr, option_map};
+ghost use Rattle.std.specs.Prelude.{◌≡◌, ◌≢◌, ◌+◌, ◌-◌, ◌^◌, ◌<◌, ℕ, List, [], Option, None, Some, IfOk, IfErr};
+ghost use Rattle.std.specs.Prelude.{option_map};
 ghost use Rattle.gtfs_rows.specs.declared.fault.Table.TheVariants as tables;
 ghost use Rattle.gtfs_rows.specs.Told.{file_name};
 ghost use Rattle.feed_files.specs.Outcome.{failed_by, failed_in};
-ghost use Rattle.feed_files.specs.Reading.{Content, FineBefore, HoldsCalendars, HoldsRequired, HoldsTables, IsHeld, NoRows, NoTables, Optional, OptionalFault, Required, RequiredFault, Tells};
+ghost use Rattle.feed_files.specs.Reading.{Content, FineBefore, HoldsCalendars, HoldsRequired, HoldsTables, IsHeld};
+ghost use Rattle.feed_files.specs.Reading.{NoRows, NoTables, Optional, OptionalFault, Required, RequiredFault};
+ghost use Rattle.feed_files.specs.Reading.{Tells};
 
 use crate::files::{FeedFiles, FileFault};
 use gtfs_tables::{
@@ -31,10 +34,13 @@ fn bytes_of<F: FeedFiles, T: TableFile>(
     files: &mut F,
 ) -> Result<Option<Vec<u8>>, ReadFault>
     ensures same { F.holds files.new ≡ F.holds files.old }
-    ensures failures { F.failures files.old < 2 ^ 64 - 1 → F.failures files.new ≡ F.failures files.old + failed_in result }
+    ensures failures { F.failures files.old < 2 ^ 64 - 1
+        → F.failures files.new ≡ F.failures files.old + failed_in result }
     ensures failed { F.failed files.new ≡ failed_by (F.failed files.old) result }
-    ensures ok { (bytes : Option (List ℕ)) → F.holds files.old (file_name T.TABLE) ≡ Some bytes → IfOk result (λ file. option_map (λ read. read.items) file ≡ bytes) }
-    ensures err { (bytes : Option (List ℕ)) → F.holds files.old (file_name T.TABLE) ≡ Some bytes → IfErr result (NoRows T.TABLE (OptionalFault T.tells bytes)) }
+    ensures ok { (bytes : Option (List ℕ)) → F.holds files.old (file_name T.TABLE) ≡ Some bytes
+        → IfOk result (λ file. option_map (λ read. read.items) file ≡ bytes) }
+    ensures err { (bytes : Option (List ℕ)) → F.holds files.old (file_name T.TABLE) ≡ Some bytes
+        → IfErr result (NoRows T.TABLE (OptionalFault T.tells bytes)) }
 {
     match files.read(alloc, T::TABLE.file_name()) {
         Ok(bytes) => Ok(bytes),
@@ -65,10 +71,13 @@ fn optional<F: FeedFiles, T: TableFile>(
     files: &mut F,
 ) -> Result<Option<T>, ReadFault>
     ensures same { F.holds files.new ≡ F.holds files.old }
-    ensures failures { F.failures files.old < 2 ^ 64 - 1 → F.failures files.new ≡ F.failures files.old + failed_in result }
+    ensures failures { F.failures files.old < 2 ^ 64 - 1
+        → F.failures files.new ≡ F.failures files.old + failed_in result }
     ensures failed { F.failed files.new ≡ failed_by (F.failed files.old) result }
-    ensures ok { (bytes : Option (List ℕ)) → F.holds files.old (file_name T.TABLE) ≡ Some bytes → IfOk result (λ rows. IsHeld T.holds bytes rows) }
-    ensures err { (bytes : Option (List ℕ)) → F.holds files.old (file_name T.TABLE) ≡ Some bytes → IfErr result (NoRows T.TABLE (OptionalFault T.tells bytes)) }
+    ensures ok { (bytes : Option (List ℕ)) → F.holds files.old (file_name T.TABLE) ≡ Some bytes
+        → IfOk result (λ rows. IsHeld T.holds bytes rows) }
+    ensures err { (bytes : Option (List ℕ)) → F.holds files.old (file_name T.TABLE) ≡ Some bytes
+        → IfErr result (NoRows T.TABLE (OptionalFault T.tells bytes)) }
 {
     match bytes_of::<F, T>(alloc, files) {
         Ok(Some(bytes)) => rows_of(alloc, files.id_hash(), &bytes),
@@ -80,10 +89,13 @@ fn optional<F: FeedFiles, T: TableFile>(
 // The rows of a file that must be there.
 fn required<F: FeedFiles, T: TableFile>(alloc: Global, files: &mut F) -> Result<T, ReadFault>
     ensures same { F.holds files.new ≡ F.holds files.old }
-    ensures failures { F.failures files.old < 2 ^ 64 - 1 → F.failures files.new ≡ F.failures files.old + failed_in result }
+    ensures failures { F.failures files.old < 2 ^ 64 - 1
+        → F.failures files.new ≡ F.failures files.old + failed_in result }
     ensures failed { F.failed files.new ≡ failed_by (F.failed files.old) result }
-    ensures ok { (bytes : Option (List ℕ)) → F.holds files.old (file_name T.TABLE) ≡ Some bytes → IfOk result (λ rows. Required (λ held. T.holds held rows) bytes) }
-    ensures err { (bytes : Option (List ℕ)) → F.holds files.old (file_name T.TABLE) ≡ Some bytes → IfErr result (NoRows T.TABLE (RequiredFault T.tells bytes)) }
+    ensures ok { (bytes : Option (List ℕ)) → F.holds files.old (file_name T.TABLE) ≡ Some bytes
+        → IfOk result (λ rows. Required (λ held. T.holds held rows) bytes) }
+    ensures err { (bytes : Option (List ℕ)) → F.holds files.old (file_name T.TABLE) ≡ Some bytes
+        → IfErr result (NoRows T.TABLE (RequiredFault T.tells bytes)) }
 {
     match optional::<F, T>(alloc, files) {
         Ok(Some(rows)) => Ok(rows),
@@ -97,10 +109,15 @@ fn rows_or_none<F: FeedFiles, R: Drop>(alloc: Global, files: &mut F) -> Result<V
 where
     Vec<R>: TableFile,
     ensures same { F.holds files.new ≡ F.holds files.old }
-    ensures failures { F.failures files.old < 2 ^ 64 - 1 → F.failures files.new ≡ F.failures files.old + failed_in result }
+    ensures failures { F.failures files.old < 2 ^ 64 - 1
+        → F.failures files.new ≡ F.failures files.old + failed_in result }
     ensures failed { F.failed files.new ≡ failed_by (F.failed files.old) result }
-    ensures ok { (bytes : Option (List ℕ)) → F.holds files.old (file_name ⟦<Vec<R> as TableFile>⟧.TABLE) ≡ Some bytes → IfOk result (λ rows. Optional (rows.items ≡ []) (λ held. ⟦<Vec<R> as TableFile>⟧.holds held rows) bytes) }
-    ensures err { (bytes : Option (List ℕ)) → F.holds files.old (file_name ⟦<Vec<R> as TableFile>⟧.TABLE) ≡ Some bytes → IfErr result (NoRows ⟦<Vec<R> as TableFile>⟧.TABLE (OptionalFault ⟦<Vec<R> as TableFile>⟧.tells bytes)) }
+    ensures ok { (bytes : Option (List ℕ)) → F.holds files.old (file_name ⟦<Vec<R> as TableFile>⟧.TABLE)
+        ≡ Some bytes → IfOk result (λ rows. Optional (rows.items
+        ≡ []) (λ held. ⟦<Vec<R> as TableFile>⟧.holds held rows) bytes) }
+    ensures err { (bytes : Option (List ℕ))
+        → F.holds files.old (file_name ⟦<Vec<R> as TableFile>⟧.TABLE) ≡ Some bytes
+        → IfErr result (NoRows ⟦<Vec<R> as TableFile>⟧.TABLE (OptionalFault ⟦<Vec<R> as TableFile>⟧.tells bytes)) }
 {
     match optional::<F, Vec<R>>(alloc, files) {
         Ok(Some(rows)) => Ok(rows),
@@ -115,10 +132,13 @@ fn calendars<F: FeedFiles>(
     files: &mut F,
 ) -> Result<(Vec<CalendarRow>, Vec<CalendarDateRow>), ReadFault>
     ensures same { F.holds files.new ≡ F.holds files.old }
-    ensures failures { F.failures files.old < 2 ^ 64 - 1 → F.failures files.new ≡ F.failures files.old + failed_in result }
+    ensures failures { F.failures files.old < 2 ^ 64 - 1
+        → F.failures files.new ≡ F.failures files.old + failed_in result }
     ensures failed { F.failed files.new ≡ failed_by (F.failed files.old) result }
-    ensures ok { (content : Content) → Tells (F.holds files.old) content → IfOk result (λ rows. HoldsCalendars content rows.0.items rows.1.items) }
-    ensures err { (content : Content) → Tells (F.holds files.old) content → FineBefore content tables.Calendar → IfErr result (NoTables content) }
+    ensures ok { (content : Content) → Tells (F.holds files.old) content
+        → IfOk result (λ rows. HoldsCalendars content rows.0.items rows.1.items) }
+    ensures err { (content : Content) → Tells (F.holds files.old) content → FineBefore content tables.Calendar
+        → IfErr result (NoTables content) }
 {
     let calendar = optional::<F, Vec<CalendarRow>>(alloc, files)?;
     let dates = optional::<F, Vec<CalendarDateRow>>(alloc, files)?;
@@ -141,9 +161,12 @@ struct RequiredTables {
 
 fn required_tables<F: FeedFiles>(alloc: Global, files: &mut F) -> Result<RequiredTables, ReadFault>
     ensures same { F.holds files.new ≡ F.holds files.old }
-    ensures failures { F.failures files.old < 2 ^ 64 - 1 → F.failures files.new ≡ F.failures files.old + failed_in result }
+    ensures failures { F.failures files.old < 2 ^ 64 - 1
+        → F.failures files.new ≡ F.failures files.old + failed_in result }
     ensures failed { F.failed files.new ≡ failed_by (F.failed files.old) result }
-    ensures ok { (content : Content) → Tells (F.holds files.old) content → IfOk result (λ t. HoldsRequired content t.agencies.items t.stops.rows.items t.trips.rows.items t.stop_times) }
+    ensures ok { (content : Content) → Tells (F.holds files.old) content
+        → IfOk result (λ t. HoldsRequired content t.agencies.items t.stops.rows.items t.trips.rows.items
+        t.stop_times) }
     ensures err { (content : Content) → Tells (F.holds files.old) content → IfErr result (NoTables content) }
 {
     let agencies = required(alloc, files)?;
@@ -158,10 +181,11 @@ fn required_tables<F: FeedFiles>(alloc: Global, files: &mut F) -> Result<Require
     })
 }
 
-/// The tables of a feed's files (GTFS Schedule Reference). Each file is read and judged before the next is read, in the
-/// order of [`Table`]; `transfers.txt` and `frequencies.txt` may be missing, and one of the two calendars. The fault is
-/// the first. A file that can't be read is told where nothing was wrong with those before it: then its read is the only one
-/// that failed; else none did.
+/// The tables of a feed's files (GTFS Schedule Reference). Each file is read and judged before the
+/// next is read, in the order of [`Table`]; `transfers.txt` and `frequencies.txt` may be missing,
+/// and one of the two calendars. The fault is the first. A file that can't be read is told where
+/// nothing was wrong with those before it: then its read is the only one that failed; else none
+/// did.
 pub fn read_tables<F: FeedFiles>(alloc: Global, files: &mut F) -> Result<Tables, ReadFault>
     requires { F.failures files.old < 2 ^ 64 - 1 }
     ensures same { F.holds files.new ≡ F.holds files.old }

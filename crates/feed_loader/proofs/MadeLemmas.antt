@@ -45,8 +45,10 @@ runs_refused feed plan fault told is few (inl wants) = inl (subst (λ (x : LoadF
 runs_refused feed plan fault told is few (inr first) = inr (inr (inl (record { refusal = fault; is = is; few_stops = few; first = first })))
 
 -- the names are refused
-pub names_refused : (feed : Feed) (plan : Plan) (connections : List Connection) (runs_are : List Run) (told : LoadFault) → 1 ≤ plan.days → length feed.stops.items ≤ MAX_STOPS
-    → IsListing feed plan.zone plan.first_day plan.days connections runs_are → AreNamesRefused feed plan runs_are told → IsWantOfMemory told ⊎ IsFeedRefusal feed plan told
+pub names_refused : (feed : Feed) (plan : Plan) (connections : List Connection) (runs_are : List Run) (told : LoadFault)
+    → 1 ≤ plan.days → length feed.stops.items ≤ MAX_STOPS
+    → IsListing feed plan.zone plan.first_day plan.days connections runs_are → AreNamesRefused feed plan runs_are told
+    → IsWantOfMemory told ⊎ IsFeedRefusal feed plan told
 names_refused feed plan connections runs_are told some few listing (inl wants) = inl wants
 names_refused feed plan connections runs_are told some few listing (inr (inl (is, missing))) =
     inr (inr (inl (record {
@@ -64,17 +66,23 @@ names_refused feed plan connections runs_are told some few listing (inr (inr (is
     }))))
 
 -- a timetable is what it has
-same_value : (t : TimetableValue) (stops trips : ℕ) (connections : List Connection) (footpaths : List Footpath) → t.stops ≡ stops → t.trips ≡ trips → t.connections ≡ connections → t.footpaths ≡ footpaths
+same_value : (t : TimetableValue) (stops trips : ℕ) (connections : List Connection) (footpaths : List Footpath)
+    → t.stops ≡ stops → t.trips ≡ trips → t.connections ≡ connections → t.footpaths ≡ footpaths
     → t ≡ record { stops = stops; trips = trips; connections = connections; footpaths = footpaths }
 same_value t stops trips connections footpaths a b c d = λ i. record { stops = a i; trips = b i; connections = c i; footpaths = d i }
 
 -- the timetable and the names of a feed can be written
-pub is_writable : (feed : Feed) (plan : Plan) (t : TimetableValue) (names : NamesValue) (connections : List Connection) (runs_are : List Run) (footpaths : List Footpath)
+pub is_writable : (feed : Feed) (plan : Plan) (t : TimetableValue) (names : NamesValue) (connections : List Connection)
+    (runs_are : List Run) (footpaths : List Footpath)
     → t.stops ≡ length feed.stops.items → t.trips ≡ length runs_are → t.connections ≡ connections → t.footpaths ≡ footpaths
-    → length feed.stops.items ≤ MAX_STOPS → IsListing feed plan.zone plan.first_day plan.days connections runs_are → HasLegalConnections (length feed.stops.items) (length runs_are) connections → AreWithinLimits (length runs_are) connections
-    → HasLegalFootpaths (length feed.stops.items) footpaths → length footpaths ≤ MAX_FOOTPATHS → ((i : ℕ) (f : Footpath) → At footpaths i f → f.secs ≤ MAX_WALK_SECS)
+    → length feed.stops.items ≤ MAX_STOPS → IsListing feed plan.zone plan.first_day plan.days connections runs_are
+    → HasLegalConnections (length feed.stops.items) (length runs_are) connections
+    → AreWithinLimits (length runs_are) connections
+    → HasLegalFootpaths (length feed.stops.items) footpaths → length footpaths ≤ MAX_FOOTPATHS
+    → ((i : ℕ) (f : Footpath) → At footpaths i f → f.secs ≤ MAX_WALK_SECS)
     → AreNames feed plan runs_are names → length (text names) ≤ MAX_NAME_BYTES → IsWritable t names
-is_writable feed plan t names connections runs_are footpaths stops trips same_connections same_footpaths few listing legal within paths few_paths short named text_fits =
+is_writable feed plan t names connections runs_are footpaths stops trips same_connections same_footpaths few listing
+    legal within paths few_paths short named text_fits =
     subst (λ (x : TimetableValue). IsWritable x names) (sym (same_value t _ _ _ _ stops trips same_connections same_footpaths)) (record {
       legal = record {
         stops_in_range = legal.stops_in_range;

@@ -13,8 +13,8 @@ use timetable::Footpath;
 use timetable::limits::MAX_FOOTPATHS;
 use transfers::{ListingFault, listed_within};
 
-/// The closure of the footpaths that a feed lists. Each of these joins a pair of stops in the closure too, so where there are too
-/// many of them no more are listed, and nothing is closed.
+/// The closure of the footpaths that a feed lists. Each of these joins a pair of stops in the
+/// closure too, so where there are too many of them no more are listed, and nothing is closed.
 pub fn closed_footpaths(alloc: Global, feed: &Feed, stops: u32) -> Result<Vec<Footpath>, FootFault>
     requires names { NamesItsStops feed.now }
     requires stops { stops ≡ length feed.now.stops.items }
@@ -22,7 +22,8 @@ pub fn closed_footpaths(alloc: Global, feed: &Feed, stops: u32) -> Result<Vec<Fo
     ensures legal { IfOk result (λ v. HasLegalFootpaths stops v.items) }
     ensures few { IfOk result (λ v. length v.items ≤ MAX_FOOTPATHS) }
     ensures short { IfOk result (λ v. All (λ f. f.secs ≤ MAX_WALK_SECS) v.items) }
-    ensures fault { IfErr result (λ fault. (fault ≡ FootFault.OutOfMemory) ⊎ ((paths : _) × AreFeedPaths feed.now paths × IsFault paths MAX_FOOTPATHS MAX_WALK_SECS fault)) }
+    ensures fault { IfErr result (λ fault. (fault ≡ FootFault.OutOfMemory)
+        ⊎ ((paths : _) × AreFeedPaths feed.now paths × IsFault paths MAX_FOOTPATHS MAX_WALK_SECS fault)) }
 {
     match listed_within(alloc, feed, MAX_FOOTPATHS as usize) {
         Ok(listed) => close(alloc, stops, &listed),

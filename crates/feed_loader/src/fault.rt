@@ -28,8 +28,8 @@ pub enum LoadFault {
     FileFailed(Table),
 }
 
-/// The number, the name and the places, each after a space, as in `8 IdTwice stops.txt 3` or `101 FileFailed trips.txt`: a table's
-/// places are its file and the record, 0 for the whole file.
+/// The number, the name and the places, each after a space, as in `8 IdTwice stops.txt 3` or `101
+/// FileFailed trips.txt`: a table's places are its file and the record, 0 for the whole file.
 impl fmt::Display for LoadFault {
     fn fmt<W: fmt::Write>(&self, f: &mut fmt::Formatter<W>) -> fmt::Result {
         write!(f, "{} {}", self.number(), self.name())?;

@@ -17,13 +17,15 @@ use gtfs_tables::laws::{joined_is_runnable, joined_names_its_stops};
 use image_verifier::Verified;
 use std::alloc::Global;
 
-/// The image of a feed's files (GTFS Schedule Reference), in the layout that is written, and what was counted. Each file is read
-/// and judged before the next is read; then the tables are joined, and the image is made of the feed.
+/// The image of a feed's files (GTFS Schedule Reference), in the layout that is written, and what
+/// was counted. Each file is read and judged before the next is read; then the tables are joined,
+/// and the image is made of the feed.
 ///
 /// # Errors
 ///
-/// The first thing that is wrong, in that order. A file is told as one that can't be read exactly where its read failed in this
-/// call, and then it was the only one that did. Want of memory may be told at any time.
+/// The first thing that is wrong, in that order. A file is told as one that can't be read exactly
+/// where its read failed in this call, and then it was the only one that did. Want of memory may be
+/// told at any time.
 pub fn load<F: FeedFiles>(
     alloc: Global,
     files: &mut F,
@@ -36,8 +38,10 @@ pub fn load<F: FeedFiles>(
     ensures failures { F.failures files.new ≡ F.failures files.old + failed_in result }
     ensures failed { F.failed files.new ≡ failed_by (F.failed files.old) result }
     ensures layout { IfOk result (λ loaded. loaded.0.layout ≡ LAYOUT) }
-    ensures ok { (content : Content) → Tells (F.holds files.old) content → IfOk result (λ loaded. IsLoaded content plan.now loaded.0.timetable loaded.0.names loaded.1) }
-    ensures err { (content : Content) → Tells (F.holds files.old) content → IfErr result (λ fault. ¬ (IsWantOfMemory fault) → IsLoadRefusal content plan.now fault) }
+    ensures ok { (content : Content) → Tells (F.holds files.old) content
+        → IfOk result (λ loaded. IsLoaded content plan.now loaded.0.timetable loaded.0.names loaded.1) }
+    ensures err { (content : Content) → Tells (F.holds files.old) content
+        → IfErr result (λ fault. ¬ (IsWantOfMemory fault) → IsLoadRefusal content plan.now fault) }
 {
     joined_is_runnable();
     joined_names_its_stops();

@@ -42,14 +42,17 @@ fn short_names(alloc: Global, feed: &Feed, plan: &Plan, runs: &[Run]) -> Result<
     Ok(Names { base, stops, trips })
 }
 
-/// The image of a joined feed, in the layout that is written: its stops with their stop_ids as names; each run on the days of the
-/// plan as a trip, with its trip_id as name, its day, and its number among the trip's runs on that day; the runs' connections; and
-/// the closure of the footpaths that the feed lists. Times count from the start of the first day. The report counts what was made.
+/// The image of a joined feed, in the layout that is written: its stops with their stop_ids as
+/// names; each run on the days of the plan as a trip, with its trip_id as name, its day, and its
+/// number among the trip's runs on that day; the runs' connections; and the closure of the
+/// footpaths that the feed lists. Times count from the start of the first day. The report counts
+/// what was made.
 ///
 /// # Errors
 ///
-/// The first thing that is wrong: too many stops (`TooMany` of `stops.txt`), then what `runs_of` refuses, then names that are too
-/// long together (`TooMany` of `trips.txt`), then a closure that is too large. Want of memory may be told at any time.
+/// The first thing that is wrong: too many stops (`TooMany` of `stops.txt`), then what `runs_of`
+/// refuses, then names that are too long together (`TooMany` of `trips.txt`), then a closure that
+/// is too large. Want of memory may be told at any time.
 pub fn image_of(alloc: Global, feed: &Feed, plan: &Plan) -> Result<(Verified, Report), LoadFault>
     requires feed { IsRunnable feed.now }
     requires names { NamesItsStops feed.now }

@@ -13,7 +13,8 @@ use image_writer::write;
 use std::alloc::Global;
 use timetable::{Names, Timetable};
 
-/// Writes the image, in the layout that is written, and judges it. It has no fault, so want of memory is the only error.
+/// Writes the image, in the layout that is written, and judges it. It has no fault, so want of
+/// memory is the only error.
 pub fn written(alloc: Global, timetable: &Timetable, names: &Names) -> Result<Verified, LoadFault>
     requires { IsWritable timetable.now names.now }
     ensures layout { IfOk result (λ image. image.layout ≡ LAYOUT) }

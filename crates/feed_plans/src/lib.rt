@@ -12,7 +12,8 @@ use gtfs_rows::Day;
 use service_days::{DayFault, Zone};
 use std::alloc::Global;
 
-/// The first day if the clock gives none: no feed is loaded for it (`DayOutOfRange`), since the calendar doesn't have it.
+/// The first day if the clock gives none: no feed is loaded for it (`DayOutOfRange`), since the
+/// calendar doesn't have it.
 const NO_DAY: Day = Day {
     year: 0,
     month: 0,

@@ -1,6 +1,8 @@
-//! The closure of listed footpaths: one for each ordered pair of stops that a walk over listed ones joins, with the least time of any.
+//! The closure of listed footpaths: one for each ordered pair of stops that a walk over listed ones
+//! joins, with the least time of any.
 
-ghost use Rattle.std.specs.Prelude.{◌≡◌, ◌<◌, ◌≤◌, ◌+◌, ◌^◌, [], ◌∷◌, ◌++◌, ℕ, length, true, false, None, All, Contains, IfOk, IfErr, OnOk, slice_set};
+ghost use Rattle.std.specs.Prelude.{◌≡◌, ◌<◌, ◌≤◌, ◌+◌, ◌^◌, [], ◌∷◌, ◌++◌, ℕ, length, true, false, None, All};
+ghost use Rattle.std.specs.Prelude.{Contains, IfOk, IfErr, OnOk, slice_set};
 ghost use Rattle.std.specs.List.Sorted.{IsNonDecreasing};
 ghost use Rattle.footpaths.specs.Closure.{IsClosure, IsFault, AreInRange, HasLoops, HasLegalFootpaths};
 ghost use Rattle.footpaths.specs.Collected.{IsClosedInto, taken, IsTakeFault, IsAddFault, IsCountFault};
@@ -67,10 +69,12 @@ fn collect(
     requires reached { AreReached times.old reached.now }
     requires sorted { IsNonDecreasing reached.now }
     ensures cleared { OnOk result ((stop : ℕ) → time_at times.new stop ≡ None) }
-    ensures closed { (listed : _) (cap : ℕ) → IsClosedInto listed cap target closed.old.items → AreToldLeast listed cap target times.old
+    ensures closed { (listed : _) (cap : ℕ) → IsClosedInto listed cap target closed.old.items
+        → AreToldLeast listed cap target times.old
         → OnOk result (IsClosedInto listed cap (target + 1) closed.new.items) }
     ensures few { length closed.old.items ≤ most → OnOk result (length closed.new.items ≤ most) }
-    ensures fault { (listed : _) (cap : ℕ) → IsClosedInto listed cap target closed.old.items → AreToldLeast listed cap target times.old
+    ensures fault { (listed : _) (cap : ℕ) → IsClosedInto listed cap target closed.old.items
+        → AreToldLeast listed cap target times.old
         → IfErr result (IsCountFault listed most) }
 {
     for stop in reached {
@@ -122,8 +126,8 @@ fn has_longer(closed: &[Footpath], longest: u32) -> bool
     false
 }
 
-/// The closure of listed footpaths, as [`close`] gives it, within limits: so many footpaths at most, and none that takes longer
-/// than so many seconds.
+/// The closure of listed footpaths, as [`close`] gives it, within limits: so many footpaths at
+/// most, and none that takes longer than so many seconds.
 ///
 /// # Errors
 ///
@@ -149,15 +153,17 @@ pub fn close_within(
     Ok(closed)
 }
 
-/// The closure of listed footpaths: one footpath for each ordered pair of stops that a non-empty walk over them joins, of the
-/// least time in seconds of any such walk, by the stop led into, then by the stop left. It is what a legal timetable asks of its
-/// footpaths, as the Connection Scan Algorithm does (Dibbelt, Pajor, Strasser, Wagner, ACM JEA 2018). A loop is a footpath like
-/// any other here: a way there and back may undercut it. There are so many stops, and each has a listed loop.
+/// The closure of listed footpaths: one footpath for each ordered pair of stops that a non-empty
+/// walk over them joins, of the least time in seconds of any such walk, by the stop led into, then
+/// by the stop left. It is what a legal timetable asks of its footpaths, as the Connection Scan
+/// Algorithm does (Dibbelt, Pajor, Strasser, Wagner, ACM JEA 2018). A loop is a footpath like any
+/// other here: a way there and back may undercut it. There are so many stops, and each has a listed
+/// loop.
 ///
 /// # Errors
 ///
-/// `TooManyFootpaths` where the closure has more than `MAX_FOOTPATHS` footpaths, else `WalkTooLong` where one of them takes more
-/// than `MAX_WALK_SECS`.
+/// `TooManyFootpaths` where the closure has more than `MAX_FOOTPATHS` footpaths, else `WalkTooLong`
+/// where one of them takes more than `MAX_WALK_SECS`.
 pub fn close(alloc: Global, stops: u32, listed: &[Footpath]) -> Result<Vec<Footpath>, FootFault>
     requires in_range { AreInRange listed.now stops }
     requires loops { HasLoops listed.now stops }

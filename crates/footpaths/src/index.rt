@@ -50,8 +50,10 @@ fn add_chain(
 ) -> Result<(), AllocError>
     requires in_range { last ≤ length listed.now }
     requires count { length before.now ≡ length listed.now }
-    requires before { (i : ℕ) (f : _) → i < length listed.now → At listed.now i f → IsLastInto listed.now f.to i (slice_index before.now i) }
-    ensures { (stop : ℕ) → IsLastInto listed.now stop (length listed.now) last → OnOk result (AddsThoseFrom listed.now stop 0 paths.old.items paths.new.items) }
+    requires before { (i : ℕ) (f : _) → i < length listed.now → At listed.now i f
+        → IsLastInto listed.now f.to i (slice_index before.now i) }
+    ensures { (stop : ℕ) → IsLastInto listed.now stop (length listed.now) last
+        → OnOk result (AddsThoseFrom listed.now stop 0 paths.old.items paths.new.items) }
 {
     let mut place = last;
     while place > 0 {
@@ -82,8 +84,10 @@ impl Index {
     /// The footpaths into a stop.
     pub fn into(&self, stop: u32) -> &[Footpath]
         requires { stop + 1 < length self.now.first.items }
-        ensures those { (listed : _) → IsIndex listed self.now.first.items self.now.paths.items → AreThoseInto listed stop result.now }
-        ensures in_range { (stops : ℕ) → IsOver stops self.now.first.items self.now.paths.items → All (λ f. f.from < stops) result.now }
+        ensures those { (listed : _) → IsIndex listed self.now.first.items self.now.paths.items
+            → AreThoseInto listed stop result.now }
+        ensures in_range { (stops : ℕ) → IsOver stops self.now.first.items self.now.paths.items
+            → All (λ f. f.from < stops) result.now }
     {
         let stop = stop as usize;
         &self.paths[self.first[stop]..self.first[stop + 1]]

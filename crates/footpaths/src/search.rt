@@ -1,11 +1,13 @@
 //! The least times of walks into one stop: from the stop backwards, the nearest stop first.
 
-ghost use Rattle.std.specs.Prelude.{◌≡◌, ◌<◌, ◌≤◌, ◌+◌, ◌*◌, true, false, ℕ, [], None, Some, is_none, Contains, All, length, min, IfOk, OnOk, ◌⊎◌};
+ghost use Rattle.std.specs.Prelude.{◌≡◌, ◌<◌, ◌≤◌, ◌+◌, ◌*◌, true, false, ℕ, [], None, Some, is_none, Contains};
+ghost use Rattle.std.specs.Prelude.{All, length, min, IfOk, OnOk, ◌⊎◌};
 ghost use Rattle.std.specs.BinaryHeap.{heap_items, heap_len};
 ghost use Rattle.std.specs.List.Sorted.{IsNonDecreasing};
 ghost use Rattle.timetable.specs.declared.network.Footpath.{Footpath};
 ghost use Rattle.footpaths.specs.Index.{IsIndex, IsOver};
-ghost use Rattle.footpaths.specs.Search.{time_at, IsWithin, IsUndercut, IsBackFrom, TakesTime, AreWalked, AreReached, ArePendingInside, Grows, IsFollowed};
+ghost use Rattle.footpaths.specs.Search.{time_at, IsWithin, IsUndercut, IsBackFrom, TakesTime, AreWalked};
+ghost use Rattle.footpaths.specs.Search.{AreReached, ArePendingInside, Grows, IsFollowed};
 ghost use Rattle.footpaths.specs.Search.{AreFollowed, ArePendingOrFollowed, weight, AreToldLeast};
 
 use crate::index::Index;
@@ -95,12 +97,16 @@ impl Search {
     #[inline(always)]
     fn step(&mut self, path: Footpath, secs: u32, cap: u32) -> Result<(), AllocError>
         requires in_table { path.from < length self.old.times.items }
-        ensures grows { OnOk result (Grows self.old.times.items (heap_items self.old.pending) self.new.times.items (heap_items self.new.pending)) }
+        ensures grows { OnOk result (Grows self.old.times.items (heap_items self.old.pending) self.new.times.items
+            (heap_items self.new.pending)) }
         ensures within { OnOk result (IsWithin self.new.times.items path.from (path.secs + secs)) }
-        ensures walked { (listed : _) (target : ℕ) → IsBackFrom listed cap target path secs → AreWalked listed cap target self.old.times.items
+        ensures walked { (listed : _) (target : ℕ) → IsBackFrom listed cap target path secs
+            → AreWalked listed cap target self.old.times.items
             → OnOk result (AreWalked listed cap target self.new.times.items) }
-        ensures reached { AreReached self.old.times.items self.old.reached.items → OnOk result (AreReached self.new.times.items self.new.reached.items) }
-        ensures falls { OnOk result (2 * weight cap self.new.times.items + heap_len self.new.pending ≤ 2 * weight cap self.old.times.items + heap_len
+        ensures reached { AreReached self.old.times.items self.old.reached.items
+            → OnOk result (AreReached self.new.times.items self.new.reached.items) }
+        ensures falls { OnOk result (2 * weight cap self.new.times.items + heap_len self.new.pending ≤ 2 * weight
+            cap self.old.times.items + heap_len
             self.old.pending) }
     {
         self.offer(path.from, path.secs.saturating_add(secs).min(cap))
@@ -109,12 +115,16 @@ impl Search {
     // Walks footpaths backwards that lead to where a walk of so many seconds begins.
     fn spread(&mut self, paths: &[Footpath], secs: u32, cap: u32) -> Result<(), AllocError>
         requires in_table { All (λ f. f.from < length self.old.times.items) paths.now }
-        ensures grows { OnOk result (Grows self.old.times.items (heap_items self.old.pending) self.new.times.items (heap_items self.new.pending)) }
+        ensures grows { OnOk result (Grows self.old.times.items (heap_items self.old.pending) self.new.times.items
+            (heap_items self.new.pending)) }
         ensures within { OnOk result (All (λ f. IsWithin self.new.times.items f.from (f.secs + secs)) paths.now) }
         ensures walked { (listed : _) (target : ℕ) → All (λ f. IsBackFrom listed cap target f secs) paths.now
-            → AreWalked listed cap target self.old.times.items → OnOk result (AreWalked listed cap target self.new.times.items) }
-        ensures reached { AreReached self.old.times.items self.old.reached.items → OnOk result (AreReached self.new.times.items self.new.reached.items) }
-        ensures falls { OnOk result (2 * weight cap self.new.times.items + heap_len self.new.pending ≤ 2 * weight cap self.old.times.items + heap_len
+            → AreWalked listed cap target self.old.times.items
+            → OnOk result (AreWalked listed cap target self.new.times.items) }
+        ensures reached { AreReached self.old.times.items self.old.reached.items
+            → OnOk result (AreReached self.new.times.items self.new.reached.items) }
+        ensures falls { OnOk result (2 * weight cap self.new.times.items + heap_len self.new.pending ≤ 2 * weight
+            cap self.old.times.items + heap_len
             self.old.pending) }
     {
         for path in paths {
@@ -127,13 +137,18 @@ impl Search {
     fn follow(&mut self, index: &Index, next: Found, cap: u32) -> Result<(), AllocError>
         requires over { IsOver (length self.old.times.items) index.now.first.items index.now.paths.items }
         requires in_table { next.stop < length self.old.times.items }
-        ensures grows { OnOk result (Grows self.old.times.items (heap_items self.old.pending) self.new.times.items (heap_items self.new.pending)) }
+        ensures grows { OnOk result (Grows self.old.times.items (heap_items self.old.pending) self.new.times.items
+            (heap_items self.new.pending)) }
         ensures followed { (listed : _) → IsIndex listed index.now.first.items index.now.paths.items
-            → time_at self.new.times.items next.stop ≡ Some next.secs.0 → OnOk result (IsFollowed listed self.new.times.items next.stop next.secs.0) }
+            → time_at self.new.times.items next.stop ≡ Some next.secs.0
+            → OnOk result (IsFollowed listed self.new.times.items next.stop next.secs.0) }
         ensures walked { (listed : _) (target : ℕ) → IsIndex listed index.now.first.items index.now.paths.items
-            → AreWalked listed cap target self.old.times.items → OnOk result (AreWalked listed cap target self.new.times.items) }
-        ensures reached { AreReached self.old.times.items self.old.reached.items → OnOk result (AreReached self.new.times.items self.new.reached.items) }
-        ensures falls { OnOk result (2 * weight cap self.new.times.items + heap_len self.new.pending ≤ 2 * weight cap self.old.times.items + heap_len
+            → AreWalked listed cap target self.old.times.items
+            → OnOk result (AreWalked listed cap target self.new.times.items) }
+        ensures reached { AreReached self.old.times.items self.old.reached.items
+            → OnOk result (AreReached self.new.times.items self.new.reached.items) }
+        ensures falls { OnOk result (2 * weight cap self.new.times.items + heap_len self.new.pending ≤ 2 * weight
+            cap self.old.times.items + heap_len
             self.old.pending) }
     {
         if self.times[next.stop as usize] == Some(next.secs.0) {
@@ -147,12 +162,16 @@ impl Search {
         requires over { IsOver (length self.old.times.items) index.now.first.items index.now.paths.items }
         requires inside { ArePendingInside self.old.times.items (heap_items self.old.pending) }
         ensures count { OnOk result (length self.new.times.items ≡ length self.old.times.items) }
-        ensures lower { (stop secs : ℕ) → IsWithin self.old.times.items stop secs → OnOk result (IsWithin self.new.times.items stop secs) }
+        ensures lower { (stop secs : ℕ) → IsWithin self.old.times.items stop secs
+            → OnOk result (IsWithin self.new.times.items stop secs) }
         ensures followed { (listed : _) → IsIndex listed index.now.first.items index.now.paths.items
-            → ArePendingOrFollowed listed self.old.times.items (heap_items self.old.pending) → OnOk result (AreFollowed listed self.new.times.items) }
+            → ArePendingOrFollowed listed self.old.times.items (heap_items self.old.pending)
+            → OnOk result (AreFollowed listed self.new.times.items) }
         ensures walked { (listed : _) (target : ℕ) → IsIndex listed index.now.first.items index.now.paths.items
-            → AreWalked listed cap target self.old.times.items → OnOk result (AreWalked listed cap target self.new.times.items) }
-        ensures reached { AreReached self.old.times.items self.old.reached.items → OnOk result (AreReached self.new.times.items self.new.reached.items) }
+            → AreWalked listed cap target self.old.times.items
+            → OnOk result (AreWalked listed cap target self.new.times.items) }
+        ensures reached { AreReached self.old.times.items self.old.reached.items
+            → OnOk result (AreReached self.new.times.items self.new.reached.items) }
         ensures pending { OnOk result (heap_items self.new.pending ≡ []) }
     {
         while let Some(next) = self.pending.pop() {
@@ -161,7 +180,8 @@ impl Search {
         Ok(())
     }
 
-    /// Finds the least time of a walk from each stop into the target, told no further than a cap, and sorts the stops reached.
+    /// Finds the least time of a walk from each stop into the target, told no further than a cap,
+    /// and sorts the stops reached.
     pub fn fill(&mut self, index: &Index, target: u32, cap: u32) -> Result<(), AllocError>
         requires over { IsOver (length self.old.times.items) index.now.first.items index.now.paths.items }
         requires in_table { target < length self.old.times.items }

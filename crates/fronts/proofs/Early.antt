@@ -8,13 +8,19 @@ use Rattle.fronts.specs.Entries.{AreEntries}
 use Rattle.fronts.proofs.Points.{LeadsTo, departs_at, next_at, not_end, next_back, leads_on}
 
 -- an entry read at a place departs when the place does
-pub departs_early : {V : Type 0} (entries : List (Entry V)) (m time : ℕ) (e : Entry V) → m < length entries → e ≡ get_or entries m e → (get_or entries m e).departure < time → departure_of entries m < time
-departs_early {V} entries m time e lt is early = subst (λ n. n < time) (sym (departs_at entries m e lt is)) (subst (λ (f : Entry V). f.departure < time) (sym is) early)
+pub departs_early : {V : Type 0} (entries : List (Entry V)) (m time : ℕ) (e : Entry V) → m < length entries
+    → e ≡ get_or entries m e → (get_or entries m e).departure < time → departure_of entries m < time
+departs_early {V} entries m time e lt is early =
+    subst (λ n. n < time) (sym (departs_at entries m e lt is))
+    (subst (λ (f : Entry V). f.departure < time) (sym is) early)
 
 -- the next entry of one that departs early lies before it
-pub goes_back : {V : Type 0} (rules : Rules V) (entries : List (Entry V)) (items : List (Item V)) → AreEntries rules entries items → (m time : ℕ) (e : Entry V) → m < length entries → e ≡ get_or entries m e → departure_of entries m < time → time ≤ 4294967295 → (get_or entries m e).next < m
+pub goes_back : {V : Type 0} (rules : Rules V) (entries : List (Entry V)) (items : List (Item V))
+    → AreEntries rules entries items → (m time : ℕ) (e : Entry V) → m < length entries → e ≡ get_or entries m e
+    → departure_of entries m < time → time ≤ 4294967295 → (get_or entries m e).next < m
 goes_back {V} rules entries items are m time e lt is early le =
-    subst (λ (f : Entry V). f.next < m) is (subst (λ n. n < m) (next_at entries m e lt is) (next_back rules entries items are m (not_end rules entries items are m time early le)))
+    subst (λ (f : Entry V). f.next < m) is (subst (λ n. n < m) (next_at entries m e lt is)
+    (next_back rules entries items are m (not_end rules entries items are m time early le)))
 
 -- the same, of an entry read twice
 pub reads_back : {V : Type 0} (rules : Rules V) (entries : List (Entry V)) (items : List (Item V)) → AreEntries rules entries items

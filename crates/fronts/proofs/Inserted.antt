@@ -21,13 +21,20 @@ path_within entries head (x ∷ xs) m b path h = elim (Contains-append_cases (x 
   | inr later ↦ path_within entries (next_of entries x) xs m b path.3 later
 ]
 
-module _ {V : Type 0} (rules : Rules V) (old mid : List (Entry V)) (old_items mid_items : List (Item V)) (are : AreEntries rules old old_items) (more : Extends old mid) (more_items : Extends old_items mid_items) where
+module _ {V : Type 0} (rules : Rules V) (old mid : List (Entry V)) (old_items mid_items : List (Item V))
+    (are : AreEntries rules old old_items) (more : Extends old mid) (more_items : Extends old_items mid_items) where
   pub path_more : (head : ℕ) (bs : List ℕ) (m : ℕ) → IsPath old head bs m → IsPath mid head bs m
   path_more head [] m path = path
   path_more head (x ∷ xs) m path =
       let grows = extends_long old mid more in
-      let lt = path.2 in
-      (path.0, path.1, omega arith, subst (λ n. IsPath mid n xs m) (sym (same_next rules old mid old_items mid_items are more more_items x path.2)) (path_more (next_of old x) xs m path.3))
+      let lt = path.2 in (
+        path.0,
+        path.1,
+        omega arith,
+        subst (λ n. IsPath mid n xs m)
+            (sym (same_next rules old mid old_items mid_items are more more_items x path.2))
+            (path_more (next_of old x) xs m path.3),
+      )
 
   pub before_more : (head : ℕ) (bs : List ℕ) (m time later : ℕ) → IsPath old head bs m → DepartBefore old time bs → later ≡ time → DepartBefore mid later bs
   before_more head bs m time later path before e b h =
@@ -35,11 +42,16 @@ module _ {V : Type 0} (rules : Rules V) (old mid : List (Entry V)) (old_items mi
       let lt = before b h in
       omega arith
 
-late_covers : {V : Type 0} (rules : Rules V) (entries : List (Entry V)) (items : List (Item V)) → AreEntries rules entries items → (departure m : ℕ) (v : V) → departure ≤ departure_of entries m → Betters rules (front entries items m) v → Covers rules (points_from entries items m) departure v
-late_covers rules entries items are departure m v early (p, h, w) = (let late = (are.each m).late p h in (p, of_front rules entries items are m p h, omega arith, w))
+late_covers : {V : Type 0} (rules : Rules V) (entries : List (Entry V)) (items : List (Item V))
+    → AreEntries rules entries items → (departure m : ℕ) (v : V) → departure ≤ departure_of entries m
+    → Betters rules (front entries items m) v → Covers rules (points_from entries items m) departure v
+late_covers rules entries items are departure m v early (p, h, w) =
+    (let late = (are.each m).late p h in (p, of_front rules entries items are m p h, omega arith, w))
 
 -- what is known of an insertion once its values are walked: those that no point of the list's front betters are kept
-pub record AreWalked {V : Type 0} (rules : Rules V) (entries : List (Entry V)) (items : List (Item V)) (head departure first walk secs after : ℕ) (ridden : List (Ridden V)) (steps : List Step) (kept : List (Item V)) : Type 0 where
+pub record AreWalked {V : Type 0} (rules : Rules V) (entries : List (Entry V)) (items : List (Item V))
+    (head departure first walk secs after : ℕ) (ridden : List (Ridden V)) (steps : List Step)
+    (kept : List (Item V)) : Type 0 where
   pub short : IsSecs secs
   pub fair : (r : Ridden V) → Contains ridden r → Admits rules r.value
   pub are : AreEntries rules entries items
@@ -48,32 +60,46 @@ pub record AreWalked {V : Type 0} (rules : Rules V) (entries : List (Entry V)) (
   pub all : AllWalked rules (front entries items after) secs ridden (length ridden) kept
 
 -- the same, where the list was passed and the values were walked in what was read of it
-pub walked : {V : Type 0} (rules : Rules V) (entries : List (Entry V)) (items : List (Item V)) (head departure first walk secs after : ℕ) (ridden : List (Ridden V)) (steps : List Step) (kept : List (Item V)) (passed met : List (Entry V)) (passed_items met_items : List (Item V))
-    → passed ≡ entries → passed_items ≡ items → met ≡ entries → met_items ≡ items → IsSecs secs → ((r : Ridden V) → Contains ridden r → Admits rules r.value) → AreEntries rules entries items → IsLate passed passed_items head departure after → AreBoardings rules steps departure first walk secs ridden kept → AllWalked rules (front met met_items after) secs ridden (length ridden) kept
+pub walked : {V : Type 0} (rules : Rules V) (entries : List (Entry V)) (items : List (Item V))
+    (head departure first walk secs after : ℕ) (ridden : List (Ridden V)) (steps : List Step) (kept : List (Item V))
+    (passed met : List (Entry V)) (passed_items met_items : List (Item V))
+    → passed ≡ entries → passed_items ≡ items → met ≡ entries → met_items ≡ items → IsSecs secs
+    → ((r : Ridden V) → Contains ridden r → Admits rules r.value) → AreEntries rules entries items
+    → IsLate passed passed_items head departure after
+    → AreBoardings rules steps departure first walk secs ridden kept
+    → AllWalked rules (front met met_items after) secs ridden (length ridden) kept
     → AreWalked rules entries items head departure first walk secs after ridden steps kept
-walked {V} rules entries items head departure first walk secs after ridden steps kept passed met passed_items met_items passed_is passed_items_is met_is met_items_is short fair are late boarded all = record {
-  short = short;
-  fair = fair;
-  are = are;
-  late = subst (λ es. IsLate es items head departure after) passed_is (subst (λ ps. IsLate passed ps head departure after) passed_items_is late);
-  boarded = boarded;
-  all = subst (λ es. AllWalked rules (front es items after) secs ridden (length ridden) kept) met_is (subst (λ ps. AllWalked rules (front met ps after) secs ridden (length ridden) kept) met_items_is all);
-}
+walked {V} rules entries items head departure first walk secs after ridden steps kept passed met passed_items met_items
+    passed_is passed_items_is met_is met_items_is short fair are late boarded all = record {
+      short = short;
+      fair = fair;
+      are = are;
+      late = subst (λ es. IsLate es items head departure after) passed_is (subst (λ ps. IsLate passed ps head departure after) passed_items_is late);
+      boarded = boarded;
+      all = subst (λ es. AllWalked rules (front es items after) secs ridden (length ridden) kept) met_is
+          (subst (λ ps. AllWalked rules (front met ps after) secs ridden (length ridden) kept) met_items_is all);
+    }
 
-module _ {V : Type 0} (rules : Rules V) (laws : Laws rules) (entries : List (Entry V)) (items : List (Item V)) (head departure first walk secs after : ℕ) (ridden : List (Ridden V)) (steps : List Step) (kept : List (Item V)) (are : AreWalked rules entries items head departure first walk secs after ridden steps kept) where
+module _ {V : Type 0} (rules : Rules V) (laws : Laws rules) (entries : List (Entry V)) (items : List (Item V))
+    (head departure first walk secs after : ℕ) (ridden : List (Ridden V)) (steps : List Step) (kept : List (Item V))
+    (are : AreWalked rules entries items head departure first walk secs after ridden steps kept) where
   kept_admitted : (p : Item V) → Contains kept p → Admits rules p.value
   kept_admitted p h = let b = are.boarded p h in subst (Admits rules) (sym b.worth) (laws.walk_admits secs b.by.value are.short (are.fair b.by b.is_ridden))
 
   -- each of the values is bettered by what is kept, or covered already
-  bettered : (r : Ridden V) → Contains ridden r → Betters rules kept (rules.walk secs r.value) ⊎ Covers rules (points_from entries items after) departure (rules.walk secs r.value)
-  bettered r h = subst (λ (z : Ridden V). Betters rules kept (rules.walk secs z.value) ⊎ Covers rules (points_from entries items after) departure (rules.walk secs z.value)) h.2
+  bettered : (r : Ridden V) → Contains ridden r
+      → Betters rules kept (rules.walk secs r.value)
+      ⊎ Covers rules (points_from entries items after) departure (rules.walk secs r.value)
+  bettered r h = subst (λ (z : Ridden V). Betters rules kept (rules.walk secs z.value)
+      ⊎ Covers rules (points_from entries items after) departure (rules.walk secs z.value)) h.2
       (elim (are.all h.0 r h.1) [
         | inl b ↦ inl b
         | inr b ↦ inr (late_covers rules entries items are.are departure after (rules.walk secs (get_or ridden h.0 r).value) are.late.late b)
       ])
 
   -- nothing is kept
-  pub takes_none : length kept ≡ 0 → TakesBoardings rules steps departure first walk secs ridden (points_from entries items head) (points_from entries items head)
+  pub takes_none : length kept ≡ 0 → TakesBoardings rules steps departure first walk secs ridden
+      (points_from entries items head) (points_from entries items head)
   takes_none none = record {
     only = λ p h. inl h;
     kept = λ d v a c. c;
@@ -92,11 +118,15 @@ module _ {V : Type 0} (rules : Rules V) (laws : Laws rules) (entries : List (Ent
     admitted = kept_admitted;
   }
 
-  pub takes_covers : (two : List (Entry V)) (two_items : List (Item V)) (put : List (Item V)) → Extends entries two → Extends items two_items → IsUnion rules kept (points_from entries items after) put → CoversAll rules (points_from two two_items after) put
+  pub takes_covers : (two : List (Entry V)) (two_items : List (Item V)) (put : List (Item V)) → Extends entries two
+      → Extends items two_items → IsUnion rules kept (points_from entries items after) put
+      → CoversAll rules (points_from two two_items after) put
   takes_covers two two_items put ext ext_items union d v a c =
       union.kept_second d v a (subst (λ ps. Covers rules ps d v) (same_points rules entries two items two_items are.are ext ext_items after are.late.within) c)
 
-  pub takes_all : (two : List (Entry V)) (two_items put new : List (Item V)) → Extends entries two → Extends items two_items → head < length entries → IsUnion rules kept (points_from entries items after) put → IsUnion rules (points_from two two_items head) put new
+  pub takes_all : (two : List (Entry V)) (two_items put new : List (Item V)) → Extends entries two
+      → Extends items two_items → head < length entries → IsUnion rules kept (points_from entries items after) put
+      → IsUnion rules (points_from two two_items head) put new
       → TakesBoardings rules steps departure first walk secs ridden (points_from entries items head) new
   takes_all two two_items put new ext ext_items head_in union joined =
       let same = same_points rules entries two items two_items are.are ext ext_items head head_in in

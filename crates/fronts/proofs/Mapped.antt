@@ -22,7 +22,8 @@ module _ {V : Type 0} where
   into_points (y ∷ ys) x h = elim (Contains-append_cases (y ∷ []) ys x h) [
     | inl a ↦ elim (Contains-push_cases [] y x a) [
       | inl n ↦ absurd (not_in_nil x n)
-      | inr e ↦ subst (λ z. Contains (map point_of (y ∷ ys)) (point_of z)) e (Contains-append_left (point_of y ∷ []) (map point_of ys) (point_of y) (Contains-push [] (point_of y)))
+      | inr e ↦ subst (λ z. Contains (map point_of (y ∷ ys)) (point_of z)) e
+          (Contains-append_left (point_of y ∷ []) (map point_of ys) (point_of y) (Contains-push [] (point_of y)))
     ]
     | inr b ↦ Contains-append_right (point_of y ∷ []) (map point_of ys) (point_of x) (into_points ys x b)
   ]
@@ -45,7 +46,9 @@ module _ {V : Type 0} where
       let x = from_points xs p h in
       (x.0, x.1, subst (λ (z : Point V). d ≤ z.departure) (sym x.2) late, subst (λ (z : Point V). rules.no_worse z.value v ≡ true) (sym x.2) w)
 
-  pub takes_points : (rules : Rules V) (steps : List Step) (departure first walk secs : ℕ) (ridden : List (Ridden V)) (old new : List (Item V)) → TakesBoardings rules steps departure first walk secs ridden old new → TakesRidden rules steps departure first walk secs ridden (map point_of old) (map point_of new)
+  pub takes_points : (rules : Rules V) (steps : List Step) (departure first walk secs : ℕ) (ridden : List (Ridden V))
+      (old new : List (Item V)) → TakesBoardings rules steps departure first walk secs ridden old new
+      → TakesRidden rules steps departure first walk secs ridden (map point_of old) (map point_of new)
   takes_points rules steps departure first walk secs ridden old new takes = record {
     only = λ p h.
         let x = from_points new p h in
@@ -57,8 +60,10 @@ module _ {V : Type 0} where
     covered = λ r h. covered_points rules new departure (rules.walk secs r.value) (takes.covered r h);
   }
 
-  pub points_made_of : (rules : Rules V) (laws : Laws rules) (entries : List (Entry V)) (items : List (Item V)) → AreEntries rules entries items → (head time m : ℕ) → IsLate entries items head time m
-      → (p : Point V) → Contains (map point_of (front entries items m)) p → Contains (map point_of (points_from entries items head)) p × (time ≤ p.departure) × Admits rules p.value
+  pub points_made_of : (rules : Rules V) (laws : Laws rules) (entries : List (Entry V)) (items : List (Item V))
+      → AreEntries rules entries items → (head time m : ℕ) → IsLate entries items head time m
+      → (p : Point V) → Contains (map point_of (front entries items m)) p
+      → Contains (map point_of (points_from entries items head)) p × (time ≤ p.departure) × Admits rules p.value
   points_made_of rules laws entries items are head time m late p h =
       let x = from_points (front entries items m) p h in
       let made = (front_from rules entries items are laws head time m late).0 x.0 x.1 in (
@@ -67,14 +72,18 @@ module _ {V : Type 0} where
         subst (λ (z : Point V). Admits rules z.value) x.2 ((are.each m).admitted x.0 x.1),
       )
 
-  pub points_bettered : (rules : Rules V) (laws : Laws rules) (entries : List (Entry V)) (items : List (Item V)) → AreEntries rules entries items → (head time m : ℕ) → IsLate entries items head time m
-      → (p : Point V) → Contains (map point_of (points_from entries items head)) p → time ≤ p.departure → IsBettered rules (map point_of (front entries items m)) p.value
+  pub points_bettered : (rules : Rules V) (laws : Laws rules) (entries : List (Entry V)) (items : List (Item V))
+      → AreEntries rules entries items → (head time m : ℕ) → IsLate entries items head time m
+      → (p : Point V) → Contains (map point_of (points_from entries items head)) p → time ≤ p.departure
+      → IsBettered rules (map point_of (front entries items m)) p.value
   points_bettered rules laws entries items are head time m late p h after =
       let x = from_points (points_from entries items head) p h in
       let b = (front_from rules entries items are laws head time m late).1 x.0 x.1 (subst (λ (z : Point V). time ≤ z.departure) (sym x.2) after) in
       (point_of b.0, into_points (front entries items m) b.0 b.1, subst (λ (z : Point V). rules.no_worse b.0.value z.value ≡ true) x.2 b.2)
 
-  pub list_admitted : (rules : Rules V) (entries : List (Entry V)) (items : List (Item V)) → AreEntries rules entries items → (head : ℕ) (p : Point V) → Contains (map point_of (points_from entries items head)) p → Admits rules p.value
+  pub list_admitted : (rules : Rules V) (entries : List (Entry V)) (items : List (Item V))
+      → AreEntries rules entries items → (head : ℕ) (p : Point V)
+      → Contains (map point_of (points_from entries items head)) p → Admits rules p.value
   list_admitted rules entries items are head p h =
       let x = from_points (points_from entries items head) p h in
       subst (λ (z : Point V). Admits rules z.value) x.2 (points_admitted rules entries items are head x.0 x.1)

@@ -1,5 +1,6 @@
 -- A front put before a list.
-use Rattle.std.proofs.Common.{◌≡◌, ◌⊎◌, ℕ, ◌+◌, ◌<◌, ◌≤◌, true, false, not, List, [], ◌∷◌, ◌++◌, length, take, drop, get_or, Contains, inl, inr, refl, sym, ◌∙◌, ap, subst, arith, length-append, append_assoc}
+use Rattle.std.proofs.Common.{◌≡◌, ◌⊎◌, ℕ, ◌+◌, ◌<◌, ◌≤◌, true, false, not, List, [], ◌∷◌, ◌++◌, length, take, drop}
+use Rattle.std.proofs.Common.{get_or, Contains, inl, inr, refl, sym, ◌∙◌, ap, subst, arith, length-append, append_assoc}
 use Rattle.std.proofs.lemmas.Bool.{cases_Bool}
 use Rattle.std.proofs.lemmas.List.{length_push, drop_at, take_all}
 use Rattle.std.proofs.lemmas.List.Elements.{Contains-append_left, Contains-append_right, Contains-append_cases}
@@ -22,9 +23,13 @@ first_and_rest [] x some is = absurd (omega arith)
 first_and_rest (y ∷ ys) x some is = ap (λ z. z ∷ ys) is
 
 -- what is put
-module _ {V : Type 0} (rules : Rules V) (laws : Laws rules) (entries : List (Entry V)) (items more : List (Item V)) (are : AreEntries rules entries items) (departure m : ℕ) (points : List (Item V)) (may : MayPut rules entries departure m points) (e : Entry V) (first : own e ∷ drop 1 points ≡ points) (departs : e.departure ≡ departure)
+module _ {V : Type 0} (rules : Rules V) (laws : Laws rules) (entries : List (Entry V)) (items more : List (Item V))
+    (are : AreEntries rules entries items) (departure m : ℕ) (points : List (Item V))
+    (may : MayPut rules entries departure m points) (e : Entry V) (first : own e ∷ drop 1 points
+    ≡ points) (departs : e.departure ≡ departure)
     (follows : Follows (departure_of entries m) (next_of entries m) m departure e.next)
-    (filled : more ≡ items ++ (drop 1 points ++ left_by rules points (front entries items m))) (rest : e.rest ≡ length items) (count : length items + e.count ≡ length more) where
+    (filled : more ≡ items ++ (drop 1 points ++ left_by rules points (front entries items m))) (rest : e.rest
+    ≡ length items) (count : length items + e.count ≡ length more) where
   pub put_extends : Extends items more
   put_extends = (drop 1 points ++ left_by rules points (front entries items m), filled)
 
@@ -58,7 +63,8 @@ module _ {V : Type 0} (rules : Rules V) (laws : Laws rules) (entries : List (Ent
 
   put_left : (p : Item V) → Contains (front entries items m) p → betters rules points p.value ≡ false → Contains put_front p
   unfolding put_front
-  put_left p h f = Contains-append_right points (left_by rules points (front entries items m)) p (into_filter (λ q. not (betters rules points q.value)) (front entries items m) p h (ap not f))
+  put_left p h f = Contains-append_right points (left_by rules points (front entries items m)) p
+      (into_filter (λ q. not (betters rules points q.value)) (front entries items m) p h (ap not f))
 
   put_admitted : (p : Item V) → Contains put_front p → Admits rules p.value
   put_admitted p h = elim (put_cases p h) [ inl r ↦ may.admitted p r | inr l ↦ (are.each m).admitted p l ]
@@ -74,7 +80,12 @@ module _ {V : Type 0} (rules : Rules V) (laws : Laws rules) (entries : List (Ent
   put_betters p h = elim (put_over p h) [ inl a ↦ (p, a, laws.reflexive p.value ((are.each m).admitted p h)) | inr r ↦ (r.0, put_each r.0 r.1, r.2) ]
 
   put_next : e.next < length entries
-  put_next = let within = may.within in elim follows [ inl a ↦ subst (λ n. n < length entries) (sym a.1) (next_within rules entries items are m within) | inr b ↦ subst (λ n. n < length entries) (sym b.1) within ]
+  put_next = let within = may.within in elim follows [
+    | inl a ↦
+        subst (λ n. n < length entries) (sym a.1) (next_within rules entries items are m within)
+    | inr b ↦
+        subst (λ n. n < length entries) (sym b.1) within
+  ]
 
   put_late : (p : Item V) → Contains put_front p → departure ≤ p.departure
   put_late p h = elim (put_cases p h) [
@@ -103,8 +114,12 @@ module _ {V : Type 0} (rules : Rules V) (laws : Laws rules) (entries : List (Ent
       | inl a ↦
           let there = subst (λ k. Contains (front entries items k) p) a.1 h in
           let r = (are.each m).over p there in
-          let s = put_betters r.0 r.1 in
-          (s.0, s.1, laws.transitive s.0.value r.0.value p.value (put_admitted s.0 s.1) ((are.each m).admitted r.0 r.1) ((are.each (next_of entries m)).admitted p there) s.2 r.2)
+          let s = put_betters r.0 r.1 in (
+            s.0,
+            s.1,
+            laws.transitive s.0.value r.0.value p.value (put_admitted s.0 s.1) ((are.each m).admitted r.0 r.1)
+                ((are.each (next_of entries m)).admitted p there) s.2 r.2,
+          )
       | inr b ↦ put_betters p (subst (λ k. Contains (front entries items k) p) b.1 h)
     ];
   }
@@ -122,7 +137,8 @@ module _ {V : Type 0} (rules : Rules V) (laws : Laws rules) (entries : List (Ent
       let next_is : next_of (entries ++ e ∷ []) (length entries) ≡ e.next = ap next_in (slice_get-middle entries e []) in
       unrolled rules (entries ++ e ∷ []) more put_are (length entries)
       ∙ ap (λ ps. ps ++ points_from (entries ++ e ∷ []) more (next_of (entries ++ e ∷ []) (length entries))) (front_new entries more e some ∙ put_whole)
-      ∙ ap (λ ps. put_front ++ ps) (ap (points_from (entries ++ e ∷ []) more) next_is ∙ same_points rules entries (entries ++ e ∷ []) items more are (e ∷ [], refl) put_extends e.next put_next)
+      ∙ ap (λ ps. put_front ++ ps) (ap (points_from (entries ++ e ∷ []) more) next_is
+      ∙ same_points rules entries (entries ++ e ∷ []) items more are (e ∷ [], refl) put_extends e.next put_next)
 
   put_in_front : (p : Item V) → Contains put_front p → Contains (points_from (entries ++ e ∷ []) more (length entries)) p
   put_in_front p h = subst (λ ps. Contains ps p) (sym put_points) (Contains-append_left put_front (points_from entries items e.next) p h)
@@ -155,10 +171,21 @@ module _ {V : Type 0} (rules : Rules V) (laws : Laws rules) (entries : List (Ent
           | inl d ↦ elim (put_over c.0 f) [
             | inl h ↦ (c.0, put_in_front c.0 h, c.2, c.3)
             | inr r ↦
-                let at = may.departs r.0 r.1 in
-                (r.0, put_in_front r.0 (put_each r.0 r.1), omega (arith, at, d, n.0, c.2), laws.transitive r.0.value c.0.value v (may.admitted r.0 r.1) ((are.each m).admitted c.0 f) a r.2 c.3)
+                let at = may.departs r.0 r.1 in (
+                  r.0,
+                  put_in_front r.0 (put_each r.0 r.1),
+                  omega (arith, at, d, n.0, c.2),
+                  laws.transitive r.0.value c.0.value v (may.admitted r.0 r.1) ((are.each m).admitted c.0 f) a r.2
+                      c.3,
+                )
           ]
-          | inr l ↦ (c.0, put_in_next c.0 (subst (λ k. Contains (points_from entries items k) c.0) (sym n.1) (of_front rules entries items are (next_of entries m) c.0 l)), c.2, c.3)
+          | inr l ↦ (
+            c.0,
+            put_in_next c.0 (subst (λ k. Contains (points_from entries items k) c.0) (sym n.1)
+                (of_front rules entries items are (next_of entries m) c.0 l)),
+            c.2,
+            c.3,
+          )
         ]
         | inr l ↦ (c.0, put_in_next c.0 (subst (λ k. Contains (points_from entries items k) c.0) (sym n.1) l), c.2, c.3)
       ]
@@ -166,33 +193,41 @@ module _ {V : Type 0} (rules : Rules V) (laws : Laws rules) (entries : List (Ent
     ];
   }
 
-follows_at : {V : Type 0} (entries : List (Entry V)) (m departure after : ℕ) (e : Entry V) → m < length entries → e ≡ get_or entries m e → Follows e.departure e.next m departure after → Follows (departure_of entries m) (next_of entries m) m departure after
+follows_at : {V : Type 0} (entries : List (Entry V)) (m departure after : ℕ) (e : Entry V) → m < length entries
+    → e ≡ get_or entries m e → Follows e.departure e.next m departure after
+    → Follows (departure_of entries m) (next_of entries m) m departure after
 follows_at entries m departure after e lt is f =
-    subst (λ d. Follows d (next_of entries m) m departure after) (sym (departs_at entries m e lt is)) (subst (λ n. Follows e.departure n m departure after) (sym (next_at entries m e lt is)) f)
+    subst (λ d. Follows d (next_of entries m) m departure after) (sym (departs_at entries m e lt is))
+    (subst (λ n. Follows e.departure n m departure after) (sym (next_at entries m e lt is)) f)
 
 -- what a list is, with a front put before it
-pub record IsPut {V : Type 0} (rules : Rules V) (old now : List (Entry V)) (items more : List (Item V)) (departure m : ℕ) (points : List (Item V)) (place : ℕ) : Type 0 where
+pub record IsPut {V : Type 0} (rules : Rules V) (old now : List (Entry V)) (items more : List (Item V))
+    (departure m : ℕ) (points : List (Item V)) (place : ℕ) : Type 0 where
   pub are : AreEntries rules now more
   pub within : place < length now
   pub departs : departure_of now place ≡ departure
   pub union : IsUnion rules points (points_from old items m) (points_from now more place)
 
 -- all that the code does, at the end
-pub put_all : {V : Type 0} (rules : Rules V) (laws : Laws rules) (entries read now : List (Entry V)) (items more : List (Item V)) (departure m place : ℕ) (points : List (Item V)) (e after : Entry V) (x : Item V)
+pub put_all : {V : Type 0} (rules : Rules V) (laws : Laws rules) (entries read now : List (Entry V))
+    (items more : List (Item V)) (departure m place : ℕ) (points : List (Item V)) (e after : Entry V) (x : Item V)
     → AreEntries rules entries items → MayPut rules entries departure m points
     → read ≡ entries → x ≡ get_or points 0 x → e.value ≡ x.value → e.tag ≡ x.tag → e.departure ≡ departure
     → after ≡ get_or entries m after → Follows after.departure after.next m departure e.next
     → more ≡ items ++ (drop 1 points ++ left_by rules points (front read items m)) → e.rest ≡ length items → length items + e.count ≡ length more
     → now ≡ entries ++ e ∷ [] → place ≡ length entries
     → IsPut rules entries now items more departure m points place
-put_all {V} rules laws entries read now items more departure m place points e after x are may same x_is worth tag departs after_is follows filled rest count pushed_is place_is =
+put_all {V} rules laws entries read now items more departure m place points e after x are may same x_is worth tag
+    departs after_is follows filled rest count pushed_is place_is =
     let x_in : Contains points x = (0, may.some, sym x_is) in
     let d : e.departure ≡ x.departure = departs ∙ sym (may.departs x x_in) in
     let own_is : own e ≡ x =
     ap (λ (n : ℕ). item n e.value e.tag) d ∙ ap (λ (v : V). item x.departure v e.tag) worth ∙ ap (λ (n : ℕ). item x.departure x.value n) tag in
     let first : own e ∷ drop 1 points ≡ points = ap (λ z. z ∷ drop 1 points) own_is ∙ first_and_rest points x may.some x_is in
     let f = follows_at entries m departure e.next after may.within after_is follows in
-    let filled_here : more ≡ items ++ (drop 1 points ++ left_by rules points (front entries items m)) = filled ∙ ap (λ (es : List (Entry V)). items ++ (drop 1 points ++ left_by rules points (front es items m))) same in
+    let filled_here : more ≡ items ++ (drop 1 points ++ left_by rules points (front entries items m)) =
+    filled ∙ ap (λ (es : List (Entry V)). items
+    ++ (drop 1 points ++ left_by rules points (front es items m))) same in
     subst (λ n. IsPut rules entries now items more departure m points n) (sym place_is)
     (subst (λ (es : List (Entry V)). IsPut rules entries es items more departure m points (length entries)) (sym pushed_is) (record {
       are = put_are rules laws entries items more are departure m points may e first departs f filled_here rest count;

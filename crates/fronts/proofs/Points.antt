@@ -1,5 +1,6 @@
 -- The points along a list, and the front of its first entry.
-use Rattle.std.proofs.Common.{◌≡◌, ◌⊎◌, ℕ, zero, suc, ◌+◌, ◌<◌, ◌≤◌, List, [], ◌∷◌, ◌++◌, length, Contains, inl, inr, get_or, Some, true, false, ◌||◌, take, drop, refl, sym, ◌∙◌, ap, subst, arith}
+use Rattle.std.proofs.Common.{◌≡◌, ◌⊎◌, ℕ, zero, suc, ◌+◌, ◌<◌, ◌≤◌, List, [], ◌∷◌, ◌++◌, length, Contains, inl, inr}
+use Rattle.std.proofs.Common.{get_or, Some, true, false, ◌||◌, take, drop, refl, sym, ◌∙◌, ap, subst, arith}
 use Rattle.std.proofs.lemmas.List.Elements.{Contains-append_left, Contains-append_right, Contains-append_cases}
 use Rattle.std.proofs.lemmas.Option.{slice_get-get_or}
 use Rattle.reasoning.proofs.ListLemmas.{not_in_nil, contains_first, contains_rest}
@@ -19,7 +20,8 @@ pub record LeadsTo {V : Type 0} (entries : List (Entry V)) (items : List (Item V
 pub leads_here : {V : Type 0} (entries : List (Entry V)) (items : List (Item V)) (head time : ℕ) → head < length entries → LeadsTo entries items head time head
 leads_here entries items head time lt = record { within = lt; only = λ p h. h; all = λ p h late. h }
 
-pub departs_at : {V : Type 0} (entries : List (Entry V)) (m : ℕ) (e : Entry V) → m < length entries → e ≡ get_or entries m e → departure_of entries m ≡ e.departure
+pub departs_at : {V : Type 0} (entries : List (Entry V)) (m : ℕ) (e : Entry V) → m < length entries
+    → e ≡ get_or entries m e → departure_of entries m ≡ e.departure
 departs_at entries m e lt is = ap departure_in (slice_get-get_or entries m e lt ∙ ap Some (sym is))
 
 pub next_at : {V : Type 0} (entries : List (Entry V)) (m : ℕ) (e : Entry V) → m < length entries → e ≡ get_or entries m e → next_of entries m ≡ e.next
@@ -54,20 +56,25 @@ module _ {V : Type 0} (rules : Rules V) (entries : List (Entry V)) (items : List
   unrolled (suc m) = unrolled_suc m
 
   pub of_front : (m : ℕ) (p : Item V) → Contains (front entries items m) p → Contains (points_from entries items m) p
-  of_front m p h = subst (λ xs. Contains xs p) (sym (unrolled m)) (Contains-append_left (front entries items m) (points_from entries items (next_of entries m)) p h)
+  of_front m p h = subst (λ xs. Contains xs p) (sym (unrolled m))
+      (Contains-append_left (front entries items m) (points_from entries items (next_of entries m)) p h)
 
   pub of_next : (m : ℕ) (p : Item V) → Contains (points_from entries items (next_of entries m)) p → Contains (points_from entries items m) p
-  of_next m p h = subst (λ xs. Contains xs p) (sym (unrolled m)) (Contains-append_right (front entries items m) (points_from entries items (next_of entries m)) p h)
+  of_next m p h = subst (λ xs. Contains xs p) (sym (unrolled m))
+      (Contains-append_right (front entries items m) (points_from entries items (next_of entries m)) p h)
 
-  pub front_or_next : (m : ℕ) (p : Item V) → Contains (points_from entries items m) p → Contains (front entries items m) p ⊎ Contains (points_from entries items (next_of entries m)) p
-  front_or_next m p h = Contains-append_cases (front entries items m) (points_from entries items (next_of entries m)) p (subst (λ xs. Contains xs p) (unrolled m) h)
+  pub front_or_next : (m : ℕ) (p : Item V) → Contains (points_from entries items m) p
+      → Contains (front entries items m) p ⊎ Contains (points_from entries items (next_of entries m)) p
+  front_or_next m p h = Contains-append_cases (front entries items m) (points_from entries items (next_of entries m)) p
+      (subst (λ xs. Contains xs p) (unrolled m) h)
 
   pub some_next : (m : ℕ) (p : Item V) → Contains (points_from entries items m) p → 0 < m
   some_next zero p h = absurd (not_in_nil p (subst (λ xs. Contains xs p) none_at_end h))
   some_next (suc m) p h = omega arith
 
   -- what holds of each front's points, and goes from the rest of a list to the whole, holds along a list
-  along_to : (P : ℕ → Item V → Type 0) → ((m : ℕ) (p : Item V) → Contains (front entries items m) p → P m p) → ((m : ℕ) (p : Item V) → 0 < next_of entries m → P (next_of entries m) p → P m p)
+  along_to : (P : ℕ → Item V → Type 0) → ((m : ℕ) (p : Item V) → Contains (front entries items m) p → P m p)
+      → ((m : ℕ) (p : Item V) → 0 < next_of entries m → P (next_of entries m) p → P m p)
       → (n m : ℕ) → m ≤ n → (p : Item V) → Contains (points_from entries items m) p → P m p
   along_to P here on n zero le p h = absurd (not_in_nil p (subst (λ xs. Contains xs p) none_at_end h))
   along_to P here on zero (suc m) le p h = absurd (omega arith)
@@ -78,7 +85,8 @@ module _ {V : Type 0} (rules : Rules V) (entries : List (Entry V)) (items : List
         | inr b ↦ on (suc m) p (some_next (next_of entries (suc m)) p b) (along_to P here on n (next_of entries (suc m)) (omega arith) p b)
       ]
 
-  pub along : (P : ℕ → Item V → Type 0) → ((m : ℕ) (p : Item V) → Contains (front entries items m) p → P m p) → ((m : ℕ) (p : Item V) → 0 < next_of entries m → P (next_of entries m) p → P m p)
+  pub along : (P : ℕ → Item V → Type 0) → ((m : ℕ) (p : Item V) → Contains (front entries items m) p → P m p)
+      → ((m : ℕ) (p : Item V) → 0 < next_of entries m → P (next_of entries m) p → P m p)
       → (m : ℕ) (p : Item V) → Contains (points_from entries items m) p → P m p
   along P here on m p h = along_to P here on m m (omega arith) p h
 
@@ -91,7 +99,8 @@ module _ {V : Type 0} (rules : Rules V) (entries : List (Entry V)) (items : List
   pub points_admitted : (m : ℕ) (p : Item V) → Contains (points_from entries items m) p → Admits rules p.value
   points_admitted = along (λ m p. Admits rules p.value) (λ m p h. (are.each m).admitted p h) (λ m p some a. a)
 
-  pub betters_on : (laws : Laws rules) (m : ℕ) (v : V) → Admits rules v → Betters rules (front entries items (next_of entries m)) v → Betters rules (front entries items m) v
+  pub betters_on : (laws : Laws rules) (m : ℕ) (v : V) → Admits rules v
+      → Betters rules (front entries items (next_of entries m)) v → Betters rules (front entries items m) v
   betters_on laws m v a (q, h, w) =
       let r = (are.each m).over q h in
       (r.0, r.1, laws.transitive r.0.value q.value v ((are.each m).admitted r.0 r.1) ((are.each (next_of entries m)).admitted q h) a r.2 w)
@@ -104,7 +113,8 @@ module _ {V : Type 0} (rules : Rules V) (entries : List (Entry V)) (items : List
       (λ m p some both. (both.0, betters_on laws m p.value both.0 both.1)) m p h).1
 
   -- who departs after an entry is further on
-  pub passed_on : (m time : ℕ) (p : Item V) → departure_of entries m < time → Contains (points_from entries items m) p → time ≤ p.departure → Contains (points_from entries items (next_of entries m)) p
+  pub passed_on : (m time : ℕ) (p : Item V) → departure_of entries m < time → Contains (points_from entries items m) p
+      → time ≤ p.departure → Contains (points_from entries items (next_of entries m)) p
   passed_on m time p early h late = elim (front_or_next m p h) [
     | inl a ↦ elim ((are.each m).from p a) [ inl e ↦ absurd (omega (arith, e)) | inr b ↦ of_front (next_of entries m) p b ]
     | inr b ↦ b
@@ -123,7 +133,8 @@ module _ {V : Type 0} (rules : Rules V) (entries : List (Entry V)) (items : List
   next_back zero some = absurd (omega arith)
   next_back (suc m) some = let back = are.back m in omega arith
 
-  pub leads_on : (head time m n : ℕ) → departure_of entries m < time → next_of entries m ≡ n → LeadsTo entries items head time m → LeadsTo entries items head time n
+  pub leads_on : (head time m n : ℕ) → departure_of entries m < time → next_of entries m ≡ n
+      → LeadsTo entries items head time m → LeadsTo entries items head time n
   leads_on head time m n early e l = subst (LeadsTo entries items head time) e (record {
     within = next_within m l.within;
     only = λ p h. l.only p (of_next m p h);
@@ -145,23 +156,34 @@ pub read_again : {V : Type 0} (entries : List (Entry V)) (m : ℕ) (e : Entry V)
 read_again {V} entries m e is = ap (λ (x : Entry V). get_or entries m x) is
 
 -- what a front has to be tested for, in two parts
-pub front_at : {V : Type 0} (entries : List (Entry V)) (items : List (Item V)) (m : ℕ) (e : Entry V) → 0 < m → m < length entries → e ≡ get_or entries m e → front entries items m ≡ own e ∷ take e.count (drop e.rest items)
+pub front_at : {V : Type 0} (entries : List (Entry V)) (items : List (Item V)) (m : ℕ) (e : Entry V) → 0 < m
+    → m < length entries → e ≡ get_or entries m e → front entries items m ≡ own e ∷ take e.count (drop e.rest items)
 front_at entries items zero e some lt is = absurd (omega arith)
 front_at entries items (suc m) e some lt is = ap (front_of items) (slice_get-get_or entries (suc m) e lt ∙ ap Some (sym is))
 
-pub first_betters : {V : Type 0} (rules : Rules V) (points rest : List (Item V)) (p : Item V) (v : V) → points ≡ p ∷ rest → rules.no_worse p.value v ≡ true → betters rules points v ≡ true
+pub first_betters : {V : Type 0} (rules : Rules V) (points rest : List (Item V)) (p : Item V) (v : V)
+    → points ≡ p ∷ rest → rules.no_worse p.value v ≡ true → betters rules points v ≡ true
 first_betters rules points rest p v e t = ap (λ ps. betters rules ps v) e ∙ ap (λ b. b || betters rules rest v) t
 
-pub rest_betters : {V : Type 0} (rules : Rules V) (points rest : List (Item V)) (p : Item V) (v : V) → points ≡ p ∷ rest → rules.no_worse p.value v ≡ false → betters rules points v ≡ betters rules rest v
+pub rest_betters : {V : Type 0} (rules : Rules V) (points rest : List (Item V)) (p : Item V) (v : V) → points ≡ p ∷ rest
+    → rules.no_worse p.value v ≡ false → betters rules points v ≡ betters rules rest v
 rest_betters rules points rest p v e t = ap (λ ps. betters rules ps v) e ∙ ap (λ b. b || betters rules rest v) t
 
-pub entry_part : {V : Type 0} (rules : Rules V) (entries : List (Entry V)) (items : List (Item V)) → AreEntries rules entries items → (m : ℕ) (e : Entry V) → m < length entries → e ≡ get_or entries m e → e.rest + e.count ≤ length items
+pub entry_part : {V : Type 0} (rules : Rules V) (entries : List (Entry V)) (items : List (Item V))
+    → AreEntries rules entries items → (m : ℕ) (e : Entry V) → m < length entries → e ≡ get_or entries m e
+    → e.rest + e.count ≤ length items
 entry_part rules entries items are m e lt is = are.within m e (slice_get-get_or entries m e lt ∙ ap Some (sym is))
 
-pub entry_admitted : {V : Type 0} (rules : Rules V) (entries : List (Entry V)) (items : List (Item V)) → AreEntries rules entries items → (m : ℕ) (e : Entry V) → 0 < m → m < length entries → e ≡ get_or entries m e → Admits rules e.value
+pub entry_admitted : {V : Type 0} (rules : Rules V) (entries : List (Entry V)) (items : List (Item V))
+    → AreEntries rules entries items → (m : ℕ) (e : Entry V) → 0 < m → m < length entries → e ≡ get_or entries m e
+    → Admits rules e.value
 entry_admitted rules entries items are m e some lt is =
-    (are.each m).admitted (own e) (subst (λ ps. Contains ps (own e)) (sym (front_at entries items m e some lt is)) (contains_first (own e) (take e.count (drop e.rest items))))
+    (are.each m).admitted (own e) (subst (λ ps. Contains ps (own e)) (sym (front_at entries items m e some lt is))
+    (contains_first (own e) (take e.count (drop e.rest items))))
 
-pub part_admitted : {V : Type 0} (rules : Rules V) (entries : List (Entry V)) (items : List (Item V)) → AreEntries rules entries items → (m : ℕ) (e : Entry V) → 0 < m → m < length entries → e ≡ get_or entries m e → (p : Item V) → Contains (take e.count (drop e.rest items)) p → Admits rules p.value
+pub part_admitted : {V : Type 0} (rules : Rules V) (entries : List (Entry V)) (items : List (Item V))
+    → AreEntries rules entries items → (m : ℕ) (e : Entry V) → 0 < m → m < length entries → e ≡ get_or entries m e
+    → (p : Item V) → Contains (take e.count (drop e.rest items)) p → Admits rules p.value
 part_admitted rules entries items are m e some lt is p h =
-    (are.each m).admitted p (subst (λ ps. Contains ps p) (sym (front_at entries items m e some lt is)) (contains_rest p (own e) (take e.count (drop e.rest items)) h))
+    (are.each m).admitted p (subst (λ ps. Contains ps p) (sym (front_at entries items m e some lt is))
+    (contains_rest p (own e) (take e.count (drop e.rest items)) h))

@@ -1,5 +1,7 @@
 -- Labels put where a run has room, or at the end.
-use Rattle.std.proofs.Common.{◌≡◌, ℕ, ◌+◌, ◌-◌, ◌<◌, ◌≤◌, not, List, [], ◌∷◌, ◌++◌, length, take, drop, set, Contains, inl, inr, refl, sym, ◌∙◌, ap, subst, arith, append_assoc, length-append, length-drop, get_or-set_same, get_or-set_other}
+use Rattle.std.proofs.Common.{◌≡◌, ℕ, ◌+◌, ◌-◌, ◌<◌, ◌≤◌, not, List, [], ◌∷◌, ◌++◌, length, take, drop, set, Contains}
+use Rattle.std.proofs.Common.{inl, inr, refl, sym, ◌∙◌, ap, subst, arith, append_assoc, length-append, length-drop}
+use Rattle.std.proofs.Common.{get_or-set_same, get_or-set_other}
 use Rattle.std.proofs.lemmas.Bool.{cases_eq}
 use Rattle.std.proofs.lemmas.List.{take-append-drop, take_at, drop_at, length-take-le}
 use Rattle.std.proofs.lemmas.Slice.{drop-append-drop}
@@ -25,7 +27,9 @@ in_rest {X} xs n x h = subst (λ (ys : List X). Contains ys x) (take-append-drop
 
 module _ {V : Type 0} where
   -- over what stood in the run
-  pub over_puts : (old : List (Label V)) (run : Run) (new now : List (Label V)) (count : ℕ) → count ≡ length new → count ≤ run.room → run.first + run.room ≤ length old → now ≡ take run.first old ++ (new ++ drop (run.first + length new) old)
+  pub over_puts : (old : List (Label V)) (run : Run) (new now : List (Label V)) (count : ℕ) → count ≡ length new
+      → count ≤ run.room → run.first + run.room ≤ length old
+      → now ≡ take run.first old ++ (new ++ drop (run.first + length new) old)
       → ArePut old run new (record { first = run.first; count = count; room = run.room }) now
   over_puts old run new now count long fits within e =
       let f = run.first in
@@ -37,12 +41,14 @@ module _ {V : Type 0} where
       let c = length-drop (f + length new) old in
       let d = ap length e in
       omega arith in
-      let front_new : length (take run.first old ++ new) ≡ run.first + length new = length-append (take f old) new ∙ ap (λ (n : ℕ). n + length new) front_long in
+      let front_new : length (take run.first old ++ new) ≡ run.first + length new =
+      length-append (take f old) new ∙ ap (λ (n : ℕ). n + length new) front_long in
       record {
         counted = fits;
         within = omega arith;
         longer = omega arith;
-        here = ap (λ (xs : List (Label V)). take count (drop f xs)) e ∙ ap (take count) (drop_at (take f old) (new ++ rest) f front_long) ∙ take_at new rest count (sym long);
+        here = ap (λ (xs : List (Label V)). take count (drop f xs)) e
+            ∙ ap (take count) (drop_at (take f old) (new ++ rest) f front_long) ∙ take_at new rest count (sym long);
         others = λ other counted in_old apart. elim apart [
           | inl before ↦
               ap (λ (xs : List (Label V)). labels_in xs other) e
@@ -60,7 +66,8 @@ module _ {V : Type 0} where
       }
 
   -- at the end, with room behind
-  pub end_puts : (old : List (Label V)) (run : Run) (new mid now : List (Label V)) (first count room : ℕ) → first ≡ length old → count ≡ length new → room ≡ length now - first → mid ≡ old ++ new → now ≡ mid ++ drop 1 new
+  pub end_puts : (old : List (Label V)) (run : Run) (new mid now : List (Label V)) (first count room : ℕ)
+      → first ≡ length old → count ≡ length new → room ≡ length now - first → mid ≡ old ++ new → now ≡ mid ++ drop 1 new
       → ArePut old run new (record { first = first; count = count; room = room }) now
   end_puts old run new mid now first count room at long roomy e_mid e_now =
       let rest = drop 1 new in
@@ -74,7 +81,8 @@ module _ {V : Type 0} where
         counted = omega arith;
         within = omega arith;
         longer = omega arith;
-        here = ap (λ (xs : List (Label V)). take count (drop first xs)) e ∙ ap (take count) (drop_at old (new ++ rest) first (sym at)) ∙ take_at new rest count (sym long);
+        here = ap (λ (xs : List (Label V)). take count (drop first xs)) e
+            ∙ ap (take count) (drop_at old (new ++ rest) first (sym at)) ∙ take_at new rest count (sym long);
         others = λ other counted in_old apart. same_part old now (new ++ rest, e) other.first other.count (omega arith);
         apart = λ other in_old apart. inl (omega arith);
         only = λ l h. elim (Contains-append_cases old (new ++ rest) l (subst (λ (xs : List (Label V)). Contains xs l) e h)) [
@@ -94,7 +102,9 @@ module _ (runs : List Run) (trip : ℕ) (placed : Run) (in_runs : trip < length 
   pub run_there : (k : ℕ) → (k ≡ trip → ⊥) → run_at (set runs trip placed) k ≡ run_at runs k
   run_there k other = get_or-set_other runs trip k placed no_run other
 
-  pub runs_put : (places now : ℕ) → AreRuns runs places → placed.count ≤ placed.room → placed.first + placed.room ≤ now → places ≤ now → ((other : Run) → other.first + other.room ≤ places → AreApart other (run_at runs trip) → AreApart other placed) → AreRuns (set runs trip placed) now
+  pub runs_put : (places now : ℕ) → AreRuns runs places → placed.count ≤ placed.room → placed.first + placed.room ≤ now
+      → places ≤ now → ((other : Run) → other.first + other.room ≤ places → AreApart other (run_at runs trip)
+      → AreApart other placed) → AreRuns (set runs trip placed) now
   runs_put places now are counted within longer keeps = record {
     counted = λ k. elim (cases_eq k trip) [
       | inl e ↦ subst (λ (r : Run). r.count ≤ r.room) (sym (run_here k e)) counted
@@ -109,7 +119,8 @@ module _ (runs : List Run) (trip : ℕ) (placed : Run) (in_runs : trip < length 
         | inl eb ↦ absurd (differ (ea ∙ sym eb))
         | inr ob ↦
             subst (λ (r : Run). AreApart r (run_at (set runs trip placed) b)) (sym (run_here a ea))
-            (subst (λ (r : Run). AreApart placed r) (sym (run_there b ob)) (swap (run_at runs b) placed (keeps (run_at runs b) (are.within b) (are.apart b trip ob))))
+            (subst (λ (r : Run). AreApart placed r) (sym (run_there b ob))
+            (swap (run_at runs b) placed (keeps (run_at runs b) (are.within b) (are.apart b trip ob))))
       ]
       | inr oa ↦ subst (λ (r : Run). AreApart r (run_at (set runs trip placed) b)) (sym (run_there a oa)) (elim (cases_eq b trip) [
         | inl eb ↦ subst (λ (r : Run). AreApart (run_at runs a) r) (sym (run_here b eb)) (keeps (run_at runs a) (are.within a) (are.apart a trip oa))
@@ -119,7 +130,9 @@ module _ (runs : List Run) (trip : ℕ) (placed : Run) (in_runs : trip < length 
   }
 
 -- a value that comes, and the labels that stay
-pub with_admitted : {V : Type 0} (rules : Rules V) (labels : List (Label V)) (run : Run) (v : V) (label : Label V) → ((l : Label V) → Contains labels l → Admits rules l.value) → Admits rules label.value → (l : Label V) → Contains (others rules v (labels_in labels run) ++ label ∷ []) l → Admits rules l.value
+pub with_admitted : {V : Type 0} (rules : Rules V) (labels : List (Label V)) (run : Run) (v : V) (label : Label V)
+    → ((l : Label V) → Contains labels l → Admits rules l.value) → Admits rules label.value → (l : Label V)
+    → Contains (others rules v (labels_in labels run) ++ label ∷ []) l → Admits rules l.value
 with_admitted rules labels run v label admitted fits l h = elim (Contains-push_cases (others rules v (labels_in labels run)) label l h) [
   | inl stays ↦ admitted l (in_part labels run.first run.count l (from_filter (λ x. not (rules.no_worse v x.value)) (labels_in labels run) l stays).0)
   | inr e ↦ subst (λ (x : Label _). Admits rules x.value) e fits

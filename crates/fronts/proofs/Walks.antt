@@ -1,5 +1,6 @@
 -- Ridden values kept, one by one, and the entry that ends each list.
-use Rattle.std.proofs.Common.{◌≡◌, ◌⊎◌, ℕ, zero, suc, ◌+◌, ◌<◌, ◌≤◌, List, [], ◌∷◌, ◌++◌, length, slice_get, get_or, Some, Contains, inl, inr, refl, sym, ◌∙◌, ap, subst, arith}
+use Rattle.std.proofs.Common.{◌≡◌, ◌⊎◌, ℕ, zero, suc, ◌+◌, ◌<◌, ◌≤◌, List, [], ◌∷◌, ◌++◌, length, slice_get, get_or}
+use Rattle.std.proofs.Common.{Some, Contains, inl, inr, refl, sym, ◌∙◌, ap, subst, arith}
 use Rattle.std.proofs.lemmas.Bool.{cases_order}
 use Rattle.std.proofs.lemmas.List.{get_or_default}
 use Rattle.std.proofs.lemmas.List.Elements.{Contains-append_left, Contains-push, Contains-push_cases}
@@ -17,7 +18,9 @@ use Rattle.fronts.proofs.Growth.{same_at}
 use Rattle.fronts.proofs.Pushing.{linked_none}
 
 module _ {V : Type 0} (rules : Rules V) (departure first walk secs : ℕ) (ridden : List (Ridden V)) where
-  boarding_stays : (steps new : List Step) (p : Item V) → Extends steps new → IsBoarding rules steps departure first walk secs ridden p → IsBoarding rules new departure first walk secs ridden p
+  boarding_stays : (steps new : List Step) (p : Item V) → Extends steps new
+      → IsBoarding rules steps departure first walk secs ridden p
+      → IsBoarding rules new departure first walk secs ridden p
   boarding_stays steps new p ext b = record {
     by = b.by;
     is_ridden = b.is_ridden;
@@ -30,14 +33,18 @@ module _ {V : Type 0} (rules : Rules V) (departure first walk secs : ℕ) (ridde
   boardings_none steps kept e p h = absurd (not_in_nil p (subst (λ ps. Contains ps p) e h))
 
   -- a value is kept
-  pub boardings_more : (laws : Laws rules) (steps new : List Step) (kept now : List (Item V)) (v : V) (r : Ridden V) → AreBoardings rules steps departure first walk secs ridden kept → Admits rules v → Contains ridden r → v ≡ rules.walk secs r.value
+  pub boardings_more : (laws : Laws rules) (steps new : List Step) (kept now : List (Item V)) (v : V) (r : Ridden V)
+      → AreBoardings rules steps departure first walk secs ridden kept → Admits rules v → Contains ridden r
+      → v ≡ rules.walk secs r.value
       → IsKept steps kept departure v (record { first = first; label = r.label; walk = walk }) new now
       → AreBoardings rules new departure first walk secs ridden now × Extends kept now × Betters rules now v
   boardings_more laws steps new kept now v r are a in_ridden worth is =
       let step : Step = record { first = first; label = r.label; walk = walk } in
       let me : Item V = record { departure = departure; value = v; tag = length steps } in
-      let here : slice_get new (length steps) ≡ Some step = ap (λ (ss : List Step). slice_get ss (length steps)) is.steps_more ∙ slice_get-middle steps step [] in
-      let mine : IsBoarding rules new departure first walk secs ridden me = record { by = r; is_ridden = in_ridden; departs = refl; worth = worth; goes_on = here } in (
+      let here : slice_get new (length steps) ≡ Some step =
+      ap (λ (ss : List Step). slice_get ss (length steps)) is.steps_more ∙ slice_get-middle steps step [] in
+      let mine : IsBoarding rules new departure first walk secs ridden me =
+      record { by = r; is_ridden = in_ridden; departs = refl; worth = worth; goes_on = here } in (
         (λ p h. elim (Contains-push_cases kept me p (subst (λ ps. Contains ps p) is.kept_more h)) [
           | inl o ↦ boarding_stays steps new p (step ∷ [], is.steps_more) (are p o)
           | inr e ↦ subst (IsBoarding rules new departure first walk secs ridden) e mine
@@ -50,7 +57,10 @@ module _ {V : Type 0} (rules : Rules V) (departure first walk secs : ℕ) (ridde
   betters_more kept now v ext (p, h, w) = (p, subst (λ ps. Contains ps p) (sym ext.1) (Contains-append_left kept ext.0 p h), w)
 
   -- one more of them is bettered
-  pub all_more : (points kept now : List (Item V)) (i : ℕ) (r : Ridden V) → Extends kept now → i < length ridden → r ≡ get_or ridden i r → AllWalked rules points secs ridden i kept → Betters rules now (rules.walk secs r.value) ⊎ Betters rules points (rules.walk secs r.value) → AllWalked rules points secs ridden (i + 1) now
+  pub all_more : (points kept now : List (Item V)) (i : ℕ) (r : Ridden V) → Extends kept now → i < length ridden
+      → r ≡ get_or ridden i r → AllWalked rules points secs ridden i kept
+      → Betters rules now (rules.walk secs r.value) ⊎ Betters rules points (rules.walk secs r.value)
+      → AllWalked rules points secs ridden (i + 1) now
   all_more points kept now i r ext lt is before this k d low = elim (cases_order k i) [
     | inl e ↦
         let same : r ≡ get_or ridden k d = is ∙ get_or_default ridden i r d lt ∙ ap (λ n. get_or ridden n d) (sym e) in
@@ -85,7 +95,18 @@ only_end {V} rules v = record {
     each zero = linked_none rules 4294967295 4294967295
     each (suc m) = linked_none rules 0 4294967295
 
-pub first_sound : {V : Type 0} (rules : Rules V) (v : V) (start entries : List (Entry V)) (items : List (Item V)) → start ≡ [] → entries ≡ start ++ record { departure = 4294967295; next = 0; rest = 0; count = 0; tag = 0; value = v } ∷ [] → items ≡ [] → AreEntries rules entries items
+pub first_sound : {V : Type 0} (rules : Rules V) (v : V) (start entries : List (Entry V)) (items : List (Item V))
+    → start ≡ [] → entries ≡ start ++ record {
+      departure = 4294967295;
+      next = 0;
+      rest = 0;
+      count = 0;
+      tag = 0;
+      value =
+          v;
+    } ∷ [] → items ≡ [] → AreEntries rules entries items
 unfolding ending
 first_sound {V} rules v start entries items empty pushed_is none =
-    subst (AreEntries rules entries) (sym none) (subst (λ (es : List (Entry V)). AreEntries rules es []) (sym (pushed_is ∙ ap (λ (es : List (Entry V)). es ++ ending v ∷ []) empty)) (only_end rules v))
+    subst (AreEntries rules entries) (sym none)
+    (subst (λ (es : List (Entry V)). AreEntries rules es [])
+    (sym (pushed_is ∙ ap (λ (es : List (Entry V)). es ++ ending v ∷ []) empty)) (only_end rules v))

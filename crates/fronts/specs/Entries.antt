@@ -20,7 +20,8 @@ pub record IsLinked {V : Type 0} (rules : Rules V) (departure next later : ℕ) 
 -- the entry at a place
 abbrev pub IsEntry : {V : Type 0} → Rules V → List (Entry V) → List (Item V) → ℕ → Type 0
 IsEntry rules entries items m =
-    IsLinked rules (departure_of entries m) (next_of entries m) (departure_of entries (next_of entries m)) (front entries items m) (front entries items (next_of entries m))
+    IsLinked rules (departure_of entries m) (next_of entries m) (departure_of entries (next_of entries m))
+    (front entries items m) (front entries items (next_of entries m))
 
 -- all of them: links lead back, to the entry at place 0, which departs later than any time
 pub record AreEntries {V : Type 0} (rules : Rules V) (entries : List (Entry V)) (items : List (Item V)) : Type 0 where

@@ -48,8 +48,12 @@ IsSound rules_of lists = AreEntries (rules_of lists.criterion) lists.entries.ite
 abbrev pub IsBettered : {V : Type 0} → Rules V → List (Point V) → V → Type 0
 IsBettered {V} rules points v = (p : Point V) × Contains points p × NoWorse rules p.value v
 
--- a list takes the ridden values in: each of its points stood before or is one of them after the footpath, and its tag says so; what was covered stays so, and each of them is covered
-pub record TakesRidden {V : Type 0} (rules : Rules V) (steps : List Step) (departure first walk secs : ℕ) (ridden : List (Ridden V)) (old new : List (Point V)) : Type 0 where
-  pub only : (p : Point V) → Contains new p → Contains old p ⊎ ((item : Item V) × (point_of item ≡ p) × IsBoarding rules steps departure first walk secs ridden item)
+-- a list takes the ridden values in: each of its points stood before or is one of them after the footpath, and its tag
+-- says so; what was covered stays so, and each of them is covered
+pub record TakesRidden {V : Type 0} (rules : Rules V) (steps : List Step) (departure first walk secs : ℕ)
+    (ridden : List (Ridden V)) (old new : List (Point V)) : Type 0 where
+  pub only : (p : Point V) → Contains new p
+      → Contains old p ⊎ ((item : Item V) × (point_of item ≡ p)
+      × IsBoarding rules steps departure first walk secs ridden item)
   pub kept : (d : ℕ) (v : V) → Admits rules v → IsCovered rules old d v → IsCovered rules new d v
   pub covered : (r : Ridden V) → Contains ridden r → IsCovered rules new departure (rules.walk secs r.value)

@@ -8,7 +8,8 @@ use Rattle.fronts.specs.Front.{Betters, Covers}
 use Rattle.fronts.specs.Putting.{CoversAll}
 
 -- a step and a point are kept, the point's tag being the place of the step
-pub record IsKept {V : Type 0} (steps : List Step) (kept : List (Item V)) (departure : ℕ) (v : V) (step : Step) (new_steps : List Step) (now : List (Item V)) : Type 0 where
+pub record IsKept {V : Type 0} (steps : List Step) (kept : List (Item V)) (departure : ℕ) (v : V) (step : Step)
+    (new_steps : List Step) (now : List (Item V)) : Type 0 where
   pub steps_more : new_steps ≡ steps ++ step ∷ []
   pub kept_more : now ≡ kept ++ record { departure = departure; value = v; tag = length steps } ∷ []
 
@@ -22,14 +23,18 @@ pub record IsBoarding {V : Type 0} (rules : Rules V) (steps : List Step) (depart
 
 -- each of some points is
 abbrev pub AreBoardings : {V : Type 0} → Rules V → List Step → ℕ → ℕ → ℕ → ℕ → List (Ridden V) → List (Item V) → Type 0
-AreBoardings {V} rules steps departure first walk secs ridden points = (p : Item V) → Contains points p → IsBoarding rules steps departure first walk secs ridden p
+AreBoardings {V} rules steps departure first walk secs ridden points =
+    (p : Item V) → Contains points p → IsBoarding rules steps departure first walk secs ridden p
 
 -- the values at the first n places are bettered, after the footpath, by a point that is kept, or of a front
 abbrev pub AllWalked : {V : Type 0} → Rules V → List (Item V) → ℕ → List (Ridden V) → ℕ → List (Item V) → Type 0
-AllWalked {V} rules points secs ridden n kept = (k : ℕ) (d : Ridden V) → k < n → Betters rules kept (rules.walk secs (slice_index_or ridden k d).value) ⊎ Betters rules points (rules.walk secs (slice_index_or ridden k d).value)
+AllWalked {V} rules points secs ridden n kept =
+    (k : ℕ) (d : Ridden V) → k < n → Betters rules kept (rules.walk secs (slice_index_or ridden k d).value)
+    ⊎ Betters rules points (rules.walk secs (slice_index_or ridden k d).value)
 
 -- a list takes the ridden values in: each of its points stood before or is one of them, what was covered stays so, and each of them is covered
-pub record TakesBoardings {V : Type 0} (rules : Rules V) (steps : List Step) (departure first walk secs : ℕ) (ridden : List (Ridden V)) (old new : List (Item V)) : Type 0 where
+pub record TakesBoardings {V : Type 0} (rules : Rules V) (steps : List Step) (departure first walk secs : ℕ)
+    (ridden : List (Ridden V)) (old new : List (Item V)) : Type 0 where
   pub only : (p : Item V) → Contains new p → Contains old p ⊎ IsBoarding rules steps departure first walk secs ridden p
   pub kept : CoversAll rules old new
   pub covered : (r : Ridden V) → Contains ridden r → Covers rules new departure (rules.walk secs r.value)

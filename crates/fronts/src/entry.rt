@@ -29,8 +29,8 @@ pub struct Arena<'e, 'i, V> {
     pub items: &'i [Item<V>],
 }
 
-/// How one goes on from a point: the connection that is boarded, the label by which one rides on, and the place of the footpath to the
-/// connection.
+/// How one goes on from a point: the connection that is boarded, the label by which one rides on,
+/// and the place of the footpath to the connection.
 #[derive(Clone, Copy, Debug, Drop)]
 pub struct Step {
     pub first: u32,
@@ -45,7 +45,8 @@ pub struct Ridden<V> {
     pub label: u32,
 }
 
-/// How a footpath leads to a connection: the latest departure, the connection, the place of the footpath and its seconds.
+/// How a footpath leads to a connection: the latest departure, the connection, the place of the
+/// footpath and its seconds.
 #[derive(Clone, Copy, Drop)]
 pub struct Boarding {
     pub departure: u32,

@@ -25,7 +25,8 @@ impl<C: Criterion> FrontLists<C> {
     ghost use Rattle.std.specs.Prelude.{◌≡◌, [], ℕ, ◌<◌, ◌≤◌, Contains, IfOk, length, slice_get, Some};
     ghost use Rattle.criteria.specs.Laws.{Admits, IsSecs};
     ghost use Rattle.fronts.specs.Front.{Extends};
-    ghost use Rattle.fronts.specs.Lists.{IsSound, lists_criterion, entries_of, items_of, steps_of, list_points, front_at, IsBettered, TakesRidden};
+    ghost use Rattle.fronts.specs.Lists.{IsSound, lists_criterion, entries_of, items_of, steps_of, list_points};
+    ghost use Rattle.fronts.specs.Lists.{front_at, IsBettered, TakesRidden};
 
     /// No lists but the empty one.
     pub fn new(alloc: Global, criterion: C) -> Result<Self, AllocError>
@@ -54,14 +55,17 @@ impl<C: Criterion> FrontLists<C> {
         })
     }
 
-    /// The place of the front from a time on: it is made of points of the list that depart at the time or later, and betters each of
-    /// them.
+    /// The place of the front from a time on: it is made of points of the list that depart at the
+    /// time or later, and betters each of them.
     pub fn front_from(&self, head: u32, time: u32) -> u32
         requires sound { IsSound C.rules self.now }
         requires head { head < length (entries_of self.now) }
         ensures within { result < length (entries_of self.now) }
-        ensures made_of { (p : _) → Contains (front_at self.now result) p → Contains (list_points self.now head) p × (time ≤ p.departure) × Admits (C.rules (lists_criterion self.now)) p.value }
-        ensures betters { (p : _) → Contains (list_points self.now head) p → time ≤ p.departure → IsBettered (C.rules (lists_criterion self.now)) (front_at self.now result) p.value }
+        ensures made_of { (p : _) → Contains (front_at self.now result) p
+            → Contains (list_points self.now head) p × (time ≤ p.departure)
+            × Admits (C.rules (lists_criterion self.now)) p.value }
+        ensures betters { (p : _) → Contains (list_points self.now head) p → time ≤ p.departure
+            → IsBettered (C.rules (lists_criterion self.now)) (front_at self.now result) p.value }
     {
         let arena = Arena {
             entries: &self.entries,
@@ -105,8 +109,8 @@ impl<C: Criterion> FrontLists<C> {
         self.steps.get(tag).copied()
     }
 
-    /// Takes the ridden values in after a footpath: the list that comes of it. The old one stays as it was, and where memory is wanting
-    /// there is no new one.
+    /// Takes the ridden values in after a footpath: the list that comes of it. The old one stays as
+    /// it was, and where memory is wanting there is no new one.
     pub fn insert(
         &mut self,
         head: u32,
@@ -125,9 +129,11 @@ impl<C: Criterion> FrontLists<C> {
         ensures more_entries { Extends (entries_of self.old) (entries_of self.new) }
         ensures grows { length (entries_of self.old) ≤ length (entries_of self.new) }
         ensures more_steps { Extends (steps_of self.old) (steps_of self.new) }
-        ensures same { (place : ℕ) → place < length (entries_of self.old) → list_points self.new place ≡ list_points self.old place }
+        ensures same { (place : ℕ) → place < length (entries_of self.old)
+            → list_points self.new place ≡ list_points self.old place }
         ensures within { IfOk result (λ new. new < length (entries_of self.new)) }
-        ensures takes { IfOk result (λ new. TakesRidden (C.rules (lists_criterion self.old)) (steps_of self.new) departure first walk secs ridden.now (list_points self.old head) (list_points self.new new)) }
+        ensures takes { IfOk result (λ new. TakesRidden (C.rules (lists_criterion self.old)) (steps_of self.new)
+            departure first walk secs ridden.now (list_points self.old head) (list_points self.new new)) }
     {
         insert(
             &self.criterion,

@@ -14,7 +14,8 @@ use crate::search::pass;
 use criteria::Criterion;
 use std::alloc::AllocError;
 
-// Puts what a list leaves of an entry's front before it, where that is something. The list covers what comes after the entry.
+// Puts what a list leaves of an entry's front before it, where that is something. The list covers
+// what comes after the entry.
 fn join_one<C: Criterion>(
     criterion: &C,
     entries: &mut Vec<Entry<C::V>>,
@@ -28,13 +29,17 @@ fn join_one<C: Criterion>(
     requires from { from < length entries.old.items }
     requires place { place < length entries.old.items }
     requires early { departure_of entries.old.items from < departure_of entries.old.items place }
-    requires covers { CoversAll (C.rules criterion.now) (points_from entries.old.items items.old.items (next_of entries.old.items from)) (points_from entries.old.items items.old.items place) }
+    requires covers { CoversAll (C.rules criterion.now)
+        (points_from entries.old.items items.old.items (next_of entries.old.items from))
+        (points_from entries.old.items items.old.items place) }
     ensures entries { AreEntries (C.rules criterion.now) entries.new.items items.new.items }
     ensures more_entries { Extends entries.old.items entries.new.items }
     ensures more_items { Extends items.old.items items.new.items }
     ensures late { IfOk result (λ new. departure_of entries.old.items from ≤ departure_of entries.new.items new) }
     ensures within { IfOk result (λ new. new < length entries.new.items) }
-    ensures joined { IfOk result (λ new. IsUnion (C.rules criterion.now) (points_from entries.old.items items.old.items from) (points_from entries.old.items items.old.items place) (points_from entries.new.items items.new.items new)) }
+    ensures joined { IfOk result (λ new. IsUnion (C.rules criterion.now)
+        (points_from entries.old.items items.old.items from) (points_from entries.old.items items.old.items place)
+        (points_from entries.new.items items.new.items new)) }
 {
     keep_front(criterion, Arena { entries, items }, from, place, kept)?;
     if kept.len() == 0 {
@@ -61,12 +66,15 @@ fn join<C: Criterion>(
     requires path { IsPath entries.old.items head passed.old.items after }
     requires after { after < length entries.old.items }
     requires early { DepartBefore entries.old.items (departure_of entries.old.items place) passed.old.items }
-    requires covers { CoversAll (C.rules criterion.now) (points_from entries.old.items items.old.items after) (points_from entries.old.items items.old.items place) }
+    requires covers { CoversAll (C.rules criterion.now) (points_from entries.old.items items.old.items after)
+        (points_from entries.old.items items.old.items place) }
     ensures entries { AreEntries (C.rules criterion.now) entries.new.items items.new.items }
     ensures more_entries { Extends entries.old.items entries.new.items }
     ensures more_items { Extends items.old.items items.new.items }
     ensures within { IfOk result (λ new. new < length entries.new.items) }
-    ensures joined { IfOk result (λ new. IsUnion (C.rules criterion.now) (points_from entries.old.items items.old.items head) (points_from entries.old.items items.old.items place) (points_from entries.new.items items.new.items new)) }
+    ensures joined { IfOk result (λ new. IsUnion (C.rules criterion.now)
+        (points_from entries.old.items items.old.items head) (points_from entries.old.items items.old.items place)
+        (points_from entries.new.items items.new.items new)) }
 {
     let mut new = place;
     while let Some(from) = passed.pop() {
@@ -96,7 +104,9 @@ pub fn insert<C: Criterion>(
     ensures more_items { Extends items.old.items items.new.items }
     ensures more_steps { Extends steps.old.items steps.new.items }
     ensures within { IfOk result (λ new. new < length entries.new.items) }
-    ensures takes { IfOk result (λ new. TakesBoardings (C.rules criterion.now) steps.new.items boarding.departure boarding.first boarding.walk boarding.secs ridden.now (points_from entries.old.items items.old.items head) (points_from entries.new.items items.new.items new)) }
+    ensures takes { IfOk result (λ new. TakesBoardings (C.rules criterion.now) steps.new.items boarding.departure
+        boarding.first boarding.walk boarding.secs ridden.now (points_from entries.old.items items.old.items head)
+        (points_from entries.new.items items.new.items new)) }
 {
     let after = pass(
         criterion,

@@ -24,7 +24,9 @@ fn keep_point<C: Criterion>(
     requires entries { AreEntries (C.rules criterion.now) arena.entries.now arena.items.now }
     requires place { place < length arena.entries.now }
     requires point { Admits (C.rules criterion.now) point.value }
-    ensures { OnOk result (kept.new.items ≡ kept.old.items ++ left_by (C.rules criterion.now) (front arena.entry.entries.now arena.entry.items.now place) (point ∷ [])) }
+    ensures { OnOk result (kept.new.items ≡ kept.old.items
+        ++ left_by (C.rules criterion.now) (front arena.entry.entries.now arena.entry.items.now place) (point
+        ∷ [])) }
 {
     if !front_betters(criterion, arena, place, &point.value) {
         kept.push(point)?;
@@ -44,7 +46,9 @@ pub fn keep_front<C: Criterion>(
     requires place { place < length arena.entries.now }
     requires some { 0 < from }
     requires from { from < length arena.entries.now }
-    ensures { OnOk result (kept.new.items ≡ left_by (C.rules criterion.now) (front arena.entry.entries.now arena.entry.items.now place) (front arena.entry.entries.now arena.entry.items.now from)) }
+    ensures { OnOk result (kept.new.items ≡ left_by (C.rules criterion.now)
+        (front arena.entry.entries.now arena.entry.items.now place)
+        (front arena.entry.entries.now arena.entry.items.now from)) }
 {
     kept.clear();
     let entry = arena.entries[from as usize];
@@ -70,7 +74,8 @@ fn keep_each<C: Criterion>(
     requires entries { AreEntries (C.rules criterion.now) arena.entries.now arena.items.now }
     requires place { place < length arena.entries.now }
     requires points { (p : _) → Contains points.now p → Admits (C.rules criterion.now) p.value }
-    ensures { OnOk result (kept.new.items ≡ kept.old.items ++ left_by (C.rules criterion.now) (front arena.entry.entries.now arena.entry.items.now place) points.now) }
+    ensures { OnOk result (kept.new.items ≡ kept.old.items
+        ++ left_by (C.rules criterion.now) (front arena.entry.entries.now arena.entry.items.now place) points.now) }
 {
     for k in 0..points.len() {
         let point = points[k];
@@ -88,7 +93,8 @@ fn keep_value<V: Copy>(
     step: Step,
 ) -> Result<(), AllocError>
     ensures more { Extends steps.old.items steps.new.items }
-    ensures keeps { OnOk result (IsKept steps.old.items kept.old.items departure value step steps.new.items kept.new.items) }
+    ensures keeps { OnOk result (IsKept steps.old.items kept.old.items departure value step steps.new.items
+        kept.new.items) }
 {
     let tag = place_of(steps.len())?;
     steps.push(step)?;
@@ -115,8 +121,11 @@ pub fn keep_walked<C: Criterion>(
     requires secs { IsSecs boarding.secs }
     requires ridden { (r : _) → Contains ridden.now r → Admits (C.rules criterion.now) r.value }
     ensures more { Extends steps.old.items steps.new.items }
-    ensures boarded { OnOk result (AreBoardings (C.rules criterion.now) steps.new.items boarding.departure boarding.first boarding.walk boarding.secs ridden.now kept.new.items) }
-    ensures all { OnOk result (AllWalked (C.rules criterion.now) (front arena.entry.entries.now arena.entry.items.now place) boarding.secs ridden.now (length ridden.now) kept.new.items) }
+    ensures boarded { OnOk result (AreBoardings (C.rules criterion.now) steps.new.items boarding.departure
+        boarding.first boarding.walk boarding.secs ridden.now kept.new.items) }
+    ensures all { OnOk result (AllWalked (C.rules criterion.now)
+        (front arena.entry.entries.now arena.entry.items.now place) boarding.secs ridden.now (length ridden.now)
+        kept.new.items) }
 {
     kept.clear();
     for i in 0..ridden.len() {

@@ -1,10 +1,12 @@
 //! Labels of many trips in one vector: those of a trip stand side by side, a run of it.
 //!
-//! A run is written over while it has room. Where it has none, its labels go to the vector's end, with room for nearly as many again. So
-//! the places that a trip has left behind are no more than those that it has, and all of them are fewer than four for each label of the
-//! most that it had at once.
+//! A run is written over while it has room. Where it has none, its labels go to the vector's end,
+//! with room for nearly as many again. So the places that a trip has left behind are no more than
+//! those that it has, and all of them are fewer than four for each label of the most that it had at
+//! once.
 
-ghost use Rattle.std.specs.Prelude.{◌≡◌, ◌+◌, ◌++◌, ◌∷◌, [], ℕ, ◌<◌, ◌≤◌, cond, not, take, drop, length, replicate, Contains, IfOk, OnOk};
+ghost use Rattle.std.specs.Prelude.{◌≡◌, ◌+◌, ◌++◌, ◌∷◌, [], ℕ, ◌<◌, ◌≤◌, cond, not, take, drop, length, replicate};
+ghost use Rattle.std.specs.Prelude.{Contains, IfOk, OnOk};
 ghost use Rattle.criteria.specs.Laws.{Rules, Admits};
 ghost use Rattle.fronts.specs.declared.labels.Label.{Label};
 ghost use Rattle.fronts.specs.declared.labels.Run.{Run};
@@ -136,7 +138,8 @@ fn keep_others<C: Criterion>(
 // Writes labels over those from a place on.
 fn write_over<V: Copy>(labels: &mut Vec<Label<V>>, first: u32, new: &[Label<V>])
     requires { first + length new.now ≤ length labels.old.items }
-    ensures { labels.new.items ≡ take first labels.old.items ++ (new.now ++ drop (first + length new.now) labels.old.items) }
+    ensures { labels.new.items ≡ take first labels.old.items
+        ++ (new.now ++ drop (first + length new.now) labels.old.items) }
 {
     for k in 0..new.len() {
         labels[first as usize + k] = new[k];
@@ -170,8 +173,8 @@ fn put<V: Copy>(labels: &mut Vec<Label<V>>, run: Run, new: &[Label<V>]) -> Resul
     Ok(Run { count, ..run })
 }
 
-/// Offers the labels of a trip a value with its tag: unless one of them is no worse, it comes to stand among those that it isn't no worse
-/// than. The answer tells whether it stands.
+/// Offers the labels of a trip a value with its tag: unless one of them is no worse, it comes to
+/// stand among those that it isn't no worse than. The answer tells whether it stands.
 pub fn offer_label<C: Criterion>(
     criterion: &C,
     labels: &mut Labels<C::V>,
@@ -185,8 +188,14 @@ pub fn offer_label<C: Criterion>(
     ensures labels { OnOk result (AreLabels (C.rules criterion.now) labels.new) }
     ensures long { OnOk result (length (runs_of labels.new) ≡ length (runs_of labels.old)) }
     ensures same { OnOk result ((k : ℕ) → (k ≡ trip → ⊥) → labels_at labels.new k ≡ labels_at labels.old k) }
-    ensures stands { IfOk result (λ stands. stands ≡ not (is_beaten (C.rules criterion.now) (labels_at labels.old trip) value)) }
-    ensures taken { IfOk result (λ stands. labels_at labels.new trip ≡ cond stands (others (C.rules criterion.now) value (labels_at labels.old trip) ++ record { value = value; tag = tag } ∷ []) (labels_at labels.old trip)) }
+    ensures stands { IfOk result (λ stands. stands
+        ≡ not (is_beaten (C.rules criterion.now) (labels_at labels.old trip) value)) }
+    ensures taken { IfOk result (λ stands. labels_at labels.new trip
+        ≡ cond stands (others (C.rules criterion.now) value (labels_at labels.old trip) ++ record {
+          value =
+              value;
+          tag = tag;
+        } ∷ []) (labels_at labels.old trip)) }
 {
     let run = labels.runs[trip as usize];
     if some_no_worse(criterion, part(&labels.labels, run), &value) {

@@ -31,7 +31,8 @@ fn leave<C: Criterion>(
     requires points { (p : _) → Contains points.now p → Admits (C.rules criterion.now) p.value }
     requires point { Admits (C.rules criterion.now) point.value }
     ensures extends { Extends items.old.items items.new.items }
-    ensures left { OnOk result (items.new.items ≡ items.old.items ++ left_by (C.rules criterion.now) points.now (point ∷ [])) }
+    ensures left { OnOk result (items.new.items ≡ items.old.items
+        ++ left_by (C.rules criterion.now) points.now (point ∷ [])) }
 {
     if !some_no_worse(criterion, points, &point.value) {
         items.push(point)?;
@@ -49,9 +50,11 @@ fn leave_part<C: Criterion>(
 ) -> Result<(), AllocError>
     requires part { rest + count ≤ length items.old.items }
     requires points { (p : _) → Contains points.now p → Admits (C.rules criterion.now) p.value }
-    requires items { (p : _) → Contains (take count (drop rest items.old.items)) p → Admits (C.rules criterion.now) p.value }
+    requires items { (p : _) → Contains (take count (drop rest items.old.items)) p
+        → Admits (C.rules criterion.now) p.value }
     ensures extends { Extends items.old.items items.new.items }
-    ensures left { OnOk result (items.new.items ≡ items.old.items ++ left_by (C.rules criterion.now) points.now (take count (drop rest items.old.items))) }
+    ensures left { OnOk result (items.new.items ≡ items.old.items
+        ++ left_by (C.rules criterion.now) points.now (take count (drop rest items.old.items))) }
 {
     let begin = rest as usize;
     for k in begin..begin + count as usize {
@@ -73,7 +76,8 @@ fn leave_front<C: Criterion>(
     requires place { place < length entries.now }
     requires points { (p : _) → Contains points.now p → Admits (C.rules criterion.now) p.value }
     ensures extends { Extends items.old.items items.new.items }
-    ensures left { OnOk result (items.new.items ≡ items.old.items ++ left_by (C.rules criterion.now) points.now (front entries.now items.old.items place)) }
+    ensures left { OnOk result (items.new.items ≡ items.old.items
+        ++ left_by (C.rules criterion.now) points.now (front entries.now items.old.items place)) }
 {
     if place == 0 {
         return Ok(());
@@ -101,7 +105,8 @@ fn push_others<V: Copy>(items: &mut Vec<Item<V>>, points: &[Item<V>]) -> Result<
     Ok(())
 }
 
-// What comes after a front of some departure that is put before the list of an entry: that entry, or the next one if it departs then.
+// What comes after a front of some departure that is put before the list of an entry: that entry,
+// or the next one if it departs then.
 fn follow<V: Copy>(entry: &Entry<V>, place: u32, departure: u32) -> u32
     requires { departure ≤ entry.now.departure }
     ensures { Follows entry.now.departure entry.now.next place departure result }
@@ -129,7 +134,8 @@ pub fn put<C: Criterion>(
     ensures more_items { Extends items.old.items items.new.items }
     ensures within { IfOk result (λ new. new < length entries.new.items) }
     ensures departs { IfOk result (λ new. departure_of entries.new.items new ≡ departure) }
-    ensures union { IfOk result (λ new. IsUnion (C.rules criterion.now) points.now (points_from entries.old.items items.old.items place) (points_from entries.new.items items.new.items new)) }
+    ensures union { IfOk result (λ new. IsUnion (C.rules criterion.now) points.now
+        (points_from entries.old.items items.old.items place) (points_from entries.new.items items.new.items new)) }
 {
     let new = place_of(entries.len())?;
     let rest = place_of(items.len())?;

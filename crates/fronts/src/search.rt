@@ -21,7 +21,8 @@ pub fn front_betters<C: Criterion>(
     requires entries { AreEntries (C.rules criterion.now) arena.entries.now arena.items.now }
     requires place { place < length arena.entries.now }
     requires value { Admits (C.rules criterion.now) value.now }
-    ensures { result ≡ betters (C.rules criterion.now) (front arena.entry.entries.now arena.entry.items.now place) value.now }
+    ensures { result ≡ betters (C.rules criterion.now) (front arena.entry.entries.now arena.entry.items.now place)
+        value.now }
 {
     if place == 0 {
         return false;
@@ -54,8 +55,8 @@ pub fn late<C: Criterion>(criterion: &C, arena: Arena<'_, '_, C::V>, head: u32, 
     place
 }
 
-/// The place of the first entry on a list that departs at a time or later, as [`late`] finds it; `passed` has the places of the
-/// entries before it, in the order of the list, and no others.
+/// The place of the first entry on a list that departs at a time or later, as [`late`] finds it;
+/// `passed` has the places of the entries before it, in the order of the list, and no others.
 pub fn pass<C: Criterion>(
     criterion: &C,
     arena: Arena<'_, '_, C::V>,

@@ -1,5 +1,7 @@
 -- Facts on cells and columns.
-use Rattle.std.proofs.Common.{◌≡◌, ◌≢◌, ◌+◌, ◌<◌, ◌≤◌, ◌==◌, ◌&&◌, ◌∷◌, ◌++◌, ℕ, zero, suc, List, [], length, drop, Option, Some, None, Bool, true, false, refl, ap, arith, slice_index_or, unwrap_or, map, Bor}
+use Rattle.std.proofs.Common.{◌≡◌, ◌≢◌, ◌+◌, ◌<◌, ◌≤◌, ◌==◌, ◌&&◌, ◌∷◌, ◌++◌, ℕ, zero, suc, List, [], length, drop}
+use Rattle.std.proofs.Common.{Option, Some, None, Bool, true, false, refl, ap, arith, slice_index_or, unwrap_or, map}
+use Rattle.std.proofs.Common.{Bor}
 use Rattle.std.specs.List.{position_from}
 use Rattle.std.specs.Str.{IsCharBoundary, IsUtf8, bytes_eq}
 use Rattle.std.proofs.lemmas.Str.{IsCharBoundary-after_ascii, IsUtf8-drop, IsUtf8-nil, IsUtf8-take}
@@ -45,7 +47,8 @@ kept_end : (bs : List ℕ) → (kept_len bs ≤ length bs) × (kept_len bs < len
 kept_end [] = (omega arith, λ h. absurd (omega arith))
 kept_end (b ∷ rest) = by ((kept_len rest == 0) && (b == 32)) refl (kept_end rest)
   where
-    by : (e : Bool) → ((kept_len rest == 0) && (b == 32)) ≡ e → ((kept_len rest ≤ length rest) × (kept_len rest < length rest → slice_index_or rest (kept_len rest) 0 ≡ 32))
+    by : (e : Bool) → ((kept_len rest == 0) && (b == 32)) ≡ e
+        → ((kept_len rest ≤ length rest) × (kept_len rest < length rest → slice_index_or rest (kept_len rest) 0 ≡ 32))
         → (kept_len (b ∷ rest) ≤ length (b ∷ rest)) × (kept_len (b ∷ rest) < length (b ∷ rest) → slice_index_or (b ∷ rest) (kept_len (b ∷ rest)) 0 ≡ 32)
     by true e go = rw e (omega arith, λ h. eqb-true b 32 (and-right (kept_len rest == 0) (b == 32) e))
     by false e go =
@@ -57,7 +60,11 @@ trim_text : (bs : List ℕ) → IsUtf8 bs → IsUtf8 (trim_spaces bs)
 trim_text bs h =
     let front = front_text bs h in
     let (within, at) = kept_end (trim_front bs) in
-    IsUtf8-take (trim_front bs) (kept_len (trim_front bs)) front (within, λ less high. absurd (let space : slice_index_or (trim_front bs) (kept_len (trim_front bs)) 0 ≡ 32 = at less in omega arith))
+    IsUtf8-take (trim_front bs) (kept_len (trim_front bs)) front (
+      within,
+      λ less high. absurd (let space : slice_index_or (trim_front bs) (kept_len (trim_front bs)) 0 ≡ 32 =
+          at less in omega arith),
+    )
 
 -- a field of a record of text is text
 field_text : (r : Record) (i : ℕ) → AllText r → IsUtf8 (unwrap_or (field_at r i) [])
@@ -80,10 +87,12 @@ pub column-here : (name : List ℕ) (header : Record) (i : ℕ) (f : List ℕ) �
 column-here name header i f e h = rw (e, h) refl
 
 pub column-later : (name : List ℕ) (header : Record) (i : ℕ) (f : List ℕ) → drop i header ≡ f ∷ drop (i + 1) header → bytes_eq name (trim_spaces f) ≡ false
-    → position_from (λ field. bytes_eq name (trim_spaces field)) i (drop i header) ≡ position_from (λ field. bytes_eq name (trim_spaces field)) (i + 1) (drop (i + 1) header)
+    → position_from (λ field. bytes_eq name (trim_spaces field)) i (drop i header)
+    ≡ position_from (λ field. bytes_eq name (trim_spaces field)) (i + 1) (drop (i + 1) header)
 column-later name header i f e h = rw (e, h) refl
 
 -- the columns of lent names
-pub places_names : (names : List (Bor (List ℕ))) (header : Record) → map (λ name. column name.now header) names ≡ places_of (map (λ name. name.now) names) header
+pub places_names : (names : List (Bor (List ℕ))) (header : Record)
+    → map (λ name. column name.now header) names ≡ places_of (map (λ name. name.now) names) header
 places_names [] header = refl
 places_names (n ∷ names) header = ap (λ places. column n.now header ∷ places) (places_names names header)

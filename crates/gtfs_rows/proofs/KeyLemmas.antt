@@ -1,5 +1,6 @@
 -- Keys, and one record more.
-use Rattle.std.proofs.Common.{◌≡◌, ◌∷◌, ◌++◌, ◌∙◌, ℕ, List, [], map, not, Option, Some, None, Bool, Result, Ok, Err, OnOk, true, false, refl, sym, ap, append_assoc, String, Global, string_bytes, option_map}
+use Rattle.std.proofs.Common.{◌≡◌, ◌∷◌, ◌++◌, ◌∙◌, ℕ, List, [], map, not, Option, Some, None, Bool, Result, Ok, Err}
+use Rattle.std.proofs.Common.{OnOk, true, false, refl, sym, ap, append_assoc, String, Global, string_bytes, option_map}
 use Rattle.std.specs.List.{find, list_any, slice_get}
 use Rattle.std.proofs.lemmas.Option.{slice_get-map}
 use Rattle.std.proofs.lemmas.Slice.Eq.{bytes_eq-Decides}
@@ -16,7 +17,8 @@ pub any-map : {A B : Type 0} (p : B → Bool) (f : A → B) (xs : List A) → li
 any-map p f [] = refl
 any-map p f (x ∷ xs) = rw (any-map p f xs) refl
 
-pub keys_more : (key : Record → Option (List ℕ)) (before : List Record) (r : Record) → keys_of key (before ++ r ∷ []) ≡ keys_of key before ++ option_to_list (key r)
+pub keys_more : (key : Record → Option (List ℕ)) (before : List Record) (r : Record)
+    → keys_of key (before ++ r ∷ []) ≡ keys_of key before ++ option_to_list (key r)
 keys_more key [] r = by (key r)
   where
     by : (o : Option (List ℕ)) → option_to_list o ++ [] ≡ option_to_list o
@@ -26,7 +28,9 @@ keys_more key (b ∷ bs) r = rw (keys_more key bs r) (sym (append_assoc (option_
 
 -- a key that no earlier record has
 pub key_new : (key : Record → Option (List ℕ)) (text : List ℕ) (before : List Record) (r : Record) (old new : List (String Global))
-    → key r ≡ Some text → map string_bytes old ≡ keys_of key before → list_any (bytes_eq text) (map string_bytes old) ≡ false → map string_bytes new ≡ map string_bytes old ++ text ∷ []
+    → key r ≡ Some text → map string_bytes old ≡ keys_of key before
+    → list_any (bytes_eq text) (map string_bytes old) ≡ false
+    → map string_bytes new ≡ map string_bytes old ++ text ∷ []
     → (fault_if (is_among (key r) (keys_of key before)) kinds.IdTwice ≡ None) × (map string_bytes new ≡ keys_of key (before ++ r ∷ []))
 key_new key text before r old new is same fresh last =
     let none : is_among (key r) (keys_of key before) ≡ false = rw (is, ← same) fresh in (
@@ -41,9 +45,12 @@ no_keys [] r = refl
 no_keys (b ∷ bs) r = no_keys bs r
 
 -- records are judged by the text of the first
-pub shared_with : (k : ℕ) (places : Places) (before : List Record) (r : Record) (old : List (String Global)) (s : String Global) → AreKept (keys.Shared k) places before old
+pub shared_with : (k : ℕ) (places : Places) (before : List Record) (r : Record) (old : List (String Global))
+    (s : String Global) → AreKept (keys.Shared k) places before old
     → slice_get old 0 ≡ Some s
-    → (key_fault (keys.Shared k) places before r ≡ fault_if (not (bytes_eq (string_bytes s) (value places k r))) kinds.ZonesDiffer) × AreKept (keys.Shared k) places (before ++ r ∷ []) old
+    → (key_fault (keys.Shared k) places before r
+    ≡ fault_if (not (bytes_eq (string_bytes s) (value places k r))) kinds.ZonesDiffer)
+    × AreKept (keys.Shared k) places (before ++ r ∷ []) old
 shared_with k places [] r [] s held there = cc
 shared_with k places [] r (x ∷ xs) s held there = cc
 shared_with k places (first ∷ rest) r [] s held there = cc
@@ -58,7 +65,8 @@ on_ok_both (Ok v) f p q = f p q
 on_ok_both (Err e) f p q = tt
 
 -- an id of a set at its place
-pub stands : (keys : List (String Global)) (i : ℕ) (k : String Global) (id : List ℕ) → slice_get keys i ≡ Some k → bytes_eq id (string_bytes k) ≡ true → StandsAt (map string_bytes keys) i id
+pub stands : (keys : List (String Global)) (i : ℕ) (k : String Global) (id : List ℕ) → slice_get keys i ≡ Some k
+    → bytes_eq id (string_bytes k) ≡ true → StandsAt (map string_bytes keys) i id
 stands keys i k id e same =
     let is : id ≡ string_bytes k = (bytes_eq-Decides id (string_bytes k)).0 same in
     slice_get-map string_bytes keys i ∙ ap (option_map string_bytes) e ∙ ap Some (sym is)

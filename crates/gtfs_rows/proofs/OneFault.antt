@@ -12,7 +12,8 @@ use Rattle.gtfs_rows.specs.Faults.{HoldsFile, HoldsRecords, IsFaultOf, IsFaultOf
 use Rattle.gtfs_rows.specs.declared.fault.FaultKind.{FaultKind}
 use Rattle.gtfs_rows.specs.declared.fault.FaultKind.TheVariants as kinds
 
-one_first : (judge : Judge) (records : List Record) (k l : ℕ) (kind other : FaultKind) → IsFirstFault judge records k kind → IsFirstFault judge records l other → (k ≡ l) × (kind ≡ other)
+one_first : (judge : Judge) (records : List Record) (k l : ℕ) (kind other : FaultKind)
+    → IsFirstFault judge records k kind → IsFirstFault judge records l other → (k ≡ l) × (kind ≡ other)
 one_first judge records k l kind other a b = by (cases_order k l)
   where
     by : (k ≡ l) ⊎ ((k < l) ⊎ (l < k)) → (k ≡ l) × (kind ≡ other)
@@ -30,11 +31,14 @@ one_under true judge records n m kind other (k, n_is, a) (l, m_is, b) =
     (omega (arith, n_is, m_is, same), both.1)
 one_under false judge records n m kind other a b = (a.0 ∙ sym b.0, a.1 ∙ sym b.1)
 
-one_of_records : (s : Shape) (records : List Record) (n m : ℕ) (kind other : FaultKind) → IsFaultOfRecords s records n kind → IsFaultOfRecords s records m other → (n ≡ m) × (kind ≡ other)
+one_of_records : (s : Shape) (records : List Record) (n m : ℕ) (kind other : FaultKind)
+    → IsFaultOfRecords s records n kind → IsFaultOfRecords s records m other → (n ≡ m) × (kind ≡ other)
 one_of_records s [] n m kind other a b = (a.0 ∙ sym b.0, a.1 ∙ sym b.1)
-one_of_records s (header ∷ records) n m kind other a b = one_under (has_required s.required (places_of s.names header)) (judge_under s header) records n m kind other a b
+one_of_records s (header ∷ records) n m kind other a b =
+    one_under (has_required s.required (places_of s.names header)) (judge_under s header) records n m kind other a b
 
-pub one_fault : (s : Shape) (bytes : List ℕ) (n m : ℕ) (kind other : FaultKind) → IsFaultOf s bytes n kind → IsFaultOf s bytes m other → (n ≡ m) × (kind ≡ other)
+pub one_fault : (s : Shape) (bytes : List ℕ) (n m : ℕ) (kind other : FaultKind) → IsFaultOf s bytes n kind
+    → IsFaultOf s bytes m other → (n ≡ m) × (kind ≡ other)
 one_fault s bytes n m kind other a b = by (cases_Bool (is_utf8 bytes))
   where
     by : (is_utf8 bytes ≡ true) ⊎ (is_utf8 bytes ≡ false) → (n ≡ m) × (kind ≡ other)
@@ -51,8 +55,11 @@ no_fault_of_records : {T : Type 0} (s : Shape) (holds : Places → List Record �
     → HoldsRecords s holds records t → IsFaultOfRecords s records n kind → ⊥
 no_fault_of_records s holds [] t n kind held fault = held
 no_fault_of_records s holds (header ∷ records) t n kind held fault =
-    let (k, n_is, first) = where_true (has_required s.required (places_of s.names header)) ((k : ℕ) × (n ≡ k + 1) × IsFirstFault (judge_under s header) records k kind) ((n ≡ 0) × (kind ≡ kinds.MissingColumn)) held.0 fault in
+    let (k, n_is, first) = where_true (has_required s.required (places_of s.names header)) ((k : ℕ) × (n ≡ k + 1)
+    × IsFirstFault (judge_under s header) records k kind) ((n ≡ 0) × (kind ≡ kinds.MissingColumn)) held.0 fault in
     none-some kind (sym (held.1 k first.within) ∙ first.here)
 
-pub no_fault : {T : Type 0} (s : Shape) (holds : Places → List Record → T → Type 0) (bytes : List ℕ) (t : T) (n : ℕ) (kind : FaultKind) → HoldsFile s holds bytes t → IsFaultOf s bytes n kind → ⊥
+pub no_fault : {T : Type 0} (s : Shape) (holds : Places → List Record → T
+    → Type 0) (bytes : List ℕ) (t : T) (n : ℕ) (kind : FaultKind) → HoldsFile s holds bytes t → IsFaultOf s bytes n kind
+    → ⊥
 no_fault s holds bytes t n kind held fault = no_fault_of_records s holds (table_records bytes) t n kind held.1 (fault.0 held.0)

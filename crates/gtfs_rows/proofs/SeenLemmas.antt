@@ -1,5 +1,6 @@
 -- Ids in first-seen order, and one text more.
-use Rattle.std.proofs.Common.{◌≡◌, ◌∷◌, ◌++◌, ◌∙◌, ℕ, zero, suc, List, [], map, not, filter, Option, Some, None, Bool, true, false, refl, sym, ap, subst, append-nil, String, Global, string_bytes}
+use Rattle.std.proofs.Common.{◌≡◌, ◌∷◌, ◌++◌, ◌∙◌, ℕ, zero, suc, List, [], map, not, filter, Option, Some, None, Bool}
+use Rattle.std.proofs.Common.{true, false, refl, sym, ap, subst, append-nil, String, Global, string_bytes}
 use Rattle.std.specs.List.{AllZip, list_any}
 use Rattle.std.specs.Str.{bytes_eq}
 use Rattle.std.specs.String.{string_eq}
@@ -46,7 +47,8 @@ first_again p x seen other = rw (self x) (ap (λ (ys : List (List ℕ)). x ∷ y
     by false h = ap (filter p) (also_last seen x h) ∙ drops_last p seen x other
 
 -- one text more, where it is another than the first
-another : (p : List ℕ → Bool) (x t : List ℕ) (seen : List (List ℕ)) → p t ≡ true → bytes_eq t x ≡ false → x ∷ filter p (seen_also seen t) ≡ seen_also (x ∷ filter p seen) t
+another : (p : List ℕ → Bool) (x t : List ℕ) (seen : List (List ℕ)) → p t ≡ true → bytes_eq t x ≡ false
+    → x ∷ filter p (seen_also seen t) ≡ seen_also (x ∷ filter p seen) t
 another p x t seen kept apart = by (list_any (bytes_eq t) seen) refl
   where
     as_before : list_any (bytes_eq t) (filter p seen) ≡ list_any (bytes_eq t) seen
@@ -57,28 +59,36 @@ another p x t seen kept apart = by (list_any (bytes_eq t) seen) refl
 
     by : (b : Bool) → list_any (bytes_eq t) seen ≡ b → x ∷ filter p (seen_also seen t) ≡ seen_also (x ∷ filter p seen) t
     by true h = ap (λ (ys : List (List ℕ)). x ∷ filter p ys) (also_same seen t h) ∙ sym (also_same (x ∷ filter p seen) t (among ∙ h))
-    by false h = ap (λ (ys : List (List ℕ)). x ∷ filter p ys) (also_last seen t h) ∙ ap (λ (ys : List (List ℕ)). x ∷ ys) (keeps_last p seen t kept) ∙ sym (also_last (x ∷ filter p seen) t (among ∙ h))
+    by false h = ap (λ (ys : List (List ℕ)). x ∷ filter p ys) (also_last seen t h)
+        ∙ ap (λ (ys : List (List ℕ)). x ∷ ys) (keeps_last p seen t kept)
+        ∙ sym (also_last (x ∷ filter p seen) t (among ∙ h))
 
-one_more : (x : List ℕ) (seen : List (List ℕ)) (t : List ℕ) → x ∷ filter (λ other. not (bytes_eq x other)) (seen_also seen t) ≡ seen_also (x ∷ filter (λ other. not (bytes_eq x other)) seen) t
+one_more : (x : List ℕ) (seen : List (List ℕ)) (t : List ℕ)
+    → x ∷ filter (λ other. not (bytes_eq x other)) (seen_also seen t)
+    ≡ seen_also (x ∷ filter (λ other. not (bytes_eq x other)) seen) t
 one_more x seen t = by (bytes_eq t x) refl
   where
-    by : (b : Bool) → bytes_eq t x ≡ b → x ∷ filter (λ other. not (bytes_eq x other)) (seen_also seen t) ≡ seen_also (x ∷ filter (λ other. not (bytes_eq x other)) seen) t
+    by : (b : Bool) → bytes_eq t x ≡ b → x ∷ filter (λ other. not (bytes_eq x other)) (seen_also seen t)
+        ≡ seen_also (x ∷ filter (λ other. not (bytes_eq x other)) seen) t
     by true e =
-        subst (λ (u : List ℕ). x ∷ filter (λ other. not (bytes_eq x other)) (seen_also seen u) ≡ seen_also (x ∷ filter (λ other. not (bytes_eq x other)) seen) u)
+        subst (λ (u : List ℕ). x ∷ filter (λ other. not (bytes_eq x other)) (seen_also seen u)
+        ≡ seen_also (x ∷ filter (λ other. not (bytes_eq x other)) seen) u)
         (sym (equal t x e)) (first_again (λ other. not (bytes_eq x other)) x seen (ap not (self x)))
     by false e = another (λ other. not (bytes_eq x other)) x t seen (ap not (texts_differ t x e)) e
 
 -- the different texts of one text more
 pub first_seen_more : (texts : List (List ℕ)) (t : List ℕ) → first_seen (texts ++ t ∷ []) ≡ seen_also (first_seen texts) t
 first_seen_more [] t = refl
-first_seen_more (x ∷ texts) t = ap (λ (seen : List (List ℕ)). x ∷ filter (λ other. not (bytes_eq x other)) seen) (first_seen_more texts t) ∙ one_more x (first_seen texts) t
+first_seen_more (x ∷ texts) t = ap (λ (seen : List (List ℕ)). x
+    ∷ filter (λ other. not (bytes_eq x other)) seen) (first_seen_more texts t) ∙ one_more x (first_seen texts) t
 
 -- the ids of one record more
 pub trips_more : (places : Places) (before : List Record) (r : Record) (ids new : List (List ℕ)) → ids ≡ first_seen (trip_ids places before)
     → new ≡ seen_also ids (value places 0 r) → new ≡ first_seen (trip_ids places (before ++ r ∷ []))
 trips_more places before r ids new held e =
     let one : trip_ids places (before ++ r ∷ []) ≡ trip_ids places before ++ value places 0 r ∷ [] = map-append (value places 0) before (r ∷ []) in
-    e ∙ ap (λ (seen : List (List ℕ)). seen_also seen (value places 0 r)) held ∙ sym (ap first_seen one ∙ first_seen_more (trip_ids places before) (value places 0 r))
+    e ∙ ap (λ (seen : List (List ℕ)). seen_also seen (value places 0 r)) held
+    ∙ sym (ap first_seen one ∙ first_seen_more (trip_ids places before) (value places 0 r))
 
 given_more : (texts : List (List ℕ)) (t : List ℕ) → first_seen (filter is_given (texts ++ t ∷ [])) ≡ given_also (first_seen (filter is_given texts)) t
 given_more texts [] = ap first_seen (drops_last is_given texts [] refl)
@@ -88,7 +98,9 @@ pub stops_more : (places : Places) (before : List Record) (r : Record) (ids new 
     → new ≡ given_also ids (value places 3 r) → new ≡ first_seen (stop_ids places (before ++ r ∷ []))
 stops_more places before r ids new held e =
     let one : map (value places 3) (before ++ r ∷ []) ≡ map (value places 3) before ++ value places 3 r ∷ [] = map-append (value places 3) before (r ∷ []) in
-    e ∙ ap (λ (seen : List (List ℕ)). given_also seen (value places 3 r)) held ∙ sym (ap (λ (texts : List (List ℕ)). first_seen (filter is_given texts)) one ∙ given_more (map (value places 3) before) (value places 3 r))
+    e ∙ ap (λ (seen : List (List ℕ)). given_also seen (value places 3 r)) held
+    ∙ sym (ap (λ (texts : List (List ℕ)). first_seen (filter is_given texts)) one
+    ∙ given_more (map (value places 3) before) (value places 3 r))
 
 -- a text that stands somewhere is among the texts
 pub stands_among : (texts : List (List ℕ)) (k : ℕ) (text : List ℕ) → StandsAt texts k text → texts ≡ seen_also texts text
@@ -99,7 +111,8 @@ stands_among texts k text h = sym (also_same texts text (by texts k h))
     by (x ∷ xs) zero h = let e : x ≡ text = cc in rw e (rw (self text) refl)
     by (x ∷ xs) (suc k) h = rw (by xs k h) (or-true (bytes_eq text x))
 
-pub seen_insert : (keys new : List (String Global)) (k : String Global) → new ≡ insert_key string_eq keys k → map string_bytes new ≡ seen_also (map string_bytes keys) (string_bytes k)
+pub seen_insert : (keys new : List (String Global)) (k : String Global) → new ≡ insert_key string_eq keys k
+    → map string_bytes new ≡ seen_also (map string_bytes keys) (string_bytes k)
 seen_insert keys new k e = by (list_any (string_eq k) keys) refl
   where
     among : list_any (bytes_eq (string_bytes k)) (map string_bytes keys) ≡ list_any (string_eq k) keys
@@ -107,7 +120,9 @@ seen_insert keys new k e = by (list_any (string_eq k) keys) refl
 
     by : (b : Bool) → list_any (string_eq k) keys ≡ b → map string_bytes new ≡ seen_also (map string_bytes keys) (string_bytes k)
     by true h = let same : new ≡ keys = e ∙ (rw h refl) in ap (map string_bytes) same ∙ sym (also_same (map string_bytes keys) (string_bytes k) (among ∙ h))
-    by false h = let last : new ≡ keys ++ k ∷ [] = e ∙ (rw h refl) in ap (map string_bytes) last ∙ map-append string_bytes keys (k ∷ []) ∙ sym (also_last (map string_bytes keys) (string_bytes k) (among ∙ h))
+    by false h = let last : new ≡ keys ++ k ∷ [] =
+        e ∙ (rw h refl) in ap (map string_bytes) last ∙ map-append string_bytes keys (k ∷ [])
+        ∙ sym (also_last (map string_bytes keys) (string_bytes k) (among ∙ h))
 
 -- ids stay at their places as more follow
 pub stands_more : (texts more : List (List ℕ)) (k : ℕ) (text : List ℕ) → StandsAt texts k text → StandsAt (texts ++ more) k text
@@ -128,7 +143,8 @@ stands_given texts [] k text h = h
 stands_given texts (b ∷ new) k text h = stands_also texts (b ∷ new) k text h
 
 -- rows of stop times as more ids are seen
-stop_id_also : (stops : List (List ℕ)) (new : List ℕ) (place : Option ℕ) (text : List ℕ) → IsStopId stops place text → IsStopId (given_also stops new) place text
+stop_id_also : (stops : List (List ℕ)) (new : List ℕ) (place : Option ℕ) (text : List ℕ) → IsStopId stops place text
+    → IsStopId (given_also stops new) place text
 stop_id_also stops new None text h = h
 stop_id_also stops new (Some k) text h = (h.0, stands_given stops new k text h.1)
 
@@ -151,7 +167,8 @@ spells_also trips stops trip stop places (r ∷ records) (row ∷ rows) h = (
 )
 
 -- the rows of one record more
-pub rows_more : (trips stops new_trips new_stops : List (List ℕ)) (trip stop : List ℕ) (places : Places) (before : List Record) (r : Record) (rows new : List StopTimeRow) (row : StopTimeRow)
+pub rows_more : (trips stops new_trips new_stops : List (List ℕ)) (trip stop : List ℕ) (places : Places)
+    (before : List Record) (r : Record) (rows new : List StopTimeRow) (row : StopTimeRow)
     → new_trips ≡ seen_also trips trip → new_stops ≡ given_also stops stop → new ≡ rows ++ row ∷ []
     → AllZip (SpellsStopTime trips stops places) before rows → SpellsStopTime new_trips new_stops places r row
     → AllZip (SpellsStopTime new_trips new_stops places) (before ++ r ∷ []) new

@@ -1,5 +1,6 @@
 -- The records of a text, read one at a time, are the records of the text.
-use Rattle.std.proofs.Common.{◌≡◌, ◌≤◌, ◌+◌, ◌∷◌, ◌++◌, ℕ, zero, suc, List, [], length, Option, Some, None, Bool, true, false, refl, sym, ap, ◌∙◌, arith, add-one, Bor, IsSome}
+use Rattle.std.proofs.Common.{◌≡◌, ◌≤◌, ◌+◌, ◌∷◌, ◌++◌, ℕ, zero, suc, List, [], length, Option, Some, None, Bool, true}
+use Rattle.std.proofs.Common.{false, refl, sym, ap, ◌∙◌, arith, add-one, Bor, IsSome}
 use Rattle.std.proofs.lemmas.Bool.{false≢true}
 use Rattle.csv.specs.Machine.{Read, ends_at_end, field_after, fields_after, is_end, next_record, step}
 use Rattle.csv.specs.Reading.{NextIs, ReadRecord, ReadsNext, default_config, pending_of, reader_config, reader_state, records_from, records_next, source_of}
@@ -34,10 +35,13 @@ shrinks cfg s fields field c [] p e = by (is_end (step cfg s c).1) refl
         let r : (fields_after (step cfg s c).1 fields field, (step cfg s c).0, []) ≡ p = cc in
         rw (← r) (omega arith)
     by false h = rw (ended cfg _ _ _ p (rw h at e)).1 (omega arith)
-shrinks cfg s fields field c (x ∷ xs) p e = by (is_end (step cfg s c).1) refl (shrinks cfg (step cfg s c).0 (fields_after (step cfg s c).1 fields field) (field_after (step cfg s c).1 c field) x xs p)
+shrinks cfg s fields field c (x ∷ xs) p e =
+    by (is_end (step cfg s c).1) refl (shrinks cfg (step cfg s c).0 (fields_after (step cfg s c).1 fields field)
+    (field_after (step cfg s c).1 c field) x xs p)
   where
     by : (b : Bool) → is_end (step cfg s c).1 ≡ b
-        → (next_record cfg (step cfg s c).0 (fields_after (step cfg s c).1 fields field) (field_after (step cfg s c).1 c field) (x ∷ xs) ≡ Some p → length p.2 ≤ length xs)
+        → (next_record cfg (step cfg s c).0 (fields_after (step cfg s c).1 fields field)
+        (field_after (step cfg s c).1 c field) (x ∷ xs) ≡ Some p → length p.2 ≤ length xs)
         → length p.2 ≤ length (x ∷ xs)
     by true h go =
         let q : Some (fields_after (step cfg s c).1 fields field, (step cfg s c).0, x ∷ xs) ≡ Some p = rw h at e in
@@ -57,7 +61,9 @@ pub turns : (cfg : Config) (n k : ℕ) (s : State) (xs : List ℕ) → length xs
 unfolding records_from
 turns cfg n k s [] a b = by (next_record cfg s [] [] []) refl
   where
-    by : (o : Option Read) → next_record cfg s [] [] [] ≡ o → records_next (records_from cfg n) (next_record cfg s [] [] []) ≡ records_next (records_from cfg k) (next_record cfg s [] [] [])
+    by : (o : Option Read) → next_record cfg s [] [] [] ≡ o
+        → records_next (records_from cfg n) (next_record cfg s [] [] [])
+        ≡ records_next (records_from cfg k) (next_record cfg s [] [] [])
     by None h = rw h refl
     by (Some p) h = let (at, none) = ended cfg s [] [] p h in rw (h, at, none, no_more cfg n, no_more cfg k) refl
 turns cfg zero k s (c ∷ rest) a b = absurd (omega arith)
@@ -66,7 +72,8 @@ turns cfg (suc n) (suc k) s (c ∷ rest) a b = by (next_record cfg s [] [] (c �
   where
     by : (o : Option Read) → next_record cfg s [] [] (c ∷ rest) ≡ o
         → ((s2 : State) (ys : List ℕ) → length ys ≤ length rest → records_from cfg (suc n) s2 ys ≡ records_from cfg (suc k) s2 ys)
-        → records_next (records_from cfg (suc n)) (next_record cfg s [] [] (c ∷ rest)) ≡ records_next (records_from cfg (suc k)) (next_record cfg s [] [] (c ∷ rest))
+        → records_next (records_from cfg (suc n)) (next_record cfg s [] [] (c ∷ rest))
+        ≡ records_next (records_from cfg (suc k)) (next_record cfg s [] [] (c ∷ rest))
     by None h go = rw h refl
     by (Some p) h go = rw (h, go p.1 p.2 (shrinks cfg s [] [] c rest p h)) refl
 
@@ -77,7 +84,9 @@ unfolding records_from
 rows-next s [] p h = let (at, none) = ended default_config s [] [] p h in rw (h, at, none, no_more default_config 0, no_more default_config 1) refl
 rows-next s (c ∷ rest) p h =
     let less : length p.2 ≤ length rest = shrinks default_config s [] [] c rest p h in
-    let e : records_from default_config (suc (length rest)) p.1 p.2 ≡ records_from default_config (suc (length p.2)) p.1 p.2 = turns default_config (length rest) (length p.2) p.1 p.2 (omega arith) (omega arith) in
+    let e : records_from default_config (suc (length rest)) p.1 p.2
+    ≡ records_from default_config (suc (length p.2)) p.1 p.2 =
+    turns default_config (length rest) (length p.2) p.1 p.2 (omega arith) (omega arith) in
     let size : length (c ∷ rest) + 1 ≡ suc (suc (length rest)) = omega arith in
     let after : suc (length p.2) ≡ length p.2 + 1 = omega arith in
     ap (λ (n : ℕ). records_from default_config n s (c ∷ rest)) size

@@ -1,5 +1,7 @@
 -- The records of a file that is UTF-8 are text.
-use Rattle.std.proofs.Common.{◌≡◌, ◌≤◌, ◌<◌, ◌+◌, ◌==◌, ◌&&◌, ◌∷◌, ◌++◌, ◌∙◌, ◌⊎◌, inl, inr, ℕ, zero, suc, List, [], length, Option, Some, None, Bool, true, false, refl, sym, arith, append_assoc, lit<, ◌/◌, if◌then◌else◌}
+use Rattle.std.proofs.Common.{◌≡◌, ◌≤◌, ◌<◌, ◌+◌, ◌==◌, ◌&&◌, ◌∷◌, ◌++◌, ◌∙◌, ◌⊎◌, inl, inr, ℕ, zero, suc, List, []}
+use Rattle.std.proofs.Common.{length, Option, Some, None, Bool, true, false, refl, sym, arith, append_assoc, lit<, ◌/◌}
+use Rattle.std.proofs.Common.{if◌then◌else◌}
 use Rattle.std.specs.Str.{IsUtf8}
 use Rattle.std.specs.Prelude.{⊤}
 use Rattle.std.proofs.Math.Utf8.{encode, encodes, low_scalar, next, scalar, scalars}
@@ -105,13 +107,20 @@ unfolding next_record
 skip_one s t b ys fields field e = rw e refl
 
 run_in : (s t : State) (b : ℕ) (xs tail : List ℕ) (fields : List (List ℕ)) (field : List ℕ) → step default_config s b ≡ (t, act.Copy) → Runs default_config t xs
-    → (t : State) × (g : List ℕ) × (next_record default_config s fields field (b ∷ xs ++ tail) ≡ next_record default_config t fields g tail) × ((g ≡ field ++ b ∷ xs) ⊎ (g ≡ field))
-run_in s t b xs tail fields field e runs =
-    (t, (field ++ b ∷ []) ++ xs, copy_one s t b (xs ++ tail) fields field e ∙ run-copies default_config t fields (field ++ b ∷ []) xs tail runs, inl (append_assoc field (b ∷ []) xs))
+    → (t : State) × (g : List ℕ) × (next_record default_config s fields field (b ∷ xs ++ tail)
+    ≡ next_record default_config t fields g tail) × ((g ≡ field ++ b ∷ xs) ⊎ (g ≡ field))
+run_in s t b xs tail fields field e runs = (
+  t,
+  (field ++ b ∷ []) ++ xs,
+  copy_one s t b (xs ++ tail) fields field e
+      ∙ run-copies default_config t fields (field ++ b ∷ []) xs tail runs,
+  inl (append_assoc field (b ∷ []) xs),
+)
 
 -- a run of such bytes goes into the field, or is in a comment
 pub high_run : (s : State) (b : ℕ) (xs tail : List ℕ) (fields : List (List ℕ)) (field : List ℕ) → 128 ≤ b → AllHigh xs
-    → (t : State) × (g : List ℕ) × (next_record default_config s fields field (b ∷ xs ++ tail) ≡ next_record default_config t fields g tail) × ((g ≡ field ++ b ∷ xs) ⊎ (g ≡ field))
+    → (t : State) × (g : List ℕ) × (next_record default_config s fields field (b ∷ xs ++ tail)
+    ≡ next_record default_config t fields g tail) × ((g ≡ field ++ b ∷ xs) ⊎ (g ≡ field))
 unfolding after does
 high_run st.StartRecord b xs tail fields field h hs = run_in st.StartRecord st.InField b xs tail fields field (high_step st.StartRecord b h) (runs_field xs hs)
 high_run st.StartField b xs tail fields field h hs = run_in st.StartField st.InField b xs tail fields field (high_step st.StartField b h) (runs_field xs hs)
@@ -120,7 +129,13 @@ high_run st.AfterQuote b xs tail fields field h hs = run_in st.AfterQuote st.InF
 high_run st.AfterCr b xs tail fields field h hs = run_in st.AfterCr st.InField b xs tail fields field (high_step st.AfterCr b h) (runs_field xs hs)
 high_run st.InQuoted b xs tail fields field h hs = run_in st.InQuoted st.InQuoted b xs tail fields field (high_step st.InQuoted b h) (runs_quoted xs hs)
 high_run st.InEscape b xs tail fields field h hs = run_in st.InEscape st.InQuoted b xs tail fields field (high_step st.InEscape b h) (runs_quoted xs hs)
-high_run st.InComment b xs tail fields field h hs = (st.InComment, field, skip_one st.InComment st.InComment b (xs ++ tail) fields field (high_step st.InComment b h) ∙ skips xs tail fields field hs, inr refl)
+high_run st.InComment b xs tail fields field h hs = (
+  st.InComment,
+  field,
+  skip_one st.InComment st.InComment b (xs ++ tail) fields field (high_step st.InComment b h)
+      ∙ skips xs tail fields field hs,
+  inr refl,
+)
 
 -- a character of 128 and more is such a run
 high_char : (c : ℕ) → 128 ≤ c → (b : ℕ) × (xs : List ℕ) × (encode c ≡ b ∷ xs) × (128 ≤ b) × AllHigh xs
@@ -131,7 +146,13 @@ high_char c h = by (ltb c 128) (ltb c 2048) (ltb c 65536) refl refl refl
     by true y z ex ey ez = absurd (let low : c < 128 = ltb-true c 128 ex in omega arith)
     by false true z ex ey ez = (192 + c / 64, next c ∷ [], rw (ex, ey) refl, omega arith, (omega arith, tt))
     by false false true ex ey ez = (224 + c / 4096, next (c / 64) ∷ next c ∷ [], rw (ex, ey, ez) refl, omega arith, (omega arith, (omega arith, tt)))
-    by false false false ex ey ez = (240 + c / 262144, next (c / 4096) ∷ next (c / 64) ∷ next c ∷ [], rw (ex, ey, ez) refl, omega arith, (omega arith, (omega arith, (omega arith, tt))))
+    by false false false ex ey ez = (
+      240 + c / 262144,
+      next (c / 4096) ∷ next (c / 64) ∷ next c ∷ [],
+      rw (ex, ey, ez) refl,
+      omega arith,
+      (omega arith, (omega arith, (omega arith, tt))),
+    )
 
 grown : (g field x : List ℕ) → IsUtf8 field → IsUtf8 x → (g ≡ field ++ x) ⊎ (g ≡ field) → IsUtf8 g
 grown g field x u v (inl e) = rw e (IsUtf8-append field x u v)
@@ -149,7 +170,8 @@ low_next c rest s fields field p low ur ft u go e = by (is_end (step default_con
         let q : Some (fields_after (step default_config s c).1 fields field, (step default_config s c).0, rest) ≡ Some p = rw n at e in
         let r : (fields_after (step default_config s c).1 fields field, (step default_config s c).0, rest) ≡ p = cc in
         rw (← r) (fields_text (step default_config s c).1 fields field ft u, ur)
-    by false n = go (step default_config s c).0 _ _ (fields_text (step default_config s c).1 fields field ft u) (field_text (step default_config s c).1 c field low u) (rw n at e)
+    by false n = go (step default_config s c).0 _ _ (fields_text (step default_config s c).1 fields field ft u)
+        (field_text (step default_config s c).1 c field low u) (rw n at e)
 
 -- the next record of a text, and what is left of it, are text
 pub next_text : (cs : List ℕ) → scalars cs ≡ true → (s : State) (fields : List (List ℕ)) (field : List ℕ) (p : Read) → AllText fields → IsUtf8 field
@@ -167,7 +189,8 @@ next_text (c ∷ cs) h s fields field p ft u e =
     by (ltb c 128) refl (λ t f g fs us. next_text cs (and-right (scalar c) (scalars cs) h) t f g p fs us)
   where
     by : (x : Bool) → ltb c 128 ≡ x
-        → ((t : State) (f : List (List ℕ)) (g : List ℕ) → AllText f → IsUtf8 g → next_record default_config t f g (encodes cs) ≡ Some p → AllText p.0 × IsUtf8 p.2)
+        → ((t : State) (f : List (List ℕ)) (g : List ℕ) → AllText f → IsUtf8 g
+        → next_record default_config t f g (encodes cs) ≡ Some p → AllText p.0 × IsUtf8 p.2)
         → AllText p.0 × IsUtf8 p.2
     by true x go =
         let low : c < 128 = ltb-true c 128 x in
@@ -185,7 +208,8 @@ unfolding records_from
 rows_text zero s xs u = tt
 rows_text (suc n) s xs u = by (next_record default_config s [] [] xs) refl (rows_text n)
   where
-    by : (o : Option Read) → next_record default_config s [] [] xs ≡ o → ((t : State) (ys : List ℕ) → IsUtf8 ys → AllRecordsText (records_from default_config n t ys))
+    by : (o : Option Read) → next_record default_config s [] [] xs ≡ o
+        → ((t : State) (ys : List ℕ) → IsUtf8 ys → AllRecordsText (records_from default_config n t ys))
         → AllRecordsText (records_next (records_from default_config n) (next_record default_config s [] [] xs))
     by None e go = rw e tt
     by (Some p) e go =

@@ -1,5 +1,6 @@
 -- What the records of each file spell, and what can be wrong with their values.
-use Rattle.std.specs.Prelude.{◌≡◌, ◌≢◌, ◌==◌, ◌&&◌, not, if◌then◌else◌, ℕ, List, [], ◌∷◌, ◌++◌, filter, length, map, slice_index_or, option_map, Option, Some, None, Bool, String, true, false}
+use Rattle.std.specs.Prelude.{◌≡◌, ◌≢◌, ◌==◌, ◌&&◌, not, if◌then◌else◌, ℕ, List, [], ◌∷◌, ◌++◌, filter, length, map}
+use Rattle.std.specs.Prelude.{slice_index_or, option_map, Option, Some, None, Bool, String, true, false}
 use Rattle.std.specs.List.{AllZip, slice_get}
 use Rattle.std.specs.Str.{bytes_eq}
 use Rattle.std.specs.String.{string_bytes}
@@ -72,7 +73,9 @@ pub record SpellsAgency (places : Places) (r : Record) (row : AgencyRow) : Type 
 -- a blank location_type, and one that isn't allowed, is that of a stop
 abbrev pub location_of : Option ℕ → Location
 location_of None = locations.Stop
-location_of (Some n) = if n == 1 then locations.Station else (if n == 2 then locations.Entrance else (if n == 3 then locations.Node else (if n == 4 then locations.BoardingArea else locations.Stop)))
+location_of (Some n) = if n == 1 then locations.Station else
+    (if n == 2 then locations.Entrance else (if n == 3 then locations.Node else
+    (if n == 4 then locations.BoardingArea else locations.Stop)))
 
 -- the row has the id of the record, what it stands for, and its parent_station, blank where there is none
 pub record SpellsStop (places : Places) (r : Record) (row : StopRow) : Type 0 where
@@ -203,7 +206,9 @@ is_blank text = length text == 0
 -- what a transfer_type of this number says; one that isn't 0 to 3, or is no number, is skipped
 abbrev pub transfer_by : Option ℕ → TransferKind
 transfer_by None = transfers.Skipped
-transfer_by (Some n) = if n == 0 then transfers.Recommended else (if n == 1 then transfers.Timed else (if n == 2 then transfers.Minimum else (if n == 3 then transfers.Impossible else transfers.Skipped)))
+transfer_by (Some n) = if n == 0 then transfers.Recommended else
+    (if n == 1 then transfers.Timed else (if n == 2 then transfers.Minimum else
+    (if n == 3 then transfers.Impossible else transfers.Skipped)))
 
 -- what a transfer_type says; a blank one counts as 0
 abbrev pub typed_transfer : List ℕ → TransferKind

@@ -2,7 +2,8 @@
 use Rattle.std.specs.Prelude.{◌≡◌, ◌<◌, ◌≤◌, ◌⊎◌, List, [], ◌∷◌, ℕ, Bool, true, false, codes, length, count_by}
 use Rattle.gtfs_rows.specs.Cells.{Places}
 use Rattle.gtfs_rows.specs.Faults.{HoldsFile, HoldsRows, IsFaultOf, Judge, Shape, or_fault}
-use Rattle.gtfs_rows.specs.Rows.{AreStopTimes, SpellsAgency, SpellsCalendar, SpellsCalendarDate, SpellsFrequency, SpellsStop, SpellsTransfer, SpellsTrip, key_fault, values_of}
+use Rattle.gtfs_rows.specs.Rows.{AreStopTimes, SpellsAgency, SpellsCalendar, SpellsCalendarDate, SpellsFrequency}
+use Rattle.gtfs_rows.specs.Rows.{SpellsStop, SpellsTransfer, SpellsTrip, key_fault, values_of}
 use Rattle.gtfs_rows.specs.declared.columns.Key.{Key}
 use Rattle.gtfs_rows.specs.declared.columns.Key.TheVariants as keys
 use Rattle.gtfs_rows.specs.declared.fault.FaultKind.{FaultKind}
@@ -25,10 +26,14 @@ abbrev pub columns_of : Table → List (List ℕ)
 columns_of tables.Agency = codes "agency_timezone" ∷ []
 columns_of tables.Stops = codes "stop_id" ∷ codes "location_type" ∷ codes "parent_station" ∷ []
 columns_of tables.Trips = codes "service_id" ∷ codes "trip_id" ∷ []
-columns_of tables.StopTimes = codes "trip_id" ∷ codes "arrival_time" ∷ codes "departure_time" ∷ codes "stop_id" ∷ codes "stop_sequence" ∷ codes "pickup_type" ∷ codes "drop_off_type" ∷ []
-columns_of tables.Calendar = codes "service_id" ∷ codes "monday" ∷ codes "tuesday" ∷ codes "wednesday" ∷ codes "thursday" ∷ codes "friday" ∷ codes "saturday" ∷ codes "sunday" ∷ codes "start_date" ∷ codes "end_date" ∷ []
+columns_of tables.StopTimes = codes "trip_id" ∷ codes "arrival_time" ∷ codes "departure_time" ∷ codes "stop_id"
+    ∷ codes "stop_sequence" ∷ codes "pickup_type" ∷ codes "drop_off_type" ∷ []
+columns_of tables.Calendar = codes "service_id" ∷ codes "monday" ∷ codes "tuesday" ∷ codes "wednesday"
+    ∷ codes "thursday" ∷ codes "friday" ∷ codes "saturday" ∷ codes "sunday" ∷ codes "start_date" ∷ codes "end_date" ∷ []
 columns_of tables.CalendarDates = codes "service_id" ∷ codes "date" ∷ codes "exception_type" ∷ []
-columns_of tables.Transfers = codes "from_stop_id" ∷ codes "to_stop_id" ∷ codes "transfer_type" ∷ codes "min_transfer_time" ∷ codes "from_route_id" ∷ codes "to_route_id" ∷ codes "from_trip_id" ∷ codes "to_trip_id" ∷ []
+columns_of tables.Transfers = codes "from_stop_id" ∷ codes "to_stop_id" ∷ codes "transfer_type"
+    ∷ codes "min_transfer_time" ∷ codes "from_route_id" ∷ codes "to_route_id" ∷ codes "from_trip_id"
+    ∷ codes "to_trip_id" ∷ []
 columns_of tables.Frequencies = codes "trip_id" ∷ codes "start_time" ∷ codes "end_time" ∷ codes "headway_secs" ∷ []
 
 -- how many of them, the first ones, are required

@@ -3,7 +3,8 @@
 ghost use Rattle.std.specs.Prelude.{◌≡◌, ◌≤◌, length, map, IfErr, IfOk, IsUtf8, None, Some, true, false};
 ghost use Rattle.std.specs.String.{string_bytes};
 ghost use Rattle.csv.specs.Records.{AllText, fields_of};
-ghost use Rattle.gtfs_rows.specs.Cells.{cell as cell_of, column as column_of, has_required as are_there, places_of, trim_front, trim_spaces};
+ghost use Rattle.gtfs_rows.specs.Cells.{cell as cell_of, column as column_of, has_required as are_there, places_of};
+ghost use Rattle.gtfs_rows.specs.Cells.{trim_front, trim_spaces};
 ghost use Rattle.gtfs_rows.specs.Faults.{fault_unless};
 ghost use Rattle.gtfs_rows.specs.Rows.{value};
 ghost use Rattle.gtfs_rows.specs.Values.{time_of};
@@ -131,7 +132,8 @@ impl<'a> Cells<'a> {
     // The same as a text of its own.
     pub(crate) fn text(&self, alloc: Global, column: usize) -> Result<String, FaultKind>
         requires { AllText (fields_of self.now.fields.now) }
-        ensures ok { IfOk result (λ s. string_bytes s ≡ value self.now.places.now column (fields_of self.now.fields.now)) }
+        ensures ok { IfOk result (λ s. string_bytes s
+            ≡ value self.now.places.now column (fields_of self.now.fields.now)) }
         ensures err { IfErr result (λ kind. kind ≡ FaultKind.OutOfMemory) }
     {
         text_of(alloc, self.get(column)).map_err(|_| FaultKind::OutOfMemory)
@@ -139,8 +141,11 @@ impl<'a> Cells<'a> {
 
     // The time in a column, which isn't blank.
     pub(crate) fn time(&self, column: usize) -> Result<u32, FaultKind>
-        ensures ok { IfOk result (λ t. time_of (value self.now.places.now column (fields_of self.now.fields.now)) ≡ Some t) }
-        ensures err { IfErr result (λ kind. fault_unless (time_of (value self.now.places.now column (fields_of self.now.fields.now))) FaultKind.BadTime ≡ Some kind) }
+        ensures ok { IfOk result (λ t. time_of (value self.now.places.now column (fields_of self.now.fields.now))
+            ≡ Some t) }
+        ensures err { IfErr result (λ kind. fault_unless
+            (time_of (value self.now.places.now column (fields_of self.now.fields.now))) FaultKind.BadTime
+            ≡ Some kind) }
     {
         Time::parse(self.get(column)).map_err(|_| FaultKind::BadTime)
     }

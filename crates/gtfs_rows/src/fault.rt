@@ -1,4 +1,5 @@
-//! What can be wrong with a feed: the kinds of faults, their numbers and names, and in which file and record one was found.
+//! What can be wrong with a feed: the kinds of faults, their numbers and names, and in which file
+//! and record one was found.
 
 ghost use Rattle.std.specs.Prelude.{◌≡◌};
 ghost use Rattle.gtfs_rows.specs.Told.{fault_told, file_name as name_of_file};
@@ -35,8 +36,8 @@ pub enum FaultKind {
     BadTime = 5,
     /// A field is no date: `YYYYMMDD`, of the years 1 to 9999.
     BadDate = 6,
-    /// A `stop_sequence`, a weekday, an `exception_type` or a `headway_secs` is no number of nine digits at most, or none that is
-    /// allowed there.
+    /// A `stop_sequence`, a weekday, an `exception_type` or a `headway_secs` is no number of nine
+    /// digits at most, or none that is allowed there.
     BadNumber = 7,
     /// An earlier record has the id; of `calendar_dates.txt` the same service on the same date.
     IdTwice = 8,
@@ -50,8 +51,8 @@ pub enum FaultKind {
     EndWithoutTime = 12,
     /// A trip arrives at a stop before its last departure ahead of it, or departs before it arrives there.
     TimeGoesBack = 13,
-    /// A trip arrives no later than it departed from the stop before, its blank rows having their times too. It is a fault only
-    /// where tables are joined strictly.
+    /// A trip arrives no later than it departed from the stop before, its blank rows having their
+    /// times too. It is a fault only where tables are joined strictly.
     HopWithoutDuration = 14,
     /// The place that the record names is no stop; an end of a transfer may be a station too.
     NotAStop = 15,

@@ -3,8 +3,9 @@
 use std::hash::{BuildHasher, DefaultHasher, Hasher, RandomState};
 use std::random::RandomSource;
 
-/// The hash by which ids are looked up: SipHash-1-3 over a key. Who doesn't know the key can't make ids that collide, so
-/// that looking up many takes time by their number and not by its square. What is read never depends on the key.
+/// The hash by which ids are looked up: SipHash-1-3 over a key. Who doesn't know the key can't make
+/// ids that collide, so that looking up many takes time by their number and not by its square. What
+/// is read never depends on the key.
 #[derive(Clone, Copy)]
 pub struct IdHash {
     // what each hash begins with
@@ -12,8 +13,8 @@ pub struct IdHash {
 }
 
 impl IdHash {
-    /// The hash of a key that nobody else knows, for ids that a stranger may have made. Where the system gives no random
-    /// bytes, the key is 0.
+    /// The hash of a key that nobody else knows, for ids that a stranger may have made. Where the
+    /// system gives no random bytes, the key is 0.
     pub fn random(source: &impl RandomSource) -> IdHash {
         match RandomState::new(source) {
             Ok(keys) => IdHash {

@@ -18,9 +18,11 @@ pub(crate) type Ids = IndexSet<String, IdHash>;
 // Adds a key that isn't there yet.
 pub(crate) fn add_key(keys: &mut Ids, key: String) -> Result<(), FaultKind>
     ensures new { OnOk result (list_any (bytes_eq (string_bytes key)) (map string_bytes keys.old.keys) ≡ false) }
-    ensures last { OnOk result (map string_bytes keys.new.keys ≡ map string_bytes keys.old.keys ++ string_bytes key ∷ []) }
+    ensures last { OnOk result (map string_bytes keys.new.keys ≡ map string_bytes keys.old.keys ++ string_bytes key
+        ∷ []) }
     ensures err { IfErr result (λ kind. kind ≢ FaultKind.OutOfMemory
-        → (kind ≡ FaultKind.IdTwice) × (list_any (bytes_eq (string_bytes key)) (map string_bytes keys.old.keys) ≡ true)) }
+        → (kind ≡ FaultKind.IdTwice) × (list_any (bytes_eq (string_bytes key)) (map string_bytes keys.old.keys)
+        ≡ true)) }
 {
     let Ok((_, added)) = keys.insert_full(key) else {
         return Err(FaultKind::OutOfMemory);
@@ -82,7 +84,8 @@ fn find_id(ids: &Ids, id: &str) -> Option<usize>
 
 // The place of an id, which goes last where it isn't there yet.
 fn add_id(ids: &mut Ids, id: String) -> Result<usize, FaultKind>
-    ensures more { OnOk result (map string_bytes ids.new.keys ≡ seen_also (map string_bytes ids.old.keys) (string_bytes id)) }
+    ensures more { OnOk result (map string_bytes ids.new.keys
+        ≡ seen_also (map string_bytes ids.old.keys) (string_bytes id)) }
     ensures ok { IfOk result (λ place. StandsAt (map string_bytes ids.new.keys) place (string_bytes id)) }
     ensures err { IfErr result (λ kind. kind ≡ FaultKind.OutOfMemory) }
 {

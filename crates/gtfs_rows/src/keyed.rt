@@ -34,16 +34,20 @@ pub trait Row: Sized + Drop {
     // The row of a record of text, or what is wrong with its values.
     fn read(alloc: Global, cells: &Cells) -> Result<Self, FaultKind>
         requires { AllText (fields_of cells.now.fields.now) }
-        ensures ok { IfOk result (λ row. (values_of TABLE cells.now.places.now (fields_of cells.now.fields.now) ≡ None) × spells cells.now.places.now (fields_of cells.now.fields.now) row) }
-        ensures err { IfErr result (λ kind. kind ≢ FaultKind.OutOfMemory → values_of TABLE cells.now.places.now (fields_of cells.now.fields.now) ≡ Some kind) };
+        ensures ok { IfOk result (λ row. (values_of TABLE cells.now.places.now (fields_of cells.now.fields.now)
+            ≡ None) × spells cells.now.places.now (fields_of cells.now.fields.now) row) }
+        ensures err { IfErr result (λ kind. kind ≢ FaultKind.OutOfMemory
+            → values_of TABLE cells.now.places.now (fields_of cells.now.fields.now) ≡ Some kind) };
 }
 
 // Keeps what a record has of the columns of the key, or tells what is wrong with it beside the records before it.
 fn keep(alloc: Global, kept: &mut Ids, key: Key, cells: &Cells) -> Result<(), FaultKind>
     requires { AllText (fields_of cells.now.fields.now) }
     ensures ok { (before : List Record) → AreKept key cells.now.places.now before kept.old.keys → OnOk result
-        ((key_fault key cells.now.places.now before (fields_of cells.now.fields.now) ≡ None) × AreKept key cells.now.places.now (before ++ fields_of cells.now.fields.now ∷ []) kept.new.keys) }
-    ensures err { (before : List Record) → AreKept key cells.now.places.now before kept.old.keys → IfErr result (λ kind. kind ≢ FaultKind.OutOfMemory
+        ((key_fault key cells.now.places.now before (fields_of cells.now.fields.now) ≡ None)
+        × AreKept key cells.now.places.now (before ++ fields_of cells.now.fields.now ∷ []) kept.new.keys) }
+    ensures err { (before : List Record) → AreKept key cells.now.places.now before kept.old.keys
+        → IfErr result (λ kind. kind ≢ FaultKind.OutOfMemory
         → key_fault key cells.now.places.now before (fields_of cells.now.fields.now) ≡ Some kind) }
 {
     match key {
@@ -67,9 +71,13 @@ fn keep(alloc: Global, kept: &mut Ids, key: Key, cells: &Cells) -> Result<(), Fa
 // Keeps the first record's text in a column, which the others share.
 fn share(alloc: Global, kept: &mut Ids, column: usize, cells: &Cells) -> Result<(), FaultKind>
     requires { AllText (fields_of cells.now.fields.now) }
-    ensures ok { (before : List Record) → AreKept (keys.Shared column) cells.now.places.now before kept.old.keys → OnOk result
-        ((key_fault (keys.Shared column) cells.now.places.now before (fields_of cells.now.fields.now) ≡ None) × AreKept (keys.Shared column) cells.now.places.now (before ++ fields_of cells.now.fields.now ∷ []) kept.new.keys) }
-    ensures err { (before : List Record) → AreKept (keys.Shared column) cells.now.places.now before kept.old.keys → IfErr result (λ kind. kind ≢ FaultKind.OutOfMemory
+    ensures ok { (before : List Record) → AreKept (keys.Shared column) cells.now.places.now before kept.old.keys
+        → OnOk result
+        ((key_fault (keys.Shared column) cells.now.places.now before (fields_of cells.now.fields.now) ≡ None)
+        × AreKept (keys.Shared column) cells.now.places.now (before ++ fields_of cells.now.fields.now
+        ∷ []) kept.new.keys) }
+    ensures err { (before : List Record) → AreKept (keys.Shared column) cells.now.places.now before kept.old.keys
+        → IfErr result (λ kind. kind ≢ FaultKind.OutOfMemory
         → key_fault (keys.Shared column) cells.now.places.now before (fields_of cells.now.fields.now) ≡ Some kind) }
 {
     let Some(shared) = kept.get_index(0) else {
@@ -105,7 +113,8 @@ impl<R: Row> Keyed<R> {
 impl<R: Row> TableRows for Keyed<R> {
     ghost TABLE = { R.TABLE };
 
-    ghost holds = { λ places records t. AllZip (R.spells places) records t.rows.items × AreKept (key_of R.TABLE) places records t.kept.keys };
+    ghost holds = { λ places records t. AllZip (R.spells places) records t.rows.items
+        × AreKept (key_of R.TABLE) places records t.kept.keys };
 
     const TABLE: Table = R::TABLE;
 
@@ -124,7 +133,8 @@ pub(crate) fn every_row<R: Row>(
 ) -> Result<Vec<R>, TableFault>
     ensures ok { IfOk result (λ rows. HoldsRows (shape_of R.TABLE) R.spells bytes.now rows.items) }
     ensures file { IfErr result (λ fault. fault.table ≡ R.TABLE) }
-    ensures err { IfErr result (λ fault. fault.kind ≢ FaultKind.OutOfMemory → IsFaultOf (shape_of R.TABLE) bytes.now fault.row fault.kind) }
+    ensures err { IfErr result (λ fault. fault.kind ≢ FaultKind.OutOfMemory
+        → IsFaultOf (shape_of R.TABLE) bytes.now fault.row fault.kind) }
 {
     let keyed: Keyed<R> = Keyed::new(alloc, hash);
     match read_table(keyed, alloc, bytes) {

@@ -4,7 +4,10 @@ ghost use Rattle.std.specs.Prelude.{◌≡◌, ℕ, List, Some};
 ghost use Rattle.gtfs_rows.specs.Cells.{Places};
 ghost use Rattle.gtfs_rows.specs.Source.{Record};
 ghost use Rattle.gtfs_rows.specs.Faults.{IsFaultOf, Shape};
-ghost use Rattle.gtfs_rows.specs.Tables.{HoldsAgencies, HoldsCalendar, HoldsCalendarDates, HoldsFrequencies, HoldsStopTimes, HoldsStops, HoldsTransfers, HoldsTrips, agency_shape, calendar_dates_shape, calendar_shape, frequencies_shape, key_of, stop_times_shape, stops_shape, transfers_shape, trips_shape};
+ghost use Rattle.gtfs_rows.specs.Tables.{HoldsAgencies, HoldsCalendar, HoldsCalendarDates, HoldsFrequencies};
+ghost use Rattle.gtfs_rows.specs.Tables.{HoldsStopTimes, HoldsStops, HoldsTransfers, HoldsTrips, agency_shape};
+ghost use Rattle.gtfs_rows.specs.Tables.{calendar_dates_shape, calendar_shape, frequencies_shape, key_of};
+ghost use Rattle.gtfs_rows.specs.Tables.{stop_times_shape, stops_shape, transfers_shape, trips_shape};
 ghost use Rattle.gtfs_rows.specs.Rows.{key_by, value};
 ghost use Rattle.gtfs_rows.specs.Values.{day_of};
 ghost use Rattle.gtfs_rows.specs.declared.fault.FaultKind.{FaultKind as Kind};
@@ -28,24 +31,35 @@ pub fn limits()
 
 /// A file has one fault at most.
 pub fn one_fault()
-    ensures { (s : Shape) (bytes : List ℕ) (n m : ℕ) (a b : Kind) → IsFaultOf s bytes n a → IsFaultOf s bytes m b → (n ≡ m) × (a ≡ b) }
+    ensures { (s : Shape) (bytes : List ℕ) (n m : ℕ) (a b : Kind) → IsFaultOf s bytes n a → IsFaultOf s bytes m b
+        → (n ≡ m) × (a ≡ b) }
 {}
 
 /// A file whose rows are held has no fault.
 #[tactic(auto, using(crate::proofs::OneFault::no_fault))]
 pub fn held_without_fault()
-    ensures agency { (bytes : List ℕ) (held : List AgencyRow) (n : ℕ) (kind : Kind) → HoldsAgencies bytes held → ¬ (IsFaultOf agency_shape bytes n kind) }
-    ensures stops { (bytes : List ℕ) (held : List StopRow) (n : ℕ) (kind : Kind) → HoldsStops bytes held → ¬ (IsFaultOf stops_shape bytes n kind) }
-    ensures trips { (bytes : List ℕ) (held : List TripRow) (n : ℕ) (kind : Kind) → HoldsTrips bytes held → ¬ (IsFaultOf trips_shape bytes n kind) }
-    ensures stop_times { (bytes : List ℕ) (held : StopTimes) (n : ℕ) (kind : Kind) → HoldsStopTimes bytes held → ¬ (IsFaultOf stop_times_shape bytes n kind) }
-    ensures calendar { (bytes : List ℕ) (held : List CalendarRow) (n : ℕ) (kind : Kind) → HoldsCalendar bytes held → ¬ (IsFaultOf calendar_shape bytes n kind) }
-    ensures calendar_dates { (bytes : List ℕ) (held : List CalendarDateRow) (n : ℕ) (kind : Kind) → HoldsCalendarDates bytes held → ¬ (IsFaultOf calendar_dates_shape bytes n kind) }
-    ensures transfers { (bytes : List ℕ) (held : List TransferRow) (n : ℕ) (kind : Kind) → HoldsTransfers bytes held → ¬ (IsFaultOf transfers_shape bytes n kind) }
-    ensures frequencies { (bytes : List ℕ) (held : List FrequencyRow) (n : ℕ) (kind : Kind) → HoldsFrequencies bytes held → ¬ (IsFaultOf frequencies_shape bytes n kind) }
+    ensures agency { (bytes : List ℕ) (held : List AgencyRow) (n : ℕ) (kind : Kind) → HoldsAgencies bytes held
+        → ¬ (IsFaultOf agency_shape bytes n kind) }
+    ensures stops { (bytes : List ℕ) (held : List StopRow) (n : ℕ) (kind : Kind) → HoldsStops bytes held
+        → ¬ (IsFaultOf stops_shape bytes n kind) }
+    ensures trips { (bytes : List ℕ) (held : List TripRow) (n : ℕ) (kind : Kind) → HoldsTrips bytes held
+        → ¬ (IsFaultOf trips_shape bytes n kind) }
+    ensures stop_times { (bytes : List ℕ) (held : StopTimes) (n : ℕ) (kind : Kind) → HoldsStopTimes bytes held
+        → ¬ (IsFaultOf stop_times_shape bytes n kind) }
+    ensures calendar { (bytes : List ℕ) (held : List CalendarRow) (n : ℕ) (kind : Kind) → HoldsCalendar bytes held
+        → ¬ (IsFaultOf calendar_shape bytes n kind) }
+    ensures calendar_dates { (bytes : List ℕ) (held : List CalendarDateRow) (n : ℕ) (kind : Kind)
+        → HoldsCalendarDates bytes held → ¬ (IsFaultOf calendar_dates_shape bytes n kind) }
+    ensures transfers { (bytes : List ℕ) (held : List TransferRow) (n : ℕ) (kind : Kind) → HoldsTransfers bytes held
+        → ¬ (IsFaultOf transfers_shape bytes n kind) }
+    ensures frequencies { (bytes : List ℕ) (held : List FrequencyRow) (n : ℕ) (kind : Kind)
+        → HoldsFrequencies bytes held → ¬ (IsFaultOf frequencies_shape bytes n kind) }
 {}
 
 /// Two records of calendar_dates.txt with one key have one service_id and one date.
 pub fn service_day_keys()
-    ensures { (places : Places) (r s : Record) (d e : Date) → day_of (value places 1 r) ≡ Some d → day_of (value places 1 s) ≡ Some e → key_by (key_of files.CalendarDates) places r ≡ key_by (key_of files.CalendarDates) places s
+    ensures { (places : Places) (r s : Record) (d e : Date) → day_of (value places 1 r) ≡ Some d
+        → day_of (value places 1 s) ≡ Some e → key_by (key_of files.CalendarDates) places r
+        ≡ key_by (key_of files.CalendarDates) places s
         → (value places 0 r ≡ value places 0 s) × (d ≡ e) }
 {}

@@ -31,8 +31,8 @@ pub struct Limited<R> {
     pub rows: Vec<R>,
 }
 
-/// The rows of the bytes of a file, at most so many of those that are counted: of `stops.txt` the stops, of `trips.txt` all.
-/// Ids are looked up by the hash.
+/// The rows of the bytes of a file, at most so many of those that are counted: of `stops.txt` the
+/// stops, of `trips.txt` all. Ids are looked up by the hash.
 ///
 /// # Errors
 ///
@@ -43,10 +43,12 @@ pub fn rows_up_to<R: LimitedRow>(
     hash: IdHash,
     bytes: &[u8],
 ) -> Result<Vec<R>, TableFault>
-    ensures ok { IfOk result (λ rows. HoldsWithin (HoldsRows (shape_of R.TABLE) R.spells) R.count limit bytes.now rows.items) }
+    ensures ok { IfOk result (λ rows. HoldsWithin (HoldsRows (shape_of R.TABLE) R.spells) R.count limit bytes.now
+        rows.items) }
     ensures file { IfErr result (λ fault. fault.table ≡ R.TABLE) }
     ensures err { IfErr result (λ fault. fault.kind ≢ FaultKind.OutOfMemory
-        → IsFaultWithin (shape_of R.TABLE) (HoldsRows (shape_of R.TABLE) R.spells) R.count limit bytes.now fault.row fault.kind) }
+        → IsFaultWithin (shape_of R.TABLE) (HoldsRows (shape_of R.TABLE) R.spells) R.count limit bytes.now fault.row
+        fault.kind) }
 {
     let read: Result<Vec<R>, TableFault> = every_row(alloc, hash, bytes);
     match read {
@@ -59,7 +61,8 @@ pub fn rows_up_to<R: LimitedRow>(
 impl<R: LimitedRow> TableFile for Limited<R> {
     ghost TABLE = { R.TABLE };
 
-    ghost holds = { λ bytes kept. HoldsWithin (HoldsRows (shape_of R.TABLE) R.spells) R.count R.LIMIT bytes kept.rows.items };
+    ghost holds = { λ bytes kept. HoldsWithin (HoldsRows (shape_of R.TABLE) R.spells) R.count R.LIMIT bytes
+        kept.rows.items };
 
     ghost tells = { IsFaultWithin (shape_of R.TABLE) (HoldsRows (shape_of R.TABLE) R.spells) R.count R.LIMIT };
 

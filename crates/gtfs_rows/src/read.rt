@@ -2,7 +2,10 @@
 
 ghost use Rattle.std.specs.Prelude.{◌≡◌, ◌≢◌, ◌≤◌, IfOk, IfErr, length, count_by};
 ghost use Rattle.gtfs_rows.specs.Faults.{IsFaultOf};
-ghost use Rattle.gtfs_rows.specs.Tables.{HoldsAgencies, HoldsCalendar, HoldsCalendarDates, HoldsFrequencies, HoldsStopTimes, HoldsStops, HoldsTransfers, HoldsTrips, IsStopsFault, IsTripsFault, agency_shape, calendar_dates_shape, calendar_shape, frequencies_shape, is_stop, stop_times_shape, transfers_shape};
+ghost use Rattle.gtfs_rows.specs.Tables.{HoldsAgencies, HoldsCalendar, HoldsCalendarDates, HoldsFrequencies};
+ghost use Rattle.gtfs_rows.specs.Tables.{HoldsStopTimes, HoldsStops, HoldsTransfers, HoldsTrips, IsStopsFault};
+ghost use Rattle.gtfs_rows.specs.Tables.{IsTripsFault, agency_shape, calendar_dates_shape, calendar_shape};
+ghost use Rattle.gtfs_rows.specs.Tables.{frequencies_shape, is_stop, stop_times_shape, transfers_shape};
 
 use crate::fault::{FaultKind, Table, TableFault};
 use crate::id_hash::IdHash;
@@ -29,7 +32,8 @@ fn known_key() -> IdHash {
 pub fn read_agency(alloc: Global, bytes: &[u8]) -> Result<Vec<AgencyRow>, TableFault>
     ensures ok { IfOk result (λ rows. HoldsAgencies bytes.now rows.items) }
     ensures file { IfErr result (λ fault. fault.table ≡ Table.Agency) }
-    ensures err { IfErr result (λ fault. fault.kind ≢ FaultKind.OutOfMemory → IsFaultOf agency_shape bytes.now fault.row fault.kind) }
+    ensures err { IfErr result (λ fault. fault.kind ≢ FaultKind.OutOfMemory
+        → IsFaultOf agency_shape bytes.now fault.row fault.kind) }
 {
     TableFile::read(alloc, known_key(), bytes)
 }
@@ -38,7 +42,8 @@ pub fn read_agency(alloc: Global, bytes: &[u8]) -> Result<Vec<AgencyRow>, TableF
 pub fn read_stop_times(alloc: Global, bytes: &[u8]) -> Result<StopTimes, TableFault>
     ensures ok { IfOk result (λ t. HoldsStopTimes bytes.now t) }
     ensures file { IfErr result (λ fault. fault.table ≡ Table.StopTimes) }
-    ensures err { IfErr result (λ fault. fault.kind ≢ FaultKind.OutOfMemory → IsFaultOf stop_times_shape bytes.now fault.row fault.kind) }
+    ensures err { IfErr result (λ fault. fault.kind ≢ FaultKind.OutOfMemory
+        → IsFaultOf stop_times_shape bytes.now fault.row fault.kind) }
 {
     TableFile::read(alloc, known_key(), bytes)
 }
@@ -47,7 +52,8 @@ pub fn read_stop_times(alloc: Global, bytes: &[u8]) -> Result<StopTimes, TableFa
 pub fn read_calendar(alloc: Global, bytes: &[u8]) -> Result<Vec<CalendarRow>, TableFault>
     ensures ok { IfOk result (λ rows. HoldsCalendar bytes.now rows.items) }
     ensures file { IfErr result (λ fault. fault.table ≡ Table.Calendar) }
-    ensures err { IfErr result (λ fault. fault.kind ≢ FaultKind.OutOfMemory → IsFaultOf calendar_shape bytes.now fault.row fault.kind) }
+    ensures err { IfErr result (λ fault. fault.kind ≢ FaultKind.OutOfMemory
+        → IsFaultOf calendar_shape bytes.now fault.row fault.kind) }
 {
     TableFile::read(alloc, known_key(), bytes)
 }
@@ -56,7 +62,8 @@ pub fn read_calendar(alloc: Global, bytes: &[u8]) -> Result<Vec<CalendarRow>, Ta
 pub fn read_calendar_dates(alloc: Global, bytes: &[u8]) -> Result<Vec<CalendarDateRow>, TableFault>
     ensures ok { IfOk result (λ rows. HoldsCalendarDates bytes.now rows.items) }
     ensures file { IfErr result (λ fault. fault.table ≡ Table.CalendarDates) }
-    ensures err { IfErr result (λ fault. fault.kind ≢ FaultKind.OutOfMemory → IsFaultOf calendar_dates_shape bytes.now fault.row fault.kind) }
+    ensures err { IfErr result (λ fault. fault.kind ≢ FaultKind.OutOfMemory
+        → IsFaultOf calendar_dates_shape bytes.now fault.row fault.kind) }
 {
     TableFile::read(alloc, known_key(), bytes)
 }
@@ -65,7 +72,8 @@ pub fn read_calendar_dates(alloc: Global, bytes: &[u8]) -> Result<Vec<CalendarDa
 pub fn read_transfers(alloc: Global, bytes: &[u8]) -> Result<Vec<TransferRow>, TableFault>
     ensures ok { IfOk result (λ rows. HoldsTransfers bytes.now rows.items) }
     ensures file { IfErr result (λ fault. fault.table ≡ Table.Transfers) }
-    ensures err { IfErr result (λ fault. fault.kind ≢ FaultKind.OutOfMemory → IsFaultOf transfers_shape bytes.now fault.row fault.kind) }
+    ensures err { IfErr result (λ fault. fault.kind ≢ FaultKind.OutOfMemory
+        → IsFaultOf transfers_shape bytes.now fault.row fault.kind) }
 {
     TableFile::read(alloc, known_key(), bytes)
 }
@@ -74,7 +82,8 @@ pub fn read_transfers(alloc: Global, bytes: &[u8]) -> Result<Vec<TransferRow>, T
 pub fn read_frequencies(alloc: Global, bytes: &[u8]) -> Result<Vec<FrequencyRow>, TableFault>
     ensures ok { IfOk result (λ rows. HoldsFrequencies bytes.now rows.items) }
     ensures file { IfErr result (λ fault. fault.table ≡ Table.Frequencies) }
-    ensures err { IfErr result (λ fault. fault.kind ≢ FaultKind.OutOfMemory → IsFaultOf frequencies_shape bytes.now fault.row fault.kind) }
+    ensures err { IfErr result (λ fault. fault.kind ≢ FaultKind.OutOfMemory
+        → IsFaultOf frequencies_shape bytes.now fault.row fault.kind) }
 {
     TableFile::read(alloc, known_key(), bytes)
 }
@@ -84,7 +93,8 @@ pub fn read_stops(alloc: Global, bytes: &[u8]) -> Result<Vec<StopRow>, TableFaul
     ensures ok { IfOk result (λ rows. HoldsStops bytes.now rows.items) }
     ensures few { IfOk result (λ rows. count_by is_stop rows.items ≤ MAX_STOPS) }
     ensures file { IfErr result (λ fault. fault.table ≡ Table.Stops) }
-    ensures err { IfErr result (λ fault. fault.kind ≢ FaultKind.OutOfMemory → IsStopsFault MAX_STOPS bytes.now fault.row fault.kind) }
+    ensures err { IfErr result (λ fault. fault.kind ≢ FaultKind.OutOfMemory
+        → IsStopsFault MAX_STOPS bytes.now fault.row fault.kind) }
 {
     rows_up_to(MAX_STOPS, alloc, known_key(), bytes)
 }
@@ -94,7 +104,8 @@ pub fn read_trips(alloc: Global, bytes: &[u8]) -> Result<Vec<TripRow>, TableFaul
     ensures ok { IfOk result (λ rows. HoldsTrips bytes.now rows.items) }
     ensures few { IfOk result (λ rows. length rows.items ≤ MAX_TRIPS) }
     ensures file { IfErr result (λ fault. fault.table ≡ Table.Trips) }
-    ensures err { IfErr result (λ fault. fault.kind ≢ FaultKind.OutOfMemory → IsTripsFault MAX_TRIPS bytes.now fault.row fault.kind) }
+    ensures err { IfErr result (λ fault. fault.kind ≢ FaultKind.OutOfMemory
+        → IsTripsFault MAX_TRIPS bytes.now fault.row fault.kind) }
 {
     rows_up_to(MAX_TRIPS, alloc, known_key(), bytes)
 }

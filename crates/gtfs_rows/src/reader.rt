@@ -4,7 +4,8 @@ ghost use Rattle.std.specs.Prelude.{◌≡◌, ◌≢◌, ◌+◌, ◌++◌, ◌
 ghost use Rattle.csv.specs.Records.{AllText, fields_of};
 ghost use Rattle.gtfs_rows.specs.Source.{AllRecordsText, IsTableReader, Record, left_of};
 ghost use Rattle.gtfs_rows.specs.Cells.{Places};
-ghost use Rattle.gtfs_rows.specs.Faults.{HoldsFile, HoldsUnder, IsFaultOf, IsFaultUnder, IsFaultless, IsFirstFault, length_first};
+ghost use Rattle.gtfs_rows.specs.Faults.{HoldsFile, HoldsUnder, IsFaultOf, IsFaultUnder, IsFaultless, IsFirstFault};
+ghost use Rattle.gtfs_rows.specs.Faults.{length_first};
 ghost use Rattle.gtfs_rows.specs.Tables.{judge_of, shape_of};
 ghost use Rattle.gtfs_rows.specs.declared.fault.Table.{Table as File};
 
@@ -28,8 +29,10 @@ pub(crate) trait TableRows: Sized + Drop {
     fn add(&mut self, alloc: Global, cells: &Cells) -> Result<(), FaultKind>
         requires { AllText (fields_of cells.now.fields.now) }
         ensures ok { (before : List Record) → holds cells.now.places.now before self.old → OnOk result
-            ((judge_of TABLE cells.now.places.now before (fields_of cells.now.fields.now) ≡ None) × holds cells.now.places.now (before ++ fields_of cells.now.fields.now ∷ []) self.new) }
-        ensures err { (before : List Record) → holds cells.now.places.now before self.old → IfErr result (λ kind. kind ≢ FaultKind.OutOfMemory
+            ((judge_of TABLE cells.now.places.now before (fields_of cells.now.fields.now) ≡ None)
+            × holds cells.now.places.now (before ++ fields_of cells.now.fields.now ∷ []) self.new) }
+        ensures err { (before : List Record) → holds cells.now.places.now before self.old
+            → IfErr result (λ kind. kind ≢ FaultKind.OutOfMemory
             → judge_of TABLE cells.now.places.now before (fields_of cells.now.fields.now) ≡ Some kind) };
 }
 
@@ -53,9 +56,12 @@ fn add_record<T: TableRows>(
 ) -> Result<(), FaultKind>
     requires { AllText (fields_of cells.now.fields.now) }
     ensures ok { (before : List Record) → T.holds cells.now.places.now before rows.old → OnOk result
-        ((length_first width (judge_of T.TABLE cells.now.places.now) before (fields_of cells.now.fields.now) ≡ None) × T.holds cells.now.places.now (before ++ fields_of cells.now.fields.now ∷ []) rows.new) }
-    ensures err { (before : List Record) → T.holds cells.now.places.now before rows.old → IfErr result (λ kind. kind ≢ FaultKind.OutOfMemory
-        → length_first width (judge_of T.TABLE cells.now.places.now) before (fields_of cells.now.fields.now) ≡ Some kind) }
+        ((length_first width (judge_of T.TABLE cells.now.places.now) before (fields_of cells.now.fields.now) ≡ None)
+        × T.holds cells.now.places.now (before ++ fields_of cells.now.fields.now ∷ []) rows.new) }
+    ensures err { (before : List Record) → T.holds cells.now.places.now before rows.old
+        → IfErr result (λ kind. kind ≢ FaultKind.OutOfMemory
+        → length_first width (judge_of T.TABLE cells.now.places.now) before (fields_of cells.now.fields.now)
+        ≡ Some kind) }
 {
     if cells.fields.len() != width {
         return Err(FaultKind::RowLength);
@@ -74,10 +80,12 @@ fn add_records<T: TableRows>(
     requires sound { IsTableReader reader.old }
     requires text { AllRecordsText (left_of reader.old) }
     requires starts { T.holds places.now [] rows }
-    ensures ok { IfOk result (λ t. IsFaultless (length_first width (judge_of T.TABLE places.now)) (left_of reader.old) × T.holds places.now (left_of reader.old) t) }
+    ensures ok { IfOk result (λ t. IsFaultless (length_first width (judge_of T.TABLE places.now))
+        (left_of reader.old) × T.holds places.now (left_of reader.old) t) }
     ensures file { IfErr result (λ fault. fault.table ≡ T.TABLE) }
     ensures err { IfErr result (λ fault. fault.kind ≢ FaultKind.OutOfMemory
-        → (k : ℕ) × (fault.row ≡ k + 1) × IsFirstFault (length_first width (judge_of T.TABLE places.now)) (left_of reader.old) k fault.kind) }
+        → (k : ℕ) × (fault.row ≡ k + 1) × IsFirstFault (length_first width (judge_of T.TABLE places.now))
+        (left_of reader.old) k fault.kind) }
 {
     let mut fields = ByteRecord::new(alloc);
     for taken in 0..u64::MAX {
@@ -107,7 +115,8 @@ pub(crate) fn read_table<T: TableRows>(
     requires { (places : Places) → T.holds places [] rows }
     ensures ok { IfOk result (λ t. HoldsFile (shape_of T.TABLE) T.holds bytes.now t) }
     ensures file { IfErr result (λ fault. fault.table ≡ T.TABLE) }
-    ensures err { IfErr result (λ fault. fault.kind ≢ FaultKind.OutOfMemory → IsFaultOf (shape_of T.TABLE) bytes.now fault.row fault.kind) }
+    ensures err { IfErr result (λ fault. fault.kind ≢ FaultKind.OutOfMemory
+        → IsFaultOf (shape_of T.TABLE) bytes.now fault.row fault.kind) }
 {
     if !is_text(bytes) {
         return Err(T::TABLE.fault(0, FaultKind::BadUtf8));
@@ -131,7 +140,8 @@ fn read_under<T: TableRows>(
     requires starts { (places : Places) → T.holds places [] rows }
     requires sound { IsTableReader reader.old }
     requires text { AllRecordsText (left_of reader.old) }
-    ensures ok { IfOk result (λ t. HoldsUnder (shape_of T.TABLE) T.holds (fields_of header.now) (left_of reader.old) t) }
+    ensures ok { IfOk result (λ t. HoldsUnder (shape_of T.TABLE) T.holds (fields_of header.now) (left_of reader.old)
+        t) }
     ensures file { IfErr result (λ fault. fault.table ≡ T.TABLE) }
     ensures err { IfErr result (λ fault. fault.kind ≢ FaultKind.OutOfMemory
         → IsFaultUnder (shape_of T.TABLE) (fields_of header.now) (left_of reader.old) fault.row fault.kind) }

@@ -106,8 +106,8 @@ pub struct TransferRow {
     pub seconds: Option<u32>,
 }
 
-/// A row of `frequencies.txt`: the trip starts at the start time, and again after each headway, before the end time. That
-/// the starts are exact, or aren't, makes no difference.
+/// A row of `frequencies.txt`: the trip starts at the start time, and again after each headway,
+/// before the end time. That the starts are exact, or aren't, makes no difference.
 #[derive(Debug, Drop)]
 pub struct FrequencyRow {
     pub trip: String,

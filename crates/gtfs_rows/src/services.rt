@@ -3,7 +3,8 @@
 ghost use Rattle.std.specs.Prelude.{◌≡◌, ◌+◌, None, Some, IfOk, IfErr};
 ghost use Rattle.csv.specs.Records.{fields_of};
 ghost use Rattle.gtfs_rows.specs.Faults.{fault_unless};
-ghost use Rattle.gtfs_rows.specs.Rows.{SpellsCalendar, SpellsCalendarDate, exception_of, flag_of, value, weekday as weekday_of, weekdays_of};
+ghost use Rattle.gtfs_rows.specs.Rows.{SpellsCalendar, SpellsCalendarDate, exception_of, flag_of, value};
+ghost use Rattle.gtfs_rows.specs.Rows.{weekday as weekday_of, weekdays_of};
 ghost use Rattle.gtfs_rows.specs.Values.{day_of, number_of};
 ghost use Rattle.gtfs_rows.specs.declared.fault.Table.TheVariants as files;
 
@@ -16,8 +17,11 @@ use std::alloc::Global;
 
 // The date in a column.
 fn day_in(cells: &Cells, column: usize) -> Result<Day, FaultKind>
-    ensures ok { IfOk result (λ d. day_of (value cells.now.places.now column (fields_of cells.now.fields.now)) ≡ Some d) }
-    ensures err { IfErr result (λ kind. fault_unless (day_of (value cells.now.places.now column (fields_of cells.now.fields.now))) FaultKind.BadDate ≡ Some kind) }
+    ensures ok { IfOk result (λ d. day_of (value cells.now.places.now column (fields_of cells.now.fields.now))
+        ≡ Some d) }
+    ensures err { IfErr result (λ kind. fault_unless
+        (day_of (value cells.now.places.now column (fields_of cells.now.fields.now))) FaultKind.BadDate
+        ≡ Some kind) }
 {
     Day::parse(cells.get(column)).map_err(|_| FaultKind::BadDate)
 }

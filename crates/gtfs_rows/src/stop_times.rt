@@ -1,12 +1,14 @@
 //! stop_times.txt, the longest table: its rows keep numbers, and each id is kept once.
 
-ghost use Rattle.std.specs.Prelude.{◌≡◌, ◌≢◌, ◌<◌, ◌++◌, ◌∷◌, [], List, length, map, IfOk, IfErr, OnOk, IsUtf8, None, Some};
+ghost use Rattle.std.specs.Prelude.{◌≡◌, ◌≢◌, ◌<◌, ◌++◌, ◌∷◌, [], List, length, map, IfOk, IfErr, OnOk, IsUtf8};
+ghost use Rattle.std.specs.Prelude.{None, Some};
 ghost use Rattle.std.specs.String.{string_bytes};
 ghost use Rattle.csv.specs.Records.{AllText, fields_of};
 ghost use Rattle.gtfs_rows.specs.Faults.{IsFaultOf, fault_unless};
 ghost use Rattle.gtfs_rows.specs.Ids.{given_also};
 ghost use Rattle.gtfs_rows.specs.Source.{Record};
-ghost use Rattle.gtfs_rows.specs.Rows.{AreStopTimes, IsStopId, given_time, is_available, stop_time_fault, time_fault, value};
+ghost use Rattle.gtfs_rows.specs.Rows.{AreStopTimes, IsStopId, given_time, is_available, stop_time_fault};
+ghost use Rattle.gtfs_rows.specs.Rows.{time_fault, value};
 ghost use Rattle.gtfs_rows.specs.Tables.{HoldsStopTimes, stop_times_shape};
 ghost use Rattle.gtfs_rows.specs.Values.{number_of};
 ghost use Rattle.gtfs_rows.specs.declared.fault.Table.TheVariants as files;
@@ -33,9 +35,12 @@ pub struct StopTimes {
 
 // The time in a column, which may be blank.
 fn time_in(cells: &Cells, column: usize) -> Result<Option<u32>, FaultKind>
-    ensures fine { IfOk result (λ t. time_fault (value cells.now.places.now column (fields_of cells.now.fields.now)) ≡ None) }
-    ensures ok { IfOk result (λ t. t ≡ given_time (value cells.now.places.now column (fields_of cells.now.fields.now))) }
-    ensures err { IfErr result (λ kind. time_fault (value cells.now.places.now column (fields_of cells.now.fields.now)) ≡ Some kind) }
+    ensures fine { IfOk result (λ t. time_fault (value cells.now.places.now column (fields_of cells.now.fields.now))
+        ≡ None) }
+    ensures ok { IfOk result (λ t. t ≡ given_time
+        (value cells.now.places.now column (fields_of cells.now.fields.now))) }
+    ensures err { IfErr result (λ kind. time_fault
+        (value cells.now.places.now column (fields_of cells.now.fields.now)) ≡ Some kind) }
 {
     let text = cells.get(column);
     if text.is_empty() {
@@ -49,8 +54,11 @@ fn time_in(cells: &Cells, column: usize) -> Result<Option<u32>, FaultKind>
 
 // The number in a column.
 fn number_in(cells: &Cells, column: usize) -> Result<u32, FaultKind>
-    ensures ok { IfOk result (λ n. number_of (value cells.now.places.now column (fields_of cells.now.fields.now)) ≡ Some n) }
-    ensures err { IfErr result (λ kind. fault_unless (number_of (value cells.now.places.now column (fields_of cells.now.fields.now))) FaultKind.BadNumber ≡ Some kind) }
+    ensures ok { IfOk result (λ n. number_of (value cells.now.places.now column (fields_of cells.now.fields.now))
+        ≡ Some n) }
+    ensures err { IfErr result (λ kind. fault_unless
+        (number_of (value cells.now.places.now column (fields_of cells.now.fields.now))) FaultKind.BadNumber
+        ≡ Some kind) }
 {
     number(cells.get(column)).ok_or(FaultKind::BadNumber)
 }

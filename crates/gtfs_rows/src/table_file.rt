@@ -24,5 +24,6 @@ pub trait TableFile: Sized + Drop {
     fn read(alloc: Global, hash: IdHash, bytes: &[u8]) -> Result<Self, TableFault>
         ensures ok { IfOk result (λ rows. holds bytes.now rows) }
         ensures file { IfErr result (λ fault. fault.table ≡ TABLE) }
-        ensures err { IfErr result (λ fault. fault.kind ≢ FaultKind.OutOfMemory → tells bytes.now fault.row fault.kind) };
+        ensures err { IfErr result (λ fault. fault.kind ≢ FaultKind.OutOfMemory
+            → tells bytes.now fault.row fault.kind) };
 }

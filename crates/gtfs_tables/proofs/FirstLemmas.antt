@@ -24,10 +24,13 @@ pub row_fine : {R : Type 0} (table : Table) (judge : R → Option FaultKind) (ro
 row_fine table judge rows i row lt e fine before =
     first_below-more (row_fault table judge rows) i before (row_fault-at table judge rows i row lt e ∙ ap (option_map (fault_at table i)) fine)
 
-pub row_wrong : {R : Type 0} (table : Table) (judge : R → Option FaultKind) (rows : List R) (i : ℕ) (row : R) (kind : FaultKind) → i < length rows → row ≡ get_or rows i row
-    → judge row ≡ Some kind → first_below (row_fault table judge rows) i ≡ None → first_below (row_fault table judge rows) (length rows) ≡ Some (fault_at table i kind)
+pub row_wrong : {R : Type 0} (table : Table) (judge : R
+    → Option FaultKind) (rows : List R) (i : ℕ) (row : R) (kind : FaultKind) → i < length rows → row ≡ get_or rows i row
+    → judge row ≡ Some kind → first_below (row_fault table judge rows) i ≡ None
+    → first_below (row_fault table judge rows) (length rows) ≡ Some (fault_at table i kind)
 row_wrong table judge rows i row kind lt e wrong before =
-    first_below-found (row_fault table judge rows) (length rows) i (fault_at table i kind) lt before (row_fault-at table judge rows i row lt e ∙ ap (option_map (fault_at table i)) wrong)
+    first_below-found (row_fault table judge rows) (length rows) i (fault_at table i kind) lt before
+    (row_fault-at table judge rows i row lt e ∙ ap (option_map (fault_at table i)) wrong)
 
 -- the same for rows that are copied
 pub copy_fine : {R : Type 0} (table : Table) (judge : R → Option FaultKind) (rows : List R) (i : ℕ) (d : R) → i < length rows
@@ -35,5 +38,7 @@ pub copy_fine : {R : Type 0} (table : Table) (judge : R → Option FaultKind) (r
 copy_fine table judge rows i d lt fine before = row_fine table judge rows i (get_or rows i d) lt (get_or_default rows i d (get_or rows i d) lt) fine before
 
 pub copy_wrong : {R : Type 0} (table : Table) (judge : R → Option FaultKind) (rows : List R) (i : ℕ) (d : R) (kind : FaultKind) → i < length rows
-    → judge (get_or rows i d) ≡ Some kind → first_below (row_fault table judge rows) i ≡ None → first_below (row_fault table judge rows) (length rows) ≡ Some (fault_at table i kind)
-copy_wrong table judge rows i d kind lt wrong before = row_wrong table judge rows i (get_or rows i d) kind lt (get_or_default rows i d (get_or rows i d) lt) wrong before
+    → judge (get_or rows i d) ≡ Some kind → first_below (row_fault table judge rows) i ≡ None
+    → first_below (row_fault table judge rows) (length rows) ≡ Some (fault_at table i kind)
+copy_wrong table judge rows i d kind lt wrong before =
+    row_wrong table judge rows i (get_or rows i d) kind lt (get_or_default rows i d (get_or rows i d) lt) wrong before

@@ -1,5 +1,7 @@
 -- What holds of a joined feed.
-use Rattle.std.proofs.Common.{◌≡◌, ℕ, zero, suc, ◌+◌, ◌-◌, ◌<◌, ◌≤◌, inl, inr, ◌∙◌, sym, ap, refl, subst, arith, Bool, true, false, not, ◌||◌, List, [], ◌∷◌, length, map, take, drop, get_or, Option, Some, None, IsSomeAnd, All}
+use Rattle.std.proofs.Common.{◌≡◌, ℕ, zero, suc, ◌+◌, ◌-◌, ◌<◌, ◌≤◌, inl, inr, ◌∙◌, sym, ap, refl, subst, arith, Bool}
+use Rattle.std.proofs.Common.{true, false, not, ◌||◌, List, [], ◌∷◌, length, map, take, drop, get_or, Option, Some}
+use Rattle.std.proofs.Common.{None, IsSomeAnd, All}
 use Rattle.std.specs.Prelude.{count_by, filter, is_none, nat_le, nat_lt, option_and_then, option_map, if◌then◌else◌}
 use Rattle.std.specs.List.{AllZip, list_any, slice_get, slice_index_or, slice_range}
 use Rattle.std.specs.Option.{option_or}
@@ -19,7 +21,8 @@ use Rattle.gtfs_rows.specs.declared.rows.Location.TheVariants as locations
 use Rattle.gtfs_rows.specs.declared.rows.StopRow.{StopRow}
 use Rattle.gtfs_rows.specs.declared.rows.StopTimeRow.{StopTimeRow}
 use Rattle.gtfs_rows.specs.declared.rows.TripRow.{TripRow}
-use Rattle.gtfs_tables.specs.Feeds.{IsJoined, feed_stop, feed_trip, feed_trips, first_fault, link_by, naming_fault, rows_by, told_of, stops_by, trip_fault, trips_by}
+use Rattle.gtfs_tables.specs.Feeds.{IsJoined, feed_stop, feed_trip, feed_trips, first_fault, link_by, naming_fault}
+use Rattle.gtfs_tables.specs.Feeds.{rows_by, told_of, stops_by, trip_fault, trips_by}
 use Rattle.gtfs_tables.specs.First.{first_below, first_fault_of}
 use Rattle.gtfs_tables.specs.Joined.{HasTimedEnds, IsRunnableTrip, NamesBelow}
 use Rattle.gtfs_tables.specs.Names.{named_as, named_at, stop_named, stop_with, trip_named}
@@ -52,7 +55,8 @@ found_at f (suc n) x e = elim (option_cases (first_below f n)) [
 ]
 
 -- a stop has fewer before it than there are
-fewer_kept : (stops : List StopRow) (k : ℕ) (row : StopRow) → slice_get stops k ≡ Some row → is_stop row ≡ true → length (filter is_stop (take k stops)) < length (filter is_stop stops)
+fewer_kept : (stops : List StopRow) (k : ℕ) (row : StopRow) → slice_get stops k ≡ Some row → is_stop row ≡ true
+    → length (filter is_stop (take k stops)) < length (filter is_stop stops)
 fewer_kept [] k row e s = absurd cc
 fewer_kept (first ∷ stops) zero row e s =
     let same : first ≡ row = cc in
@@ -62,7 +66,8 @@ fewer_kept (first ∷ stops) (suc k) row e s =
     let fewer : length (filter is_stop (take k stops)) < length (filter is_stop stops) = fewer_kept stops k row e s in
     elim (cases_Bool (is_stop first)) [ inl t ↦ rw t (omega arith) | inr f ↦ rw f fewer ]
 
-fewer_before : (stops : List StopRow) (k : ℕ) (row : StopRow) → slice_get stops k ≡ Some row → is_stop row ≡ true → count_by is_stop (take k stops) < count_by is_stop stops
+fewer_before : (stops : List StopRow) (k : ℕ) (row : StopRow) → slice_get stops k ≡ Some row → is_stop row ≡ true
+    → count_by is_stop (take k stops) < count_by is_stop stops
 fewer_before stops k row e s =
     let fewer = fewer_kept stops k row e s in
     omega (arith, length-filter is_stop (take k stops), length-filter is_stop stops)
@@ -79,11 +84,14 @@ stop_here true x y e = cc
 stop_here false x y e = absurd cc
 
 with_below : (stops : List StopRow) (id : List ℕ) (k s : ℕ) (o : Option StopRow) → slice_get stops k ≡ o
-    → option_and_then (λ row. if bytes_eq id (string_bytes row.id) then Some (named_as row.location (count_by is_stop (take k stops)) k) else None) o ≡ Some (names.Stop s)
+    → option_and_then (λ row. if bytes_eq id (string_bytes row.id) then Some
+    (named_as row.location (count_by is_stop (take k stops)) k) else None) o ≡ Some (names.Stop s)
     → s < count_by is_stop stops
 with_below stops id k s None found e = absurd cc
 with_below stops id k s (Some row) found e =
-    let here = stop_as row.location (count_by is_stop (take k stops)) k s (stop_here (bytes_eq id (string_bytes row.id)) (named_as row.location (count_by is_stop (take k stops)) k) (names.Stop s) e) in
+    let here = stop_as row.location (count_by is_stop (take k stops)) k s
+    (stop_here (bytes_eq id (string_bytes row.id)) (named_as row.location (count_by is_stop (take k stops)) k)
+    (names.Stop s) e) in
     let stands : is_stop row ≡ true = rw here.0 refl in
     let fewer = fewer_before stops k row found stands in
     subst (λ n. n < count_by is_stop stops) here.1 fewer
@@ -103,10 +111,13 @@ place_below stops id (places.Stop s) e = named_below stops id s e
 place_below stops id (places.Station p) e = tt
 
 -- the feed has as many stops as stops.txt has rows that stand for one
-stops_counted : (t : Tables) (feed : Feed) (named : List ℕ → Option Named) → feed.stops.items ≡ map (feed_stop named) (filter is_stop t.stops.items) → length feed.stops.items ≡ count_by is_stop t.stops.items
+stops_counted : (t : Tables) (feed : Feed) (named : List ℕ → Option Named)
+    → feed.stops.items ≡ map (feed_stop named) (filter is_stop t.stops.items)
+    → length feed.stops.items ≡ count_by is_stop t.stops.items
 stops_counted t feed named e = ap length e ∙ length-map (filter is_stop t.stops.items) (feed_stop named) ∙ length-filter is_stop t.stops.items
 
-zip_at : {A B : Type 0} (R : A → B → Type 0) (xs : List A) (ys : List B) (k : ℕ) (e : B) → AllZip R xs ys → k < length ys → (x : A) × R x (slice_index_or ys k e)
+zip_at : {A B : Type 0} (R : A → B → Type 0) (xs : List A) (ys : List B) (k : ℕ) (e : B) → AllZip R xs ys
+    → k < length ys → (x : A) × R x (slice_index_or ys k e)
 zip_at R [] [] k e zipped lt = absurd (omega (arith, lt))
 zip_at R [] (y ∷ ys) k e zipped lt = absurd zipped
 zip_at R (x ∷ xs) [] k e zipped lt = absurd zipped
@@ -114,7 +125,8 @@ zip_at R (x ∷ xs) (y ∷ ys) zero e zipped lt = (x, zipped.0)
 zip_at R (x ∷ xs) (y ∷ ys) (suc k) e zipped lt = zip_at R xs ys k e zipped.1 (omega (arith, lt))
 
 pub joined_names : (strict : Bool) (t : Tables) (feed : Feed) → IsJoined strict t feed → (k : ℕ) (d : Transfer) → k < length feed.transfers.items
-    → NamesBelow (length feed.stops.items) (slice_index_or feed.transfers.items k d).from × NamesBelow (length feed.stops.items) (slice_index_or feed.transfers.items k d).to
+    → NamesBelow (length feed.stops.items) (slice_index_or feed.transfers.items k d).from
+    × NamesBelow (length feed.stops.items) (slice_index_or feed.transfers.items k d).to
 joined_names strict t feed joined k d lt =
     let count = stops_counted t feed (stop_named t.stops.items) joined.feed_is.stops in
     let row = zip_at (IsTransferOf (stop_named t.stops.items)) (filter is_kept t.transfers.items) feed.transfers.items k d joined.feed_is.transfers lt in
@@ -139,7 +151,8 @@ kept_more p q (x ∷ xs) h =
 
 turn_rises : (turns : List Turn) (t : ℕ) → first_turn turns t ≤ first_turn turns (t + 1)
 turn_rises turns t =
-    let more = kept_more (λ (turn : Turn). nat_lt turn.trip t) (λ (turn : Turn). nat_lt turn.trip (t + 1)) turns (λ turn e. test_more turn.trip t (t + 1) (omega arith) e) in
+    let more = kept_more (λ (turn : Turn). nat_lt turn.trip t) (λ (turn : Turn). nat_lt turn.trip (t + 1)) turns
+    (λ turn e. test_more turn.trip t (t + 1) (omega arith) e) in
     omega (arith, length-filter (λ (turn : Turn). nat_lt turn.trip t) turns, length-filter (λ (turn : Turn). nat_lt turn.trip (t + 1)) turns)
 
 turn_within : (turns : List Turn) (t : ℕ) → first_turn turns t ≤ length turns
@@ -153,7 +166,8 @@ trip_at turns rows repeats from (suc k) (row ∷ trips) d lt =
     let rest = trip_at turns rows repeats (from + 1) k trips d (omega (arith, lt)) in
     (rest.0, let e : from + suc k ≡ from + 1 + k = omega arith in rw e rest.1)
 
-trips_counted : (turns : List Turn) (rows : List StopTimeRow) (repeats : ℕ → Bool) (from : ℕ) (trips : List TripRow) → length (feed_trips turns rows repeats from trips) ≡ length trips
+trips_counted : (turns : List Turn) (rows : List StopTimeRow) (repeats : ℕ → Bool) (from : ℕ) (trips : List TripRow)
+    → length (feed_trips turns rows repeats from trips) ≡ length trips
 trips_counted turns rows repeats from [] = refl
 trips_counted turns rows repeats from (row ∷ trips) = ap (λ n. suc n) (trips_counted turns rows repeats (from + 1) trips)
 
@@ -166,7 +180,8 @@ unmapped f (Some x) e = absurd cc
 judged : (short flex : Bool) (x : Option (ℕ × FaultKind)) → short ≡ false → flex ≡ false → (if short || flex then None else x) ≡ None → x ≡ None
 judged short flex x s f e = rw (s, f) at e
 
-timed_by : (strict : Bool) (rows : List StopTimeRow) → nat_lt (length rows) 2 ≡ false → is_flex rows ≡ false → first_wrong strict rows ≡ None → HasTimedEnds rows
+timed_by : (strict : Bool) (rows : List StopTimeRow) → nat_lt (length rows) 2 ≡ false → is_flex rows ≡ false
+    → first_wrong strict rows ≡ None → HasTimedEnds rows
 timed_by strict rows long steady e =
     let fine : wrong_times strict rows ≡ None = judged (nat_lt (length rows) 2) (is_flex rows) (wrong_times strict rows) long steady e in
     ends_timed rows (option_or_parts (wrong_given rows) _ fine).0
@@ -224,49 +239,65 @@ stop_below n (Some s) e h = h s refl
 row_below : (t : Tables) (turns : List Turn) (k s : ℕ) (d : StopTimeRow) → k < length turns
     → (get_or (rows_by (stop_named t.stops.items) (trip_named t.trips.items) t turns) k d).stop ≡ Some s → s < count_by is_stop t.stops.items
 row_below t turns k s d lt e =
-    let turn = mapped_at (λ (turn : Turn). link_by (stop_named t.stops.items) (trip_named t.trips.items) t (row_of t.stop_times.rows.items turn.number)) turns k d lt in
+    let turn = mapped_at (λ (turn : Turn). link_by (stop_named t.stops.items) (trip_named t.trips.items) t
+    (row_of t.stop_times.rows.items turn.number)) turns k d lt in
     let raw = row_of t.stop_times.rows.items turn.0.number in
     let here = sym (ap (λ (row : StopTimeRow). row.stop) turn.1) ∙ e in
-    let some = unless (is_none (named_at (trips_by (trip_named t.trips.items) t) raw.trip) || is_flex_id t.stop_times.rows.items raw.trip) (stop_number (stop_of (stops_by (stop_named t.stops.items) t) raw)) s here in
+    let some = unless (is_none (named_at (trips_by (trip_named t.trips.items) t) raw.trip) || is_flex_id
+    t.stop_times.rows.items raw.trip) (stop_number (stop_of (stops_by (stop_named t.stops.items) t) raw)) s here
+    in
     linked_below t.stops.items string_bytes t.stop_times.stops.keys raw s some
 
 -- ---- the trips of a joined feed
 
-fault_none : (strict : Bool) (t : Tables) (turns : List Turn) (k : ℕ) → first_fault (stop_named t.stops.items) (trip_named t.trips.items) strict t turns ≡ None → k < length t.trips.items
+fault_none : (strict : Bool) (t : Tables) (turns : List Turn) (k : ℕ)
+    → first_fault (stop_named t.stops.items) (trip_named t.trips.items) strict t turns ≡ None → k < length t.trips.items
     → first_wrong strict (of_trip turns k (rows_by (stop_named t.stops.items) (trip_named t.trips.items) t turns)) ≡ None
 fault_none strict t turns k e lt =
     let rows = rows_by (stop_named t.stops.items) (trip_named t.trips.items) t turns in
-    let behind = option_or_parts (naming_fault (stop_named t.stops.items) (trip_named t.trips.items) t) (option_or (first_below (trip_fault strict turns rows) (length t.trips.items)) (first_fault_of tables.Transfers (transfer_fault (stop_named t.stops.items)) t.transfers.items)) e in
-    let trips = option_or_parts (first_below (trip_fault strict turns rows) (length t.trips.items)) (first_fault_of tables.Transfers (transfer_fault (stop_named t.stops.items)) t.transfers.items) behind.1 in
-    unmapped (told_of (of_trip turns k turns)) (first_wrong strict (of_trip turns k rows)) (first_below-none (trip_fault strict turns rows) (length t.trips.items) k lt trips.0)
+    let behind = option_or_parts (naming_fault (stop_named t.stops.items) (trip_named t.trips.items) t)
+    (option_or (first_below (trip_fault strict turns rows) (length t.trips.items))
+    (first_fault_of tables.Transfers (transfer_fault (stop_named t.stops.items)) t.transfers.items)) e in
+    let trips = option_or_parts (first_below (trip_fault strict turns rows) (length t.trips.items))
+    (first_fault_of tables.Transfers (transfer_fault (stop_named t.stops.items)) t.transfers.items) behind.1 in
+    unmapped (told_of (of_trip turns k turns)) (first_wrong strict (of_trip turns k rows))
+    (first_below-none (trip_fault strict turns rows) (length t.trips.items) k lt trips.0)
 
 -- the trip at a place, as it is made, is runnable
 made_runnable : (strict : Bool) (t : Tables) (feed : Feed) (joined : IsJoined strict t feed) (k : ℕ) (row : TripRow) → k < length t.trips.items
     → IsRunnableTrip (count_by is_stop t.stops.items) (rows_by (stop_named t.stops.items) (trip_named t.trips.items) t joined.turns)
-    (feed_trip joined.turns (rows_by (stop_named t.stops.items) (trip_named t.trips.items) t joined.turns) (is_repeated (trip_named t.trips.items) t.frequencies.items) k row)
+    (feed_trip joined.turns (rows_by (stop_named t.stops.items) (trip_named t.trips.items) t joined.turns)
+    (is_repeated (trip_named t.trips.items) t.frequencies.items) k row)
 made_runnable strict t feed joined k row lt =
     let turns = joined.turns in
     let rows = rows_by (stop_named t.stops.items) (trip_named t.trips.items) t turns in
     let up = turn_rises turns k in
-    let len : length rows ≡ length turns = length-map turns (λ (turn : Turn). link_by (stop_named t.stops.items) (trip_named t.trips.items) t (row_of t.stop_times.rows.items turn.number)) in
+    let len : length rows ≡ length turns = length-map turns
+    (λ (turn : Turn). link_by (stop_named t.stops.items) (trip_named t.trips.items) t
+    (row_of t.stop_times.rows.items turn.number)) in
     let inside : first_turn turns (k + 1) ≤ length rows = let w = turn_within turns (k + 1) in omega arith in
-    let count : length (of_trip turns k rows) ≡ first_turn turns (k + 1) - first_turn turns k = slice_length rows (first_turn turns k) (first_turn turns (k + 1)) inside in
+    let count : length (of_trip turns k rows) ≡ first_turn turns (k + 1) - first_turn turns k =
+    slice_length rows (first_turn turns k) (first_turn turns (k + 1)) inside in
     record {
       rising = up;
       within = inside;
       timed = λ makes.
           let parts = and_parts (not (is_flex (of_trip turns k rows))) (nat_le 2 (first_turn turns (k + 1) - first_turn turns k)) makes in
           let two = leb-true 2 (first_turn turns (k + 1) - first_turn turns k) parts.1 in
-          timed_by strict (of_trip turns k rows) (le-ltb (length (of_trip turns k rows)) 2 (omega arith)) (not-true (is_flex (of_trip turns k rows)) parts.0) (fault_none strict t turns k joined.faultless lt);
+          timed_by strict (of_trip turns k rows) (le-ltb (length (of_trip turns k rows)) 2 (omega arith))
+          (not-true (is_flex (of_trip turns k rows)) parts.0) (fault_none strict t turns k joined.faultless lt);
       stops_below = λ makes i d less.
           let parts = and_parts (not (is_flex (of_trip turns k rows))) (nat_le 2 (first_turn turns (k + 1) - first_turn turns k)) makes in
           let steady = not-true (is_flex (of_trip turns k rows)) parts.0 in
-          let at : get_or (of_trip turns k rows) i d ≡ get_or rows (first_turn turns k + i) d = slice_at rows (first_turn turns k) (first_turn turns (k + 1)) i d (omega arith) in
-          stop_below (count_by is_stop t.stops.items) (get_or (of_trip turns k rows) i d).stop (none_any (λ (row : StopTimeRow). is_none row.stop) (of_trip turns k rows) i d steady less)
+          let at : get_or (of_trip turns k rows) i d ≡ get_or rows (first_turn turns k + i) d =
+          slice_at rows (first_turn turns k) (first_turn turns (k + 1)) i d (omega arith) in
+          stop_below (count_by is_stop t.stops.items) (get_or (of_trip turns k rows) i d).stop
+          (none_any (λ (row : StopTimeRow). is_none row.stop) (of_trip turns k rows) i d steady less)
           (λ s e. row_below t turns (first_turn turns k + i) s d (omega arith) (sym (ap (λ (row : StopTimeRow). row.stop) at) ∙ e));
     }
 
-pub joined_trips : (strict : Bool) (t : Tables) (feed : Feed) → IsJoined strict t feed → All (IsRunnableTrip (length feed.stops.items) feed.stop_times.items) feed.trips.items
+pub joined_trips : (strict : Bool) (t : Tables) (feed : Feed) → IsJoined strict t feed
+    → All (IsRunnableTrip (length feed.stops.items) feed.stop_times.items) feed.trips.items
 joined_trips strict t feed joined k d lt =
     let turns = joined.turns in
     let rows = rows_by (stop_named t.stops.items) (trip_named t.trips.items) t turns in
@@ -277,5 +308,6 @@ joined_trips strict t feed joined k d lt =
     let many : length feed.trips.items ≡ length t.trips.items = ap length trips_are ∙ trips_counted turns rows repeats 0 t.trips.items in
     let made = trip_at turns rows repeats 0 k t.trips.items d (omega arith) in
     let place : 0 + k ≡ k = omega arith in
-    let is : get_or feed.trips.items k d ≡ feed_trip turns rows repeats k made.0 = ap (λ trips. get_or trips k d) trips_are ∙ made.1 ∙ ap (λ n. feed_trip turns rows repeats n made.0) place in
+    let is : get_or feed.trips.items k d ≡ feed_trip turns rows repeats k made.0 =
+    ap (λ trips. get_or trips k d) trips_are ∙ made.1 ∙ ap (λ n. feed_trip turns rows repeats n made.0) place in
     rw (is, times_are, count) (made_runnable strict t feed joined k made.0 (omega arith))

@@ -1,5 +1,6 @@
 -- What an id names, a row on.
-use Rattle.std.proofs.Common.{◌≡◌, [], ◌∷◌, ◌++◌, map, ℕ, ◌+◌, ◌<◌, List, length, get_or, take, true, false, Option, Some, None, refl, sym, ap, ◌∙◌, cond, inl, inr, ◌⊎◌}
+use Rattle.std.proofs.Common.{◌≡◌, [], ◌∷◌, ◌++◌, map, ℕ, ◌+◌, ◌<◌, List, length, get_or, take, true, false, Option}
+use Rattle.std.proofs.Common.{Some, None, refl, sym, ap, ◌∙◌, cond, inl, inr, ◌⊎◌}
 use Rattle.std.specs.Prelude.{count_by, if◌then◌else◌}
 use Rattle.std.specs.Borrow.{Bor}
 use Rattle.std.specs.List.{slice_get}
@@ -28,7 +29,10 @@ trip_named-more trips k row id lt e =
     rw (first_below-next (trip_with trips id) k, found) refl
 
 pub stop_named-more : (stops : List StopRow) (k : ℕ) (row : StopRow) (id : List ℕ) → k < length stops → row ≡ get_or stops k row
-    → first_below (stop_with stops id) (k + 1) ≡ option_or (first_below (stop_with stops id) k) (if bytes_eq id (string_bytes row.id) then Some (named_as row.location (count_by is_stop (take k stops)) k) else None)
+    → first_below (stop_with stops id) (k + 1)
+    ≡ option_or (first_below (stop_with stops id) k)
+    (if bytes_eq id (string_bytes row.id) then Some (named_as row.location (count_by is_stop (take k stops)) k) else
+    None)
 stop_named-more stops k row id lt e =
     let found : slice_get stops k ≡ Some row = slice_get_read stops (length stops) k row refl lt e in
     rw (first_below-next (stop_with stops id) k, found) refl

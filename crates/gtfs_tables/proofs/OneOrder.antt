@@ -1,5 +1,6 @@
 -- Turns have one order.
-use Rattle.std.proofs.Common.{◌≡◌, ◌∙◌, ℕ, suc, ◌+◌, ◌<◌, ◌≤◌, ◌⊎◌, inl, inr, List, [], ◌∷◌, get_or, true, false, eqb, ltb, if◌then◌else◌, Option, refl, sym, ap, subst, arith}
+use Rattle.std.proofs.Common.{◌≡◌, ◌∙◌, ℕ, suc, ◌+◌, ◌<◌, ◌≤◌, ◌⊎◌, inl, inr, List, [], ◌∷◌, get_or, true, false, eqb}
+use Rattle.std.proofs.Common.{ltb, if◌then◌else◌, Option, refl, sym, ap, subst, arith}
 use Rattle.std.specs.Prelude.{IsSortedBy}
 use Rattle.std.specs.List.{sum_by}
 use Rattle.std.proofs.lemmas.Bool.{cases_Bool, cases_order, eq-eqb, le-ltb, lt-ltb, ltb-false, ne_eqb, false≢true}
@@ -28,7 +29,8 @@ other_sequence a b e ne = rw (eq-eqb a.trip b.trip e, ne_eqb a.sequence b.sequen
 at_or_after : (a b : Turn) → comes_before a b ≡ false → IsAtOrAfter a b
 at_or_after a b e = by (cases_order a.trip b.trip) (cases_order a.sequence b.sequence)
   where
-    by : (a.trip ≡ b.trip) ⊎ ((a.trip < b.trip) ⊎ (b.trip < a.trip)) → (a.sequence ≡ b.sequence) ⊎ ((a.sequence < b.sequence) ⊎ (b.sequence < a.sequence)) → IsAtOrAfter a b
+    by : (a.trip ≡ b.trip) ⊎ ((a.trip < b.trip) ⊎ (b.trip < a.trip))
+        → (a.sequence ≡ b.sequence) ⊎ ((a.sequence < b.sequence) ⊎ (b.sequence < a.sequence)) → IsAtOrAfter a b
     by (inl same) (inl also) = inr (same, inr (also, ltb-false a.number b.number (sym (same_sequence a b same also) ∙ e)))
     by (inl same) (inr (inl less)) = absurd (false≢true (sym e ∙ other_sequence a b same (λ s. omega (arith, s)) ∙ lt-ltb a.sequence b.sequence less))
     by (inl same) (inr (inr more)) = inr (same, inl more)
@@ -133,4 +135,5 @@ same_lists (x ∷ xs) (y ∷ ys) up also sums =
 
 pub one_order : (trips : List (Option ℕ)) (rows : List StopTimeRow) (xs ys : List Turn) → IsInOrder trips rows xs → IsInOrder trips rows ys → xs ≡ ys
 one_order trips rows xs ys a b =
-    same_lists xs ys a.rising b.rising (λ f. sum_by-IsPermutation f (turns_from trips 1 rows) xs a.same ∙ sym (sum_by-IsPermutation f (turns_from trips 1 rows) ys b.same))
+    same_lists xs ys a.rising b.rising (λ f. sum_by-IsPermutation f (turns_from trips 1 rows) xs a.same
+    ∙ sym (sum_by-IsPermutation f (turns_from trips 1 rows) ys b.same))

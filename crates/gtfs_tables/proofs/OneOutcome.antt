@@ -62,7 +62,8 @@ one_transfer named row a b x y =
     let seconds : a.seconds ≡ b.seconds = x.seconds ∙ sym y.seconds in
     λ i. record { from = from i; to = to i; kind = kind i; seconds = seconds i }
 
-one_list : (named : List ℕ → Option Named) (rows : List TransferRow) (xs ys : List Transfer) → AllZip (IsTransferOf named) rows xs → AllZip (IsTransferOf named) rows ys → xs ≡ ys
+one_list : (named : List ℕ → Option Named) (rows : List TransferRow) (xs ys : List Transfer)
+    → AllZip (IsTransferOf named) rows xs → AllZip (IsTransferOf named) rows ys → xs ≡ ys
 one_list named [] [] [] a b = refl
 one_list named [] [] (y ∷ ys) a b = absurd b
 one_list named [] (x ∷ xs) ys a b = absurd a
@@ -81,7 +82,8 @@ one_feed strict t f g a b =
       trips = a.feed_is.trips ∙ rw turns (sym b.feed_is.trips);
       stop_times = a.feed_is.stop_times ∙ rw turns (sym b.feed_is.stop_times);
       frequencies = a.feed_is.frequencies ∙ sym b.feed_is.frequencies;
-      transfers = one_list (stop_named t.stops.items) (filter is_kept t.transfers.items) f.transfers.items g.transfers.items a.feed_is.transfers b.feed_is.transfers;
+      transfers = one_list (stop_named t.stops.items) (filter is_kept t.transfers.items) f.transfers.items
+          g.transfers.items a.feed_is.transfers b.feed_is.transfers;
       skipped = a.feed_is.skipped ∙ sym b.feed_is.skipped;
       calendar = a.feed_is.calendar ∙ sym b.feed_is.calendar;
       calendar_dates = a.feed_is.calendar_dates ∙ sym b.feed_is.calendar_dates;

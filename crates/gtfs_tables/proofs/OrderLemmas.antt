@@ -1,5 +1,6 @@
 -- The turns of rows, a row on, and where those of a trip begin.
-use Rattle.std.proofs.Common.{◌≡◌, ℕ, zero, suc, ◌+◌, ◌<◌, ◌≤◌, ◌⊎◌, inl, inr, List, [], ◌∷◌, ◌++◌, length, get_or, take, Bool, true, false, eqb, ltb, Option, refl, ap, ◌∙◌, sym, arith}
+use Rattle.std.proofs.Common.{◌≡◌, ℕ, zero, suc, ◌+◌, ◌<◌, ◌≤◌, ◌⊎◌, inl, inr, List, [], ◌∷◌, ◌++◌, length, get_or}
+use Rattle.std.proofs.Common.{take, Bool, true, false, eqb, ltb, Option, refl, ap, ◌∙◌, sym, arith}
 use Rattle.std.specs.Prelude.{count_by, filter, IsSortedBy}
 use Rattle.std.specs.List.{AllWithin}
 use Rattle.std.specs.List.Sorted.{IsNonDecreasingBy}
@@ -41,7 +42,8 @@ trip_rises a b e = by (cases_order b.trip a.trip)
     by (inr (inr more)) = omega arith
 
 pub trips_rise : (turns : List Turn) → IsSortedBy comes_before turns → IsNonDecreasingBy (λ turn. turn.trip) turns
-trips_rise turns sorted = IsNonDecreasingBy-from_all_adjacent (λ turn. turn.trip) turns (λ k d lt. trip_rises (get_or turns k d) (get_or turns (k + 1) d) (sorted k d (omega arith) lt))
+trips_rise turns sorted = IsNonDecreasingBy-from_all_adjacent (λ turn. turn.trip) turns
+    (λ k d lt. trip_rises (get_or turns k d) (get_or turns (k + 1) d) (sorted k d (omega arith) lt))
 
 -- a test that passes exactly below a place passes so often
 filter_front : {X : Type 0} (p : X → Bool) (xs : List X) (n : ℕ) → n ≤ length xs → ((k : ℕ) (d : X) → k < n → p (get_or xs k d) ≡ true)
@@ -53,7 +55,8 @@ filter_front p (x ∷ xs) zero le under over =
     rw here (filter_front p xs 0 (omega arith) (λ k d lt. absurd (omega arith)) (λ k d low lt. over (suc k) d (omega arith) (omega arith)))
 filter_front p (x ∷ xs) (suc n) le under over =
     let here : p x ≡ true = under 0 x (omega arith) in
-    let rest : length (filter p xs) ≡ n = filter_front p xs n (omega arith) (λ k d lt. under (suc k) d (omega arith)) (λ k d low lt. over (suc k) d (omega arith) (omega arith)) in
+    let rest : length (filter p xs) ≡ n = filter_front p xs n (omega arith) (λ k d lt. under (suc k) d (omega arith))
+    (λ k d low lt. over (suc k) d (omega arith) (omega arith)) in
     rw here (ap (λ m. suc m) rest)
 
 count_front : {X : Type 0} (p : X → Bool) (xs : List X) (n : ℕ) → n ≤ length xs → ((k : ℕ) (d : X) → k < n → p (get_or xs k d) ≡ true)

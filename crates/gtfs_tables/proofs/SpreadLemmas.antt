@@ -1,5 +1,6 @@
 -- Facts on spread times.
-use Rattle.std.proofs.Common.{◌≡◌, ◌+◌, ◌-◌, ◌*◌, ◌/◌, ◌<◌, ◌≤◌, ◌∷◌, ◌∙◌, ◌⊎◌, inl, inr, ℕ, zero, suc, List, [], length, Option, Some, None, IsSome, refl, sym, slice_index_or, arith}
+use Rattle.std.proofs.Common.{◌≡◌, ◌+◌, ◌-◌, ◌*◌, ◌/◌, ◌<◌, ◌≤◌, ◌∷◌, ◌∙◌, ◌⊎◌, inl, inr, ℕ, zero, suc, List, []}
+use Rattle.std.proofs.Common.{length, Option, Some, None, IsSome, refl, sym, slice_index_or, arith}
 use Rattle.std.proofs.Math.Nat.{div-le_of_le-mul, mul-le-mul_right}
 use Rattle.std.proofs.lemmas.Bool.{cases_order}
 use Rattle.reasoning.proofs.OptionLemmas.{is_some-none}
@@ -52,7 +53,8 @@ pub record IsStep (rows : List StopTimeRow) (old new : List (ℕ × ℕ)) (at ne
       → slice_index_or new (length old + j) (0, 0) ≡ (part_of d b (next - at) j, part_of d b (next - at) j)
 
 -- a gap over a place behind the row is the one behind it
-gap_from : (rows : List StopTimeRow) (old new : List (ℕ × ℕ)) (at next p q a b i : ℕ) → IsStep rows old new at next → IsGap rows p q a b → at < i → p < i → i < q → i < next → p ≡ at
+gap_from : (rows : List StopTimeRow) (old new : List (ℕ × ℕ)) (at next p q a b i : ℕ) → IsStep rows old new at next
+    → IsGap rows p q a b → at < i → p < i → i < q → i < next → p ≡ at
 gap_from rows old new at next p q a b i s g h low high less = by (cases_order p at)
   where
     by : (p ≡ at) ⊎ ((p < at) ⊎ (at < p)) → p ≡ at
@@ -62,7 +64,8 @@ gap_from rows old new at next p q a b i s g h low high less = by (cases_order p 
         let none : departure_at rows p ≡ None = never_departs rows p (s.between p (omega arith) (omega arith)) in
         absurd (let from = g.from in cc)
 
-gap_to : (rows : List StopTimeRow) (old new : List (ℕ × ℕ)) (at next p q a b i : ℕ) → IsStep rows old new at next → IsGap rows p q a b → at < i → p < i → i < q → i < next → q ≡ next
+gap_to : (rows : List StopTimeRow) (old new : List (ℕ × ℕ)) (at next p q a b i : ℕ) → IsStep rows old new at next
+    → IsGap rows p q a b → at < i → p < i → i < q → i < next → q ≡ next
 gap_to rows old new at next p q a b i s g h low high less = by (cases_order q next)
   where
     by : (q ≡ next) ⊎ ((q < next) ⊎ (next < q)) → q ≡ next
@@ -97,8 +100,13 @@ blank_more rows old new at next s before p q a b i g low high less = by (cases_o
         let departs_here : departure_at rows at ≡ Some a = rw from at g.from in
         let arrives_there : arrival_at rows next ≡ Some b = rw to at g.to in
         let place : length old + (i - at) ≡ i = omega (arith, s.len) in
-        let made : slice_index_or new (length old + (i - at)) (0, 0) ≡ (part_of a b (next - at) (i - at), part_of a b (next - at) (i - at)) = s.parts a b departs_here arrives_there (i - at) (omega arith) (omega arith) in
+        let made : slice_index_or new (length old + (i - at)) (0, 0) ≡ (
+          part_of a b (next - at) (i - at),
+          part_of a b (next - at) (i - at),
+        ) = s.parts a b departs_here arrives_there (i - at) (omega arith)
+        (omega arith) in
         rw (from, to) (rw place at made)
 
-pub spread_more : (rows : List StopTimeRow) (old new : List (ℕ × ℕ)) (at next : ℕ) → IsStep rows old new at next → IsSpreadBefore rows old at → IsSpreadBefore rows new next
+pub spread_more : (rows : List StopTimeRow) (old new : List (ℕ × ℕ)) (at next : ℕ) → IsStep rows old new at next
+    → IsSpreadBefore rows old at → IsSpreadBefore rows new next
 spread_more rows old new at next s before = record { given = given_more rows old new at next s before; blank = blank_more rows old new at next s before }

@@ -1,5 +1,6 @@
 -- The times of a trip, a row on, and the times that spreading gives.
-use Rattle.std.proofs.Common.{◌≡◌, ◌+◌, ◌-◌, ◌<◌, ◌≤◌, ◌∙◌, ◌⊎◌, inl, inr, ℕ, zero, suc, List, length, Bool, true, false, ◌&&◌, Option, Some, None, IsSome, refl, sym, ap, arith, slice_index_or}
+use Rattle.std.proofs.Common.{◌≡◌, ◌+◌, ◌-◌, ◌<◌, ◌≤◌, ◌∙◌, ◌⊎◌, inl, inr, ℕ, zero, suc, List, length, Bool, true}
+use Rattle.std.proofs.Common.{false, ◌&&◌, Option, Some, None, IsSome, refl, sym, ap, arith, slice_index_or}
 use Rattle.std.specs.Prelude.{if◌then◌else◌, is_none, is_some, nat_le, nat_lt, unwrap_or}
 use Rattle.std.specs.Option.{option_or}
 use Rattle.std.proofs.lemmas.Bool.{and_cases, and_from, and_parts, cases_Bool, cases_eq, cases_order, false≢true, le-leb, leb-true, leb-false}
@@ -9,7 +10,8 @@ use Rattle.gtfs_rows.specs.declared.fault.FaultKind.TheVariants as kinds
 use Rattle.gtfs_rows.specs.declared.rows.StopTimeRow.{StopTimeRow}
 use Rattle.gtfs_tables.specs.First.{first_below, first_place, place_if}
 use Rattle.gtfs_tables.specs.Spread.{IsGap, IsSpread, arrival_at, departure_at}
-use Rattle.gtfs_tables.specs.Times.{arrives_spread, departed_before, departs_spread, end_without_time, given_before, given_from, goes_back, has_no_duration, is_short, is_twice, wrong_at, wrong_given}
+use Rattle.gtfs_tables.specs.Times.{arrives_spread, departed_before, departs_spread, end_without_time, given_before}
+use Rattle.gtfs_tables.specs.Times.{given_from, goes_back, has_no_duration, is_short, is_twice, wrong_at, wrong_given}
 use Rattle.gtfs_tables.proofs.SpreadLemmas.{departs, never_departs}
 
 pub departed-next : (rows : List StopTimeRow) (k : ℕ) → departed_before rows (k + 1) ≡ unwrap_or (departure_at rows k) (departed_before rows k)
@@ -38,10 +40,30 @@ first_place_cases p zero = inl (record { none = refl; fails = λ m lt. absurd (o
 first_place_cases p (suc n) =
     elim (first_place_cases p n) [
       | inl w ↦ elim (cases_Bool (p n)) [
-        | inl t ↦ inr (n, record { found = option_or-none (first_place p n) (place_if p n) w.none ∙ place_if-true p n t; within = omega arith; passes = t; before = w.fails })
-        | inr f ↦ inl (record { none = option_or-none (first_place p n) (place_if p n) w.none ∙ place_if-false p n f; fails = λ m lt. elim (cases_eq m n) [ inl same ↦ rw same f | inr other ↦ w.fails m (omega arith) ] })
+        | inl t ↦ inr (
+          n,
+          record {
+            found = option_or-none (first_place p n) (place_if p n) w.none ∙ place_if-true p n t;
+            within = omega arith;
+            passes = t;
+            before = w.fails;
+          },
+        )
+        | inr f ↦ inl (record {
+          none = option_or-none (first_place p n) (place_if p n) w.none ∙ place_if-false p n f;
+          fails = λ m lt. elim (cases_eq m n) [ inl same ↦ rw same f | inr other ↦ w.fails m (omega arith) ];
+        })
       ]
-      | inr w ↦ inr (w.0, record { found = option_or-some (first_place p n) (place_if p n) w.0 w.1.found; within = let lt = w.1.within in omega arith; passes = w.1.passes; before = w.1.before })
+      | inr w ↦ inr (
+        w.0,
+        record {
+          found = option_or-some (first_place p n) (place_if p n) w.0 w.1.found;
+          within =
+              let lt = w.1.within in omega arith;
+          passes = w.1.passes;
+          before = w.1.before;
+        },
+      )
     ]
 
 none_is : {X : Type 0} (o : Option X) → is_some o ≡ false → o ≡ None
@@ -58,7 +80,8 @@ pub record IsBefore (rows : List StopTimeRow) (k p : ℕ) : Type 0 where
   pub below : p < k
   pub blank : (m : ℕ) → p < m → m < k → arrival_at rows m ≡ None
 
-before_next : (rows : List StopTimeRow) (k : ℕ) → IsSome (arrival_at rows 0) → (0 < k → IsBefore rows k (given_before rows k)) → IsBefore rows (suc k) (given_before rows (suc k))
+before_next : (rows : List StopTimeRow) (k : ℕ) → IsSome (arrival_at rows 0)
+    → (0 < k → IsBefore rows k (given_before rows k)) → IsBefore rows (suc k) (given_before rows (suc k))
 before_next rows k first earlier = by (cases_Bool (is_some (arrival_at rows k)))
   where
     by : (is_some (arrival_at rows k) ≡ true) ⊎ (is_some (arrival_at rows k) ≡ false) → IsBefore rows (suc k) (given_before rows (suc k))
@@ -87,11 +110,14 @@ pub record IsAfter (rows : List StopTimeRow) (k q : ℕ) : Type 0 where
 pub after_is : (rows : List StopTimeRow) (k : ℕ) → IsSome (arrival_at rows (length rows - 1)) → k < length rows → IsAfter rows k (given_from rows k)
 after_is rows k last lt = by (first_place_cases (λ j. nat_le k j && is_some (arrival_at rows j)) (length rows))
   where
-    by : IsNowhere (λ j. nat_le k j && is_some (arrival_at rows j)) (length rows) ⊎ ((q : ℕ) × IsFirstPlace (λ j. nat_le k j && is_some (arrival_at rows j)) (length rows) q)
+    by : IsNowhere (λ j. nat_le k j && is_some (arrival_at rows j)) (length rows)
+        ⊎ ((q : ℕ) × IsFirstPlace (λ j. nat_le k j && is_some (arrival_at rows j)) (length rows) q)
         → IsAfter rows k (given_from rows k)
     by (inl w) =
         let fails : (nat_le k (length rows - 1) && is_some (arrival_at rows (length rows - 1))) ≡ false = w.fails (length rows - 1) (omega arith) in
-        let passes : (nat_le k (length rows - 1) && is_some (arrival_at rows (length rows - 1))) ≡ true = and_from (nat_le k (length rows - 1)) (is_some (arrival_at rows (length rows - 1))) (le-leb k (length rows - 1) (omega arith)) last in
+        let passes : (nat_le k (length rows - 1) && is_some (arrival_at rows (length rows - 1))) ≡ true =
+        and_from (nat_le k (length rows - 1)) (is_some (arrival_at rows (length rows - 1)))
+        (le-leb k (length rows - 1) (omega arith)) last in
         absurd (false≢true (sym fails ∙ passes))
     by (inr (q, w)) =
         let parts = and_parts (nat_le k q) (is_some (arrival_at rows q)) w.passes in
@@ -105,11 +131,13 @@ after_is rows k last lt = by (first_place_cases (λ j. nat_le k j && is_some (ar
         })
 
 -- what spreading gives at a row
-pub spread_at : (rows : List StopTimeRow) (times : List (ℕ × ℕ)) (k : ℕ) → IsSpread rows times → IsSome (arrival_at rows 0) → IsSome (arrival_at rows (length rows - 1)) → k < length rows
+pub spread_at : (rows : List StopTimeRow) (times : List (ℕ × ℕ)) (k : ℕ) → IsSpread rows times
+    → IsSome (arrival_at rows 0) → IsSome (arrival_at rows (length rows - 1)) → k < length rows
     → slice_index_or times k (0, 0) ≡ (arrives_spread rows k, departs_spread rows k)
 spread_at rows times k s first last lt = by (cases_Bool (is_some (arrival_at rows k)))
   where
-    by : (is_some (arrival_at rows k) ≡ true) ⊎ (is_some (arrival_at rows k) ≡ false) → slice_index_or times k (0, 0) ≡ (arrives_spread rows k, departs_spread rows k)
+    by : (is_some (arrival_at rows k) ≡ true) ⊎ (is_some (arrival_at rows k) ≡ false)
+        → slice_index_or times k (0, 0) ≡ (arrives_spread rows k, departs_spread rows k)
     by (inl t) =
         let a = some_value (arrival_at rows k) t in
         let d = some_value (departure_at rows k) (departs rows k a.0 a.1) in
@@ -123,7 +151,12 @@ spread_at rows times k s first last lt = by (cases_Bool (is_some (arrival_at row
         let start = some_value (arrival_at rows (given_before rows k)) low.given in
         let a = some_value (departure_at rows (given_before rows k)) (departs rows (given_before rows k) start.0 start.1) in
         let b = some_value (arrival_at rows (given_from rows k)) high.given in
-        let above : k < given_from rows k = elim (cases_eq k (given_from rows k)) [ inl same ↦ absurd (let s2 : IsSome (arrival_at rows k) = rw same high.given in false≢true (sym f ∙ s2)) | inr other ↦ let le = high.from in omega arith ] in
+        let above : k < given_from rows k = elim (cases_eq k (given_from rows k)) [
+          | inl same ↦
+              absurd (let s2 : IsSome (arrival_at rows k) = rw same high.given in false≢true (sym f ∙ s2))
+          | inr other ↦
+              let le = high.from in omega arith
+        ] in
         let gap : IsGap rows (given_before rows k) (given_from rows k) a.0 b.0 = record {
           rising = let lt2 = low.below in omega arith;
           from = a.1;
@@ -148,8 +181,11 @@ ends_by (Some a) (Some b) last e = (refl, refl)
 
 pub ends_timed : (rows : List StopTimeRow) → wrong_given rows ≡ None → IsSome (arrival_at rows 0) × IsSome (arrival_at rows (length rows - 1))
 ends_timed rows e =
-    let behind = option_or_parts (wrong_at kinds.SequenceTwice (first_place (is_twice rows) (length rows))) (option_or (wrong_at kinds.EndWithoutTime (end_without_time rows)) (wrong_at kinds.TimeGoesBack (first_place (goes_back rows) (length rows)))) e in
-    let ends = option_or_parts (wrong_at kinds.EndWithoutTime (end_without_time rows)) (wrong_at kinds.TimeGoesBack (first_place (goes_back rows) (length rows))) behind.1 in
+    let behind = option_or_parts (wrong_at kinds.SequenceTwice (first_place (is_twice rows) (length rows)))
+    (option_or (wrong_at kinds.EndWithoutTime (end_without_time rows))
+    (wrong_at kinds.TimeGoesBack (first_place (goes_back rows) (length rows)))) e in
+    let ends = option_or_parts (wrong_at kinds.EndWithoutTime (end_without_time rows))
+    (wrong_at kinds.TimeGoesBack (first_place (goes_back rows) (length rows))) behind.1 in
     ends_by (arrival_at rows 0) (arrival_at rows (length rows - 1)) (length rows - 1) (nowhere_at kinds.EndWithoutTime (end_without_time rows) ends.0)
 
 agree : {X : Type 0} (f g : ℕ → Option X) (n : ℕ) → ((k : ℕ) → k < n → f k ≡ g k) → first_below f n ≡ first_below g n
@@ -167,7 +203,8 @@ hop_same rows times s fine =
     let ends = ends_timed rows fine in
     let same : (k : ℕ) → k < length rows → is_short times k ≡ has_no_duration rows k = λ k lt.
     let here : slice_index_or times k (0, 0) ≡ (arrives_spread rows k, departs_spread rows k) = spread_at rows times k s ends.0 ends.1 lt in
-    let before : slice_index_or times (k - 1) (0, 0) ≡ (arrives_spread rows (k - 1), departs_spread rows (k - 1)) = spread_at rows times (k - 1) s ends.0 ends.1 (omega arith) in
+    let before : slice_index_or times (k - 1) (0, 0) ≡ (arrives_spread rows (k - 1), departs_spread rows (k - 1)) =
+    spread_at rows times (k - 1) s ends.0 ends.1 (omega arith) in
     ap (λ a. nat_lt 0 k && nat_le a.0 (slice_index_or times (k - 1) (0, 0)).1) here ∙ ap (λ b. nat_lt 0 k && nat_le (arrives_spread rows k) b.1) before in
     let len : length times ≡ length rows = s.same_length in
     rw len (agree (place_if (is_short times)) (place_if (has_no_duration rows)) (length rows) (λ k lt. ap (λ b. if b then Some k else None) (same k lt)))

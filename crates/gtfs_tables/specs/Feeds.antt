@@ -1,5 +1,6 @@
 -- The feed of the tables, or their first fault.
-use Rattle.std.specs.Prelude.{◌≡◌, ◌≢◌, ◌+◌, ◌<◌, not, false, IfOk, IfErr, ℕ, List, [], ◌∷◌, length, map, filter, count_by, option_map, Option, Some, None, Bool}
+use Rattle.std.specs.Prelude.{◌≡◌, ◌≢◌, ◌+◌, ◌<◌, not, false, IfOk, IfErr, ℕ, List, [], ◌∷◌, length, map, filter}
+use Rattle.std.specs.Prelude.{count_by, option_map, Option, Some, None, Bool}
 use Rattle.std.specs.List.{AllZip, slice_index_or}
 use Rattle.std.specs.Option.{option_or}
 use Rattle.std.specs.String.{string_bytes}
@@ -14,7 +15,8 @@ use Rattle.gtfs_rows.specs.declared.rows.TripRow.{TripRow}
 use Rattle.gtfs_tables.specs.First.{first_below, first_fault_of}
 use Rattle.gtfs_tables.specs.Names.{stop_named, trip_named}
 use Rattle.gtfs_tables.specs.Order.{IsInOrder, first_turn, of_trip, row_of, turns_in}
-use Rattle.gtfs_tables.specs.Rows.{IsTransferOf, frequency_fault, frequency_of, is_flex_id, is_kept, is_repeated, linked_fault, linked_row, parent_fault, station_of, transfer_fault}
+use Rattle.gtfs_tables.specs.Rows.{IsTransferOf, frequency_fault, frequency_of, is_flex_id, is_kept, is_repeated}
+use Rattle.gtfs_tables.specs.Rows.{linked_fault, linked_row, parent_fault, station_of, transfer_fault}
 use Rattle.gtfs_tables.specs.Times.{first_wrong, is_flex}
 use Rattle.gtfs_tables.specs.declared.joining.Links.{Links}
 use Rattle.gtfs_tables.specs.declared.names.Named.{Named}
@@ -134,7 +136,8 @@ pub record IsLinked (named : List ℕ → Option Named) (placed : List ℕ → O
   pub frequencies : links.frequencies.items ≡ map (frequency_of placed) t.frequencies.items
   pub transfers_fine : IfOk links.transfers (λ kept. first_fault_of tables.Transfers (transfer_fault named) t.transfers.items ≡ None)
   pub transfers : IfOk links.transfers (λ kept. AllZip (IsTransferOf named) (filter is_kept t.transfers.items) kept.items)
-  pub transfers_wrong : IfErr links.transfers (λ fault. fault.kind ≢ kinds.OutOfMemory → first_fault_of tables.Transfers (transfer_fault named) t.transfers.items ≡ Some fault)
+  pub transfers_wrong : IfErr links.transfers (λ fault. fault.kind ≢ kinds.OutOfMemory
+      → first_fault_of tables.Transfers (transfer_fault named) t.transfers.items ≡ Some fault)
 
 -- a fault of what names nothing
 pub record IsNamingFault (named : List ℕ → Option Named) (placed : List ℕ → Option ℕ) (t : Tables) (fault : TableFault) : Type 0 where

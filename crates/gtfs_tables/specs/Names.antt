@@ -25,7 +25,8 @@ named_as locations.BoardingArea number place = names.Elsewhere
 -- what the row at a place stands for, if it has the id
 abbrev pub stop_with : List StopRow → List ℕ → ℕ → Option Named
 stop_with stops id k =
-    option_and_then (λ row. if bytes_eq id (string_bytes row.id) then Some (named_as row.location (count_by is_stop (take k stops)) k) else None) (slice_get stops k)
+    option_and_then (λ row. if bytes_eq id (string_bytes row.id) then Some
+    (named_as row.location (count_by is_stop (take k stops)) k) else None) (slice_get stops k)
 
 -- what an id of stops.txt names
 abbrev pub stop_named : List StopRow → List ℕ → Option Named

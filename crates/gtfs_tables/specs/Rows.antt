@@ -77,7 +77,11 @@ linked_fault trips stops flex row =
 -- a row with its trip's place and its stop's number, which a flex trip's rows don't have
 abbrev pub linked_row : List (Option ℕ) → List (Option Named) → Bool → StopTimeRow → StopTimeRow
 linked_row trips stops flex row =
-    record row { trip = unwrap_or (named_at trips row.trip) 0; stop = if is_none (named_at trips row.trip) || flex then None else stop_number (stop_of stops row) }
+    record row {
+      trip = unwrap_or (named_at trips row.trip) 0;
+      stop =
+          if is_none (named_at trips row.trip) || flex then None else stop_number (stop_of stops row);
+    }
 
 -- ---- frequencies.txt: the trip is known
 

@@ -1,5 +1,6 @@
 -- What can be wrong with the times of a trip, whose rows are in order.
-use Rattle.std.specs.Prelude.{◌==◌, ◌||◌, ◌&&◌, ◌-◌, ℕ, zero, suc, List, length, map, nat_lt, nat_le, option_map, Option, Some, None, Bool, false, if◌then◌else◌, is_none, is_some, unwrap_or}
+use Rattle.std.specs.Prelude.{◌==◌, ◌||◌, ◌&&◌, ◌-◌, ℕ, zero, suc, List, length, map, nat_lt, nat_le, option_map}
+use Rattle.std.specs.Prelude.{Option, Some, None, Bool, false, if◌then◌else◌, is_none, is_some, unwrap_or}
 use Rattle.std.specs.List.{list_any, slice_index_or}
 use Rattle.std.specs.Option.{option_or}
 use Rattle.gtfs_rows.specs.declared.fault.FaultKind.{FaultKind}

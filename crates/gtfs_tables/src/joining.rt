@@ -1,6 +1,7 @@
 //! The tables of a feed joined, or the first thing that is wrong with them.
 
-ghost use Rattle.std.specs.Prelude.{◌≡◌, ◌≢◌, ◌≤◌, ◌<◌, ◌+◌, ℕ, List, length, map, filter, Ok, Err, ◌⊎◌, IfOk, IfErr, IsSortedBy, Some, None, Option, false, slice_index_or, option_map};
+ghost use Rattle.std.specs.Prelude.{◌≡◌, ◌≢◌, ◌≤◌, ◌<◌, ◌+◌, ℕ, List, length, map, filter, Ok, Err, ◌⊎◌, IfOk};
+ghost use Rattle.std.specs.Prelude.{IfErr, IsSortedBy, Some, None, Option, false, slice_index_or, option_map};
 ghost use Rattle.std.specs.List.{AllWithin, slice_range};
 ghost use Rattle.gtfs_rows.specs.declared.rows.StopTimeRow.{StopTimeRow as LinkedRow};
 ghost use Rattle.gtfs_rows.specs.Tables.{is_stop};
@@ -10,7 +11,8 @@ ghost use Rattle.gtfs_tables.specs.Order.{comes_before, first_turn, turns_by, tu
 ghost use Rattle.gtfs_tables.specs.Rows.{is_flex_id, linked_fault, linked_row, station_of};
 ghost use Rattle.std.specs.String.{string_bytes};
 ghost use Rattle.gtfs_tables.specs.Times.{first_wrong as wrong_first};
-ghost use Rattle.gtfs_tables.specs.Feeds.{IsFirstFault, IsJoined, IsLinked, IsNamingFault, feed_stop, feed_trips, linked_by, told_of, trip_fault};
+ghost use Rattle.gtfs_tables.specs.Feeds.{IsFirstFault, IsJoined, IsLinked, IsNamingFault, feed_stop, feed_trips};
+ghost use Rattle.gtfs_tables.specs.Feeds.{linked_by, told_of, trip_fault};
 ghost use Rattle.gtfs_tables.specs.declared.names.Named.{Named as NamedBy};
 
 use crate::links::{
@@ -62,8 +64,10 @@ pub fn join(alloc: Global, tables: Tables, strict: bool) -> Result<Feed, TableFa
 fn link(alloc: Global, tables: &Tables) -> Result<Links, TableFault>
     requires stops { length tables.now.stops.items ≤ u32.MAX }
     requires trips { length tables.now.trips.items ≤ u32.MAX }
-    ensures ok { IfOk result (IsLinked (stop_named tables.now.stops.items) (trip_named tables.now.trips.items) tables.now) }
-    ensures err { IfErr result (λ fault. fault.kind ≢ FaultKind.OutOfMemory → IsNamingFault (stop_named tables.now.stops.items) (trip_named tables.now.trips.items) tables.now fault) }
+    ensures ok { IfOk result (IsLinked (stop_named tables.now.stops.items) (trip_named tables.now.trips.items)
+        tables.now) }
+    ensures err { IfErr result (λ fault. fault.kind ≢ FaultKind.OutOfMemory
+        → IsNamingFault (stop_named tables.now.stops.items) (trip_named tables.now.trips.items) tables.now fault) }
 {
     let hash = *tables.stop_times.trips.hasher();
     let Ok(names) = stops_by_id(alloc, hash, &tables.stops) else {
@@ -84,7 +88,8 @@ fn link_by(
     places: &IndexMap<&str, u32, IdHash>,
 ) -> Result<Links, TableFault>
     ensures ok { IfOk result (IsLinked (held_at names.now) (held_at places.now) tables.now) }
-    ensures err { IfErr result (λ fault. fault.kind ≢ FaultKind.OutOfMemory → IsNamingFault (held_at names.now) (held_at places.now) tables.now fault) }
+    ensures err { IfErr result (λ fault. fault.kind ≢ FaultKind.OutOfMemory
+        → IsNamingFault (held_at names.now) (held_at places.now) tables.now fault) }
 {
     let Ok(trips) = named_each(alloc, &tables.stop_times.trips, places) else {
         return Err(out_of_memory());
@@ -129,7 +134,8 @@ fn judged_times(
     ensures fine { IfOk result (λ judged. first_fault_of Table.StopTimes (λ row. linked_fault trips.now
         (map (λ id. held_at names.now (string_bytes id)) stop_times.now.stops.keys)
         (is_flex_id stop_times.now.rows.items row.trip) row) stop_times.now.rows.items ≡ None) }
-    ensures stops { IfOk result (λ judged. judged.0.items ≡ map (λ id. held_at names.now (string_bytes id)) stop_times.now.stops.keys) }
+    ensures stops { IfOk result (λ judged. judged.0.items
+        ≡ map (λ id. held_at names.now (string_bytes id)) stop_times.now.stops.keys) }
     ensures flex { IfOk result (λ judged. (id : ℕ) → id < length trips.now
         → slice_index_or judged.1.items id false ≡ is_flex_id stop_times.now.rows.items id) }
     ensures err { IfErr result (λ fault. fault.kind ≢ FaultKind.OutOfMemory
@@ -203,12 +209,17 @@ fn made_of(
     links: Links,
     strict: bool,
 ) -> Result<Made, TableFault>
-    requires flex { (id : ℕ) → id < length links.names.trips.items → slice_index_or links.names.flex.items id false ≡ is_flex_id rows.items id }
+    requires flex { (id : ℕ) → id < length links.names.trips.items
+        → slice_index_or links.names.flex.items id false ≡ is_flex_id rows.items id }
     requires rising { IsSortedBy comes_before (turns_in links.names.trips.items links.order rows.items) }
-    ensures rows { IfOk result (λ made. made.stop_times.items ≡ linked_by links.names.trips.items links.names.stops.items links.order rows.items) }
-    ensures fine { IfOk result (λ made. first_below (trip_fault strict (turns_in links.names.trips.items links.order rows.items)
-        (linked_by links.names.trips.items links.names.stops.items links.order rows.items)) (length trips.items) ≡ None) }
-    ensures trips { IfOk result (λ made. made.trips.items ≡ feed_trips (turns_in links.names.trips.items links.order rows.items)
+    ensures rows { IfOk result (λ made. made.stop_times.items
+        ≡ linked_by links.names.trips.items links.names.stops.items links.order rows.items) }
+    ensures fine { IfOk result (λ made. first_below
+        (trip_fault strict (turns_in links.names.trips.items links.order rows.items)
+        (linked_by links.names.trips.items links.names.stops.items links.order rows.items)) (length trips.items)
+        ≡ None) }
+    ensures trips { IfOk result (λ made. made.trips.items
+        ≡ feed_trips (turns_in links.names.trips.items links.order rows.items)
         (linked_by links.names.trips.items links.names.stops.items links.order rows.items)
         (λ t. slice_index_or links.repeats.items t false) 0 trips.items) }
     ensures stops { (named : List ℕ → Option NamedBy) → links.stations.items ≡ map (station_of named) stops.items
@@ -217,7 +228,8 @@ fn made_of(
     ensures transfers { IfOk result (λ made. links.transfers ≡ Ok made.transfers) }
     ensures err { IfErr result (λ fault. fault.kind ≢ FaultKind.OutOfMemory
         → (first_below (trip_fault strict (turns_in links.names.trips.items links.order rows.items)
-        (linked_by links.names.trips.items links.names.stops.items links.order rows.items)) (length trips.items) ≡ Some fault)
+        (linked_by links.names.trips.items links.names.stops.items links.order rows.items)) (length trips.items)
+        ≡ Some fault)
         ⊎ ((first_below (trip_fault strict (turns_in links.names.trips.items links.order rows.items)
         (linked_by links.names.trips.items links.names.stops.items links.order rows.items)) (length trips.items) ≡ None)
         × (links.transfers ≡ Err fault))) }
@@ -255,17 +267,23 @@ fn timed_rows(
     links: &Links,
     strict: bool,
 ) -> Result<(Vec<StopTimeRow>, Vec<Trip>), TableFault>
-    requires flex { (id : ℕ) → id < length links.now.names.trips.items → slice_index_or links.now.names.flex.items id false ≡ is_flex_id rows.items id }
+    requires flex { (id : ℕ) → id < length links.now.names.trips.items
+        → slice_index_or links.now.names.flex.items id false ≡ is_flex_id rows.items id }
     requires rising { IsSortedBy comes_before (turns_in links.now.names.trips.items links.now.order rows.items) }
-    ensures rows { IfOk result (λ timed. timed.0.items ≡ linked_by links.now.names.trips.items links.now.names.stops.items links.now.order rows.items) }
-    ensures fine { IfOk result (λ timed. first_below (trip_fault strict (turns_in links.now.names.trips.items links.now.order rows.items)
-        (linked_by links.now.names.trips.items links.now.names.stops.items links.now.order rows.items)) (length trips.items) ≡ None) }
-    ensures trips { IfOk result (λ timed. timed.1.items ≡ feed_trips (turns_in links.now.names.trips.items links.now.order rows.items)
+    ensures rows { IfOk result (λ timed. timed.0.items
+        ≡ linked_by links.now.names.trips.items links.now.names.stops.items links.now.order rows.items) }
+    ensures fine { IfOk result (λ timed. first_below
+        (trip_fault strict (turns_in links.now.names.trips.items links.now.order rows.items)
+        (linked_by links.now.names.trips.items links.now.names.stops.items links.now.order rows.items))
+        (length trips.items) ≡ None) }
+    ensures trips { IfOk result (λ timed. timed.1.items
+        ≡ feed_trips (turns_in links.now.names.trips.items links.now.order rows.items)
         (linked_by links.now.names.trips.items links.now.names.stops.items links.now.order rows.items)
         (λ t. slice_index_or links.now.repeats.items t false) 0 trips.items) }
     ensures err { IfErr result (λ fault. fault.kind ≢ FaultKind.OutOfMemory
         → first_below (trip_fault strict (turns_in links.now.names.trips.items links.now.order rows.items)
-        (linked_by links.now.names.trips.items links.now.names.stops.items links.now.order rows.items)) (length trips.items) ≡ Some fault) }
+        (linked_by links.now.names.trips.items links.now.names.stops.items links.now.order rows.items))
+        (length trips.items) ≡ Some fault) }
 {
     let Ok(stop_times) = linked_rows(alloc, rows, &links.order, &links.names) else {
         return Err(out_of_memory());
@@ -294,9 +312,14 @@ fn timed_trips(
 ) -> Result<Vec<Trip>, TableFault>
     requires len { length rows.now ≡ length (turns_by order.now rows.now) }
     requires rising { IsSortedBy comes_before (turns_by order.now rows.now) }
-    ensures fine { IfOk result (λ timed. first_below (trip_fault strict (turns_by order.now rows.now) rows.now) (length trips.items) ≡ None) }
-    ensures ok { IfOk result (λ timed. timed.items ≡ feed_trips (turns_by order.now rows.now) rows.now (λ t. slice_index_or repeats.now t false) 0 trips.items) }
-    ensures err { IfErr result (λ fault. fault.kind ≢ FaultKind.OutOfMemory → first_below (trip_fault strict (turns_by order.now rows.now) rows.now) (length trips.items) ≡ Some fault) }
+    ensures fine { IfOk result (λ timed. first_below (trip_fault strict (turns_by order.now rows.now) rows.now)
+        (length trips.items) ≡ None) }
+    ensures ok { IfOk result (λ timed. timed.items
+        ≡ feed_trips (turns_by order.now rows.now) rows.now (λ t. slice_index_or repeats.now t false) 0
+        trips.items) }
+    ensures err { IfErr result (λ fault. fault.kind ≢ FaultKind.OutOfMemory
+        → first_below (trip_fault strict (turns_by order.now rows.now) rows.now) (length trips.items)
+        ≡ Some fault) }
 {
     let Ok(mut timed) = Vec::with_capacity(alloc, trips.len()) else {
         return Err(out_of_memory());
@@ -357,9 +380,11 @@ fn judge_trip(
 ) -> Result<(), TableFault>
     requires rising { first ≤ end }
     requires within { end ≤ length rows.now }
-    ensures ok { IfOk result (λ _. option_map (told_of (slice_range (turns_by order.now rows.now) first end)) (wrong_first strict (slice_range rows.now first end)) ≡ None) }
+    ensures ok { IfOk result (λ _. option_map (told_of (slice_range (turns_by order.now rows.now) first end))
+        (wrong_first strict (slice_range rows.now first end)) ≡ None) }
     ensures err { IfErr result (λ fault. fault.kind ≢ FaultKind.OutOfMemory
-        → option_map (told_of (slice_range (turns_by order.now rows.now) first end)) (wrong_first strict (slice_range rows.now first end)) ≡ Some fault) }
+        → option_map (told_of (slice_range (turns_by order.now rows.now) first end))
+        (wrong_first strict (slice_range rows.now first end)) ≡ Some fault) }
 {
     match first_wrong(alloc, &rows[first..end], strict) {
         Ok(None) => Ok(()),
@@ -371,7 +396,8 @@ fn judge_trip(
 // The fault of one of a trip's rows, told of its record.
 fn told(order: &RowOrder, first: usize, end: usize, at: usize, kind: FaultKind) -> TableFault
     requires { first ≤ end }
-    ensures { (rows : List LinkedRow) → end ≤ length rows → result ≡ told_of (slice_range (turns_by order.now rows) first end) (at, kind) }
+    ensures { (rows : List LinkedRow) → end ≤ length rows
+        → result ≡ told_of (slice_range (turns_by order.now rows) first end) (at, kind) }
 {
     let row = if at < end - first {
         number_at(order, first + at)

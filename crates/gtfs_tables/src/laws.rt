@@ -11,12 +11,13 @@ ghost use Rattle.gtfs_tables.specs.declared.tables.Tables.{Tables};
 
 /// Rows whose ends have times are spread in one way.
 pub fn spread_times()
-    ensures { (rows : List StopTimeRow) (times : List (ℕ × ℕ)) (k : ℕ) → IsSpread rows times → IsSome (arrival_at rows 0) → IsSome (arrival_at rows (length rows - 1)) → k < length rows
+    ensures { (rows : List StopTimeRow) (times : List (ℕ × ℕ)) (k : ℕ) → IsSpread rows times
+        → IsSome (arrival_at rows 0) → IsSome (arrival_at rows (length rows - 1)) → k < length rows
         → slice_index_or times k (0, 0) ≡ (arrives_spread rows k, departs_spread rows k) }
 {}
 
-/// The trips of a joined feed have their rows among its stop times; those that make connections have times at both ends, and
-/// each of their rows has one of the feed's stops.
+/// The trips of a joined feed have their rows among its stop times; those that make connections
+/// have times at both ends, and each of their rows has one of the feed's stops.
 pub fn joined_is_runnable()
     ensures { (strict : Bool) (t : Tables) (feed : Feed) → IsJoined strict t feed → IsRunnable feed }
 {}

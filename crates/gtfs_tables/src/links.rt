@@ -1,11 +1,15 @@
 //! The rows of the tables, each id replaced by what it names, or the first of each that names nothing.
 
-ghost use Rattle.std.specs.Prelude.{◌≡◌, ◌≢◌, ◌<◌, ℕ, length, map, filter, IfOk, IfErr, IfSome, None, Some, is_some, slice_index_or, slice_set, true, false, not, count_by};
+ghost use Rattle.std.specs.Prelude.{◌≡◌, ◌≢◌, ◌<◌, ℕ, length, map, filter, IfOk, IfErr, IfSome, None, Some};
+ghost use Rattle.std.specs.Prelude.{is_some, slice_index_or, slice_set, true, false, not, count_by};
 ghost use Rattle.std.specs.List.{AllZip};
 ghost use Rattle.gtfs_tables.specs.First.{fault_at as fault_of, first_fault_of};
 ghost use Rattle.gtfs_tables.specs.Names.{held_at, named_at};
 ghost use Rattle.gtfs_tables.specs.Order.{row_of, turns_in};
-ghost use Rattle.gtfs_tables.specs.Rows.{IsTransferOf, ends_fault, end_fault, frequency_fault, frequency_of, is_flex_id, is_kept, is_repeated, linked_fault, linked_row, named_by, parent_fault, station_of, stop_fault, stop_number, stop_of, transfer_fault};
+ghost use Rattle.gtfs_tables.specs.Rows.{IsTransferOf, ends_fault, end_fault, frequency_fault, frequency_of};
+ghost use Rattle.gtfs_tables.specs.Rows.{is_flex_id, is_kept, is_repeated, linked_fault, linked_row, named_by};
+ghost use Rattle.gtfs_tables.specs.Rows.{parent_fault, station_of, stop_fault, stop_number, stop_of};
+ghost use Rattle.gtfs_tables.specs.Rows.{transfer_fault};
 
 use crate::names::Named;
 use crate::order::{RowOrder, Turn};
@@ -17,7 +21,8 @@ use gtfs_rows::{
 use indexmap::IndexMap;
 use std::alloc::{AllocError, Global};
 
-// What the ids of stop_times.txt name: its trip_ids and its stop_ids, and which of the trip_ids have a row without a stop.
+// What the ids of stop_times.txt name: its trip_ids and its stop_ids, and which of the trip_ids
+// have a row without a stop.
 #[derive(Drop)]
 pub(crate) struct RowNames {
     pub(crate) trips: Vec<Option<u32>>,
@@ -78,9 +83,11 @@ pub(crate) fn stations(
     stops: &[StopRow],
     names: &IndexMap<&str, Named, IdHash>,
 ) -> Result<Vec<Option<u32>>, TableFault>
-    ensures fine { IfOk result (λ found. first_fault_of Table.Stops (parent_fault (held_at names.now)) stops.now ≡ None) }
+    ensures fine { IfOk result (λ found. first_fault_of Table.Stops (parent_fault (held_at names.now)) stops.now
+        ≡ None) }
     ensures ok { IfOk result (λ found. found.items ≡ map (station_of (held_at names.now)) stops.now) }
-    ensures err { IfErr result (λ fault. fault.kind ≢ FaultKind.OutOfMemory → first_fault_of Table.Stops (parent_fault (held_at names.now)) stops.now ≡ Some fault) }
+    ensures err { IfErr result (λ fault. fault.kind ≢ FaultKind.OutOfMemory
+        → first_fault_of Table.Stops (parent_fault (held_at names.now)) stops.now ≡ Some fault) }
 {
     let Ok(mut found) = Vec::with_capacity(alloc, stops.len()) else {
         return Err(out_of_memory());
@@ -146,8 +153,10 @@ pub(crate) fn judge_rows(
     flex: &[bool],
 ) -> Result<(), TableFault>
     requires { (id : ℕ) → id < length trips.now → slice_index_or flex.now id false ≡ is_flex_id rows.now id }
-    ensures ok { IfOk result (λ _. first_fault_of Table.StopTimes (λ row. linked_fault trips.now stops.now (is_flex_id rows.now row.trip) row) rows.now ≡ None) }
-    ensures err { IfErr result (λ fault. first_fault_of Table.StopTimes (λ row. linked_fault trips.now stops.now (is_flex_id rows.now row.trip) row) rows.now ≡ Some fault) }
+    ensures ok { IfOk result (λ _. first_fault_of Table.StopTimes
+        (λ row. linked_fault trips.now stops.now (is_flex_id rows.now row.trip) row) rows.now ≡ None) }
+    ensures err { IfErr result (λ fault. first_fault_of Table.StopTimes
+        (λ row. linked_fault trips.now stops.now (is_flex_id rows.now row.trip) row) rows.now ≡ Some fault) }
 {
     for (place, row) in rows.iter().enumerate() {
         if let Some(kind) = wrong_link(row, trips, stops, flex_at(flex, row.trip as usize)) {
@@ -204,15 +213,16 @@ fn linked(
     }
 }
 
-// The rows in their order, each with its trip's place and its stop's number. Rows that are in order already stay where they
-// are.
+// The rows in their order, each with its trip's place and its stop's number. Rows that are in order
+// already stay where they are.
 pub(crate) fn linked_rows(
     alloc: Global,
     rows: Vec<StopTimeRow>,
     order: &RowOrder,
     names: &RowNames,
 ) -> Result<Vec<StopTimeRow>, AllocError>
-    requires { (id : ℕ) → id < length names.now.trips.items → slice_index_or names.now.flex.items id false ≡ is_flex_id rows.items id }
+    requires { (id : ℕ) → id < length names.now.trips.items
+        → slice_index_or names.now.flex.items id false ≡ is_flex_id rows.items id }
     ensures { IfOk result (λ ordered. ordered.items ≡ map (λ turn. let row = row_of rows.items turn.number in
         linked_row names.now.trips.items names.now.stops.items (is_flex_id rows.items row.trip) row) (turns_in names.now.trips.items order.now rows.items)) }
 {
@@ -224,8 +234,10 @@ pub(crate) fn linked_rows(
 
 // The rows, each with its trip's place and its stop's number.
 fn linked_in_place(mut rows: Vec<StopTimeRow>, names: &RowNames) -> Vec<StopTimeRow>
-    requires { (id : ℕ) → id < length names.now.trips.items → slice_index_or names.now.flex.items id false ≡ is_flex_id rows.items id }
-    ensures { result.items ≡ map (λ row. linked_row names.now.trips.items names.now.stops.items (is_flex_id rows.items row.trip) row) rows.items }
+    requires { (id : ℕ) → id < length names.now.trips.items
+        → slice_index_or names.now.flex.items id false ≡ is_flex_id rows.items id }
+    ensures { result.items ≡ map (λ row. linked_row names.now.trips.items names.now.stops.items
+        (is_flex_id rows.items row.trip) row) rows.items }
 {
     for at in 0..rows.len() {
         let row = rows[at];
@@ -236,7 +248,8 @@ fn linked_in_place(mut rows: Vec<StopTimeRow>, names: &RowNames) -> Vec<StopTime
 
 // A row with its trip's place and its stop's number, where flex trips are marked.
 fn linked_marked(row: &StopTimeRow, names: &RowNames) -> StopTimeRow
-    ensures { result ≡ linked_row names.now.trips.items names.now.stops.items (slice_index_or names.now.flex.items row.now.trip false) row.now }
+    ensures { result ≡ linked_row names.now.trips.items names.now.stops.items
+        (slice_index_or names.now.flex.items row.now.trip false) row.now }
 {
     let flex = flex_at(&names.flex, row.trip as usize);
     linked(row, &names.trips, &names.stops, flex)
@@ -249,7 +262,8 @@ fn linked_by_turns(
     turns: &[Turn],
     names: &RowNames,
 ) -> Result<Vec<StopTimeRow>, AllocError>
-    requires { (id : ℕ) → id < length names.now.trips.items → slice_index_or names.now.flex.items id false ≡ is_flex_id rows.now id }
+    requires { (id : ℕ) → id < length names.now.trips.items
+        → slice_index_or names.now.flex.items id false ≡ is_flex_id rows.now id }
     ensures { IfOk result (λ ordered. ordered.items ≡ map (λ turn. let row = row_of rows.now turn.number in
         linked_row names.now.trips.items names.now.stops.items (is_flex_id rows.now row.trip) row) turns.now) }
 {
@@ -288,10 +302,13 @@ pub(crate) fn repeating(
     places: &IndexMap<&str, u32, IdHash>,
     trips: usize,
 ) -> Result<Vec<bool>, TableFault>
-    ensures fine { IfOk result (λ repeats. first_fault_of Table.Frequencies (frequency_fault (held_at places.now)) frequencies.now ≡ None) }
-    ensures ok { IfOk result (λ repeats. (t : ℕ) → t < trips → slice_index_or repeats.items t false ≡ is_repeated (held_at places.now) frequencies.now t) }
+    ensures fine { IfOk result (λ repeats. first_fault_of Table.Frequencies (frequency_fault (held_at places.now))
+        frequencies.now ≡ None) }
+    ensures ok { IfOk result (λ repeats. (t : ℕ) → t < trips
+        → slice_index_or repeats.items t false ≡ is_repeated (held_at places.now) frequencies.now t) }
     ensures len { IfOk result (λ repeats. length repeats.items ≡ trips) }
-    ensures err { IfErr result (λ fault. fault.kind ≢ FaultKind.OutOfMemory → first_fault_of Table.Frequencies (frequency_fault (held_at places.now)) frequencies.now ≡ Some fault) }
+    ensures err { IfErr result (λ fault. fault.kind ≢ FaultKind.OutOfMemory
+        → first_fault_of Table.Frequencies (frequency_fault (held_at places.now)) frequencies.now ≡ Some fault) }
 {
     let Ok(mut repeats) = vec![in alloc; false; trips] else {
         return Err(out_of_memory());
@@ -348,9 +365,11 @@ pub(crate) fn transfers(
     rows: &[TransferRow],
     names: &IndexMap<&str, Named, IdHash>,
 ) -> Result<Vec<Transfer>, TableFault>
-    ensures fine { IfOk result (λ kept. first_fault_of Table.Transfers (transfer_fault (held_at names.now)) rows.now ≡ None) }
+    ensures fine { IfOk result (λ kept. first_fault_of Table.Transfers (transfer_fault (held_at names.now)) rows.now
+        ≡ None) }
     ensures ok { IfOk result (λ kept. AllZip (IsTransferOf (held_at names.now)) (filter is_kept rows.now) kept.items) }
-    ensures err { IfErr result (λ fault. fault.kind ≢ FaultKind.OutOfMemory → first_fault_of Table.Transfers (transfer_fault (held_at names.now)) rows.now ≡ Some fault) }
+    ensures err { IfErr result (λ fault. fault.kind ≢ FaultKind.OutOfMemory
+        → first_fault_of Table.Transfers (transfer_fault (held_at names.now)) rows.now ≡ Some fault) }
 {
     let mut kept = Vec::new(alloc);
     for (place, row) in rows.iter().enumerate() {

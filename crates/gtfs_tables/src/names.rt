@@ -70,7 +70,8 @@ fn add_first<'a, T: Copy>(
     id: &'a str,
     name: T,
 ) -> Result<(), AllocError>
-    ensures { OnOk result ((q : List ℕ) → held_at names.new q ≡ option_or (held_at names.old q) (if bytes_eq q id.now then Some name else None)) }
+    ensures { OnOk result ((q : List ℕ) → held_at names.new q
+        ≡ option_or (held_at names.old q) (if bytes_eq q id.now then Some name else None)) }
 {
     if let Some(first) = names.insert(id, name)? {
         names.insert(id, first)?;

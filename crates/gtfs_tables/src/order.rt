@@ -98,7 +98,8 @@ pub(crate) fn trip_at(rows: &[StopTimeRow], order: &RowOrder, at: usize) -> u32
 
 pub(crate) fn number_at(order: &RowOrder, at: usize) -> u64
     requires { at < usize.MAX }
-    ensures { (rows : List FiledRow) → at < length rows → result ≡ slice_index_or (map (λ turn. turn.number) (turns_by order.now rows)) at 0 }
+    ensures { (rows : List FiledRow) → at < length rows
+        → result ≡ slice_index_or (map (λ turn. turn.number) (turns_by order.now rows)) at 0 }
 {
     match order {
         RowOrder::Filed => at as u64 + 1,

@@ -12,7 +12,8 @@ ghost use Rattle.gtfs_tables.specs.declared.tables.Tables.{Tables};
 
 /// The rows of stop times have one order.
 pub fn one_order()
-    ensures { (trips : List (Option ℕ)) (rows : List StopTimeRow) (a b : List Turn) → IsInOrder trips rows a → IsInOrder trips rows b → a ≡ b }
+    ensures { (trips : List (Option ℕ)) (rows : List StopTimeRow) (a b : List Turn) → IsInOrder trips rows a
+        → IsInOrder trips rows b → a ≡ b }
 {}
 
 /// Tables have one first fault at most.
@@ -22,7 +23,8 @@ pub fn one_fault()
 
 /// Tables that can be joined have no fault.
 pub fn joined_without_fault()
-    ensures { (strict : Bool) (t : Tables) (feed : Feed) (fault : Fault) → IsJoined strict t feed → ¬ (IsFirstFault strict t fault) }
+    ensures { (strict : Bool) (t : Tables) (feed : Feed) (fault : Fault) → IsJoined strict t feed
+        → ¬ (IsFirstFault strict t fault) }
 {}
 
 /// Tables have one feed at most.

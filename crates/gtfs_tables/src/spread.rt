@@ -1,6 +1,7 @@
 //! The times of a trip's rows, spread over its blank ones.
 
-ghost use Rattle.std.specs.Prelude.{◌≡◌, ◌+◌, ◌-◌, ◌*◌, ◌/◌, ◌<◌, ◌≤◌, ℕ, None, Some, length, slice_index_or, IfOk, IsSome, OnOk};
+ghost use Rattle.std.specs.Prelude.{◌≡◌, ◌+◌, ◌-◌, ◌*◌, ◌/◌, ◌<◌, ◌≤◌, ℕ, None, Some, length, slice_index_or, IfOk};
+ghost use Rattle.std.specs.Prelude.{IsSome, OnOk};
 ghost use Rattle.gtfs_tables.specs.Spread.{IsSpread, arrival_at, departure_at, part_of};
 
 use gtfs_rows::StopTimeRow;
@@ -53,10 +54,16 @@ fn add_times(
     requires to { next < length rows.now → IsSome (arrival_at rows.now next) }
     requires end { length rows.now ≤ next → at + 1 ≡ next }
     ensures len { OnOk result (length times.new.items ≡ length times.old.items + (next - at)) }
-    ensures kept { OnOk result ((i : ℕ) → i < length times.old.items → slice_index_or times.new.items i (0, 0) ≡ slice_index_or times.old.items i (0, 0)) }
-    ensures given { (a d : ℕ) → arrival_at rows.now at ≡ Some a → departure_at rows.now at ≡ Some d → OnOk result (slice_index_or times.new.items (length times.old.items) (0, 0) ≡ (a, d)) }
-    ensures blank { (d b : ℕ) → departure_at rows.now at ≡ Some d → arrival_at rows.now next ≡ Some b → OnOk result ((j : ℕ) → 0 < j → j < next - at
-        → slice_index_or times.new.items (length times.old.items + j) (0, 0) ≡ (part_of d b (next - at) j, part_of d b (next - at) j)) }
+    ensures kept { OnOk result ((i : ℕ) → i < length times.old.items
+        → slice_index_or times.new.items i (0, 0) ≡ slice_index_or times.old.items i (0, 0)) }
+    ensures given { (a d : ℕ) → arrival_at rows.now at ≡ Some a → departure_at rows.now at ≡ Some d
+        → OnOk result (slice_index_or times.new.items (length times.old.items) (0, 0) ≡ (a, d)) }
+    ensures blank { (d b : ℕ) → departure_at rows.now at ≡ Some d → arrival_at rows.now next ≡ Some b
+        → OnOk result ((j : ℕ) → 0 < j → j < next - at
+        → slice_index_or times.new.items (length times.old.items + j) (0, 0) ≡ (
+          part_of d b (next - at) j,
+          part_of d b (next - at) j,
+        )) }
 {
     let Some(arrives) = arrival(rows, at) else {
         unreachable!();
@@ -83,9 +90,13 @@ fn add_parts(
 ) -> Result<(), AllocError>
     requires { 0 < parts }
     ensures len { OnOk result (length times.new.items + 1 ≡ length times.old.items + parts) }
-    ensures kept { OnOk result ((i : ℕ) → i < length times.old.items → slice_index_or times.new.items i (0, 0) ≡ slice_index_or times.old.items i (0, 0)) }
+    ensures kept { OnOk result ((i : ℕ) → i < length times.old.items
+        → slice_index_or times.new.items i (0, 0) ≡ slice_index_or times.old.items i (0, 0)) }
     ensures parts { OnOk result ((j : ℕ) → 0 < j → j < parts
-        → slice_index_or times.new.items (length times.old.items + j - 1) (0, 0) ≡ (part_of from to parts j, part_of from to parts j)) }
+        → slice_index_or times.new.items (length times.old.items + j - 1) (0, 0) ≡ (
+          part_of from to parts j,
+          part_of from to parts j,
+        )) }
 {
     for j in 1..parts {
         let time = part(from, to, parts, j);

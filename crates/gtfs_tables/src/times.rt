@@ -1,9 +1,13 @@
-//! What can be wrong with the times of a trip: a sequence twice, an end without a time, times that go back, no duration.
+//! What can be wrong with the times of a trip: a sequence twice, an end without a time, times that
+//! go back, no duration.
 
 ghost use Rattle.std.specs.Prelude.{◌≡◌, ◌<◌, ◌≤◌, ◌-◌, ◌+◌, ℕ, length, IfOk, None, Some, nat_lt, slice_index_or};
 ghost use Rattle.gtfs_tables.specs.First.{first_place};
 ghost use Rattle.gtfs_tables.specs.Spread.{arrival_at, departure_at};
-ghost use Rattle.gtfs_tables.specs.Times.{departed_before, end_without_time as end_untimed, first_wrong as wrong_first, goes_back, has_no_duration, is_back as back, is_flex as flex_of, is_short, is_twice, wrong_at, wrong_given as given_wrong, wrong_times};
+ghost use Rattle.gtfs_tables.specs.Times.{departed_before, end_without_time as end_untimed};
+ghost use Rattle.gtfs_tables.specs.Times.{first_wrong as wrong_first, goes_back, has_no_duration, is_back as back};
+ghost use Rattle.gtfs_tables.specs.Times.{is_flex as flex_of, is_short, is_twice, wrong_at};
+ghost use Rattle.gtfs_tables.specs.Times.{wrong_given as given_wrong, wrong_times};
 
 use crate::spread::{arrival, departure, spread};
 use gtfs_rows::{FaultKind, StopTimeRow};
@@ -60,7 +64,8 @@ fn wrong_spread(
 ) -> Result<Option<(usize, FaultKind)>, AllocError>
     requires some { 0 < length rows.now }
     requires fine { given_wrong rows.now ≡ None }
-    ensures { IfOk result (λ wrong. wrong ≡ wrong_at FaultKind.HopWithoutDuration (first_place (has_no_duration rows.now) (length rows.now))) }
+    ensures { IfOk result (λ wrong. wrong ≡ wrong_at FaultKind.HopWithoutDuration
+        (first_place (has_no_duration rows.now) (length rows.now))) }
 {
     let times = spread(alloc, rows)?;
     match no_duration(&times) {

@@ -32,7 +32,8 @@ climbs_from : (low : ℕ) (xs : List ℕ) → ((d : ℕ) → 0 < length xs → l
 climbs_from low [] first sorted = ⋆
 climbs_from low (x ∷ xs) first sorted = (
   first 0 (omega arith),
-  climbs_from x xs (λ d some. sorted 0 1 d (omega arith) (omega (arith, some))) (λ i j d le less. sorted (suc i) (suc j) d (omega (arith, le)) (omega (arith, less))),
+  climbs_from x xs (λ d some. sorted 0 1 d (omega arith) (omega (arith, some)))
+      (λ i j d le less. sorted (suc i) (suc j) d (omega (arith, le)) (omega (arith, less))),
 )
 
 -- behind the last entry of a day all are later

@@ -13,9 +13,11 @@ use timetable::Clock;
 /// The seconds of a day of UTC.
 const DAY: i64 = 86400;
 
-/// Adds an instant: in seconds after 1970-01-01T00:00:00Z, and as a date and a time of UTC if its year is one of -9999 to 9999.
+/// Adds an instant: in seconds after 1970-01-01T00:00:00Z, and as a date and a time of UTC if its
+/// year is one of -9999 to 9999.
 pub fn append_base(lines: &mut String, base: i64) -> Result<(), AllocError>
-    ensures { OnOk result ((text : List ℕ) × HasBase base text × (string_bytes lines.new ≡ string_bytes lines.old ++ text)) }
+    ensures { OnOk result ((text : List ℕ) × HasBase base text
+        × (string_bytes lines.new ≡ string_bytes lines.old ++ text)) }
 {
     append_seconds(lines, base)?;
     append_utc(lines, base)?;
@@ -34,7 +36,8 @@ fn append_seconds(lines: &mut String, base: i64) -> Result<(), AllocError>
 
 // Adds an instant as a date and a time.
 fn append_utc(lines: &mut String, instant: i64) -> Result<(), AllocError>
-    ensures { OnOk result ((line : List ℕ) × IsUtcLine instant line × (string_bytes lines.new ≡ string_bytes lines.old ++ line)) }
+    ensures { OnOk result ((line : List ℕ) × IsUtcLine instant line
+        × (string_bytes lines.new ≡ string_bytes lines.old ++ line)) }
 {
     let second = second_of(instant);
     match Date::from_unix_epoch_day(instant.div_euclid(DAY)) {

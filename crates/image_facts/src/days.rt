@@ -11,7 +11,8 @@ use std::alloc::AllocError;
 /// Adds a line for each day of a list in order, the earliest first, with how many entries the day has.
 pub fn append_days(lines: &mut String, days: &[u32]) -> Result<(), AllocError>
     requires { IsNonDecreasing days.now }
-    ensures { OnOk result ((text : List ℕ) × HasDays days.now text × (string_bytes lines.new ≡ string_bytes lines.old ++ text)) }
+    ensures { OnOk result ((text : List ℕ) × HasDays days.now text
+        × (string_bytes lines.new ≡ string_bytes lines.old ++ text)) }
 {
     append_entries(lines, days)
 }

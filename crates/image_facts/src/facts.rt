@@ -13,9 +13,9 @@ use image_layout::Header;
 use image_verifier::Verified;
 use std::alloc::{AllocError, Global};
 
-/// The lines of an image: its layout, its bytes, its base as a number and as a date and a time of UTC, how many stops,
-/// trips, connections and footpaths it has, the bytes of its names, and how many trips each of its service days has, the
-/// earliest first.
+/// The lines of an image: its layout, its bytes, its base as a number and as a date and a time of
+/// UTC, how many stops, trips, connections and footpaths it has, the bytes of its names, and how
+/// many trips each of its service days has, the earliest first.
 pub fn facts_of(alloc: Global, image: &Verified) -> Result<String, AllocError>
     ensures { IfOk result (λ lines. AreFacts image.now (string_bytes lines)) }
 {

@@ -72,8 +72,8 @@ fn fill<R: Read>(reader: &mut R, piece: &mut [u8]) -> io::Result<usize>
     Err(io::Error::from(io::ErrorKind::TimedOut))
 }
 
-/// The words that a reader's bytes spell, least byte first; they come by pieces of whole words, and `ahead` is how many words are
-/// expected.
+/// The words that a reader's bytes spell, least byte first; they come by pieces of whole words, and
+/// `ahead` is how many words are expected.
 fn words_of<R: Read>(
     alloc: Global,
     reader: &mut R,
@@ -82,7 +82,8 @@ fn words_of<R: Read>(
 ) -> Result<Vec<u32>, ImageFileFault>
     requires { length piece.old % 4 ≡ 0 }
     ensures spelled { IfOk result (λ words. IfSome (R.remaining reader.old) (λ bytes. bytes_of words.items ≡ bytes)) }
-    ensures odd { result ≡ Err ImageFileFault.OddLength → IfSome (R.remaining reader.old) (λ bytes. length bytes % 4 ≢ 0) }
+    ensures odd { result ≡ Err ImageFileFault.OddLength
+        → IfSome (R.remaining reader.old) (λ bytes. length bytes % 4 ≢ 0) }
 {
     let mut words = Vec::with_capacity(alloc, ahead)?;
     'pieces: for _ in 0..u64::MAX {

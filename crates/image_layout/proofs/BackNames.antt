@@ -1,5 +1,7 @@
 -- An image shows the names that it was spelled from.
-use Rattle.std.proofs.Common.{◌≡◌, ℕ, zero, suc, ◌+◌, ◌-◌, ◌*◌, ◌/◌, ◌%◌, ◌^◌, ◌<◌, ◌≤◌, Bool, true, false, ◌||◌, cond, eqb, List, [], ◌∷◌, ◌++◌, length, get_or, take, drop, map, Some, refl, sym, ap, ◌∙◌, arith, inl, inr}
+use Rattle.std.proofs.Common.{◌≡◌, ℕ, zero, suc, ◌+◌, ◌-◌, ◌*◌, ◌/◌, ◌%◌, ◌^◌, ◌<◌, ◌≤◌, Bool, true, false, ◌||◌, cond}
+use Rattle.std.proofs.Common.{eqb, List, [], ◌∷◌, ◌++◌, length, get_or, take, drop, map, Some, refl, sym, ap, ◌∙◌}
+use Rattle.std.proofs.Common.{arith, inl, inr}
 use Rattle.std.specs.Prelude.{ℤ, slice_get, slice_index, slice_range}
 use Rattle.std.specs.List.{flat_map, concat, range_with_len, list_all}
 use Rattle.std.specs.Int.{w32, w64, to_le_bytes, from_le_bytes, cast_signed, cast_unsigned}
@@ -8,7 +10,8 @@ use Rattle.std.proofs.lemmas.Int.{to_z-of_z}
 use Rattle.std.proofs.lemmas.Nat.{le_bytes_4}
 use Rattle.std.proofs.lemmas.Option.{slice_get-get_or, slice_get_within}
 use Rattle.std.proofs.Math.Seq.{drop-append-add}
-use Rattle.std.proofs.lemmas.List.{take_all, append_assoc, append-nil, length-append, length-map, take_at, drop_at, get_or_append_left, get_or-append_right, get_or-map}
+use Rattle.std.proofs.lemmas.List.{take_all, append_assoc, append-nil, length-append, length-map, take_at, drop_at}
+use Rattle.std.proofs.lemmas.List.{get_or_append_left, get_or-append_right, get_or-map}
 use Rattle.std.proofs.lemmas.List.FromFn.{fill_by_all, length-map-range_with_len, get_or-map-range_with_len}
 use Rattle.timetable.specs.TimetableValue.{TimetableValue}
 use Rattle.timetable.specs.NamesValue.{NamesValue, TripNameValue}
@@ -16,7 +19,8 @@ use Rattle.image_layout.specs.declared.layout.TheConstants.{FIRST_LAYOUT, LAYOUT
 use Rattle.image_layout.specs.Places.{is_layout, header_of, name_index_place, day_place, repeat_place, text_place}
 use Rattle.image_layout.specs.Fields.{name_index_of, day_of, repeat_of}
 use Rattle.image_layout.specs.Text.{bytes_of, padded_text_of}
-use Rattle.image_layout.specs.Spelling.{connection_words, footpath_words, footpath_count_below, foot_index, name_list, byte_count_before, name_index, text, text_words, repeats_in, image_in}
+use Rattle.image_layout.specs.Spelling.{connection_words, footpath_words, footpath_count_below, foot_index, name_list}
+use Rattle.image_layout.specs.Spelling.{byte_count_before, name_index, text, text_words, repeats_in, image_in}
 use Rattle.image_layout.specs.Shown.{connection_of, name_of, trip_name_of, names_of}
 use Rattle.image_layout.specs.Image.{AreFirst, HasImage}
 use Rattle.image_layout.proofs.Spelled.{flags_back, skip, word_in, pieces_long, from_repeats, from_days, from_names, from_footpaths, from_foot_index}
@@ -58,7 +62,8 @@ open_words (a ∷ b ∷ c ∷ d ∷ rest) h =
     }
 
 -- name i of names set end to end, whatever follows
-name_there : (ns : List (List ℕ)) (rest : List ℕ) (i : ℕ) (name : List ℕ) → slice_get ns i ≡ Some name → slice_range (concat ns ++ rest) (byte_count_before ns i) (byte_count_before ns (i + 1)) ≡ name
+name_there : (ns : List (List ℕ)) (rest : List ℕ) (i : ℕ) (name : List ℕ) → slice_get ns i ≡ Some name
+    → slice_range (concat ns ++ rest) (byte_count_before ns i) (byte_count_before ns (i + 1)) ≡ name
 name_there [] rest i name e = absurd cc
 name_there (x ∷ xs) rest zero name e =
     let same : x ≡ name = cc in
@@ -68,8 +73,10 @@ name_there (x ∷ xs) rest zero name e =
 name_there (x ∷ xs) rest (suc i) name e =
     let k : suc i + 1 ≡ suc (i + 1) = omega arith in
     let before : byte_count_before (x ∷ xs) (suc i) ≡ length x + byte_count_before xs i = length-append x (concat (take i xs)) in
-    let after : byte_count_before (x ∷ xs) (suc i + 1) ≡ length x + byte_count_before xs (i + 1) = ap (λ (j : ℕ). byte_count_before (x ∷ xs) j) k ∙ length-append x (concat (take (i + 1) xs)) in
-    let long : byte_count_before (x ∷ xs) (suc i + 1) - byte_count_before (x ∷ xs) (suc i) ≡ byte_count_before xs (i + 1) - byte_count_before xs i = omega (arith, before, after) in
+    let after : byte_count_before (x ∷ xs) (suc i + 1) ≡ length x + byte_count_before xs (i + 1) =
+    ap (λ (j : ℕ). byte_count_before (x ∷ xs) j) k ∙ length-append x (concat (take (i + 1) xs)) in
+    let long : byte_count_before (x ∷ xs) (suc i + 1) - byte_count_before (x ∷ xs) (suc i)
+    ≡ byte_count_before xs (i + 1) - byte_count_before xs i = omega (arith, before, after) in
     let at : drop (byte_count_before (x ∷ xs) (suc i)) ((x ++ concat xs) ++ rest) ≡ drop (byte_count_before xs i) (concat xs ++ rest) =
     ap (λ (j : ℕ). drop j ((x ++ concat xs) ++ rest)) before
     ∙ ap (λ (t : List ℕ). drop (length x + byte_count_before xs i) t) (append_assoc x (concat xs) rest)
@@ -98,11 +105,21 @@ behind layout p n can =
     let place4 : ℕ = place3 + (length (name_list n) + 1) in
     let place5 : ℕ = place4 + length n.trips in
     let place6 : ℕ = place5 + length (repeats_in layout n) in
-    let at1 : drop place1 w ≡ from_foot_index layout p n = skip w connections (from_foot_index layout p n) 9 (6 * length p.connections) (pieces_long connection_words 6 (λ x. refl) p.connections) refl in
-    let at2 : drop place2 w ≡ from_footpaths layout p n = skip w (foot_index p) (from_footpaths layout p n) place1 (p.stops + 1) (length-map-range_with_len (footpath_count_below p.footpaths) 0 (p.stops + 1)) at1 in
-    let at3 : drop place3 w ≡ from_names layout n = skip w feet (from_names layout n) place2 (2 * length p.footpaths) (pieces_long footpath_words 2 (λ x. refl) p.footpaths) at2 in
-    let at4 : drop place4 w ≡ from_days layout n = skip w (name_index n) (from_days layout n) place3 (length (name_list n) + 1) (length-map-range_with_len (byte_count_before (name_list n)) 0 (length (name_list n) + 1)) at3 in
-    let at5 : drop place5 w ≡ from_repeats layout n = skip w days (from_repeats layout n) place4 (length n.trips) (length-map n.trips (λ (t : TripNameValue). t.day)) at4 in
+    let at1 : drop place1 w ≡ from_foot_index layout p n =
+    skip w connections (from_foot_index layout p n) 9 (6 * length p.connections)
+    (pieces_long connection_words 6 (λ x. refl) p.connections) refl in
+    let at2 : drop place2 w ≡ from_footpaths layout p n =
+    skip w (foot_index p) (from_footpaths layout p n) place1 (p.stops + 1)
+    (length-map-range_with_len (footpath_count_below p.footpaths) 0 (p.stops + 1)) at1 in
+    let at3 : drop place3 w ≡ from_names layout n =
+    skip w feet (from_names layout n) place2 (2 * length p.footpaths)
+    (pieces_long footpath_words 2 (λ x. refl) p.footpaths) at2 in
+    let at4 : drop place4 w ≡ from_days layout n =
+    skip w (name_index n) (from_days layout n) place3 (length (name_list n) + 1)
+    (length-map-range_with_len (byte_count_before (name_list n)) 0 (length (name_list n) + 1)) at3 in
+    let at5 : drop place5 w ≡ from_repeats layout n =
+    skip w days (from_repeats layout n) place4 (length n.trips)
+    (length-map n.trips (λ (t : TripNameValue). t.day)) at4 in
     let at6 : drop place6 w ≡ text_words (text n) = skip w (repeats_in layout n) (text_words (text n)) place5 (length (repeats_in layout n)) refl at5 in
     let many = length-name_list p n can in
     let e3 : name_index_place (header_of w) ≡ place3 = omega arith in
@@ -116,13 +133,16 @@ behind layout p n can =
       text = ap (λ (k : ℕ). drop k w) e6 ∙ at6;
     }
 
-pub name_index_back : (layout : ℕ) (p : TimetableValue) (n : NamesValue) → HasImage p n → (i : ℕ) → i ≤ length (name_list n) → name_index_of (image_in layout p n) i ≡ byte_count_before (name_list n) i
+pub name_index_back : (layout : ℕ) (p : TimetableValue) (n : NamesValue) → HasImage p n → (i : ℕ)
+    → i ≤ length (name_list n) → name_index_of (image_in layout p n) i ≡ byte_count_before (name_list n) i
 name_index_back layout p n can i le =
     let size = length-map-range_with_len (byte_count_before (name_list n)) 0 (length (name_list n) + 1) in
-    word_in (image_in layout p n) (name_index n) (from_days layout n) (name_index_place (header_of (image_in layout p n))) i (behind layout p n can).index (omega (arith, size))
+    word_in (image_in layout p n) (name_index n) (from_days layout n)
+    (name_index_place (header_of (image_in layout p n))) i (behind layout p n can).index (omega (arith, size))
     ∙ get_or-map-range_with_len (byte_count_before (name_list n)) 0 (length (name_list n) + 1) i i 0 (omega arith) (omega arith)
 
-pub name_back : (layout : ℕ) (p : TimetableValue) (n : NamesValue) → HasImage p n → (i : ℕ) (name : List ℕ) → slice_get (name_list n) i ≡ Some name → name_of (image_in layout p n) i ≡ name
+pub name_back : (layout : ℕ) (p : TimetableValue) (n : NamesValue) → HasImage p n → (i : ℕ) (name : List ℕ)
+    → slice_get (name_list n) i ≡ Some name → name_of (image_in layout p n) i ≡ name
 name_back layout p n can i name e =
     let open_text = open_words (text n) (concat_are_bytes (name_list n) can.names.utf8) in
     let t : padded_text_of (image_in layout p n) ≡ text n ++ open_text.spare = ap bytes_of (behind layout p n can).text ∙ open_text.is in
@@ -131,10 +151,12 @@ name_back layout p n can i name e =
     let next = name_index_back layout p n can (i + 1) (omega arith) in
     rw (t, first, next) (name_there (name_list n) open_text.spare i name e)
 
-day_back : (layout : ℕ) (p : TimetableValue) (n : NamesValue) → HasImage p n → (i : ℕ) → i < length n.trips → (d : TripNameValue) → day_of (image_in layout p n) i ≡ (get_or n.trips i d).day
+day_back : (layout : ℕ) (p : TimetableValue) (n : NamesValue) → HasImage p n → (i : ℕ) → i < length n.trips
+    → (d : TripNameValue) → day_of (image_in layout p n) i ≡ (get_or n.trips i d).day
 day_back layout p n can i lt d =
     let size = length-map n.trips (λ (t : TripNameValue). t.day) in
-    word_in (image_in layout p n) (map (λ (t : TripNameValue). t.day) n.trips) (from_repeats layout n) (day_place (header_of (image_in layout p n))) i (behind layout p n can).days (omega (arith, size))
+    word_in (image_in layout p n) (map (λ (t : TripNameValue). t.day) n.trips) (from_repeats layout n)
+    (day_place (header_of (image_in layout p n))) i (behind layout p n can).days (omega (arith, size))
     ∙ get_or-map (λ (t : TripNameValue). t.day) n.trips i d 0 lt
 
 -- what is read and isn't the layout that is written is the first one
@@ -158,7 +180,8 @@ repeat_back layout p n known first can i lt d =
           let section : repeats_in layout n ≡ repeats = ap (λ (b : Bool). cond {A = List ℕ} b repeats []) has in
           let size = length-map n.trips (λ (t : TripNameValue). t.repeat) in
           ap (λ (b : Bool). cond {A = ℕ} b word 0) has
-          ∙ word_in w (repeats_in layout n) (text_words (text n)) (repeat_place (header_of w)) i (behind layout p n can).repeats (omega (arith, size, ap length section))
+          ∙ word_in w (repeats_in layout n) (text_words (text n)) (repeat_place (header_of w)) i
+          (behind layout p n can).repeats (omega (arith, size, ap length section))
           ∙ ap (λ (x : List ℕ). get_or x i 0) section
           ∙ get_or-map (λ (t : TripNameValue). t.repeat) n.trips i d 0 lt
       | inr lacks ↦
@@ -177,7 +200,8 @@ stop_named n k d lt =
     let all = length-append n.stops (map (λ (t : TripNameValue). t.name) n.trips) in
     slice_get-get_or (name_list n) k d (omega (arith, all)) ∙ ap Some (get_or_append_left n.stops (map (λ (t : TripNameValue). t.name) n.trips) d k lt)
 
-pub trip_named : (n : NamesValue) (k : ℕ) (d : TripNameValue) → k < length n.trips → slice_get (name_list n) (length n.stops + k) ≡ Some (get_or n.trips k d).name
+pub trip_named : (n : NamesValue) (k : ℕ) (d : TripNameValue) → k < length n.trips
+    → slice_get (name_list n) (length n.stops + k) ≡ Some (get_or n.trips k d).name
 trip_named n k d lt =
     let all = length-append n.stops (map (λ (t : TripNameValue). t.name) n.trips) in
     let many = length-map n.trips (λ (t : TripNameValue). t.name) in
@@ -190,31 +214,39 @@ trip_named n k d lt =
 pub label_is : (name : List ℕ) (day repeat : ℕ) (t : TripNameValue) → name ≡ t.name → day ≡ t.day → repeat ≡ t.repeat → label name day repeat ≡ t
 label_is name day repeat t e f g = rw (e, f, g) refl
 
-labels_are : (base : ℤ) (stops : List (List ℕ)) (trips : List TripNameValue) (n : NamesValue) → base ≡ n.base → stops ≡ n.stops → trips ≡ n.trips → labels base stops trips ≡ n
+labels_are : (base : ℤ) (stops : List (List ℕ)) (trips : List TripNameValue) (n : NamesValue) → base ≡ n.base
+    → stops ≡ n.stops → trips ≡ n.trips → labels base stops trips ≡ n
 labels_are base stops trips n e f g = rw (e, f, g) refl
 
 halves : (a : ℕ) → a % 4294967296 + 4294967296 * (a / 4294967296) ≡ a
 halves a = omega arith
 
 -- an image shows the names that it was spelled from
-pub names_back : (layout : ℕ) (p : TimetableValue) (n : NamesValue) → is_layout layout ≡ true → (layout ≡ FIRST_LAYOUT → AreFirst n) → HasImage p n → names_of (image_in layout p n) ≡ n
+pub names_back : (layout : ℕ) (p : TimetableValue) (n : NamesValue) → is_layout layout ≡ true
+    → (layout ≡ FIRST_LAYOUT → AreFirst n) → HasImage p n → names_of (image_in layout p n) ≡ n
 unfolding image_in
 names_back layout p n known first can =
     let w = image_in layout p n in
     let base : cast_signed w64 (cast_unsigned w64 n.base % 4294967296 + 4294967296 * (cast_unsigned w64 n.base / 4294967296)) ≡ n.base =
     ap (λ (a : ℕ). cast_signed w64 a) (halves (cast_unsigned w64 n.base)) ∙ to_z-of_z w64 n.base can.names.base in
     let stops : map (name_of w) (range_with_len 0 p.stops) ≡ n.stops =
-    sym (fill_by_all (name_of w) n.stops p.stops [] can.names.stop_names (λ k lt. sym (name_back layout p n can k (get_or n.stops k []) (stop_named n k [] (omega (arith, can.names.stop_names)))))) in
+    sym (fill_by_all (name_of w) n.stops p.stops [] can.names.stop_names
+    (λ k lt. sym (name_back layout p n can k (get_or n.stops k [])
+    (stop_named n k [] (omega (arith, can.names.stop_names)))))) in
     let d : TripNameValue = trip_name_of w 0 in
     let trips : map (trip_name_of w) (range_with_len 0 p.trips) ≡ n.trips =
     sym (fill_by_all (trip_name_of w) n.trips p.trips d can.names.trip_names (λ k lt.
     let within : k < length n.trips = omega (arith, can.names.trip_names) in
     let place : p.stops + k ≡ length n.stops + k = omega (arith, can.names.stop_names) in
-    let name : name_of w (p.stops + k) ≡ (get_or n.trips k d).name = ap (λ (j : ℕ). name_of w j) place ∙ name_back layout p n can (length n.stops + k) (get_or n.trips k d).name (trip_named n k d within) in
+    let name : name_of w (p.stops + k) ≡ (get_or n.trips k d).name =
+    ap (λ (j : ℕ). name_of w j) place ∙ name_back layout p n can (length n.stops + k) (get_or n.trips k d).name
+    (trip_named n k d within) in
     let day : day_of w k ≡ (get_or n.trips k d).day = day_back layout p n can k within d in
     let repeat : repeat_of w k ≡ (get_or n.trips k d).repeat = repeat_back layout p n known first can k within d in
     sym (label_is (name_of w (p.stops + k)) (day_of w k) (repeat_of w k) (get_or n.trips k d) name day repeat))) in
-    labels_are (cast_signed w64 (cast_unsigned w64 n.base % 4294967296 + 4294967296 * (cast_unsigned w64 n.base / 4294967296))) (map (name_of w) (range_with_len 0 p.stops)) (map (trip_name_of w) (range_with_len 0 p.trips)) n base stops trips
+    labels_are (cast_signed w64 (cast_unsigned w64 n.base % 4294967296 + 4294967296 *
+    (cast_unsigned w64 n.base / 4294967296))) (map (name_of w) (range_with_len 0 p.stops))
+    (map (trip_name_of w) (range_with_len 0 p.trips)) n base stops trips
 
 flags_small : (a b : Bool) → cond {A = ℕ} a 1 0 + cond {A = ℕ} b 2 0 ≤ 3
 flags_small true true = omega arith
@@ -230,12 +262,14 @@ before_rises (x ∷ xs) zero = omega arith
 before_rises (x ∷ xs) (suc i) =
     let k : suc i + 1 ≡ suc (i + 1) = omega arith in
     let before = length-append x (concat (take i xs)) in
-    let after : byte_count_before (x ∷ xs) (suc i + 1) ≡ length x + byte_count_before xs (i + 1) = ap (λ (j : ℕ). byte_count_before (x ∷ xs) j) k ∙ length-append x (concat (take (i + 1) xs)) in
+    let after : byte_count_before (x ∷ xs) (suc i + 1) ≡ length x + byte_count_before xs (i + 1) =
+    ap (λ (j : ℕ). byte_count_before (x ∷ xs) j) k ∙ length-append x (concat (take (i + 1) xs)) in
     let rest = before_rises xs i in
     omega (arith, before, after, rest)
 
 -- an image is well-formed
-pub well_formed_back : (layout : ℕ) (p : TimetableValue) (n : NamesValue) → is_layout layout ≡ true → HasImage p n → ((i : ℕ) → slice_index (image_in layout p n) i < 2 ^ 32) → IsWellFormed (image_in layout p n)
+pub well_formed_back : (layout : ℕ) (p : TimetableValue) (n : NamesValue) → is_layout layout ≡ true → HasImage p n
+    → ((i : ℕ) → slice_index (image_in layout p n) i < 2 ^ 32) → IsWellFormed (image_in layout p n)
 unfolding image_in
 well_formed_back layout p n known can fits =
     let w = image_in layout p n in
@@ -262,7 +296,10 @@ well_formed_back layout p n known can fits =
             omega (arith, one, two, before_rises (name_list n) i));
         end =
             (let place : p.stops + p.trips ≡ length (name_list n) = omega (arith, count) in
-            ap (λ (j : ℕ). name_index_of w j) place ∙ name_index_back layout p n can (length (name_list n)) (omega arith) ∙ ap (λ (x : List (List ℕ)). length (concat x)) (take_all (length (name_list n)) (name_list n) (omega arith)));
+            ap (λ (j : ℕ). name_index_of w j) place
+            ∙ name_index_back layout p n can (length (name_list n)) (omega arith)
+            ∙ ap (λ (x : List (List ℕ)). length (concat x))
+            (take_all (length (name_list n)) (name_list n) (omega arith)));
       };
       spare = rw (t, drop_at (text n) open_text.spare (length (text n)) refl) open_text.zero;
     }

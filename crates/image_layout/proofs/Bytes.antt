@@ -44,8 +44,13 @@ encode_are_bytes c ok =
       | inr more ↦ rw more (elim (cases_Bool (ltb c 2048)) [
         | inl two ↦ (let lt = ltb-true c 2048 two in rw two (two_are_bytes (192 + c / 64) (next c) (omega (arith, lt)) (omega arith)))
         | inr yet_more ↦ rw yet_more (elim (cases_Bool (ltb c 65536)) [
-          | inl three ↦ (let lt = ltb-true c 65536 three in rw three (three_are_bytes (224 + c / 4096) (next (c / 64)) (next c) (omega (arith, lt)) (omega arith) (omega arith)))
-          | inr four ↦ rw four (four_are_bytes (240 + c / 262144) (next (c / 4096)) (next (c / 64)) (next c) (omega (arith, most)) (omega arith) (omega arith) (omega arith))
+          | inl three ↦ (let lt = ltb-true c 65536 three in
+              rw three (three_are_bytes (224 + c / 4096) (next (c / 64)) (next c) (omega (
+                arith,
+                lt,
+              )) (omega arith) (omega arith)))
+          | inr four ↦ rw four (four_are_bytes (240 + c / 262144) (next (c / 4096)) (next (c / 64)) (next c)
+              (omega (arith, most)) (omega arith) (omega arith) (omega arith))
         ])
       ])
     ]
@@ -62,4 +67,5 @@ utf8_are_bytes bs (cs, (ok, is)) = subst AreBytes is (encodes_are_bytes cs ok)
 -- names of UTF-8 make a text of bytes
 pub concat_are_bytes : (names : List (List ℕ)) → ((i : ℕ) (name : List ℕ) → slice_get names i ≡ Some name → IsUtf8 name) → AreBytes (concat names)
 concat_are_bytes [] each = none_are_bytes
-concat_are_bytes (name ∷ names) each = append_are_bytes name (concat names) (utf8_are_bytes name (each zero name refl)) (concat_are_bytes names (λ i. each (suc i)))
+concat_are_bytes (name ∷ names) each = append_are_bytes name (concat names) (utf8_are_bytes name (each zero name refl))
+    (concat_are_bytes names (λ i. each (suc i)))

@@ -1,5 +1,6 @@
 -- The footpaths that words show spell their index and their section again.
-use Rattle.std.proofs.Common.{◌≡◌, ℕ, zero, suc, ◌+◌, ◌-◌, ◌*◌, ◌<◌, ◌≤◌, Bool, true, false, cond, ltb, List, [], ◌∷◌, ◌++◌, length, get_or, take, drop, map, refl, sym, ap, ◌∙◌, arith, inl, inr, add-zero}
+use Rattle.std.proofs.Common.{◌≡◌, ℕ, zero, suc, ◌+◌, ◌-◌, ◌*◌, ◌<◌, ◌≤◌, Bool, true, false, cond, ltb, List, [], ◌∷◌}
+use Rattle.std.proofs.Common.{◌++◌, length, get_or, take, drop, map, refl, sym, ap, ◌∙◌, arith, inl, inr, add-zero}
 use Rattle.std.specs.List.{flat_map, range_with_len}
 use Rattle.std.proofs.Math.Seq.{take-add}
 use Rattle.std.proofs.lemmas.Bool.{cases_eq, lt-ltb, le-ltb}
@@ -44,7 +45,9 @@ count_into w s stop (suc n) k =
 count_none : (w : List ℕ) (s n a : ℕ) → s ≤ a → footpath_count_below (flat_map (footpaths_into w) (range_with_len a n)) s ≡ 0
 count_none w s zero a le = refl
 count_none w s (suc n) a le =
-    let one : footpath_count_below (footpaths_into w a) s ≡ 0 = count_into w s a (foot_index_of w (a + 1) - foot_index_of w a) (foot_index_of w a) ∙ ap (λ (b : Bool). cond b (foot_index_of w (a + 1) - foot_index_of w a) 0) (le-ltb a s le) in
+    let one : footpath_count_below (footpaths_into w a) s ≡ 0 =
+    count_into w s a (foot_index_of w (a + 1) - foot_index_of w a) (foot_index_of w a)
+    ∙ ap (λ (b : Bool). cond b (foot_index_of w (a + 1) - foot_index_of w a) 0) (le-ltb a s le) in
     let rest : footpath_count_below (flat_map (footpaths_into w) (range_with_len (a + 1) n)) s ≡ 0 = count_none w s n (a + 1) (omega arith) in
     sum_by-append (one_below s) (footpaths_into w a) (flat_map (footpaths_into w) (range_with_len (a + 1) n)) ∙ omega (arith, one, rest)
 
@@ -64,7 +67,9 @@ count_from w s (suc n) a rises le ge =
           let at : foot_index_of w a ≡ foot_index_of w s = ap (λ (x : ℕ). foot_index_of w x) same in
           omega (arith, none, at)
       | inr other ↦
-          let one : footpath_count_below (footpaths_into w a) s ≡ foot_index_of w (a + 1) - foot_index_of w a = block ∙ ap (λ (b : Bool). cond b (foot_index_of w (a + 1) - foot_index_of w a) 0) (lt-ltb a s (omega arith)) in
+          let one : footpath_count_below (footpaths_into w a) s ≡ foot_index_of w (a + 1) - foot_index_of w a =
+          block ∙ ap (λ (b : Bool). cond b (foot_index_of w (a + 1) - foot_index_of w a) 0)
+          (lt-ltb a s (omega arith)) in
           let rest = count_from w s n (a + 1) (λ t lt. rises t (omega arith)) (omega arith) (omega arith) in
           let up : foot_index_of w a ≤ foot_index_of w (a + 1) = rises a (omega arith) in
           omega (arith, split, one, rest, up)
@@ -72,7 +77,8 @@ count_from w s (suc n) a rises le ge =
 
 -- the index that the shown footpaths have is the section of words
 pub foot_index_again : (w : List ℕ) → IsWhole w → IsFootIndex w
-    → map (footpath_count_below (footpaths_of w)) (range_with_len 0 ((header_of w).stops + 1)) ≡ take ((header_of w).stops + 1) (drop (foot_index_place (header_of w)) w)
+    → map (footpath_count_below (footpaths_of w)) (range_with_len 0 ((header_of w).stops + 1))
+    ≡ take ((header_of w).stops + 1) (drop (foot_index_place (header_of w)) w)
 unfolding footpaths_of
 foot_index_again w whole index =
     let stops = (header_of w).stops in
@@ -106,7 +112,8 @@ feet_into w s n k whole within =
     sym (take_two w (footpath_place (header_of w) + 2 * (k + i)) room) ∙ ap (λ (x : ℕ). take 2 (drop x w)) place)
 
 -- the footpaths into the stops from a on spell their words
-feet_from : (w : List ℕ) (n a m : ℕ) → IsWhole w → ((t : ℕ) → t < a + n → foot_index_of w t ≤ foot_index_of w (t + 1)) → foot_index_of w a + m ≡ foot_index_of w (a + n) → foot_index_of w (a + n) ≤ (header_of w).footpaths
+feet_from : (w : List ℕ) (n a m : ℕ) → IsWhole w → ((t : ℕ) → t < a + n → foot_index_of w t ≤ foot_index_of w (t + 1))
+    → foot_index_of w a + m ≡ foot_index_of w (a + n) → foot_index_of w (a + n) ≤ (header_of w).footpaths
     → flat_map footpath_words (flat_map (footpaths_into w) (range_with_len a n)) ≡ take (2 * m) (drop (footpath_place (header_of w) + 2 * foot_index_of w a) w)
 feet_from w zero a m whole rises long within =
     let e : foot_index_of w (a + 0) ≡ foot_index_of w a = ap (λ (x : ℕ). foot_index_of w x) (add-zero a) in
@@ -117,7 +124,8 @@ feet_from w (suc n) a m whole rises long within =
     let first = foot_index_of w a in
     let next = foot_index_of w (a + 1) in
     let b : ℕ = next - first in
-    let e : foot_index_of w (a + suc n) ≡ foot_index_of w ((a + 1) + n) = (let k : a + suc n ≡ (a + 1) + n = omega arith in ap (λ (x : ℕ). foot_index_of w x) k) in
+    let e : foot_index_of w (a + suc n) ≡ foot_index_of w ((a + 1) + n) =
+    (let k : a + suc n ≡ (a + 1) + n = omega arith in ap (λ (x : ℕ). foot_index_of w x) k) in
     let up : first ≤ next = rises a (omega arith) in
     let far : next ≤ foot_index_of w ((a + 1) + n) = index_rises w n (a + 1) (λ t lt. rises t (omega arith)) in
     let block = feet_into w a b first whole (omega (arith, e)) in
@@ -126,14 +134,17 @@ feet_from w (suc n) a m whole rises long within =
     let many : 2 * m ≡ 2 * b + 2 * (m - b) = omega (arith, e) in
     let whole_is : take (2 * m) (drop (place + 2 * first) w) ≡ take (2 * b) (drop (place + 2 * first) w) ++ take (2 * (m - b)) (drop (place + 2 * next) w) =
     ap (λ (x : ℕ). take x (drop (place + 2 * first) w)) many ∙ take-add (2 * b) (2 * (m - b)) (drop (place + 2 * first) w)
-    ∙ ap (λ (x : List ℕ). take (2 * b) (drop (place + 2 * first) w) ++ take (2 * (m - b)) x) (drop-drop (2 * b) (place + 2 * first) w ∙ ap (λ (x : ℕ). drop x w) (sym q)) in
+    ∙ ap (λ (x : List ℕ). take (2 * b) (drop (place + 2 * first) w)
+    ++ take (2 * (m - b)) x) (drop-drop (2 * b) (place + 2 * first) w ∙ ap (λ (x : ℕ). drop x w) (sym q)) in
     flat_map-append footpath_words (footpaths_into w a) (flat_map (footpaths_into w) (range_with_len (a + 1) n))
     ∙ ap (λ (x : List ℕ). x ++ flat_map footpath_words (flat_map (footpaths_into w) (range_with_len (a + 1) n))) block
     ∙ ap (λ (x : List ℕ). take (2 * b) (drop (place + 2 * first) w) ++ x) rest
     ∙ sym whole_is
 
 -- the footpaths that words show spell the words of their section
-pub footpaths_again : (w : List ℕ) → IsWhole w → IsFootIndex w → flat_map footpath_words (footpaths_of w) ≡ take (2 * (header_of w).footpaths) (drop (footpath_place (header_of w)) w)
+pub footpaths_again : (w : List ℕ) → IsWhole w → IsFootIndex w
+    → flat_map footpath_words (footpaths_of w)
+    ≡ take (2 * (header_of w).footpaths) (drop (footpath_place (header_of w)) w)
 unfolding footpaths_of
 footpaths_again w whole index =
     let stops = (header_of w).stops in

@@ -15,7 +15,8 @@ use Rattle.image_layout.proofs.Feet.{IsFootIndex, index_rises}
 use Rattle.image_layout.proofs.Whole.{length-connections_of, length-footpaths_of, connection_is}
 
 -- at place i of the shown connections stands the one of the six words there
-pub connection_shown : (w : List ℕ) (i : ℕ) (c : Connection) → slice_get (connections_of w) i ≡ Some c → (i < (header_of w).connections) × (c ≡ connection_of w i)
+pub connection_shown : (w : List ℕ) (i : ℕ) (c : Connection) → slice_get (connections_of w) i ≡ Some c
+    → (i < (header_of w).connections) × (c ≡ connection_of w i)
 connection_shown w i c e =
     let within : i < length (connections_of w) = slice_get_within (connections_of w) i c e in
     let lt : i < (header_of w).connections = omega (arith, length-connections_of w) in
@@ -51,7 +52,8 @@ found_from w s j d (suc n) a rises le lt low high =
     ]
 
 -- at each place among those into stop s stands the footpath of the two words there, into s
-pub footpath_is : (w : List ℕ) (s k : ℕ) → IsWhole w → IsFootIndex w → s < (header_of w).stops → foot_index_of w s ≤ k → k < foot_index_of w (s + 1) → slice_get (footpaths_of w) k ≡ Some (footpath_of w s k)
+pub footpath_is : (w : List ℕ) (s k : ℕ) → IsWhole w → IsFootIndex w → s < (header_of w).stops → foot_index_of w s ≤ k
+    → k < foot_index_of w (s + 1) → slice_get (footpaths_of w) k ≡ Some (footpath_of w s k)
 unfolding footpaths_of
 footpath_is w s k whole feet lt low high =
     let stops = (header_of w).stops in
@@ -61,7 +63,8 @@ footpath_is w s k whole feet lt low high =
     let at : foot_index_of w ((s + 1) + (stops - (s + 1))) ≡ foot_index_of w stops = ap (λ (x : ℕ). foot_index_of w x) q in
     let h = index_rises w (stops - (s + 1)) (s + 1) (λ t below. feet.rises t (omega arith)) in omega (arith, at, h)) in
     slice_get-get_or (footpaths_of w) k (footpath_of w s k) (omega (arith, last, feet.end, length-footpaths_of w whole feet))
-    ∙ ap Some (found_from w s k (footpath_of w s k) stops 0 (λ t below. feet.rises t (omega arith)) (omega arith) (omega arith) (omega (arith, feet.start)) (omega (arith, feet.start)) ∙ ap (λ (x : ℕ). footpath_of w s x) start)
+    ∙ ap Some (found_from w s k (footpath_of w s k) stops 0 (λ t below. feet.rises t (omega arith)) (omega arith)
+    (omega arith) (omega (arith, feet.start)) (omega (arith, feet.start)) ∙ ap (λ (x : ℕ). footpath_of w s x) start)
 
 -- the stop whose footpaths have a place among them
 pub record IsStopOf (w : List ℕ) (k s : ℕ) : Type 0 where
@@ -78,7 +81,8 @@ stop_below w k (suc n) low high le =
     ]
 
 -- at place k of the shown footpaths stands the one of the two words there, into the stop whose place it is
-pub footpath_shown : (w : List ℕ) (k : ℕ) (f : Footpath) → IsWhole w → IsFootIndex w → slice_get (footpaths_of w) k ≡ Some f → (s : ℕ) × IsStopOf w k s × (f ≡ footpath_of w s k)
+pub footpath_shown : (w : List ℕ) (k : ℕ) (f : Footpath) → IsWhole w → IsFootIndex w
+    → slice_get (footpaths_of w) k ≡ Some f → (s : ℕ) × IsStopOf w k s × (f ≡ footpath_of w s k)
 footpath_shown w k f whole feet e =
     let within : k < length (footpaths_of w) = slice_get_within (footpaths_of w) k f e in
     let lt : k < foot_index_of w (header_of w).stops = omega (arith, feet.end, length-footpaths_of w whole feet) in

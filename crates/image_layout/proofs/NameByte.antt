@@ -23,10 +23,19 @@ pub name_byte_within : (w : List ℕ) (i j : ℕ) → j < length (name_of w i) �
 name_byte_within w i j lt =
     let place = text_place (header_of w) in
     let index = name_index_of w i in
-    omega (arith, lt, length-take (name_index_of w (i + 1) - index) (drop index (padded_text_of w)), length-drop index (padded_text_of w), length-bytes_of (drop place w), length-drop place w)
+    omega (
+      arith,
+      lt,
+      length-take (name_index_of w (i + 1) - index) (drop index (padded_text_of w)),
+      length-drop index (padded_text_of w),
+      length-bytes_of (drop place w),
+      length-drop place w,
+    )
 
 pub name_byte : (w : List ℕ) (i j : ℕ) → j < length (name_of w i)
-    → slice_get (name_of w i) j ≡ Some (get_or (to_le_bytes w32 (get_or w (text_place (header_of w) + (name_index_of w i + j) / 4) 0)) ((name_index_of w i + j) % 4) 0)
+    → slice_get (name_of w i) j ≡ Some (get_or
+    (to_le_bytes w32 (get_or w (text_place (header_of w) + (name_index_of w i + j) / 4) 0))
+    ((name_index_of w i + j) % 4) 0)
 name_byte w i j lt =
     let place = text_place (header_of w) in
     let index = name_index_of w i in

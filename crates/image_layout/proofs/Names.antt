@@ -1,5 +1,6 @@
 -- The names that words show spell their index, and their text, again.
-use Rattle.std.proofs.Common.{◌≡◌, ℕ, zero, suc, ◌+◌, ◌-◌, ◌<◌, ◌≤◌, Bool, cond, eqb, List, [], ◌∷◌, ◌++◌, length, get_or, take, drop, map, refl, sym, ap, ◌∙◌, arith, add-zero, inl, inr}
+use Rattle.std.proofs.Common.{◌≡◌, ℕ, zero, suc, ◌+◌, ◌-◌, ◌<◌, ◌≤◌, Bool, cond, eqb, List, [], ◌∷◌, ◌++◌, length}
+use Rattle.std.proofs.Common.{get_or, take, drop, map, refl, sym, ap, ◌∙◌, arith, add-zero, inl, inr}
 use Rattle.std.specs.Prelude.{slice_range}
 use Rattle.std.specs.List.{concat, range_with_len}
 use Rattle.std.proofs.Math.Seq.{take-add}
@@ -51,7 +52,8 @@ names_are w =
     let trips = (header_of w).trips in
     let e : stops + 0 ≡ 0 + stops = omega arith in
     ap (λ (ys : List (List ℕ)). map (name_of w) (range_with_len 0 stops) ++ ys)
-    (map-map (λ (t : TripNameValue). t.name) (trip_name_of w) (range_with_len 0 trips) ∙ map-shift (name_of w) stops trips 0 ∙ ap (λ (j : ℕ). map (name_of w) (range_with_len j trips)) e)
+    (map-map (λ (t : TripNameValue). t.name) (trip_name_of w) (range_with_len 0 trips)
+    ∙ map-shift (name_of w) stops trips 0 ∙ ap (λ (j : ℕ). map (name_of w) (range_with_len j trips)) e)
     ∙ map-join (name_of w) stops trips 0
 
 -- the days that words show are the words of their section
@@ -76,7 +78,8 @@ repeats_again w whole =
           let word : (t : ℕ) → repeat_of w t ≡ get_or w (place + t) 0 = λ t. ap (λ (b : Bool). cond {A = ℕ} b (get_or w (place + t) 0) 0) has in
           ap (λ (b : Bool). cond {A = List ℕ} b shown []) has
           ∙ map-map (λ (t : TripNameValue). t.repeat) (trip_name_of w) (range_with_len 0 trips)
-          ∙ sym (fill_by_all (repeat_of w) (take trips (drop place w)) trips 0 long (λ t lt. get_or-take trips (drop place w) t 0 lt ∙ get_or-drop place w t 0 ∙ sym (word t)))
+          ∙ sym (fill_by_all (repeat_of w) (take trips (drop place w)) trips 0 long
+          (λ t lt. get_or-take trips (drop place w) t 0 lt ∙ get_or-drop place w t 0 ∙ sym (word t)))
           ∙ ap (λ (k : ℕ). take k (drop place w)) (sym many)
       | inr lacks ↦
           let none : repeat_words (header_of w) ≡ 0 = ap (λ (b : Bool). cond {A = ℕ} b trips 0) lacks in
@@ -141,7 +144,8 @@ name_index_again w whole index long =
     ∙ sym (fill_by_all (byte_count_before (name_list (names_of w))) section (count + 1) 0 size (λ i lt.
     let word : get_or section i 0 ≡ name_index_of w i = get_or-take (count + 1) (drop place w) i 0 lt ∙ get_or-drop place w i 0 in
     let last : name_index_of w i ≤ name_index_of w (i + (count - i)) = at_rises (name_index_of w) (count - i) i (λ k below. index.rises k (omega arith)) in
-    let end : name_index_of w (i + (count - i)) ≡ (header_of w).name_bytes = (let k : i + (count - i) ≡ count = omega arith in ap (λ (x : ℕ). name_index_of w x) k ∙ index.end) in
+    let end : name_index_of w (i + (count - i)) ≡ (header_of w).name_bytes =
+    (let k : i + (count - i) ≡ count = omega arith in ap (λ (x : ℕ). name_index_of w x) k ∙ index.end) in
     let inside : name_index_of w i ≤ length (padded_text_of w) = omega (arith, last, end) in
     word ∙ sym (ap length (front_is w i index (omega arith)) ∙ length-take-le (name_index_of w i) (padded_text_of w) inside)))
 

@@ -21,7 +21,8 @@ each P x y z px py pz (suc (suc zero)) e at = subst P (same_Some z e at) pz
 each P x y z px py pz (suc (suc (suc i))) e at = absurd cc
 
 -- what holds of each two of three, in their order, holds at each two places
-each_two : {X : Type 0} (Q : X → X → Type 0) (x y z : X) → Q x y → Q x z → Q y z → (i j : ℕ) (d e : X) → i < j → At (x ∷ y ∷ z ∷ []) i d → At (x ∷ y ∷ z ∷ []) j e → Q d e
+each_two : {X : Type 0} (Q : X → X → Type 0) (x y z : X) → Q x y → Q x z → Q y z → (i j : ℕ) (d e : X) → i < j
+    → At (x ∷ y ∷ z ∷ []) i d → At (x ∷ y ∷ z ∷ []) j e → Q d e
 each_two Q x y z xy xz yz i zero d e lt at_d at_e = absurd (omega (arith, lt))
 each_two Q x y z xy xz yz zero (suc zero) d e lt at_d at_e = subst (Q d) (same_Some y e at_e) (subst (λ v. Q v y) (same_Some x d at_d) xy)
 each_two Q x y z xy xz yz zero (suc (suc zero)) d e lt at_d at_e = subst (Q d) (same_Some z e at_e) (subst (λ v. Q v z) (same_Some x d at_d) xz)
@@ -57,9 +58,22 @@ sample_is_legal = record {
   trips_in_range = each (λ (c : Connection). c.trip < 2) _ _ _ (lit< tt) (lit< tt) (lit< tt);
   ends_in_range = each (λ (f : Footpath). (f.from < 3) × (f.to < 3)) _ _ _ (lit< tt, lit< tt) (lit< tt, lit< tt) (lit< tt, lit< tt);
   takes_time = each (λ (c : Connection). c.dep < c.arr) _ _ _ (lit< tt) (lit< tt) (lit< tt);
-  departures_never_fall = λ i c d at_c at_d. each_two (λ (c d : Connection). c.dep ≤ d.dep) _ _ _ (lit≤ tt) (lit≤ tt) (lit≤ tt) i (suc i) c d (omega arith) at_c (at_next sample_timetable.connections i d at_d);
-  unbroken = λ i j c d just. each_two Follows _ _ _ (λ e. (refl, lit≤ tt)) (λ e. absurd (omega (arith, e))) (λ e. absurd (omega (arith, e))) i j c d just.before just.first just.second just.same_trip;
-  in_order = λ i d e at_d at_e. each_two IsOrderedBefore _ _ _ (lit≤ tt, λ same. absurd (omega (arith, same))) (lit≤ tt, λ same. absurd (omega (arith, same))) (lit≤ tt, λ same. absurd (omega (arith, same))) i (suc i) d e (omega arith) at_d (at_next sample_timetable.footpaths i e at_e);
+  departures_never_fall = λ i c d at_c at_d.
+      each_two (λ (c d : Connection). c.dep ≤ d.dep) _ _ _ (lit≤ tt) (lit≤ tt) (lit≤ tt) i (suc i) c d (omega arith)
+      at_c (at_next sample_timetable.connections i d at_d);
+  unbroken = λ i j c d just. each_two Follows _ _ _ (λ e. (
+    refl,
+    lit≤ tt,
+  )) (λ e. absurd (omega (arith, e))) (λ e. absurd (omega (arith, e))) i j c d just.before just.first
+      just.second just.same_trip;
+  in_order = λ i d e at_d at_e. each_two IsOrderedBefore _ _ _ (lit≤ tt, λ same. absurd (omega (arith, same))) (
+    lit≤ tt,
+    λ same. absurd (omega (arith, same)),
+  ) (
+    lit≤ tt,
+    λ same. absurd (omega (arith, same)),
+  ) i (suc i) d e (omega arith) at_d
+      (at_next sample_timetable.footpaths i e at_e);
   loops = loops;
   closed = λ a b c d1 d2 first second. (d2, subst (λ (x : ℕ). HasFootpath sample_timetable.footpaths x c d2) (sym (is_loop a b d1 first)) second, omega arith);
 }

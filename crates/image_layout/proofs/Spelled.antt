@@ -1,5 +1,6 @@
 -- An image shows the timetable that it was spelled from.
-use Rattle.std.proofs.Common.{◌≡◌, ℕ, zero, suc, ◌+◌, ◌-◌, ◌*◌, ◌/◌, ◌%◌, ◌<◌, ◌≤◌, Bool, true, false, cond, eqb, ltb, List, [], ◌∷◌, ◌++◌, length, get_or, drop, map, Some, refl, sym, ap, ◌∙◌, arith, inl, inr}
+use Rattle.std.proofs.Common.{◌≡◌, ℕ, zero, suc, ◌+◌, ◌-◌, ◌*◌, ◌/◌, ◌%◌, ◌<◌, ◌≤◌, Bool, true, false, cond, eqb, ltb}
+use Rattle.std.proofs.Common.{List, [], ◌∷◌, ◌++◌, length, get_or, drop, map, Some, refl, sym, ap, ◌∙◌, arith, inl, inr}
 use Rattle.std.specs.Prelude.{slice_get}
 use Rattle.std.specs.List.{flat_map}
 use Rattle.std.proofs.lemmas.Bool.{cases_lt, lt-ltb, le-ltb}
@@ -14,7 +15,8 @@ use Rattle.timetable.specs.NamesValue.{NamesValue, TripNameValue}
 use Rattle.timetable.specs.Legal.{At}
 use Rattle.image_layout.specs.Places.{header_of, footpath_place}
 use Rattle.image_layout.specs.Fields.{from_of, to_of, dep_of, arr_of, trip_of, flags_of, foot_index_of, foot_from_of, foot_secs_of}
-use Rattle.image_layout.specs.Spelling.{flags, connection_words, footpath_words, footpath_count_below, foot_index, name_index, text_words, text, repeats_in, image_in}
+use Rattle.image_layout.specs.Spelling.{flags, connection_words, footpath_words, footpath_count_below, foot_index}
+use Rattle.image_layout.specs.Spelling.{name_index, text_words, text, repeats_in, image_in}
 use Rattle.image_layout.specs.Shown.{connection_of, connections_of, footpath_of}
 
 -- what stands from the connections on, from the index of the footpaths on, and so forth
@@ -42,16 +44,19 @@ pub word_in : (w s rest : List ℕ) (p i : ℕ) → drop p w ≡ s ++ rest → i
 word_in w s rest p i e lt = sym (get_or-drop p w i 0) ∙ ap (λ (x : List ℕ). get_or x i 0) e ∙ get_or_append_left s rest 0 i lt
 
 -- a word of a piece, where all pieces are as long
-pub piece_word : {X : Type 0} (f : X → List ℕ) (k : ℕ) → ((x : X) → length (f x) ≡ k) → (xs : List X) (i r : ℕ) (x : X) → slice_get xs i ≡ Some x → r < k → get_or (flat_map f xs) (k * i + r) 0 ≡ get_or (f x) r 0
+pub piece_word : {X : Type 0} (f : X → List ℕ) (k : ℕ) → ((x : X) → length (f x) ≡ k) → (xs : List X) (i r : ℕ) (x : X)
+    → slice_get xs i ≡ Some x → r < k → get_or (flat_map f xs) (k * i + r) 0 ≡ get_or (f x) r 0
 piece_word f k size [] i r x e lt = absurd cc
 piece_word f k size (y ∷ ys) zero r x e lt =
     let z : k * zero + r ≡ r = omega arith in
     let same : y ≡ x = same_Some y x e in
-    ap (λ (j : ℕ). get_or (f y ++ flat_map f ys) j 0) z ∙ get_or_append_left (f y) (flat_map f ys) 0 r (omega (arith, size y)) ∙ ap (λ (z : _). get_or (f z) r 0) same
+    ap (λ (j : ℕ). get_or (f y ++ flat_map f ys) j 0) z
+    ∙ get_or_append_left (f y) (flat_map f ys) 0 r (omega (arith, size y)) ∙ ap (λ (z : _). get_or (f z) r 0) same
 piece_word f k size (y ∷ ys) (suc i) r x e lt =
     let many : k * suc i ≡ k + k * i = omega arith in
     let back : (k * suc i + r) - k ≡ k * i + r = omega (arith, many) in
-    get_or-append_right (f y) (flat_map f ys) k (k * suc i + r) 0 (size y) (omega (arith, many)) ∙ ap (λ (j : ℕ). get_or (flat_map f ys) j 0) back ∙ piece_word f k size ys i r x e lt
+    get_or-append_right (f y) (flat_map f ys) k (k * suc i + r) 0 (size y) (omega (arith, many))
+    ∙ ap (λ (j : ℕ). get_or (flat_map f ys) j 0) back ∙ piece_word f k size ys i r x e lt
 
 pub pieces_long : {X : Type 0} (f : X → List ℕ) (k : ℕ) → ((x : X) → length (f x) ≡ k) → (xs : List X) → length (flat_map f xs) ≡ k * length xs
 pieces_long f k size [] = let z : k * zero ≡ 0 = omega arith in sym z
@@ -73,7 +78,8 @@ flags_alight false true = refl
 flags_alight false false = refl
 
 -- word r of connection i
-connection_word : (layout : ℕ) (p : TimetableValue) (n : NamesValue) (i r : ℕ) (c : Connection) → At p.connections i c → r < 6 → get_or (image_in layout p n) (9 + 6 * i + r) 0 ≡ get_or (connection_words c) r 0
+connection_word : (layout : ℕ) (p : TimetableValue) (n : NamesValue) (i r : ℕ) (c : Connection) → At p.connections i c
+    → r < 6 → get_or (image_in layout p n) (9 + 6 * i + r) 0 ≡ get_or (connection_words c) r 0
 unfolding image_in
 connection_word layout p n i r c e lt =
     let place : (9 + 6 * i) + r ≡ 9 + (6 * i + r) = omega arith in
@@ -86,7 +92,8 @@ connection_word layout p n i r c e lt =
 connection_back : (layout : ℕ) (p : TimetableValue) (n : NamesValue) (i : ℕ) (c : Connection) → At p.connections i c → connection_of (image_in layout p n) i ≡ c
 connection_back layout p n i c e =
     let z : 9 + 6 * i + 0 ≡ 9 + 6 * i = omega arith in
-    let e0 : from_of (image_in layout p n) i ≡ c.from = ap (λ (j : ℕ). get_or (image_in layout p n) j 0) (sym z) ∙ connection_word layout p n i 0 c e (omega arith) in
+    let e0 : from_of (image_in layout p n) i ≡ c.from =
+    ap (λ (j : ℕ). get_or (image_in layout p n) j 0) (sym z) ∙ connection_word layout p n i 0 c e (omega arith) in
     let e1 : to_of (image_in layout p n) i ≡ c.to = connection_word layout p n i 1 c e (omega arith) in
     let e2 : dep_of (image_in layout p n) i ≡ c.dep = connection_word layout p n i 2 c e (omega arith) in
     let e3 : arr_of (image_in layout p n) i ≡ c.arr = connection_word layout p n i 3 c e (omega arith) in
@@ -172,11 +179,14 @@ place_above (g ∷ gs) (suc k) s f h at le =
     ]
 
 -- the index of the footpaths of an image
-pub foot_index_back : (layout : ℕ) (p : TimetableValue) (n : NamesValue) (s : ℕ) → s ≤ p.stops → foot_index_of (image_in layout p n) s ≡ footpath_count_below p.footpaths s
+pub foot_index_back : (layout : ℕ) (p : TimetableValue) (n : NamesValue) (s : ℕ) → s ≤ p.stops
+    → foot_index_of (image_in layout p n) s ≡ footpath_count_below p.footpaths s
 unfolding image_in
 foot_index_back layout p n s le =
     let size : length (flat_map connection_words p.connections) ≡ 6 * length p.connections = pieces_long connection_words 6 (λ x. refl) p.connections in
-    let at : drop (9 + 6 * length p.connections) (image_in layout p n) ≡ from_foot_index layout p n = skip (image_in layout p n) (flat_map connection_words p.connections) (from_foot_index layout p n) 9 (6 * length p.connections) size refl in
+    let at : drop (9 + 6 * length p.connections) (image_in layout p n) ≡ from_foot_index layout p n =
+    skip (image_in layout p n) (flat_map connection_words p.connections) (from_foot_index layout p n) 9
+    (6 * length p.connections) size refl in
     let long = length-map-range_with_len (footpath_count_below p.footpaths) 0 (p.stops + 1) in
     word_in (image_in layout p n) (foot_index p) (from_footpaths layout p n) (9 + 6 * length p.connections) s at (omega (arith, long))
     ∙ get_or-map-range_with_len (footpath_count_below p.footpaths) 0 (p.stops + 1) s s 0 (omega arith) (omega arith)
@@ -200,24 +210,34 @@ below_rises (f ∷ fs) s =
     ]
 
 -- word r of the footpath at place k
-footpath_word : (layout : ℕ) (p : TimetableValue) (n : NamesValue) (k r : ℕ) (f : Footpath) → At p.footpaths k f → r < 2 → get_or (image_in layout p n) (footpath_place (header_of (image_in layout p n)) + (2 * k + r)) 0 ≡ get_or (footpath_words f) r 0
+footpath_word : (layout : ℕ) (p : TimetableValue) (n : NamesValue) (k r : ℕ) (f : Footpath) → At p.footpaths k f → r < 2
+    → get_or (image_in layout p n) (footpath_place (header_of (image_in layout p n)) + (2 * k + r)) 0
+    ≡ get_or (footpath_words f) r 0
 unfolding image_in
 footpath_word layout p n k r f e lt =
     let size : length (flat_map connection_words p.connections) ≡ 6 * length p.connections = pieces_long connection_words 6 (λ x. refl) p.connections in
-    let at_index : drop (9 + 6 * length p.connections) (image_in layout p n) ≡ from_foot_index layout p n = skip (image_in layout p n) (flat_map connection_words p.connections) (from_foot_index layout p n) 9 (6 * length p.connections) size refl in
+    let at_index : drop (9 + 6 * length p.connections) (image_in layout p n) ≡ from_foot_index layout p n =
+    skip (image_in layout p n) (flat_map connection_words p.connections) (from_foot_index layout p n) 9
+    (6 * length p.connections) size refl in
     let long : length (foot_index p) ≡ p.stops + 1 = length-map-range_with_len (footpath_count_below p.footpaths) 0 (p.stops + 1) in
-    let at_feet : drop ((9 + 6 * length p.connections) + (p.stops + 1)) (image_in layout p n) ≡ from_footpaths layout p n = skip (image_in layout p n) (foot_index p) (from_footpaths layout p n) (9 + 6 * length p.connections) (p.stops + 1) long at_index in
+    let at_feet : drop ((9 + 6 * length p.connections) + (p.stops + 1)) (image_in layout p n)
+    ≡ from_footpaths layout p n = skip (image_in layout p n) (foot_index p) (from_footpaths layout p n)
+    (9 + 6 * length p.connections) (p.stops + 1) long at_index in
     let place : footpath_place (header_of (image_in layout p n)) + (2 * k + r) ≡ ((9 + 6 * length p.connections) + (p.stops + 1)) + (2 * k + r) = omega arith in
     let many : length (flat_map footpath_words p.footpaths) ≡ 2 * length p.footpaths = pieces_long footpath_words 2 (λ x. refl) p.footpaths in
     let within : k < length p.footpaths = slice_get_within p.footpaths k f e in
     ap (λ (j : ℕ). get_or (image_in layout p n) j 0) place
-    ∙ word_in (image_in layout p n) (flat_map footpath_words p.footpaths) (from_names layout n) ((9 + 6 * length p.connections) + (p.stops + 1)) (2 * k + r) at_feet (omega (arith, many))
+    ∙ word_in (image_in layout p n) (flat_map footpath_words p.footpaths) (from_names layout n)
+    ((9 + 6 * length p.connections) + (p.stops + 1)) (2 * k + r) at_feet (omega (arith, many))
     ∙ piece_word footpath_words 2 (λ x. refl) p.footpaths k r f e lt
 
-pub footpath_back : (layout : ℕ) (p : TimetableValue) (n : NamesValue) (k : ℕ) (f : Footpath) → At p.footpaths k f → footpath_of (image_in layout p n) f.to k ≡ f
+pub footpath_back : (layout : ℕ) (p : TimetableValue) (n : NamesValue) (k : ℕ) (f : Footpath) → At p.footpaths k f
+    → footpath_of (image_in layout p n) f.to k ≡ f
 footpath_back layout p n k f e =
     let z : footpath_place (header_of (image_in layout p n)) + 2 * k ≡ footpath_place (header_of (image_in layout p n)) + (2 * k + 0) = omega arith in
     let y : footpath_place (header_of (image_in layout p n)) + 2 * k + 1 ≡ footpath_place (header_of (image_in layout p n)) + (2 * k + 1) = omega arith in
-    let from : foot_from_of (image_in layout p n) k ≡ f.from = ap (λ (j : ℕ). get_or (image_in layout p n) j 0) z ∙ footpath_word layout p n k 0 f e (omega arith) in
-    let secs : foot_secs_of (image_in layout p n) k ≡ f.secs = ap (λ (j : ℕ). get_or (image_in layout p n) j 0) y ∙ footpath_word layout p n k 1 f e (omega arith) in
+    let from : foot_from_of (image_in layout p n) k ≡ f.from =
+    ap (λ (j : ℕ). get_or (image_in layout p n) j 0) z ∙ footpath_word layout p n k 0 f e (omega arith) in
+    let secs : foot_secs_of (image_in layout p n) k ≡ f.secs =
+    ap (λ (j : ℕ). get_or (image_in layout p n) j 0) y ∙ footpath_word layout p n k 1 f e (omega arith) in
     rw (from, secs) refl

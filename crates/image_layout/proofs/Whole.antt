@@ -1,5 +1,6 @@
 -- Well-formed words are the image of what they show.
-use Rattle.std.proofs.Common.{◌≡◌, ℕ, zero, suc, ◌+◌, ◌*◌, ◌/◌, ◌%◌, ◌^◌, ◌<◌, ◌≤◌, Bool, true, eqb, ◌&&◌, List, [], ◌∷◌, ◌++◌, length, get_or, take, drop, map, refl, sym, ap, ◌∙◌, arith}
+use Rattle.std.proofs.Common.{◌≡◌, ℕ, zero, suc, ◌+◌, ◌*◌, ◌/◌, ◌%◌, ◌^◌, ◌<◌, ◌≤◌, Bool, true, eqb, ◌&&◌, List, []}
+use Rattle.std.proofs.Common.{◌∷◌, ◌++◌, length, get_or, take, drop, map, refl, sym, ap, ◌∙◌, arith}
 use Rattle.std.specs.Prelude.{slice_index, slice_get, Some}
 use Rattle.std.proofs.lemmas.Option.{slice_get-get_or}
 use Rattle.std.specs.List.{flat_map, range_with_len, list_all, concat}
@@ -11,7 +12,8 @@ use Rattle.std.proofs.lemmas.Nat.{from_le_bytes-to_le_bytes_4}
 use Rattle.std.proofs.lemmas.List.{drop-drop, take-append-drop, nil_from_length, get_or-drop, length-append, length-drop, length-take-le}
 use Rattle.std.proofs.lemmas.List.FromFn.{length-map-range_with_len, get_or-map-range_with_len}
 use Rattle.timetable.specs.declared.network.Footpath.{Footpath}
-use Rattle.image_layout.specs.Places.{is_layout, header_of, foot_index_place, footpath_place, name_index_place, day_place, repeat_place, repeat_words, text_place, IsWhole}
+use Rattle.image_layout.specs.Places.{is_layout, header_of, foot_index_place, footpath_place, name_index_place}
+use Rattle.image_layout.specs.Places.{day_place, repeat_place, repeat_words, text_place, IsWhole}
 use Rattle.image_layout.specs.Fields.{layout_of, flags_of}
 use Rattle.image_layout.specs.Text.{bytes_of, padded_text_of}
 use Rattle.image_layout.specs.declared.layout.TheConstants.{MAGIC}
@@ -41,7 +43,8 @@ three_bytes : (x : ℕ) → x < 2 ^ 32 → byte_at 3 x ≡ 0 → from_le_bytes w
 three_bytes x fits b3 = omega arith
 
 -- words are text_words of their bytes, spare ones left out
-pub text_words_again : (ws : List ℕ) (n : ℕ) → ((i : ℕ) → get_or ws i 0 < 2 ^ 32) → length ws ≡ (n + 3) / 4 → list_all (λ b. eqb b 0) (drop n (bytes_of ws)) ≡ true → text_words (take n (bytes_of ws)) ≡ ws
+pub text_words_again : (ws : List ℕ) (n : ℕ) → ((i : ℕ) → get_or ws i 0 < 2 ^ 32) → length ws ≡ (n + 3) / 4
+    → list_all (λ b. eqb b 0) (drop n (bytes_of ws)) ≡ true → text_words (take n (bytes_of ws)) ≡ ws
 unfolding text_words
 text_words_again [] zero fits long spare = refl
 text_words_again [] (suc n) fits long spare = absurd (omega arith)
@@ -97,7 +100,11 @@ text_is_long w text whole e =
 
 length-footpath_words : (fs : List Footpath) → length (flat_map footpath_words fs) ≡ 2 * length fs
 length-footpath_words [] = refl
-length-footpath_words (f ∷ fs) = let h : length (flat_map footpath_words fs) ≡ 2 * length fs = length-footpath_words fs in omega (arith, length-append (footpath_words f) (flat_map footpath_words fs))
+length-footpath_words (f ∷ fs) = let h : length (flat_map footpath_words fs) ≡ 2 * length fs =
+    length-footpath_words fs in omega (
+      arith,
+      length-append (footpath_words f) (flat_map footpath_words fs),
+    )
 
 pub length-connections_of : (w : List ℕ) → length (connections_of w) ≡ (header_of w).connections
 unfolding connections_of
@@ -123,16 +130,21 @@ high_again a b fits_a fits_b =
     rw e (omega arith)
 
 -- nine words of one list are those of another
-nine : (w : List ℕ) (a b c d e f g h i : ℕ) → 9 ≤ length w → a ≡ get_or w 0 0 → b ≡ get_or w 1 0 → c ≡ get_or w 2 0 → d ≡ get_or w 3 0 → e ≡ get_or w 4 0 → f ≡ get_or w 5 0 → g ≡ get_or w 6 0 → h ≡ get_or w 7 0 → i ≡ get_or w 8 0
+nine : (w : List ℕ) (a b c d e f g h i : ℕ) → 9 ≤ length w → a ≡ get_or w 0 0 → b ≡ get_or w 1 0 → c ≡ get_or w 2 0
+    → d ≡ get_or w 3 0 → e ≡ get_or w 4 0 → f ≡ get_or w 5 0 → g ≡ get_or w 6 0 → h ≡ get_or w 7 0 → i ≡ get_or w 8 0
     → a ∷ b ∷ c ∷ d ∷ e ∷ f ∷ g ∷ h ∷ i ∷ [] ≡ take 9 w
 nine w a b c d e f g h i long pa pb pc pd pe pf pg ph pi =
     let first : take 6 w ≡ get_or w 0 0 ∷ get_or w 1 0 ∷ get_or w 2 0 ∷ get_or w 3 0 ∷ get_or w 4 0 ∷ get_or w 5 0 ∷ [] = take_six w 0 (omega arith) in
     let last : take 3 (drop 6 w) ≡ get_or w 6 0 ∷ get_or w 7 0 ∷ get_or w 8 0 ∷ [] =
-    take_next w 2 6 (omega arith) ∙ ap (λ (x : List ℕ). get_or w 6 0 ∷ x) (take_next w 1 7 (omega arith) ∙ ap (λ (x : List ℕ). get_or w 7 0 ∷ x) (take_next w 0 8 (omega arith))) in
+    take_next w 2 6 (omega arith) ∙ ap (λ (x : List ℕ). get_or w 6 0 ∷ x) (take_next w 1 7 (omega arith)
+    ∙ ap (λ (x : List ℕ). get_or w 7 0 ∷ x) (take_next w 0 8 (omega arith))) in
     let all : take 9 w ≡ take 6 w ++ take 3 (drop 6 w) = take-add 6 3 w in
-    rw (pa, pb, pc, pd, pe, pf, pg, ph, pi) (sym (all ∙ ap (λ (x : List ℕ). x ++ take 3 (drop 6 w)) first ∙ ap (λ (x : List ℕ). get_or w 0 0 ∷ get_or w 1 0 ∷ get_or w 2 0 ∷ get_or w 3 0 ∷ get_or w 4 0 ∷ get_or w 5 0 ∷ x) last))
+    rw (pa, pb, pc, pd, pe, pf, pg, ph, pi) (sym (all ∙ ap (λ (x : List ℕ). x ++ take 3 (drop 6 w)) first
+    ∙ ap (λ (x : List ℕ). get_or w 0 0 ∷ get_or w 1 0 ∷ get_or w 2 0 ∷ get_or w 3 0 ∷ get_or w 4 0 ∷ get_or w 5 0
+    ∷ x) last))
 
-header_again : (w : List ℕ) → IsWellFormed w → (header_of w).name_bytes ≤ length (padded_text_of w) → header (layout_of w) (timetable_of w) (names_of w) ≡ take 9 (drop 0 w)
+header_again : (w : List ℕ) → IsWellFormed w → (header_of w).name_bytes ≤ length (padded_text_of w)
+    → header (layout_of w) (timetable_of w) (names_of w) ≡ take 9 (drop 0 w)
 header_again w form long =
     nine w _ _ _ _ _ _ _ _ _ form.whole.has_header (sym form.magic) refl refl refl
     (length-connections_of w) (length-footpaths_of w form.whole form.feet)
@@ -147,7 +159,12 @@ image_again w form =
     let h = header_of w in
     let long : h.name_bytes ≤ length (padded_text_of w) = text_is_long w (padded_text_of w) form.whole refl in
     let last : text_words (text (names_of w)) ≡ drop (text_place h) w =
-    ap text_words (text_again w form.names) ∙ text_words_again (drop (text_place h) w) h.name_bytes (λ i. rw get_or-drop (form.fits (text_place h + i))) (omega (arith, length-drop (text_place h) w, form.whole.all_there)) form.spare in
+    ap text_words (text_again w form.names) ∙ text_words_again (drop (text_place h) w) h.name_bytes
+    (λ i. rw get_or-drop (form.fits (text_place h + i))) (omega (
+      arith,
+      length-drop (text_place h) w,
+      form.whole.all_there,
+    )) form.spare in
     join w 0 9 9 (header (layout_of w) (timetable_of w) (names_of w)) _ (omega arith) (header_again w form long)
     (join w 9 (6 * h.connections) (foot_index_place h) _ _ (omega arith) (connections_again w form.whole form.flags)
     (join w (foot_index_place h) (h.stops + 1) (footpath_place h) _ _ (omega arith) (foot_index_again w form.whole form.feet)

@@ -12,7 +12,12 @@ spelled_again : (v : List ℕ) → All (λ x. x < 2 ^ 32) v → text_words (byte
 spelled_again v small =
     let size = 4 * length v in
     let long : length (bytes_of v) ≤ size = omega (arith, length-bytes_of v) in
-    let each : (i : ℕ) → get_or v i 0 < 2 ^ 32 = λ i. elim (cases_lt i (length v)) [ inl lt ↦ small i 0 lt | inr ge ↦ rw (get_or_past v i 0 ge) (omega arith) ] in
+    let each : (i : ℕ) → get_or v i 0 < 2 ^ 32 =
+    λ i. elim (cases_lt i (length v)) [
+      | inl lt ↦ small i 0 lt
+      | inr ge ↦
+          rw (get_or_past v i 0 ge) (omega arith)
+    ] in
     let none : drop size (bytes_of v) ≡ [] = drop_all size (bytes_of v) long in
     ap text_words (sym (take_all size (bytes_of v) long))
     ∙ text_words_again v size each (omega arith) (rw none refl)

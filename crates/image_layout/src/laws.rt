@@ -12,8 +12,8 @@ ghost use Rattle.image_layout.specs.Shown.{timetable_of, names_of};
 ghost use Rattle.image_layout.specs.Image.{AreFirst, HasImage, ImageValue, IsImage, Spells};
 ghost use Rattle.image_layout.specs.Sample.{early_timetable, early_names, early_words, repeated_names, repeated_words};
 
-/// Words that are the image of a timetable and its names are as many as their header says, and show that timetable and those names:
-/// so the readers tell of it.
+/// Words that are the image of a timetable and its names are as many as their header says, and show
+/// that timetable and those names: so the readers tell of it.
 pub fn image_shows()
     ensures whole { (w : List ℕ) (t : TimetableValue) (n : NamesValue) → IsImage w t n → IsWhole w }
     ensures timetable { (w : List ℕ) (t : TimetableValue) (n : NamesValue) → IsImage w t n → timetable_of w ≡ t }
@@ -22,27 +22,32 @@ pub fn image_shows()
 
 /// Words are the image of one timetable and its names at most.
 pub fn one_timetable()
-    ensures { (w : List ℕ) (t u : TimetableValue) (n m : NamesValue) → IsImage w t n → IsImage w u m → (t ≡ u) × (n ≡ m) }
+    ensures { (w : List ℕ) (t u : TimetableValue) (n m : NamesValue) → IsImage w t n → IsImage w u m
+        → (t ≡ u) × (n ≡ m) }
 {}
 
 /// A timetable and its names have one image at most in each layout.
 pub fn one_image()
-    ensures { (v w : List ℕ) (t : TimetableValue) (n : NamesValue) → IsImage v t n → IsImage w t n → layout_of v ≡ layout_of w → v ≡ w }
+    ensures { (v w : List ℕ) (t : TimetableValue) (n : NamesValue) → IsImage v t n → IsImage w t n
+        → layout_of v ≡ layout_of w → v ≡ w }
 {}
 
-/// What contracts see of an image has one spelling: its words are the sections of its timetable and names in its layout. So an
-/// image is known to the word by its layout, its timetable and its names.
+/// What contracts see of an image has one spelling: its words are the sections of its timetable and
+/// names in its layout. So an image is known to the word by its layout, its timetable and its
+/// names.
 pub fn one_spelling()
-    ensures words { (w : List ℕ) (image : ImageValue) → Spells w image → w ≡ image_in image.layout image.timetable image.names }
+    ensures words { (w : List ℕ) (image : ImageValue) → Spells w image
+        → w ≡ image_in image.layout image.timetable image.names }
     ensures one { (v w : List ℕ) (image : ImageValue) → Spells v image → Spells w image → v ≡ w }
     ensures value { (w : List ℕ) (first second : ImageValue) → Spells w first → Spells w second → first ≡ second }
 {}
 
-/// A legal timetable and names that fit it have an image, which is spelled in the layout that is written; and where all repeats
-/// are 0, one in the first layout.
+/// A legal timetable and names that fit it have an image, which is spelled in the layout that is
+/// written; and where all repeats are 0, one in the first layout.
 pub fn which_layouts()
     ensures written { (t : TimetableValue) (n : NamesValue) → HasImage t n → IsImage (image t n) t n }
-    ensures first { (t : TimetableValue) (n : NamesValue) → HasImage t n → AreFirst n → IsImage (image_in FIRST_LAYOUT t n) t n }
+    ensures first { (t : TimetableValue) (n : NamesValue) → HasImage t n → AreFirst n
+        → IsImage (image_in FIRST_LAYOUT t n) t n }
     ensures first_alone { (t : TimetableValue) (n : NamesValue) → IsImage (image_in FIRST_LAYOUT t n) t n → AreFirst n }
 {}
 
@@ -51,8 +56,8 @@ pub fn one_word_list()
     ensures { (v w : List ℕ) → All (λ x. x < 2 ^ 32) v → All (λ x. x < 2 ^ 32) w → bytes_of v ≡ bytes_of w → v ≡ w }
 {}
 
-/// A small image of the first layout, computed from both ends: its connections are flagged 1, 2 and 3, its base is before 1970,
-/// and one of its names is empty.
+/// A small image of the first layout, computed from both ends: its connections are flagged 1, 2 and
+/// 3, its base is before 1970, and one of its names is empty.
 pub fn early_image()
     ensures spelled { image_in FIRST_LAYOUT early_timetable early_names ≡ early_words }
     ensures timetable { timetable_of early_words ≡ early_timetable }

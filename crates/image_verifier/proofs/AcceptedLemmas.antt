@@ -74,7 +74,8 @@ IsHeader-from w e =
 
 pub IsFootIndex-from : (w : List ℕ) → AreFaultless w → IsFootIndex w
 IsFootIndex-from w good =
-    let f = no_fault (not (eqb (foot_index_of w (header_of w).stops) (header_of w).footpaths) || not (eqb (foot_index_of w 0) 0)) (FootRange (header_of w).stops) None good.feet_end in
+    let f = no_fault (not (eqb (foot_index_of w (header_of w).stops) (header_of w).footpaths) || not
+    (eqb (foot_index_of w 0) 0)) (FootRange (header_of w).stops) None good.feet_end in
     let ends = or_parts _ _ f.0 in
     record {
       start = eqb-true _ _ (not-false _ ends.1);
@@ -105,12 +106,15 @@ record IsNamesEnd (w : List ℕ) : Type 0 where
 IsNamesEnd-from : (w : List ℕ) → names_end_fault w ≡ None → IsNamesEnd w
 unfolding names_end_fault
 IsNamesEnd-from w e =
-    let f = no_fault (not (eqb (name_index_of w (name_count w)) (header_of w).name_bytes) || not (eqb (name_index_of w 0) 0) || not (list_all (λ b. eqb b 0) (drop (header_of w).name_bytes (padded_text_of w)))) (BadNames (name_count w)) None e in
+    let f = no_fault (not (eqb (name_index_of w (name_count w)) (header_of w).name_bytes) || not
+    (eqb (name_index_of w 0) 0) || not (list_all (λ b. eqb b 0)
+    (drop (header_of w).name_bytes (padded_text_of w)))) (BadNames (name_count w)) None e in
     let outer = or_parts _ _ f.0 in
     let inner = or_parts _ _ outer.0 in
     record { start = eqb-true _ _ (not-false _ inner.1); end = eqb-true _ _ (not-false _ inner.0); spare = not-false _ outer.1 }
 
-pub own-none : (w : List ℕ) (i : ℕ) → connection_fault w i ≡ None → (own_fault w i ≡ None) × (place_fault w i (is_break w i (last_of_trip w (trip_of w i) i)) ≡ None)
+pub own-none : (w : List ℕ) (i : ℕ) → connection_fault w i ≡ None
+    → (own_fault w i ≡ None) × (place_fault w i (is_break w i (last_of_trip w (trip_of w i) i)) ≡ None)
 unfolding connection_fault
 own-none w i e = or_else_parts (own_fault w i) (place_fault w i (is_break w i (last_of_trip w (trip_of w i) i))) e
 

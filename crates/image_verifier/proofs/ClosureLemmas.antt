@@ -1,5 +1,6 @@
 -- The footpath from a stop into a stop by its place, and first faults by stops as first faults by places.
-use Rattle.std.proofs.Common.{◌≡◌, ◌≢◌, ℕ, zero, suc, ◌+◌, ◌-◌, ◌<◌, ◌≤◌, eqb, cond, List, length, get_or, Option, Some, None, refl, sym, ap, subst, ◌∙◌, arith, inl, inr}
+use Rattle.std.proofs.Common.{◌≡◌, ◌≢◌, ℕ, zero, suc, ◌+◌, ◌-◌, ◌<◌, ◌≤◌, eqb, cond, List, length, get_or, Option, Some}
+use Rattle.std.proofs.Common.{None, refl, sym, ap, subst, ◌∙◌, arith, inl, inr}
 use Rattle.std.proofs.lemmas.Bool.{cases_Bool, cases_order, cases_lt, cases_eq, eqb-true, eqb-false, eq-eqb, ne_eqb, le-ltb, lt-ltb}
 use Rattle.std.proofs.lemmas.Option.{same_Some}
 use Rattle.std.proofs.Math.ListN.{set}
@@ -14,7 +15,9 @@ use Rattle.image_verifier.specs.declared.fault.ImageFault.TheVariants.{NotClosed
 use Rattle.timetable.specs.First.{first_below, first_between, any_between}
 use Rattle.image_verifier.specs.FootFaults.{HasFootRange, HasFootRanges, IsInto}
 use Rattle.image_verifier.specs.ClosureFaults.{secs_from, secs_between, is_open, open_fault, way_fault, into_fault, or_never, HasSecs}
-use Rattle.timetable.proofs.FirstLemmas.{or_else-none, or_else-some, first_between-found, first_between-none, first_between-all, first_between-empty, first_between-more, first_below-found, first_below-all, any_between-some, any_between-none}
+use Rattle.timetable.proofs.FirstLemmas.{or_else-none, or_else-some, first_between-found, first_between-none}
+use Rattle.timetable.proofs.FirstLemmas.{first_between-all, first_between-empty, first_between-more, first_below-found}
+use Rattle.timetable.proofs.FirstLemmas.{first_below-all, any_between-some, any_between-none}
 
 -- at i, below n, f gives x, and it gives nothing before
 pub record IsFirstBelow {X : Type 0} (f : ℕ → Option X) (n i : ℕ) (x : X) : Type 0 where
@@ -59,7 +62,8 @@ pub record IsByPlace {X : Type 0} (at : ℕ → ℕ) (f g : ℕ → Option X) (l
   pub none_else : (a : ℕ) → a < n → ((k : ℕ) → low ≤ k → k < high → at k ≢ a) → g a ≡ None
 
 -- where f gives nothing from low up to before i, g gives nothing at a number that has no place from i on
-none_by_number : {X : Type 0} (at : ℕ → ℕ) (f g : ℕ → Option X) (low high n i a : ℕ) → IsByPlace at f g low high n → a < n → i ≤ high → first_between f low i ≡ None → ((k : ℕ) → i ≤ k → k < high → at k ≢ a) → g a ≡ None
+none_by_number : {X : Type 0} (at : ℕ → ℕ) (f g : ℕ → Option X) (low high n i a : ℕ) → IsByPlace at f g low high n
+    → a < n → i ≤ high → first_between f low i ≡ None → ((k : ℕ) → i ≤ k → k < high → at k ≢ a) → g a ≡ None
 none_by_number at f g low high n i a by lt le none later =
     elim (cases_Bool (any_between (λ k. eqb (at k) a) low high)) [
       | inl a_place ↦
@@ -79,7 +83,8 @@ none_by_number at f g low high n i a by lt le none later =
         ]
 
 -- to search by rising numbers, place by place, is to search by all numbers
-pub first_by_place : {X : Type 0} (at : ℕ → ℕ) (f g : ℕ → Option X) (low high n : ℕ) → IsRising at low high n → IsByPlace at f g low high n → first_below g n ≡ first_between f low high
+pub first_by_place : {X : Type 0} (at : ℕ → ℕ) (f g : ℕ → Option X) (low high n : ℕ) → IsRising at low high n
+    → IsByPlace at f g low high n → first_below g n ≡ first_between f low high
 first_by_place at f g low high n rising by =
     elim (option_cases (first_between f low high)) [
       | inl none ↦ first_below-all g n (λ a lt. none_by_number at f g low high n high a by lt (omega arith) none (λ k hl hh. absurd (omega arith))) ∙ sym none
@@ -88,7 +93,11 @@ first_by_place at f g low high n rising by =
           let i = h.0 in
           let lt : at i < n = rising.below i h.1.low h.1.high in
           let before : first_below g (at i) ≡ None =
-          first_below-all g (at i) (λ a below. none_by_number at f g low high n i a by (omega (arith, lt, below)) (omega (arith, h.1.high)) h.1.none_before (λ k kl kh same.
+          first_below-all g (at i) (λ a below. none_by_number at f g low high n i a by (omega (
+            arith,
+            lt,
+            below,
+          )) (omega (arith, h.1.high)) h.1.none_before (λ k kl kh same.
           (elim (cases_order k i) [
             | inl here ↦ omega (arith, ap at here, below, same)
             | inr (inl early) ↦ omega (arith, early, kl)
@@ -98,7 +107,8 @@ first_by_place at f g low high n rising by =
     ]
 
 -- the stops left rise along the footpaths into a stop
-pub rising_far : (w : List ℕ) (c : ℕ) → HasFootRange w c → (d j : ℕ) → foot_index_of w c ≤ j → j + suc d < foot_index_of w (c + 1) → foot_from_of w j < foot_from_of w (j + suc d)
+pub rising_far : (w : List ℕ) (c : ℕ) → HasFootRange w c → (d j : ℕ) → foot_index_of w c ≤ j
+    → j + suc d < foot_index_of w (c + 1) → foot_from_of w j < foot_from_of w (j + suc d)
 rising_far w c range zero j low high =
     let e : j + 1 ≡ j + suc zero = omega arith in
     subst (λ (k : ℕ). foot_from_of w j < foot_from_of w k) e (range.rising j low (omega arith))
@@ -108,7 +118,8 @@ rising_far w c range (suc d) j low high =
     let step = range.rising (j + suc d) (omega arith) (omega arith) in
     subst (λ (k : ℕ). foot_from_of w j < foot_from_of w k) e (omega (arith, before, step))
 
-pub rises_later : (w : List ℕ) (c j k : ℕ) → HasFootRange w c → foot_index_of w c ≤ j → j < k → k < foot_index_of w (c + 1) → foot_from_of w j < foot_from_of w k
+pub rises_later : (w : List ℕ) (c j k : ℕ) → HasFootRange w c → foot_index_of w c ≤ j → j < k
+    → k < foot_index_of w (c + 1) → foot_from_of w j < foot_from_of w k
 rises_later w c j k range low lt high =
     let e : j + suc (k - (j + 1)) ≡ k = omega arith in
     subst (λ (x : ℕ). foot_from_of w j < foot_from_of w x) e (rising_far w c range (k - (j + 1)) j low (omega arith))
@@ -123,7 +134,8 @@ secs_elsewhere : (w : List ℕ) (a k : ℕ) → foot_from_of w k ≢ a → cond 
 secs_elsewhere w a k ne = rw (ne_eqb _ _ ne) refl
 
 -- the footpath at place k into stop c is the one from the stop that it leaves
-pub secs_between-at : (w : List ℕ) (a c k : ℕ) → HasFootRange w c → foot_index_of w c ≤ k → k < foot_index_of w (c + 1) → foot_from_of w k ≡ a → secs_between w a c ≡ Some (foot_secs_of w k)
+pub secs_between-at : (w : List ℕ) (a c k : ℕ) → HasFootRange w c → foot_index_of w c ≤ k → k < foot_index_of w (c + 1)
+    → foot_from_of w k ≡ a → secs_between w a c ≡ Some (foot_secs_of w k)
 unfolding secs_between
 secs_between-at w a c k range low high here =
     first_between-found _ (foot_index_of w c) (foot_index_of w (c + 1)) k (foot_secs_of w k) low high
@@ -131,7 +143,8 @@ secs_between-at w a c k range low high here =
     (secs_here w a k here)
 
 -- where none leaves a stop, there is no footpath from it
-pub secs_between-none : (w : List ℕ) (a c : ℕ) → ((k : ℕ) → foot_index_of w c ≤ k → k < foot_index_of w (c + 1) → foot_from_of w k ≢ a) → secs_between w a c ≡ None
+pub secs_between-none : (w : List ℕ) (a c : ℕ)
+    → ((k : ℕ) → foot_index_of w c ≤ k → k < foot_index_of w (c + 1) → foot_from_of w k ≢ a) → secs_between w a c ≡ None
 unfolding secs_between
 secs_between-none w a c none = first_between-all _ (foot_index_of w c) (foot_index_of w (c + 1)) (λ k low high. secs_elsewhere w a k (none k low high))
 
@@ -154,7 +167,9 @@ secs_between-some w a c secs e =
     ]
 
 -- the fault of three stops, by the seconds between them
-pub open_fault-by : (w : List ℕ) (a b c : ℕ) (first second direct : Option ℕ) → secs_between w a b ≡ first → secs_between w b c ≡ second → secs_between w a c ≡ direct → open_fault w a b c ≡ cond (is_open first second direct) (Some (NotClosed a b c)) None
+pub open_fault-by : (w : List ℕ) (a b c : ℕ) (first second direct : Option ℕ) → secs_between w a b ≡ first
+    → secs_between w b c ≡ second → secs_between w a c ≡ direct
+    → open_fault w a b c ≡ cond (is_open first second direct) (Some (NotClosed a b c)) None
 unfolding open_fault
 open_fault-by w a b c first second direct e1 e2 e3 =
     ap (λ (o : Option ℕ). cond (is_open o (secs_between w b c) (secs_between w a c)) (Some (NotClosed a b c)) None) e1
@@ -162,15 +177,20 @@ open_fault-by w a b c first second direct e1 e2 e3 =
     ∙ ap (λ (o : Option ℕ). cond (is_open first second o) (Some (NotClosed a b c)) None) e3
 
 -- a first and a second footpath with a direct one that is as short
-pub open_fault-closed : (w : List ℕ) (a b c first second direct : ℕ) → secs_between w a b ≡ Some first → secs_between w b c ≡ Some second → secs_between w a c ≡ Some direct → direct ≤ first + second → open_fault w a b c ≡ None
+pub open_fault-closed : (w : List ℕ) (a b c first second direct : ℕ) → secs_between w a b ≡ Some first
+    → secs_between w b c ≡ Some second → secs_between w a c ≡ Some direct → direct ≤ first + second
+    → open_fault w a b c ≡ None
 open_fault-closed w a b c first second direct e1 e2 e3 le = open_fault-by w a b c (Some first) (Some second) (Some direct) e1 e2 e3 ∙ rw (le-ltb _ _ le) refl
 
 -- .. with a direct one that is longer
-pub open_fault-longer : (w : List ℕ) (a b c first second direct : ℕ) → secs_between w a b ≡ Some first → secs_between w b c ≡ Some second → secs_between w a c ≡ Some direct → first + second < direct → open_fault w a b c ≡ Some (NotClosed a b c)
+pub open_fault-longer : (w : List ℕ) (a b c first second direct : ℕ) → secs_between w a b ≡ Some first
+    → secs_between w b c ≡ Some second → secs_between w a c ≡ Some direct → first + second < direct
+    → open_fault w a b c ≡ Some (NotClosed a b c)
 open_fault-longer w a b c first second direct e1 e2 e3 lt = open_fault-by w a b c (Some first) (Some second) (Some direct) e1 e2 e3 ∙ rw (lt-ltb _ _ lt) refl
 
 -- .. with no direct one
-pub open_fault-missing : (w : List ℕ) (a b c first second : ℕ) → secs_between w a b ≡ Some first → secs_between w b c ≡ Some second → secs_between w a c ≡ None → open_fault w a b c ≡ Some (NotClosed a b c)
+pub open_fault-missing : (w : List ℕ) (a b c first second : ℕ) → secs_between w a b ≡ Some first
+    → secs_between w b c ≡ Some second → secs_between w a c ≡ None → open_fault w a b c ≡ Some (NotClosed a b c)
 open_fault-missing w a b c first second e1 e2 e3 = open_fault-by w a b c (Some first) (Some second) None e1 e2 e3
 
 pub open_fault-no_first : (w : List ℕ) (a b c : ℕ) → secs_between w a b ≡ None → open_fault w a b c ≡ None
@@ -184,7 +204,9 @@ open_fault-no_second w a b c e2 = open_fault-by w a b c (secs_between w a b) Non
     never (Some x) = refl
 
 -- without fault there is a direct one that is as short
-pub open_fault-none : (w : List ℕ) (a b c first second : ℕ) → secs_between w a b ≡ Some first → secs_between w b c ≡ Some second → open_fault w a b c ≡ None → (direct : ℕ) × (secs_between w a c ≡ Some direct) × (direct ≤ first + second)
+pub open_fault-none : (w : List ℕ) (a b c first second : ℕ) → secs_between w a b ≡ Some first
+    → secs_between w b c ≡ Some second → open_fault w a b c ≡ None
+    → (direct : ℕ) × (secs_between w a c ≡ Some direct) × (direct ≤ first + second)
 open_fault-none w a b c first second e1 e2 none =
     elim (option_cases (secs_between w a c)) [
       | inl e3 ↦ absurd (some-none (NotClosed a b c) (sym (open_fault-missing w a b c first second e1 e2 e3) ∙ none))
@@ -198,8 +220,10 @@ open_fault-none w a b c first second e1 e2 none =
       )
     ]
 
-first_secs : (w : List ℕ) (first second : ℕ) → HasFootRanges w → IsInto w (foot_from_of w second) first → secs_between w (foot_from_of w first) (foot_from_of w second) ≡ Some (foot_secs_of w first)
-first_secs w first second ranges into = secs_between-at w (foot_from_of w first) (foot_from_of w second) first (ranges (foot_from_of w second) into.stop) into.start into.end refl
+first_secs : (w : List ℕ) (first second : ℕ) → HasFootRanges w → IsInto w (foot_from_of w second) first
+    → secs_between w (foot_from_of w first) (foot_from_of w second) ≡ Some (foot_secs_of w first)
+first_secs w first second ranges into = secs_between-at w (foot_from_of w first) (foot_from_of w second) first
+    (ranges (foot_from_of w second) into.stop) into.start into.end refl
 
 second_secs : (w : List ℕ) (second c : ℕ) → HasFootRanges w → IsInto w c second → secs_between w (foot_from_of w second) c ≡ Some (foot_secs_of w second)
 second_secs w second c ranges into = secs_between-at w (foot_from_of w second) c second (ranges c into.stop) into.start into.end refl
@@ -314,7 +338,9 @@ HasSecs-less w c k secs range low high table =
     let end = foot_index_of w (c + 1) in
     let b = foot_from_of w k in
     let none : first_between (secs_from w b) (k + 1) end ≡ None =
-    first_between-all (secs_from w b) (k + 1) end (λ j jl jh. secs_elsewhere w b j (λ e. omega (arith, rises_later w c k j range low (omega (arith, jl)) jh, e))) in
+    first_between-all (secs_from w b) (k + 1) end
+    (λ j jl jh. secs_elsewhere w b j (λ e. omega (arith, rises_later w c k j range low (omega (arith, jl)) jh, e)))
+    in
     HasSecs-put w k end (k + 1) end b NEVER secs (range.from k low high) table (sym (ap or_never none))
     (λ a other. without_first (secs_from w a) k end high (secs_elsewhere w a k other))
 
@@ -330,7 +356,8 @@ way_at w c j = way_fault w (foot_from_of w j) c
 pub way_by_place : (w : List ℕ) (b c : ℕ) → HasFootRange w b → way_fault w b c ≡ first_between (open_at w b c) (foot_index_of w b) (foot_index_of w (b + 1))
 unfolding way_fault
 way_by_place w b c range =
-    first_by_place (foot_from_of w) (open_at w b c) (λ a. open_fault w a b c) (foot_index_of w b) (foot_index_of w (b + 1)) (header_of w).stops (IsRising-from w b range)
+    first_by_place (foot_from_of w) (open_at w b c) (λ a. open_fault w a b c) (foot_index_of w b)
+    (foot_index_of w (b + 1)) (header_of w).stops (IsRising-from w b range)
     (record { same = λ k low high. refl; none_else = λ a lt none. open_fault-no_first w a b c (secs_between-none w a b none) })
 
 no_way : (w : List ℕ) (b c : ℕ) → secs_between w b c ≡ None → way_fault w b c ≡ None
@@ -341,7 +368,8 @@ no_way w b c none = first_below-all (λ a. open_fault w a b c) (header_of w).sto
 pub into_by_place : (w : List ℕ) (c : ℕ) → HasFootRange w c → into_fault w c ≡ first_between (way_at w c) (foot_index_of w c) (foot_index_of w (c + 1))
 unfolding into_fault
 into_by_place w c range =
-    first_by_place (foot_from_of w) (way_at w c) (λ b. way_fault w b c) (foot_index_of w c) (foot_index_of w (c + 1)) (header_of w).stops (IsRising-from w c range)
+    first_by_place (foot_from_of w) (way_at w c) (λ b. way_fault w b c) (foot_index_of w c) (foot_index_of w (c + 1))
+    (header_of w).stops (IsRising-from w c range)
     (record { same = λ k low high. refl; none_else = λ b lt none. no_way w b c (secs_between-none w b c none) })
 
 -- a search that found nothing up to its end

@@ -1,5 +1,6 @@
 -- The table of where and when each trip ended last, and what a connection without fault keeps.
-use Rattle.std.proofs.Common.{◌≡◌, ◌≢◌, ℕ, ◌+◌, ◌<◌, ◌≤◌, ◌||◌, false, eqb, leb, ltb, List, length, get_or, Option, Some, None, refl, sym, ap, ◌∙◌, arith, inl, inr}
+use Rattle.std.proofs.Common.{◌≡◌, ◌≢◌, ℕ, ◌+◌, ◌<◌, ◌≤◌, ◌||◌, false, eqb, leb, ltb, List, length, get_or, Option}
+use Rattle.std.proofs.Common.{Some, None, refl, sym, ap, ◌∙◌, arith, inl, inr}
 use Rattle.std.proofs.Math.ListN.{set}
 use Rattle.std.specs.Prelude.{replicate}
 use Rattle.std.proofs.lemmas.Bool.{cases_eq, or_parts, leb-false, ltb-false, eq-eqb, ne_eqb}
@@ -67,7 +68,8 @@ AreTripEnds-start w ends e = record {
 }
 
 -- one connection on
-pub AreTripEnds-more : (w : List ℕ) (i : ℕ) (ends : List TripEnd) → IsSound w i → AreTripEnds w i ends → AreTripEnds w (i + 1) (set ends (trip_of w i) (end_of w (Some i)))
+pub AreTripEnds-more : (w : List ℕ) (i : ℕ) (ends : List TripEnd) → IsSound w i → AreTripEnds w i ends
+    → AreTripEnds w (i + 1) (set ends (trip_of w i) (end_of w (Some i)))
 AreTripEnds-more w i ends sound table =
     let new = set ends (trip_of w i) (end_of w (Some i)) in
     let size : length new ≡ (header_of w).trips = length-set ends (trip_of w i) (end_of w (Some i)) ∙ table.size in
@@ -75,7 +77,12 @@ AreTripEnds-more w i ends sound table =
       size = size;
       entry = λ t lt. elim (cases_eq (trip_of w i) t) [
         | inl same ↦
-            let at : get_or new (trip_of w i) (end_of w None) ≡ end_of w (Some i) = get_or-set_same ends (trip_of w i) (end_of w (Some i)) (end_of w None) (omega (arith, sound.trip, table.size)) in
+            let at : get_or new (trip_of w i) (end_of w None) ≡ end_of w (Some i) =
+            get_or-set_same ends (trip_of w i) (end_of w (Some i)) (end_of w None) (omega (
+              arith,
+              sound.trip,
+              table.size,
+            )) in
             ap (λ (k : ℕ). get_or new k (end_of w None)) (sym same) ∙ at ∙ ap (end_of w) (sym (here t same))
         | inr other ↦
             let ne : t ≢ trip_of w i = λ e. other (sym e) in

@@ -1,5 +1,6 @@
 -- Words of a legal timetable and names within the limits have no fault.
-use Rattle.std.proofs.Common.{◌≡◌, ℕ, zero, suc, ◌+◌, ◌-◌, ◌<◌, ◌≤◌, true, false, not, ◌&&◌, eqb, ltb, List, Option, Some, None, refl, sym, ap, subst, ◌∙◌, arith, inl, inr}
+use Rattle.std.proofs.Common.{◌≡◌, ℕ, zero, suc, ◌+◌, ◌-◌, ◌<◌, ◌≤◌, true, false, not, ◌&&◌, eqb, ltb, List, Option}
+use Rattle.std.proofs.Common.{Some, None, refl, sym, ap, subst, ◌∙◌, arith, inl, inr}
 use Rattle.std.specs.Prelude.{slice_get}
 use Rattle.std.proofs.lemmas.Bool.{or_from, and_right, le-ltb, lt-leb, eq-eqb, eqb-true, both_ways}
 use Rattle.reasoning.proofs.OptionLemmas.{option_cases}
@@ -13,7 +14,9 @@ use Rattle.image_layout.specs.Image.{HasImage}
 use Rattle.image_layout.proofs.Feet.{index_rises}
 use Rattle.image_layout.proofs.Whole.{IsWellFormed, connection_is}
 use Rattle.image_layout.proofs.Found.{connection_shown, footpath_is, IsStopOf, footpath_shown}
-use Rattle.image_verifier.specs.declared.fault.ImageFault.TheVariants.{StopRange, TripRange, TimeRange, HopWithoutDuration, BadFlags, Unsorted, TripBroken, FootRange, FootUnsorted, NoLoop}
+use Rattle.image_verifier.specs.declared.fault.ImageFault.TheVariants.{StopRange, TripRange, TimeRange}
+use Rattle.image_verifier.specs.declared.fault.ImageFault.TheVariants.{HopWithoutDuration, BadFlags, Unsorted}
+use Rattle.image_verifier.specs.declared.fault.ImageFault.TheVariants.{TripBroken, FootRange, FootUnsorted, NoLoop}
 use Rattle.timetable.specs.First.{any_between}
 use Rattle.image_verifier.specs.ConnectionFaults.{own_fault, place_fault, is_break, connection_fault, last_of_trip}
 use Rattle.image_verifier.specs.FootFaults.{is_bad_footpath, is_bad_index, is_fall, is_from, foot_fault, HasFootRange}
@@ -41,9 +44,19 @@ sound_from_legal w form can i lt =
     let stops = can.legal.stops_in_range i (connection_of w i) at in
     let time = can.legal.takes_time i (connection_of w i) at in
     let late = can.limits.times i (connection_of w i) at in
-    record { from = stops.0; to = stops.1; trip = can.legal.trips_in_range i (connection_of w i) at; dep = omega arith; arr = late; duration = time; flags = form.flags i lt }
+    record {
+      from = stops.0;
+      to = stops.1;
+      trip = can.legal.trips_in_range i (connection_of w i) at;
+      dep =
+          omega arith;
+      arr = late;
+      duration = time;
+      flags = form.flags i lt;
+    }
 
-unbroken_from_legal : (w : List ℕ) → HasImage (timetable_of w) (names_of w) → (i : ℕ) → i < (header_of w).connections → (o : Option ℕ) → last_of_trip w (trip_of w i) i ≡ o → is_break w i o ≡ false
+unbroken_from_legal : (w : List ℕ) → HasImage (timetable_of w) (names_of w) → (i : ℕ) → i < (header_of w).connections
+    → (o : Option ℕ) → last_of_trip w (trip_of w i) i ≡ o → is_break w i o ≡ false
 unbroken_from_legal w can i lt None e = refl
 unbroken_from_legal w can i lt (Some j) e =
     let l = last_below-some (λ k. eqb (trip_of w k) (trip_of w i)) i j e in
@@ -59,22 +72,27 @@ unbroken_from_legal w can i lt (Some j) e =
     let goes = can.legal.unbroken j i (connection_of w j) (connection_of w i) before in
     or_from _ _ (ap not (eq-eqb _ _ goes.0)) (le-ltb _ _ goes.1)
 
-sorted_from_legal : (w : List ℕ) → HasImage (timetable_of w) (names_of w) → (i : ℕ) → i < (header_of w).connections → (ltb 0 i && ltb (dep_of w i) (dep_of w (i - 1))) ≡ false
+sorted_from_legal : (w : List ℕ) → HasImage (timetable_of w) (names_of w) → (i : ℕ) → i < (header_of w).connections
+    → (ltb 0 i && ltb (dep_of w i) (dep_of w (i - 1))) ≡ false
 sorted_from_legal w can zero lt = refl
 sorted_from_legal w can (suc i) lt =
     let k : i + 1 ≡ suc i = omega arith in
     let back : suc i - 1 ≡ i = omega arith in
-    let up = can.legal.departures_never_fall i (connection_of w i) (connection_of w (suc i)) (shown_at w i (omega arith)) (ap (λ (x : ℕ). slice_get (connections_of w) x) k ∙ shown_at w (suc i) lt) in
+    let up = can.legal.departures_never_fall i (connection_of w i) (connection_of w (suc i))
+    (shown_at w i (omega arith)) (ap (λ (x : ℕ). slice_get (connections_of w) x) k ∙ shown_at w (suc i) lt) in
     and_right _ _ (le-ltb (dep_of w (suc i)) (dep_of w (suc i - 1)) (omega (arith, up, ap (λ (x : ℕ). dep_of w x) back)))
 
-pub connection_faultless : (w : List ℕ) → IsWellFormed w → HasImage (timetable_of w) (names_of w) → (i : ℕ) → i < (header_of w).connections → connection_fault w i ≡ None
+pub connection_faultless : (w : List ℕ) → IsWellFormed w → HasImage (timetable_of w) (names_of w) → (i : ℕ)
+    → i < (header_of w).connections → connection_fault w i ≡ None
 unfolding connection_fault
 connection_faultless w form can i lt =
     or_else-none (own_fault w i) (place_fault w i (is_break w i (last_of_trip w (trip_of w i) i))) (own-faultless w i (sound_from_legal w form can i lt))
-    ∙ passes _ (Unsorted i) _ (sorted_from_legal w can i lt) (passes _ (TripBroken i) None (unbroken_from_legal w can i lt (last_of_trip w (trip_of w i) i) refl) refl)
+    ∙ passes _ (Unsorted i) _ (sorted_from_legal w can i lt)
+    (passes _ (TripBroken i) None (unbroken_from_legal w can i lt (last_of_trip w (trip_of w i) i) refl) refl)
 
 -- the shown footpath of a place, into the stop whose place it is
-walk_at : (w : List ℕ) → IsWellFormed w → (s k : ℕ) → s < (header_of w).stops → foot_index_of w s ≤ k → k < foot_index_of w (s + 1) → At (footpaths_of w) k (footpath_of w s k)
+walk_at : (w : List ℕ) → IsWellFormed w → (s k : ℕ) → s < (header_of w).stops → foot_index_of w s ≤ k
+    → k < foot_index_of w (s + 1) → At (footpaths_of w) k (footpath_of w s k)
 walk_at w form s k lt low high = footpath_is w s k form.whole form.feet lt low high
 
 index_far : (w : List ℕ) → IsWellFormed w → (s t : ℕ) → s ≤ t → t ≤ (header_of w).stops → foot_index_of w s ≤ foot_index_of w t
@@ -85,7 +103,8 @@ index_far w form s t le within =
     omega (arith, at, h)
 
 -- a listed footpath from a to c has a place among those into c
-place_of : (w : List ℕ) → IsWellFormed w → (a c secs : ℕ) → (has : HasFootpath (footpaths_of w) a c secs) → IsStopOf w has.0 c × (foot_from_of w has.0 ≡ a) × (foot_secs_of w has.0 ≡ secs)
+place_of : (w : List ℕ) → IsWellFormed w → (a c secs : ℕ) → (has : HasFootpath (footpaths_of w) a c secs)
+    → IsStopOf w has.0 c × (foot_from_of w has.0 ≡ a) × (foot_secs_of w has.0 ≡ secs)
 place_of w form a c secs has =
     let s = footpath_shown w has.0 (record { from = a; to = c; secs = secs }) form.whole form.feet has.1 in
     let to : s.0 ≡ c = sym (ap (λ (x : Footpath). x.to) s.2) in
@@ -106,17 +125,22 @@ foot_faultless w form can s lt =
     let rising : any_between (is_fall w) (start + 1) end ≡ false =
     any_between-all (is_fall w) (start + 1) end (λ k low high.
     let here : (k - 1) + 1 ≡ k = omega arith in
-    let after = can.legal.in_order (k - 1) (footpath_of w s (k - 1)) (footpath_of w s k) (walk_at w form s (k - 1) lt (omega arith) (omega arith)) (ap (λ (x : ℕ). slice_get (footpaths_of w) x) here ∙ walk_at w form s k lt (omega arith) high) in
+    let after = can.legal.in_order (k - 1) (footpath_of w s (k - 1)) (footpath_of w s k)
+    (walk_at w form s (k - 1) lt (omega arith) (omega arith)) (ap (λ (x : ℕ). slice_get (footpaths_of w) x) here
+    ∙ walk_at w form s k lt (omega arith) high) in
     lt-leb _ _ (after.1 refl)) in
     let loop = can.legal.loops s lt in
     let place = place_of w form s s loop.0 loop.1 in
-    let found : any_between (is_from w s) start end ≡ true = any_between-found (is_from w s) start end loop.1.0 place.0.start place.0.end (eq-eqb _ _ place.1) in
+    let found : any_between (is_from w s) start end ≡ true =
+    any_between-found (is_from w s) start end loop.1.0 place.0.start place.0.end (eq-eqb _ _ place.1) in
     passes _ (FootRange s) _ (or_from _ _ index each)
     (passes _ (FootUnsorted s) _ rising
     (passes _ (NoLoop s) None (ap not found) refl))
 
 -- no going by way of a stop is shorter than the direct footpath
-open_faultless : (w : List ℕ) → IsWellFormed w → HasImage (timetable_of w) (names_of w) → ((s : ℕ) → s < (header_of w).stops → HasFootRange w s) → (a b c : ℕ) → b < (header_of w).stops → c < (header_of w).stops → open_fault w a b c ≡ None
+open_faultless : (w : List ℕ) → IsWellFormed w → HasImage (timetable_of w) (names_of w)
+    → ((s : ℕ) → s < (header_of w).stops → HasFootRange w s) → (a b c : ℕ) → b < (header_of w).stops
+    → c < (header_of w).stops → open_fault w a b c ≡ None
 open_faultless w form can ranges a b c b_lt c_lt =
     elim (option_cases (secs_between w a b)) [
       | inl none ↦ open_fault-no_first w a b c none
@@ -125,7 +149,8 @@ open_faultless w form can ranges a b c b_lt c_lt =
         | inr second ↦
             let direct = can.legal.closed a b c first.0 second.0 (has_footpath a b first.0 b_lt first.1) (has_footpath b c second.0 c_lt second.1) in
             let place = place_of w form a c direct.0 direct.1 in
-            let there : secs_between w a c ≡ Some (foot_secs_of w direct.1.0) = secs_between-at w a c direct.1.0 (ranges c c_lt) place.0.start place.0.end place.1 in
+            let there : secs_between w a c ≡ Some (foot_secs_of w direct.1.0) =
+            secs_between-at w a c direct.1.0 (ranges c c_lt) place.0.start place.0.end place.1 in
             open_fault-closed w a b c first.0 second.0 (foot_secs_of w direct.1.0) first.1 second.1 there (omega (arith, place.2, direct.2))
       ]
     ]

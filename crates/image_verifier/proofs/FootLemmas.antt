@@ -5,7 +5,8 @@ use Rattle.image_layout.specs.Places.{header_of}
 use Rattle.image_layout.specs.Fields.{foot_index_of, foot_from_of}
 use Rattle.image_verifier.specs.declared.fault.ImageFault.TheVariants.{FootRange, FootUnsorted, NoLoop}
 use Rattle.timetable.specs.First.{first_below, any_between}
-use Rattle.image_verifier.specs.FootFaults.{is_bad_footpath, is_fall, is_from, is_bad_index, foot_fault, foot_end_fault, footpaths_fault, HasFootRange, HasFootRanges}
+use Rattle.image_verifier.specs.FootFaults.{is_bad_footpath, is_fall, is_from, is_bad_index, foot_fault, foot_end_fault}
+use Rattle.image_verifier.specs.FootFaults.{footpaths_fault, HasFootRange, HasFootRanges}
 use Rattle.timetable.proofs.FirstLemmas.{or_else_parts, no_fault, first_below-none, any_between-none}
 
 -- the tests of stop s, each without fault
@@ -29,13 +30,16 @@ HasFootRange-from w s e =
     let tests = AreFootTests-from w s e in
     let outer = or_parts _ _ tests.index in
     let inner = or_parts _ _ outer.0 in
-    let good : (k : ℕ) → foot_index_of w s ≤ k → k < foot_index_of w (s + 1) → is_bad_footpath w k ≡ false = λ k le lt. any_between-none (is_bad_footpath w) (foot_index_of w s) (foot_index_of w (s + 1)) k le lt tests.each in
+    let good : (k : ℕ) → foot_index_of w s ≤ k → k < foot_index_of w (s + 1) → is_bad_footpath w k ≡ false =
+    λ k le lt. any_between-none (is_bad_footpath w) (foot_index_of w s) (foot_index_of w (s + 1)) k le lt
+    tests.each in
     record {
       rises = ltb-false _ _ inner.1;
       within = ltb-false _ _ outer.1;
       from = λ k le lt. leb-false _ _ (or_parts _ _ (good k le lt)).0;
       rising = λ k le lt. (
-          let up : is_fall w (k + 1) ≡ false = any_between-none (is_fall w) (foot_index_of w s + 1) (foot_index_of w (s + 1)) (k + 1) (omega arith) lt tests.rising in
+          let up : is_fall w (k + 1) ≡ false = any_between-none (is_fall w) (foot_index_of w s + 1)
+          (foot_index_of w (s + 1)) (k + 1) (omega arith) lt tests.rising in
           let back : (k + 1) - 1 ≡ k = omega arith in
           let more = leb-false _ _ up in
           omega (arith, more, ap (λ (x : ℕ). foot_from_of w x) back));
@@ -44,4 +48,5 @@ HasFootRange-from w s e =
 
 pub HasFootRanges-from : (w : List ℕ) → footpaths_fault w ≡ None → HasFootRanges w
 HasFootRanges-from w e s lt =
-    HasFootRange-from w s (first_below-none (foot_fault w) (header_of w).stops s lt (or_else_parts (first_below (foot_fault w) (header_of w).stops) (foot_end_fault w) e).0)
+    HasFootRange-from w s (first_below-none (foot_fault w) (header_of w).stops s lt
+    (or_else_parts (first_below (foot_fault w) (header_of w).stops) (foot_end_fault w) e).0)

@@ -34,8 +34,11 @@ pub shown_in : {X : Type 0} (f : ℕ → X) (n i : ℕ) (x : X) → slice_get (m
 shown_in f n i x e =
     let size = length-map-range_with_len f 0 n in
     let within = slice_get_within (map f (range_with_len 0 n)) i x e in
-    let lt : i < n = omega (arith, size, within) in
-    (lt, same_Some x (f i) (sym e ∙ slice_get-get_or (map f (range_with_len 0 n)) i (f 0) within ∙ ap Some (get_or-map-range_with_len f 0 n i i (f 0) lt (omega arith))))
+    let lt : i < n = omega (arith, size, within) in (
+      lt,
+      same_Some x (f i) (sym e ∙ slice_get-get_or (map f (range_with_len 0 n)) i (f 0) within
+          ∙ ap Some (get_or-map-range_with_len f 0 n i i (f 0) lt (omega arith))),
+    )
 
 -- the limits that a header keeps
 record IsSmall (w : List ℕ) : Type 0 where
@@ -51,7 +54,14 @@ IsSmall-from w e =
     let b = or_parts _ _ a.0 in
     let d = or_parts _ _ b.0 in
     let f = or_parts _ _ d.0 in
-    record { stops = ltb-false _ _ f.0; trips = ltb-false _ _ f.1; connections = ltb-false _ _ d.1; footpaths = ltb-false _ _ b.1; name_bytes = ltb-false _ _ a.1 }
+    record {
+      stops = ltb-false _ _ f.0;
+      trips = ltb-false _ _ f.1;
+      connections = ltb-false _ _ d.1;
+      footpaths =
+          ltb-false _ _ b.1;
+      name_bytes = ltb-false _ _ a.1;
+    }
 
 Fits-at : (a b : ℕ) → a < 2 ^ 32 → b < 2 ^ 32 → Fits w64 (a + 4294967296 * b)
 Fits-at a b p q = record { fits = omega arith }
@@ -77,7 +87,9 @@ HasImage-from w form good =
         connections = omega (arith, length-connections_of w, small.connections);
         footpaths = omega (arith, length-footpaths_of w form.whole form.feet, small.footpaths);
         times = λ i c e. (let s = connection_shown w i c e in subst (λ (x : Connection). x.arr < TIME_END) (sym s.1) (sound_at w good i s.0).arr);
-        walks = λ k f e. (let s = footpath_shown w k f form.whole form.feet e in subst (λ (x : Footpath). x.secs ≤ MAX_WALK_SECS) (sym s.2) ((HasFootRange-from w s.0 (good.feet s.0 s.1.stop)).secs k s.1.start s.1.end));
+        walks = λ k f e. (let s = footpath_shown w k f form.whole form.feet e in
+            subst (λ (x : Footpath). x.secs ≤ MAX_WALK_SECS) (sym s.2)
+            ((HasFootRange-from w s.0 (good.feet s.0 s.1.stop)).secs k s.1.start s.1.end));
       };
       names = record {
         stop_names = length-map-range_with_len (name_of w) 0 stops;
@@ -85,10 +97,20 @@ HasImage-from w form good =
         utf8 = λ i name e. (
             let s = shown_in (name_of w) (name_count w) i name (ap (λ (x : List (List ℕ)). slice_get x i) (sym (names_are w)) ∙ e) in
             subst (λ (x : List ℕ). IsUtf8 x) (sym s.1) (IsUtf8-from_is_utf8 (name_of w i) (IsName-from w i (good.names i s.0)).utf8));
-        bytes = omega (arith, small.name_bytes, ap length (text_again w form.names) ∙ length-take-le (header_of w).name_bytes (padded_text_of w) (text_is_long w (padded_text_of w) form.whole refl));
-        days = λ i t e. (let s = shown_in (trip_name_of w) trips i t e in subst (λ (x : TripNameValue). x.day < 2 ^ 32) (sym s.1) (form.fits (day_place (header_of w) + i)));
-        repeats = λ i t e. (let s = shown_in (trip_name_of w) trips i t e in subst (λ (x : TripNameValue). x.repeat < 2 ^ 32) (sym s.1) (repeat_fits w i form.fits));
-        base = sfits_to_z {w = w64} {n = slice_index w 7 + 4294967296 * slice_index w 8} (Fits-at (slice_index w 7) (slice_index w 8) (form.fits 7) (form.fits 8));
+        bytes = omega (
+          arith,
+          small.name_bytes,
+          ap length (text_again w form.names) ∙ length-take-le (header_of w).name_bytes (padded_text_of w)
+              (text_is_long w (padded_text_of w) form.whole refl),
+        );
+        days = λ i t e. (let s = shown_in (trip_name_of w) trips i t e in
+            subst (λ (x : TripNameValue). x.day < 2 ^ 32) (sym s.1)
+            (form.fits (day_place (header_of w) + i)));
+        repeats = λ i t e. (let s = shown_in (trip_name_of w) trips i t e in
+            subst (λ (x : TripNameValue). x.repeat < 2 ^ 32) (sym s.1)
+            (repeat_fits w i form.fits));
+        base = sfits_to_z {w = w64} {n = slice_index w 7 + 4294967296 * slice_index w 8}
+            (Fits-at (slice_index w 7) (slice_index w 8) (form.fits 7) (form.fits 8));
       };
     }
 

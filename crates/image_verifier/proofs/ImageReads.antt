@@ -22,10 +22,12 @@ image_connections w t n is = ap (λ (v : List ℕ). connections_of v) is.spelled
 
 pub image_within : (w : List ℕ) (t : TimetableValue) (n : NamesValue) (i : ℕ) → IsImage w t n → i < length t.connections → i < (header_of w).connections
 image_within w t n i is lt =
-    let count : length t.connections ≡ (header_of w).connections = ap (λ (cs : List Connection). length cs) (sym (image_connections w t n is)) ∙ length-connections_of w in
+    let count : length t.connections ≡ (header_of w).connections =
+    ap (λ (cs : List Connection). length cs) (sym (image_connections w t n is)) ∙ length-connections_of w in
     omega (arith, count, lt)
 
-pub image_departure : (w : List ℕ) (t : TimetableValue) (n : NamesValue) (i : ℕ) → IsImage w t n → i < length t.connections → dep_of w i ≡ (connection_at t i).dep
+pub image_departure : (w : List ℕ) (t : TimetableValue) (n : NamesValue) (i : ℕ) → IsImage w t n
+    → i < length t.connections → dep_of w i ≡ (connection_at t i).dep
 image_departure w t n i is lt =
     let here = connection_is w i (image_within w t n i is lt) in
     let there : At t.connections i (connection_of w i) = subst (λ (cs : List Connection). At cs i (connection_of w i)) (image_connections w t n is) here in

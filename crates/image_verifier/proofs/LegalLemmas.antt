@@ -75,7 +75,8 @@ passed w feet s t lt le =
     let h = index_rises w (t - (s + 1)) (s + 1) (λ u below. feet.rises u (omega arith)) in
     omega (arith, at, h)
 
-listed_after : (w : List ℕ) → IsWhole w → AreFaultless w → (k : ℕ) (d e : Footpath) → At (footpaths_of w) k d → At (footpaths_of w) (k + 1) e → IsOrderedBefore d e
+listed_after : (w : List ℕ) → IsWhole w → AreFaultless w → (k : ℕ) (d e : Footpath) → At (footpaths_of w) k d
+    → At (footpaths_of w) (k + 1) e → IsOrderedBefore d e
 listed_after w whole good k d e ed ee =
     let feet = IsFootIndex-from w good in
     let sd = footpath_shown w k d whole feet ed in
@@ -87,7 +88,8 @@ listed_after w whole good k d e ed ee =
       | inl same ↦
           let end : k + 1 < foot_index_of w (s + 1) = subst (λ (x : ℕ). k + 1 < foot_index_of w (x + 1)) (sym same) se.1.end in
           let tests = AreFootTests-from w s (good.feet s sd.1.stop) in
-          let up : is_fall w (k + 1) ≡ false = any_between-none (is_fall w) (foot_index_of w s + 1) (foot_index_of w (s + 1)) (k + 1) (omega (arith, sd.1.start)) end tests.rising in
+          let up : is_fall w (k + 1) ≡ false = any_between-none (is_fall w) (foot_index_of w s + 1)
+          (foot_index_of w (s + 1)) (k + 1) (omega (arith, sd.1.start)) end tests.rising in
           let back : (k + 1) - 1 ≡ k = omega arith in
           let more = leb-false _ _ up in
           (omega (arith, same), λ _. omega (arith, more, ap (λ (x : ℕ). foot_from_of w x) back))
@@ -102,11 +104,13 @@ has_loop w whole good s lt =
     let tests = AreFootTests-from w s (good.feet s lt) in
     let k = any_between-some (is_from w s) (foot_index_of w s) (foot_index_of w (s + 1)) tests.loop in
     let from : foot_from_of w k.0 ≡ s = eqb-true _ _ k.3 in
-    let e : footpath_of w s k.0 ≡ record { from = s; to = s; secs = foot_secs_of w k.0 } = ap (λ (x : ℕ). record { from = x; to = s; secs = foot_secs_of w k.0 }) from in
+    let e : footpath_of w s k.0 ≡ record { from = s; to = s; secs = foot_secs_of w k.0 } =
+    ap (λ (x : ℕ). record { from = x; to = s; secs = foot_secs_of w k.0 }) from in
     (foot_secs_of w k.0, (k.0, footpath_is w s k.0 whole feet lt k.1 k.2 ∙ ap Some e))
 
 -- the footpath of a pair of stops tells the seconds between them
-secs_of : (w : List ℕ) → IsWhole w → AreFaultless w → (a c secs : ℕ) → HasFootpath (footpaths_of w) a c secs → (c < (header_of w).stops) × (secs_between w a c ≡ Some secs)
+secs_of : (w : List ℕ) → IsWhole w → AreFaultless w → (a c secs : ℕ) → HasFootpath (footpaths_of w) a c secs
+    → (c < (header_of w).stops) × (secs_between w a c ≡ Some secs)
 secs_of w whole good a c secs has =
     let s = footpath_shown w has.0 (record { from = a; to = c; secs = secs }) whole (IsFootIndex-from w good) has.1 in
     let to : s.0 ≡ c = sym (ap (λ (x : Footpath). x.to) s.2) in
@@ -114,7 +118,8 @@ secs_of w whole good a c secs has =
     let at = secs_between-at w a s.0 has.0 (HasFootRange-from w s.0 (good.feet s.0 s.1.stop)) s.1.start s.1.end from in
     (omega (arith, to, s.1.stop), ap (λ (x : ℕ). secs_between w a x) (sym to) ∙ at ∙ ap Some (sym (ap (λ (x : Footpath). x.secs) s.2)))
 
-is_closed : (w : List ℕ) → IsWhole w → AreFaultless w → (a b c d1 d2 : ℕ) → HasFootpath (footpaths_of w) a b d1 → HasFootpath (footpaths_of w) b c d2 → (d : ℕ) × HasFootpath (footpaths_of w) a c d × (d ≤ d1 + d2)
+is_closed : (w : List ℕ) → IsWhole w → AreFaultless w → (a b c d1 d2 : ℕ) → HasFootpath (footpaths_of w) a b d1
+    → HasFootpath (footpaths_of w) b c d2 → (d : ℕ) × HasFootpath (footpaths_of w) a c d × (d ≤ d1 + d2)
 unfolding into_fault way_fault
 is_closed w whole good a b c d1 d2 first second =
     let stops = (header_of w).stops in
@@ -135,9 +140,21 @@ pub IsLegal-from : (w : List ℕ) → IsWhole w → AreFaultless w → IsLegal (
 IsLegal-from w whole good =
     let feet = IsFootIndex-from w good in
     record {
-      stops_in_range = λ i c e. (let s = connection_shown w i c e in subst (λ (x : Connection). (x.from < (header_of w).stops) × (x.to < (header_of w).stops)) (sym s.1) ((sound_at w good i s.0).from, (sound_at w good i s.0).to));
-      trips_in_range = λ i c e. (let s = connection_shown w i c e in subst (λ (x : Connection). x.trip < (header_of w).trips) (sym s.1) (sound_at w good i s.0).trip);
-      ends_in_range = λ k f e. (let s = footpath_shown w k f whole feet e in subst (λ (x : Footpath). (x.from < (header_of w).stops) × (x.to < (header_of w).stops)) (sym s.2) ((HasFootRange-from w s.0 (good.feet s.0 s.1.stop)).from k s.1.start s.1.end, s.1.stop));
+      stops_in_range = λ i c e. (let s = connection_shown w i c e in
+          subst (λ (x : Connection). (x.from < (header_of w).stops)
+          × (x.to < (header_of w).stops)) (sym s.1) (
+            (sound_at w good i s.0).from,
+            (sound_at w good i s.0).to,
+          ));
+      trips_in_range = λ i c e. (let s = connection_shown w i c e in
+          subst (λ (x : Connection). x.trip < (header_of w).trips) (sym s.1)
+          (sound_at w good i s.0).trip);
+      ends_in_range = λ k f e. (let s = footpath_shown w k f whole feet e in
+          subst (λ (x : Footpath). (x.from < (header_of w).stops)
+          × (x.to < (header_of w).stops)) (sym s.2) (
+            (HasFootRange-from w s.0 (good.feet s.0 s.1.stop)).from k s.1.start s.1.end,
+            s.1.stop,
+          ));
       takes_time = λ i c e. (let s = connection_shown w i c e in subst (λ (x : Connection). x.dep < x.arr) (sym s.1) (sound_at w good i s.0).duration);
       departures_never_fall = departures w good;
       unbroken = trips_go_on w good;

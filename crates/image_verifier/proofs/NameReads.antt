@@ -36,7 +36,8 @@ pub length-name_of : (w : List ℕ) (i : ℕ) → IsAccepted w → i < name_coun
 length-name_of w i accepted lt =
     let long = text_is_long w (padded_text_of w) accepted.whole refl in
     let rest = length-drop (name_index_of w i) (padded_text_of w) in
-    let within : name_index_of w (i + 1) - name_index_of w i ≤ length (drop (name_index_of w i) (padded_text_of w)) = omega (arith, long, rest, (is_a_name w i accepted lt).within) in
+    let within : name_index_of w (i + 1) - name_index_of w i ≤ length (drop (name_index_of w i) (padded_text_of w)) =
+    omega (arith, long, rest, (is_a_name w i accepted lt).within) in
     length-take-le (name_index_of w (i + 1) - name_index_of w i) (drop (name_index_of w i) (padded_text_of w)) within
 
 pub length-name_list : (w : List ℕ) → length (name_list (names_of w)) ≡ name_count w
@@ -75,7 +76,9 @@ name_told image w words i name is same at =
 
 -- a trip of the image is one of the words'
 pub within_trips : (image : ImageValue) (w words : List ℕ) (t : ℕ) → shown w ≡ image → words ≡ w → t < image.timetable.trips → t < (header_of words).trips
-within_trips image w words t is same lt = subst (λ (x : List ℕ). t < (header_of x).trips) (sym same) (subst (λ (v : ImageValue). t < v.timetable.trips) (sym is) lt)
+within_trips image w words t is same lt =
+    subst (λ (x : List ℕ). t < (header_of x).trips) (sym same)
+    (subst (λ (v : ImageValue). t < v.timetable.trips) (sym is) lt)
 
 -- what is told of a trip's name in the words is told of the image's
 pub trip_told : (tell : TripNameValue → ℕ) (image : ImageValue) (w words : List ℕ) (t told : ℕ) → shown w ≡ image → words ≡ w

@@ -33,9 +33,14 @@ header_faultless : (w : List ℕ) → IsWellFormed w → HasImage (timetable_of 
 unfolding header_fault
 header_faultless w form can =
     let h = header_of w in
-    let bytes : length (text (names_of w)) ≡ h.name_bytes = ap length (text_again w form.names) ∙ length-take-le h.name_bytes (padded_text_of w) (text_is_long w (padded_text_of w) form.whole refl) in
+    let bytes : length (text (names_of w)) ≡ h.name_bytes =
+    ap length (text_again w form.names) ∙ length-take-le h.name_bytes (padded_text_of w)
+    (text_is_long w (padded_text_of w) form.whole refl) in
     let small : is_too_large h ≡ false =
-    or_from _ _ (or_from _ _ (or_from _ _ (or_from _ _ (le-ltb _ _ can.limits.stops) (le-ltb _ _ can.limits.trips)) (le-ltb _ _ (omega (arith, can.limits.connections, length-connections_of w)))) (le-ltb _ _ (omega (arith, can.limits.footpaths, length-footpaths_of w form.whole form.feet)))) (le-ltb _ _ (omega (arith, can.names.bytes, bytes))) in
+    or_from _ _ (or_from _ _ (or_from _ _ (or_from _ _ (le-ltb _ _ can.limits.stops) (le-ltb _ _ can.limits.trips))
+    (le-ltb _ _ (omega (arith, can.limits.connections, length-connections_of w))))
+    (le-ltb _ _ (omega (arith, can.limits.footpaths, length-footpaths_of w form.whole form.feet))))
+    (le-ltb _ _ (omega (arith, can.names.bytes, bytes))) in
     passes _ BadLength _ (le-ltb _ _ form.whole.has_header)
     (passes _ BadMagic _ (ap not (eq-eqb _ _ form.magic))
     (passes _ BadLayout _ (ap not form.layout)
@@ -46,18 +51,26 @@ unfolding name_fault
 name_faultless w form can i lt =
     let count = name_count w in
     let far = at_rises (name_index_of w) (count - (i + 1)) (i + 1) (λ k below. form.names.rises k (omega arith)) in
-    let end : name_index_of w ((i + 1) + (count - (i + 1))) ≡ (header_of w).name_bytes = (let q : (i + 1) + (count - (i + 1)) ≡ count = omega arith in ap (λ (x : ℕ). name_index_of w x) q ∙ form.names.end) in
+    let end : name_index_of w ((i + 1) + (count - (i + 1))) ≡ (header_of w).name_bytes =
+    (let q : (i + 1) + (count - (i + 1)) ≡ count =
+    omega arith in ap (λ (x : ℕ). name_index_of w x) q ∙ form.names.end) in
     let zero_first : (eqb i 0 && not (eqb (name_index_of w 0) 0)) ≡ false = and_right _ _ (ap not (eq-eqb _ _ form.names.start)) in
-    let range : is_bad_name_range w i ≡ false = or_from _ _ (or_from _ _ zero_first (le-ltb _ _ (form.names.rises i lt))) (le-ltb _ _ (omega (arith, far, end))) in
+    let range : is_bad_name_range w i ≡ false =
+    or_from _ _ (or_from _ _ zero_first (le-ltb _ _ (form.names.rises i lt)))
+    (le-ltb _ _ (omega (arith, far, end))) in
     let size = length-map-range_with_len (name_of w) 0 count in
     let at : slice_get (name_list (names_of w)) i ≡ Some (name_of w i) =
-    ap (λ (x : List (List ℕ)). slice_get x i) (names_are w) ∙ slice_get-get_or (map (name_of w) (range_with_len 0 count)) i (name_of w 0) (omega (arith, size)) ∙ ap Some (get_or-map-range_with_len (name_of w) 0 count i i (name_of w 0) lt (omega arith)) in
+    ap (λ (x : List (List ℕ)). slice_get x i) (names_are w)
+    ∙ slice_get-get_or (map (name_of w) (range_with_len 0 count)) i (name_of w 0) (omega (arith, size))
+    ∙ ap Some (get_or-map-range_with_len (name_of w) 0 count i i (name_of w 0) lt (omega arith)) in
     passes _ (BadNames i) None (or_from _ _ range (ap not (is_utf8-from_IsUtf8 (name_of w i) (can.names.utf8 i (name_of w i) at)))) refl
 
 names_end_faultless : (w : List ℕ) → IsWellFormed w → names_end_fault w ≡ None
 unfolding names_end_fault
 names_end_faultless w form =
-    passes _ (BadNames (name_count w)) None (or_from _ _ (or_from _ _ (ap not (eq-eqb _ _ form.names.end)) (ap not (eq-eqb _ _ form.names.start))) (ap not form.spare)) refl
+    passes _ (BadNames (name_count w)) None (or_from _ _
+    (or_from _ _ (ap not (eq-eqb _ _ form.names.end)) (ap not (eq-eqb _ _ form.names.start))) (ap not form.spare))
+    refl
 
 foot_end_faultless : (w : List ℕ) → IsWellFormed w → foot_end_fault w ≡ None
 foot_end_faultless w form =
@@ -68,9 +81,12 @@ pub faultless : (w : List ℕ) → IsWellFormed w → HasImage (timetable_of w) 
 unfolding first_fault section_fault
 faultless w form can =
     let connections : connections_fault w ≡ None = first_below-all (connection_fault w) (header_of w).connections (connection_faultless w form can) in
-    let feet : footpaths_fault w ≡ None = or_else-none (first_below (foot_fault w) (header_of w).stops) (foot_end_fault w) (first_below-all (foot_fault w) (header_of w).stops (foot_faultless w form can)) ∙ foot_end_faultless w form in
+    let feet : footpaths_fault w ≡ None = or_else-none (first_below (foot_fault w) (header_of w).stops)
+    (foot_end_fault w) (first_below-all (foot_fault w) (header_of w).stops (foot_faultless w form can))
+    ∙ foot_end_faultless w form in
     let closure : closure_fault w ≡ None = first_below-all (into_fault w) (header_of w).stops (into_faultless w form can) in
-    let named : names_fault w ≡ None = or_else-none (first_below (name_fault w) (name_count w)) (names_end_fault w) (first_below-all (name_fault w) (name_count w) (name_faultless w form can)) ∙ names_end_faultless w form in
+    let named : names_fault w ≡ None = or_else-none (first_below (name_fault w) (name_count w)) (names_end_fault w)
+    (first_below-all (name_fault w) (name_count w) (name_faultless w form can)) ∙ names_end_faultless w form in
     or_else-none (header_fault w) (section_fault w) (header_faultless w form can)
     ∙ or_else-none (connections_fault w) (or_else (footpaths_fault w) (or_else (closure_fault w) (names_fault w))) connections
     ∙ or_else-none (footpaths_fault w) (or_else (closure_fault w) (names_fault w)) feet

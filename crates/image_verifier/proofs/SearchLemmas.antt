@@ -37,7 +37,9 @@ half_of left next (suc rest) some half has =
     (rest, omega (arith, double, half, has), omega arith)
 
 -- one more read, and half is left
-spare_less : (number low high low2 high2 place : ℕ) (before now : List ℕ) (h : IsHalving number low high before now) → low < high → high2 - low2 ≤ (high - low) / 2 → (digits : ℕ) → HasDigits number digits → (rest : ℕ) × HasDigits (high2 - low2) rest × (length (h.read ++ place ∷ []) + rest ≤ digits)
+spare_less : (number low high low2 high2 place : ℕ) (before now : List ℕ) (h : IsHalving number low high before now)
+    → low < high → high2 - low2 ≤ (high - low) / 2 → (digits : ℕ) → HasDigits number digits
+    → (rest : ℕ) × HasDigits (high2 - low2) rest × (length (h.read ++ place ∷ []) + rest ≤ digits)
 spare_less number low high low2 high2 place before now h some half digits has =
     let s = h.spare digits has in
     let fewer = half_of (high - low) (high2 - low2) s.0 (omega (arith, some)) half s.1 in
@@ -48,7 +50,8 @@ note_more : (place : ℕ) (before now read : List ℕ) → now ≡ before ++ rea
 note_more place before now read noted = ap (λ (xs : List ℕ). xs ++ place ∷ []) noted ∙ append_assoc before read (place ∷ [])
 
 -- the search goes on above the place that was read
-pub goes_on_above : (number low high place : ℕ) (before now : List ℕ) → IsHalving number low high before now → low < high → high - (place + 1) ≤ (high - low) / 2 → IsHalving number (place + 1) high before (now ++ place ∷ [])
+pub goes_on_above : (number low high place : ℕ) (before now : List ℕ) → IsHalving number low high before now
+    → low < high → high - (place + 1) ≤ (high - low) / 2 → IsHalving number (place + 1) high before (now ++ place ∷ [])
 goes_on_above number low high place before now h some half = record {
   read = h.read ++ place ∷ [];
   noted = note_more place before now h.read h.noted;
@@ -58,7 +61,8 @@ goes_on_above number low high place before now h some half = record {
 }
 
 -- .. or below it
-pub goes_on_below : (number low high place : ℕ) (before now : List ℕ) → IsHalving number low high before now → low < high → place - low ≤ (high - low) / 2 → IsHalving number low place before (now ++ place ∷ [])
+pub goes_on_below : (number low high place : ℕ) (before now : List ℕ) → IsHalving number low high before now
+    → low < high → place - low ≤ (high - low) / 2 → IsHalving number low place before (now ++ place ∷ [])
 goes_on_below number low high place before now h some half = record {
   read = h.read ++ place ∷ [];
   noted = note_more place before now h.read h.noted;
@@ -68,7 +72,8 @@ goes_on_below number low high place before now h some half = record {
 }
 
 -- where nothing is left, the search is over
-pub found_by_few : (t : TimetableValue) (first high : ℕ) (before now : List ℕ) → IsHalving (length t.connections) first high before now → first ≡ high → FindsByFew t first before now
+pub found_by_few : (t : TimetableValue) (first high : ℕ) (before now : List ℕ)
+    → IsHalving (length t.connections) first high before now → first ≡ high → FindsByFew t first before now
 found_by_few t first high before now h over = record {
   read = h.read;
   noted = h.noted;
@@ -78,10 +83,12 @@ found_by_few t first high before now h over = record {
 }
 
 -- what stands before a connection departs no later, what stands behind it no earlier
-pub departs_before : (t : TimetableValue) (middle time k : ℕ) → IsLegal t → middle < length t.connections → (connection_at t middle).dep < time → k < middle + 1 → (connection_at t k).dep < time
+pub departs_before : (t : TimetableValue) (middle time k : ℕ) → IsLegal t → middle < length t.connections
+    → (connection_at t middle).dep < time → k < middle + 1 → (connection_at t k).dep < time
 departs_before t middle time k legal within early below = omega (arith, departures_rise t legal middle k (omega (arith, below)) within, early)
 
-pub departs_after : (t : TimetableValue) (middle time k : ℕ) → IsLegal t → time ≤ (connection_at t middle).dep → middle ≤ k → k < length t.connections → time ≤ (connection_at t k).dep
+pub departs_after : (t : TimetableValue) (middle time k : ℕ) → IsLegal t → time ≤ (connection_at t middle).dep
+    → middle ≤ k → k < length t.connections → time ≤ (connection_at t k).dep
 departs_after t middle time k legal late above within = omega (arith, departures_rise t legal k middle above within, late)
 
 -- the least place that departs at a time or later, told over the connections themselves
@@ -89,4 +96,5 @@ pub before_first : (t : TimetableValue) (time first : ℕ) → IsFirstAt t time 
 before_first t time first is k c lt at = subst (λ (x : Connection). x.dep < time) (connection_at-is t k c at) (is.before k lt)
 
 pub from_first : (t : TimetableValue) (time first : ℕ) → IsFirstAt t time first → (k : ℕ) (c : Connection) → first ≤ k → At t.connections k c → time ≤ c.dep
-from_first t time first is k c le at = subst (λ (x : Connection). time ≤ x.dep) (connection_at-is t k c at) (is.after k le (slice_get_within t.connections k c at))
+from_first t time first is k c le at = subst (λ (x : Connection). time ≤ x.dep) (connection_at-is t k c at)
+    (is.after k le (slice_get_within t.connections k c at))

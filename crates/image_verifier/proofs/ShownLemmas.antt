@@ -21,7 +21,8 @@ walks_within w stop accepted lt =
     let feet = IsFootIndex-from w (AreFaultless-from w accepted.faultless) in
     omega (arith, passed w feet stop (header_of w).stops lt (omega arith), feet.end, length-footpaths_of w accepted.whole feet)
 
-pub walks_exact : (w : List ℕ) (stop : ℕ) → IsAccepted w → stop < (header_of w).stops → (k : ℕ) (f : Footpath) → At (footpaths_of w) k f → (f.to ≡ stop) ↔ ((foot_index_of w stop ≤ k) × (k < foot_index_of w (stop + 1)))
+pub walks_exact : (w : List ℕ) (stop : ℕ) → IsAccepted w → stop < (header_of w).stops → (k : ℕ) (f : Footpath)
+    → At (footpaths_of w) k f → (f.to ≡ stop) ↔ ((foot_index_of w stop ≤ k) × (k < foot_index_of w (stop + 1)))
 walks_exact w stop accepted lt k f at =
     let feet = IsFootIndex-from w (AreFaultless-from w accepted.faultless) in
     let s = footpath_shown w k f accepted.whole feet at in
@@ -38,11 +39,14 @@ pub walks_count : (w : List ℕ) → IsAccepted w → length (footpaths_of w) �
 walks_count w accepted = length-footpaths_of w accepted.whole (IsFootIndex-from w (AreFaultless-from w accepted.faultless))
 
 -- footpaths stand at the places of the index
-pub foot_index_within : (w : List ℕ) (stop place : ℕ) → IsAccepted w → stop < (header_of w).stops → place < foot_index_of w (stop + 1) → place < (header_of w).footpaths
+pub foot_index_within : (w : List ℕ) (stop place : ℕ) → IsAccepted w → stop < (header_of w).stops
+    → place < foot_index_of w (stop + 1) → place < (header_of w).footpaths
 foot_index_within w stop place accepted lt at = omega (arith, walks_within w stop accepted lt, walks_count w accepted)
 
 -- the place of a footpath that leads into a stop is among those into it
-pub is_among : (w : List ℕ) (stop place : ℕ) → IsAccepted w → stop < (header_of w).stops → place < length (footpaths_of w) → ((f : Footpath) → At (footpaths_of w) place f → f.to ≡ stop) → (foot_index_of w stop ≤ place) × (place < foot_index_of w (stop + 1))
+pub is_among : (w : List ℕ) (stop place : ℕ) → IsAccepted w → stop < (header_of w).stops
+    → place < length (footpaths_of w) → ((f : Footpath) → At (footpaths_of w) place f → f.to ≡ stop)
+    → (foot_index_of w stop ≤ place) × (place < foot_index_of w (stop + 1))
 is_among w stop place accepted lt within into =
     let no_path : Footpath = record { from = 0; to = 0; secs = 0 } in
     let at = slice_get-get_or (footpaths_of w) place no_path within in

@@ -7,7 +7,9 @@ use Rattle.std.proofs.lemmas.Option.{get_or_from_slice_get}
 use Rattle.timetable.specs.Legal.{At}
 
 -- one more of those from place a on, behind others
-pub one_more : {X : Type 0} (f : ℕ → X) (a k : ℕ) (front xs : List X) (x : X) → a ≤ k → xs ≡ front ++ map f (range_with_len a (k - a)) → x ≡ f k → xs ++ x ∷ [] ≡ front ++ map f (range_with_len a ((k + 1) - a))
+pub one_more : {X : Type 0} (f : ℕ → X) (a k : ℕ) (front xs : List X) (x : X) → a ≤ k
+    → xs ≡ front ++ map f (range_with_len a (k - a)) → x ≡ f k
+    → xs ++ x ∷ [] ≡ front ++ map f (range_with_len a ((k + 1) - a))
 one_more {X} f a k front xs x le so_far is =
     let next : (k + 1) - a ≡ (k - a) + 1 = omega (arith, le) in
     ap (λ (ys : List X). ys ++ x ∷ []) so_far
@@ -17,14 +19,17 @@ one_more {X} f a k front xs x le so_far is =
     ∙ ap (λ (n : ℕ). front ++ map f (range_with_len a n)) (sym next)
 
 -- one more of those from 0 on
-pub next_one : {X : Type 0} (f : ℕ → X) (k : ℕ) (xs : List X) (x : X) → xs ≡ map f (range_with_len 0 k) → x ≡ f k → xs ++ x ∷ [] ≡ map f (range_with_len 0 (k + 1))
+pub next_one : {X : Type 0} (f : ℕ → X) (k : ℕ) (xs : List X) (x : X) → xs ≡ map f (range_with_len 0 k) → x ≡ f k
+    → xs ++ x ∷ [] ≡ map f (range_with_len 0 (k + 1))
 next_one {X} f k xs x so_far is =
     ap (λ (ys : List X). ys ++ x ∷ []) so_far
     ∙ ap (λ (y : X). map f (range_with_len 0 k) ++ y ∷ []) is
     ∙ sym (map-range_with_len_more f 0 k k (omega arith))
 
 -- one more, told by what it shows
-pub next_shown : {X Y : Type 0} (show : Y → X) (f : ℕ → X) (k : ℕ) (ys : List Y) (y : Y) → map show ys ≡ map f (range_with_len 0 k) → show y ≡ f k → map show (ys ++ y ∷ []) ≡ map f (range_with_len 0 (k + 1))
+pub next_shown : {X Y : Type 0} (show : Y → X) (f : ℕ → X) (k : ℕ) (ys : List Y) (y : Y)
+    → map show ys ≡ map f (range_with_len 0 k) → show y ≡ f k
+    → map show (ys ++ y ∷ []) ≡ map f (range_with_len 0 (k + 1))
 next_shown show f k ys y so_far is = map-append show ys (y ∷ []) ∙ next_one f k (map show ys) (show y) so_far is
 
 -- the pieces from 0 on, and one more

@@ -14,7 +14,8 @@ use Rattle.timetable.specs.TimetableValue.{TimetableValue}
 use Rattle.timetable.specs.NamesValue.{NamesValue, TripNameValue}
 use Rattle.timetable.specs.Legal.{At}
 use Rattle.image_layout.specs.declared.layout.TheConstants.{LAYOUT}
-use Rattle.image_layout.specs.Spelling.{connection_words, footpath_words, footpath_count_below, name_list, byte_count_before, text, text_words, header, repeats_in, image_in}
+use Rattle.image_layout.specs.Spelling.{connection_words, footpath_words, footpath_count_below, name_list}
+use Rattle.image_layout.specs.Spelling.{byte_count_before, text, text_words, header, repeats_in, image_in}
 use Rattle.image_layout.specs.Image.{HasImage}
 use Rattle.image_layout.proofs.Bytes.{concat_are_bytes}
 use Rattle.image_layout.proofs.Whole.{count_within}
@@ -55,7 +56,8 @@ all_text [] h = All-nil IsWord
 all_text (a ∷ []) h = All-cons IsWord _ [] (word_small a 0 0 0 (h 0) (omega arith) (omega arith) (omega arith)) (All-nil IsWord)
 all_text (a ∷ b ∷ []) h = All-cons IsWord _ [] (word_small a b 0 0 (h 0) (h 1) (omega arith) (omega arith)) (All-nil IsWord)
 all_text (a ∷ b ∷ c ∷ []) h = All-cons IsWord _ [] (word_small a b c 0 (h 0) (h 1) (h 2) (omega arith)) (All-nil IsWord)
-all_text (a ∷ b ∷ c ∷ d ∷ rest) h = All-cons IsWord _ (text_words rest) (word_small a b c d (h 0) (h 1) (h 2) (h 3)) (all_text rest (λ i. h (suc (suc (suc (suc i))))))
+all_text (a ∷ b ∷ c ∷ d ∷ rest) h = All-cons IsWord _ (text_words rest) (word_small a b c d (h 0) (h 1) (h 2) (h 3))
+    (all_text rest (λ i. h (suc (suc (suc (suc i))))))
 
 half_small : (a : ℕ) → a < 2 ^ 64 → (a % 4294967296 < 4294967296) × (a / 4294967296 < 4294967296)
 half_small a lt = (omega (arith, lt), omega (arith, lt))
@@ -63,8 +65,22 @@ half_small a lt = (omega (arith, lt), omega (arith, lt))
 header_fits : (layout : ℕ) (p : TimetableValue) (n : NamesValue) → IsWord layout → HasImage p n → All IsWord (header layout p n)
 header_fits layout p n fits can =
     let base = half_small (cast_unsigned w64 n.base) (base_fits n.base can.names.base) in
-    all_words (header layout p n)
-    (omega arith, (fits, (omega (arith, can.limits.stops), (omega (arith, can.limits.trips), (omega (arith, can.limits.connections), (omega (arith, can.limits.footpaths), (omega (arith, can.names.bytes), (base.0, (base.1, tt)))))))))
+    all_words (header layout p n) (
+      omega arith,
+      (
+        fits,
+        (
+          omega (arith, can.limits.stops),
+          (
+            omega (arith, can.limits.trips),
+            (
+              omega (arith, can.limits.connections),
+              (omega (arith, can.limits.footpaths), (omega (arith, can.names.bytes), (base.0, (base.1, tt)))),
+            ),
+          ),
+        ),
+      ),
+    )
   where
     base_fits : (z : ℤ) → FitsSigned w64 z → cast_unsigned w64 z < 2 ^ 64
     base_fits z fits = let f = Fits-of_z {w = w64} {z = z} fits in omega (arith, f.fits)
@@ -73,8 +89,22 @@ connection_fits : (p : TimetableValue) (n : NamesValue) → HasImage p n → (i 
 connection_fits p n can i c at =
     let stops = can.legal.stops_in_range i c at in
     let time = can.limits.times i c at in
-    all_words (connection_words c)
-    (omega (arith, stops.0, can.limits.stops), (omega (arith, stops.1, can.limits.stops), (omega (arith, time, can.legal.takes_time i c at), (omega (arith, time), (omega (arith, can.legal.trips_in_range i c at, can.limits.trips), (flags_small c.board c.alight, tt))))))
+    all_words (connection_words c) (
+      omega (arith, stops.0, can.limits.stops),
+      (
+        omega (arith, stops.1, can.limits.stops),
+        (
+          omega (arith, time, can.legal.takes_time i c at),
+          (
+            omega (arith, time),
+            (
+              omega (arith, can.legal.trips_in_range i c at, can.limits.trips),
+              (flags_small c.board c.alight, tt),
+            ),
+          ),
+        ),
+      ),
+    )
 
 footpath_fits : (p : TimetableValue) (n : NamesValue) → HasImage p n → (k : ℕ) (f : Footpath) → At p.footpaths k f → All IsWord (footpath_words f)
 footpath_fits p n can k f at =
@@ -94,9 +124,15 @@ unfolding image_in
 image_fits layout p n fits can =
     All-append IsWord (header layout p n) _ (header_fits layout p n fits can)
     (All-append IsWord _ _ (all_flat connection_words p.connections (connection_fits p n can))
-    (All-append IsWord _ _ (all_mapped (footpath_count_below p.footpaths) (range_with_len 0 (p.stops + 1)) (λ i s at. omega (arith, count_by-le-length (λ (f : Footpath). nat_lt f.to s) p.footpaths, can.limits.footpaths)))
+    (All-append IsWord _ _ (all_mapped (footpath_count_below p.footpaths) (range_with_len 0 (p.stops + 1))
+    (λ i s at. omega (
+      arith,
+      count_by-le-length (λ (f : Footpath). nat_lt f.to s) p.footpaths,
+      can.limits.footpaths,
+    )))
     (All-append IsWord _ _ (all_flat footpath_words p.footpaths (footpath_fits p n can))
-    (All-append IsWord _ _ (all_mapped (byte_count_before (name_list n)) (range_with_len 0 (length (name_list n) + 1)) (λ i k at. omega (arith, count_within (name_list n) k, can.names.bytes)))
+    (All-append IsWord _ _ (all_mapped (byte_count_before (name_list n)) (range_with_len 0 (length (name_list n) + 1))
+    (λ i k at. omega (arith, count_within (name_list n) k, can.names.bytes)))
     (All-append IsWord _ _ (all_mapped (λ (t : TripNameValue). t.day) n.trips can.names.days)
     (All-append IsWord _ _ (all_repeats layout p n can)
     (all_text (text n) (concat_are_bytes (name_list n) can.names.utf8))))))))

@@ -1,5 +1,6 @@
 -- What can be wrong with a connection, in the order in which it is told.
-use Rattle.std.specs.Prelude.{◌≡◌, ◌<◌, length, slice_index_or, ℕ, ◌-◌, Bool, false, not, ◌||◌, ◌&&◌, ◌==◌, nat_lt, nat_le, List, Option, Some, None, if◌then◌else◌}
+use Rattle.std.specs.Prelude.{◌≡◌, ◌<◌, length, slice_index_or, ℕ, ◌-◌, Bool, false, not, ◌||◌, ◌&&◌, ◌==◌, nat_lt}
+use Rattle.std.specs.Prelude.{nat_le, List, Option, Some, None, if◌then◌else◌}
 use Rattle.timetable.specs.declared.limits.TheConstants.{TIME_END}
 use Rattle.image_layout.specs.Places.{header_of}
 use Rattle.image_layout.specs.Fields.{from_of, to_of, dep_of, arr_of, trip_of, flags_of}

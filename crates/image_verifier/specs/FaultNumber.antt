@@ -1,7 +1,11 @@
 -- The numbers and names by which faults are told.
 use Rattle.std.specs.Prelude.{ℕ, List, codes}
 use Rattle.image_verifier.specs.declared.fault.ImageFault.{ImageFault}
-use Rattle.image_verifier.specs.declared.fault.ImageFault.TheVariants.{BadMagic, BadLayout, BadLength, StopRange, TripRange, HopWithoutDuration, Unsorted, TripBroken, TimeRange, BadFlags, FootRange, FootUnsorted, NoLoop, NotClosed, BadNames, OutOfMemory}
+use Rattle.image_verifier.specs.declared.fault.ImageFault.TheVariants.{BadMagic, BadLayout, BadLength, StopRange}
+use Rattle.image_verifier.specs.declared.fault.ImageFault.TheVariants.{TripRange, HopWithoutDuration, Unsorted}
+use Rattle.image_verifier.specs.declared.fault.ImageFault.TheVariants.{TripBroken, TimeRange, BadFlags, FootRange}
+use Rattle.image_verifier.specs.declared.fault.ImageFault.TheVariants.{FootUnsorted, NoLoop, NotClosed, BadNames}
+use Rattle.image_verifier.specs.declared.fault.ImageFault.TheVariants.{OutOfMemory}
 
 abbrev pub fault_told : ImageFault → ℕ × List ℕ
 fault_told BadMagic = (61, codes "BadMagic")

@@ -14,7 +14,8 @@ use Rattle.image_verifier.specs.NameFaults.{names_fault}
 
 -- a count is past its limit
 abbrev pub is_too_large : Header → Bool
-is_too_large h = nat_lt MAX_STOPS h.stops || nat_lt MAX_TRIPS h.trips || nat_lt MAX_CONNECTIONS h.connections || nat_lt MAX_FOOTPATHS h.footpaths || nat_lt MAX_NAME_BYTES h.name_bytes
+is_too_large h = nat_lt MAX_STOPS h.stops || nat_lt MAX_TRIPS h.trips || nat_lt MAX_CONNECTIONS h.connections || nat_lt
+    MAX_FOOTPATHS h.footpaths || nat_lt MAX_NAME_BYTES h.name_bytes
 
 -- the first fault of the header, before any memory is taken
 unfoldable pub header_fault : List ℕ → Option ImageFault

@@ -12,7 +12,8 @@ use Rattle.timetable.specs.First.{or_else, first_below}
 
 -- the bytes of name i are no range of bytes
 abbrev pub is_bad_name_range : List ℕ → ℕ → Bool
-is_bad_name_range w i = (i == 0 && not (name_index_of w 0 == 0)) || nat_lt (name_index_of w (i + 1)) (name_index_of w i) || nat_lt (header_of w).name_bytes (name_index_of w (i + 1))
+is_bad_name_range w i = (i == 0 && not (name_index_of w 0 == 0)) || nat_lt (name_index_of w (i + 1))
+    (name_index_of w i) || nat_lt (header_of w).name_bytes (name_index_of w (i + 1))
 
 -- the fault of name i
 unfoldable pub name_fault : List ℕ → ℕ → Option ImageFault
@@ -21,7 +22,8 @@ name_fault w i = if is_bad_name_range w i || not (is_utf8 (name_of w i)) then So
 -- the names end with the text, begin with 0 also where there is no name, and the spare bytes are 0
 unfoldable pub names_end_fault : List ℕ → Option ImageFault
 names_end_fault w =
-    if not (name_index_of w (name_count w) == (header_of w).name_bytes) || not (name_index_of w 0 == 0) || not (list_all (λ b. b == 0) (drop (header_of w).name_bytes (padded_text_of w)))
+    if not (name_index_of w (name_count w) == (header_of w).name_bytes) || not (name_index_of w 0 == 0) || not
+    (list_all (λ b. b == 0) (drop (header_of w).name_bytes (padded_text_of w)))
     then Some (BadNames (name_count w)) else None
 
 -- the first fault of the names, one by one

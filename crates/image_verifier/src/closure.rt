@@ -1,8 +1,9 @@
 //! Judges whether two footpaths end to end are ever shorter than the direct one.
 //!
-//! For each stop, the seconds of the footpaths into it are put into a table, each at the stop that the footpath leaves. Then
-//! each footpath into where one of these begins is compared with one entry. So the whole takes time in the number of pairs
-//! of footpaths end to end, and a word for each stop.
+//! For each stop, the seconds of the footpaths into it are put into a table, each at the stop that
+//! the footpath leaves. Then each footpath into where one of these begins is compared with one
+//! entry. So the whole takes time in the number of pairs of footpaths end to end, and a word for
+//! each stop.
 
 ghost use Rattle.std.specs.Prelude.{◌≡◌, ◌<◌, ◌+◌, replicate, IfNone};
 ghost use Rattle.image_layout.specs.Places.{IsWhole, header_of};
@@ -62,8 +63,8 @@ fn way_fault(words: &[u32], into: usize, second: usize, secs: &[u32]) -> Option<
     None
 }
 
-// The first fault from any stop by way of any stop into a stop. The table has no entries before, and none behind where there
-// is no fault.
+// The first fault from any stop by way of any stop into a stop. The table has no entries before,
+// and none behind where there is no fault.
 fn into_fault(words: &[u32], into: usize, secs: &mut [u32]) -> Option<ImageFault>
     requires whole { IsWhole words.now }
     requires ranges { HasFootRanges words.now }

@@ -2,7 +2,8 @@
 
 ghost use Rattle.std.specs.Prelude.{◌≡◌, ◌<◌, replicate};
 ghost use Rattle.image_layout.specs.Places.{IsWhole, header_of};
-ghost use Rattle.image_verifier.specs.ConnectionFaults.{own_fault, place_fault, breaks_at, connection_fault, connections_fault, AreTripEnds};
+ghost use Rattle.image_verifier.specs.ConnectionFaults.{own_fault, place_fault, breaks_at, connection_fault};
+ghost use Rattle.image_verifier.specs.ConnectionFaults.{connections_fault, AreTripEnds};
 
 use crate::fault::ImageFault;
 use image_layout::{Header, arr_at, dep_at, flags_at, from_at, to_at, trip_at};

@@ -2,7 +2,8 @@
 
 ghost use Rattle.std.specs.Prelude.{◌≡◌, ◌<◌, ◌++◌, map, string_bytes, IfOk, OnOk};
 ghost use Rattle.image_layout.specs.Places.{header_of};
-ghost use Rattle.image_layout.specs.Shown.{name_count, connections_of, footpath_of, footpaths_into, footpaths_of, name_of, names_of, timetable_of};
+ghost use Rattle.image_layout.specs.Shown.{name_count, connections_of, footpath_of, footpaths_into, footpaths_of};
+ghost use Rattle.image_layout.specs.Shown.{name_of, names_of, timetable_of};
 ghost use Rattle.image_verifier.specs.Accepted.{IsAccepted};
 
 use crate::find::name_len_at;

@@ -1,6 +1,7 @@
 //! Words that were found to be an image.
 
-ghost use Rattle.std.specs.Prelude.{◌≡◌, ◌<◌, ◌≤◌, ◌+◌, length, slice_get, string_bytes, Some, ℕ, ◌↔◌, List, IfOk, IfErr, IfSome, IfNone};
+ghost use Rattle.std.specs.Prelude.{◌≡◌, ◌<◌, ◌≤◌, ◌+◌, length, slice_get, string_bytes, Some, ℕ, ◌↔◌, List, IfOk};
+ghost use Rattle.std.specs.Prelude.{IfErr, IfSome, IfNone};
 ghost use Rattle.std.specs.Option.{option_map};
 ghost use Rattle.timetable.specs.TimetableValue.{TimetableValue};
 ghost use Rattle.timetable.specs.Legal.{At};
@@ -45,17 +46,24 @@ impl Model for Verified {
     ghost use Rattle.image_layout.specs.Shown.{timetable_of, names_of};
     ghost use Rattle.image_verifier.specs.Accepted.{IsAccepted};
 
-    ghost view = { λ v. record { layout = layout_of v.words.items; timetable = timetable_of v.words.items; names = names_of v.words.items } };
+    ghost view = { λ v. record {
+      layout = layout_of v.words.items;
+      timetable = timetable_of v.words.items;
+      names =
+          names_of v.words.items;
+    } };
 
     ghost invariant = { λ v. IsAccepted v.words.items };
 }
 
-/// The words as an image, or the words again with their first fault. Every image is accepted, unless memory runs out: all
-/// that is wanted is taken after the header was judged and before anything else is.
+/// The words as an image, or the words again with their first fault. Every image is accepted,
+/// unless memory runs out: all that is wanted is taken after the header was judged and before
+/// anything else is.
 pub fn verify(alloc: Global, words: Vec<u32>) -> Result<Verified, (Vec<u32>, ImageFault)>
     ensures shown { IfOk result (λ v. IsImage words.items v.timetable v.names) }
     ensures layout { IfOk result (λ v. v.layout ≡ layout_of words.items) }
-    ensures every_image { (t : TimetableValue) (n : NamesValue) → IsImage words.items t n → IfErr result (λ e. e.1 ≡ OutOfMemory) }
+    ensures every_image { (t : TimetableValue) (n : NamesValue) → IsImage words.items t n
+        → IfErr result (λ e. e.1 ≡ OutOfMemory) }
     ensures same_words { IfErr result (λ e. e.0.items ≡ words.items) }
     ensures fault { IfErr result (λ e. Tells words.items e.1) }
 {
@@ -142,8 +150,8 @@ impl Verified {
         connection_at(&self.words, i)
     }
 
-    /// The words, which are the image of the timetable and the names in its layout: those that were verified, and no others
-    /// (`image_layout::laws::one_spelling`).
+    /// The words, which are the image of the timetable and the names in its layout: those that were
+    /// verified, and no others (`image_layout::laws::one_spelling`).
     pub fn words(&self) -> &[u32]
         ensures { Spells result.now self.now }
     {
@@ -162,7 +170,8 @@ impl Verified {
         requires { stop < self.now.timetable.stops }
         ensures order { result.0 ≤ result.1 }
         ensures within { result.1 ≤ length self.now.timetable.footpaths }
-        ensures exact { (k : ℕ) (f : Footpath) → At self.now.timetable.footpaths k f → (f.to ≡ stop) ↔ ((result.0 ≤ k) × (k < result.1)) }
+        ensures exact { (k : ℕ) (f : Footpath) → At self.now.timetable.footpaths k f → (f.to ≡ stop)
+            ↔ ((result.0 ≤ k) × (k < result.1)) }
     {
         let words: &[u32] = &self.words;
         (
@@ -171,8 +180,8 @@ impl Verified {
         )
     }
 
-    /// The first place from which on connections depart at the time or later, else the number of connections. Few departures are
-    /// read: see `first_departure`.
+    /// The first place from which on connections depart at the time or later, else the number of
+    /// connections. Few departures are read: see `first_departure`.
     pub fn first_at(&self, time: u32) -> usize
         ensures within { result ≤ length self.now.timetable.connections }
         ensures before { (k : ℕ) (c : Connection) → k < result → At self.now.timetable.connections k c → c.dep < time }
@@ -188,7 +197,8 @@ impl Verified {
         Header::of(&self.words).footpaths as usize
     }
 
-    /// The footpath at a place among those into a stop, as `walks_into` tells them: two words are read, nothing is searched.
+    /// The footpath at a place among those into a stop, as `walks_into` tells them: two words are
+    /// read, nothing is searched.
     pub fn footpath_into(&self, stop: usize, place: usize) -> Footpath
         requires stop { stop < self.now.timetable.stops }
         requires place { place < length self.now.timetable.footpaths }
@@ -235,7 +245,8 @@ impl Verified {
     /// A name as a text of its own.
     pub fn name(&self, alloc: Global, i: usize) -> Result<String, AllocError>
         requires { i < self.now.timetable.stops + self.now.timetable.trips }
-        ensures { (name : List ℕ) → At (name_list self.now.names) i name → IfOk result (λ text. string_bytes text ≡ name) }
+        ensures { (name : List ℕ) → At (name_list self.now.names) i name
+            → IfOk result (λ text. string_bytes text ≡ name) }
     {
         unpack_name(alloc, &self.words, i)
     }
@@ -256,8 +267,8 @@ impl Verified {
         repeat_at(&self.words, trip)
     }
 
-    /// The timetable and the names as values of their own. This is the one call that takes memory, and want of it is its one
-    /// error; the image stays as it is.
+    /// The timetable and the names as values of their own. This is the one call that takes memory,
+    /// and want of it is its one error; the image stays as it is.
     pub fn to_timetable(&self, alloc: Global) -> Result<(Timetable, Names), AllocError>
         ensures timetable { IfOk result (λ made. made.0 ≡ self.now.timetable) }
         ensures names { IfOk result (λ made. made.1 ≡ self.now.names) }

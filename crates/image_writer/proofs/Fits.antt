@@ -6,7 +6,8 @@ use Rattle.std.proofs.lemmas.Option.{same_Some}
 use Rattle.timetable.specs.NamesValue.{TripNameValue}
 use Rattle.timetable.specs.Legal.{At}
 
-number_at : (number : TripNameValue → ℕ) (trips : List TripNameValue) (i : ℕ) (trip : TripNameValue) → At trips i trip → get_or (map number trips) i 0 ≡ number trip
+number_at : (number : TripNameValue → ℕ) (trips : List TripNameValue) (i : ℕ) (trip : TripNameValue) → At trips i trip
+    → get_or (map number trips) i 0 ≡ number trip
 number_at number [] i trip at = absurd cc
 number_at number (t ∷ trips) zero trip at = ap number (same_Some t trip at)
 number_at number (t ∷ trips) (suc i) trip at = number_at number trips i trip at

@@ -30,7 +30,8 @@ text_words-parts (a ∷ b ∷ c ∷ []) = refl
 text_words-parts (a ∷ b ∷ c ∷ d ∷ rest) = ap (λ (ws : List ℕ). from_le_bytes w32 (a ∷ b ∷ c ∷ d ∷ []) ∷ ws) (text_words-parts rest)
 
 -- a piece more, behind those whose words are written
-pub written_more : (start words seen waiting piece : List ℕ) → words ≡ start ++ full_words seen → waiting ≡ rest_of seen → words ++ full_words (waiting ++ piece) ≡ start ++ full_words (seen ++ piece)
+pub written_more : (start words seen waiting piece : List ℕ) → words ≡ start ++ full_words seen → waiting ≡ rest_of seen
+    → words ++ full_words (waiting ++ piece) ≡ start ++ full_words (seen ++ piece)
 written_more start words seen waiting piece written rest =
     ap (λ (ws : List ℕ). ws ++ full_words (waiting ++ piece)) written
     ∙ append_assoc start (full_words seen) (full_words (waiting ++ piece))
@@ -41,7 +42,8 @@ pub rest_more : (seen waiting piece : List ℕ) → waiting ≡ rest_of seen →
 rest_more seen waiting piece rest = ap (λ (bytes : List ℕ). rest_of (bytes ++ piece)) rest ∙ sym (rest_of-append seen piece)
 
 -- behind the last piece the bytes that wait fill a word
-pub finished : (start words seen waiting : List ℕ) → words ≡ start ++ full_words seen → waiting ≡ rest_of seen → words ++ text_words waiting ≡ start ++ text_words seen
+pub finished : (start words seen waiting : List ℕ) → words ≡ start ++ full_words seen → waiting ≡ rest_of seen
+    → words ++ text_words waiting ≡ start ++ text_words seen
 finished start words seen waiting written rest =
     ap (λ (ws : List ℕ). ws ++ text_words waiting) written
     ∙ append_assoc start (full_words seen) (text_words waiting)

@@ -24,7 +24,8 @@ pub text_whole : (ns : List (List ℕ)) → concat (take (length ns) ns) ≡ con
 text_whole ns = ap concat (take_all (length ns) ns (omega arith))
 
 -- the words of an index, one more
-pub index_next : (start words : List ℕ) (f : ℕ → ℕ) (i x : ℕ) → words ≡ start ++ map f (range_with_len 0 i) → x ≡ f i → words ++ x ∷ [] ≡ start ++ map f (range_with_len 0 (i + 1))
+pub index_next : (start words : List ℕ) (f : ℕ → ℕ) (i x : ℕ) → words ≡ start ++ map f (range_with_len 0 i) → x ≡ f i
+    → words ++ x ∷ [] ≡ start ++ map f (range_with_len 0 (i + 1))
 index_next start words f i x so_far is =
     ap (λ (ws : List ℕ). ws ++ x ∷ []) so_far
     ∙ append_assoc start (map f (range_with_len 0 i)) (x ∷ [])

@@ -39,7 +39,13 @@ sections_are_image t n none w1 w2 w3 w4 w5 w6 w7 w8 e e1 e2 e3 e4 e5 e6 e7 e8 =
 -- words so spelled are an image
 pub is_image : (t : TimetableValue) (n : NamesValue) (words : List ℕ) → HasImage t n → words ≡ image t n → IsImage words t n
 unfolding image_in
-is_image t n words can e = subst (λ (w : List ℕ). IsImage w t n) (sym e) (record { can_be = can; layout = refl; first = λ same. absurd (omega (arith, same)); spelled = refl })
+is_image t n words can e = subst (λ (w : List ℕ). IsImage w t n) (sym e) (record {
+  can_be = can;
+  layout = refl;
+  first =
+      λ same. absurd (omega (arith, same));
+  spelled = refl;
+})
 
 -- and name the layout that is written
 pub names_the_layout : (t : TimetableValue) (n : NamesValue) (words : List ℕ) → words ≡ image t n → layout_of words ≡ LAYOUT

@@ -7,4 +7,12 @@ use Rattle.image_layout.specs.declared.layout.TheConstants.{LAYOUT}
 use Rattle.image_layout.specs.Spelling.{text}
 
 abbrev pub counts_of : TimetableValue → NamesValue → Header
-counts_of t n = record { layout = LAYOUT; stops = t.stops; trips = t.trips; connections = length t.connections; footpaths = length t.footpaths; name_bytes = length (text n) }
+counts_of t n = record {
+  layout = LAYOUT;
+  stops = t.stops;
+  trips = t.trips;
+  connections =
+      length t.connections;
+  footpaths = length t.footpaths;
+  name_bytes = length (text n);
+}

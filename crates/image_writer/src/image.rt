@@ -19,9 +19,10 @@ use timetable::{Names, Timetable};
 
 /// The image of a timetable and its names in the layout that is written, of which there is exactly one.
 ///
-/// The timetable is legal and within the limits, with its footpaths by the stop led into, then by the stop left; there is a
-/// name for each stop and each trip, and together they have at most `MAX_NAME_BYTES` bytes. All memory is taken at once,
-/// before the first word, and want of it is the one error.
+/// The timetable is legal and within the limits, with its footpaths by the stop led into, then by
+/// the stop left; there is a name for each stop and each trip, and together they have at most
+/// `MAX_NAME_BYTES` bytes. All memory is taken at once, before the first word, and want of it is
+/// the one error.
 pub fn write(alloc: Global, timetable: &Timetable, names: &Names) -> Result<Vec<u32>, AllocError>
     requires { IsWritable timetable.now names.now }
     ensures image { IfOk result (λ words. IsImage words.items timetable.now names.now) }
@@ -57,7 +58,8 @@ fn counts(timetable: &Timetable, names: &Names) -> Header
 /// What the image is, its counts, and the base as two words, the lower one first.
 fn write_header(words: &mut Vec<u32>, counts: Header, names: &Names) -> Result<(), AllocError>
     ensures fits { FitsSigned w64 names.now.base }
-    ensures written { (t : TimetableValue) → counts ≡ counts_of t names.now → OnOk result (words.new.items ≡ words.old.items ++ header LAYOUT t names.now) }
+    ensures written { (t : TimetableValue) → counts ≡ counts_of t names.now
+        → OnOk result (words.new.items ≡ words.old.items ++ header LAYOUT t names.now) }
 {
     let base = names.base.cast_unsigned();
     words.extend_from_slice(&[

@@ -58,10 +58,12 @@ pub fn write_name_index(words: &mut Vec<u32>, names: &Names) -> Result<(), Alloc
     Ok(())
 }
 
-/// The service day of each trip, and then the repeat of each. Each of the words fits 32 bits: so do the days and the repeats.
+/// The service day of each trip, and then the repeat of each. Each of the words fits 32 bits: so do
+/// the days and the repeats.
 pub fn write_days_and_repeats(words: &mut Vec<u32>, trips: &[TripName]) -> Result<(), AllocError>
     ensures written { OnOk result (words.new.items
-        ≡ (words.old.items ++ map (λ (t : TripNameValue). t.day) trips.now) ++ map (λ (t : TripNameValue). t.repeat) trips.now) }
+        ≡ (words.old.items ++ map (λ (t : TripNameValue). t.day) trips.now)
+        ++ map (λ (t : TripNameValue). t.repeat) trips.now) }
     ensures fits { OnOk result ((i : ℕ) → slice_index words.new.items i < 2 ^ 32) }
 {
     for trip in trips {

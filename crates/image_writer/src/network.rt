@@ -43,7 +43,8 @@ pub fn write_foot_index(
     requires ordered { AreInOrder footpaths.now }
     requires few_stops { stops + 1 < 2 ^ 32 }
     requires few_footpaths { length footpaths.now < 2 ^ 32 }
-    ensures { OnOk result (words.new.items ≡ words.old.items ++ map (footpath_count_below footpaths.now) (range_with_len 0 (stops + 1))) }
+    ensures { OnOk result (words.new.items ≡ words.old.items
+        ++ map (footpath_count_below footpaths.now) (range_with_len 0 (stops + 1))) }
 {
     let mut place = 0;
     for stop in 0..stops + 1 {

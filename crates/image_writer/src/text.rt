@@ -22,7 +22,8 @@ enum Waiting {
 impl Waiting {
     /// One byte more. The fourth fills a word.
     fn push(self, words: &mut Vec<u32>, byte: u8) -> Result<Waiting, AllocError>
-        ensures written { OnOk result (words.new.items ≡ words.old.items ++ full_words (waiting_bytes self ++ byte ∷ [])) }
+        ensures written { OnOk result (words.new.items ≡ words.old.items
+            ++ full_words (waiting_bytes self ++ byte ∷ [])) }
         ensures rest { IfOk result (λ waiting. waiting_bytes waiting ≡ rest_of (waiting_bytes self ++ byte ∷ [])) }
     {
         match self {
@@ -53,7 +54,8 @@ impl Waiting {
 
 /// The bytes of a name, behind those that wait.
 fn write_name(words: &mut Vec<u32>, waiting: Waiting, name: &[u8]) -> Result<Waiting, AllocError>
-    ensures written { OnOk result (words.new.items ≡ words.old.items ++ full_words (waiting_bytes waiting ++ name.now)) }
+    ensures written { OnOk result (words.new.items ≡ words.old.items
+        ++ full_words (waiting_bytes waiting ++ name.now)) }
     ensures rest { IfOk result (λ after. waiting_bytes after ≡ rest_of (waiting_bytes waiting ++ name.now)) }
 {
     let mut waiting = waiting;

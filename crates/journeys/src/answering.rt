@@ -21,8 +21,8 @@ pub struct Departure<V> {
     pub journey: Journey,
 }
 
-/// The answer of a profile query: all best departures in order, each with a journey, the seconds of the footpath from the source to
-/// the target, if there is one, and how many connections were read.
+/// The answer of a profile query: all best departures in order, each with a journey, the seconds of
+/// the footpath from the source to the target, if there is one, and how many connections were read.
 #[derive(Drop)]
 pub struct Answer<C: Criterion> {
     pub departures: Vec<Departure<C::V>>,
@@ -30,11 +30,12 @@ pub struct Answer<C: Criterion> {
     pub read: usize,
 }
 
-/// Answers a query that can be asked: exactly the points of all journeys that count for it, which no other such point dominates, in
-/// order, each with a journey that counts, departs when the point does, and is worth the point's value.
+/// Answers a query that can be asked: exactly the points of all journeys that count for it, which
+/// no other such point dominates, in order, each with a journey that counts, departs when the point
+/// does, and is worth the point's value.
 ///
-/// Each connection of the window is asked for once, from the last to the first. The only error is want of memory; then a beginning
-/// of them was asked for.
+/// Each connection of the window is asked for once, from the last to the first. The only error is
+/// want of memory; then a beginning of them was asked for.
 pub fn answer_query<S: ConnSource, C: Criterion>(
     alloc: Global,
     source: &mut S,
@@ -43,12 +44,17 @@ pub fn answer_query<S: ConnSource, C: Criterion>(
 ) -> Result<Answer<C>, AllocError>
     requires { IsAskable (S.timetable source.old).stops query.now }
     ensures timetable { S.timetable source.new ≡ S.timetable source.old }
-    ensures points { IfOk result (λ answer. IsAnswer (C.rules criterion.now) (S.timetable source.old) query.now (points_of answer)) }
-    ensures journeys { IfOk result (λ answer. AreAttained (C.rules criterion.now) (S.timetable source.old) query.now answer) }
-    ensures walk { IfOk result (λ answer. IsWay (S.timetable source.old) query.now.target query.now.source (walk_of_answer answer)) }
+    ensures points { IfOk result (λ answer.
+        IsAnswer (C.rules criterion.now) (S.timetable source.old) query.now (points_of answer)) }
+    ensures journeys { IfOk result (λ answer.
+        AreAttained (C.rules criterion.now) (S.timetable source.old) query.now answer) }
+    ensures walk { IfOk result (λ answer. IsWay (S.timetable source.old) query.now.target query.now.source
+        (walk_of_answer answer)) }
     ensures read { IfOk result (λ answer. answer.read ≡ length (window (S.timetable source.old) query.now)) }
-    ensures log { OnOk result (S.log source.new ≡ S.log source.old ++ reverse (window (S.timetable source.old) query.now)) }
-    ensures err { OnErr result ((n : ℕ) × (S.log source.new ≡ S.log source.old ++ take n (reverse (window (S.timetable source.old) query.now)))) }
+    ensures log { OnOk result (S.log source.new ≡ S.log source.old
+        ++ reverse (window (S.timetable source.old) query.now)) }
+    ensures err { OnErr result ((n : ℕ) × (S.log source.new ≡ S.log source.old
+        ++ take n (reverse (window (S.timetable source.old) query.now)))) }
 {
     let end = source.first_at(query.by);
     let read = end.saturating_sub(source.first_at(query.from));

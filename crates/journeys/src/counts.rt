@@ -34,7 +34,11 @@ fn path_fault(image: &Verified, query: &Query, way: &Way<'_>) -> Option<JourneyF
 }
 
 fn judge(image: &Verified, query: &Query, way: &Way<'_>) -> Result<Times, JourneyFault>
-    ensures { IsJudged image.now.timetable query.now (record { start = way.now.start; rides = way.now.rides.now }) result }
+    ensures { IsJudged image.now.timetable query.now (record {
+      start = way.now.start;
+      rides =
+          way.now.rides.now;
+    }) result }
 {
     if let Some(fault) = path_fault(image, query, way) {
         return Err(fault);
@@ -44,13 +48,15 @@ fn judge(image: &Verified, query: &Query, way: &Way<'_>) -> Result<Times, Journe
 
 /// The departure and final time of a journey that holds in the image and counts for the query; else its first fault.
 ///
-/// No memory is taken. A query may be any: one whose source or target is no stop, or whose window is empty, has no journey that
-/// counts; one from a stop to itself has journeys that lead back.
+/// No memory is taken. A query may be any: one whose source or target is no stop, or whose window
+/// is empty, has no journey that counts; one from a stop to itself has journeys that lead back.
 pub fn check(image: &Verified, query: &Query, journey: &Journey) -> Result<Times, JourneyFault>
     // It counts, departs then and is over then.
-    ensures counts { IfOk result (λ times. Counts image.now.timetable query.now times.dep journey.now × (times.arr ≡ arrival image.now.timetable journey.now)) }
+    ensures counts { IfOk result (λ times. Counts image.now.timetable query.now times.dep journey.now
+        × (times.arr ≡ arrival image.now.timetable journey.now)) }
     // What counts is accepted.
-    ensures only { (departure : ℕ) → Counts image.now.timetable query.now departure journey.now → result ≡ Ok (record { dep = departure; arr = arrival image.now.timetable journey.now }) }
+    ensures only { (departure : ℕ) → Counts image.now.timetable query.now departure journey.now
+        → result ≡ Ok (record { dep = departure; arr = arrival image.now.timetable journey.now }) }
     // Which fault it is.
     ensures fault { IfErr result (λ e. first_fault image.now.timetable query.now journey.now ≡ Some e) }
 {
@@ -63,5 +69,6 @@ pub fn check(image: &Verified, query: &Query, journey: &Journey) -> Result<Times
 
 /// A journey has no fault just where it counts, at some departure.
 pub fn faultless_counts()
-    ensures { (t : TimetableValue) (q : Query) (j : JourneyValue) → (first_fault t q j ≡ None) ↔ ((departure : ℕ) × Counts t q departure j) }
+    ensures { (t : TimetableValue) (q : Query) (j : JourneyValue) → (first_fault t q j ≡ None)
+        ↔ ((departure : ℕ) × Counts t q departure j) }
 {}

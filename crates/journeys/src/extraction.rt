@@ -31,7 +31,8 @@ enum Alighting {
 // The boarding that a node is, by an earlier node.
 #[tactic(auto, using(crate::proofs::SpellLemmas::nothing_said))]
 fn boards_at<C: Criterion>(found: &Found<C>, number: usize) -> Option<Boarding>
-    ensures { MatchOption result ((spelled (nodes_of found.now) number).onward ≡ None) (λ boarding. IsBoarding (nodes_of found.now) number boarding) }
+    ensures { MatchOption result ((spelled (nodes_of found.now) number).onward
+        ≡ None) (λ boarding. IsBoarding (nodes_of found.now) number boarding) }
 {
     match found.node(number) {
         Some(Node::Boards { walk, first, next }) => {
@@ -51,7 +52,8 @@ fn boards_at<C: Criterion>(found: &Found<C>, number: usize) -> Option<Boarding>
 // How one gets off by a node, and by earlier ones.
 #[tactic(auto, using(crate::proofs::SpellLemmas::nothing_said))]
 fn gets_off_at<C: Criterion>(found: &Found<C>, number: usize) -> Option<Alighting>
-    ensures { MatchOption result ((spelled (nodes_of found.now) number).aboard ≡ None) (λ alighting. IsAlighting (nodes_of found.now) number alighting) }
+    ensures { MatchOption result ((spelled (nodes_of found.now) number).aboard
+        ≡ None) (λ alighting. IsAlighting (nodes_of found.now) number alighting) }
 {
     match found.node(number) {
         Some(Node::Ends { last, walk }) => Some(Alighting::Ends { last, walk }),
@@ -112,7 +114,8 @@ fn rides_from<C: Criterion>(
     boards: u32,
     from: usize,
 ) -> Result<Option<Vec<Ride>>, AllocError>
-    ensures { IfOk result (λ rides. MatchOption rides (rides_on boards (spelled (nodes_of found.now) from).aboard ≡ None) (λ rides. rides_on boards (spelled (nodes_of found.now) from).aboard ≡ Some rides.items)) }
+    ensures { IfOk result (λ rides. MatchOption rides (rides_on boards (spelled (nodes_of found.now) from).aboard
+        ≡ None) (λ rides. rides_on boards (spelled (nodes_of found.now) from).aboard ≡ Some rides.items)) }
 {
     let mut rides = Vec::with_capacity(alloc, rides_after(found, from).saturating_add(1))?;
     let mut first = boards;
@@ -140,7 +143,8 @@ fn spelled_at<C: Criterion>(
     found: &Found<C>,
     number: usize,
 ) -> Result<Option<Journey>, AllocError>
-    ensures { IfOk result (λ journey. MatchOption journey ((spelled (nodes_of found.now) number).journey ≡ None) (λ journey. (spelled (nodes_of found.now) number).journey ≡ Some journey)) }
+    ensures { IfOk result (λ journey. MatchOption journey ((spelled (nodes_of found.now) number).journey
+        ≡ None) (λ journey. (spelled (nodes_of found.now) number).journey ≡ Some journey)) }
 {
     match found.node(number) {
         Some(Node::SetsOut { start, first, next }) => {
@@ -159,8 +163,9 @@ fn spelled_at<C: Criterion>(
     }
 }
 
-/// The journey of a point of an answer, at its place: one that counts for the query, departs when the point does, and is worth the
-/// point's value. Each change is one footpath, and after the last leg there is one only where that leg ends elsewhere than at the target.
+/// The journey of a point of an answer, at its place: one that counts for the query, departs when
+/// the point does, and is worth the point's value. Each change is one footpath, and after the last
+/// leg there is one only where that leg ends elsewhere than at the target.
 ///
 /// The only error is want of memory.
 pub fn extract<C: Criterion>(
@@ -169,11 +174,16 @@ pub fn extract<C: Criterion>(
     i: usize,
 ) -> Result<Journey, AllocError>
     requires { i < length (listed found.now) }
-    ensures spelled { IfOk result (λ journey. (p : _) → slice_get (listed found.now) i ≡ Some p → journey ≡ or_none (spelled (nodes_of found.now) p.tag).journey) }
+    ensures spelled { IfOk result (λ journey. (p : _) → slice_get (listed found.now) i ≡ Some p
+        → journey ≡ or_none (spelled (nodes_of found.now) p.tag).journey) }
     // It attains the point in the query and the timetable that the answer keeps.
-    ensures kept { IfOk result (λ journey. (p : _) → slice_get (listed found.now) i ≡ Some p → ∥ Attains (C.rules (criterion_of_found found.now)) (timetable_of found.now) (query_of found.now) p journey ∥₁) }
+    ensures kept { IfOk result (λ journey. (p : _) → slice_get (listed found.now) i ≡ Some p
+        → ∥ Attains (C.rules (criterion_of_found found.now)) (timetable_of found.now) (query_of found.now) p journey
+        ∥₁) }
     // So it does in those of which the caller knows that they were answered.
-    ensures attains { IfOk result (λ journey. (criterion : _) (t : TimetableValue) (q : Query) (p : _) → Answers criterion (C.rules criterion) t q found.now → slice_get (listed found.now) i ≡ Some p → Attains (C.rules criterion) t q p journey) }
+    ensures attains { IfOk result (λ journey. (criterion : _) (t : TimetableValue) (q : Query) (p : _)
+        → Answers criterion (C.rules criterion) t q found.now → slice_get (listed found.now) i ≡ Some p
+        → Attains (C.rules criterion) t q p journey) }
 {
     let points = found.points();
     let point = points[i];

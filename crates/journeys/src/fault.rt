@@ -7,7 +7,8 @@ use reasoning::variant_name;
 
 /// Why a journey doesn't count for a query, with the number of the leg or walk.
 ///
-/// Legs count from 0. Walk i is before leg i, the start being walk 0; the last walk, after all legs, has the number of legs.
+/// Legs count from 0. Walk i is before leg i, the start being walk 0; the last walk, after all
+/// legs, has the number of legs.
 #[derive(Clone, Copy, Debug, PartialEq, Eq)]
 pub enum JourneyFault {
     /// A leg's first connection is after its last one, or the image hasn't got them; or there is no leg at all.
@@ -20,7 +21,8 @@ pub enum JourneyFault {
     NoAlighting(usize),
     /// The image hasn't got a footpath of the walk with its seconds.
     NoFootpath(usize),
-    /// Footpaths don't join, or the walk doesn't lead from leg to leg, or is empty between two, or is a start to the stop itself.
+    /// Footpaths don't join, or the walk doesn't lead from leg to leg, or is empty between two, or
+    /// is a start to the stop itself.
     WalkBroken(usize),
     /// The leg departs before the leg and walk before it are over.
     TooEarly(usize),

@@ -8,8 +8,8 @@ ghost use Rattle.journeys.specs.Faults.{has_footpath};
 use image_verifier::Verified;
 use timetable::Footpath;
 
-// Among the footpaths into a stop, which stand from one place up to before another, the first place with one that leaves
-// the given stop or a later one.
+// Among the footpaths into a stop, which stand from one place up to before another, the first place
+// with one that leaves the given stop or a later one.
 fn first_leaving(image: &Verified, stop: u32, start: usize, end: usize, from: u32) -> usize
     requires stop { stop < image.now.timetable.stops }
     requires order { start ≤ end }
@@ -18,8 +18,10 @@ fn first_leaving(image: &Verified, stop: u32, start: usize, end: usize, from: u3
     requires into { (k : ℕ) (f : Footpath) → At image.now.timetable.footpaths k f → start ≤ k → k < end → f.to ≡ stop }
     ensures low { start ≤ result }
     ensures high { result ≤ end }
-    ensures before { (k : ℕ) (f : Footpath) → At image.now.timetable.footpaths k f → start ≤ k → k < result → f.from < from }
-    ensures here { (k : ℕ) (f : Footpath) → At image.now.timetable.footpaths k f → result ≤ k → k < end → from ≤ f.from }
+    ensures before { (k : ℕ) (f : Footpath) → At image.now.timetable.footpaths k f → start ≤ k → k < result
+        → f.from < from }
+    ensures here { (k : ℕ) (f : Footpath) → At image.now.timetable.footpaths k f → result ≤ k → k < end
+        → from ≤ f.from }
 {
     let mut low = start;
     let mut high = end;

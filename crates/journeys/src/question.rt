@@ -18,8 +18,8 @@ pub struct Window {
     pub by: u32,
 }
 
-/// The query that asks, of an image, for journeys from the stop of one name to the stop of another. Where stops share a name, the
-/// least of them is meant. Names are compared byte by byte.
+/// The query that asks, of an image, for journeys from the stop of one name to the stop of another.
+/// Where stops share a name, the least of them is meant. Names are compared byte by byte.
 ///
 /// The error is `UnknownStop` where no stop has one of the names, else the first fault of the query.
 pub fn query_of(

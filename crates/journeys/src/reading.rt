@@ -4,7 +4,8 @@ ghost use Rattle.std.specs.Prelude.{◌≡◌, ◌≤◌, ◌^◌, ◌<◌, ℕ,
 ghost use Rattle.std.specs.Option.{option_map};
 ghost use Rattle.std.specs.Char.{is_ascii_digit};
 ghost use Rattle.std.specs.List.{prefix_len, list_all};
-ghost use Rattle.journeys.specs.Reading.{Gives, value_of, number_of_digits, number_at, field_at, footpath_at, leg_at, after, walks_at, ride_at_front, rides_at, start_at, journey_at};
+ghost use Rattle.journeys.specs.Reading.{Gives, value_of, number_of_digits, number_at, field_at, footpath_at};
+ghost use Rattle.journeys.specs.Reading.{leg_at, after, walks_at, ride_at_front, rides_at, start_at, journey_at};
 
 use crate::text_fault::TextFault;
 use std::alloc::Global;
@@ -164,7 +165,8 @@ fn start(bytes: &[u8]) -> Result<(Option<Footpath>, &[u8]), TextFault>
     }
 }
 
-/// The journey that the bytes spell, from the first to the last of them, or `BadText`, or `OutOfMemory` where memory was refused.
+/// The journey that the bytes spell, from the first to the last of them, or `BadText`, or
+/// `OutOfMemory` where memory was refused.
 #[tactic(auto, unfolding(crate::specs::Reading::journey_at))]
 pub fn journey(alloc: Global, bytes: &[u8]) -> Result<Journey, TextFault>
     ensures { Gives (λ j. j) result (journey_at bytes.now) }

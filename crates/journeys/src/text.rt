@@ -5,7 +5,8 @@ ghost use Rattle.std.specs.List.{flat_map};
 ghost use Rattle.timetable.specs.Clocks.{clock_bytes};
 ghost use Rattle.timetable.specs.JourneyValue.{JourneyValue};
 ghost use Rattle.journeys.specs.declared.text_fault.TextFault.TheVariants.{OutOfMemory};
-ghost use Rattle.journeys.specs.Texts.{number_text, walk_text, leg_text, ride_text, start_text, text_of, HasText, IsPlainByte};
+ghost use Rattle.journeys.specs.Texts.{number_text, walk_text, leg_text, ride_text, start_text, text_of, HasText};
+ghost use Rattle.journeys.specs.Texts.{IsPlainByte};
 
 use crate::reading::journey;
 use crate::text_fault::TextFault;
@@ -76,7 +77,8 @@ fn put_start(out: &mut Vec<u8>, start: Option<Footpath>) -> Result<(), AllocErro
     }
 }
 
-/// The text of a journey: `walk FROM TO SECS` for each footpath and `ride FIRST LAST` for each leg, with one space between.
+/// The text of a journey: `walk FROM TO SECS` for each footpath and `ride FIRST LAST` for each leg,
+/// with one space between.
 pub fn journey_text(alloc: Global, journey: &Journey) -> Result<Vec<u8>, AllocError>
     ensures { IfOk result (λ text. text.items ≡ text_of journey.now) }
 {
@@ -101,13 +103,14 @@ pub fn journey_string(alloc: Global, journey: &Journey) -> Result<String, AllocE
     }
 }
 
-/// The journey whose text the bytes are. Numbers are decimal, without leading zeros, up to 4,294,967,295; at most one walk comes
-/// before the first ride, and there is at least one ride.
+/// The journey whose text the bytes are. Numbers are decimal, without leading zeros, up to
+/// 4,294,967,295; at most one walk comes before the first ride, and there is at least one ride.
 pub fn journey_parse(alloc: Global, text: &[u8]) -> Result<Journey, TextFault>
     // What is read is spelled so.
     ensures found { IfOk result (λ j. HasText j × (text.now ≡ text_of j)) }
     // What is spelled so is read, unless memory runs out.
-    ensures only { (j : JourneyValue) → HasText j → text.now ≡ text_of j → MatchResult result (λ found. found ≡ j) (λ e. e ≡ OutOfMemory) }
+    ensures only { (j : JourneyValue) → HasText j → text.now ≡ text_of j
+        → MatchResult result (λ found. found ≡ j) (λ e. e ≡ OutOfMemory) }
 {
     journey(alloc, text)
 }
@@ -117,8 +120,8 @@ pub fn one_text()
     ensures { (j k : JourneyValue) → HasText j → HasText k → text_of j ≡ text_of k → j ≡ k }
 {}
 
-/// The texts of journeys and of times are spaces, digits, colons and small letters: no form of quoting changes them, and each byte is a
-/// character.
+/// The texts of journeys and of times are spaces, digits, colons and small letters: no form of
+/// quoting changes them, and each byte is a character.
 pub fn plain_texts()
     ensures journeys { (j : JourneyValue) → All IsPlainByte (text_of j) }
     ensures clocks { (time : ℕ) → All IsPlainByte (clock_bytes time) }

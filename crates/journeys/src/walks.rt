@@ -3,7 +3,8 @@
 ghost use Rattle.std.specs.Prelude.{◌≡◌, ◌+◌, ◌<◌, ◌-◌, ◌^◌, length, min};
 ghost use Rattle.std.specs.List.{list_all};
 ghost use Rattle.timetable.specs.Journeys.{walk_secs};
-ghost use Rattle.journeys.specs.Faults.{has_footpath, led_to, is_elsewhere, is_nowhere, walk_fault, start_fault, is_broken, walk_after_fault, walks_fault, ride_at, leg_stop, AreLegs};
+ghost use Rattle.journeys.specs.Faults.{has_footpath, led_to, is_elsewhere, is_nowhere, walk_fault, start_fault};
+ghost use Rattle.journeys.specs.Faults.{is_broken, walk_after_fault, walks_fault, ride_at, leg_stop, AreLegs};
 
 use crate::fault::JourneyFault;
 use crate::footpaths::has_footpath;

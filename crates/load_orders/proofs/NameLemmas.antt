@@ -1,23 +1,31 @@
 -- Places of names.
-use Rattle.std.proofs.Common.{◌≡◌, ℕ, ◌<◌, Bool, true, false, List, length, map, slice_get, get_or, string_bytes, String, Global, Some, MatchBool, ap, sym, ◌∙◌, arith}
+use Rattle.std.proofs.Common.{◌≡◌, ℕ, ◌<◌, Bool, true, false, List, length, map, slice_get, get_or, string_bytes}
+use Rattle.std.proofs.Common.{String, Global, Some, MatchBool, ap, sym, ◌∙◌, arith}
 use Rattle.std.proofs.lemmas.Option.{slice_get-get_or, slice_get-map, slice_get_within}
 use Rattle.std.specs.Option.{option_map}
 use Rattle.std.proofs.lemmas.List.{length-map}
 use Rattle.load_orders.specs.Asking.{IsNoName}
 
 -- the text at a place
-text_at : (names : List (String Global)) (place : ℕ) (read : String Global) → place < length names → read ≡ get_or names place read → slice_get (map string_bytes names) place ≡ Some (string_bytes read)
+text_at : (names : List (String Global)) (place : ℕ) (read : String Global) → place < length names
+    → read ≡ get_or names place read → slice_get (map string_bytes names) place ≡ Some (string_bytes read)
 text_at names place read small is =
     slice_get-map string_bytes names place ∙ ap (λ o. option_map string_bytes o) (slice_get-get_or names place read small ∙ ap (λ x. Some x) (sym is))
 
 pub named : (names : List (String Global)) (place : ℕ) (read : String Global) (name : List ℕ) (b : Bool) → place < length names → read ≡ get_or names place read
-    → MatchBool b (string_bytes read ≡ name) (¬ (string_bytes read ≡ name)) → MatchBool b (slice_get (map string_bytes names) place ≡ Some name) (¬ (slice_get (map string_bytes names) place ≡ Some name))
+    → MatchBool b (string_bytes read ≡ name) (¬ (string_bytes read ≡ name))
+    → MatchBool b (slice_get (map string_bytes names) place
+    ≡ Some name) (¬ (slice_get (map string_bytes names) place ≡ Some name))
 named names place read name true small is same = text_at names place read small is ∙ ap (λ x. Some x) same
-named names place read name false small is other = λ there. let both : Some (string_bytes read) ≡ Some name = sym (text_at names place read small is) ∙ there in other (cc)
+named names place read name false small is other = λ there. let both : Some (string_bytes read) ≡ Some name =
+    sym (text_at names place read small is) ∙ there in
+    other (cc)
 
 within : (names : List (String Global)) (place : ℕ) (name : List ℕ) → slice_get (map string_bytes names) place ≡ Some name → place < length names
 within names place name there = let n = slice_get_within (map string_bytes names) place name there in let m = length-map names string_bytes in omega arith
 
 -- a name that is at no place within
-pub no_name : (names : List (String Global)) (name : List ℕ) → ((j : ℕ) → j < length names → ¬ (slice_get (map string_bytes names) j ≡ Some name)) → IsNoName (map string_bytes names) name
+pub no_name : (names : List (String Global)) (name : List ℕ)
+    → ((j : ℕ) → j < length names → ¬ (slice_get (map string_bytes names) j ≡ Some name))
+    → IsNoName (map string_bytes names) name
 no_name names name none place there = none place (within names place name there) there

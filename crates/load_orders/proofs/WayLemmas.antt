@@ -26,7 +26,8 @@ module _ {N : Type 0} where
   second_tells heard told zero is = let e : 2 ≡ 1 = ap kind is in omega (arith, e)
   second_tells heard told (suc end) is = some-ne-none _ (sym is)
 
-  pub tells : (n end : ℕ) (told : List (LoadAnswer N)) (answer : LoadAnswer N) → Pushes IsWay n end (Side.Telling told) answer (IsOneAnswerMore (Side.Telling told) answer)
+  pub tells : (n end : ℕ) (told : List (LoadAnswer N)) (answer : LoadAnswer N)
+      → Pushes IsWay n end (Side.Telling told) answer (IsOneAnswerMore (Side.Telling told) answer)
   unfolding kind answers_at
   tells n zero told answer items (Side.Telling t ∷ Side.Hearing h ∷ []) room holds at = (
     Side.Telling (told ++ answer ∷ []),

@@ -5,7 +5,8 @@ ghost use Rattle.load_orders.specs.Asking.{IsFirst, IsNoName};
 
 /// The first place of the name.
 pub(crate) fn place_of(names: &[String], name: &str) -> Option<usize>
-    ensures { MatchOption result (IsNoName (map string_bytes names.now) name.now) (IsFirst (map string_bytes names.now) name.now) }
+    ensures { MatchOption result (IsNoName (map string_bytes names.now) name.now)
+        (IsFirst (map string_bytes names.now) name.now) }
 {
     for place in 0..names.len() {
         if is_named(names, place, name) {
@@ -17,7 +18,8 @@ pub(crate) fn place_of(names: &[String], name: &str) -> Option<usize>
 
 fn is_named(names: &[String], place: usize, name: &str) -> bool
     requires { place < length names.now }
-    ensures { MatchBool result (slice_get (map string_bytes names.now) place ≡ Some name.now) (¬ (slice_get (map string_bytes names.now) place ≡ Some name.now)) }
+    ensures { MatchBool result (slice_get (map string_bytes names.now) place
+        ≡ Some name.now) (¬ (slice_get (map string_bytes names.now) place ≡ Some name.now)) }
 {
     is_text(&names[place], name)
 }

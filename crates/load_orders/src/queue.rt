@@ -13,14 +13,16 @@ use std::marker::Model;
 /// How many orders may wait.
 pub const MOST_WAITING: usize = 4;
 
-/// An order to load a feed: its place in the list of feeds, and the way back to whoever waits for what comes of it, if somebody does.
+/// An order to load a feed: its place in the list of feeds, and the way back to whoever waits for
+/// what comes of it, if somebody does.
 #[derive(Drop)]
 pub struct Order<N: Drop> {
     pub feed: usize,
     pub way_back: Option<WayBack<N>>,
 }
 
-/// What an end of the queue notes of an order: its feed's place, and which way back it carries, if any. No value of it is made.
+/// What an end of the queue notes of an order: its feed's place, and which way back it carries, if
+/// any. No value of it is made.
 pub struct OrderMark {
     pub feed: u64,
     pub ghost way: { Option TableId },

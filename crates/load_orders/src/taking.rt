@@ -1,8 +1,10 @@
 //! The workers' ends of the queue, and the loader's.
 
-ghost use Rattle.std.specs.Prelude.{◌≡◌, ◌++◌, ◌∷◌, [], map, string_bytes, Some, IfOk, IfErr, OnOk, MatchOption, Option, false, is_none};
+ghost use Rattle.std.specs.Prelude.{◌≡◌, ◌++◌, ◌∷◌, [], map, string_bytes, Some, IfOk, IfErr, OnOk, MatchOption};
+ghost use Rattle.std.specs.Prelude.{Option, false, is_none};
 ghost use Rattle.orders.specs.Ordering.{IsNotTaken, order_value, version_told, waited_value};
-ghost use Rattle.load_orders.specs.Asking.{Hears, IsNotAwaited, IsPut, IsTurnedAway, RefusesOrder, RefusesVersion, awaited_order, fault_told};
+ghost use Rattle.load_orders.specs.Asking.{Hears, IsNotAwaited, IsPut, IsTurnedAway, RefusesOrder, RefusesVersion};
+ghost use Rattle.load_orders.specs.Asking.{awaited_order, fault_told};
 ghost use Rattle.load_orders.specs.Queue.{mark_of};
 ghost use Rattle.load_orders.specs.Telling.{IsToldBack};
 ghost use Rattle.load_orders.specs.Ways.{WayId, WayValue, heard_at};
@@ -57,7 +59,13 @@ impl<'a, N: Drop, T: Versions<Notice = N>> Model for WorkerOrders<'a, N, T> {
 
     ghost Value = { WorkerOrdersValue N };
 
-    ghost view = { λ s. record { names = map string_bytes s.names.now; end = s.end; asked = s.asked; heard = s.heard } };
+    ghost view = { λ s. record {
+      names = map string_bytes s.names.now;
+      end = s.end;
+      asked = s.asked;
+      heard =
+          s.heard;
+    } };
 }
 
 /// What the loader answered to an order. Contracts see the answer, and where it was told.
@@ -75,8 +83,8 @@ impl<N: Drop> Model for Answered<N> {
     ghost view = { λ a. record { answer = a.answer.value; told = a.told } };
 }
 
-/// The loader's end of the queue. Contracts see which queue, the orders that it took, and what it answered, in order, and
-/// whether it asked for another and none came.
+/// The loader's end of the queue. Contracts see which queue, the orders that it took, and what it
+/// answered, in order, and whether it asked for another and none came.
 #[derive(Drop)]
 pub struct LoaderOrders<N: Drop> {
     receiver: OrderReceiver<N>,
@@ -92,7 +100,13 @@ impl<N: Drop> Model for LoaderOrders<N> {
 
     ghost Value = { LoaderOrdersValue N };
 
-    ghost view = { λ s. record { queue = s.pass.table_id; taken = (view_of s.pass).orders; answered = s.answered; over = s.over } };
+    ghost view = { λ s. record {
+      queue = s.pass.table_id;
+      taken = (view_of s.pass).orders;
+      answered =
+          s.answered;
+      over = s.over;
+    } };
 
     ghost invariant = { λ s. IsSeatAt (receives_on s.receiver) s.pass };
 }
@@ -194,7 +208,9 @@ fn put_awaited<R: Wait, N: Drop>(
     heard: &mut Trace<UsedWay<N>>,
 ) -> Result<Option<LoadAnswer<N>>, OrderFault>
     ensures queue { end.new.queue ≡ end.old.queue }
-    ensures heard { IfOk result (λ answer. (way : WayId) × (end.new.orders ≡ end.old.orders ++ awaited_order place way ∷ []) × (heard.new ≡ heard.old ++ heard_at way answer ∷ [])) }
+    ensures heard { IfOk result (λ answer. (way : WayId)
+        × (end.new.orders ≡ end.old.orders ++ awaited_order place way ∷ [])
+        × (heard.new ≡ heard.old ++ heard_at way answer ∷ [])) }
     ensures refused { IfErr result (λ fault. IsNotAwaited N fault × (end.new ≡ end.old) × (heard.new ≡ heard.old)) }
 {
     let Ok((way_back, awaited)) = way_back(alloc) else {
@@ -236,8 +252,9 @@ impl<'a, N: Drop, T: Versions<Notice = N>> Orders for WorkerOrders<'a, N, T> {
 
     ghost told = { T.noted };
 
-    /// Puts an order of the first feed of that name: `UnknownFeed` exactly where there is none, `OrdersFull` where four orders stand in
-    /// the queue already. Of a queue that others use, no contract says when it was full.
+    /// Puts an order of the first feed of that name: `UnknownFeed` exactly where there is none,
+    /// `OrdersFull` where four orders stand in the queue already. Of a queue that others use, no
+    /// contract says when it was full.
     fn order<R: Wait>(&mut self, rt: &R, feed: &str) -> Result<(), OrderFault>
         ensures asked { self.new.asked ≡ self.old.asked ++ order_value feed.now result ∷ [] }
         ensures plain { IfErr result IsNotTaken }
@@ -245,7 +262,8 @@ impl<'a, N: Drop, T: Versions<Notice = N>> Orders for WorkerOrders<'a, N, T> {
         ensures queue { self.new.end.queue ≡ self.old.end.queue }
         ensures heard { self.new.heard ≡ self.old.heard }
         ensures put { OnOk result (IsPut feed.now self.old self.new) }
-        ensures refused { IfErr result (λ fault. RefusesOrder N self.old.names feed.now fault × (self.new.end ≡ self.old.end)) }
+        ensures refused { IfErr result (λ fault. RefusesOrder N self.old.names feed.now fault
+            × (self.new.end ≡ self.old.end)) }
     {
         let outcome = match place_of(self.names, feed) {
             Some(place) => self.end.put(
@@ -261,8 +279,9 @@ impl<'a, N: Drop, T: Versions<Notice = N>> Orders for WorkerOrders<'a, N, T> {
         outcome
     }
 
-    /// Puts an order as `order` does, and waits for its version. `LoadRefused` tells what the loader answered; `LoaderGone` also that
-    /// it didn't; `OutOfMemory` that there was no room to wait, or, of a version that stands, to give notice.
+    /// Puts an order as `order` does, and waits for its version. `LoadRefused` tells what the
+    /// loader answered; `LoaderGone` also that it didn't; `OutOfMemory` that there was no room to
+    /// wait, or, of a version that stands, to give notice.
     fn order_wait<R: Wait>(&mut self, rt: &R, feed: &str) -> Result<(u64, N), OrderFault>
         ensures asked { self.new.asked ≡ self.old.asked ++ waited_value feed.now (version_told result) ∷ [] }
         ensures notice { IfOk result (λ r. T.noted r.1 ≡ r.0) }
@@ -278,11 +297,12 @@ impl<'a, N: Drop, T: Versions<Notice = N>> Orders for WorkerOrders<'a, N, T> {
 }
 
 impl<N: Drop> LoaderOrders<N> {
-    /// Takes the order that waits longest, or waits for one. None comes where the queue is empty and the workers' ends are gone; tests
-    /// show that, and no contract.
+    /// Takes the order that waits longest, or waits for one. None comes where the queue is empty
+    /// and the workers' ends are gone; tests show that, and no contract.
     pub fn next<R: Wait>(&mut self, rt: &R) -> Option<Order<N>>
         ensures queue { self.new.queue ≡ self.old.queue }
-        ensures taken { MatchOption result (self.new.taken ≡ self.old.taken) (λ order. self.new.taken ≡ self.old.taken ++ mark_of order ∷ []) }
+        ensures taken { MatchOption result (self.new.taken ≡ self.old.taken) (λ order. self.new.taken
+            ≡ self.old.taken ++ mark_of order ∷ []) }
         ensures answered { self.new.answered ≡ self.old.answered }
         ensures over { self.new.over ≡ is_none result }
     {
@@ -291,7 +311,8 @@ impl<N: Drop> LoaderOrders<N> {
         order
     }
 
-    /// Tells whoever waits for the order what came of it, by the order's own way back. Nobody may wait for it, or wait any more.
+    /// Tells whoever waits for the order what came of it, by the order's own way back. Nobody may
+    /// wait for it, or wait any more.
     pub fn answer<R: Wait>(&mut self, rt: &R, order: Order<N>, answer: LoadAnswer<N>)
         ensures queue { self.new.queue ≡ self.old.queue }
         ensures taken { self.new.taken ≡ self.old.taken }

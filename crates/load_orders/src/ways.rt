@@ -86,7 +86,8 @@ impl<N: Drop> Model for WayBack<N> {
 
     ghost view = { λ s. s.pass.table_id };
 
-    ghost invariant = { λ s. IsSeatAt (sends_on s.sender) s.pass × (ruled_capacity (sends_on s.sender) ≡ 1) × (view_of s.pass ≡ untold) };
+    ghost invariant = { λ s. IsSeatAt (sends_on s.sender) s.pass × (ruled_capacity (sends_on s.sender) ≡ 1)
+        × (view_of s.pass ≡ untold) };
 }
 
 /// Where whoever waits hears what came of the order. Contracts see which way it is.
@@ -109,7 +110,8 @@ impl<N: Drop> Model for Awaited<N> {
     ghost invariant = { λ s. IsSeatAt (receives_on s.receiver) s.pass × (view_of s.pass ≡ unheard) };
 }
 
-/// A way back that was used. Contracts see which, and the answers that were told there, or heard, as its own end knows them.
+/// A way back that was used. Contracts see which, and the answers that were told there, or heard,
+/// as its own end knows them.
 #[derive(Drop)]
 pub struct UsedWay<N: Drop> {
     pass: Pass<LoadAnswer<N>, Side<N>>,

@@ -22,8 +22,9 @@ pub trait Orders {
         ensures asked { asked self.new ≡ asked self.old ++ order_value feed.now result ∷ [] }
         ensures refused { IfErr result IsNotTaken };
 
-    /// Orders a load of the feed, and waits for what comes of it: the version as which the feed was published, and a notice of that
-    /// version. Where memory is wanting, a version may have been published that nobody here is told of.
+    /// Orders a load of the feed, and waits for what comes of it: the version as which the feed was
+    /// published, and a notice of that version. Where memory is wanting, a version may have been
+    /// published that nobody here is told of.
     fn order_wait<R: Wait>(&mut self, rt: &R, feed: &str) -> Result<(u64, Self::Notice), OrderFault>
         ensures asked { asked self.new ≡ asked self.old ++ waited_value feed.now (version_told result) ∷ [] }
         ensures notice { IfOk result (λ r. told r.1 ≡ r.0) };

@@ -18,7 +18,8 @@ abbrev pub AreAdmitted : {V : Type 0} → Rules V → List (Point V) → Type 0
 AreAdmitted {V} rules points = (p : Point V) → Contains points p → Admits rules p.value
 
 module _ {V : Type 0} (rules : Rules V) (laws : Laws rules) (t : TimetableValue) (q : Query) (can : CanScan t q) where
-  pub ridden_admits : (goal stop time final : ℕ) (rides : List RideValue) → final ≤ q.by → Leads t goal stop time rides → Admits rules (ridden rules final rides)
+  pub ridden_admits : (goal stop time final : ℕ) (rides : List RideValue) → final ≤ q.by → Leads t goal stop time rides
+      → Admits rules (ridden rules final rides)
   ridden_admits goal stop time final [] le leads = let small = can.in_time in laws.arrive_admits final (omega arith)
   ridden_admits goal stop time final (ride ∷ rides) le leads =
       laws.ride_admits (walked rules ride.walk (ridden rules final rides))
@@ -44,12 +45,17 @@ module _ {V : Type 0} (rules : Rules V) (laws : Laws rules) (t : TimetableValue)
   point_admits departure v p = subst (Admits rules) (sym p.2) (journey_admits departure p.0 p.1)
 
 -- points that are attained by admitted ways are admitted
-pub attained_admits : {V X : Type 0} (rules : Rules V) (spelled : ℕ → Option X) (IsThere : ℕ → X → Type 0) (IsPlainWay : X → Type 0) (value : X → V) → ((departure : ℕ) (x : X) → IsThere departure x → Admits rules (value x)) → (points : List (Point V)) → ((p : Point V) → Contains points p → IsAttained spelled IsThere IsPlainWay value p) → AreAdmitted rules points
+pub attained_admits : {V X : Type 0} (rules : Rules V) (spelled : ℕ → Option X) (IsThere : ℕ → X
+    → Type 0) (IsPlainWay : X → Type 0) (value : X → V)
+    → ((departure : ℕ) (x : X) → IsThere departure x → Admits rules (value x)) → (points : List (Point V))
+    → ((p : Point V) → Contains points p → IsAttained spelled IsThere IsPlainWay value p) → AreAdmitted rules points
 attained_admits rules spelled IsThere IsPlainWay value admits points sound p is =
     let a = sound p is in
     subst (Admits rules) (sym a.worth) (admits p.departure a.way a.there)
 
 -- what is covered covers what is worse and departs no later
-pub covers_weaker : {V : Type 0} (rules : Rules V) (laws : Laws rules) (points : List (Point V)) (admitted : AreAdmitted rules points) (d e : ℕ) (v w : V) → Admits rules v → Admits rules w → e ≤ d → NoWorse rules v w → Covers rules points d v → Covers rules points e w
+pub covers_weaker : {V : Type 0} (rules : Rules V) (laws : Laws rules) (points : List (Point V))
+    (admitted : AreAdmitted rules points) (d e : ℕ) (v w : V) → Admits rules v → Admits rules w → e ≤ d
+    → NoWorse rules v w → Covers rules points d v → Covers rules points e w
 covers_weaker rules laws points admitted d e v w a b le h c =
     (c.0, c.1, omega (arith, c.2), laws.transitive c.0.value v w (admitted c.0 c.1) a b c.3 h)

@@ -20,25 +20,33 @@ use Rattle.profile_scan.proofs.Admitted.{AreAdmitted, point_admits}
 use Rattle.profile_scan.proofs.Ends.{counts_in_window}
 
 -- a point of a bag dominates no other one
-pub only_itself : {V : Type 0} (rules : Rules V) (points : List (Point V)) → AllPairs (Apart rules) points → (p q : Point V) → Contains points p → Contains points q → Dominates rules p q → p ≡ q
+pub only_itself : {V : Type 0} (rules : Rules V) (points : List (Point V)) → AllPairs (Apart rules) points
+    → (p q : Point V) → Contains points p → Contains points q → Dominates rules p q → p ≡ q
 only_itself rules points apart p q in_p in_q d =
     let i = in_p.0 in
     let j = in_q.0 in
     elim (cases_order i j) [
       | inl e ↦ sym in_p.2 ∙ (get_or_default points i p q in_p.1 ∙ (ap (λ (n : ℕ). get_or points n q) e ∙ in_q.2))
-      | inr (inl lt) ↦ absurd ((apart i j p lt in_q.1).0 (subst (λ x. Dominates rules x (get_or points j p)) (sym in_p.2) (subst (Dominates rules p) (sym (get_or_default points j p q in_q.1 ∙ in_q.2)) d)))
-      | inr (inr gt) ↦ absurd ((apart j i p gt in_p.1).1 (subst (λ x. Dominates rules x (get_or points j p)) (sym in_p.2) (subst (Dominates rules p) (sym (get_or_default points j p q in_q.1 ∙ in_q.2)) d)))
+      | inr (inl lt) ↦ absurd ((apart i j p lt in_q.1).0
+          (subst (λ x. Dominates rules x (get_or points j p)) (sym in_p.2)
+          (subst (Dominates rules p) (sym (get_or_default points j p q in_q.1 ∙ in_q.2)) d)))
+      | inr (inr gt) ↦ absurd ((apart j i p gt in_p.1).1
+          (subst (λ x. Dominates rules x (get_or points j p)) (sym in_p.2)
+          (subst (Dominates rules p) (sym (get_or_default points j p q in_q.1 ∙ in_q.2)) d)))
     ]
 
 module _ {V : Type 0} (rules : Rules V) (laws : Laws rules) (t : TimetableValue) (q : Query) (can : CanScan t q) where
-  module _ (start : ℕ) (is_start : IsFirstAt t q.from start) (tags : Spelling) (found : List (Point V)) (matches : Matches rules tags.journey (CountsFrom t q start) (IsPlain t q.target) (journey_value rules t) found) (bag : IsBag rules found) where
+  module _ (start : ℕ) (is_start : IsFirstAt t q.from start) (tags : Spelling) (found : List (Point V))
+      (matches : Matches rules tags.journey (CountsFrom t q start) (IsPlain t q.target) (journey_value rules t) found)
+      (bag : IsBag rules found) where
     -- each point found is one of the query
     found_is_point : (p : Point V) → Contains found p → IsPoint rules t q p.departure p.value
     found_is_point p is = let a = matches.sound p is in (a.way, a.there.counts, a.worth)
 
     -- each point of the query is covered
     point_covered : (departure : ℕ) (v : V) → IsPoint rules t q departure v → Covers rules found departure v
-    point_covered departure v p = subst (Covers rules found departure) (sym p.2) (matches.complete departure p.0 (counts_in_window t q start departure p.0 is_start p.1))
+    point_covered departure v p = subst (Covers rules found departure) (sym p.2)
+        (matches.complete departure p.0 (counts_in_window t q start departure p.0 is_start p.1))
 
     found_is_undominated : (p : Point V) → Contains found p → IsUndominated rules t q p.departure p.value
     found_is_undominated p in_p = record {
@@ -50,7 +58,9 @@ module _ {V : Type 0} (rules : Rules V) (laws : Laws rules) (t : TimetableValue)
           let p_admits = bag.admitted p in_p in
           let better : NoWorse rules r.value p.value = laws.transitive r.value w p.value (bag.admitted r got.1) w_admits p_admits got.3 no_worse in
           let later : p.departure ≤ r.departure = omega (arith, got.2, late) in
-          let same : r ≡ p = only_itself rules found bag.undominated r p got.1 in_p (and_from (nat_le p.departure r.departure) (rules.no_worse r.value p.value) (le-leb p.departure r.departure later) better) in
+          let same : r ≡ p = only_itself rules found bag.undominated r p got.1 in_p
+          (and_from (nat_le p.departure r.departure) (rules.no_worse r.value p.value)
+          (le-leb p.departure r.departure later) better) in
           let departs : r.departure ≡ p.departure = ap (λ (x : Point V). x.departure) same in
           let worse : NoWorse rules p.value w = subst (λ (x : Point V). NoWorse rules x.value w) same got.3 in
           (omega (arith, got.2, late), laws.antisymmetric w p.value w_admits p_admits no_worse worse);
@@ -59,7 +69,8 @@ module _ {V : Type 0} (rules : Rules V) (laws : Laws rules) (t : TimetableValue)
     pub found_is_answer : AllPairs (Before rules) found → IsAnswer rules t q found
     found_is_answer ordered = record {
       exactly = λ departure v. (
-        (λ listed. subst (λ (n : ℕ). IsUndominated rules t q n v) listed.2 (subst (IsUndominated rules t q listed.0.departure) listed.3 (found_is_undominated listed.0 listed.1))),
+        (λ listed. subst (λ (n : ℕ). IsUndominated rules t q n v) listed.2
+            (subst (IsUndominated rules t q listed.0.departure) listed.3 (found_is_undominated listed.0 listed.1))),
         (λ undominated.
             let got = point_covered departure v undominated.is_point in
             let p = got.0 in
@@ -75,7 +86,8 @@ module _ {V : Type 0} (rules : Rules V) (laws : Laws rules) (t : TimetableValue)
   answer_admitted points answer p is = point_admits rules laws t q can p.departure p.value ((answer.exactly p.departure p.value).0 (p, is, refl, refl)).is_point
 
 pub match_is_the_answer : {V : Type 0} (rules : Rules V) → Laws rules → MatchIsTheAnswer rules
-match_is_the_answer rules laws t q can start is_start tags found matches bag ordered = found_is_answer rules laws t q can start is_start tags found matches bag ordered
+match_is_the_answer rules laws t q can start is_start tags found matches bag ordered =
+    found_is_answer rules laws t q can start is_start tags found matches bag ordered
 
 -- the first stands before each later one
 head_is_before : {X : Type 0} (R : X → X → Type 0) (x : X) (xs : List X) (y : X) → AllPairs R (x ∷ xs) → Contains xs y → R x y
@@ -113,7 +125,10 @@ module _ {V : Type 0} (rules : Rules V) (laws : Laws rules) where
   ListsAll a b = (p : Point V) → Contains a p → Lists b p.departure p.value
 
   -- where each list has the other's points, and both are in order, the first ones are alike ..
-  heads_alike : (x : Point V) (xs : List (Point V)) (y : Point V) (ys : List (Point V)) → AllPairs (Before rules) (x ∷ xs) → AllPairs (Before rules) (y ∷ ys) → Admits rules x.value → Admits rules y.value → ListsAll (x ∷ xs) (y ∷ ys) → ListsAll (y ∷ ys) (x ∷ xs) → (x.departure ≡ y.departure) × (x.value ≡ y.value)
+  heads_alike : (x : Point V) (xs : List (Point V)) (y : Point V) (ys : List (Point V))
+      → AllPairs (Before rules) (x ∷ xs) → AllPairs (Before rules) (y ∷ ys) → Admits rules x.value
+      → Admits rules y.value → ListsAll (x ∷ xs) (y ∷ ys) → ListsAll (y ∷ ys) (x ∷ xs)
+      → (x.departure ≡ y.departure) × (x.value ≡ y.value)
   heads_alike x xs y ys a_in_order b_in_order x_admits y_admits into back =
       let there = into x (zero, omega arith, refl) in
       let here = back y (zero, omega arith, refl) in
@@ -129,15 +144,20 @@ module _ {V : Type 0} (rules : Rules V) (laws : Laws rules) where
       ]
 
   -- .. and the later ones of the one are among the later ones of the other
-  tails_alike : (x : Point V) (xs : List (Point V)) (y : Point V) (ys : List (Point V)) → AllPairs (Before rules) (x ∷ xs) → Admits rules x.value → x.departure ≡ y.departure → x.value ≡ y.value → ListsAll (x ∷ xs) (y ∷ ys) → ListsAll xs ys
+  tails_alike : (x : Point V) (xs : List (Point V)) (y : Point V) (ys : List (Point V))
+      → AllPairs (Before rules) (x ∷ xs) → Admits rules x.value → x.departure ≡ y.departure → x.value ≡ y.value
+      → ListsAll (x ∷ xs) (y ∷ ys) → ListsAll xs ys
   tails_alike x xs y ys in_order x_admits departs worth into p is =
       let there = into p (contains_rest p x xs is) in
       elim (contains_cases there.0 y ys there.1) [
-        | inl e ↦ absurd (not_before_itself x p x_admits (departs ∙ ap (λ (r : Point V). r.departure) e ∙ there.2) (worth ∙ ap (λ (r : Point V). r.value) e ∙ there.3) (head_is_before (Before rules) x xs p in_order is))
+        | inl e ↦ absurd (not_before_itself x p x_admits (departs ∙ ap (λ (r : Point V). r.departure) e
+            ∙ there.2) (worth ∙ ap (λ (r : Point V). r.value) e
+            ∙ there.3) (head_is_before (Before rules) x xs p in_order is))
         | inr later ↦ (there.0, later, there.2, there.3)
       ]
 
-  pub same_untagged : (a b : List (Point V)) → AllPairs (Before rules) a → AllPairs (Before rules) b → AreAdmitted rules a → AreAdmitted rules b → ListsAll a b → ListsAll b a → map untagged a ≡ map untagged b
+  pub same_untagged : (a b : List (Point V)) → AllPairs (Before rules) a → AllPairs (Before rules) b
+      → AreAdmitted rules a → AreAdmitted rules b → ListsAll a b → ListsAll b a → map untagged a ≡ map untagged b
   same_untagged [] [] a_in_order b_in_order a_admitted b_admitted into back = refl
   same_untagged [] (y ∷ ys) a_in_order b_in_order a_admitted b_admitted into back = absurd (omega (arith, (back y (zero, omega arith, refl)).1.1))
   same_untagged (x ∷ xs) [] a_in_order b_in_order a_admitted b_admitted into back = absurd (omega (arith, (into x (zero, omega arith, refl)).1.1))
@@ -145,7 +165,11 @@ module _ {V : Type 0} (rules : Rules V) (laws : Laws rules) where
       let x_admits = a_admitted x (zero, omega arith, refl) in
       let y_admits = b_admitted y (zero, omega arith, refl) in
       let alike = heads_alike x xs y ys a_in_order b_in_order x_admits y_admits into back in
-      let rest = same_untagged xs ys (tail_pairs (Before rules) x xs a_in_order) (tail_pairs (Before rules) y ys b_in_order) (λ p is. a_admitted p (contains_rest p x xs is)) (λ p is. b_admitted p (contains_rest p y ys is)) (tails_alike x xs y ys a_in_order x_admits alike.0 alike.1 into) (tails_alike y ys x xs b_in_order y_admits (sym alike.0) (sym alike.1) back) in
+      let rest = same_untagged xs ys (tail_pairs (Before rules) x xs a_in_order)
+      (tail_pairs (Before rules) y ys b_in_order) (λ p is. a_admitted p (contains_rest p x xs is))
+      (λ p is. b_admitted p (contains_rest p y ys is))
+      (tails_alike x xs y ys a_in_order x_admits alike.0 alike.1 into)
+      (tails_alike y ys x xs b_in_order y_admits (sym alike.0) (sym alike.1) back) in
       λ i. (alike.0 i, alike.1 i) ∷ rest i
 
 pub one_answer : {V : Type 0} (rules : Rules V) → Laws rules → OneAnswer rules

@@ -24,7 +24,8 @@ use Rattle.profile_scan.proofs.Answer.{match_is_the_answer}
 use Rattle.profile_scan.proofs.OrderLemmas.{listed_bag, listed_match}
 
 -- points alike, tags aside
-retold_in : {V : Type 0} (old new : List (Point V)) → map untagged new ≡ map untagged old → (p : Point V) → Contains new p → (q : Point V) × Contains old q × (q.departure ≡ p.departure) × (q.value ≡ p.value)
+retold_in : {V : Type 0} (old new : List (Point V)) → map untagged new ≡ map untagged old → (p : Point V)
+    → Contains new p → (q : Point V) × Contains old q × (q.departure ≡ p.departure) × (q.value ≡ p.value)
 retold_in {V} old new same p h =
     let k = h.0 in
     let long = ap length same in
@@ -35,26 +36,33 @@ retold_in {V} old new same p h =
     sym (get_or-map untagged old k p) ∙ ap (λ (xs : List (ℕ × V)). get_or xs k (untagged p)) (sym same) ∙ get_or-map untagged new k p ∙ ap untagged h.2 in
     (q, (k, omega (arith, h.1), get_or_default old k q p (omega (arith, h.1))), ap (λ (x : ℕ × V). x.0) e, ap (λ (x : ℕ × V). x.1) e)
 
-retold_before : {V : Type 0} (rules : Rules V) (old new : List (Point V)) → map untagged new ≡ map untagged old → AllPairs (Before rules) old → AllPairs (Before rules) new
+retold_before : {V : Type 0} (rules : Rules V) (old new : List (Point V)) → map untagged new ≡ map untagged old
+    → AllPairs (Before rules) old → AllPairs (Before rules) new
 retold_before {V} rules old new same pairs i j d lt within =
     let long = ap length same in
     let old_long = length-map old untagged in
     let new_long = length-map new untagged in
-    let at : (k : ℕ) → untagged (get_or old k d) ≡ untagged (get_or new k d) = λ k. sym (get_or-map untagged old k d) ∙ ap (λ (xs : List (ℕ × V)). get_or xs k (untagged d)) (sym same) ∙ get_or-map untagged new k d in
+    let at : (k : ℕ) → untagged (get_or old k d) ≡ untagged (get_or new k d) =
+    λ k. sym (get_or-map untagged old k d) ∙ ap (λ (xs : List (ℕ × V)). get_or xs k (untagged d)) (sym same)
+    ∙ get_or-map untagged new k d in
     alike (get_or old i d) (get_or old j d) (get_or new i d) (get_or new j d) (at i) (at j) (pairs i j d lt (omega arith))
   where
     alike : (p q r s : Point V) → untagged p ≡ untagged r → untagged q ≡ untagged s → Before rules p q → Before rules r s
-    alike p q r s e f (inl lt) = inl (subst (λ (n : ℕ). r.departure < n) (ap (λ (x : ℕ × V). x.0) f) (subst (λ (n : ℕ). n < q.departure) (ap (λ (x : ℕ × V). x.0) e) lt))
+    alike p q r s e f (inl lt) = inl (subst (λ (n : ℕ). r.departure < n) (ap (λ (x : ℕ × V). x.0) f)
+        (subst (λ (n : ℕ). n < q.departure) (ap (λ (x : ℕ × V). x.0) e) lt))
     alike p q r s e f (inr (same_time, less)) = inr (
       sym (ap (λ (x : ℕ × V). x.0) e) ∙ same_time ∙ ap (λ (x : ℕ × V). x.0) f,
       ap (λ (v : V). rules.list_order v s.value) (sym (ap (λ (x : ℕ × V). x.1) e)) ∙ ap (rules.list_order p.value) (sym (ap (λ (x : ℕ × V). x.1) f)) ∙ less,
     )
 
-retold_answer : {V : Type 0} (rules : Rules V) (t : TimetableValue) (q : Query) (old new : List (Point V)) → map untagged new ≡ map untagged old → IsAnswer rules t q old → IsAnswer rules t q new
+retold_answer : {V : Type 0} (rules : Rules V) (t : TimetableValue) (q : Query) (old new : List (Point V))
+    → map untagged new ≡ map untagged old → IsAnswer rules t q old → IsAnswer rules t q new
 retold_answer {V} rules t q old new same is = record {
   exactly = λ d v. (
     (λ listed. let r = retold_in old new same listed.0 listed.1 in (is.exactly d v).0 (r.0, r.1, r.2 ∙ listed.2, r.3 ∙ listed.3)),
-    (λ undominated. let listed = (is.exactly d v).1 undominated in let r = retold_in new old (sym same) listed.0 listed.1 in (r.0, r.1, r.2 ∙ listed.2, r.3 ∙ listed.3)),
+    (λ undominated. let listed = (is.exactly d v).1 undominated in let r =
+        retold_in new old (sym same) listed.0 listed.1
+        in (r.0, r.1, r.2 ∙ listed.2, r.3 ∙ listed.3)),
   );
   unbeaten = λ d v point.
       let c = is.unbeaten d v point in
@@ -64,7 +72,9 @@ retold_answer {V} rules t q old new same is = record {
 }
 
 -- points that match at the start of the window, listed in order and told in nodes
-pub answered : {V : Type 0} (rules : Rules V) → Laws rules → (t : TimetableValue) (q : Query) → CanScan t q → (start : ℕ) → IsFirstAt t q.from start → (s : Story) (nodes : List Node) (found points retold : List (Point V)) (walk : Option ℕ)
+pub answered : {V : Type 0} (rules : Rules V) → Laws rules → (t : TimetableValue) (q : Query) → CanScan t q
+    → (start : ℕ) → IsFirstAt t q.from start
+    → (s : Story) (nodes : List Node) (found points retold : List (Point V)) (walk : Option ℕ)
     → Matches rules (told t.footpaths s).journey (CountsFrom t q start) (IsPlain t q.target) (journey_value rules t) found → IsBag rules found
     → AllPairs (Before rules) points → ((p : Point V) → Contains points p → Contains found p) → ((p : Point V) → Contains found p → Contains points p)
     → map untagged retold ≡ map untagged points → ((p : Point V) → Contains retold p → IsRetold t.footpaths s points nodes p)
@@ -79,10 +89,21 @@ answered rules laws t q can start is_start s nodes found points retold walk matc
       attained = λ p h.
           let r = says p h in
           let a = matches.sound r.of (only r.of r.is_there) in
-          record { way = a.way; spells = r.says a.way a.spells; there = subst (λ (n : ℕ). Counts t q n a.way) (sym r.departs) a.there.counts; plain = a.plain; worth = r.worth ∙ a.worth };
+          record {
+            way = a.way;
+            spells = r.says a.way a.spells;
+            there =
+                subst (λ (n : ℕ). Counts t q n a.way) (sym r.departs) a.there.counts;
+            plain = a.plain;
+            worth =
+                r.worth ∙ a.worth;
+          };
       direct = way;
     }
 
 -- each point found is told
-pub journeys_told : {V : Type 0} (rules : Rules V) (t : TimetableValue) (q : Query) (start : ℕ) (s : Story) (found points : List (Point V)) → Matches rules (told t.footpaths s).journey (CountsFrom t q start) (IsPlain t q.target) (journey_value rules t) found → ((p : Point V) → Contains points p → Contains found p) → (p : Point V) → Contains points p → IsJourneyTold t.footpaths s p.tag
+pub journeys_told : {V : Type 0} (rules : Rules V) (t : TimetableValue) (q : Query) (start : ℕ) (s : Story)
+    (found points : List (Point V)) → Matches rules (told t.footpaths s).journey (CountsFrom t q start)
+    (IsPlain t q.target) (journey_value rules t) found → ((p : Point V) → Contains points p → Contains found p)
+    → (p : Point V) → Contains points p → IsJourneyTold t.footpaths s p.tag
 journeys_told rules t q start s found points matches only p h = let a = matches.sound p (only p h) in (a.way, a.spells)

@@ -1,5 +1,6 @@
 -- Boarding, over the footpaths into a connection's start.
-use Rattle.std.proofs.Common.{◌≡◌, ◌⊎◌, ◌↔◌, ℕ, ◌+◌, ◌-◌, ◌<◌, ◌≤◌, Bool, true, false, List, Contains, length, slice_get, Option, Some, None, refl, sym, ◌∙◌, ap, subst, inl, inr, arith}
+use Rattle.std.proofs.Common.{◌≡◌, ◌⊎◌, ◌↔◌, ℕ, ◌+◌, ◌-◌, ◌<◌, ◌≤◌, Bool, true, false, List, Contains, length}
+use Rattle.std.proofs.Common.{slice_get, Option, Some, None, refl, sym, ◌∙◌, ap, subst, inl, inr, arith}
 use Rattle.std.proofs.lemmas.Bool.{cases_lt}
 use Rattle.std.proofs.lemmas.Option.{same_Some}
 use Rattle.criteria.specs.Laws.{Rules, Laws, Admits, IsSecs}
@@ -24,7 +25,8 @@ use Rattle.profile_scan.proofs.Offers.{takes_none, takes_more, takes_as}
 between_more : (walks : List Footpath) (begin end : ℕ) (y : Footpath) → StandsBetween walks begin end y → StandsBetween walks begin (end + 1) y
 between_more walks begin end y s = (s.0, s.1, omega (arith, s.2), s.3)
 
-pub between_split : (walks : List Footpath) (begin end : ℕ) (x y : Footpath) → slice_get walks end ≡ Some x → StandsBetween walks begin (end + 1) y → StandsBetween walks begin end y ⊎ (y ≡ x)
+pub between_split : (walks : List Footpath) (begin end : ℕ) (x y : Footpath) → slice_get walks end ≡ Some x
+    → StandsBetween walks begin (end + 1) y → StandsBetween walks begin end y ⊎ (y ≡ x)
 between_split walks begin end x y at s = elim (cases_lt s.0 end) [
   | inl lt ↦ inl (s.0, s.1, lt, s.3)
   | inr ge ↦
@@ -36,7 +38,8 @@ tried_more : (walks : List Footpath) (begin end : ℕ) (y : Option Footpath) →
 tried_more walks begin end None s = tt
 tried_more walks begin end (Some f) s = between_more walks begin end f s
 
-tried_split : (walks : List Footpath) (begin end : ℕ) (x : Footpath) (y : Option Footpath) → slice_get walks end ≡ Some x → IsTried walks begin (end + 1) y → IsTried walks begin end y ⊎ (y ≡ Some x)
+tried_split : (walks : List Footpath) (begin end : ℕ) (x : Footpath) (y : Option Footpath)
+    → slice_get walks end ≡ Some x → IsTried walks begin (end + 1) y → IsTried walks begin end y ⊎ (y ≡ Some x)
 tried_split walks begin end x None at s = inl tt
 tried_split walks begin end x (Some f) at s = elim (between_split walks begin end x f at s) [ inl was ↦ inl was | inr same ↦ inr (ap Some same) ]
 
@@ -45,37 +48,54 @@ none_tried walks begin None s = inr refl
 none_tried walks begin (Some f) s = absurd (omega (arith, s.1, s.2))
 
 -- no footpath yet
-pub walks_first : {A V : Type 0} (rules : Rules V) (walks : List Footpath) (offer : Footpath → Offer A V) (begin : ℕ) (old : List (Point V)) → TakesIn rules (each_of (StandsBetween walks begin begin) offer) old old
-walks_first rules walks offer begin old = takes_none rules (each_of (StandsBetween walks begin begin) offer) old (λ way opened. absurd (omega (arith, opened.0.1, opened.0.2)))
+pub walks_first : {A V : Type 0} (rules : Rules V) (walks : List Footpath) (offer : Footpath
+    → Offer A V) (begin : ℕ) (old : List (Point V))
+    → TakesIn rules (each_of (StandsBetween walks begin begin) offer) old old
+walks_first rules walks offer begin old =
+    takes_none rules (each_of (StandsBetween walks begin begin) offer) old
+    (λ way opened. absurd (omega (arith, opened.0.1, opened.0.2)))
 
 -- no start, and no footpath yet
-pub starts_first : {A V : Type 0} (rules : Rules V) (walks : List Footpath) (offer : Option Footpath → Offer A V) (begin : ℕ) (old new : List (Point V)) → TakesIn rules (offer None) old new → TakesIn rules (each_of (IsTried walks begin begin) offer) old new
+pub starts_first : {A V : Type 0} (rules : Rules V) (walks : List Footpath) (offer : Option Footpath
+    → Offer A V) (begin : ℕ) (old new : List (Point V)) → TakesIn rules (offer None) old new
+    → TakesIn rules (each_of (IsTried walks begin begin) offer) old new
 starts_first rules walks offer begin old new takes =
     takes_more rules (λ _. ⊥) (IsTried walks begin begin) offer None old old new (λ y no. absurd no) tt (none_tried walks begin) (λ y way no opened. absurd no)
     (takes_none rules (each_of (λ _. ⊥) offer) old (λ way opened. opened.0)) takes
 
-module _ {V : Type 0} (rules : Rules V) (laws : Laws rules) (t : TimetableValue) (limits : IsWithinLimits t) (labels : List (Point V)) (admitted : AreAdmitted rules labels) where
+module _ {V : Type 0} (rules : Rules V) (laws : Laws rules) (t : TimetableValue) (limits : IsWithinLimits t)
+    (labels : List (Point V)) (admitted : AreAdmitted rules labels) where
   walk_secs_allowed : (begin end : ℕ) (walk : Footpath) → StandsBetween t.footpaths begin end walk → IsSecs walk.secs
   walk_secs_allowed begin end walk s = limits.walks s.0 walk s.3
 
-  boarding_admits : (tags : Spellings) (i : ℕ) (c : Connection) (stop begin end : ℕ) (walk : Footpath) (label : Point V) → StandsBetween t.footpaths begin end walk → (boardings_by rules tags i c stop labels walk).is_open label → Admits rules ((boardings_by rules tags i c stop labels walk).value label)
-  boarding_admits tags i c stop begin end walk label s opened = laws.walk_admits walk.secs (rules.ride label.value) (walk_secs_allowed begin end walk s) (laws.ride_admits label.value (admitted label opened.1))
+  boarding_admits : (tags : Spellings) (i : ℕ) (c : Connection) (stop begin end : ℕ) (walk : Footpath) (label : Point V)
+      → StandsBetween t.footpaths begin end walk → (boardings_by rules tags i c stop labels walk).is_open label
+      → Admits rules ((boardings_by rules tags i c stop labels walk).value label)
+  boarding_admits tags i c stop begin end walk label s opened =
+      laws.walk_admits walk.secs (rules.ride label.value) (walk_secs_allowed begin end walk s)
+      (laws.ride_admits label.value (admitted label opened.1))
 
-  start_secs_allowed : (begin end : ℕ) (start : Option Footpath) (v : V) → IsTried t.footpaths begin end start → Admits rules v → Admits rules (started rules start v)
+  start_secs_allowed : (begin end : ℕ) (start : Option Footpath) (v : V) → IsTried t.footpaths begin end start
+      → Admits rules v → Admits rules (started rules start v)
   start_secs_allowed begin end None v s a = a
   start_secs_allowed begin end (Some f) v s a = laws.walk_admits f.secs v (walk_secs_allowed begin end f s) a
 
   -- one footpath more
-  pub walks_next : (tags : Spellings) (i : ℕ) (c : Connection) (stop begin place : ℕ) (x : Footpath) (old mid new : List (Point V)) → begin ≤ place → At t.footpaths place x
-      → TakesIn rules (each_of (StandsBetween t.footpaths begin place) (boardings_by rules tags i c stop labels)) old mid → TakesIn rules (boardings_by rules tags i c stop labels x) mid new
+  pub walks_next : (tags : Spellings) (i : ℕ) (c : Connection) (stop begin place : ℕ) (x : Footpath)
+      (old mid new : List (Point V)) → begin ≤ place → At t.footpaths place x
+      → TakesIn rules (each_of (StandsBetween t.footpaths begin place) (boardings_by rules tags i c stop labels)) old
+      mid → TakesIn rules (boardings_by rules tags i c stop labels x) mid new
       → TakesIn rules (each_of (StandsBetween t.footpaths begin (place + 1)) (boardings_by rules tags i c stop labels)) old new
   walks_next tags i c stop begin place x old mid new low at before here =
-      takes_more rules (StandsBetween t.footpaths begin place) (StandsBetween t.footpaths begin (place + 1)) (boardings_by rules tags i c stop labels) x old mid new
+      takes_more rules (StandsBetween t.footpaths begin place) (StandsBetween t.footpaths begin (place + 1))
+      (boardings_by rules tags i c stop labels) x old mid new
       (between_more t.footpaths begin place) (place, low, omega arith, at) (λ y. between_split t.footpaths begin place x y at)
       (boarding_admits tags i c stop begin place) before here
 
-  pub starts_next : (tags : Spellings) (i : ℕ) (c : Connection) (q : Query) (begin place : ℕ) (x : Footpath) (old mid new : List (Point V)) → begin ≤ place → At t.footpaths place x
-      → TakesIn rules (each_of (IsTried t.footpaths begin place) (settings_out_by rules tags i c q labels)) old mid → TakesIn rules (settings_out_by rules tags i c q labels (Some x)) mid new
+  pub starts_next : (tags : Spellings) (i : ℕ) (c : Connection) (q : Query) (begin place : ℕ) (x : Footpath)
+      (old mid new : List (Point V)) → begin ≤ place → At t.footpaths place x
+      → TakesIn rules (each_of (IsTried t.footpaths begin place) (settings_out_by rules tags i c q labels)) old mid
+      → TakesIn rules (settings_out_by rules tags i c q labels (Some x)) mid new
       → TakesIn rules (each_of (IsTried t.footpaths begin (place + 1)) (settings_out_by rules tags i c q labels)) old new
   starts_next tags i c q begin place x old mid new low at before here =
       takes_more rules (IsTried t.footpaths begin place) (IsTried t.footpaths begin (place + 1)) (settings_out_by rules tags i c q labels) (Some x) old mid new
@@ -83,11 +103,13 @@ module _ {V : Type 0} (rules : Rules V) (laws : Laws rules) (t : TimetableValue)
       (λ y label s opened. start_secs_allowed begin place y (rules.ride label.value) s (laws.ride_admits label.value (admitted label opened.1))) before here
 
 -- a start from the source
-is_start : (t : TimetableValue) (q : Query) (c : Connection) (begin end : ℕ) (start : Option Footpath) → IsTried t.footpaths begin end start → StartsFrom q c start → IsStart t q.source start
+is_start : (t : TimetableValue) (q : Query) (c : Connection) (begin end : ℕ) (start : Option Footpath)
+    → IsTried t.footpaths begin end start → StartsFrom q c start → IsStart t q.source start
 is_start t q c begin end None tried s = tt
 is_start t q c begin end (Some f) tried s = (Contains-At t.footpaths tried.0 f tried.3, s.0, s.1)
 
-starts_from : (t : TimetableValue) (q : Query) (c : Connection) (start : Option Footpath) → IsStart t q.source start → start_end q.source start ≡ c.from → StartsFrom q c start
+starts_from : (t : TimetableValue) (q : Query) (c : Connection) (start : Option Footpath) → IsStart t q.source start
+    → start_end q.source start ≡ c.from → StartsFrom q c start
 starts_from t q c None is leads = sym leads
 starts_from t q c (Some f) is leads = (is.1, is.2)
 
@@ -139,11 +161,16 @@ module _ {V : Type 0} (rules : Rules V) (t : TimetableValue) (tags : Spellings) 
       (subst (λ (x : Connection). TakesIn rules (settings_out_by rules tags i x q labels None) old new) is takes)
 
 -- where exactly the footpaths into a stop stand
-pub walks_into_it : (t : TimetableValue) (stop begin end : ℕ) → stop < t.stops → begin ≤ end → end ≤ length t.footpaths → ((k : ℕ) (f : Footpath) → At t.footpaths k f → (f.to ≡ stop) ↔ ((begin ≤ k) × (k < end))) → AreWalksInto t stop begin end
-walks_into_it t stop begin end stop_in order within exact = record { stop_in = stop_in; into = λ k f at low high. (exact k f at).1 (low, high); order = order; within = within }
+pub walks_into_it : (t : TimetableValue) (stop begin end : ℕ) → stop < t.stops → begin ≤ end → end ≤ length t.footpaths
+    → ((k : ℕ) (f : Footpath) → At t.footpaths k f → (f.to ≡ stop) ↔ ((begin ≤ k) × (k < end)))
+    → AreWalksInto t stop begin end
+walks_into_it t stop begin end stop_in order within exact =
+    record { stop_in = stop_in; into = λ k f at low high. (exact k f at).1 (low, high); order = order; within = within }
 
 -- all footpaths into the connection's start
-module _ {V : Type 0} (rules : Rules V) (t : TimetableValue) (tags : Spellings) (i : ℕ) (c : Connection) (is : c ≡ connection_at t i) (boards : c.board ≡ true) (begin end : ℕ) (into : (k : ℕ) (f : Footpath) → At t.footpaths k f → (f.to ≡ c.from) ↔ ((begin ≤ k) × (k < end))) (labels : List (Point V)) where
+module _ {V : Type 0} (rules : Rules V) (t : TimetableValue) (tags : Spellings) (i : ℕ) (c : Connection) (is : c
+    ≡ connection_at t i) (boards : c.board ≡ true) (begin end : ℕ) (into : (k : ℕ) (f : Footpath) → At t.footpaths k f
+    → (f.to ≡ c.from) ↔ ((begin ≤ k) × (k < end))) (labels : List (Point V)) where
   boards_there : (connection_at t i).board ≡ true
   boards_there = subst (λ (x : Connection). x.board ≡ true) is boards
 
@@ -159,16 +186,20 @@ module _ {V : Type 0} (rules : Rules V) (t : TimetableValue) (tags : Spellings) 
   leads_into : (f : Footpath) → StandsBetween t.footpaths begin end f → f.to ≡ (connection_at t i).from
   leads_into f at = (into_there at.0 f at.3).1 (at.1, at.2)
 
-  tried : (q : Query) (start : Option Footpath) → IsStart t q.source start → start_end q.source start ≡ (connection_at t i).from → IsTried t.footpaths begin end start
+  tried : (q : Query) (start : Option Footpath) → IsStart t q.source start
+      → start_end q.source start ≡ (connection_at t i).from → IsTried t.footpaths begin end start
   tried q None starts leads = tt
   tried q (Some f) starts leads = between f starts.0 leads
 
   -- a start that leads to the connection
-  leads_there : (q : Query) (start : Option Footpath) → IsTried t.footpaths begin end start → StartsFrom q (connection_at t i) start → start_end q.source start ≡ (connection_at t i).from
+  leads_there : (q : Query) (start : Option Footpath) → IsTried t.footpaths begin end start
+      → StartsFrom q (connection_at t i) start → start_end q.source start ≡ (connection_at t i).from
   leads_there q None at s = sym s
   leads_there q (Some f) at s = leads_into f at
 
-  may_board : (stop : ℕ) (walk : Footpath) (label : Point V) → StandsBetween t.footpaths begin end walk → (boardings_by rules tags i (connection_at t i) stop labels walk).is_open label → MayBoard t i stop labels (record { walk = walk; label = label })
+  may_board : (stop : ℕ) (walk : Footpath) (label : Point V) → StandsBetween t.footpaths begin end walk
+      → (boardings_by rules tags i (connection_at t i) stop labels walk).is_open label
+      → MayBoard t i stop labels (record { walk = walk; label = label })
   may_board stop walk label at opened = record {
     boards = boards_there;
     is_footpath = Contains-At t.footpaths at.0 walk at.3;
@@ -178,15 +209,29 @@ module _ {V : Type 0} (rules : Rules V) (t : TimetableValue) (tags : Spellings) 
     is_label = opened.1;
   }
 
-  pub boardings_taken : (stop : ℕ) (old new : List (Point V)) → TakesIn rules (each_of (StandsBetween t.footpaths begin end) (boardings_by rules tags i c stop labels)) old new → TakesIn rules (boardings rules t tags i stop labels) old new
+  pub boardings_taken : (stop : ℕ) (old new : List (Point V))
+      → TakesIn rules (each_of (StandsBetween t.footpaths begin end) (boardings_by rules tags i c stop labels)) old new
+      → TakesIn rules (boardings rules t tags i stop labels) old new
   boardings_taken stop old new takes =
-      let here = subst (λ (x : Connection). TakesIn rules (each_of (StandsBetween t.footpaths begin end) (boardings_by rules tags i x stop labels)) old new) is takes in
-      takes_as rules (each_of (StandsBetween t.footpaths begin end) (boardings_by rules tags i (connection_at t i) stop labels)) (boardings rules t tags i stop labels) old new
-      (λ way opened. record { there = record { walk = way.0; label = way.1 }; is_open = may_board stop way.0 way.1 opened.0 opened.1; departs = refl; worth = refl; fits = λ tag h. h })
+      let here = subst (λ (x : Connection). TakesIn rules
+      (each_of (StandsBetween t.footpaths begin end) (boardings_by rules tags i x stop labels)) old new) is takes
+      in
+      takes_as rules (each_of (StandsBetween t.footpaths begin end)
+      (boardings_by rules tags i (connection_at t i) stop labels)) (boardings rules t tags i stop labels) old new
+      (λ way opened. record {
+        there = record { walk = way.0; label = way.1 };
+        is_open =
+            may_board stop way.0 way.1 opened.0 opened.1;
+        departs = refl;
+        worth = refl;
+        fits = λ tag h. h;
+      })
       (λ way opened. here.covered (way.walk, way.label) (between way.walk opened.is_footpath opened.leads, ((opened.leaves, opened.fits), opened.is_label)))
       here
 
-  may_set_out : (q : Query) (start : Option Footpath) (label : Point V) → IsTried t.footpaths begin end start → MayStart q (connection_at t i) start → Contains labels label → MaySetOut t q i labels (record { start = start; label = label })
+  may_set_out : (q : Query) (start : Option Footpath) (label : Point V) → IsTried t.footpaths begin end start
+      → MayStart q (connection_at t i) start → Contains labels label
+      → MaySetOut t q i labels (record { start = start; label = label })
   may_set_out q start label at may is = record {
     boards = boards_there;
     is_start = is_start t q (connection_at t i) begin end start at may.starts;
@@ -197,11 +242,22 @@ module _ {V : Type 0} (rules : Rules V) (t : TimetableValue) (tags : Spellings) 
     is_label = is;
   }
 
-  pub settings_out_taken : (q : Query) (old new : List (Point V)) → TakesIn rules (each_of (IsTried t.footpaths begin end) (settings_out_by rules tags i c q labels)) old new → TakesIn rules (settings_out rules t q tags i labels) old new
+  pub settings_out_taken : (q : Query) (old new : List (Point V))
+      → TakesIn rules (each_of (IsTried t.footpaths begin end) (settings_out_by rules tags i c q labels)) old new
+      → TakesIn rules (settings_out rules t q tags i labels) old new
   settings_out_taken q old new takes =
-      let here = subst (λ (x : Connection). TakesIn rules (each_of (IsTried t.footpaths begin end) (settings_out_by rules tags i x q labels)) old new) is takes in
-      takes_as rules (each_of (IsTried t.footpaths begin end) (settings_out_by rules tags i (connection_at t i) q labels)) (settings_out rules t q tags i labels) old new
-      (λ way opened. record { there = record { start = way.0; label = way.1 }; is_open = may_set_out q way.0 way.1 opened.0 opened.1.0 opened.1.1; departs = refl; worth = refl; fits = λ tag h. h })
+      let here = subst (λ (x : Connection). TakesIn rules
+      (each_of (IsTried t.footpaths begin end) (settings_out_by rules tags i x q labels)) old new) is takes in
+      takes_as rules (each_of (IsTried t.footpaths begin end)
+      (settings_out_by rules tags i (connection_at t i) q labels)) (settings_out rules t q tags i labels) old new
+      (λ way opened. record {
+        there = record { start = way.0; label = way.1 };
+        is_open =
+            may_set_out q way.0 way.1 opened.0 opened.1.0 opened.1.1;
+        departs = refl;
+        worth = refl;
+        fits = λ tag h. h;
+      })
       (λ way opened.
       let may : MayStart q (connection_at t i) way.start = record {
         starts = starts_from t q (connection_at t i) way.start opened.is_start opened.leads;

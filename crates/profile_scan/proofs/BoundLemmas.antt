@@ -1,5 +1,6 @@
 -- What a bound leaves of points, and that the rest is outdone.
-use Rattle.std.proofs.Common.{◌≡◌, ◌⊎◌, ℕ, ◌+◌, ◌<◌, ◌≤◌, Bool, true, false, not, List, [], ◌∷◌, ◌++◌, filter, Contains, slice_get, slice_index_or, Some, length, inl, inr, sym, ◌∙◌, ap, subst, arith}
+use Rattle.std.proofs.Common.{◌≡◌, ◌⊎◌, ℕ, ◌+◌, ◌<◌, ◌≤◌, Bool, true, false, not, List, [], ◌∷◌, ◌++◌, filter, Contains}
+use Rattle.std.proofs.Common.{slice_get, slice_index_or, Some, length, inl, inr, sym, ◌∙◌, ap, subst, arith}
 use Rattle.std.specs.List.{list_any}
 use Rattle.std.proofs.lemmas.Bool.{cases_Bool, cases_lt, true≢false, not-true, not_from_false}
 use Rattle.std.proofs.lemmas.Option.{same_Some, slice_get-get_or, slice_get_within}
@@ -20,13 +21,16 @@ use Rattle.profile_scan.proofs.Admitted.{AreAdmitted}
 use Rattle.profile_scan.proofs.Outdone.{KeepsCovers, outdone_worse, outdone_on}
 
 module _ {V : Type 0} (rules : Rules V) (values : List V) where
-  pub from_carried : (points : List (Point V)) (p : Point V) → Contains (carried rules values points) p → Contains points p × (is_bettered rules values (rules.ride p.value) ≡ false)
+  pub from_carried : (points : List (Point V)) (p : Point V) → Contains (carried rules values points) p
+      → Contains points p × (is_bettered rules values (rules.ride p.value) ≡ false)
   from_carried points p h =
       let f = from_filter (λ (x : Point V). not (is_bettered rules values (rules.ride x.value))) points p h in
       (f.0, not-true (is_bettered rules values (rules.ride p.value)) f.1)
 
-  pub into_carried : (points : List (Point V)) (p : Point V) → Contains points p → is_bettered rules values (rules.ride p.value) ≡ false → Contains (carried rules values points) p
-  into_carried points p h free = into_filter (λ (x : Point V). not (is_bettered rules values (rules.ride x.value))) points p h (not_from_false (is_bettered rules values (rules.ride p.value)) free)
+  pub into_carried : (points : List (Point V)) (p : Point V) → Contains points p
+      → is_bettered rules values (rules.ride p.value) ≡ false → Contains (carried rules values points) p
+  into_carried points p h free = into_filter (λ (x : Point V). not (is_bettered rules values (rules.ride x.value)))
+      points p h (not_from_false (is_bettered rules values (rules.ride p.value)) free)
 
   pub some_betters : (v : V) → is_bettered rules values v ≡ true → (b : V) × Contains values b × NoWorse rules b v
   some_betters v h = one_passes (λ b. rules.no_worse b v) values h
@@ -45,7 +49,9 @@ module _ {V : Type 0} (rules : Rules V) (laws : Laws rules) (values : List V) (a
       some_is : (test : V → Bool) (xs : List V) (x : V) → Contains xs x → test x ≡ true → list_any test xs ≡ true
       some_is test xs x is h = list_any_at test xs is.0 x is.1 (ap test is.2 ∙ h)
 
-module _ {V : Type 0} (rules : Rules V) (laws : Laws rules) (t : TimetableValue) (found : List (Point V)) (found_admitted : AreAdmitted rules found) (i : ℕ) (values : List V) (bounds : AreBounds rules t found (i + 1) values) where
+module _ {V : Type 0} (rules : Rules V) (laws : Laws rules) (t : TimetableValue) (found : List (Point V))
+    (found_admitted : AreAdmitted rules found) (i : ℕ) (values : List V)
+    (bounds : AreBounds rules t found (i + 1) values) where
   -- what a bound leaves out is outdone
   pub carried_by_bounds : (points : List (Point V)) → AreAdmitted rules points → AreCarried rules t found i points (carried rules values points)
   carried_by_bounds points admitted = record {
@@ -53,20 +59,26 @@ module _ {V : Type 0} (rules : Rules V) (laws : Laws rules) (t : TimetableValue)
     all = λ p h. elim (cases_Bool (is_bettered rules values (rules.ride p.value))) [
       | inl bettered ↦
           let by = some_betters rules values (rules.ride p.value) bettered in
-          inr (outdone_worse rules laws t found found_admitted (i + 1) by.0 (rules.ride p.value) (bounds.admitted by.0 by.1) (laws.ride_admits p.value (admitted p h)) by.2 (bounds.outdone by.0 by.1))
+          inr (outdone_worse rules laws t found found_admitted (i + 1) by.0 (rules.ride p.value)
+          (bounds.admitted by.0 by.1) (laws.ride_admits p.value (admitted p h)) by.2 (bounds.outdone by.0 by.1))
       | inr free ↦ inl (into_carried rules values points p h free)
     ];
   }
 
 -- with more points found, and fewer connections to come
-pub bounds_on : {V : Type 0} (rules : Rules V) (laws : Laws rules) (t : TimetableValue) (old new : List (Point V)) (n m : ℕ) (values : List V) → m ≤ n → KeepsCovers rules old new → AreBounds rules t old n values → AreBounds rules t new m values
+pub bounds_on : {V : Type 0} (rules : Rules V) (laws : Laws rules) (t : TimetableValue) (old new : List (Point V))
+    (n m : ℕ) (values : List V) → m ≤ n → KeepsCovers rules old new → AreBounds rules t old n values
+    → AreBounds rules t new m values
 bounds_on rules laws t old new n m values le kept bounds = record {
   admitted = bounds.admitted;
   outdone = λ b h. outdone_on rules laws t old new n m b (bounds.admitted b h) le kept (bounds.outdone b h);
 }
 
 -- values read anew: those of points that depart with a connection or later are no bound to any after it
-pub bounds_renewed : {V : Type 0} (rules : Rules V) (laws : Laws rules) (t : TimetableValue) → IsLegal t → (found : List (Point V)) → AreAdmitted rules found → (i time : ℕ) → i < length t.connections → time ≡ (connection_at t i).dep → (old new : List V) → AreBounds rules t found (i + 1) old → ((b : V) → Contains new b → Contains old b ⊎ IsLateValue rules found time b) → AreBounds rules t found (i + 1) new
+pub bounds_renewed : {V : Type 0} (rules : Rules V) (laws : Laws rules) (t : TimetableValue) → IsLegal t
+    → (found : List (Point V)) → AreAdmitted rules found → (i time : ℕ) → i < length t.connections
+    → time ≡ (connection_at t i).dep → (old new : List V) → AreBounds rules t found (i + 1) old
+    → ((b : V) → Contains new b → Contains old b ⊎ IsLateValue rules found time b) → AreBounds rules t found (i + 1) new
 bounds_renewed {V} rules laws t legal found found_admitted i time in_i is_time old new bounds renewed = record {
   admitted = λ b h. elim (renewed b h) [
     | inl was ↦ bounds.admitted b was
@@ -108,8 +120,12 @@ module _ {V : Type 0} (rules : Rules V) where
         kept = λ v a h.
             let by = some_betters rules old v h in
             elim (cases_Bool (rules.no_worse value by.0)) [
-              | inl better ↦ some_bettered new value v (into_new value (Contains-push stay value)) (laws.transitive value by.0 v fits (admitted by.0 by.1) a better by.2)
-              | inr free ↦ some_bettered new by.0 v (into_new by.0 (Contains-append_left stay (value ∷ []) by.0 (into_filter (λ c. not (rules.no_worse value c)) old by.0 by.1 (not_from_false (rules.no_worse value by.0) free)))) by.2
+              | inl better ↦ some_bettered new value v (into_new value (Contains-push stay value))
+                  (laws.transitive value by.0 v fits (admitted by.0 by.1) a better by.2)
+              | inr free ↦ some_bettered new by.0 v
+                  (into_new by.0 (Contains-append_left stay (value
+                  ∷ []) by.0 (into_filter (λ c. not (rules.no_worse value c)) old by.0 by.1
+                  (not_from_false (rules.no_worse value by.0) free)))) by.2
             ];
         taken = some_bettered new value value (into_new value (Contains-push stay value)) (laws.reflexive value fits);
       }
@@ -148,7 +164,15 @@ module _ {V : Type 0} (rules : Rules V) where
       → (b : V) → Contains new b → Contains old b ⊎ IsLateValue rules points time b
   late_taken worsens points from until time old new late takes b h = elim (takes.only b h) [
     | inl was ↦ inl was
-    | inr (k, p, low, high, at, worth) ↦ inr (record { worsens = worsens; of = p; is_found = Contains-At points k p at; late = late k p low high at; worth = worth })
+    | inr (k, p, low, high, at, worth) ↦ inr (record {
+      worsens = worsens;
+      of = p;
+      is_found =
+          Contains-At points k p at;
+      late =
+          late k p low high at;
+      worth = worth;
+    })
   ]
 
   pub late_each : (points : List (Point V)) (from until time : ℕ) (old new : List V)
@@ -180,7 +204,8 @@ pub rest_early : {V : Type 0} (rules : Rules V) (points : List (Point V)) → Ar
     → slice_get points place ≡ Some x → x.departure < time → (k : ℕ) (p : Point V) → place ≤ k → slice_get points k ≡ Some p → p.departure < time
 rest_early rules points listed place time x at early k p le there = let falling = falls rules points listed place k x p le at there in omega arith
 
-pub no_bounds : {V : Type 0} (rules : Rules V) (t : TimetableValue) (found : List (Point V)) (n : ℕ) (values : List V) → values ≡ [] → AreBounds rules t found n values
+pub no_bounds : {V : Type 0} (rules : Rules V) (t : TimetableValue) (found : List (Point V)) (n : ℕ) (values : List V)
+    → values ≡ [] → AreBounds rules t found n values
 no_bounds {V} rules t found n values e = subst (AreBounds rules t found n) (sym e) (record {
   admitted = λ b h. absurd (omega (arith, h.1));
   outdone = λ b h. absurd (omega (arith, h.1));

@@ -24,10 +24,12 @@ module _ {V : Type 0} (rules : Rules V) (laws : Laws rules) (t : TimetableValue)
   started_admits source (Some f) v is a = step_admits f v is.0 a
 
   -- the same footpath keeps a value no worse than another
-  pub step_monotone : (f : Footpath) (v w : V) → Contains t.footpaths f → Admits rules v → Admits rules w → NoWorse rules v w → NoWorse rules (rules.walk f.secs v) (rules.walk f.secs w)
+  pub step_monotone : (f : Footpath) (v w : V) → Contains t.footpaths f → Admits rules v → Admits rules w
+      → NoWorse rules v w → NoWorse rules (rules.walk f.secs v) (rules.walk f.secs w)
   step_monotone f v w is a b h = laws.walk_monotone f.secs f.secs v w (walk_limit t limits f is) (walk_limit t limits f is) a b (omega arith) h
 
-  pub started_monotone : (source : ℕ) (start : Option Footpath) (v w : V) → IsStart t source start → Admits rules v → Admits rules w → NoWorse rules v w → NoWorse rules (started rules start v) (started rules start w)
+  pub started_monotone : (source : ℕ) (start : Option Footpath) (v w : V) → IsStart t source start → Admits rules v
+      → Admits rules w → NoWorse rules v w → NoWorse rules (started rules start v) (started rules start w)
   started_monotone source None v w is a b h = h
   started_monotone source (Some f) v w is a b h = step_monotone f v w is.0 a b h
 
@@ -74,7 +76,8 @@ module _ {V : Type 0} (rules : Rules V) (laws : Laws rules) (t : TimetableValue)
                 (step_admits h v joined.1 a)
                 (step_admits f (rules.walk r.secs v) is.0 after_r)
                 (step_admits f (walked rules (g ∷ gs) v) is.0 after_rest)
-                (laws.walk_joins h.secs f.secs r.secs v (walk_limit t limits h joined.1) (walk_limit t limits f is.0) (walk_limit t limits r rest.1.is_footpath) a joined.4)
+                (laws.walk_joins h.secs f.secs r.secs v (walk_limit t limits h joined.1) (walk_limit t limits f is.0)
+                (walk_limit t limits r rest.1.is_footpath) a joined.4)
                 (step_monotone f (rules.walk r.secs v) (walked rules (g ∷ gs) v) is.0 after_r after_rest (rest.1.no_worse v a));
           },
         )

@@ -25,7 +25,10 @@ abbrev pub change_way : {V : Type 0} → Rules V → Spellings → ℕ → List 
 change_way rules tags last values p = only_if (is_bettered rules values (rules.ride p.value) ≡ false) (one_way 0 p.value (IsExit tags (Changes last p.tag)))
 
 -- the whole front
-changes_taken : {V : Type 0} (rules : Rules V) (laws : Laws rules) (points : List (Point V)) (admitted : AreAdmitted rules points) (tags : Spellings) (last time : ℕ) (values : List V) → ((b : V) → Contains values b → Admits rules b) → (front : List (Point V)) (n : ℕ) (old new : List (Point V)) → AreAdmitted rules new
+changes_taken : {V : Type 0} (rules : Rules V) (laws : Laws rules) (points : List (Point V))
+    (admitted : AreAdmitted rules points) (tags : Spellings) (last time : ℕ) (values : List V)
+    → ((b : V) → Contains values b → Admits rules b) → (front : List (Point V)) (n : ℕ) (old new : List (Point V))
+    → AreAdmitted rules new
     → AreOf rules points time front → BettersAll rules points time front → length front ≤ n
     → TakesIn rules (each_of (StandsBefore front n) (change_way rules tags last values)) old new
     → TakesIn rules (changes_from tags last time (carried rules values points)) old new
@@ -39,13 +42,18 @@ changes_taken {V} rules laws points admitted tags last time values values_admitt
     let r = betters p in_points.0 opened.1 in
     let r_admitted = (are r.0 r.1).2 in
     let p_admitted = admitted p in_points.0 in
-    let free = bettered_on rules laws values values_admitted (rules.ride r.0.value) (rules.ride p.value) (laws.ride_admits r.0.value r_admitted) (laws.ride_admits p.value p_admitted) (laws.ride_monotone r.0.value p.value r_admitted p_admitted r.2) in_points.1 in
+    let free = bettered_on rules laws values values_admitted (rules.ride r.0.value) (rules.ride p.value)
+    (laws.ride_admits r.0.value r_admitted) (laws.ride_admits p.value p_admitted)
+    (laws.ride_monotone r.0.value p.value r_admitted p_admitted r.2) in_points.1 in
     let c = takes.covered (r.0, tt) (all_stand front n r.0 long r.1, (free, tt)) in
     (c.0, c.1, c.2, laws.transitive c.0.value r.0.value p.value (new_admitted c.0 c.1) r_admitted p_admitted c.3 r.2))
     takes
 
 -- the same, under an equal criterion
-pub changes_under : {K V : Type 0} (rules : K → Rules V) (a b : K) → a ≡ b → (points : List (Point V)) → Laws (rules b) → AreAdmitted (rules b) points → (tags : Spellings) (last time : ℕ) (values : List V) → ((v : V) → Contains values v → Admits (rules b) v) → (front : List (Point V)) (n : ℕ) (old new : List (Point V)) → AreAdmitted (rules b) new
+pub changes_under : {K V : Type 0} (rules : K → Rules V) (a b : K) → a ≡ b → (points : List (Point V)) → Laws (rules b)
+    → AreAdmitted (rules b) points → (tags : Spellings) (last time : ℕ) (values : List V)
+    → ((v : V) → Contains values v → Admits (rules b) v) → (front : List (Point V)) (n : ℕ) (old new : List (Point V))
+    → AreAdmitted (rules b) new
     → AreOf (rules a) points time front → BettersAll (rules a) points time front → length front ≤ n
     → TakesIn (rules b) (each_of (StandsBefore front n) (change_way (rules b) tags last values)) old new
     → TakesIn (rules b) (changes_from tags last time (carried (rules b) values points)) old new

@@ -1,5 +1,6 @@
 -- What a connection adds covers every way to go on that begins with it.
-use Rattle.std.proofs.Common.{◌≡◌, ℕ, ◌+◌, ◌-◌, ◌<◌, ◌≤◌, true, List, [], ◌∷◌, ◌⊎◌, length, Contains, Option, arith, refl, sym, ◌∙◌, ap, subst, inl, inr, add-zero}
+use Rattle.std.proofs.Common.{◌≡◌, ℕ, ◌+◌, ◌-◌, ◌<◌, ◌≤◌, true, List, [], ◌∷◌, ◌⊎◌, length, Contains, Option, arith}
+use Rattle.std.proofs.Common.{refl, sym, ◌∙◌, ap, subst, inl, inr, add-zero}
 use Rattle.std.proofs.lemmas.Bool.{cases_eq, cases_lt}
 use Rattle.criteria.specs.Laws.{Rules, Laws, Admits, NoWorse}
 use Rattle.bags.specs.declared.point.Point.{Point}
@@ -14,7 +15,8 @@ use Rattle.profile_scan.specs.Continuations.{Onward, Aboard, IsOnward, IsAboard,
 use Rattle.profile_scan.specs.Matching.{IsOutdone}
 use Rattle.profile_scan.specs.Steps.{Leaving, ends, ends_after, changes, MayLeave, leaving_value, AreCarried, Boarding, MayBoard, SettingOut, MaySetOut}
 use Rattle.profile_scan.specs.LawStatements.{CanScan}
-use Rattle.profile_scan.proofs.Chains.{step_admits, step_monotone, walked_admits, walked_worsens, started_admits, started_monotone, started_worsens, chain_gives_way}
+use Rattle.profile_scan.proofs.Chains.{step_admits, step_monotone, walked_admits, walked_worsens, started_admits}
+use Rattle.profile_scan.proofs.Chains.{started_monotone, started_worsens, chain_gives_way}
 use Rattle.profile_scan.proofs.Outdone.{outdone_worse, outdone_ride, outdone_down}
 use Rattle.profile_scan.proofs.Times.{boards_later}
 use Rattle.profile_scan.proofs.Admitted.{AreAdmitted, aboard_admits, covers_weaker}
@@ -23,7 +25,9 @@ module _ {V : Type 0} (rules : Rules V) (laws : Laws rules) (t : TimetableValue)
   -- leaving the trip at place i and ending after a walk of any length
   ending_covered : (bag labels : List (Point V)) (admitted : AreAdmitted rules labels)
       (open_covered : (way : Leaving V) → MayLeave t q i bag way → Covers rules labels 0 (leaving_value rules t i way))
-      (walk : List Footpath) → IsWalk t (connection_at t i).to walk → walk_end (connection_at t i).to walk ≡ q.target → (connection_at t i).arr + walk_secs walk ≤ q.by → Covers rules labels 0 (walked rules walk (rules.arrive ((connection_at t i).arr + walk_secs walk)))
+      (walk : List Footpath) → IsWalk t (connection_at t i).to walk → walk_end (connection_at t i).to walk ≡ q.target
+      → (connection_at t i).arr + walk_secs walk ≤ q.by
+      → Covers rules labels 0 (walked rules walk (rules.arrive ((connection_at t i).arr + walk_secs walk)))
   ending_covered bag labels admitted open_covered [] is at le =
       subst (λ (n : ℕ). Covers rules labels 0 (rules.arrive n)) (sym (add-zero (connection_at t i).arr)) (open_covered ends (at, omega arith))
   ending_covered bag labels admitted open_covered (f ∷ fs) is at le =
@@ -51,14 +55,22 @@ module _ {V : Type 0} (rules : Rules V) (laws : Laws rules) (t : TimetableValue)
             let w = rules.walk h.secs (rules.arrive soon) in
             let w_admitted : Admits rules w = step_admits rules laws t can.limits h (rules.arrive soon) instead.is_footpath soon_there in
             covers_weaker rules laws labels admitted 0 0 w v w_admitted v_admitted (omega arith)
-            (laws.transitive w (rules.walk h.secs (rules.arrive final)) v w_admitted (step_admits rules laws t can.limits h (rules.arrive final) instead.is_footpath there) v_admitted
-            (step_monotone rules laws t can.limits h (rules.arrive soon) (rules.arrive final) instead.is_footpath soon_there there (laws.arrive_monotone soon final (omega arith) (omega arith) (omega arith)))
+            (laws.transitive w (rules.walk h.secs (rules.arrive final)) v w_admitted
+            (step_admits rules laws t can.limits h (rules.arrive final) instead.is_footpath there) v_admitted
+            (step_monotone rules laws t can.limits h (rules.arrive soon) (rules.arrive final) instead.is_footpath
+            soon_there there (laws.arrive_monotone soon final (omega arith) (omega arith) (omega arith)))
             (instead.no_worse (rules.arrive final) there))
             (open_covered (ends_after h) (instead.is_footpath, instead.leaves, instead.leads ∙ at, other, omega arith))
       ]
 
   -- leaving it there and riding on later
-  changing_onward : (x : Aboard) (ride : RideValue) (rides : List RideValue) → i < length t.connections → IsAboard t q i (connection_at t i).trip (record { last = i; walk = x.walk; rides = ride ∷ rides }) → IsOnward t q (i + 1) (connection_at t i).to (connection_at t i).arr (record { walk = x.walk; rides = ride ∷ rides })
+  changing_onward : (x : Aboard) (ride : RideValue) (rides : List RideValue) → i < length t.connections
+      → IsAboard t q i (connection_at t i).trip (record { last = i; walk = x.walk; rides = ride ∷ rides })
+      → IsOnward t q (i + 1) (connection_at t i).to (connection_at t i).arr (record {
+        walk = x.walk;
+        rides =
+            ride ∷ rides;
+      })
   changing_onward x ride rides in_i a =
       let c = connection_at t i in
       let walks = a.walks (λ e. cc) in
@@ -75,37 +87,69 @@ module _ {V : Type 0} (rules : Rules V) (laws : Laws rules) (t : TimetableValue)
   InLabels found labels v = Covers rules labels 0 v ⊎ IsOutdone rules t found (i + 1) (rules.ride v)
 
   -- leaving it there, in whatever way
-  leaving_covered : (found bag carried labels : List (Point V)) (found_admitted : AreAdmitted rules found) (admitted : AreAdmitted rules labels) (bag_admitted : AreAdmitted rules bag) (carries : AreCarried rules t found i bag carried)
+  leaving_covered : (found bag carried labels : List (Point V)) (found_admitted : AreAdmitted rules found)
+      (admitted : AreAdmitted rules labels) (bag_admitted : AreAdmitted rules bag)
+      (carries : AreCarried rules t found i bag carried)
       (open_covered : (way : Leaving V) → MayLeave t q i carried way → Covers rules labels 0 (leaving_value rules t i way))
-      (onward : (time : ℕ) (x : Onward) → IsOnward t q (i + 1) (connection_at t i).to time x → Covers rules bag time (onward_value rules t x) ⊎ IsOutdone rules t found (i + 1) (onward_value rules t x))
-      (walk : List Footpath) (rides : List RideValue) → i < length t.connections → IsAboard t q i (connection_at t i).trip (record { last = i; walk = walk; rides = rides }) → InLabels found labels (aboard_value rules t (record { last = i; walk = walk; rides = rides }))
-  leaving_covered found bag carried labels found_admitted admitted bag_admitted carries open_covered onward walk [] in_i a = inl (ending_covered carried labels admitted open_covered walk a.is_walk a.leads a.arrives)
+      (onward : (time : ℕ) (x : Onward) → IsOnward t q (i + 1) (connection_at t i).to time x
+      → Covers rules bag time (onward_value rules t x) ⊎ IsOutdone rules t found (i + 1) (onward_value rules t x))
+      (walk : List Footpath) (rides : List RideValue) → i < length t.connections
+      → IsAboard t q i (connection_at t i).trip (record { last = i; walk = walk; rides = rides })
+      → InLabels found labels (aboard_value rules t (record { last = i; walk = walk; rides = rides }))
+  leaving_covered found bag carried labels found_admitted admitted bag_admitted carries open_covered onward walk [] in_i
+      a = inl (ending_covered carried labels admitted open_covered walk a.is_walk a.leads a.arrives)
   leaving_covered found bag carried labels found_admitted admitted bag_admitted carries open_covered onward walk (ride ∷ rides) in_i a =
       let x : Aboard = record { last = i; walk = walk; rides = ride ∷ rides } in
       let v : V = aboard_value rules t x in
       let value_admitted : Admits rules v = aboard_admits rules laws t q can i (connection_at t i).trip x a in
       elim (onward (connection_at t i).arr (record { walk = walk; rides = ride ∷ rides }) (changing_onward x ride rides in_i a)) [
         | inl p ↦ elim (carries.all p.0 p.1) [
-          | inl is ↦ inl (covers_weaker rules laws labels admitted 0 0 p.0.value v (bag_admitted p.0 p.1) value_admitted (omega arith) p.3 (open_covered (changes p.0) (is, p.2)))
-          | inr o ↦ inr (outdone_worse rules laws t found found_admitted (i + 1) (rules.ride p.0.value) (rules.ride v) (laws.ride_admits p.0.value (bag_admitted p.0 p.1)) (laws.ride_admits v value_admitted)
+          | inl is ↦ inl (covers_weaker rules laws labels admitted 0 0 p.0.value v (bag_admitted p.0 p.1) value_admitted
+              (omega arith) p.3 (open_covered (changes p.0) (is, p.2)))
+          | inr o ↦ inr (outdone_worse rules laws t found found_admitted (i + 1) (rules.ride p.0.value) (rules.ride v)
+              (laws.ride_admits p.0.value (bag_admitted p.0 p.1)) (laws.ride_admits v value_admitted)
               (laws.ride_monotone p.0.value v (bag_admitted p.0 p.1) value_admitted p.3) o)
         ]
         | inr o ↦ inr (outdone_ride rules laws t found found_admitted (i + 1) v value_admitted o)
       ]
 
   -- labels that cover what follows in the trip later, and each open way to leave it at place i, cover all that follows from place i on, but for what is outdone
-  pub labels_cover : (found bag carried labels : List (Point V)) (found_admitted : AreAdmitted rules found) (admitted : AreAdmitted rules labels) (bag_admitted : AreAdmitted rules bag) (carries : AreCarried rules t found i bag carried)
+  pub labels_cover : (found bag carried labels : List (Point V)) (found_admitted : AreAdmitted rules found)
+      (admitted : AreAdmitted rules labels) (bag_admitted : AreAdmitted rules bag)
+      (carries : AreCarried rules t found i bag carried)
       (later : (x : Aboard) → IsAboard t q (i + 1) (connection_at t i).trip x → InLabels found labels (aboard_value rules t x))
       (open_covered : (way : Leaving V) → (connection_at t i).alight ≡ true → MayLeave t q i carried way → Covers rules labels 0 (leaving_value rules t i way))
-      (onward : (time : ℕ) (x : Onward) → IsOnward t q (i + 1) (connection_at t i).to time x → Covers rules bag time (onward_value rules t x) ⊎ IsOutdone rules t found (i + 1) (onward_value rules t x))
+      (onward : (time : ℕ) (x : Onward) → IsOnward t q (i + 1) (connection_at t i).to time x
+      → Covers rules bag time (onward_value rules t x) ⊎ IsOutdone rules t found (i + 1) (onward_value rules t x))
       (x : Aboard) → i < length t.connections → IsAboard t q i (connection_at t i).trip x → InLabels found labels (aboard_value rules t x)
   labels_cover found bag carried labels found_admitted admitted bag_admitted carries later open_covered onward x in_i a =
       elim (cases_lt i x.last) [
-        | inl lt ↦ later x (record { later = omega arith; in_range = a.in_range; on_trip = a.on_trip; alights = a.alights; is_walk = a.is_walk; walks = a.walks; leads = a.leads; arrives = a.arrives })
+        | inl lt ↦ later x (record {
+          later = omega arith;
+          in_range = a.in_range;
+          on_trip = a.on_trip;
+          alights =
+              a.alights;
+          is_walk = a.is_walk;
+          walks = a.walks;
+          leads = a.leads;
+          arrives = a.arrives;
+        })
         | inr ge ↦
             let same : i ≡ x.last = let later_is = a.later in omega arith in
-            let P : ℕ → Type 0 = λ n. IsAboard t q i (connection_at t i).trip (record { last = n; walk = x.walk; rides = x.rides }) → InLabels found labels (aboard_value rules t (record { last = n; walk = x.walk; rides = x.rides })) in
-            let here : P i = λ at_i. leaving_covered found bag carried labels found_admitted admitted bag_admitted carries (λ way may. open_covered way at_i.alights may) onward x.walk x.rides in_i at_i in
+            let P : ℕ → Type 0 = λ n. IsAboard t q i (connection_at t i).trip (record {
+              last = n;
+              walk = x.walk;
+              rides =
+                  x.rides;
+            }) → InLabels found labels (aboard_value rules t (record {
+              last = n;
+              walk = x.walk;
+              rides =
+                  x.rides;
+            })) in
+            let here : P i = λ at_i. leaving_covered found bag carried labels found_admitted admitted bag_admitted
+            carries (λ way may. open_covered way at_i.alights may) onward x.walk x.rides in_i at_i in
             subst P same here a
       ]
 
@@ -122,11 +166,15 @@ module _ {V : Type 0} (rules : Rules V) (laws : Laws rules) (t : TimetableValue)
     pub waits : time ≤ (connection_at t i).dep
     pub label : ((l : Point V) × IsLabelFor labels v l) ⊎ IsOutdone rules t found (i + 1) (rules.ride v)
 
-  label_of : (found labels : List (Point V)) (v : V) → InLabels found labels v → ((l : Point V) × IsLabelFor labels v l) ⊎ IsOutdone rules t found (i + 1) (rules.ride v)
+  label_of : (found labels : List (Point V)) (v : V) → InLabels found labels v
+      → ((l : Point V) × IsLabelFor labels v l) ⊎ IsOutdone rules t found (i + 1) (rules.ride v)
   label_of found labels v (inl c) = inl (c.0, record { is_label = c.1; no_worse = c.3 })
   label_of found labels v (inr o) = inr o
 
-  boarded_here : (found : List (Point V)) (stop time : ℕ) (labels : List (Point V)) (aboard : (x : Aboard) → IsAboard t q i (connection_at t i).trip x → InLabels found labels (aboard_value rules t x)) (ride : RideValue) (rides : List RideValue) → Leads t q.target stop time (ride ∷ rides) → final_time t 0 (ride ∷ rides) ≤ q.by → i ≡ ride.leg.first
+  boarded_here : (found : List (Point V)) (stop time : ℕ) (labels : List (Point V)) (aboard : (x : Aboard)
+      → IsAboard t q i (connection_at t i).trip x
+      → InLabels found labels (aboard_value rules t x)) (ride : RideValue) (rides : List RideValue)
+      → Leads t q.target stop time (ride ∷ rides) → final_time t 0 (ride ∷ rides) ≤ q.by → i ≡ ride.leg.first
       → IsBoardedHere found stop time labels (walked rules ride.walk (ridden rules (final_time t 0 (ride ∷ rides)) rides))
   boarded_here found stop time labels aboard ride rides leads le e =
       let x : Aboard = record { last = ride.leg.last; walk = ride.walk; rides = rides } in
@@ -149,12 +197,19 @@ module _ {V : Type 0} (rules : Rules V) (laws : Laws rules) (t : TimetableValue)
       }
 
   -- rides that are boarded at place i after a chain
-  boarding_covered : (found : List (Point V)) (stop : ℕ) (labels carried new : List (Point V)) (found_admitted : AreAdmitted rules found) (labels_admitted : AreAdmitted rules labels) (admitted : AreAdmitted rules new) (carries : AreCarried rules t found i labels carried)
+  boarding_covered : (found : List (Point V)) (stop : ℕ) (labels carried new : List (Point V))
+      (found_admitted : AreAdmitted rules found) (labels_admitted : AreAdmitted rules labels)
+      (admitted : AreAdmitted rules new) (carries : AreCarried rules t found i labels carried)
       (aboard : (x : Aboard) → IsAboard t q i (connection_at t i).trip x → InLabels found labels (aboard_value rules t x))
-      (open_covered : (way : Boarding V) → MayBoard t i stop carried way → Covers rules new ((connection_at t i).dep - way.walk.secs) (rules.walk way.walk.secs (rules.ride way.label.value)))
-      (time : ℕ) (walk : List Footpath) (ride : RideValue) (rides : List RideValue) → IsOnward t q i stop time (record { walk = walk; rides = ride ∷ rides }) → i ≡ ride.leg.first
-      → Covers rules new time (onward_value rules t (record { walk = walk; rides = ride ∷ rides })) ⊎ IsOutdone rules t found i (onward_value rules t (record { walk = walk; rides = ride ∷ rides }))
-  boarding_covered found stop labels carried new found_admitted labels_admitted admitted carries aboard open_covered time [] ride rides on e = absurd (on.walks refl)
+      (open_covered : (way : Boarding V) → MayBoard t i stop carried way
+      → Covers rules new ((connection_at t i).dep - way.walk.secs)
+      (rules.walk way.walk.secs (rules.ride way.label.value)))
+      (time : ℕ) (walk : List Footpath) (ride : RideValue) (rides : List RideValue)
+      → IsOnward t q i stop time (record { walk = walk; rides = ride ∷ rides }) → i ≡ ride.leg.first
+      → Covers rules new time (onward_value rules t (record { walk = walk; rides = ride ∷ rides }))
+      ⊎ IsOutdone rules t found i (onward_value rules t (record { walk = walk; rides = ride ∷ rides }))
+  boarding_covered found stop labels carried new found_admitted labels_admitted admitted carries aboard open_covered
+      time [] ride rides on e = absurd (on.walks refl)
   boarding_covered found stop labels carried new found_admitted labels_admitted admitted carries aboard open_covered time (f ∷ fs) ride rides on e =
       let here = boarded_here found (walk_end stop (f ∷ fs)) (time + walk_secs (f ∷ fs)) labels aboard ride rides on.leads on.arrives e in
       let way = chain_gives_way rules laws t can.limits can.legal stop f fs on.is_walk in
@@ -167,7 +222,9 @@ module _ {V : Type 0} (rules : Rules V) (laws : Laws rules) (t : TimetableValue)
       let w : V = walked rules (f ∷ fs) (rules.ride v) in
       let whole : Admits rules w = walked_admits rules laws t can.limits stop (f ∷ fs) (rules.ride v) on.is_walk ride_v in
       let worse : NoWorse rules (rules.ride v) w = walked_worsens rules laws t can.limits stop (f ∷ fs) (rules.ride v) on.is_walk ride_v in
-      let outdone : IsOutdone rules t found (i + 1) (rules.ride v) → IsOutdone rules t found i w = λ o. outdone_down rules laws t found i w whole (outdone_worse rules laws t found found_admitted (i + 1) (rules.ride v) w ride_v whole worse o) in
+      let outdone : IsOutdone rules t found (i + 1) (rules.ride v) → IsOutdone rules t found i w =
+      λ o. outdone_down rules laws t found i w whole
+      (outdone_worse rules laws t found found_admitted (i + 1) (rules.ride v) w ride_v whole worse o) in
       elim here.label [
         | inr o ↦ inr (outdone o)
         | inl (l, label) ↦ (
@@ -177,34 +234,63 @@ module _ {V : Type 0} (rules : Rules V) (laws : Laws rules) (t : TimetableValue)
             let candidate = step_admits rules laws t can.limits h (rules.ride l.value) instead.is_footpath ride_l in
             elim (carries.all l label.is_label) [
               | inr o ↦ inr (outdone (outdone_worse rules laws t found found_admitted (i + 1) (rules.ride l.value) (rules.ride v) ride_l ride_v better o))
-              | inl is ↦ inl (covers_weaker rules laws new admitted ((connection_at t i).dep - h.secs) time (rules.walk h.secs (rules.ride l.value)) w candidate whole (omega arith)
-                  (laws.transitive (rules.walk h.secs (rules.ride l.value)) (rules.walk h.secs (rules.ride v)) w candidate (step_admits rules laws t can.limits h (rules.ride v) instead.is_footpath ride_v) whole
+              | inl is ↦ inl (covers_weaker rules laws new admitted ((connection_at t i).dep - h.secs) time
+                  (rules.walk h.secs (rules.ride l.value)) w candidate whole (omega arith)
+                  (laws.transitive (rules.walk h.secs (rules.ride l.value)) (rules.walk h.secs (rules.ride v)) w
+                  candidate (step_admits rules laws t can.limits h (rules.ride v) instead.is_footpath ride_v) whole
                   (step_monotone rules laws t can.limits h (rules.ride l.value) (rules.ride v) instead.is_footpath ride_l ride_v better)
                   (instead.no_worse (rules.ride v) ride_v))
-                  (open_covered (record { walk = h; label = l }) (record { boards = here.boards; is_footpath = instead.is_footpath; leaves = instead.leaves; leads = instead.leads ∙ sym here.stands; fits = omega arith; is_label = is })))
+                  (open_covered (record { walk = h; label = l }) (record {
+                    boards = here.boards;
+                    is_footpath =
+                        instead.is_footpath;
+                    leaves = instead.leaves;
+                    leads = instead.leads ∙ sym here.stands;
+                    fits =
+                        omega arith;
+                    is_label = is;
+                  })))
             ])
       ]
 
   -- a bag that covers what follows later, and each boarding of place i, covers all that follows from place i on, but for what is outdone
-  pub bag_covers : (found : List (Point V)) (stop : ℕ) (labels carried new : List (Point V)) (found_admitted : AreAdmitted rules found) (labels_admitted : AreAdmitted rules labels) (admitted : AreAdmitted rules new) (carries : AreCarried rules t found i labels carried)
+  pub bag_covers : (found : List (Point V)) (stop : ℕ) (labels carried new : List (Point V))
+      (found_admitted : AreAdmitted rules found) (labels_admitted : AreAdmitted rules labels)
+      (admitted : AreAdmitted rules new) (carries : AreCarried rules t found i labels carried)
       (aboard : (x : Aboard) → IsAboard t q i (connection_at t i).trip x → InLabels found labels (aboard_value rules t x))
-      (later : (time : ℕ) (x : Onward) → IsOnward t q (i + 1) stop time x → Covers rules new time (onward_value rules t x) ⊎ IsOutdone rules t found i (onward_value rules t x))
-      (open_covered : (way : Boarding V) → MayBoard t i stop carried way → Covers rules new ((connection_at t i).dep - way.walk.secs) (rules.walk way.walk.secs (rules.ride way.label.value)))
+      (later : (time : ℕ) (x : Onward) → IsOnward t q (i + 1) stop time x
+      → Covers rules new time (onward_value rules t x) ⊎ IsOutdone rules t found i (onward_value rules t x))
+      (open_covered : (way : Boarding V) → MayBoard t i stop carried way
+      → Covers rules new ((connection_at t i).dep - way.walk.secs)
+      (rules.walk way.walk.secs (rules.ride way.label.value)))
       (time : ℕ) (walk : List Footpath) (rides : List RideValue) → IsOnward t q i stop time (record { walk = walk; rides = rides })
-      → Covers rules new time (onward_value rules t (record { walk = walk; rides = rides })) ⊎ IsOutdone rules t found i (onward_value rules t (record { walk = walk; rides = rides }))
+      → Covers rules new time (onward_value rules t (record { walk = walk; rides = rides }))
+      ⊎ IsOutdone rules t found i (onward_value rules t (record { walk = walk; rides = rides }))
   bag_covers found stop labels carried new found_admitted labels_admitted admitted carries aboard later open_covered time walk [] on = absurd on.boards
   bag_covers found stop labels carried new found_admitted labels_admitted admitted carries aboard later open_covered time walk (ride ∷ rides) on =
       elim (cases_lt i ride.leg.first) [
-        | inl lt ↦ later time (record { walk = walk; rides = ride ∷ rides }) (record { walks = on.walks; is_walk = on.is_walk; boards = omega arith; leads = on.leads; arrives = on.arrives })
-        | inr ge ↦ boarding_covered found stop labels carried new found_admitted labels_admitted admitted carries aboard open_covered time walk ride rides on (let from = on.boards in omega arith)
+        | inl lt ↦ later time (record { walk = walk; rides = ride ∷ rides }) (record {
+          walks = on.walks;
+          is_walk =
+              on.is_walk;
+          boards = omega arith;
+          leads = on.leads;
+          arrives = on.arrives;
+        })
+        | inr ge ↦ boarding_covered found stop labels carried new found_admitted labels_admitted admitted carries aboard
+            open_covered time walk ride rides on (let from = on.boards in omega arith)
       ]
 
   -- points found that cover the journeys boarded later, and each way to set out at place i, cover all journeys boarded from place i on
   pub found_covers : (labels new : List (Point V)) (labels_admitted : AreAdmitted rules labels) (admitted : AreAdmitted rules new)
       (aboard : (x : Aboard) → IsAboard t q i (connection_at t i).trip x → InLabels new labels (aboard_value rules t x))
       (later : (departure : ℕ) (j : JourneyValue) → CountsFrom t q (i + 1) departure j → Covers rules new departure (journey_value rules t j))
-      (open_covered : (way : SettingOut V) → MaySetOut t q i labels way → Covers rules new ((connection_at t i).dep - start_secs way.start) (started rules way.start (rules.ride way.label.value)))
-      (departure : ℕ) (start : Option Footpath) (rides : List RideValue) → CountsFrom t q i departure (record { start = start; rides = rides }) → Covers rules new departure (journey_value rules t (record { start = start; rides = rides }))
+      (open_covered : (way : SettingOut V) → MaySetOut t q i labels way
+      → Covers rules new ((connection_at t i).dep - start_secs way.start)
+      (started rules way.start (rules.ride way.label.value)))
+      (departure : ℕ) (start : Option Footpath) (rides : List RideValue)
+      → CountsFrom t q i departure (record { start = start; rides = rides })
+      → Covers rules new departure (journey_value rules t (record { start = start; rides = rides }))
   found_covers labels new labels_admitted admitted aboard later open_covered departure start [] c = absurd c.boards
   found_covers labels new labels_admitted admitted aboard later open_covered departure start (ride ∷ rides) c =
       elim (cases_lt i ride.leg.first) [
@@ -228,11 +314,24 @@ module _ {V : Type 0} (rules : Rules V) (laws : Laws rules) (t : TimetableValue)
               | inl (l, label) ↦ (
                   let l_admitted = labels_admitted l label.is_label in
                   let ride_l = laws.ride_admits l.value l_admitted in
-                  covers_weaker rules laws new admitted ((connection_at t i).dep - start_secs start) departure (started rules start (rules.ride l.value)) (started rules start (rules.ride v))
+                  covers_weaker rules laws new admitted ((connection_at t i).dep - start_secs start) departure
+                  (started rules start (rules.ride l.value)) (started rules start (rules.ride v))
                   (started_admits rules laws t can.limits q.source start (rules.ride l.value) counts.journey.starts ride_l)
                   whole
                   (omega arith)
-                  (started_monotone rules laws t can.limits q.source start (rules.ride l.value) (rules.ride v) counts.journey.starts ride_l ride_v (laws.ride_monotone l.value v l_admitted here.admits label.no_worse))
-                  (open_covered (record { start = start; label = l }) (record { boards = here.boards; is_start = counts.journey.starts; leads = sym here.stands; fits = omega arith; not_early = omega arith; not_late = omega arith; is_label = label.is_label })))
+                  (started_monotone rules laws t can.limits q.source start (rules.ride l.value) (rules.ride v)
+                  counts.journey.starts ride_l ride_v
+                  (laws.ride_monotone l.value v l_admitted here.admits label.no_worse))
+                  (open_covered (record { start = start; label = l }) (record {
+                    boards = here.boards;
+                    is_start =
+                        counts.journey.starts;
+                    leads = sym here.stands;
+                    fits = omega arith;
+                    not_early =
+                        omega arith;
+                    not_late = omega arith;
+                    is_label = label.is_label;
+                  })))
             ]
       ]

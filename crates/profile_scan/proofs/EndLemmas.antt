@@ -16,24 +16,37 @@ use Rattle.profile_scan.specs.declared.story.Exit.TheVariants.{Ends}
 use Rattle.profile_scan.proofs.Offers.{takes_as, start_admits}
 
 -- the one way to end is all that is offered
-pub takes_the_end : {V : Type 0} (rules : Rules V) (tags : Spellings) (last : ℕ) (c : Connection) (q : Query) (way : Option ℕ) (walk : Option Footpath) (value : V) (time : ℕ) (old new : List (Point V)) → IsEnding c q way walk → ((other : Option Footpath) → IsEnding c q way other → other ≡ walk) → value ≡ started rules walk (rules.arrive time) → time ≡ c.arr + start_secs walk → TakesIn rules (one_way 0 value (IsExit tags (Ends last walk))) old new → TakesIn rules (endings rules tags last c q way) old new
+pub takes_the_end : {V : Type 0} (rules : Rules V) (tags : Spellings) (last : ℕ) (c : Connection) (q : Query)
+    (way : Option ℕ) (walk : Option Footpath) (value : V) (time : ℕ) (old new : List (Point V)) → IsEnding c q way walk
+    → ((other : Option Footpath) → IsEnding c q way other → other ≡ walk)
+    → value ≡ started rules walk (rules.arrive time) → time ≡ c.arr + start_secs walk
+    → TakesIn rules (one_way 0 value (IsExit tags (Ends last walk))) old new
+    → TakesIn rules (endings rules tags last c q way) old new
 takes_the_end rules tags last c q way walk value time old new ends only worth at takes =
     let worth_is = worth ∙ ap (λ (n : ℕ). started rules walk (rules.arrive n)) at in
     takes_as rules (one_way 0 value (IsExit tags (Ends last walk))) (endings rules tags last c q way) old new
     (λ _ _. record { there = walk; is_open = ends; departs = refl; worth = worth_is; fits = λ tag h. h })
-    (λ other opened. subst (λ (w : Option Footpath). Covers rules new 0 (started rules w (rules.arrive (c.arr + start_secs w)))) (sym (only other opened)) (subst (Covers rules new 0) worth_is (takes.covered tt tt)))
+    (λ other opened. subst (λ (w : Option Footpath).
+    Covers rules new 0 (started rules w (rules.arrive (c.arr + start_secs w)))) (sym (only other opened))
+    (subst (Covers rules new 0) worth_is (takes.covered tt tt)))
     takes
 
 -- the seconds of a walk to the target are allowed
-pub end_secs : (c : Connection) (q : Query) (way : Option ℕ) (walk : Option Footpath) → IfSome way (λ secs. IsSecs secs) → IsEnding c q way walk → IfSome walk (λ f. IsSecs f.secs)
+pub end_secs : (c : Connection) (q : Query) (way : Option ℕ) (walk : Option Footpath) → IfSome way (λ secs. IsSecs secs)
+    → IsEnding c q way walk → IfSome walk (λ f. IsSecs f.secs)
 end_secs c q way None secs ends = tt
 end_secs c q way (Some f) secs ends = subst (λ (w : Option ℕ). IfSome w (λ (n : ℕ). IsSecs n)) ends.1 secs
 
-end_time : (c : Connection) (q : Query) (way : Option ℕ) (walk : Option Footpath) → IsTime c.arr → IsTime q.by → IsEnding c q way walk → IsTime (c.arr + start_secs walk)
+end_time : (c : Connection) (q : Query) (way : Option ℕ) (walk : Option Footpath) → IsTime c.arr → IsTime q.by
+    → IsEnding c q way walk → IsTime (c.arr + start_secs walk)
 end_time c q way None arrival by ends = omega arith
 end_time c q way (Some f) arrival by ends = omega (arith, ends.4)
 
 -- the value of an end is admitted
-pub end_admits : {V : Type 0} (rules : Rules V) → Laws rules → (c : Connection) (q : Query) (way : Option ℕ) (walk : Option Footpath) → IsTime c.arr → IsTime q.by → IfSome way (λ secs. IsSecs secs) → IsEnding c q way walk → Admits rules (started rules walk (rules.arrive (c.arr + start_secs walk)))
+pub end_admits : {V : Type 0} (rules : Rules V) → Laws rules
+    → (c : Connection) (q : Query) (way : Option ℕ) (walk : Option Footpath) → IsTime c.arr → IsTime q.by
+    → IfSome way (λ secs. IsSecs secs) → IsEnding c q way walk
+    → Admits rules (started rules walk (rules.arrive (c.arr + start_secs walk)))
 end_admits rules laws c q way walk arrival by secs ends =
-    start_admits rules laws walk (rules.arrive (c.arr + start_secs walk)) (end_secs c q way walk secs ends) (laws.arrive_admits (c.arr + start_secs walk) (end_time c q way walk arrival by ends))
+    start_admits rules laws walk (rules.arrive (c.arr + start_secs walk)) (end_secs c q way walk secs ends)
+    (laws.arrive_admits (c.arr + start_secs walk) (end_time c q way walk arrival by ends))

@@ -5,7 +5,8 @@ use Rattle.criteria.specs.Laws.{Rules}
 use Rattle.timetable.specs.TimetableValue.{TimetableValue}
 use Rattle.timetable.specs.JourneyValue.{RideValue, JourneyValue}
 use Rattle.timetable.specs.Legal.{IsLegal}
-use Rattle.timetable.specs.Journeys.{connection_at, walk_end, walk_secs, Leads, final_time, time_after, stop_after, first_departure, start_end, start_secs, Counts}
+use Rattle.timetable.specs.Journeys.{connection_at, walk_end, walk_secs, Leads, final_time, time_after, stop_after}
+use Rattle.timetable.specs.Journeys.{first_departure, start_end, start_secs, Counts}
 use Rattle.timetable.specs.declared.query.Query.{Query}
 use Rattle.timetable.proofs.LegalLemmas.{hop_takes_time}
 use Rattle.sources.specs.FirstAt.{IsFirstAt}
@@ -15,7 +16,8 @@ use Rattle.profile_scan.specs.LawStatements.{NothingFollows, CutIsTheSources}
 use Rattle.profile_scan.proofs.Times.{final_is_later, leg_takes_time}
 
 -- no leg departs at the latest arrival or later
-rides_too_late : (t : TimetableValue) (legal : IsLegal t) (goal stop time by end : ℕ) → IsFirstAt t by end → (rides : List RideValue) → BoardsFrom end rides → Leads t goal stop time rides → final_time t 0 rides ≤ by → ⊥
+rides_too_late : (t : TimetableValue) (legal : IsLegal t) (goal stop time by end : ℕ) → IsFirstAt t by end
+    → (rides : List RideValue) → BoardsFrom end rides → Leads t goal stop time rides → final_time t 0 rides ≤ by → ⊥
 rides_too_late t legal goal stop time by end is_end [] from leads arrives = from
 rides_too_late t legal goal stop time by end is_end (ride ∷ rides) from leads arrives =
     let rising = leads.0.rising in
@@ -26,7 +28,9 @@ rides_too_late t legal goal stop time by end is_end (ride ∷ rides) from leads 
     omega arith
 
 none_onward : (t : TimetableValue) (q : Query) → IsLegal t → (end stop time : ℕ) → IsFirstAt t q.by end → (x : Onward) → IsOnward t q end stop time x → ⊥
-none_onward t q legal end stop time is_end x on = rides_too_late t legal q.target (walk_end stop x.walk) (time + walk_secs x.walk) q.by end is_end x.rides on.boards on.leads on.arrives
+none_onward t q legal end stop time is_end x on =
+    rides_too_late t legal q.target (walk_end stop x.walk) (time + walk_secs x.walk) q.by end is_end x.rides on.boards
+    on.leads on.arrives
 
 none_aboard : (t : TimetableValue) (q : Query) → IsLegal t → (end trip : ℕ) → IsFirstAt t q.by end → (x : Aboard) → IsAboard t q end trip x → ⊥
 none_aboard t q legal end trip is_end x a =
@@ -36,17 +40,23 @@ none_aboard t q legal end trip is_end x a =
     let by = a.arrives in
     omega arith
 
-none_counts : (t : TimetableValue) (q : Query) → IsLegal t → (end departure : ℕ) → IsFirstAt t q.by end → (j : JourneyValue) → CountsFrom t q end departure j → ⊥
-none_counts t q legal end departure is_end j c = rides_too_late t legal q.target (start_end q.source j.start) 0 q.by end is_end j.rides c.boards c.counts.journey.leads c.counts.arrives
+none_counts : (t : TimetableValue) (q : Query) → IsLegal t → (end departure : ℕ) → IsFirstAt t q.by end
+    → (j : JourneyValue) → CountsFrom t q end departure j → ⊥
+none_counts t q legal end departure is_end j c =
+    rides_too_late t legal q.target (start_end q.source j.start) 0 q.by end is_end j.rides c.boards
+    c.counts.journey.leads c.counts.arrives
 
 -- where nothing is there, no points match
-empty_matches : {V X : Type 0} (rules : Rules V) (spelled : ℕ → Option X) (IsThere : ℕ → X → Type 0) (IsPlainWay : X → Type 0) (value : X → V) → ((d : ℕ) (x : X) → IsThere d x → ⊥) → Matches rules spelled IsThere IsPlainWay value []
+empty_matches : {V X : Type 0} (rules : Rules V) (spelled : ℕ → Option X) (IsThere : ℕ → X → Type 0) (IsPlainWay : X
+    → Type 0) (value : X → V) → ((d : ℕ) (x : X) → IsThere d x → ⊥) → Matches rules spelled IsThere IsPlainWay value []
 empty_matches rules spelled IsThere IsPlainWay value none = record {
   sound = λ p is. absurd (omega (arith, is.1));
   complete = λ d x there. absurd (none d x there);
 }
 
-empty_matches_but : {V X : Type 0} (rules : Rules V) (spelled : ℕ → Option X) (IsThere : ℕ → X → Type 0) (IsPlainWay : X → Type 0) (value : X → V) (Outdone : V → Type 0) → ((d : ℕ) (x : X) → IsThere d x → ⊥) → MatchesBut rules spelled IsThere IsPlainWay value Outdone []
+empty_matches_but : {V X : Type 0} (rules : Rules V) (spelled : ℕ → Option X) (IsThere : ℕ → X → Type 0) (IsPlainWay : X
+    → Type 0) (value : X → V) (Outdone : V → Type 0) → ((d : ℕ) (x : X) → IsThere d x → ⊥)
+    → MatchesBut rules spelled IsThere IsPlainWay value Outdone []
 empty_matches_but rules spelled IsThere IsPlainWay value Outdone none = record {
   sound = λ p is. absurd (omega (arith, is.1));
   complete = λ d x there. absurd (none d x there);
@@ -59,7 +69,9 @@ nothing_follows rules t q can end is_end tags = record {
   at_source = empty_matches rules _ _ _ _ (λ departure j c. none_counts t q can.legal end departure is_end j c);
 }
 
-boards_in_window : (t : TimetableValue) (time start departure secs : ℕ) → IsFirstAt t time start → (rides : List RideValue) → rides ≢ [] → time ≤ departure → departure + secs ≡ first_departure t rides → BoardsFrom start rides
+boards_in_window : (t : TimetableValue) (time start departure secs : ℕ) → IsFirstAt t time start
+    → (rides : List RideValue) → rides ≢ [] → time ≤ departure → departure + secs ≡ first_departure t rides
+    → BoardsFrom start rides
 boards_in_window t time start departure secs is_start [] some early departs = some refl
 boards_in_window t time start departure secs is_start (ride ∷ rides) some early departs =
     elim (cases_lt ride.leg.first start) [
@@ -68,13 +80,29 @@ boards_in_window t time start departure secs is_start (ride ∷ rides) some earl
     ]
 
 -- a journey that counts boards in the window
-pub counts_in_window : (t : TimetableValue) (q : Query) (start departure : ℕ) (j : JourneyValue) → IsFirstAt t q.from start → Counts t q departure j → CountsFrom t q start departure j
-counts_in_window t q start departure j is_start c = record { counts = c; boards = boards_in_window t q.from start departure (start_secs j.start) is_start j.rides c.journey.has_rides c.not_early c.departs }
+pub counts_in_window : (t : TimetableValue) (q : Query) (start departure : ℕ) (j : JourneyValue)
+    → IsFirstAt t q.from start → Counts t q departure j → CountsFrom t q start departure j
+counts_in_window t q start departure j is_start c =
+    record {
+      counts = c;
+      boards = boards_in_window t q.from start departure (start_secs j.start) is_start j.rides
+          c.journey.has_rides c.not_early c.departs;
+    }
 
 pub cut_is_the_sources : CutIsTheSources Counts
 cut_is_the_sources = record {
   onward = λ t q until i stop time x on. record { walks = on.walks; is_walk = on.is_walk; boards = on.boards; leads = on.leads; arrives = on.arrives };
-  aboard = λ t q until i trip x a. record { later = a.later; in_range = a.in_range; on_trip = a.on_trip; alights = a.alights; is_walk = a.is_walk; walks = a.walks; leads = a.leads; arrives = a.arrives };
+  aboard = λ t q until i trip x a. record {
+    later = a.later;
+    in_range = a.in_range;
+    on_trip = a.on_trip;
+    alights =
+        a.alights;
+    is_walk = a.is_walk;
+    walks = a.walks;
+    leads = a.leads;
+    arrives = a.arrives;
+  };
   is_cut = λ t q departure j c. c.not_late;
   at_source = λ t q until departure j le c. record {
     journey = record { starts = c.journey.starts; has_rides = c.journey.has_rides; leads = c.journey.leads };

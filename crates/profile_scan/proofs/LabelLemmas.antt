@@ -74,13 +74,16 @@ module _ {V : Type 0} (rules : Rules V) (laws : Laws rules) (old new : List (Lab
   stands_takes : ((p : Point V) → Contains (label_points old) p → Admits rules p.value) → Admits rules v → new ≡ others rules v old ++ this ∷ [] → fits tag
       → TakesIn rules (one_way 0 v fits) (label_points old) (label_points new)
   stands_takes admitted fit taken named =
-      let into_new : (l : Label V) → Contains (others rules v old ++ this ∷ []) l → Contains (label_points new) (as_point l) = λ l h. into_map as_point new l (subst (λ (xs : List (Label V)). Contains xs l) (sym taken) h) in
+      let into_new : (l : Label V) → Contains (others rules v old ++ this ∷ []) l
+      → Contains (label_points new) (as_point l) =
+      λ l h. into_map as_point new l (subst (λ (xs : List (Label V)). Contains xs l) (sym taken) h) in
       let here = into_new this (Contains-push (others rules v old) this) in
       record {
         only = λ q h.
             let l = from_map as_point new q h in
             elim (Contains-push_cases (others rules v old) this l.0 (subst (λ (xs : List (Label V)). Contains xs l.0) taken l.1)) [
-              | inl stays ↦ inl (subst (Contains (label_points old)) l.2 (into_map as_point old l.0 (from_filter (λ x. not (rules.no_worse v x.value)) old l.0 stays).0))
+              | inl stays ↦ inl (subst (Contains (label_points old)) l.2
+                  (into_map as_point old l.0 (from_filter (λ x. not (rules.no_worse v x.value)) old l.0 stays).0))
               | inr e ↦
                   let is : as_point this ≡ q = ap as_point e ∙ l.2 in
                   inr (record {
@@ -96,8 +99,21 @@ module _ {V : Type 0} (rules : Rules V) (laws : Laws rules) (old new : List (Lab
             let late : d ≤ 0 = subst (λ (x : Point V). d ≤ x.departure) (sym l.2) c.2 in
             let worse = subst (λ (x : Point V). rules.no_worse x.value w ≡ true) (sym l.2) c.3 in
             elim (cases_Bool (rules.no_worse v l.0.value)) [
-              | inl better ↦ (as_point this, here, late, laws.transitive v l.0.value w fit (admitted (as_point l.0) (into_map as_point old l.0 l.1)) a better worse)
-              | inr free ↦ (as_point l.0, into_new l.0 (Contains-append_left (others rules v old) (this ∷ []) l.0 (into_filter (λ x. not (rules.no_worse v x.value)) old l.0 l.1 (ap not free))), late, worse)
+              | inl better ↦ (
+                as_point this,
+                here,
+                late,
+                laws.transitive v l.0.value w fit (admitted (as_point l.0) (into_map as_point old l.0 l.1)) a better
+                    worse,
+              )
+              | inr free ↦ (
+                as_point l.0,
+                into_new l.0
+                    (Contains-append_left (others rules v old) (this
+                    ∷ []) l.0 (into_filter (λ x. not (rules.no_worse v x.value)) old l.0 l.1 (ap not free))),
+                late,
+                worse,
+              )
             ];
         covered = λ way opened. (as_point this, here, omega arith, laws.reflexive v fit);
       }

@@ -23,24 +23,32 @@ way_secs t limits target stop None is = tt
 way_secs t limits target stop (Some secs) is = walk_limit t limits (record { from = stop; to = target; secs = secs }) is
 
 -- a footpath to the target is the way
-way_of : (t : TimetableValue) → IsLegal t → (target stop : ℕ) (way : Option ℕ) → IsWay t target stop way → (f : Footpath) → Contains t.footpaths f → f.from ≡ stop → f.to ≡ target → way ≡ Some f.secs
+way_of : (t : TimetableValue) → IsLegal t → (target stop : ℕ) (way : Option ℕ) → IsWay t target stop way
+    → (f : Footpath) → Contains t.footpaths f → f.from ≡ stop → f.to ≡ target → way ≡ Some f.secs
 way_of t legal target stop None is f in_f from to = absurd (is f in_f from to)
 way_of t legal target stop (Some secs) is f in_f from to =
     let same = one_footpath t legal (record { from = stop; to = target; secs = secs }) f is in_f (sym from) (sym to) in
     ap (λ (x : Footpath). Some x.secs) same
 
 -- a way is a footpath to the target
-is_there : (t : TimetableValue) (target stop : ℕ) (way : Option ℕ) → IsWay t target stop way → (f : Footpath) → way ≡ Some f.secs → f.from ≡ stop → f.to ≡ target → Contains t.footpaths f
+is_there : (t : TimetableValue) (target stop : ℕ) (way : Option ℕ) → IsWay t target stop way → (f : Footpath)
+    → way ≡ Some f.secs → f.from ≡ stop → f.to ≡ target → Contains t.footpaths f
 is_there t target stop way is f e from to =
     let there : Contains t.footpaths (record { from = stop; to = target; secs = f.secs }) = subst (IsWay t target stop) e is in
-    let at_from : Contains t.footpaths (record { from = f.from; to = target; secs = f.secs }) = subst (λ (n : ℕ). Contains t.footpaths (record { from = n; to = target; secs = f.secs })) (sym from) there in
+    let at_from : Contains t.footpaths (record { from = f.from; to = target; secs = f.secs }) =
+    subst (λ (n : ℕ). Contains t.footpaths (record { from = n; to = target; secs = f.secs })) (sym from) there in
     subst (λ (n : ℕ). Contains t.footpaths (record { from = f.from; to = n; secs = f.secs })) (sym to) at_from
 
-module _ {V : Type 0} (rules : Rules V) (t : TimetableValue) (legal : IsLegal t) (q : Query) (tags : Spellings) (i : ℕ) (c : Connection) (is : c ≡ connection_at t i) (way : Option ℕ) (is_way : IsWay t q.target c.to way) (bag : List (Point V)) where
+module _ {V : Type 0} (rules : Rules V) (t : TimetableValue) (legal : IsLegal t) (q : Query) (tags : Spellings) (i : ℕ)
+    (c : Connection) (is : c ≡ connection_at t i) (way : Option ℕ) (is_way : IsWay t q.target c.to way)
+    (bag : List (Point V)) where
   alights : c.alight ≡ true → (connection_at t i).alight ≡ true
   alights a = ap (λ (x : Connection). x.alight) (sym is) ∙ a
 
-  part : (w : Option Footpath ⊎ Point V) → (only_if (c.alight ≡ true) (endings_and_changes rules tags i c q way bag)).is_open w → IsPart rules (only_if (c.alight ≡ true) (endings_and_changes rules tags i c q way bag)) (leavings rules t q tags i bag) w
+  part : (w : Option Footpath ⊎ Point V) → (only_if (c.alight
+      ≡ true) (endings_and_changes rules tags i c q way bag)).is_open w
+      → IsPart rules (only_if (c.alight ≡ true) (endings_and_changes rules tags i c q way bag))
+      (leavings rules t q tags i bag) w
   part (inl None) opened = record {
     there = ends;
     is_open = (alights opened.0, (ap (λ (x : Connection). x.to) (sym is) ∙ opened.1.0, subst (λ (x : Connection). x.arr ≤ q.by) is opened.1.1));
@@ -72,11 +80,20 @@ module _ {V : Type 0} (rules : Rules V) (t : TimetableValue) (legal : IsLegal t)
     fits = λ tag h. h;
   }
 
-  covered : (new : List (Point V)) → ((w : Option Footpath ⊎ Point V) → (only_if (c.alight ≡ true) (endings_and_changes rules tags i c q way bag)).is_open w → Covers rules new (departure_in (endings rules tags i c q way) (changes_from tags i c.arr bag) w) (value_in (endings rules tags i c q way) (changes_from tags i c.arr bag) w))
+  covered : (new : List (Point V)) → ((w : Option Footpath ⊎ Point V)
+      → (only_if (c.alight ≡ true) (endings_and_changes rules tags i c q way bag)).is_open w
+      → Covers rules new (departure_in (endings rules tags i c q way) (changes_from tags i c.arr bag) w)
+      (value_in (endings rules tags i c q way) (changes_from tags i c.arr bag) w))
       → (l : Leaving V) → (leavings rules t q tags i bag).is_open l → Covers rules new 0 (leaving_value rules t i l)
   covered new takes ends opened =
       subst (Covers rules new 0) (ap rules.arrive (add-zero c.arr) ∙ ap (λ (x : Connection). rules.arrive x.arr) is)
-      (takes (inl None) (ap (λ (x : Connection). x.alight) is ∙ opened.0, (ap (λ (x : Connection). x.to) is ∙ opened.1.0, subst (λ (x : Connection). x.arr ≤ q.by) (sym is) opened.1.1)))
+      (takes (inl None) (
+        ap (λ (x : Connection). x.alight) is ∙ opened.0,
+        (
+          ap (λ (x : Connection). x.to) is ∙ opened.1.0,
+          subst (λ (x : Connection). x.arr ≤ q.by) (sym is) opened.1.1,
+        ),
+      ))
   covered new takes (ends_after f) opened =
       let from : f.from ≡ c.to = opened.1.1 ∙ ap (λ (x : Connection). x.to) (sym is) in
       subst (λ (x : Connection). Covers rules new 0 (rules.walk f.secs (rules.arrive (x.arr + f.secs)))) is
@@ -93,6 +110,9 @@ module _ {V : Type 0} (rules : Rules V) (t : TimetableValue) (legal : IsLegal t)
   covered new takes (changes p) opened =
       takes (inr p) (ap (λ (x : Connection). x.alight) is ∙ opened.0, (opened.1.0, subst (λ (x : Connection). x.arr ≤ p.departure) (sym is) opened.1.1))
 
-  pub leavings_taken : (old new : List (Point V)) → TakesIn rules (only_if (c.alight ≡ true) (endings_and_changes rules tags i c q way bag)) old new → TakesIn rules (leavings rules t q tags i bag) old new
+  pub leavings_taken : (old new : List (Point V))
+      → TakesIn rules (only_if (c.alight ≡ true) (endings_and_changes rules tags i c q way bag)) old new
+      → TakesIn rules (leavings rules t q tags i bag) old new
   leavings_taken old new takes =
-      takes_as rules (only_if (c.alight ≡ true) (endings_and_changes rules tags i c q way bag)) (leavings rules t q tags i bag) old new part (covered new takes.covered) takes
+      takes_as rules (only_if (c.alight ≡ true) (endings_and_changes rules tags i c q way bag))
+      (leavings rules t q tags i bag) old new part (covered new takes.covered) takes

@@ -1,5 +1,6 @@
 -- The log of a scan.
-use Rattle.std.proofs.Common.{◌≡◌, inl, inr, length, ℕ, zero, suc, ◌+◌, ◌-◌, ◌≤◌, List, [], ◌∷◌, ◌++◌, take, arith, refl, sym, ◌∙◌, ap, add-zero, append_assoc, append-nil}
+use Rattle.std.proofs.Common.{◌≡◌, inl, inr, length, ℕ, zero, suc, ◌+◌, ◌-◌, ◌≤◌, List, [], ◌∷◌, ◌++◌, take, arith}
+use Rattle.std.proofs.Common.{refl, sym, ◌∙◌, ap, add-zero, append_assoc, append-nil}
 use Rattle.std.proofs.Math.Seq.{take-length}
 use Rattle.std.proofs.lemmas.Bool.{cases_lt}
 use Rattle.timetable.specs.TimetableValue.{TimetableValue}
@@ -17,7 +18,9 @@ falling_more low (suc n) =
 pub log_more : (log : List ℕ) (low i hi : ℕ) → low + 1 ≡ i → i ≤ hi → (log ++ falling i (hi - i)) ++ low ∷ [] ≡ log ++ falling low (hi - low)
 log_more log low i hi e le =
     let n_is : hi - low ≡ suc (hi - i) = omega arith in
-    append_assoc log (falling i (hi - i)) (low ∷ []) ∙ ap (λ ks. log ++ ks) (sym (ap (falling low) n_is ∙ (falling_more low (hi - i) ∙ ap (λ k. falling k (hi - i) ++ low ∷ []) e)))
+    append_assoc log (falling i (hi - i)) (low ∷ [])
+    ∙ ap (λ ks. log ++ ks) (sym (ap (falling low) n_is
+    ∙ (falling_more low (hi - i) ∙ ap (λ k. falling k (hi - i) ++ low ∷ []) e)))
 
 -- the first of the window's indices, read from its end
 pub falling_take : (low n m : ℕ) → m ≤ n → take m (falling low n) ≡ falling (low + n - m) m

@@ -1,12 +1,14 @@
 -- Nodes keep what they spell while further ones come.
-use Rattle.std.proofs.Common.{◌≡◌, ◌⊎◌, ℕ, zero, suc, ◌+◌, ◌<◌, ◌≤◌, take, drop, slice_get, List, [], ◌∷◌, ◌++◌, length, Some, None, refl, sym, ◌∙◌, ap, inl, inr, arith, append_assoc, length-append}
+use Rattle.std.proofs.Common.{◌≡◌, ◌⊎◌, ℕ, zero, suc, ◌+◌, ◌<◌, ◌≤◌, take, drop, slice_get, List, [], ◌∷◌, ◌++◌, length}
+use Rattle.std.proofs.Common.{Some, None, refl, sym, ◌∙◌, ap, inl, inr, arith, append_assoc, length-append}
 use Rattle.std.proofs.lemmas.Bool.{cases_lt}
 use Rattle.std.proofs.lemmas.List.{get_or_append_left, get_or_past, length-take-le}
 use Rattle.std.proofs.lemmas.Option.{slice_get_within, same_Some}
 use Rattle.std.proofs.Math.Seq.{get_or-append_seam}
 use Rattle.profile_scan.specs.Continuations.{Onward, Aboard}
 use Rattle.profile_scan.specs.Matching.{Spelling, Keeps, from_to}
-use Rattle.profile_scan.specs.Nodes.{Spelled, nothing, at_number, changed_at, boarded_after, set_out_by, spells, spelled_on, spelled, spelling, Extends, IsSpelled}
+use Rattle.profile_scan.specs.Nodes.{Spelled, nothing, at_number, changed_at, boarded_after, set_out_by, spells}
+use Rattle.profile_scan.specs.Nodes.{spelled_on, spelled, spelling, Extends, IsSpelled}
 use Rattle.profile_scan.specs.declared.nodes.Node.{Node}
 use Rattle.profile_scan.specs.declared.nodes.Node.TheVariants.{Ends, Changes, Boards, SetsOut}
 
@@ -79,7 +81,8 @@ next_spells nodes now all node e ext =
     let new = spells (at_number done) node in
     let long : length done ≡ length nodes = spelled_on-long [] nodes ∙ (omega arith) in
     let until : spelled_on [] now ≡ done ++ new ∷ [] = ap (spelled_on []) e ∙ spelled_on-append [] nodes (node ∷ []) ∙ one_more done node in
-    let whole : spelled_on [] all ≡ spelled_on (done ++ new ∷ []) ext.0 = ap (spelled_on []) ext.1 ∙ spelled_on-append [] now ext.0 ∙ ap (λ xs. spelled_on xs ext.0) until in
+    let whole : spelled_on [] all ≡ spelled_on (done ++ new ∷ []) ext.0 =
+    ap (spelled_on []) ext.1 ∙ spelled_on-append [] now ext.0 ∙ ap (λ xs. spelled_on xs ext.0) until in
     let more = length-append done (new ∷ []) in
     ap (λ xs. at_number xs (length nodes)) whole
     ∙ spelled_on-stays (done ++ new ∷ []) ext.0 (length nodes) (omega (arith, more, long))
@@ -93,14 +96,19 @@ node_says : (was all : Spelling) (earlier : ℕ → Spelled) (node : Node) (here
     → here ≡ spells earlier node → all.onward tag ≡ here.onward → all.aboard tag ≡ here.aboard → all.journey tag ≡ here.journey
     → IsSpelled (from_to was all) node tag
 node_says was all earlier (Ends last walk) here tag onward aboard is o a j = a ∙ ap (λ (z : Spelled). z.aboard) is
-node_says was all earlier (Changes last next) here tag onward aboard is o a j = λ x e. a ∙ ap (λ (z : Spelled). z.aboard) is ∙ ap (changed_at last) (onward next x e)
-node_says was all earlier (Boards walk first next) here tag onward aboard is o a j = λ x e. o ∙ ap (λ (z : Spelled). z.onward) is ∙ ap (boarded_after walk first) (aboard next x e)
-node_says was all earlier (SetsOut start first next) here tag onward aboard is o a j = λ x e. j ∙ ap (λ (z : Spelled). z.journey) is ∙ ap (set_out_by start first) (aboard next x e)
+node_says was all earlier (Changes last next) here tag onward aboard is o a j =
+    λ x e. a ∙ ap (λ (z : Spelled). z.aboard) is ∙ ap (changed_at last) (onward next x e)
+node_says was all earlier (Boards walk first next) here tag onward aboard is o a j =
+    λ x e. o ∙ ap (λ (z : Spelled). z.onward) is ∙ ap (boarded_after walk first) (aboard next x e)
+node_says was all earlier (SetsOut start first next) here tag onward aboard is o a j =
+    λ x e. j ∙ ap (λ (z : Spelled). z.journey) is ∙ ap (set_out_by start first) (aboard next x e)
 
-pub comes_next : (before nodes now all : List Node) (node : Node) → now ≡ nodes ++ node ∷ [] → Extends before nodes → Extends now all → IsSpelled (from_to (spelling before) (spelling all)) node (length nodes)
+pub comes_next : (before nodes now all : List Node) (node : Node) → now ≡ nodes ++ node ∷ [] → Extends before nodes
+    → Extends now all → IsSpelled (from_to (spelling before) (spelling all)) node (length nodes)
 comes_next before nodes now all node e ext_before ext =
     let keeps = extends_keeps before nodes ext_before in
-    node_says (spelling before) (spelling all) (spelled nodes) node (spelled all (length nodes)) (length nodes) keeps.onward keeps.aboard (next_spells nodes now all node e ext) refl refl refl
+    node_says (spelling before) (spelling all) (spelled nodes) node (spelled all (length nodes)) (length nodes)
+    keeps.onward keeps.aboard (next_spells nodes now all node e ext) refl refl refl
 
 -- the node of a number, and what the ones before it spell
 pub record IsSpelledAt (nodes : List Node) (k : ℕ) (node : Node) (earlier : ℕ → Spelled) : Type 0 where

@@ -1,5 +1,7 @@
 -- Offers taken in, one after another.
-use Rattle.std.proofs.Common.{◌≡◌, ◌⊎◌, ℕ, ◌+◌, ◌≤◌, Bool, true, false, nat_le, List, length, Contains, slice_get, Option, Some, None, IfSome, Result, Ok, Err, OnOk, refl, sym, ◌∙◌, ap, subst, inl, inr, arith}
+use Rattle.std.proofs.Common.{◌≡◌, ◌⊎◌, ℕ, ◌+◌, ◌≤◌, Bool, true, false, nat_le, List, length, Contains, slice_get}
+use Rattle.std.proofs.Common.{Option, Some, None, IfSome, Result, Ok, Err, OnOk, refl, sym, ◌∙◌, ap, subst, inl, inr}
+use Rattle.std.proofs.Common.{arith}
 use Rattle.std.proofs.lemmas.Bool.{cases_Bool, cases_lt, leb-true, and_parts, true≢false}
 use Rattle.std.proofs.lemmas.Option.{slice_get_within, same_Some}
 use Rattle.timetable.proofs.LegalLemmas.{Contains-At, At-Contains}
@@ -31,7 +33,9 @@ module _ {V : Type 0} (rules : Rules V) where
   }
 
   -- a point inserted is one way taken in
-  pub inserted_takes : (laws : Laws rules) (old new : List (Point V)) (p : Point V) (fits : ℕ → Type 0) (stands : Bool) → IsBag rules old → Admits rules p.value → Stands rules old p stands → Inserted rules old p stands new → (stands ≡ true → fits p.tag) → TakesIn rules (one_way p.departure p.value fits) old new
+  pub inserted_takes : (laws : Laws rules) (old new : List (Point V)) (p : Point V) (fits : ℕ → Type 0) (stands : Bool)
+      → IsBag rules old → Admits rules p.value → Stands rules old p stands → Inserted rules old p stands new
+      → (stands ≡ true → fits p.tag) → TakesIn rules (one_way p.departure p.value fits) old new
   inserted_takes laws old new p fits true bag admitted none is named = record {
     only = λ q h. elim ((is q).0 h) [
       | inl e ↦ inr (record {
@@ -61,7 +65,12 @@ module _ {V : Type 0} (rules : Rules V) where
   }
 
   -- one element more
-  pub takes_more : {X A : Type 0} (Was There : X → Type 0) (offer : X → Offer A V) (x : X) (old mid new : List (Point V)) → ((y : X) → Was y → There y) → There x → ((y : X) → There y → Was y ⊎ (y ≡ x)) → ((y : X) (way : A) → Was y → (offer y).is_open way → Admits rules ((offer y).value way)) → TakesIn rules (each_of Was offer) old mid → TakesIn rules (offer x) mid new → TakesIn rules (each_of There offer) old new
+  pub takes_more : {X A : Type 0} (Was There : X → Type 0) (offer : X
+      → Offer A V) (x : X) (old mid new : List (Point V)) → ((y : X) → Was y → There y) → There x
+      → ((y : X) → There y → Was y ⊎ (y ≡ x))
+      → ((y : X) (way : A) → Was y → (offer y).is_open way → Admits rules ((offer y).value way))
+      → TakesIn rules (each_of Was offer) old mid → TakesIn rules (offer x) mid new
+      → TakesIn rules (each_of There offer) old new
   takes_more {X} {A} Was There offer x old mid new was_there there_x split admits before here = record {
     only = λ p h. elim (here.only p h) [
       | inl in_mid ↦ elim (before.only p in_mid) [
@@ -87,20 +96,34 @@ module _ {V : Type 0} (rules : Rules V) where
     pub fits : (tag : ℕ) → a.fits_tag way tag → b.fits_tag there tag
 
   -- what is taken in, seen as another offer
-  pub takes_as : {A B : Type 0} (a : Offer A V) (b : Offer B V) (old new : List (Point V)) → ((way : A) → a.is_open way → IsPart a b way) → ((way : B) → b.is_open way → Covers rules new (b.departure way) (b.value way)) → TakesIn rules a old new → TakesIn rules b old new
+  pub takes_as : {A B : Type 0} (a : Offer A V) (b : Offer B V) (old new : List (Point V))
+      → ((way : A) → a.is_open way → IsPart a b way)
+      → ((way : B) → b.is_open way → Covers rules new (b.departure way) (b.value way)) → TakesIn rules a old new
+      → TakesIn rules b old new
   takes_as a b old new part covered takes = record {
     only = λ p h. elim (takes.only p h) [
       | inl was ↦ inl was
       | inr o ↦
           let same = part o.way o.is_open in
-          inr (record { way = same.there; is_open = same.is_open; departs = o.departs ∙ same.departs; worth = o.worth ∙ same.worth; fits = same.fits p.tag o.fits })
+          inr (record {
+            way = same.there;
+            is_open = same.is_open;
+            departs = o.departs ∙ same.departs;
+            worth =
+                o.worth ∙ same.worth;
+            fits = same.fits p.tag o.fits;
+          })
     ];
     kept = takes.kept;
     covered = covered;
   }
 
 -- a point inserted under an equal criterion
-pub inserted_under : {K V : Type 0} (rules : K → Rules V) (a b : K) (laws : Laws (rules b)) (old new : List (Point V)) (p : Point V) (fits : ℕ → Type 0) (stands : Bool) → a ≡ b → IsBag (rules a) old → Admits (rules b) p.value → Stands (rules a) old p stands → Inserted (rules a) old p stands new → (stands ≡ true → fits p.tag) → TakesIn (rules b) (one_way p.departure p.value fits) old new
+pub inserted_under : {K V : Type 0} (rules : K
+    → Rules V) (a b : K) (laws : Laws (rules b)) (old new : List (Point V)) (p : Point V) (fits : ℕ
+    → Type 0) (stands : Bool) → a ≡ b → IsBag (rules a) old → Admits (rules b) p.value → Stands (rules a) old p stands
+    → Inserted (rules a) old p stands new → (stands ≡ true → fits p.tag)
+    → TakesIn (rules b) (one_way p.departure p.value fits) old new
 inserted_under rules a b laws old new p fits stands e bag admitted is_stands is_inserted named =
     inserted_takes (rules b) laws old new p fits stands (bag_under rules a b old e bag) admitted
     (subst (λ k. Stands (rules k) old p stands) e is_stands) (subst (λ k. Inserted (rules k) old p stands new) e is_inserted) named
@@ -108,7 +131,8 @@ inserted_under rules a b laws old new p fits stands e bag admitted is_stands is_
 stands_more : {X : Type 0} (points : List X) (n : ℕ) (y : X) → StandsBefore points n y → StandsBefore points (n + 1) y
 stands_more points n y s = (s.0, omega (arith, s.1), s.2)
 
-pub stands_split : {X : Type 0} (points : List X) (n : ℕ) (x y : X) → slice_get points n ≡ Some x → StandsBefore points (n + 1) y → StandsBefore points n y ⊎ (y ≡ x)
+pub stands_split : {X : Type 0} (points : List X) (n : ℕ) (x y : X) → slice_get points n ≡ Some x
+    → StandsBefore points (n + 1) y → StandsBefore points n y ⊎ (y ≡ x)
 stands_split points n x y at s = elim (cases_lt s.0 n) [
   | inl lt ↦ inl (s.0, lt, s.2)
   | inr ge ↦
@@ -127,33 +151,52 @@ all_stand points n y le is =
     (at.0, omega arith, at.1)
 
 -- the element at the next place
-pub takes_next : {X A V : Type 0} (rules : Rules V) (points : List X) (offer : X → Offer A V) (n : ℕ) (x : X) (old mid new : List (Point V)) → slice_get points n ≡ Some x → ((y : X) (way : A) → Contains points y → (offer y).is_open way → Admits rules ((offer y).value way)) → TakesIn rules (each_of (StandsBefore points n) offer) old mid → TakesIn rules (offer x) mid new → TakesIn rules (each_of (StandsBefore points (n + 1)) offer) old new
+pub takes_next : {X A V : Type 0} (rules : Rules V) (points : List X) (offer : X
+    → Offer A V) (n : ℕ) (x : X) (old mid new : List (Point V)) → slice_get points n ≡ Some x
+    → ((y : X) (way : A) → Contains points y → (offer y).is_open way → Admits rules ((offer y).value way))
+    → TakesIn rules (each_of (StandsBefore points n) offer) old mid → TakesIn rules (offer x) mid new
+    → TakesIn rules (each_of (StandsBefore points (n + 1)) offer) old new
 takes_next rules points offer n x old mid new at admits =
-    takes_more rules (StandsBefore points n) (StandsBefore points (n + 1)) offer x old mid new (stands_more points n) (n, omega arith, at) (λ y. stands_split points n x y at) (λ y way s. admits y way (stands_in points n y s))
+    takes_more rules (StandsBefore points n) (StandsBefore points (n + 1)) offer x old mid new (stands_more points n)
+    (n, omega arith, at) (λ y. stands_split points n x y at) (λ y way s. admits y way (stands_in points n y s))
 
-pub takes_first : {X A V : Type 0} (rules : Rules V) (points : List X) (offer : X → Offer A V) (old : List (Point V)) → TakesIn rules (each_of (StandsBefore points 0) offer) old old
+pub takes_first : {X A V : Type 0} (rules : Rules V) (points : List X) (offer : X → Offer A V) (old : List (Point V))
+    → TakesIn rules (each_of (StandsBefore points 0) offer) old old
 takes_first rules points offer old = takes_none rules (each_of (StandsBefore points 0) offer) old (λ way opened. absurd (omega (arith, opened.0.1)))
 
 -- one way, at an equal value
-pub takes_worth : {V : Type 0} (rules : Rules V) (departure : ℕ) (v w : V) (fits : ℕ → Type 0) (old new : List (Point V)) → v ≡ w → TakesIn rules (one_way departure v fits) old new → TakesIn rules (one_way departure w fits) old new
+pub takes_worth : {V : Type 0} (rules : Rules V) (departure : ℕ) (v w : V) (fits : ℕ
+    → Type 0) (old new : List (Point V)) → v ≡ w → TakesIn rules (one_way departure v fits) old new
+    → TakesIn rules (one_way departure w fits) old new
 takes_worth rules departure v w fits old new e takes = subst (λ x. TakesIn rules (one_way departure x fits) old new) e takes
 
 -- all elements of a list, each with one way
-pub takes_all : {X V : Type 0} (rules : Rules V) (points : List X) (departure : ℕ) (value : X → V) (fits other : X → ℕ → Type 0) (n : ℕ) (old new : List (Point V)) → length points ≤ n → ((x : X) (tag : ℕ) → fits x tag → other x tag)
+pub takes_all : {X V : Type 0} (rules : Rules V) (points : List X) (departure : ℕ) (value : X → V) (fits other : X → ℕ
+    → Type 0) (n : ℕ) (old new : List (Point V)) → length points ≤ n → ((x : X) (tag : ℕ) → fits x tag → other x tag)
     → TakesIn rules (each_of (StandsBefore points n) (λ x. one_way departure (value x) (fits x))) old new
     → TakesIn rules (record { is_open = Contains points; departure = λ _. departure; value = value; fits_tag = other }) old new
 takes_all rules points departure value fits other n old new le into takes =
-    takes_as rules (each_of (StandsBefore points n) (λ x. one_way departure (value x) (fits x))) (record { is_open = Contains points; departure = λ _. departure; value = value; fits_tag = other }) old new
+    takes_as rules (each_of (StandsBefore points n) (λ x. one_way departure (value x) (fits x))) (record {
+      is_open =
+          Contains points;
+      departure = λ _. departure;
+      value = value;
+      fits_tag = other;
+    }) old new
     (λ way opened. record { there = way.0; is_open = stands_in points n way.0 opened.0; departs = refl; worth = refl; fits = into way.0 })
     (λ x is. takes.covered (x, tt) (all_stand points n x le is, tt))
     takes
 
 -- a start keeps a value admitted
-pub start_admits : {V : Type 0} (rules : Rules V) → Laws rules → (start : Option Footpath) (v : V) → IfSome start (λ walk. IsSecs walk.secs) → Admits rules v → Admits rules (started rules start v)
+pub start_admits : {V : Type 0} (rules : Rules V) → Laws rules → (start : Option Footpath) (v : V)
+    → IfSome start (λ walk. IsSecs walk.secs) → Admits rules v → Admits rules (started rules start v)
 start_admits rules laws None v secs a = a
 start_admits rules laws (Some f) v secs a = laws.walk_admits f.secs v secs a
 
-covered_by : {A B V : Type 0} (rules : Rules V) (a : Offer A V) (b : Offer B V) (new : List (Point V)) → ((w : A) → a.is_open w → Covers rules new (a.departure w) (a.value w)) → ((w : B) → b.is_open w → Covers rules new (b.departure w) (b.value w)) → (way : A ⊎ B) → open_in a b way → Covers rules new (departure_in a b way) (value_in a b way)
+covered_by : {A B V : Type 0} (rules : Rules V) (a : Offer A V) (b : Offer B V) (new : List (Point V))
+    → ((w : A) → a.is_open w → Covers rules new (a.departure w) (a.value w))
+    → ((w : B) → b.is_open w → Covers rules new (b.departure w) (b.value w)) → (way : A ⊎ B) → open_in a b way
+    → Covers rules new (departure_in a b way) (value_in a b way)
 covered_by rules a b new first second (inl w) opened = first w opened
 covered_by rules a b new first second (inr w) opened = second w opened
 
@@ -161,14 +204,23 @@ module _ {V : Type 0} (rules : Rules V) where
   -- under a condition that holds
   pub takes_if : {A : Type 0} (P : Type 0) (a : Offer A V) (old new : List (Point V)) → P → TakesIn rules a old new → TakesIn rules (only_if P a) old new
   takes_if P a old new holds takes =
-      takes_as rules a (only_if P a) old new (λ way opened. record { there = way; is_open = (holds, opened); departs = refl; worth = refl; fits = λ tag h. h }) (λ way opened. takes.covered way opened.1) takes
+      takes_as rules a (only_if P a) old new (λ way opened. record {
+        there = way;
+        is_open = (holds, opened);
+        departs =
+            refl;
+        worth = refl;
+        fits = λ tag h. h;
+      }) (λ way opened. takes.covered way opened.1) takes
 
   -- under one that doesn't
   pub takes_unless : {A : Type 0} (P : Type 0) (a : Offer A V) (points : List (Point V)) → (P → ⊥) → TakesIn rules (only_if P a) points points
   takes_unless P a points fails = takes_none rules (only_if P a) points (λ way opened. fails opened.0)
 
   -- one offer after another
-  pub takes_either : {A B : Type 0} (a : Offer A V) (b : Offer B V) (old mid new : List (Point V)) → ((way : A) → a.is_open way → Admits rules (a.value way)) → TakesIn rules a old mid → TakesIn rules b mid new → TakesIn rules (either a b) old new
+  pub takes_either : {A B : Type 0} (a : Offer A V) (b : Offer B V) (old mid new : List (Point V))
+      → ((way : A) → a.is_open way → Admits rules (a.value way)) → TakesIn rules a old mid → TakesIn rules b mid new
+      → TakesIn rules (either a b) old new
   takes_either {A} {B} a b old mid new admits first second = record {
     only = λ p h. elim (second.only p h) [
       | inl in_mid ↦ elim (first.only p in_mid) [
@@ -178,7 +230,8 @@ module _ {V : Type 0} (rules : Rules V) where
       | inr o ↦ inr (record { way = inr o.way; is_open = o.is_open; departs = o.departs; worth = o.worth; fits = o.fits })
     ];
     kept = λ d v ad c. second.kept d v ad (first.kept d v ad c);
-    covered = λ way opened. covered_by rules a b new (λ w o. second.kept (a.departure w) (a.value w) (admits w o) (first.covered w o)) second.covered way opened;
+    covered = λ way opened. covered_by rules a b new
+        (λ w o. second.kept (a.departure w) (a.value w) (admits w o) (first.covered w o)) second.covered way opened;
   }
 
 pub on_ok_more : {T E : Type 0} (r : Result T E) (P Q : Type 0) → (P → Q) → OnOk r P → OnOk r Q

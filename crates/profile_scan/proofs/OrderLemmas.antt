@@ -1,5 +1,7 @@
 -- The order in which points are listed.
-use Rattle.std.proofs.Common.{◌≡◌, ◌≢◌, ◌⊎◌, ◌↔◌, ℕ, ◌-◌, ◌<◌, ◌≤◌, Bool, true, false, List, [], length, Contains, AllPairs, slice_get, Option, Some, get_or, refl, sym, ◌∙◌, ap, subst, inl, inr, arith, nat_le, nat_lt, ◌||◌, ◌&&◌, ◌==◌}
+use Rattle.std.proofs.Common.{◌≡◌, ◌≢◌, ◌⊎◌, ◌↔◌, ℕ, ◌-◌, ◌<◌, ◌≤◌, Bool, true, false, List, [], length, Contains}
+use Rattle.std.proofs.Common.{AllPairs, slice_get, Option, Some, get_or, refl, sym, ◌∙◌, ap, subst, inl, inr, arith}
+use Rattle.std.proofs.Common.{nat_le, nat_lt, ◌||◌, ◌&&◌, ◌==◌}
 use Rattle.std.specs.List.{insert}
 use Rattle.std.specs.Ordering.{ordering_reverse, is_lt}
 use Rattle.std.proofs.lemmas.Bool.{cases_order, cases_lt, and_from, le-leb, lt-ltb, ltb-true, eqb-true, eq-eqb, true≢false}
@@ -17,7 +19,8 @@ use Rattle.profile_scan.specs.Matching.{Matches}
 use Rattle.profile_scan.proofs.Answer.{only_itself, not_before_itself}
 
 module _ {V : Type 0} (rules : Rules V) (laws : Laws rules) where
-  pub before_chains : (p q r : Point V) → Admits rules p.value → Admits rules q.value → Admits rules r.value → Before rules p q → Before rules q r → Before rules p r
+  pub before_chains : (p q r : Point V) → Admits rules p.value → Admits rules q.value → Admits rules r.value
+      → Before rules p q → Before rules q r → Before rules p r
   before_chains p q r ap aq ar (inl lt) (inl gt) = inl (omega arith)
   before_chains p q r ap aq ar (inl lt) (inr (e, less)) = inl (omega arith)
   before_chains p q r ap aq ar (inr (e, less)) (inl gt) = inl (omega arith)
@@ -42,7 +45,9 @@ module _ {V : Type 0} (rules : Rules V) (laws : Laws rules) where
   ]
 
   -- the points before a place are before the new one, where the one at the place below it is
-  pub before_here : (points : List (Point V)) (point last : Point V) (place : ℕ) → AllPairs (Before rules) points → ((p : Point V) → Contains points p → Admits rules p.value) → Admits rules point.value → 0 < place → place ≤ length points → last ≡ get_or points (place - 1) last → Before rules last point
+  pub before_here : (points : List (Point V)) (point last : Point V) (place : ℕ) → AllPairs (Before rules) points
+      → ((p : Point V) → Contains points p → Admits rules p.value) → Admits rules point.value → 0 < place
+      → place ≤ length points → last ≡ get_or points (place - 1) last → Before rules last point
       → (k : ℕ) (d : Point V) → k < place → Before rules (get_or points k d) point
   before_here points point last place ordered admitted point_admits some within read is k d lt =
       let at_last : get_or points (place - 1) d ≡ last = get_or_default points (place - 1) d last (omega arith) ∙ sym read in
@@ -59,7 +64,8 @@ module _ {V : Type 0} (rules : Rules V) (laws : Laws rules) where
       ]
 
   -- points of a bag, in order, none twice, are a bag
-  pub listed_bag : (bag points : List (Point V)) → IsBag rules bag → AllPairs (Before rules) points → ((p : Point V) → Contains points p → Contains bag p) → IsBag rules points
+  pub listed_bag : (bag points : List (Point V)) → IsBag rules bag → AllPairs (Before rules) points
+      → ((p : Point V) → Contains points p → Contains bag p) → IsBag rules points
   listed_bag bag points is ordered only = record {
     admitted = λ p h. is.admitted p (only p h);
     undominated = λ i j d lt within.
@@ -68,7 +74,8 @@ module _ {V : Type 0} (rules : Rules V) (laws : Laws rules) where
         let in_x : Contains points (get_or points i d) = (i, omega arith, get_or_default points i (get_or points i d) d (omega arith)) in
         let in_y : Contains points (get_or points j d) = (j, within, get_or_default points j (get_or points j d) d within) in
         let before = ordered i j d lt within in
-        let differ : x ≢ y = λ e. not_before_itself rules laws x y (is.admitted x (only x in_x)) (ap (λ (p : Point V). p.departure) e) (ap (λ (p : Point V). p.value) e) before in (
+        let differ : x ≢ y = λ e. not_before_itself rules laws x y (is.admitted x (only x in_x))
+        (ap (λ (p : Point V). p.departure) e) (ap (λ (p : Point V). p.value) e) before in (
           λ dom. differ (only_itself rules bag is.undominated x y (only x in_x) (only y in_y) dom),
           λ dom. differ (sym (only_itself rules bag is.undominated y x (only y in_y) (only x in_x) dom)),
         );
@@ -86,11 +93,18 @@ told_before rules p q h = elim (or_and (nat_lt p.departure q.departure) (p.depar
 ]
 
 pub told_not_before : {V : Type 0} (rules : Rules V) (p q : Point V) → is_before rules p q ≡ false → Before rules p q → ⊥
-told_not_before rules p q h (inl lt) = true≢false (sym (lt-ltb p.departure q.departure lt) ∙ (or_and_not (nat_lt p.departure q.departure) (p.departure == q.departure) (is_lt (rules.list_order p.value q.value)) h).0)
-told_not_before rules p q h (inr (e, less)) = is_lt-false (rules.list_order p.value q.value) ((or_and_not (nat_lt p.departure q.departure) (p.departure == q.departure) (is_lt (rules.list_order p.value q.value)) h).1 (eq-eqb p.departure q.departure e)) less
+told_not_before rules p q h (inl lt) = true≢false (sym (lt-ltb p.departure q.departure lt)
+    ∙ (or_and_not (nat_lt p.departure q.departure) (p.departure == q.departure)
+    (is_lt (rules.list_order p.value q.value)) h).0)
+told_not_before rules p q h (inr (e, less)) =
+    is_lt-false (rules.list_order p.value q.value)
+    ((or_and_not (nat_lt p.departure q.departure) (p.departure == q.departure)
+    (is_lt (rules.list_order p.value q.value)) h).1 (eq-eqb p.departure q.departure e)) less
 
 -- one place further down
-pub after_here : {V : Type 0} (rules : Rules V) (points : List (Point V)) (point last : Point V) (place : ℕ) → 0 < place → place ≤ length points → last ≡ get_or points (place - 1) last → Before rules point last → ((k : ℕ) (d : Point V) → place ≤ k → k < length points → Before rules point (get_or points k d))
+pub after_here : {V : Type 0} (rules : Rules V) (points : List (Point V)) (point last : Point V) (place : ℕ) → 0 < place
+    → place ≤ length points → last ≡ get_or points (place - 1) last → Before rules point last
+    → ((k : ℕ) (d : Point V) → place ≤ k → k < length points → Before rules point (get_or points k d))
     → (k : ℕ) (d : Point V) → place - 1 ≤ k → k < length points → Before rules point (get_or points k d)
 after_here rules points point last place some within read is later k d low lt = elim (cases_lt k place) [
   | inl here ↦
@@ -100,11 +114,21 @@ after_here rules points point last place some within read is later k d low lt = 
 ]
 
 -- a point put into its place
-pub put_in_order : {V : Type 0} (rules : Rules V) (points new : List (Point V)) (place : ℕ) (point : Point V) → new ≡ insert points place point → place ≤ length points → AllPairs (Before rules) points → ((k : ℕ) (d : Point V) → k < place → Before rules (get_or points k d) point) → ((k : ℕ) (d : Point V) → place ≤ k → k < length points → Before rules point (get_or points k d)) → AllPairs (Before rules) new
-put_in_order rules points new place point e within ordered front back = subst (AllPairs (Before rules)) (sym e) (all_pairs_insert (Before rules) points place point within ordered front back)
+pub put_in_order : {V : Type 0} (rules : Rules V) (points new : List (Point V)) (place : ℕ) (point : Point V)
+    → new ≡ insert points place point → place ≤ length points → AllPairs (Before rules) points
+    → ((k : ℕ) (d : Point V) → k < place → Before rules (get_or points k d) point)
+    → ((k : ℕ) (d : Point V) → place ≤ k → k < length points → Before rules point (get_or points k d))
+    → AllPairs (Before rules) new
+put_in_order rules points new place point e within ordered front back =
+    subst (AllPairs (Before rules)) (sym e) (all_pairs_insert (Before rules) points place point within ordered front
+    back)
 
-pub put_there : {V : Type 0} (points new : List (Point V)) (place : ℕ) (point : Point V) → new ≡ insert points place point → (p : Point V) → Contains new p ↔ ((point ≡ p) ⊎ Contains points p)
-put_there points new place point e p = (λ h. from_insert points place point p (subst (λ xs. Contains xs p) e h), λ h. subst (λ xs. Contains xs p) (sym e) (into_insert points place point p h))
+pub put_there : {V : Type 0} (points new : List (Point V)) (place : ℕ) (point : Point V)
+    → new ≡ insert points place point → (p : Point V) → Contains new p ↔ ((point ≡ p) ⊎ Contains points p)
+put_there points new place point e p = (
+  λ h. from_insert points place point p (subst (λ xs. Contains xs p) e h),
+  λ h. subst (λ xs. Contains xs p) (sym e) (into_insert points place point p h),
+)
 
 -- the points from a place on are listed, and no others
 pub record AreListed {V : Type 0} (rules : Rules V) (bag : List (Point V)) (left : ℕ) (points : List (Point V)) : Type 0 where
@@ -128,7 +152,9 @@ module _ {V : Type 0} (rules : Rules V) (bag : List (Point V)) where
   pub all_listed : (left : ℕ) (points : List (Point V)) → left ≡ 0 → AreListed rules bag left points → (p : Point V) → Contains bag p → Contains points p
   all_listed left points none listed p h = let at = At-Contains bag p h in listed.each at.0 p (omega arith) at.1
 
-  pub comparable : (laws : Laws rules) → IsBag rules bag → (left : ℕ) (points : List (Point V)) (point : Point V) → AreListed rules bag left points → 0 < left → slice_get bag (left - 1) ≡ Some point → (p : Point V) → Contains points p → Before rules p point ⊎ Before rules point p
+  pub comparable : (laws : Laws rules) → IsBag rules bag → (left : ℕ) (points : List (Point V)) (point : Point V)
+      → AreListed rules bag left points → 0 < left → slice_get bag (left - 1) ≡ Some point → (p : Point V)
+      → Contains points p → Before rules p point ⊎ Before rules point p
   comparable laws is left points point listed some at p h =
       let there = listed.only p h in
       let lt = slice_get_within bag there.0 p there.2 in
@@ -138,7 +164,9 @@ module _ {V : Type 0} (rules : Rules V) (bag : List (Point V)) where
       (is.undominated (left - 1) there.0 p (omega (arith, there.1)) lt)) in
       apart_comparable rules laws point p (is.admitted point (Contains-At bag (left - 1) point at)) (is.admitted p (Contains-At bag there.0 p there.2)) apart
 
-  pub one_listed : (left : ℕ) (points new : List (Point V)) (point : Point V) → AreListed rules bag left points → 0 < left → slice_get bag (left - 1) ≡ Some point → AllPairs (Before rules) new → ((p : Point V) → Contains new p ↔ ((point ≡ p) ⊎ Contains points p)) → AreListed rules bag (left - 1) new
+  pub one_listed : (left : ℕ) (points new : List (Point V)) (point : Point V) → AreListed rules bag left points
+      → 0 < left → slice_get bag (left - 1) ≡ Some point → AllPairs (Before rules) new
+      → ((p : Point V) → Contains new p ↔ ((point ≡ p) ⊎ Contains points p)) → AreListed rules bag (left - 1) new
   one_listed left points new point listed some at ordered put =
       let fits = listed.within in
       record {
@@ -157,7 +185,10 @@ module _ {V : Type 0} (rules : Rules V) (bag : List (Point V)) where
       }
 
 -- points listed match as those of the bag do
-pub listed_match : {V X : Type 0} (rules : Rules V) (spelled : ℕ → Option X) (IsThere : ℕ → X → Type 0) (IsPlainWay : X → Type 0) (value : X → V) (bag points : List (Point V)) → ((p : Point V) → Contains points p → Contains bag p) → ((p : Point V) → Contains bag p → Contains points p) → Matches rules spelled IsThere IsPlainWay value bag → Matches rules spelled IsThere IsPlainWay value points
+pub listed_match : {V X : Type 0} (rules : Rules V) (spelled : ℕ → Option X) (IsThere : ℕ → X → Type 0) (IsPlainWay : X
+    → Type 0) (value : X → V) (bag points : List (Point V)) → ((p : Point V) → Contains points p → Contains bag p)
+    → ((p : Point V) → Contains bag p → Contains points p) → Matches rules spelled IsThere IsPlainWay value bag
+    → Matches rules spelled IsThere IsPlainWay value points
 listed_match rules spelled IsThere IsPlainWay value bag points only each m = record {
   sound = λ p h. m.sound p (only p h);
   complete = λ d x there. let c = m.complete d x there in (c.0, each c.0 c.1, c.2, c.3);

@@ -13,7 +13,8 @@ abbrev pub KeepsCovers : {V : Type 0} → Rules V → List (Point V) → List (P
 KeepsCovers {V} rules old new = (departure : ℕ) (v : V) → Admits rules v → Covers rules old departure v → Covers rules new departure v
 
 module _ {V : Type 0} (rules : Rules V) (laws : Laws rules) (t : TimetableValue) where
-  pub outdone_worse : (found : List (Point V)) → AreAdmitted rules found → (i : ℕ) (v w : V) → Admits rules v → Admits rules w → NoWorse rules v w → IsOutdone rules t found i v → IsOutdone rules t found i w
+  pub outdone_worse : (found : List (Point V)) → AreAdmitted rules found → (i : ℕ) (v w : V) → Admits rules v
+      → Admits rules w → NoWorse rules v w → IsOutdone rules t found i v → IsOutdone rules t found i w
   outdone_worse found admitted i v w a b h o = record {
     worsens = o.worsens;
     by = o.by;
@@ -23,11 +24,13 @@ module _ {V : Type 0} (rules : Rules V) (laws : Laws rules) (t : TimetableValue)
   }
 
   -- here alone it is of use that riding never makes a value better
-  pub outdone_ride : (found : List (Point V)) → AreAdmitted rules found → (i : ℕ) (v : V) → Admits rules v → IsOutdone rules t found i v → IsOutdone rules t found i (rules.ride v)
+  pub outdone_ride : (found : List (Point V)) → AreAdmitted rules found → (i : ℕ) (v : V) → Admits rules v
+      → IsOutdone rules t found i v → IsOutdone rules t found i (rules.ride v)
   outdone_ride found admitted i v a o = outdone_worse found admitted i v (rules.ride v) a (laws.ride_admits v a) (o.worsens v a) o
 
   -- with more points found, and fewer connections to come
-  pub outdone_on : (old new : List (Point V)) (n m : ℕ) (v : V) → Admits rules v → m ≤ n → KeepsCovers rules old new → IsOutdone rules t old n v → IsOutdone rules t new m v
+  pub outdone_on : (old new : List (Point V)) (n m : ℕ) (v : V) → Admits rules v → m ≤ n → KeepsCovers rules old new
+      → IsOutdone rules t old n v → IsOutdone rules t new m v
   outdone_on old new n m v a le kept o =
       let c = kept o.by.departure v a (o.by, o.is_found, omega arith, o.no_worse) in
       record {
@@ -42,5 +45,6 @@ module _ {V : Type 0} (rules : Rules V) (laws : Laws rules) (t : TimetableValue)
   outdone_down found i v a o = outdone_on found found (i + 1) i v a (omega arith) (λ d w b c. c) o
 
 -- all may be carried on
-pub all_carried : {V : Type 0} (rules : Rules V) (t : TimetableValue) (found : List (Point V)) (i : ℕ) (points : List (Point V)) → AreCarried rules t found i points points
+pub all_carried : {V : Type 0} (rules : Rules V) (t : TimetableValue) (found : List (Point V)) (i : ℕ)
+    (points : List (Point V)) → AreCarried rules t found i points points
 all_carried rules t found i points = record { only = λ p h. h; all = λ p h. inl h }

@@ -43,7 +43,8 @@ module _ {K V : Type 0} (rules_of : K → Rules V) (criterion : K) (count : ℕ)
   lists_none a are = record { stops = are; steps = extends_none (steps_of a.lists); ridden = refl }
 
   -- of stops counted once more
-  pub lists_on : (a b c : Stops K V) → ChangesLists rules_of criterion count a b → ChangesLists rules_of criterion (vec_len b.heads) b c → ChangesLists rules_of criterion count a c
+  pub lists_on : (a b c : Stops K V) → ChangesLists rules_of criterion count a b
+      → ChangesLists rules_of criterion (vec_len b.heads) b c → ChangesLists rules_of criterion count a c
   lists_on a b c ab bc = record {
     stops = subst (λ (n : ℕ). AreStops rules_of criterion n c) ab.stops.long bc.stops;
     steps = extends_on (steps_of a.lists) (steps_of b.lists) (steps_of c.lists) ab.steps bc.steps;

@@ -1,5 +1,7 @@
 -- Labels after the ride, and what comes of boarding by them.
-use Rattle.std.proofs.Common.{◌≡◌, true, false, ℕ, ◌+◌, ◌-◌, ◌<◌, ◌≤◌, List, [], ◌∷◌, ◌++◌, length, set, Contains, slice_get, slice_index, Some, get_or-set_same, get_or-set_other, sym, ◌∙◌, ap, subst, inl, inr, arith}
+use Rattle.std.proofs.Common.{◌≡◌, true, false, ℕ, ◌+◌, ◌-◌, ◌<◌, ◌≤◌, List, [], ◌∷◌, ◌++◌, length, set, Contains}
+use Rattle.std.proofs.Common.{slice_get, slice_index, Some, get_or-set_same, get_or-set_other, sym, ◌∙◌, ap, subst, inl}
+use Rattle.std.proofs.Common.{inr, arith}
 use Rattle.std.proofs.lemmas.Bool.{cases_eq, true≢false}
 use Rattle.std.proofs.lemmas.List.Elements.{Contains-push, Contains-push_cases, Contains-append_left}
 use Rattle.reasoning.proofs.ListLemmas.{not_in_nil}
@@ -23,12 +25,15 @@ use Rattle.profile_scan.proofs.StoryLemmas.{stays, step_told}
 
 -- values are those of labels after the ride that aren't bettered, and all such labels below a place are among them
 pub record RiddenBefore {V : Type 0} (rules : Rules V) (values : List V) (labels : List (Point V)) (n : ℕ) (ridden : List (Ridden V)) : Type 0 where
-  pub of_label : (r : Ridden V) → Contains ridden r → (l : Point V) × Contains (carried rules values labels) l × (r.value ≡ rules.ride l.value) × (r.label ≡ l.tag)
-  pub each : (l : Point V) → StandsBefore labels n l → is_bettered rules values (rules.ride l.value) ≡ false → (r : Ridden V) × Contains ridden r × (r.value ≡ rules.ride l.value)
+  pub of_label : (r : Ridden V) → Contains ridden r
+      → (l : Point V) × Contains (carried rules values labels) l × (r.value ≡ rules.ride l.value) × (r.label ≡ l.tag)
+  pub each : (l : Point V) → StandsBefore labels n l → is_bettered rules values (rules.ride l.value) ≡ false
+      → (r : Ridden V) × Contains ridden r × (r.value ≡ rules.ride l.value)
 
 module _ {V : Type 0} (rules : Rules V) (values : List V) where
   -- one label
-  pub rides_one : (x : Point V) (r : Ridden V) (old new : List (Ridden V)) → is_bettered rules values r.value ≡ false → r.value ≡ rules.ride x.value → r.label ≡ x.tag → new ≡ old ++ r ∷ [] → RidesLabel rules values x old new
+  pub rides_one : (x : Point V) (r : Ridden V) (old new : List (Ridden V)) → is_bettered rules values r.value ≡ false
+      → r.value ≡ rules.ride x.value → r.label ≡ x.tag → new ≡ old ++ r ∷ [] → RidesLabel rules values x old new
   rides_one x r old new free worth label pushed =
       let is_free : is_bettered rules values (rules.ride x.value) ≡ false = ap (is_bettered rules values) (sym worth) ∙ free in
       record {
@@ -40,7 +45,8 @@ module _ {V : Type 0} (rules : Rules V) (values : List V) where
         rides = λ _. (r, subst (λ rs. Contains rs r) (sym pushed) (Contains-push old r), worth);
       }
 
-  pub rides_none : (x : Point V) (v : V) (ridden : List (Ridden V)) → v ≡ rules.ride x.value → is_bettered rules values v ≡ true → RidesLabel rules values x ridden ridden
+  pub rides_none : (x : Point V) (v : V) (ridden : List (Ridden V)) → v ≡ rules.ride x.value
+      → is_bettered rules values v ≡ true → RidesLabel rules values x ridden ridden
   rides_none x v ridden worth bettered = record {
     only = λ s h. inl h;
     kept = λ s h. h;
@@ -54,7 +60,9 @@ module _ {V : Type 0} (rules : Rules V) (values : List V) (labels : List (Point 
     each = λ l s free. absurd (omega (arith, s.1));
   }
 
-  pub ridden_more : (n : ℕ) (x : Point V) (old new : List (Ridden V)) → slice_get labels n ≡ Some x → RidesLabel rules values x old new → RiddenBefore rules values labels n old → RiddenBefore rules values labels (n + 1) new
+  pub ridden_more : (n : ℕ) (x : Point V) (old new : List (Ridden V)) → slice_get labels n ≡ Some x
+      → RidesLabel rules values x old new → RiddenBefore rules values labels n old
+      → RiddenBefore rules values labels (n + 1) new
   ridden_more n x old new at takes is = record {
     of_label = λ s h. elim (takes.only s h) [
       | inl was ↦ is.of_label s was
@@ -68,7 +76,8 @@ module _ {V : Type 0} (rules : Rules V) (values : List V) (labels : List (Point 
     ];
   }
 
-  pub ridden_all : (n : ℕ) (ridden : List (Ridden V)) → length labels ≤ n → RiddenBefore rules values labels n ridden → AreRidden rules (carried rules values labels) ridden
+  pub ridden_all : (n : ℕ) (ridden : List (Ridden V)) → length labels ≤ n → RiddenBefore rules values labels n ridden
+      → AreRidden rules (carried rules values labels) ridden
   ridden_all n ridden long is = record {
     of_label = is.of_label;
     each = λ l h. let in_labels = from_carried rules values labels l h in is.each l (all_stand labels n l long in_labels.0) in_labels.1;
@@ -76,7 +85,8 @@ module _ {V : Type 0} (rules : Rules V) (values : List V) (labels : List (Point 
 
 module _ {V : Type 0} (rules : Rules V) (labels : List (Point V)) where
   -- each of them is admitted
-  pub ridden_admitted : (laws : Laws rules) → AreAdmitted rules labels → (ridden : List (Ridden V)) → AreRidden rules labels ridden → (r : Ridden V) → Contains ridden r → Admits rules r.value
+  pub ridden_admitted : (laws : Laws rules) → AreAdmitted rules labels → (ridden : List (Ridden V))
+      → AreRidden rules labels ridden → (r : Ridden V) → Contains ridden r → Admits rules r.value
   ridden_admitted laws admitted ridden are r h =
       let l = are.of_label r h in
       subst (Admits rules) (sym l.2) (laws.ride_admits l.0.value (admitted l.0 l.1))
@@ -86,7 +96,9 @@ module _ {V : Type 0} (rules : Rules V) (labels : List (Point V)) where
   no_ridden ridden are none l h = let r = are.each l h in omega (arith, r.1.1, none)
 
   -- a list that takes them in after a footpath takes the labels in
-  pub boardings_of_ridden : (walks : List Footpath) (ridden : List (Ridden V)) → AreRidden rules labels ridden → (steps : List Step) (departure first place : ℕ) (walk : Footpath) (old new : List (Point V)) → slice_get walks place ≡ Some walk
+  pub boardings_of_ridden : (walks : List Footpath) (ridden : List (Ridden V)) → AreRidden rules labels ridden
+      → (steps : List Step) (departure first place : ℕ) (walk : Footpath) (old new : List (Point V))
+      → slice_get walks place ≡ Some walk
       → TakesRidden rules steps departure first place walk.secs ridden old new → (before all : Story) → Grows before all → Extends steps all.steps
       → TakesIn rules (boardings_after rules (from_to (told walks before) (told walks all)) first departure walk labels) old new
   boardings_of_ridden walks ridden are steps departure first place walk old new at takes before all ext more = record {
@@ -115,21 +127,35 @@ module _ {V : Type 0} (rules : Rules V) (labels : List (Point V)) where
       step_by n = record { first = first; label = n; walk = place }
 
 -- the lists of all stops, one of them having taken ridden values in
-pub boarded_at : {K V : Type 0} (rules_of : K → Rules V) (a b : K) → a ≡ b → (labels : List (Point V)) (walks : List Footpath) (ridden : List (Ridden V)) → AreRidden (rules_of b) labels ridden
-    → (old new : ℕ → List (Point V)) (heads : List ℕ) (bound : ℕ) → ((k : ℕ) → slice_index heads k < bound) → ((place : ℕ) → place < bound → new place ≡ old place)
-    → (steps : List Step) (walk : Footpath) (place first dep head now : ℕ) → walk.from < length heads → walk.secs ≤ dep → slice_get walks place ≡ Some walk → head ≡ slice_index heads walk.from
+pub boarded_at : {K V : Type 0} (rules_of : K → Rules V) (a b : K) → a ≡ b
+    → (labels : List (Point V)) (walks : List Footpath) (ridden : List (Ridden V))
+    → AreRidden (rules_of b) labels ridden
+    → (old new : ℕ → List (Point V)) (heads : List ℕ) (bound : ℕ) → ((k : ℕ) → slice_index heads k < bound)
+    → ((place : ℕ) → place < bound → new place ≡ old place)
+    → (steps : List Step) (walk : Footpath) (place first dep head now : ℕ) → walk.from < length heads → walk.secs ≤ dep
+    → slice_get walks place ≡ Some walk → head ≡ slice_index heads walk.from
     → TakesRidden (rules_of a) steps (dep - walk.secs) first place walk.secs ridden (old head) (new now)
     → (stop : ℕ) (before all : Story) → Grows before all → Extends steps all.steps
-    → TakesIn (rules_of b) (only_if ((walk.from ≡ stop) × (walk.secs ≤ dep)) (boardings_after (rules_of b) (from_to (told walks before) (told walks all)) first (dep - walk.secs) walk labels)) (old (slice_index heads stop)) (new (slice_index (set heads walk.from now) stop))
-boarded_at {K} {V} rules_of a b e labels walks ridden are old new heads bound within same steps walk place first dep head now inside fits at head_is takes stop before all ext more =
+    → TakesIn (rules_of b) (only_if ((walk.from ≡ stop)
+    × (walk.secs ≤ dep)) (boardings_after (rules_of b) (from_to (told walks before) (told walks all)) first
+    (dep - walk.secs) walk labels)) (old (slice_index heads stop))
+    (new (slice_index (set heads walk.from now) stop))
+boarded_at {K} {V} rules_of a b e labels walks ridden are old new heads bound within same steps walk place first dep
+    head now inside fits at head_is takes stop before all ext more =
     let rules = rules_of b in
     let offer = boardings_after rules (from_to (told walks before) (told walks all)) first (dep - walk.secs) walk labels in
     elim (cases_eq walk.from stop) [
       | inl here ↦
-          let taken = boardings_of_ridden rules labels walks ridden are steps (dep - walk.secs) first place walk (old head) (new now) at (subst (λ k. TakesRidden (rules_of k) steps (dep - walk.secs) first place walk.secs ridden (old head) (new now)) e takes) before all ext more in
+          let taken = boardings_of_ridden rules labels walks ridden are steps (dep - walk.secs) first place walk
+          (old head) (new now) at (subst (λ k.
+          TakesRidden (rules_of k) steps (dep - walk.secs) first place walk.secs ridden (old head) (new now)) e
+          takes) before all ext more in
           let old_is : old head ≡ old (slice_index heads stop) = ap old (head_is ∙ ap (slice_index heads) here) in
-          let new_is : new now ≡ new (slice_index (set heads walk.from now) stop) = ap new (sym (ap (slice_index (set heads walk.from now)) (sym here) ∙ get_or-set_same heads walk.from now 0 inside)) in
-          subst (λ (xs : List (Point V)). TakesIn rules (only_if ((walk.from ≡ stop) × (walk.secs ≤ dep)) offer) xs (new (slice_index (set heads walk.from now) stop))) old_is
+          let new_is : new now ≡ new (slice_index (set heads walk.from now) stop) =
+          ap new (sym (ap (slice_index (set heads walk.from now)) (sym here)
+          ∙ get_or-set_same heads walk.from now 0 inside)) in
+          subst (λ (xs : List (Point V)). TakesIn rules (only_if ((walk.from ≡ stop)
+          × (walk.secs ≤ dep)) offer) xs (new (slice_index (set heads walk.from now) stop))) old_is
           (subst (λ (xs : List (Point V)). TakesIn rules (only_if ((walk.from ≡ stop) × (walk.secs ≤ dep)) offer) (old head) xs) new_is
           (takes_if rules ((walk.from ≡ stop) × (walk.secs ≤ dep)) offer (old head) (new now) (here, fits) taken))
       | inr other ↦

@@ -11,7 +11,8 @@ use Rattle.profile_scan.specs.Values.{walked, ridden, started, journey_value}
 use Rattle.profile_scan.specs.Continuations.{Onward, Aboard, BoardsFrom, IsOnward, IsAboard, CountsFrom, onward_value, aboard_value}
 use Rattle.profile_scan.specs.Plain.{IsOneFootpath, HasPlainWalk, IsPlainOnward, IsPlainAboard, IsPlain}
 use Rattle.profile_scan.specs.Matching.{Spellings, IsAttained, IsLabelled}
-use Rattle.profile_scan.specs.Steps.{IsOffered, Leaving, ends, ends_after, changes, MayLeave, leaving_value, LeavingTag, leavings, boarded, boardings, settings_out}
+use Rattle.profile_scan.specs.Steps.{IsOffered, Leaving, ends, ends_after, changes, MayLeave, leaving_value, LeavingTag}
+use Rattle.profile_scan.specs.Steps.{leavings, boarded, boardings, settings_out}
 
 -- what is there from a place on is there from the place before on
 boards_more : (i : ℕ) (rides : List RideValue) → BoardsFrom (i + 1) rides → BoardsFrom i rides
@@ -19,16 +20,34 @@ boards_more i [] from = from
 boards_more i (ride ∷ rides) from = omega arith
 
 pub onward_more : (t : TimetableValue) (q : Query) (i stop time : ℕ) (x : Onward) → IsOnward t q (i + 1) stop time x → IsOnward t q i stop time x
-onward_more t q i stop time x on = record { walks = on.walks; is_walk = on.is_walk; boards = boards_more i x.rides on.boards; leads = on.leads; arrives = on.arrives }
+onward_more t q i stop time x on = record {
+  walks = on.walks;
+  is_walk = on.is_walk;
+  boards =
+      boards_more i x.rides on.boards;
+  leads = on.leads;
+  arrives = on.arrives;
+}
 
 pub aboard_more : (t : TimetableValue) (q : Query) (i trip : ℕ) (x : Aboard) → IsAboard t q (i + 1) trip x → IsAboard t q i trip x
-aboard_more t q i trip x a = record { later = omega (arith, a.later); in_range = a.in_range; on_trip = a.on_trip; alights = a.alights; is_walk = a.is_walk; walks = a.walks; leads = a.leads; arrives = a.arrives }
+aboard_more t q i trip x a = record {
+  later = omega (arith, a.later);
+  in_range = a.in_range;
+  on_trip =
+      a.on_trip;
+  alights = a.alights;
+  is_walk = a.is_walk;
+  walks = a.walks;
+  leads = a.leads;
+  arrives = a.arrives;
+}
 
 pub counts_more : (t : TimetableValue) (q : Query) (i departure : ℕ) (j : JourneyValue) → CountsFrom t q (i + 1) departure j → CountsFrom t q i departure j
 counts_more t q i departure j c = record { counts = c.counts; boards = boards_more i j.rides c.boards }
 
 -- who may set out at a time may set out earlier
-leads_earlier : (t : TimetableValue) (goal stop time sooner i : ℕ) (rides : List RideValue) → sooner ≤ time → BoardsFrom i rides → Leads t goal stop time rides → Leads t goal stop sooner rides
+leads_earlier : (t : TimetableValue) (goal stop time sooner i : ℕ) (rides : List RideValue) → sooner ≤ time
+    → BoardsFrom i rides → Leads t goal stop time rides → Leads t goal stop sooner rides
 leads_earlier t goal stop time sooner i [] le from leads = absurd from
 leads_earlier t goal stop time sooner i (ride ∷ rides) le from leads = (leads.0, leads.1, omega (arith, leads.2), leads.3, leads.4, leads.5)
 
@@ -39,7 +58,13 @@ final_same t time other i (ride ∷ rides) from = refl
 
 module _ (t : TimetableValue) (q : Query) (i : ℕ) where
   -- leaving the trip at place i, and ending there or going onward
-  pub arrives_aboard : i < length t.connections → (connection_at t i).alight ≡ true → (connection_at t i).to ≡ q.target → (connection_at t i).arr ≤ q.by → IsAboard t q i (connection_at t i).trip (record { last = i; walk = []; rides = [] })
+  pub arrives_aboard : i < length t.connections → (connection_at t i).alight ≡ true → (connection_at t i).to ≡ q.target
+      → (connection_at t i).arr ≤ q.by → IsAboard t q i (connection_at t i).trip (record {
+        last = i;
+        walk = [];
+        rides =
+            [];
+      })
   arrives_aboard in_i alights at le = record {
     later = omega arith;
     in_range = in_i;
@@ -51,7 +76,10 @@ module _ (t : TimetableValue) (q : Query) (i : ℕ) where
     arrives = omega arith;
   }
 
-  pub walks_aboard : (f : Footpath) → i < length t.connections → (connection_at t i).alight ≡ true → Contains t.footpaths f → f.from ≡ (connection_at t i).to → f.to ≡ q.target → (connection_at t i).arr + f.secs ≤ q.by → IsAboard t q i (connection_at t i).trip (record { last = i; walk = f ∷ []; rides = [] })
+  pub walks_aboard : (f : Footpath) → i < length t.connections → (connection_at t i).alight ≡ true
+      → Contains t.footpaths f → f.from ≡ (connection_at t i).to → f.to ≡ q.target
+      → (connection_at t i).arr + f.secs ≤ q.by
+      → IsAboard t q i (connection_at t i).trip (record { last = i; walk = f ∷ []; rides = [] })
   walks_aboard f in_i alights is leaves at le = record {
     later = omega arith;
     in_range = in_i;
@@ -63,7 +91,9 @@ module _ (t : TimetableValue) (q : Query) (i : ℕ) where
     arrives = omega arith;
   }
 
-  pub changes_aboard : (time : ℕ) (x : Onward) → i < length t.connections → (connection_at t i).alight ≡ true → (connection_at t i).arr ≤ time → IsOnward t q (i + 1) (connection_at t i).to time x → IsAboard t q i (connection_at t i).trip (record { last = i; walk = x.walk; rides = x.rides })
+  pub changes_aboard : (time : ℕ) (x : Onward) → i < length t.connections → (connection_at t i).alight ≡ true
+      → (connection_at t i).arr ≤ time → IsOnward t q (i + 1) (connection_at t i).to time x
+      → IsAboard t q i (connection_at t i).trip (record { last = i; walk = x.walk; rides = x.rides })
   changes_aboard time x in_i alights le on = record {
     later = omega arith;
     in_range = in_i;
@@ -71,17 +101,39 @@ module _ (t : TimetableValue) (q : Query) (i : ℕ) where
     alights = alights;
     is_walk = on.is_walk;
     walks = λ _. on.walks;
-    leads = leads_earlier t q.target (walk_end (connection_at t i).to x.walk) (time + walk_secs x.walk) ((connection_at t i).arr + walk_secs x.walk) (i + 1) x.rides (omega arith) on.boards on.leads;
+    leads = leads_earlier t q.target (walk_end (connection_at t i).to x.walk) (time + walk_secs x.walk)
+        ((connection_at t i).arr + walk_secs x.walk) (i + 1) x.rides (omega arith) on.boards on.leads;
     arrives = subst (λ (n : ℕ). n ≤ q.by) (final_same t 0 ((connection_at t i).arr + walk_secs x.walk) (i + 1) x.rides on.boards) on.arrives;
   }
 
   -- who may sit in the trip from place i on may board there
-  pub boarding_leads : (time : ℕ) (x : Aboard) → IsAboard t q i (connection_at t i).trip x → (connection_at t i).board ≡ true → time ≤ (connection_at t i).dep → Leads t q.target (connection_at t i).from time (boarded i x)
-  boarding_leads time x a boards le =
-      (record { rising = a.later; in_range = a.in_range; one_trip = sym a.on_trip; boards = boards; alights = a.alights }, refl, le, a.is_walk, a.walks, a.leads)
+  pub boarding_leads : (time : ℕ) (x : Aboard) → IsAboard t q i (connection_at t i).trip x
+      → (connection_at t i).board ≡ true → time ≤ (connection_at t i).dep
+      → Leads t q.target (connection_at t i).from time (boarded i x)
+  boarding_leads time x a boards le = (
+    record {
+      rising = a.later;
+      in_range = a.in_range;
+      one_trip = sym a.on_trip;
+      boards = boards;
+      alights =
+          a.alights;
+    },
+    refl,
+    le,
+    a.is_walk,
+    a.walks,
+    a.leads,
+  )
 
   -- after one footpath
-  pub boards_onward : (stop : ℕ) (f : Footpath) (x : Aboard) → IsAboard t q i (connection_at t i).trip x → (connection_at t i).board ≡ true → Contains t.footpaths f → f.from ≡ stop → f.to ≡ (connection_at t i).from → f.secs ≤ (connection_at t i).dep → IsOnward t q i stop ((connection_at t i).dep - f.secs) (record { walk = f ∷ []; rides = boarded i x })
+  pub boards_onward : (stop : ℕ) (f : Footpath) (x : Aboard) → IsAboard t q i (connection_at t i).trip x
+      → (connection_at t i).board ≡ true → Contains t.footpaths f → f.from ≡ stop → f.to ≡ (connection_at t i).from
+      → f.secs ≤ (connection_at t i).dep → IsOnward t q i stop ((connection_at t i).dep - f.secs) (record {
+        walk =
+            f ∷ [];
+        rides = boarded i x;
+      })
   boards_onward stop f x a boards is leaves leads fits =
       let time : ℕ = (connection_at t i).dep - f.secs + walk_secs (f ∷ []) in
       record {
@@ -93,21 +145,30 @@ module _ (t : TimetableValue) (q : Query) (i : ℕ) where
       }
 
 -- a footpath before rides that board is one to change
-plain_before : (t : TimetableValue) (target last i : ℕ) (walk : List Footpath) (rides : List RideValue) → BoardsFrom i rides → IsOneFootpath walk → HasPlainWalk t target last walk rides
+plain_before : (t : TimetableValue) (target last i : ℕ) (walk : List Footpath) (rides : List RideValue)
+    → BoardsFrom i rides → IsOneFootpath walk → HasPlainWalk t target last walk rides
 plain_before t target last i walk [] from one = absurd from
 plain_before t target last i walk (ride ∷ rides) from one = one
 
 module _ {V : Type 0} (rules : Rules V) (t : TimetableValue) (q : Query) (tags : Spellings) (i : ℕ) where
   -- what changing is worth
-  change_value : (time : ℕ) (x : Onward) → IsOnward t q (i + 1) (connection_at t i).to time x → onward_value rules t x ≡ aboard_value rules t (record { last = i; walk = x.walk; rides = x.rides })
+  change_value : (time : ℕ) (x : Onward) → IsOnward t q (i + 1) (connection_at t i).to time x
+      → onward_value rules t x ≡ aboard_value rules t (record { last = i; walk = x.walk; rides = x.rides })
   change_value time x on =
       ap (λ (n : ℕ). walked rules x.walk (ridden rules n x.rides)) (final_same t 0 ((connection_at t i).arr + walk_secs x.walk) (i + 1) x.rides on.boards)
 
   -- a label that was offered is attained
-  pub leaving_attained : (bag : List (Point V)) → i < length t.connections → ((p : Point V) → Contains bag p → IsAttained tags.earlier.onward (IsOnward t q (i + 1) (connection_at t i).to) (IsPlainOnward t q.target) (onward_value rules t) p) → (p : Point V) → IsOffered (leavings rules t q tags i bag) p → IsAttained tags.later.aboard (IsLabelled t q i (connection_at t i).trip) (IsPlainAboard t q.target) (aboard_value rules t) p
+  pub leaving_attained : (bag : List (Point V)) → i < length t.connections
+      → ((p : Point V) → Contains bag p → IsAttained tags.earlier.onward (IsOnward t q (i + 1) (connection_at t i).to)
+      (IsPlainOnward t q.target) (onward_value rules t) p) → (p : Point V) → IsOffered (leavings rules t q tags i bag) p
+      → IsAttained tags.later.aboard (IsLabelled t q i (connection_at t i).trip) (IsPlainAboard t q.target)
+      (aboard_value rules t) p
   leaving_attained bag in_i sound p offered = by_way offered.way offered.is_open.0 offered.is_open.1 offered.departs offered.worth offered.fits
     where
-      by_way : (way : Leaving V) → (connection_at t i).alight ≡ true → MayLeave t q i bag way → p.departure ≡ 0 → p.value ≡ leaving_value rules t i way → LeavingTag tags i way p.tag → IsAttained tags.later.aboard (IsLabelled t q i (connection_at t i).trip) (IsPlainAboard t q.target) (aboard_value rules t) p
+      by_way : (way : Leaving V) → (connection_at t i).alight ≡ true → MayLeave t q i bag way → p.departure ≡ 0
+          → p.value ≡ leaving_value rules t i way → LeavingTag tags i way p.tag
+          → IsAttained tags.later.aboard (IsLabelled t q i (connection_at t i).trip) (IsPlainAboard t q.target)
+          (aboard_value rules t) p
       by_way ends alights may departs worth fits = record {
         way = record { last = i; walk = []; rides = [] };
         spells = fits;
@@ -133,7 +194,11 @@ module _ {V : Type 0} (rules : Rules V) (t : TimetableValue) (q : Query) (tags :
           }
 
   -- a point of a bag that was offered is attained
-  pub boarding_attained : (stop : ℕ) (labels : List (Point V)) → ((p : Point V) → Contains labels p → IsAttained tags.earlier.aboard (IsLabelled t q i (connection_at t i).trip) (IsPlainAboard t q.target) (aboard_value rules t) p) → (p : Point V) → IsOffered (boardings rules t tags i stop labels) p → IsAttained tags.later.onward (IsOnward t q i stop) (IsPlainOnward t q.target) (onward_value rules t) p
+  pub boarding_attained : (stop : ℕ) (labels : List (Point V))
+      → ((p : Point V) → Contains labels p → IsAttained tags.earlier.aboard (IsLabelled t q i (connection_at t i).trip)
+      (IsPlainAboard t q.target) (aboard_value rules t) p) → (p : Point V)
+      → IsOffered (boardings rules t tags i stop labels) p
+      → IsAttained tags.later.onward (IsOnward t q i stop) (IsPlainOnward t q.target) (onward_value rules t) p
   boarding_attained stop labels sound p offered =
       let may = offered.is_open in
       let f = offered.way.walk in
@@ -141,13 +206,23 @@ module _ {V : Type 0} (rules : Rules V) (t : TimetableValue) (q : Query) (tags :
       record {
         way = record { walk = f ∷ []; rides = boarded i label.way };
         spells = offered.fits label.way label.spells;
-        there = subst (λ (n : ℕ). IsOnward t q i stop n (record { walk = f ∷ []; rides = boarded i label.way })) (sym offered.departs) (boards_onward t q i stop f label.way label.there.aboard may.boards may.is_footpath may.leaves may.leads may.fits);
+        there = subst (λ (n : ℕ). IsOnward t q i stop n (record {
+          walk = f ∷ [];
+          rides =
+              boarded i label.way;
+        })) (sym offered.departs)
+            (boards_onward t q i stop f label.way label.there.aboard may.boards may.is_footpath may.leaves may.leads
+            may.fits);
         plain = ((f, refl), label.plain);
         worth = offered.worth ∙ ap (λ (v : V). rules.walk f.secs (rules.ride v)) label.worth;
       }
 
   -- a point found that was offered is attained
-  pub setting_out_attained : (labels : List (Point V)) → ((p : Point V) → Contains labels p → IsAttained tags.earlier.aboard (IsLabelled t q i (connection_at t i).trip) (IsPlainAboard t q.target) (aboard_value rules t) p) → (p : Point V) → IsOffered (settings_out rules t q tags i labels) p → IsAttained tags.later.journey (CountsFrom t q i) (IsPlain t q.target) (journey_value rules t) p
+  pub setting_out_attained : (labels : List (Point V))
+      → ((p : Point V) → Contains labels p → IsAttained tags.earlier.aboard (IsLabelled t q i (connection_at t i).trip)
+      (IsPlainAboard t q.target) (aboard_value rules t) p) → (p : Point V)
+      → IsOffered (settings_out rules t q tags i labels) p
+      → IsAttained tags.later.journey (CountsFrom t q i) (IsPlain t q.target) (journey_value rules t) p
   setting_out_attained labels sound p offered =
       let may = offered.is_open in
       let start = offered.way.start in
@@ -157,7 +232,8 @@ module _ {V : Type 0} (rules : Rules V) (t : TimetableValue) (q : Query) (tags :
         journey = record {
           starts = may.is_start;
           has_rides = λ e. cc;
-          leads = subst (λ (n : ℕ). Leads t q.target n 0 (boarded i label.way)) (sym may.leads) (boarding_leads t q i 0 label.way label.there.aboard may.boards (omega arith));
+          leads = subst (λ (n : ℕ). Leads t q.target n 0 (boarded i label.way)) (sym may.leads)
+              (boarding_leads t q i 0 label.way label.there.aboard may.boards (omega arith));
         };
         departs = let fits = may.fits in omega arith;
         not_early = may.not_early;

@@ -1,5 +1,6 @@
 -- The footpaths from a query's source.
-use Rattle.std.proofs.Common.{◌≡◌, ◌≢◌, ℕ, ◌+◌, ◌<◌, ◌≤◌, Bool, List, [], ◌∷◌, ◌++◌, length, length-append, slice_get, Some, sym, ◌∙◌, ap, subst, inl, inr, arith}
+use Rattle.std.proofs.Common.{◌≡◌, ◌≢◌, ℕ, ◌+◌, ◌<◌, ◌≤◌, Bool, List, [], ◌∷◌, ◌++◌, length, length-append, slice_get}
+use Rattle.std.proofs.Common.{Some, sym, ◌∙◌, ap, subst, inl, inr, arith}
 use Rattle.std.proofs.lemmas.Bool.{cases_lt}
 use Rattle.std.proofs.lemmas.Option.{same_Some, slice_get_within}
 use Rattle.reasoning.proofs.ListLemmas.{slice_get-front, slice_get-last}
@@ -18,14 +19,18 @@ NoStart t source begin end = (f : Footpath) → StandsBetween t.footpaths begin 
 pub no_start_yet : (t : TimetableValue) (source begin : ℕ) → NoStart t source begin begin
 no_start_yet t source begin f s start = omega (arith, s.1, s.2)
 
-pub no_start_more : (t : TimetableValue) (source begin place : ℕ) (walk : Footpath) → At t.footpaths place walk → ((walk.from ≡ source) × (walk.to ≢ source) → ⊥) → NoStart t source begin place → NoStart t source begin (place + 1)
+pub no_start_more : (t : TimetableValue) (source begin place : ℕ) (walk : Footpath) → At t.footpaths place walk
+    → ((walk.from ≡ source) × (walk.to ≢ source) → ⊥) → NoStart t source begin place
+    → NoStart t source begin (place + 1)
 no_start_more t source begin place walk at not_it none f s start = elim (between_split t.footpaths begin place walk f at s) [
   | inl was ↦ none f was start
   | inr same ↦ not_it (subst (λ (x : Footpath). (x.from ≡ source) × (x.to ≢ source)) same start)
 ]
 
 -- all footpaths into a stop were looked at
-pub not_led : (t : TimetableValue) (source stop begin end : ℕ) → ((k : ℕ) (f : Footpath) → At t.footpaths k f → f.to ≡ stop → (begin ≤ k) × (k < end)) → NoStart t source begin end → IsLed t source stop → ⊥
+pub not_led : (t : TimetableValue) (source stop begin end : ℕ)
+    → ((k : ℕ) (f : Footpath) → At t.footpaths k f → f.to ≡ stop → (begin ≤ k) × (k < end)) → NoStart t source begin end
+    → IsLed t source stop → ⊥
 not_led t source stop begin end into none led =
     let f = led.0 in
     let start = led.1 in

@@ -20,27 +20,42 @@ use Rattle.profile_scan.proofs.StepLemmas.{keeps_none}
 
 -- what is kept alike matches alike
 module _ {V : Type 0} (rules : Rules V) (t : TimetableValue) (q : Query) (tags : Spelling) (i : ℕ) where
-  pub matches_alike : (old new : ScanValue V) → ((stop : ℕ) → new.bag stop ≡ old.bag stop) → ((trip : ℕ) → new.labels trip ≡ old.labels trip) → new.found ≡ old.found → MatchesFrom rules t q tags i old → MatchesFrom rules t q tags i new
+  pub matches_alike : (old new : ScanValue V) → ((stop : ℕ) → new.bag stop ≡ old.bag stop)
+      → ((trip : ℕ) → new.labels trip ≡ old.labels trip) → new.found ≡ old.found → MatchesFrom rules t q tags i old
+      → MatchesFrom rules t q tags i new
   matches_alike old new bags labels found m = record {
     at_stops = λ stop lt.
-        subst (λ (points : List (Point V)). MatchesBut rules tags.onward (IsOnward t q i stop) (IsPlainOnward t q.target) (onward_value rules t) (IsOutdone rules t new.found i) points) (sym (bags stop))
-        (subst (λ (f : List (Point V)). MatchesBut rules tags.onward (IsOnward t q i stop) (IsPlainOnward t q.target) (onward_value rules t) (IsOutdone rules t f i) (old.bag stop)) (sym found) (m.at_stops stop lt));
+        subst (λ (points : List (Point V)). MatchesBut rules tags.onward (IsOnward t q i stop)
+        (IsPlainOnward t q.target) (onward_value rules t) (IsOutdone rules t new.found i) points) (sym (bags stop))
+        (subst (λ (f : List (Point V)). MatchesBut rules tags.onward (IsOnward t q i stop) (IsPlainOnward t q.target)
+        (onward_value rules t) (IsOutdone rules t f i) (old.bag stop)) (sym found) (m.at_stops stop lt));
     in_trips = λ trip lt.
-        subst (λ (points : List (Point V)). MatchesBut rules tags.aboard (IsLabelled t q i trip) (IsPlainAboard t q.target) (aboard_value rules t) (λ v. IsOutdone rules t new.found i (rules.ride v)) points) (sym (labels trip))
-        (subst (λ (f : List (Point V)). MatchesBut rules tags.aboard (IsLabelled t q i trip) (IsPlainAboard t q.target) (aboard_value rules t) (λ v. IsOutdone rules t f i (rules.ride v)) (old.labels trip)) (sym found) (m.in_trips trip lt));
-    at_source = subst (λ (points : List (Point V)). Matches rules tags.journey (CountsFrom t q i) (IsPlain t q.target) (journey_value rules t) points) (sym found) m.at_source;
+        subst (λ (points : List (Point V)). MatchesBut rules tags.aboard (IsLabelled t q i trip)
+        (IsPlainAboard t q.target) (aboard_value rules t) (λ v. IsOutdone rules t new.found i (rules.ride v))
+        points) (sym (labels trip))
+        (subst (λ (f : List (Point V)). MatchesBut rules tags.aboard (IsLabelled t q i trip) (IsPlainAboard t q.target)
+        (aboard_value rules t) (λ v. IsOutdone rules t f i (rules.ride v)) (old.labels trip)) (sym found)
+        (m.in_trips trip lt));
+    at_source = subst (λ (points : List (Point V)).
+        Matches rules tags.journey (CountsFrom t q i) (IsPlain t q.target) (journey_value rules t) points) (sym found)
+        m.at_source;
   }
 
 none_in : {X : Type 0} (xs : List X) → xs ≡ [] → (x : X) → Contains xs x → ⊥
 none_in xs e x h = let long = ap length e in omega (arith, h.1, long)
 
-no_leave : {V : Type 0} (t : TimetableValue) (q : Query) (i : ℕ) (bag : List (Point V)) (way : Option ℕ) → IsWay t q.target (connection_at t i).to way → ((connection_at t i).to ≢ q.target) × (way ≡ None) × (bag ≡ []) → (leaving : Leaving V) → MayLeave t q i bag leaving → ⊥
+no_leave : {V : Type 0} (t : TimetableValue) (q : Query) (i : ℕ) (bag : List (Point V)) (way : Option ℕ)
+    → IsWay t q.target (connection_at t i).to way → ((connection_at t i).to ≢ q.target) × (way ≡ None) × (bag ≡ [])
+    → (leaving : Leaving V) → MayLeave t q i bag leaving → ⊥
 no_leave t q i bag way is none ends may = none.0 may.0
 no_leave t q i bag way is none (ends_after f) may = subst (IsWay t q.target (connection_at t i).to) none.1 is f may.0 may.1 may.2
 no_leave t q i bag way is none (changes p) may = none_in bag none.2 p may.0
 
 -- where nothing is offered, all stays
-step_idle : {V : Type 0} (rules : Rules V) (t : TimetableValue) (q : Query) (a : Spelling) (i : ℕ) (scan : ScanValue V) (way : Option ℕ) → IsWay t q.target (connection_at t i).to way → IsIdle q (connection_at t i) way (scan.labels (connection_at t i).trip) (scan.bag (connection_at t i).to) → IsStep rules t q (from_to a a) i scan scan
+step_idle : {V : Type 0} (rules : Rules V) (t : TimetableValue) (q : Query) (a : Spelling) (i : ℕ) (scan : ScanValue V)
+    (way : Option ℕ) → IsWay t q.target (connection_at t i).to way
+    → IsIdle q (connection_at t i) way (scan.labels (connection_at t i).trip) (scan.bag (connection_at t i).to)
+    → IsStep rules t q (from_to a a) i scan scan
 step_idle rules t q a i scan way is idle =
     let trip = (connection_at t i).trip in
     let stop = (connection_at t i).to in
@@ -52,16 +67,22 @@ step_idle rules t q a i scan way is idle =
       changing_are = all_carried rules t scan.found i (scan.bag stop);
       boarding = scan.labels trip;
       boarding_are = all_carried rules t scan.found i (scan.labels trip);
-      leaves = takes_none rules (leavings rules t q (from_to a a) i (scan.bag stop)) (scan.labels trip) (λ leaving opened. no_leave t q i (scan.bag stop) way is (idle.ends_here opened.0) leaving opened.1);
+      leaves = takes_none rules (leavings rules t q (from_to a a) i (scan.bag stop)) (scan.labels trip)
+          (λ leaving opened. no_leave t q i (scan.bag stop) way is (idle.ends_here opened.0) leaving opened.1);
       other_trips = λ k other. refl;
-      boards = λ k lt. takes_none rules (boardings rules t (from_to a a) i k (scan.labels trip)) (scan.bag k) (λ boarding opened. none_in (scan.labels trip) idle.no_labels boarding.label opened.is_label);
-      sets_out = takes_none rules (settings_out rules t q (from_to a a) i (scan.labels trip)) scan.found (λ out opened. none_in (scan.labels trip) idle.no_labels out.label opened.is_label);
+      boards = λ k lt. takes_none rules (boardings rules t (from_to a a) i k (scan.labels trip)) (scan.bag k)
+          (λ boarding opened. none_in (scan.labels trip) idle.no_labels boarding.label opened.is_label);
+      sets_out = takes_none rules (settings_out rules t q (from_to a a) i (scan.labels trip)) scan.found
+          (λ out opened. none_in (scan.labels trip) idle.no_labels out.label opened.is_label);
     }
 
 -- the same, of the connection by another name
-pub step_idle_at : {V : Type 0} (rules : Rules V) (t : TimetableValue) (q : Query) (a : Spelling) (i : ℕ) (scan : ScanValue V) (way : Option ℕ) (c : Connection) → c ≡ connection_at t i → IsWay t q.target c.to way → IsIdle q c way (scan.labels c.trip) (scan.bag c.to) → IsStep rules t q (from_to a a) i scan scan
+pub step_idle_at : {V : Type 0} (rules : Rules V) (t : TimetableValue) (q : Query) (a : Spelling) (i : ℕ)
+    (scan : ScanValue V) (way : Option ℕ) (c : Connection) → c ≡ connection_at t i → IsWay t q.target c.to way
+    → IsIdle q c way (scan.labels c.trip) (scan.bag c.to) → IsStep rules t q (from_to a a) i scan scan
 step_idle_at rules t q a i scan way c e is idle =
-    step_idle rules t q a i scan way (subst (λ (x : Connection). IsWay t q.target x.to way) e is) (subst (λ (x : Connection). IsIdle q x way (scan.labels x.trip) (scan.bag x.to)) e idle)
+    step_idle rules t q a i scan way (subst (λ (x : Connection). IsWay t q.target x.to way) e is)
+    (subst (λ (x : Connection). IsIdle q x way (scan.labels x.trip) (scan.bag x.to)) e idle)
 
 -- where a connection of a legal timetable begins and ends, and its trip, are of that timetable
 module _ (t : TimetableValue) (legal : IsLegal t) (i : ℕ) (in_i : i < length t.connections) (c : Connection) (is : c ≡ connection_at t i) where

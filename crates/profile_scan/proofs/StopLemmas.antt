@@ -4,7 +4,8 @@ use Rattle.std.proofs.lemmas.Bool.{cases_eq, cases_lt}
 use Rattle.std.proofs.lemmas.List.{get_or_past}
 
 -- each head is below a bound that grows
-pub heads_within : (heads : List ℕ) (stop head old new : ℕ) → ((k : ℕ) → slice_index heads k < old) → old ≤ new → head < new → (k : ℕ) → slice_index (set heads stop head) k < new
+pub heads_within : (heads : List ℕ) (stop head old new : ℕ) → ((k : ℕ) → slice_index heads k < old) → old ≤ new
+    → head < new → (k : ℕ) → slice_index (set heads stop head) k < new
 heads_within heads stop head old new within grows lt k = elim (cases_eq k stop) [
   | inl e ↦ elim (cases_lt stop (length heads)) [
     | inl inside ↦ (let here = ap (λ (n : ℕ). slice_index (set heads stop head) n) e ∙ get_or-set_same heads stop head 0 inside in omega arith)

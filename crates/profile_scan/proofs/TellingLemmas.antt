@@ -1,5 +1,6 @@
 -- What a story tells of a label, node by node.
-use Rattle.std.proofs.Common.{◌≡◌, ℕ, zero, suc, ◌+◌, ◌-◌, ◌<◌, List, [], ◌∷◌, ◌++◌, length, slice_get, get_or, map, take, Contains, Option, Some, None, refl, sym, ◌∙◌, ap, subst, inl, inr, arith}
+use Rattle.std.proofs.Common.{◌≡◌, ℕ, zero, suc, ◌+◌, ◌-◌, ◌<◌, List, [], ◌∷◌, ◌++◌, length, slice_get, get_or, map}
+use Rattle.std.proofs.Common.{take, Contains, Option, Some, None, refl, sym, ◌∙◌, ap, subst, inl, inr, arith}
 use Rattle.std.proofs.lemmas.Option.{same_Some, slice_get-get_or, slice_get_within}
 use Rattle.std.proofs.lemmas.List.{map-append, take_more}
 use Rattle.std.proofs.lemmas.List.Elements.{Contains-push_cases}
@@ -32,18 +33,25 @@ pub record IsChange (walks : List Footpath) (aboard : ℕ → Option Aboard) (la
   pub tells : aboard s.label ≡ Some rides_on
   pub is : x ≡ record { last = last; walk = walk ∷ []; rides = boarded s.first rides_on }
 
-changed : (walks : List Footpath) (aboard : ℕ → Option Aboard) (last : ℕ) (s : Step) (x : Aboard) (f : Option Footpath) (o : Option Aboard) → slice_get walks s.walk ≡ f → aboard s.label ≡ o → changed_at last (boards_by s.first o f) ≡ Some x → IsChange walks aboard last s x
+changed : (walks : List Footpath) (aboard : ℕ
+    → Option Aboard) (last : ℕ) (s : Step) (x : Aboard) (f : Option Footpath) (o : Option Aboard)
+    → slice_get walks s.walk ≡ f → aboard s.label ≡ o → changed_at last (boards_by s.first o f) ≡ Some x
+    → IsChange walks aboard last s x
 changed walks aboard last s x None o ef eo e = absurd cc
 changed walks aboard last s x (Some f) None ef eo e = absurd cc
 changed walks aboard last s x (Some f) (Some y) ef eo e = record { walk = f; rides_on = y; is_walk = ef; tells = eo; is = sym (same_Some _ _ e) }
 
 -- by cases of the exit
-told_by : (walks : List Footpath) (steps : List Step) (aboard : ℕ → Option Aboard) (exit : Option Exit) (last : ℕ) (s : Step) (x : Aboard) → change_by steps exit ≡ Some (record { last = last; step = s }) → exit_tells (λ tag. step_tells walks aboard (slice_get steps tag)) exit ≡ Some x → IsChange walks aboard last s x
+told_by : (walks : List Footpath) (steps : List Step) (aboard : ℕ
+    → Option Aboard) (exit : Option Exit) (last : ℕ) (s : Step) (x : Aboard)
+    → change_by steps exit ≡ Some (record { last = last; step = s })
+    → exit_tells (λ tag. step_tells walks aboard (slice_get steps tag)) exit ≡ Some x → IsChange walks aboard last s x
 told_by walks steps aboard None last s x is e = absurd cc
 told_by walks steps aboard (Some (LabelEnds at walk)) last s x is e = absurd cc
 told_by walks steps aboard (Some (LabelChanges at step)) last s x is e = go (slice_get steps step) is e
   where
-    go : (found : Option Step) → with_last at found ≡ Some (record { last = last; step = s }) → changed_at at (step_tells walks aboard found) ≡ Some x → IsChange walks aboard last s x
+    go : (found : Option Step) → with_last at found ≡ Some (record { last = last; step = s })
+        → changed_at at (step_tells walks aboard found) ≡ Some x → IsChange walks aboard last s x
     go None i told_x = absurd cc
     go (Some r) i told_x =
         let found_is : Change = record { last = at; step = r } in
@@ -56,32 +64,53 @@ told_by walks steps aboard (Some (LabelChanges at step)) last s x is e = go (sli
         (changed walks aboard at r x (slice_get walks r.walk) (aboard r.label) refl refl told_x))
 
 -- a label that is told in so many legs, and changes
-pub tells_change : (walks : List Footpath) (s : Story) (n label last : ℕ) (step : Step) (x : Aboard) → change s label ≡ Some (record { last = last; step = step }) → label_tells walks s n label ≡ Some x → (0 < n) × IsChange walks (label_tells walks s (n - 1)) last step x
+pub tells_change : (walks : List Footpath) (s : Story) (n label last : ℕ) (step : Step) (x : Aboard)
+    → change s label ≡ Some (record { last = last; step = step }) → label_tells walks s n label ≡ Some x
+    → (0 < n) × IsChange walks (label_tells walks s (n - 1)) last step x
 unfolding label_tells
 tells_change walks s zero label last step x is e = absurd cc
 tells_change walks s (suc n) label last step x is e =
     let back : suc n - 1 ≡ n = omega arith in (
       omega arith,
-      subst (λ (k : ℕ). IsChange walks (label_tells walks s k) last step x) (sym back) (told_by walks s.steps (label_tells walks s n) (slice_get s.exits label) last step x is e),
+      subst (λ (k : ℕ). IsChange walks (label_tells walks s k) last step x) (sym back)
+          (told_by walks s.steps (label_tells walks s n) (slice_get s.exits label) last step x is e),
     )
 
 -- in any number of legs
-pub told_change : (walks : List Footpath) (s : Story) (label last : ℕ) (step : Step) (x : Aboard) → change s label ≡ Some (record { last = last; step = step }) → (told walks s).aboard label ≡ Some x → IsChange walks (told walks s).aboard last step x
+pub told_change : (walks : List Footpath) (s : Story) (label last : ℕ) (step : Step) (x : Aboard)
+    → change s label ≡ Some (record { last = last; step = step }) → (told walks s).aboard label ≡ Some x
+    → IsChange walks (told walks s).aboard last step x
 told_change walks s label last step x is e =
     let c = (tells_change walks s (length s.exits) label last step x is e).1 in
-    record { walk = c.walk; rides_on = c.rides_on; is_walk = c.is_walk; tells = label_more walks s s (grows_none s) (length s.exits - 1) (length s.exits) (omega arith) step.label c.rides_on c.tells; is = c.is }
+    record {
+      walk = c.walk;
+      rides_on = c.rides_on;
+      is_walk = c.is_walk;
+      tells =
+          label_more walks s s (grows_none s) (length s.exits - 1) (length s.exits) (omega arith) step.label c.rides_on
+          c.tells;
+      is = c.is;
+    }
 
 -- one who is told and doesn't change ends
-ended_by : (walks : List Footpath) (steps : List Step) (aboard : ℕ → Option Aboard) (exit : Option Exit) (x : Aboard) → change_by steps exit ≡ None → exit_tells (λ tag. step_tells walks aboard (slice_get steps tag)) exit ≡ Some x → (last : ℕ) × (walk : Option Footpath) × (exit ≡ Some (LabelEnds last walk)) × (x ≡ record { last = last; walk = walk_of walk; rides = [] })
+ended_by : (walks : List Footpath) (steps : List Step) (aboard : ℕ → Option Aboard) (exit : Option Exit) (x : Aboard)
+    → change_by steps exit ≡ None → exit_tells (λ tag. step_tells walks aboard (slice_get steps tag)) exit ≡ Some x
+    → (last : ℕ) × (walk : Option Footpath) × (exit ≡ Some (LabelEnds last walk))
+    × (x ≡ record { last = last; walk = walk_of walk; rides = [] })
 ended_by walks steps aboard None x is e = absurd cc
 ended_by walks steps aboard (Some (LabelEnds last walk)) x is e = (last, walk, refl, sym (same_Some _ _ e))
 ended_by walks steps aboard (Some (LabelChanges at step)) x is e = go (slice_get steps step) is e
   where
-    go : (found : Option Step) → with_last at found ≡ None → changed_at at (step_tells walks aboard found) ≡ Some x → (last : ℕ) × (walk : Option Footpath) × (Some (LabelChanges at step) ≡ Some (LabelEnds last walk)) × (x ≡ record { last = last; walk = walk_of walk; rides = [] })
+    go : (found : Option Step) → with_last at found ≡ None → changed_at at (step_tells walks aboard found) ≡ Some x
+        → (last : ℕ) × (walk : Option Footpath) × (Some (LabelChanges at step) ≡ Some (LabelEnds last walk))
+        × (x ≡ record { last = last; walk = walk_of walk; rides = [] })
     go None i told_x = absurd cc
     go (Some r) i told_x = absurd cc
 
-pub told_end : (walks : List Footpath) (s : Story) (n label : ℕ) (x : Aboard) → change s label ≡ None → label_tells walks s n label ≡ Some x → (last : ℕ) × (walk : Option Footpath) × (slice_get s.exits label ≡ Some (LabelEnds last walk)) × (x ≡ record { last = last; walk = walk_of walk; rides = [] })
+pub told_end : (walks : List Footpath) (s : Story) (n label : ℕ) (x : Aboard) → change s label ≡ None
+    → label_tells walks s n label ≡ Some x → (last : ℕ) × (walk : Option Footpath)
+    × (slice_get s.exits label ≡ Some (LabelEnds last walk))
+    × (x ≡ record { last = last; walk = walk_of walk; rides = [] })
 unfolding label_tells
 told_end walks s zero label x is e = absurd cc
 told_end walks s (suc n) label x is e = ended_by walks s.steps (label_tells walks s n) (slice_get s.exits label) x is e
@@ -91,7 +120,8 @@ unfolding label_tells
 not_told walks s label x e = cc
 
 -- a node that ends says what is told
-pub says_end : (walks : List Footpath) (s : Story) (label : ℕ) (e : End) (old new : List Node) → change s label ≡ None → ending s label ≡ Some e → new ≡ old ++ Ends e.last e.walk ∷ [] → SaysLabel walks s label new (length old)
+pub says_end : (walks : List Footpath) (s : Story) (label : ℕ) (e : End) (old new : List Node) → change s label ≡ None
+    → ending s label ≡ Some e → new ≡ old ++ Ends e.last e.walk ∷ [] → SaysLabel walks s label new (length old)
 says_end walks s label e old new none is pushed x told_x =
     let t = told_end walks s (length s.exits) label x none told_x in
     let says = comes_next old old new new (Ends e.last e.walk) pushed (extends_none old) (extends_none new) in
@@ -110,7 +140,9 @@ told_ends walks s label is none no_end =
     cc
 
 -- a node that boards, and one that changes, say what is told
-pub says_change : (walks : List Footpath) (s : Story) (label last next : ℕ) (step : Step) (walk : Footpath) (old mid new : List Node) → change s label ≡ Some (record { last = last; step = step }) → slice_get walks step.walk ≡ Some walk → SaysLabel walks s step.label old next
+pub says_change : (walks : List Footpath) (s : Story) (label last next : ℕ) (step : Step) (walk : Footpath)
+    (old mid new : List Node) → change s label ≡ Some (record { last = last; step = step })
+    → slice_get walks step.walk ≡ Some walk → SaysLabel walks s step.label old next
     → mid ≡ old ++ Boards walk step.first next ∷ [] → new ≡ mid ++ Changes last (length old) ∷ [] → SaysLabel walks s label new (length mid)
 says_change walks s label last next step walk old mid new is at before first second x e =
     let c = told_change walks s label last step x is e in
@@ -123,14 +155,22 @@ says_change walks s label last next step walk old mid new is at before first sec
     by f y = record { last = last; walk = f ∷ []; rides = boarded step.first y }
 
 -- a node that sets out says the journey that is told
-journey_by : (aboard : ℕ → Option Aboard) (set_out : SetOut) (j : JourneyValue) → set_out_tells aboard (Some set_out) ≡ Some j → (x : Aboard) × (aboard set_out.label ≡ Some x) × (j ≡ record { start = set_out.start; rides = boarded set_out.first x })
+journey_by : (aboard : ℕ → Option Aboard) (set_out : SetOut) (j : JourneyValue)
+    → set_out_tells aboard (Some set_out) ≡ Some j
+    → (x : Aboard) × (aboard set_out.label ≡ Some x)
+    × (j ≡ record { start = set_out.start; rides = boarded set_out.first x })
 journey_by aboard set_out j e = go (aboard set_out.label) refl e
   where
-    go : (o : Option Aboard) → aboard set_out.label ≡ o → set_out_by set_out.start set_out.first o ≡ Some j → (x : Aboard) × (aboard set_out.label ≡ Some x) × (j ≡ record { start = set_out.start; rides = boarded set_out.first x })
+    go : (o : Option Aboard) → aboard set_out.label ≡ o → set_out_by set_out.start set_out.first o ≡ Some j
+        → (x : Aboard) × (aboard set_out.label ≡ Some x)
+        × (j ≡ record { start = set_out.start; rides = boarded set_out.first x })
     go None i told_j = absurd cc
     go (Some x) i told_j = (x, i, sym (same_Some _ _ told_j))
 
-pub told_journey : (walks : List Footpath) (s : Story) (tag : ℕ) (set_out : SetOut) (j : JourneyValue) → slice_get s.set_outs tag ≡ Some set_out → (told walks s).journey tag ≡ Some j → (x : Aboard) × ((told walks s).aboard set_out.label ≡ Some x) × (j ≡ record { start = set_out.start; rides = boarded set_out.first x })
+pub told_journey : (walks : List Footpath) (s : Story) (tag : ℕ) (set_out : SetOut) (j : JourneyValue)
+    → slice_get s.set_outs tag ≡ Some set_out → (told walks s).journey tag ≡ Some j
+    → (x : Aboard) × ((told walks s).aboard set_out.label ≡ Some x)
+    × (j ≡ record { start = set_out.start; rides = boarded set_out.first x })
 told_journey walks s tag set_out j at e = journey_by (told walks s).aboard set_out j (ap (set_out_tells (told walks s).aboard) (sym at) ∙ e)
 
 pub journey_within : (walks : List Footpath) (s : Story) (tag : ℕ) → IsJourneyTold walks s tag → tag < length s.set_outs
@@ -149,24 +189,30 @@ first_told walks s tag x is read =
     let t = told_journey walks s tag x is.0 at is.1 in
     (at, (t.0, t.1))
 
-pub says_journey : (walks : List Footpath) (s : Story) (tag next : ℕ) (set_out : SetOut) (old new : List Node) → slice_get s.set_outs tag ≡ Some set_out → SaysLabel walks s set_out.label old next → new ≡ old ++ SetsOut set_out.start set_out.first next ∷ [] → SaysJourney walks s tag new (length old)
+pub says_journey : (walks : List Footpath) (s : Story) (tag next : ℕ) (set_out : SetOut) (old new : List Node)
+    → slice_get s.set_outs tag ≡ Some set_out → SaysLabel walks s set_out.label old next
+    → new ≡ old ++ SetsOut set_out.start set_out.first next ∷ [] → SaysJourney walks s tag new (length old)
 says_journey walks s tag next set_out old new at before pushed j e =
     let t = told_journey walks s tag set_out j at e in
     comes_next old old new new (SetsOut set_out.start set_out.first next) pushed (extends_none old) (extends_none new) t.0 (before t.0 t.1) ∙ ap Some (sym t.2)
 
 -- along a route
-pub route_push : (s : Story) (first : ℕ) (labels : List ℕ) (label : ℕ) (c : Change) → IsRoute s first labels label → change s label ≡ Some c → IsRoute s first (labels ++ label ∷ []) c.step.label
+pub route_push : (s : Story) (first : ℕ) (labels : List ℕ) (label : ℕ) (c : Change) → IsRoute s first labels label
+    → change s label ≡ Some c → IsRoute s first (labels ++ label ∷ []) c.step.label
 route_push s first [] label c route is = (route, (c, is, refl))
 route_push s first (l ∷ ls) label c route is = (route.0, (route.1.0, route.1.1, route_push s route.1.0.step.label ls label c route.1.2 is))
 
-route_pop : (s : Story) (first : ℕ) (labels : List ℕ) (label last : ℕ) → IsRoute s first (labels ++ label ∷ []) last → IsRoute s first labels label × ((c : Change) × (change s label ≡ Some c) × (c.step.label ≡ last))
+route_pop : (s : Story) (first : ℕ) (labels : List ℕ) (label last : ℕ) → IsRoute s first (labels ++ label ∷ []) last
+    → IsRoute s first labels label × ((c : Change) × (change s label ≡ Some c) × (c.step.label ≡ last))
 route_pop s first [] label last route = (route.0, (route.1.0, route.1.1, route.1.2))
 route_pop s first (l ∷ ls) label last route =
     let rest = route_pop s route.1.0.step.label ls label last route.1.2 in
     ((route.0, (route.1.0, route.1.1, rest.0)), rest.1)
 
 -- the same, of a route from which its last label was taken
-pub route_popped : (s : Story) (first : ℕ) (route labels : List ℕ) (label last : ℕ) → route ≡ labels ++ label ∷ [] → IsRoute s first route last → IsRoute s first labels label × ((c : Change) × (change s label ≡ Some c) × (c.step.label ≡ last))
+pub route_popped : (s : Story) (first : ℕ) (route labels : List ℕ) (label last : ℕ) → route ≡ labels ++ label ∷ []
+    → IsRoute s first route last → IsRoute s first labels label
+    × ((c : Change) × (change s label ≡ Some c) × (c.step.label ≡ last))
 route_popped s first route labels label last is on = route_pop s first labels label last (subst (λ (ls : List ℕ). IsRoute s first ls last) is on)
 
 -- a route without labels leads nowhere else
@@ -175,7 +221,8 @@ route_over s first [] last none on = on
 route_over s first (l ∷ ls) last none on = absurd (omega arith)
 
 -- where the first label of a route is told, the last is
-pub route_told : (walks : List Footpath) (s : Story) (first : ℕ) (labels : List ℕ) (last : ℕ) → IsRoute s first labels last → IsLabelTold walks s first → IsLabelTold walks s last
+pub route_told : (walks : List Footpath) (s : Story) (first : ℕ) (labels : List ℕ) (last : ℕ)
+    → IsRoute s first labels last → IsLabelTold walks s first → IsLabelTold walks s last
 route_told walks s first [] last route is = subst (IsLabelTold walks s) route is
 route_told walks s first (l ∷ ls) last route is =
     let c = route.1.0 in
@@ -183,7 +230,14 @@ route_told walks s first (l ∷ ls) last route is =
     route_told walks s c.step.label ls last route.1.2 (t.rides_on, t.tells)
 
 -- points told in nodes, one more
-pub retold_more : {V : Type 0} (walks : List Footpath) (s : Story) (points old new : List (Point V)) (nodes more : List Node) (i : ℕ) (x : Point V) (tag : ℕ) → Extends nodes more → i < length points → x ≡ get_or points i x → new ≡ old ++ record { departure = x.departure; value = x.value; tag = tag } ∷ [] → SaysJourney walks s x.tag more tag
+pub retold_more : {V : Type 0} (walks : List Footpath) (s : Story) (points old new : List (Point V))
+    (nodes more : List Node) (i : ℕ) (x : Point V) (tag : ℕ) → Extends nodes more → i < length points
+    → x ≡ get_or points i x → new ≡ old ++ record {
+      departure = x.departure;
+      value = x.value;
+      tag =
+          tag;
+    } ∷ [] → SaysJourney walks s x.tag more tag
     → map untagged old ≡ map untagged (take i points) → ((p : Point V) → Contains old p → IsRetold walks s points nodes p)
     → (map untagged new ≡ map untagged (take (i + 1) points)) × ((p : Point V) → Contains new p → IsRetold walks s points more p)
 retold_more {V} walks s points old new nodes more i x tag ext lt is pushed says same each =
@@ -191,7 +245,15 @@ retold_more {V} walks s points old new nodes more i x tag ext lt is pushed says 
       ap (map untagged) pushed ∙ map-append untagged old (me ∷ []) ∙ ap (λ ys. ys ++ untagged x ∷ []) same
           ∙ sym (ap (map untagged) (take_more points i x lt ∙ ap (λ y. take i points ++ y ∷ []) (sym is)) ∙ map-append untagged (take i points) (x ∷ [])),
       λ p h. elim (Contains-push_cases old me p (subst (λ ps. Contains ps p) pushed h)) [
-        | inl was ↦ (let r = each p was in record { of = r.of; is_there = r.is_there; departs = r.departs; worth = r.worth; says = λ j e. (extends_keeps nodes more ext).journey p.tag j (r.says j e) })
+        | inl was ↦ (let r = each p was in record {
+          of = r.of;
+          is_there = r.is_there;
+          departs = r.departs;
+          worth =
+              r.worth;
+          says = λ j e.
+              (extends_keeps nodes more ext).journey p.tag j (r.says j e);
+        })
         | inr e ↦ subst (IsRetold walks s points more) e (record { of = x; is_there = (i, lt, sym is); departs = refl; worth = refl; says = says })
       ],
     )

@@ -19,7 +19,16 @@ pub record IsLastOfTrip (t : TimetableValue) (i j trip k : ℕ) : Type 0 where
   pub none_between : (m : ℕ) → k < m → m < j → (connection_at t m).trip ≢ trip
 
 last_of_trip : (t : TimetableValue) (i trip n : ℕ) → (connection_at t i).trip ≡ trip → (k : ℕ) × IsLastOfTrip t i (i + suc n) trip k
-last_of_trip t i trip zero on = (i, record { not_before = omega arith; before = omega arith; on_trip = on; none_between = λ m above below. absurd (omega arith) })
+last_of_trip t i trip zero on = (
+  i,
+  record {
+    not_before = omega arith;
+    before = omega arith;
+    on_trip =
+        on;
+    none_between = λ m above below. absurd (omega arith);
+  },
+)
 last_of_trip t i trip (suc n) on =
     let more : i + suc (suc n) ≡ suc (i + suc n) = omega arith in
     elim (cases_eq (connection_at t (i + suc n)).trip trip) [
@@ -41,7 +50,8 @@ last_of_trip t i trip (suc n) on =
 
 module _ (t : TimetableValue) (legal : IsLegal t) where
   -- a trip's connections depart one after the other
-  pub trip_departs_later : (i j : ℕ) → i < j → j < length t.connections → (connection_at t i).trip ≡ (connection_at t j).trip → (connection_at t i).dep < (connection_at t j).dep
+  pub trip_departs_later : (i j : ℕ) → i < j → j < length t.connections
+      → (connection_at t i).trip ≡ (connection_at t j).trip → (connection_at t i).dep < (connection_at t j).dep
   trip_departs_later i j lt in_j on =
       let n = j - suc i in
       let j_is : i + suc n ≡ j = omega arith in
@@ -49,12 +59,15 @@ module _ (t : TimetableValue) (legal : IsLegal t) where
       let k = found.0 in
       let last : IsLastOfTrip t i j (connection_at t j).trip k = subst (λ (m : ℕ). IsLastOfTrip t i m (connection_at t j).trip k) j_is found.1 in
       let in_k : k < length t.connections = omega (arith, last.before) in
-      let run : ((connection_at t k).to ≡ (connection_at t j).from) × ((connection_at t k).arr ≤ (connection_at t j).dep) = legal.unbroken k j (connection_at t k) (connection_at t j) (record {
+      let run : ((connection_at t k).to ≡ (connection_at t j).from)
+      × ((connection_at t k).arr ≤ (connection_at t j).dep) =
+      legal.unbroken k j (connection_at t k) (connection_at t j) (record {
         first = connection_at-stands t k in_k;
         second = connection_at-stands t j in_j;
         before = last.before;
         same_trip = last.on_trip;
-        none_between = λ m e at above below. subst (λ (c : Connection). c.trip ≢ (connection_at t j).trip) (connection_at-is t m e at) (last.none_between m above below);
+        none_between = λ m e at above below. subst (λ (c : Connection). c.trip ≢ (connection_at t j).trip)
+            (connection_at-is t m e at) (last.none_between m above below);
       }) in
       let hop = hop_takes_time t legal k in_k in
       let rise = departures_rise t legal k i last.not_before in_k in
@@ -88,7 +101,8 @@ module _ (t : TimetableValue) (legal : IsLegal t) where
       omega arith
 
   -- rides that lead on after a connection arrived board later ones
-  pub boards_later : (goal stop time i : ℕ) (rides : List RideValue) → i < length t.connections → (connection_at t i).arr ≤ time → rides ≢ [] → Leads t goal stop time rides → BoardsFrom (i + 1) rides
+  pub boards_later : (goal stop time i : ℕ) (rides : List RideValue) → i < length t.connections
+      → (connection_at t i).arr ≤ time → rides ≢ [] → Leads t goal stop time rides → BoardsFrom (i + 1) rides
   boards_later goal stop time i [] in_i after some leads = absurd (some refl)
   boards_later goal stop time i (ride ∷ rides) in_i after some leads =
       let rising = leads.0.rising in

@@ -1,5 +1,7 @@
 -- The window, read backward.
-use Rattle.std.proofs.Common.{◌≡◌, ℕ, zero, suc, ◌+◌, ◌-◌, ◌<◌, ◌≤◌, min, Bool, true, false, nat_le, nat_lt, List, [], ◌∷◌, ◌++◌, length, filter, reverse, All, AllPairs, get_or, cond, arith, sym, ◌∙◌, ap, subst, add-zero, inl, inr}
+use Rattle.std.proofs.Common.{◌≡◌, ℕ, zero, suc, ◌+◌, ◌-◌, ◌<◌, ◌≤◌, min, Bool, true, false, nat_le, nat_lt, List, []}
+use Rattle.std.proofs.Common.{◌∷◌, ◌++◌, length, filter, reverse, All, AllPairs, get_or, cond, arith, sym, ◌∙◌, ap}
+use Rattle.std.proofs.Common.{subst, add-zero, inl, inr}
 use Rattle.std.specs.List.{range_with_len}
 use Rattle.std.proofs.lemmas.Bool.{and_from, and_parts, le-leb, lt-ltb, leb-true, ltb-true, cases_Bool, cases_lt}
 use Rattle.std.proofs.lemmas.List.{reverse-append, get_or-reverse, length-reverse}
@@ -43,7 +45,9 @@ falling_stays p low high n passes not_n = elim (cases_lt n low) [
 ]
 
 -- where of those below m just the ones from low up to high pass, they are these
-passing_falls : (p : ℕ → Bool) (low high m : ℕ) → ((k : ℕ) → low ≤ k → k < high → p k ≡ true) → ((k : ℕ) → k < m → p k ≡ true → (low ≤ k) × (k < high)) → (n : ℕ) → n ≤ m → passing p n ≡ falling low (min n high - low)
+passing_falls : (p : ℕ → Bool) (low high m : ℕ) → ((k : ℕ) → low ≤ k → k < high → p k ≡ true)
+    → ((k : ℕ) → k < m → p k ≡ true → (low ≤ k) × (k < high)) → (n : ℕ) → n ≤ m
+    → passing p n ≡ falling low (min n high - low)
 passing_falls p low high m passes only zero le = let none : zero ≡ min zero high - low = omega arith in ap (falling low) none
 passing_falls p low high m passes only (suc n) le = passing_more p n ∙ elim (cases_Bool (p n)) [
   | inl yes_n ↦
@@ -98,7 +102,8 @@ module _ (t : TimetableValue) (q : Query) where
       let at_i = get_or-range_with_len 0 n i d (omega arith) in
       let at_j = get_or-range_with_len 0 n j d below in
       subst (λ (k : ℕ). (connection_at t k).dep ≤ (connection_at t (get_or (range_with_len 0 n) j d)).dep) (sym at_i)
-      (subst (λ (k : ℕ). (connection_at t (0 + i)).dep ≤ (connection_at t k).dep) (sym at_j) (departures_rise t legal (0 + j) (0 + i) (omega arith) (omega arith)))
+      (subst (λ (k : ℕ). (connection_at t (0 + i)).dep ≤ (connection_at t k).dep) (sym at_j)
+      (departures_rise t legal (0 + j) (0 + i) (omega arith) (omega arith)))
 
 -- what holds of all elements, or of each and each later one, read backward
 All-backward : {X : Type 0} (P : X → Type 0) (xs : List X) → All P xs → All P (reverse xs)
@@ -116,6 +121,10 @@ AllPairs-backward R xs all i j d lt in_j =
 pub window_is_read_backward : WindowIsReadBackward
 window_is_read_backward t legal q = record {
   falls = window_falls t q;
-  in_range = All-backward (λ (i : ℕ). i < length t.connections) (window t q) (All-filter (departs_inside t q) (λ (i : ℕ). i < length t.connections) (range_with_len 0 (length t.connections)) (places_in_range t q));
-  never_rises = AllPairs-backward (λ (i j : ℕ). (connection_at t i).dep ≤ (connection_at t j).dep) (window t q) (AllPairs-filter (λ (i j : ℕ). (connection_at t i).dep ≤ (connection_at t j).dep) (departs_inside t q) (range_with_len 0 (length t.connections)) (places_rise t q legal));
+  in_range = All-backward (λ (i : ℕ). i < length t.connections) (window t q)
+      (All-filter (departs_inside t q) (λ (i : ℕ). i < length t.connections) (range_with_len 0 (length t.connections))
+      (places_in_range t q));
+  never_rises = AllPairs-backward (λ (i j : ℕ). (connection_at t i).dep ≤ (connection_at t j).dep) (window t q)
+      (AllPairs-filter (λ (i j : ℕ). (connection_at t i).dep ≤ (connection_at t j).dep) (departs_inside t q)
+      (range_with_len 0 (length t.connections)) (places_rise t q legal));
 }

@@ -1,4 +1,5 @@
-//! What every proof may lean on, and what contracts alone see: first places, lists, digits; traces and kept values; the names of variants.
+//! What every proof may lean on, and what contracts alone see: first places, lists, digits; traces
+//! and kept values; the names of variants.
 //!
 //! Nothing here knows what a timetable is: its definitions and lemmas name std's words alone.
 #![tactic(auto)]

@@ -14,8 +14,8 @@ enum Node<T> {
 
 /// A list that contracts alone see. It takes no bytes, and its calls no memory.
 ///
-/// It says what its author noted, in this order, and no more: a type that keeps one says by its invariant how the list and
-/// its running fields agree, and lets no other code note.
+/// It says what its author noted, in this order, and no more: a type that keeps one says by its
+/// invariant how the list and its running fields agree, and lets no other code note.
 #[derive(Drop)]
 pub struct Trace<T> {
     node: Snapshot<Node<T>>,

@@ -13,8 +13,8 @@ use gtfs_rows::{Day, IdHash};
 use indexmap::IndexMap;
 use std::alloc::{AllocError, Global};
 
-/// Which services run on a day, as far as they were asked for: whoever asks for many trips of few services has each looked
-/// up once.
+/// Which services run on a day, as far as they were asked for: whoever asks for many trips of few
+/// services has each looked up once.
 #[derive(Drop)]
 pub struct DayServices {
     running: IndexMap<String, bool, IdHash>,
@@ -23,7 +23,8 @@ pub struct DayServices {
 impl DayServices {
     /// None of these services was asked for.
     pub fn new(alloc: Global, services: &Services) -> DayServices
-        ensures { (calendar : List CalendarRow) (dates : List CalendarDateRow) (day : ServiceDay) → AreOfDay calendar dates day result }
+        ensures { (calendar : List CalendarRow) (dates : List CalendarDateRow) (day : ServiceDay)
+            → AreOfDay calendar dates day result }
     {
         DayServices {
             running: IndexMap::with_hasher(alloc, services.hash()),
@@ -37,10 +38,13 @@ impl DayServices {
         service: &String,
         day: Day,
     ) -> Result<bool, AllocError>
-        ensures of_day { (calendar : List CalendarRow) (dates : List CalendarDateRow) → HoldsServices calendar dates services.now
+        ensures of_day { (calendar : List CalendarRow) (dates : List CalendarDateRow)
+            → HoldsServices calendar dates services.now
             → AreOfDay calendar dates day self.old → OnOk result (AreOfDay calendar dates day self.new) }
-        ensures told { (calendar : List CalendarRow) (dates : List CalendarDateRow) → HoldsServices calendar dates services.now
-            → AreOfDay calendar dates day self.old → IfOk result (λ running. running ≡ is_active calendar dates (string_bytes service.now) day) }
+        ensures told { (calendar : List CalendarRow) (dates : List CalendarDateRow)
+            → HoldsServices calendar dates services.now
+            → AreOfDay calendar dates day self.old
+            → IfOk result (λ running. running ≡ is_active calendar dates (string_bytes service.now) day) }
     {
         if let Some(running) = self.running.get(service.as_str()).copied() {
             return Ok(running);

@@ -10,9 +10,10 @@ use crate::zone::Zone;
 use gtfs_rows::Day;
 use jiff::civil::Date;
 
-/// The instant at which a day starts in a zone, in seconds after 1970-01-01T00:00:00Z: 43,200 seconds before the instant
-/// of the day's noon. Where the zone's clocks show noon twice or never, that is the noon by the offset before the change.
-/// `DayOutOfRange` where there is no such day, or no instant for its noon.
+/// The instant at which a day starts in a zone, in seconds after 1970-01-01T00:00:00Z: 43,200
+/// seconds before the instant of the day's noon. Where the zone's clocks show noon twice or never,
+/// that is the noon by the offset before the change. `DayOutOfRange` where there is no such day, or
+/// no instant for its noon.
 pub fn day_start(zone: &Zone, day: Day) -> Result<i64, DayFault>
     ensures ok { IfOk result (IsDayStart zone.now day) }
     ensures err { IfErr result (λ fault. (fault ≡ DayFault.DayOutOfRange) × HasNoStart zone.now day) }

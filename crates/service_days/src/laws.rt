@@ -10,7 +10,8 @@ ghost use Rattle.service_days.specs.declared.zone.Zone.{Zone};
 
 /// A day has one start at most in a zone.
 pub fn one_start()
-    ensures { (zone : Zone) (day : Day) (start other : ℤ) → IsDayStart zone day start → IsDayStart zone day other → start ≡ other }
+    ensures { (zone : Zone) (day : Day) (start other : ℤ) → IsDayStart zone day start → IsDayStart zone day other
+        → start ≡ other }
 {}
 
 /// A day that has a start isn't without one.

@@ -8,7 +8,8 @@ ghost use Rattle.std.specs.Str.{bytes_eq};
 ghost use Rattle.std.specs.String.{string_bytes};
 ghost use Rattle.gtfs_rows.specs.declared.rows.CalendarRow.{CalendarRow};
 ghost use Rattle.gtfs_rows.specs.declared.rows.CalendarDateRow.{CalendarDateRow};
-ghost use Rattle.service_days.specs.Services.{HoldsServices, adds, exceptions_in, is_active, is_not_after, is_same_day, removes, runs_in, weeks_in};
+ghost use Rattle.service_days.specs.Services.{HoldsServices, adds, exceptions_in, is_active, is_not_after};
+ghost use Rattle.service_days.specs.Services.{is_same_day, removes, runs_in, weeks_in};
 
 use crate::day::civil_date;
 use gtfs_rows::{CalendarDateRow, CalendarRow, Day, Exception, IdHash};
@@ -67,7 +68,8 @@ fn add<T: Drop>(
     said: T,
 ) -> Result<(), AllocError>
     ensures { OnOk result ((q : List ℕ) → option_map_or (λ group. group.items) (get_by_text held.new q) []
-        ≡ option_map_or (λ group. group.items) (get_by_text held.old q) [] ++ (if bytes_eq q (string_bytes service) then said ∷ [] else [])) }
+        ≡ option_map_or (λ group. group.items) (get_by_text held.old q) []
+        ++ (if bytes_eq q (string_bytes service) then said ∷ [] else [])) }
 {
     held.entry(service)?.or_insert(Vec::new(alloc)).push(said)?;
     Ok(())
@@ -78,7 +80,8 @@ fn weeks_of(
     hash: IdHash,
     rows: &[CalendarRow],
 ) -> Result<IndexMap<String, Vec<Week>, IdHash>, AllocError>
-    ensures { IfOk result (λ weeks. (service : List ℕ) → option_map_or (λ held. held.items) (get_by_text weeks service) [] ≡ weeks_in rows.now service) }
+    ensures { IfOk result (λ weeks. (service : List ℕ)
+        → option_map_or (λ held. held.items) (get_by_text weeks service) [] ≡ weeks_in rows.now service) }
 {
     let mut weeks = IndexMap::with_hasher(alloc, hash);
     for row in rows {

@@ -17,7 +17,9 @@ use Rattle.session.specs.Profiles.{IsAnswered, departures_data}
 
 pub answered_line : {V : Type 0} (form : PointForm) (told : V → ToldValue) (rules : Rules V) (image : ImageValue) (t : TimetableValue) (version : ℕ)
     (q : Query) (departures : List (Departure V)) (walk : Option ℕ) (points : List Data) (line : List ℕ)
-    → t ≡ image.timetable → IsAnswer rules t q (map point_of departures) → ((d : Departure V) → Contains departures d → Attains rules t q (point_of d) d.journey) → IsWay t q.target q.source walk
+    → t ≡ image.timetable → IsAnswer rules t q (map point_of departures)
+    → ((d : Departure V) → Contains departures d → Attains rules t q (point_of d) d.journey)
+    → IsWay t q.target q.source walk
     → points ≡ departures_data form image told departures → line ≡ line_of (profile_data points version walk) → IsAnswered form told rules image version q line
 answered_line {V} form told rules image t version q departures walk points line same answer attained direct points_are line_is = record {
   departures = departures;

@@ -19,10 +19,17 @@ pub is_within : (name : List ℕ) (feeds : List FeedImage) (place : ℕ) → Som
 is_within name [] place at = absurd cc
 is_within name (feed ∷ feeds) place at = (position-Some (λ one. bytes_eq (string_bytes one.name) name) (feed ∷ feeds) place feed (sym at)).0
 
-pub leaves : (name : List ℕ) (feeds : List FeedImage) (place : ℕ) (found : FeedImage) (others : List FeedImage) → Some place ≡ place_of name feeds → found ≡ get_or feeds place found
+pub leaves : (name : List ℕ) (feeds : List FeedImage) (place : ℕ) (found : FeedImage) (others : List FeedImage)
+    → Some place ≡ place_of name feeds → found ≡ get_or feeds place found
     → others ≡ remove feeds place → Leaves name feeds found others
 leaves name feeds place found others at read gone =
-    record { place = place; first = sym at; is_there = slice_get_read feeds (length feeds) place found refl (is_within name feeds place at) read; others_are = gone }
+    record {
+      place = place;
+      first = sym at;
+      is_there =
+          slice_get_read feeds (length feeds) place found refl (is_within name feeds place at) read;
+      others_are = gone;
+    }
 
 -- what is told of a load agrees with what it did
 pub order_agrees : {N : Type 0} (name : List ℕ) (feeds others : List FeedImage) (answers answers_then : List LoaderAnswer) (r : Result (ℕ × Option N) NotLoaded)

@@ -151,7 +151,8 @@ profile_from k form None ask moves reply (inl met) held are =
 profile_from k form None ask moves reply (inr refused) held are = inr (refused.fault, refused.reply_is)
 
 request_from : (k : Known) (form : PointForm) (held : Option (ℕ × ImageValue)) (asked : Asked) (moves : List SeatMove) (orders : List OrderValue)
-    (reply : List ℕ) → Meets form held asked moves orders reply → IsPublishedIfHeld k held → ArePublished k (answers_in moves) → IsFromPublished k form asked reply
+    (reply : List ℕ) → Meets form held asked moves orders reply → IsPublishedIfHeld k held
+    → ArePublished k (answers_in moves) → IsFromPublished k form asked reply
 request_from k form held too_long moves orders reply met is are = tt
 request_from k form held no_json moves orders reply met is are = tt
 request_from k form held no_request moves orders reply met is are = tt

@@ -58,7 +58,8 @@ AreShort-more (u ∷ turns) t all short = (all.0, AreShort-more turns t all.1 sh
 
 -- the lines of all that was read, of which so many were given first
 first_of : (given rest : List (List ℕ)) (all : List (List ℕ)) → all ≡ given ++ rest → given ≡ take (length given) all
-first_of given rest all is = sym (ap (λ (ls : List (List ℕ)). take (length given) ls) is ∙ take-append-le (length given) given rest (omega arith) ∙ take_all (length given) given (omega arith))
+first_of given rest all is = sym (ap (λ (ls : List (List ℕ)). take (length given) ls) is
+    ∙ take-append-le (length given) given rest (omega arith) ∙ take_all (length given) given (omega arith))
 
 -- a line is answered and its reply is written
 pub SoFar-more : {form : PointForm} (number : ℕ) (to_read known later : Option (List ℕ)) (unread bytes : List ℕ) (contents wrote writes : Option (List ℕ))
@@ -66,14 +67,16 @@ pub SoFar-more : {form : PointForm} (number : ℕ) (to_read known later : Option
     → SoFar form number to_read known unread contents wrote a asked b between count → Consumes known later bytes → (gives : GivesEnded (unread ++ bytes) new)
     → (t : Turn) → t.line ≡ gives.line → TurnsTo form number b between t after asked_then → Appends wrote writes t.reply
     → SoFar form number to_read later (unread_of new) contents writes a asked after asked_then (count + 1)
-SoFar-more {form} number to_read known later unread bytes contents wrote writes a b after asked between asked_then count new so_far came gives t line_is turn written =
+SoFar-more {form} number to_read known later unread bytes contents wrote writes a b after asked between asked_then count
+    new so_far came gives t line_is turn written =
     let given = HasGiven-ended to_read known later unread bytes (lines_in so_far.turns) new so_far.given came gives in
     let lines : lines_in so_far.turns ++ gives.line ∷ [] ≡ lines_in (so_far.turns ++ t ∷ []) = sym (more_lines so_far.turns t gives.line line_is) in
     let text : text_of so_far.turns ++ t.reply ≡ text_of (so_far.turns ++ t ∷ []) = sym (text_of-more so_far.turns t) in
     record {
       turns = so_far.turns ++ t ∷ [];
       given = subst (λ (ls : List (List ℕ)). HasGiven to_read later (unread_of new) ls) lines given;
-      writes = subst (λ (xs : List ℕ). Appends contents writes xs) text (Appends-trans contents wrote writes (text_of so_far.turns) t.reply so_far.writes written);
+      writes = subst (λ (xs : List ℕ). Appends contents writes xs) text
+          (Appends-trans contents wrote writes (text_of so_far.turns) t.reply so_far.writes written);
       does = AreTurns-more number a b after asked between asked_then so_far.turns t so_far.does turn;
       many = omega (arith, so_far.many, length-append so_far.turns (t ∷ []));
       short = AreShort-more so_far.turns t so_far.short (short_turn t gives.line line_is gives.short);
@@ -112,7 +115,8 @@ pub ends_at_end : {form : PointForm} (number : ℕ) (to_read known later : Optio
     → count ≤ 1_000_000 → SoFar form number to_read known unread contents wrote a asked b asked_then count → Consumes known later bytes → unread ++ bytes ≡ []
     → IsAtEnd later → (¬ read_failed) → (¬ write_failed)
     → Serves form number (Ok ended) to_read later contents wrote read_failed write_failed a asked b asked_then
-ends_at_end {form} number to_read known later unread bytes contents wrote a b asked asked_then count read_failed write_failed ended few so_far came none end no_read no_write =
+ends_at_end {form} number to_read known later unread bytes contents wrote a b asked asked_then count read_failed
+    write_failed ended few so_far came none end no_read no_write =
     let more = HasGiven-read to_read known later unread bytes (lines_in so_far.turns) so_far.given came in
     serves_so_far number (Ok ended) to_read known later unread bytes contents wrote a b asked asked_then count
     read_failed write_failed few so_far more
@@ -120,22 +124,27 @@ ends_at_end {form} number to_read known later unread bytes contents wrote a b as
 
 -- the rest was the last line
 pub ends_with_rest : {form : PointForm} (number : ℕ) (to_read known later : Option (List ℕ)) (unread bytes : List ℕ)
-    (contents wrote writes : Option (List ℕ)) (a b after : SeatValue) (asked between asked_then : List OrderValue) (count : ℕ) (new : LineReader) (read_failed write_failed : Type 0) (ended : Ended)
+    (contents wrote writes : Option (List ℕ)) (a b after : SeatValue) (asked between asked_then : List OrderValue)
+    (count : ℕ) (new : LineReader) (read_failed write_failed : Type 0) (ended : Ended)
     → count < 1_000_000 → SoFar form number to_read known unread contents wrote a asked b between count → Consumes known later bytes
     → GivesRest (unread ++ bytes) new (IsAtEnd later)
     → (t : Turn) → t.line ≡ unread ++ bytes → TurnsTo form number b between t after asked_then → Appends wrote writes t.reply → (¬ read_failed)
     → (¬ write_failed)
     → Serves form number (Ok ended) to_read later contents writes read_failed write_failed a asked after asked_then
-ends_with_rest {form} number to_read known later unread bytes contents wrote writes a b after asked between asked_then count new read_failed write_failed ended few so_far came gives t line_is turn written no_read no_write =
+ends_with_rest {form} number to_read known later unread bytes contents wrote writes a b after asked between asked_then
+    count new read_failed write_failed ended few so_far came gives t line_is turn written no_read no_write =
     let more = HasGiven-read to_read known later unread bytes (lines_in so_far.turns) so_far.given came in
-    let lines : lines_in (so_far.turns ++ t ∷ []) ≡ lines_of more.read = more_lines so_far.turns t (unread ++ bytes) line_is ∙ sym (HasGiven-rest to_read later (unread ++ bytes) (lines_in so_far.turns) more gives.one gives.some) in
+    let lines : lines_in (so_far.turns ++ t ∷ []) ≡ lines_of more.read =
+    more_lines so_far.turns t (unread ++ bytes) line_is
+    ∙ sym (HasGiven-rest to_read later (unread ++ bytes) (lines_in so_far.turns) more gives.one gives.some) in
     let text : text_of so_far.turns ++ t.reply ≡ text_of (so_far.turns ++ t ∷ []) = sym (text_of-more so_far.turns t) in
     record {
       read = more.read;
       written = text_of (so_far.turns ++ t ∷ []);
       turns = so_far.turns ++ t ∷ [];
       reads = more.consumed;
-      writes = subst (λ (xs : List ℕ). Appends contents writes xs) text (Appends-trans contents wrote writes (text_of so_far.turns) t.reply so_far.writes written);
+      writes = subst (λ (xs : List ℕ). Appends contents writes xs) text
+          (Appends-trans contents wrote writes (text_of so_far.turns) t.reply so_far.writes written);
       does = AreTurns-more number a b after asked between asked_then so_far.turns t so_far.does turn;
       few = omega (arith, so_far.many, few, length_push so_far.turns t);
       short = AreShort-more so_far.turns t so_far.short (short_turn t (unread ++ bytes) line_is gives.short);
@@ -144,16 +153,20 @@ ends_with_rest {form} number to_read known later unread bytes contents wrote wri
 
 -- a reply isn't wholly written: these bytes were read, and of all their lines those given are the first
 cut_short : {form : PointForm} (number : ℕ) (to_read later : Option (List ℕ)) (read : List ℕ) (rest : List (List ℕ)) (line : List ℕ)
-    (contents wrote writes : Option (List ℕ)) (a b after : SeatValue) (asked between asked_then : List OrderValue) (read_failed write_failed : Type 0) (turns : List Turn)
+    (contents wrote writes : Option (List ℕ)) (a b after : SeatValue) (asked between asked_then : List OrderValue)
+    (read_failed write_failed : Type 0) (turns : List Turn)
     → Consumes to_read later read → AreTurns form number a asked turns b between → Appends contents wrote (text_of turns)
     → lines_of read ≡ (lines_in turns ++ line ∷ []) ++ rest
     → length turns < 1_000_000 → AreShort turns → length line ≤ 16_777_216
     → (t : Turn) → t.line ≡ line → TurnsTo form number b between t after asked_then → (n : ℕ) → Appends wrote writes (take n t.reply) → (¬ read_failed)
     → write_failed
     → Serves form number (Err SessionFault.WriteFailed) to_read later contents writes read_failed write_failed a asked after asked_then
-cut_short {form} number to_read later read rest line contents wrote writes a b after asked between asked_then read_failed write_failed turns consumed does before all few short short_line t line_is turn n written no_read failed =
+cut_short {form} number to_read later read rest line contents wrote writes a b after asked between asked_then
+    read_failed write_failed turns consumed does before all few short short_line t line_is turn n written no_read
+    failed =
     let lines : lines_of read ≡ lines_in (turns ++ t ∷ []) ++ rest = all ∙ ap (λ (ls : List (List ℕ)). ls ++ rest) (sym (more_lines turns t line line_is)) in
-    let cut : IsCutShort (text_of turns ++ take n t.reply) (turns ++ t ∷ []) = record { answered = turns; last = t; count = n; turns_are = refl; written_is = refl } in
+    let cut : IsCutShort (text_of turns ++ take n t.reply) (turns ++ t ∷ []) =
+    record { answered = turns; last = t; count = n; turns_are = refl; written_is = refl } in
     record {
       read = read;
       written = text_of turns ++ take n t.reply;
@@ -167,29 +180,38 @@ cut_short {form} number to_read later read rest line contents wrote writes a b a
     }
 
 pub cut_short_at_line : {form : PointForm} (number : ℕ) (to_read known later : Option (List ℕ)) (unread bytes : List ℕ)
-    (contents wrote writes : Option (List ℕ)) (a b after : SeatValue) (asked between asked_then : List OrderValue) (count : ℕ) (new : LineReader) (read_failed write_failed : Type 0)
+    (contents wrote writes : Option (List ℕ)) (a b after : SeatValue) (asked between asked_then : List OrderValue)
+    (count : ℕ) (new : LineReader) (read_failed write_failed : Type 0)
     → count < 1_000_000 → SoFar form number to_read known unread contents wrote a asked b between count → Consumes known later bytes
     → (gives : GivesEnded (unread ++ bytes) new)
     → (t : Turn) → t.line ≡ gives.line → TurnsTo form number b between t after asked_then → (n : ℕ) → Appends wrote writes (take n t.reply) → (¬ read_failed)
     → write_failed
     → Serves form number (Err SessionFault.WriteFailed) to_read later contents writes read_failed write_failed a asked after asked_then
-cut_short_at_line {form} number to_read known later unread bytes contents wrote writes a b after asked between asked_then count new read_failed write_failed few so_far came gives t line_is turn n written no_read failed =
+cut_short_at_line {form} number to_read known later unread bytes contents wrote writes a b after asked between
+    asked_then count new read_failed write_failed few so_far came gives t line_is turn n written no_read failed =
     let given = HasGiven-ended to_read known later unread bytes (lines_in so_far.turns) new so_far.given came gives in
-    cut_short number to_read later given.read (lines_of (unread_of new)) gives.line contents wrote writes a b after asked between asked_then read_failed write_failed so_far.turns given.consumed so_far.does so_far.writes
+    cut_short number to_read later given.read (lines_of (unread_of new)) gives.line contents wrote writes a b after
+    asked between asked_then read_failed write_failed so_far.turns given.consumed so_far.does so_far.writes
     (IsCut-lines given.read (unread_of new) (lines_in so_far.turns ++ gives.line ∷ []) given.cut)
     (omega (arith, few, so_far.many)) so_far.short gives.short t line_is turn n written no_read failed
 
 pub cut_short_at_rest : {form : PointForm} (number : ℕ) (to_read known later : Option (List ℕ)) (unread bytes : List ℕ)
-    (contents wrote writes : Option (List ℕ)) (a b after : SeatValue) (asked between asked_then : List OrderValue) (count : ℕ) (new : LineReader) (read_failed write_failed : Type 0)
+    (contents wrote writes : Option (List ℕ)) (a b after : SeatValue) (asked between asked_then : List OrderValue)
+    (count : ℕ) (new : LineReader) (read_failed write_failed : Type 0)
     → count < 1_000_000 → SoFar form number to_read known unread contents wrote a asked b between count → Consumes known later bytes
     → GivesRest (unread ++ bytes) new (IsAtEnd later)
     → (t : Turn) → t.line ≡ unread ++ bytes → TurnsTo form number b between t after asked_then → (n : ℕ) → Appends wrote writes (take n t.reply)
     → (¬ read_failed) → write_failed
     → Serves form number (Err SessionFault.WriteFailed) to_read later contents writes read_failed write_failed a asked after asked_then
-cut_short_at_rest {form} number to_read known later unread bytes contents wrote writes a b after asked between asked_then count new read_failed write_failed few so_far came gives t line_is turn n written no_read failed =
+cut_short_at_rest {form} number to_read known later unread bytes contents wrote writes a b after asked between
+    asked_then count new read_failed write_failed few so_far came gives t line_is turn n written no_read failed =
     let more = HasGiven-read to_read known later unread bytes (lines_in so_far.turns) so_far.given came in
-    let lines : lines_of more.read ≡ (lines_in so_far.turns ++ (unread ++ bytes) ∷ []) ++ [] = HasGiven-rest to_read later (unread ++ bytes) (lines_in so_far.turns) more gives.one gives.some ∙ sym (append-nil (lines_in so_far.turns ++ (unread ++ bytes) ∷ [])) in
-    cut_short number to_read later more.read [] (unread ++ bytes) contents wrote writes a b after asked between asked_then read_failed write_failed so_far.turns more.consumed so_far.does so_far.writes lines
+    let lines : lines_of more.read ≡ (lines_in so_far.turns ++ (unread ++ bytes) ∷ []) ++ [] =
+    HasGiven-rest to_read later (unread ++ bytes) (lines_in so_far.turns) more gives.one gives.some
+    ∙ sym (append-nil (lines_in so_far.turns ++ (unread ++ bytes) ∷ [])) in
+    cut_short number to_read later more.read [] (unread
+    ++ bytes) contents wrote writes a b after asked between asked_then read_failed write_failed so_far.turns
+    more.consumed so_far.does so_far.writes lines
     (omega (arith, few, so_far.many)) so_far.short gives.short t line_is turn n written no_read failed
 
 -- a line can't be read: the lines before it are answered
@@ -198,7 +220,8 @@ pub read_fails : {form : PointForm} (number : ℕ) (to_read known later : Option
     → count ≤ 1_000_000 → SoFar form number to_read known unread contents wrote a asked b asked_then count → Consumes known later bytes
     → IsOneLine (unread ++ bytes) → read_failed ⊎ (length (unread ++ bytes) ≡ 16_777_217) → (¬ write_failed)
     → Serves form number (Err SessionFault.ReadFailed) to_read later contents wrote read_failed write_failed a asked b asked_then
-read_fails {form} number to_read known later unread bytes contents wrote a b asked asked_then count read_failed write_failed few so_far came one failed no_write =
+read_fails {form} number to_read known later unread bytes contents wrote a b asked asked_then count read_failed
+    write_failed few so_far came one failed no_write =
     let more = HasGiven-read to_read known later unread bytes (lines_in so_far.turns) so_far.given came in
     let rest : rest_of more.read ≡ unread ++ bytes = IsCut-rest more.read (unread ++ bytes) (lines_in so_far.turns) one more.cut in
     let why : read_failed ⊎ (length (rest_of more.read) ≡ 16_777_217) = subst (λ (xs : List ℕ). read_failed ⊎ (length xs ≡ 16_777_217)) (sym rest) failed in
@@ -212,19 +235,29 @@ pub too_many : {form : PointForm} (number : ℕ) (to_read known later : Option (
     → count ≡ 1_000_000 → SoFar form number to_read known unread contents wrote a asked b asked_then count → Consumes known later bytes
     → 0 < length (unread ++ bytes) → (¬ read_failed) → (¬ write_failed)
     → Serves form number (Err SessionFault.TooManyRequests) to_read later contents wrote read_failed write_failed a asked b asked_then
-too_many {form} number to_read known later unread bytes contents wrote a b asked asked_then count read_failed write_failed million so_far came some no_read no_write =
+too_many {form} number to_read known later unread bytes contents wrote a b asked asked_then count read_failed
+    write_failed million so_far came some no_read no_write =
     let more = HasGiven-read to_read known later unread bytes (lines_in so_far.turns) so_far.given came in
-    let all : lines_of more.read ≡ lines_in so_far.turns ++ lines_of (unread ++ bytes) = IsCut-lines more.read (unread ++ bytes) (lines_in so_far.turns) more.cut in
+    let all : lines_of more.read ≡ lines_in so_far.turns ++ lines_of (unread ++ bytes) =
+    IsCut-lines more.read (unread ++ bytes) (lines_in so_far.turns) more.cut in
     let further : 0 < length (lines_of (unread ++ bytes)) = lines_of-some (unread ++ bytes) some in
     let full : length (lines_in so_far.turns) ≡ 1_000_000 = lines_many so_far.turns ∙ so_far.many ∙ million in
-    let long : 1_000_000 < length (lines_of more.read) = omega (arith, ap (λ (ls : List (List ℕ)). length ls) all, length-append (lines_in so_far.turns) (lines_of (unread ++ bytes)), further, full) in
+    let long : 1_000_000 < length (lines_of more.read) =
+    omega (
+      arith,
+      ap (λ (ls : List (List ℕ)). length ls) all,
+      length-append (lines_in so_far.turns) (lines_of (unread ++ bytes)),
+      further,
+      full,
+    ) in
     let first = first_of (lines_in so_far.turns) (lines_of (unread ++ bytes)) (lines_of more.read) all in
     serves_so_far number (Err SessionFault.TooManyRequests) to_read known later unread bytes contents wrote a b asked asked_then count
     read_failed write_failed (omega (arith, million)) so_far more
     (no_read, no_write, so_far.many ∙ million, long, first ∙ ap (λ (n : ℕ). take n (lines_of more.read)) full, refl)
 
 -- why a read fails
-pub why_failed : (first before now long : ℕ) → first < 2 ^ 64 - 1 → before ≡ first → (now ≡ one_more before) ⊎ ((now ≡ before) × (long ≡ 16_777_217)) → (first < now) ⊎ (long ≡ 16_777_217)
+pub why_failed : (first before now long : ℕ) → first < 2 ^ 64 - 1 → before ≡ first
+    → (now ≡ one_more before) ⊎ ((now ≡ before) × (long ≡ 16_777_217)) → (first < now) ⊎ (long ≡ 16_777_217)
 why_failed first before now long below same (inl more) = inl (rose first before now below same more)
 why_failed first before now long below same (inr too_long) = inr too_long.1
 

@@ -24,10 +24,13 @@ pub record IsPinned (number : ℕ) (a m : SeatValue) (version : ℕ) (image : Im
   pub empty : a.held ≡ None
   pub step : AnswerStep number a (Answer.Pinned version shown) m
 
-pinned_as : (number : ℕ) (a m : SeatValue) (version v : ℕ) (shown : Snapshot ImageValue) (image : ImageValue) → a.held ≡ None → a.seen ≤ version → m ≡ pinned a version shown → HoldsInSome number m.held → version ≡ v → shown.value ≡ image
+pinned_as : (number : ℕ) (a m : SeatValue) (version v : ℕ) (shown : Snapshot ImageValue) (image : ImageValue)
+    → a.held ≡ None → a.seen ≤ version → m ≡ pinned a version shown → HoldsInSome number m.held → version ≡ v
+    → shown.value ≡ image
     → IsPinned number a m v image
 pinned_as number a m version v shown image empty newer is known same same_image =
-    let holds : HoldsInSome number (Some (version, shown.value)) = subst (λ (h : Option (ℕ × ImageValue)). HoldsInSome number h) (ap (λ (s : SeatValue). s.held) is) known in
+    let holds : HoldsInSome number (Some (version, shown.value)) =
+    subst (λ (h : Option (ℕ × ImageValue)). HoldsInSome number h) (ap (λ (s : SeatValue). s.held) is) known in
     record {
       shown = shown;
       image_is = same_image;
@@ -35,7 +38,8 @@ pinned_as number a m version v shown image empty newer is known same same_image 
       step = subst (λ (n : ℕ). AnswerStep number a (Answer.Pinned n shown) m) same (empty, newer, is, holds);
     }
 
-pub is_pinned : (number : ℕ) (a m : SeatValue) (v : ℕ) (image : ImageValue) → PinStep a (Ok tt) m → HoldsInSome number m.held → m.held ≡ Some (v, image) → IsPinned number a m v image
+pub is_pinned : (number : ℕ) (a m : SeatValue) (v : ℕ) (image : ImageValue) → PinStep a (Ok tt) m
+    → HoldsInSome number m.held → m.held ≡ Some (v, image) → IsPinned number a m v image
 is_pinned number a m v image pin known held =
     let both : Some (pin.1.0, pin.1.1.value) ≡ Some (v, image) = sym (ap (λ (s : SeatValue). s.held) pin.1.3) ∙ held in
     pinned_as number a m pin.1.0 v pin.1.1 image pin.0 pin.1.2 pin.1.3 known (ap version_in both) (ap (image_in image) both)
@@ -49,7 +53,14 @@ pub record IsReleased (number : ℕ) (m b : SeatValue) : Type 0 where
 
 pub is_released : (number : ℕ) (m b : SeatValue) (r : Result (Unit {0}) PinFault) → m.held ≢ None → ReleaseStep m r b → IsReleased number m b
 is_released number m b (Ok u) some back = record { last = Answer.Released; given_back = tt; step = back; empty = ap (λ (s : SeatValue). s.held) back.1 }
-is_released number m b (Err PinFault.SeatLost) some back = record { last = Answer.ReleaseRefused PinFault.SeatLost; given_back = tt; step = back; empty = ap (λ (s : SeatValue). s.held) back.1 }
+is_released number m b (Err PinFault.SeatLost) some back =
+    record {
+      last = Answer.ReleaseRefused PinFault.SeatLost;
+      given_back = tt;
+      step = back;
+      empty =
+          ap (λ (s : SeatValue). s.held) back.1;
+    }
 is_released number m b (Err PinFault.NotPinned) some back = absurd (some back.0)
 is_released number m b (Err PinFault.AlreadyPinned) some back = absurd back
 is_released number m b (Err PinFault.OutOfMemory) some back = absurd back

@@ -113,8 +113,13 @@ text_of-more (u ∷ turns) t = ap (λ (xs : List ℕ). u.reply ++ xs) (text_of-m
 pub AreTurns-more : {form : PointForm} (number : ℕ) (a m b : SeatValue) (asked between asked_then : List OrderValue) (turns : List Turn) (t : Turn)
     → AreTurns form number a asked turns m between → TurnsTo form number m between t b asked_then
     → AreTurns form number a asked (turns ++ t ∷ []) b asked_then
-AreTurns-more {form} number a m b asked between asked_then [] t same turn =
-    (b, asked_then, subst (λ (s : SeatValue). TurnsTo form number s asked t b asked_then) same.0 (subst (λ (xs : List OrderValue). TurnsTo form number m xs t b asked_then) same.1 turn), (refl, refl))
+AreTurns-more {form} number a m b asked between asked_then [] t same turn = (
+  b,
+  asked_then,
+  subst (λ (s : SeatValue). TurnsTo form number s asked t b asked_then) same.0
+      (subst (λ (xs : List OrderValue). TurnsTo form number m xs t b asked_then) same.1 turn),
+  (refl, refl),
+)
 AreTurns-more {form} number a m b asked between asked_then (u ∷ turns) t (n, middle, first, rest) turn =
     (n, middle, first, AreTurns-more number n m b middle between asked_then turns t rest turn)
 
@@ -130,4 +135,6 @@ pub orders_grow : (form : PointForm) (number : ℕ) (a b : SeatValue) (asked ask
     → AreTurns form number a asked turns b asked_then → asked_then ≡ asked ++ orders_of turns
 orders_grow form number a b asked asked_then [] same = same.1 ∙ sym (append-nil asked)
 orders_grow form number a b asked asked_then (t ∷ turns) (m, between, turn, rest) =
-    orders_grow form number m b between asked_then turns rest ∙ ap (λ (xs : List OrderValue). xs ++ orders_of turns) turn.orders ∙ append_assoc asked t.orders (orders_of turns)
+    orders_grow form number m b between asked_then turns rest
+    ∙ ap (λ (xs : List OrderValue). xs ++ orders_of turns) turn.orders
+    ∙ append_assoc asked t.orders (orders_of turns)

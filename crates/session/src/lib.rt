@@ -1,4 +1,5 @@
-//! Sessions: lines are read, each is answered from the versions of an image that a worker's seat pins, and the replies are written.
+//! Sessions: lines are read, each is answered from the versions of an image that a worker's seat
+//! pins, and the replies are written.
 #![tactic(auto)]
 
 mod desk;

@@ -17,7 +17,9 @@ use std::sync::Wait;
 impl<'a, R: Wait, N: Drop, T: Versions<Notice = N>, G> Desk<'a, R, T, G> {
     /// Orders the feed. The reply is made first, so that no order is put that can't be told.
     pub(crate) fn order_feed<O: Orders>(&self, orders: &mut O, feed: &str) -> Reply
-        ensures { (put : List OrderValue) × (O.asked orders.new ≡ O.asked orders.old ++ put) × (OrderIsMet feed.now put (text_of_reply result) ⊎ ((put ≡ []) × (text_of_reply result ≡ memory_line))) }
+        ensures { (put : List OrderValue) × (O.asked orders.new ≡ O.asked orders.old ++ put)
+            × (OrderIsMet feed.now put (text_of_reply result)
+            ⊎ ((put ≡ []) × (text_of_reply result ≡ memory_line))) }
     {
         let Ok(line) = load_line(self.alloc, feed) else {
             return Reply::refusal(Refusal::OutOfMemory);
@@ -28,7 +30,8 @@ impl<'a, R: Wait, N: Drop, T: Versions<Notice = N>, G> Desk<'a, R, T, G> {
         }
     }
 
-    /// Orders the feed and waits for its version. The seat learns of that version before it is told, so that it pins no older one.
+    /// Orders the feed and waits for its version. The seat learns of that version before it is
+    /// told, so that it pins no older one.
     pub(crate) fn load_feed<O: Orders<Notice = N>>(
         &self,
         seat: &mut T::Seat,

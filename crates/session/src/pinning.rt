@@ -19,7 +19,8 @@ impl<'a, R: Wait, T: Versions, G> Desk<'a, R, T, G> {
         ensures fits { T.fits self.now.shelves.now seat.new }
         ensures number { T.number seat.new ≡ T.number seat.old }
         ensures learns { Learns (T.known seat.old) (T.value seat.old) (T.known seat.new) (T.value seat.new) }
-        ensures met { IsMet self.now.form (T.number seat.old) (T.value seat.old) (asks pin) (text_of_reply result) (T.value seat.new) }
+        ensures met { IsMet self.now.form (T.number seat.old) (T.value seat.old) (asks pin) (text_of_reply result)
+            (T.value seat.new) }
     {
         if let Err(fault) = self.shelves.pin(self.rt, seat) {
             return Reply::pin_fault(fault);
@@ -43,7 +44,8 @@ impl<'a, R: Wait, T: Versions, G> Desk<'a, R, T, G> {
         ensures fits { T.fits self.now.shelves.now seat.new }
         ensures number { T.number seat.new ≡ T.number seat.old }
         ensures learns { Learns (T.known seat.old) (T.value seat.old) (T.known seat.new) (T.value seat.new) }
-        ensures met { IsMet self.now.form (T.number seat.old) (T.value seat.old) (asks release) (text_of_reply result) (T.value seat.new) }
+        ensures met { IsMet self.now.form (T.number seat.old) (T.value seat.old) (asks release)
+            (text_of_reply result) (T.value seat.new) }
     {
         match self.shelves.release(self.rt, seat) {
             Ok(()) => Reply::fixed(release_line()),

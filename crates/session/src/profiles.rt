@@ -34,7 +34,8 @@ impl<'a, R: Wait, T: Versions, G: Gate> Desk<'a, R, T, G> {
         ensures fits { T.fits self.now.shelves.now seat.new }
         ensures number { T.number seat.new ≡ T.number seat.old }
         ensures learns { Learns (T.known seat.old) (T.value seat.old) (T.known seat.new) (T.value seat.new) }
-        ensures met { IsMet self.now.form (T.number seat.old) (T.value seat.old) (asks (profile (ask_value ask.now))) (text_of_reply result) (T.value seat.new) }
+        ensures met { IsMet self.now.form (T.number seat.old) (T.value seat.old)
+            (asks (profile (ask_value ask.now))) (text_of_reply result) (T.value seat.new) }
     {
         if let Some(edition) = T::edition(seat) {
             return answer_from(self.alloc, self.form, edition, self.gate, ask);
@@ -49,7 +50,8 @@ impl<'a, R: Wait, T: Versions, G: Gate> Desk<'a, R, T, G> {
         ensures fits { T.fits self.now.shelves.now seat.new }
         ensures number { T.number seat.new ≡ T.number seat.old }
         ensures learns { Learns (T.known seat.old) (T.value seat.old) (T.known seat.new) (T.value seat.new) }
-        ensures met { IsMet self.now.form (T.number seat.old) (T.value seat.old) (asks (profile (ask_value ask.now))) (text_of_reply result) (T.value seat.new) }
+        ensures met { IsMet self.now.form (T.number seat.old) (T.value seat.old)
+            (asks (profile (ask_value ask.now))) (text_of_reply result) (T.value seat.new) }
     {
         if let Err(fault) = self.shelves.pin(self.rt, seat) {
             return Reply::pin_fault(fault);
@@ -71,7 +73,8 @@ fn answer_from<G: Gate>(
     gate: &G,
     ask: &Ask<'_>,
 ) -> Reply
-    ensures { IsProfileReply form (arc_value edition.now.image) edition.now.version (ask_value ask.now) (text_of_reply result)
+    ensures { IsProfileReply form (arc_value edition.now.image) edition.now.version (ask_value ask.now)
+        (text_of_reply result)
         ⊎ (text_of_reply result ≡ memory_line) }
 {
     let image: &Verified = &edition.image;

@@ -51,7 +51,9 @@ pub fn serve<
     ensures profiles { TellPublished (T.known seat.new) (T.value seat.old) (T.value seat.new) }
     ensures released { (T.value seat.new).held ≡ None }
     ensures session { (last : SeatValue) × LastRelease (T.number seat.old) last (T.value seat.new)
-        × Serves Bare (T.number seat.old) result (In.remaining (inner_of reader.old)) (In.remaining (inner_of reader.new)) (Out.contents (inner_of writer.old)) (Out.contents (inner_of writer.new))
+        × Serves Bare (T.number seat.old) result (In.remaining (inner_of reader.old))
+        (In.remaining (inner_of reader.new)) (Out.contents (inner_of writer.old))
+        (Out.contents (inner_of writer.new))
         (failures_of reader.old < failures_of reader.new) (failures_of writer.old < failures_of writer.new) (T.value seat.old) (O.asked orders.old) last (O.asked orders.new) }
 {
     let desk = Desk::new(rt, alloc, shelves, gate);
@@ -78,7 +80,9 @@ impl<'a, R: Wait, N: Drop, T: Versions<Notice = N>, G: Gate> Desk<'a, R, T, G> {
         ensures profiles { TellPublished (T.known seat.new) (T.value seat.old) (T.value seat.new) }
         ensures released { (T.value seat.new).held ≡ None }
         ensures session { (last : SeatValue) × LastRelease (T.number seat.old) last (T.value seat.new)
-            × Serves self.now.form (T.number seat.old) result (In.remaining (inner_of streams.old.reader)) (In.remaining (inner_of streams.new.reader)) (Out.contents (inner_of streams.old.writer)) (Out.contents (inner_of streams.new.writer))
+            × Serves self.now.form (T.number seat.old) result (In.remaining (inner_of streams.old.reader))
+            (In.remaining (inner_of streams.new.reader)) (Out.contents (inner_of streams.old.writer))
+            (Out.contents (inner_of streams.new.writer))
             (failures_of streams.old.reader < failures_of streams.new.reader) (failures_of streams.old.writer < failures_of streams.new.writer) (T.value seat.old) (O.asked orders.old) last (O.asked orders.new) }
     {
         let outcome = self.answer_lines(&mut streams.reader, &mut streams.writer, seat, orders);
@@ -114,7 +118,9 @@ impl<'a, R: Wait, N: Drop, T: Versions<Notice = N>, G: Gate> Desk<'a, R, T, G> {
         ensures fits { T.fits self.now.shelves.now seat.new }
         ensures number { T.number seat.new ≡ T.number seat.old }
         ensures learns { Learns (T.known seat.old) (T.value seat.old) (T.known seat.new) (T.value seat.new) }
-        ensures session { Serves self.now.form (T.number seat.old) result (In.remaining (inner_of reader.old)) (In.remaining (inner_of reader.new)) (Out.contents (inner_of writer.old)) (Out.contents (inner_of writer.new))
+        ensures session { Serves self.now.form (T.number seat.old) result (In.remaining (inner_of reader.old))
+            (In.remaining (inner_of reader.new)) (Out.contents (inner_of writer.old))
+            (Out.contents (inner_of writer.new))
             (failures_of reader.old < failures_of reader.new) (failures_of writer.old < failures_of writer.new) (T.value seat.old) (O.asked orders.old) (T.value seat.new) (O.asked orders.new) }
     {
         let mut lines = LineReader::new(self.alloc);
@@ -161,9 +167,12 @@ impl<'a, R: Wait, N: Drop, T: Versions<Notice = N>, G: Gate> Desk<'a, R, T, G> {
         ensures failures { MatchResult result
             (λ _. failures_of writer.new ≡ failures_of writer.old)
             (λ _. failures_of writer.new ≡ one_more (failures_of writer.old)) }
-        ensures turn { (l : List ℕ) → ShowsLine line.entry l → (t : Turn) × (t.line ≡ l) × TurnsTo self.now.form (T.number seat.old) (T.value seat.old) (O.asked orders.old) t (T.value seat.new) (O.asked orders.new) × MatchResult result
+        ensures turn { (l : List ℕ) → ShowsLine line.entry l
+            → (t : Turn) × (t.line ≡ l) × TurnsTo self.now.form (T.number seat.old) (T.value seat.old)
+            (O.asked orders.old) t (T.value seat.new) (O.asked orders.new) × MatchResult result
             (λ _. Appends (Out.contents (inner_of writer.old)) (Out.contents (inner_of writer.new)) t.reply)
-            (λ _. (n : ℕ) × Appends (Out.contents (inner_of writer.old)) (Out.contents (inner_of writer.new)) (take n t.reply)) }
+            (λ _. (n : ℕ) × Appends (Out.contents (inner_of writer.old)) (Out.contents (inner_of writer.new))
+            (take n t.reply)) }
     {
         let reply = self.turn(line, seat, orders);
         let written = writer.write_line(reply.bytes());

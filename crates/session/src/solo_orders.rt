@@ -26,10 +26,12 @@ enum NotLoaded {
     Refused(PublishFault),
 }
 
-/// Takes orders over shelves for one worker: the image of the first feed of the name leaves the list, is published, and the shelves are
-/// collected, before the order returns. So nobody waits long for one.
+/// Takes orders over shelves for one worker: the image of the first feed of the name leaves the
+/// list, is published, and the shelves are collected, before the order returns. So nobody waits
+/// long for one.
 ///
-/// A name that no feed of the list has is unknown. A publish that is refused is told as too many orders to whoever doesn't wait.
+/// A name that no feed of the list has is unknown. A publish that is refused is told as too many
+/// orders to whoever doesn't wait.
 #[derive(Drop)]
 pub struct SoloOrders<'a, N: Drop, L: Drop, T: Versions<Notice = N> + Loads<Loader = L>> {
     shelves: &'a T,
@@ -82,7 +84,8 @@ fn publish_first<R: Wait, N: Drop, T: Versions<Notice = N> + Loads>(
 ) -> Result<(u64, Option<N>), NotLoaded>
     requires { T.Loads.loads shelves.now loader.old }
     ensures loads { T.Loads.loads shelves.now loader.new }
-    ensures step { LoadStep feed.now feeds.old.items (T.Loads.answers loader.old) result feeds.new.items (T.Loads.answers loader.new) }
+    ensures step { LoadStep feed.now feeds.old.items (T.Loads.answers loader.old) result feeds.new.items
+        (T.Loads.answers loader.new) }
     ensures notice { IfOk result (λ loaded. IfSome loaded.1 (λ notice. T.Versions.noted notice ≡ loaded.0)) }
 {
     let Some(place) = place_in(feeds, feed) else {

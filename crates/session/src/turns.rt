@@ -27,7 +27,9 @@ impl<'a, R: Wait, N: Drop, T: Versions<Notice = N>, G: Gate> Desk<'a, R, T, G> {
         ensures fits { T.fits self.now.shelves.now seat.new }
         ensures number { T.number seat.new ≡ T.number seat.old }
         ensures learns { Learns (T.known seat.old) (T.value seat.old) (T.known seat.new) (T.value seat.new) }
-        ensures turn { (l : List ℕ) → ShowsLine line.entry l → HasTurn self.now.form (T.number seat.old) l (text_of_reply result) (T.value seat.old) (O.asked orders.old) (T.value seat.new) (O.asked orders.new) }
+        ensures turn { (l : List ℕ) → ShowsLine line.entry l
+            → HasTurn self.now.form (T.number seat.old) l (text_of_reply result) (T.value seat.old)
+            (O.asked orders.old) (T.value seat.new) (O.asked orders.new) }
     {
         let bytes = match line {
             Line::Whole(bytes) => bytes,

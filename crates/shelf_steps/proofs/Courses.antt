@@ -86,12 +86,18 @@ module _ {A : Type 0} where
 module _ (c : Course) (e : Event) (r : Reply) (t : State) (images : List ImageValue) where
   pub begins_longer : (k : Known) (a : Option ℕ) → actor e ≢ a → IsPrefix c.images images → Begins k a c → Begins k a (extended c e r t images)
   begins_longer k a other more b = record {
-    events = (b.events.0 ++ e ∷ [], sym (append_assoc k.events b.events.0 (e ∷ [])) ∙ ap (λ (l : List Event). l ++ e ∷ []) b.events.1, none_snoc a b.events.0 e other b.events.2);
+    events = (
+      b.events.0 ++ e ∷ [],
+      sym (append_assoc k.events b.events.0 (e ∷ []))
+          ∙ ap (λ (l : List Event). l ++ e ∷ []) b.events.1,
+      none_snoc a b.events.0 e other b.events.2,
+    );
     replies = prefix_snoc k.replies c.replies r b.replies;
     images = prefix_trans k.images c.images images b.images more;
   }
 
-  pub happened : (k : Known) → Begins k (actor e) c → Goes (extended c e r t images) → IsPrefix c.images images → Happened k e r (all_of (extended c e r t images))
+  pub happened : (k : Known) → Begins k (actor e) c → Goes (extended c e r t images) → IsPrefix c.images images
+      → Happened k e r (all_of (extended c e r t images))
   happened k b g more = record {
     state = t;
     goes = g;
@@ -100,14 +106,16 @@ module _ (c : Course) (e : Event) (r : Reply) (t : State) (images : List ImageVa
     images = prefix_trans k.images c.images images b.images more;
   }
 
-  pub goes_on : Goes c → Step c.state e r t → length images ≡ newest t → ((i edition : ℕ) → slice_get t.editions i ≡ Some edition → edition ≡ i) → Goes (extended c e r t images)
+  pub goes_on : Goes c → Step c.state e r t → length images ≡ newest t
+      → ((i edition : ℕ) → slice_get t.editions i ≡ Some edition → edition ≡ i) → Goes (extended c e r t images)
   goes_on g stepped many numbered = record {
     run = list_grows_with_replies start c.state t c.events (c.events ++ e ∷ []) e c.replies (c.replies ++ r ∷ []) r g.run refl refl stepped;
     as_many = many;
     numbered = numbered;
   }
 
-pub goes_same : (c : Course) (e : Event) (r : Reply) (t : State) → Goes c → Step c.state e r t → t.editions ≡ c.state.editions → Goes (extended c e r t c.images)
+pub goes_same : (c : Course) (e : Event) (r : Reply) (t : State) → Goes c → Step c.state e r t
+    → t.editions ≡ c.state.editions → Goes (extended c e r t c.images)
 goes_same c e r t g stepped same =
     goes_on c e r t c.images g stepped (g.as_many ∙ sym (ap (λ (l : List ℕ). length l) same))
     (λ i edition at. g.numbered i edition (ap (λ (l : List ℕ). slice_get l i) (sym same) ∙ at))
@@ -119,17 +127,21 @@ image_later : (images more : List ImageValue) (v : ℕ) (x : ImageValue) → IsP
 image_later images more zero x p e = absurd (cc)
 image_later images more (suc n) x p e = subst (λ (l : List ImageValue). slice_get l n ≡ Some x) p.1 (slice_get-append images p.0 n x e)
 
-pub edition_later : (images more : List ImageValue) (v : ℕ) (edition : Option Edition) → IsPrefix images more → IsEdition images v edition → IsEdition more v edition
+pub edition_later : (images more : List ImageValue) (v : ℕ) (edition : Option Edition) → IsPrefix images more
+    → IsEdition images v edition → IsEdition more v edition
 edition_later images more v edition p i = (i.0, i.1, i.2, image_later images more v _ p i.3)
 
-has_later : (images more : List ImageValue) (w : Worker) (edition : Option Edition) → IsPrefix images more → HasEdition images w edition → HasEdition more w edition
+has_later : (images more : List ImageValue) (w : Worker) (edition : Option Edition) → IsPrefix images more
+    → HasEdition images w edition → HasEdition more w edition
 has_later images more (Worker.Holding k v) edition p h = edition_later images more v edition p h
 has_later images more Worker.Idle edition p h = h
 has_later images more (Worker.Looked v k) edition p h = h
 has_later images more (Worker.Late k) edition p h = h
 
 -- what another worker knows after a step that leaves it alone
-pub other_fits : (c d : Course) (u : WorkerView) → slice_get d.state.workers u.number ≡ slice_get c.state.workers u.number → get_or d.state.seen u.number 0 ≡ get_or c.state.seen u.number 0
+pub other_fits : (c d : Course) (u : WorkerView)
+    → slice_get d.state.workers u.number ≡ slice_get c.state.workers u.number
+    → get_or d.state.seen u.number 0 ≡ get_or c.state.seen u.number 0
     → c.state.current ≤ d.state.current → IsPrefix c.images d.images → Begins u.known (Some u.number) d
     → joined_by u.number d.events ≡ joined_by u.number c.events → WorkerFits c u → WorkerFits d u
 other_fits c d u now seen up more known joined f = record {

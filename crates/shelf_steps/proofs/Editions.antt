@@ -17,7 +17,9 @@ laid_at items new rest e first n is long =
 pub one_popped : (items old new rest : List Edition) (e : Edition) → old ++ rest ≡ items → old ≡ new ++ e ∷ [] → new ++ e ∷ rest ≡ items
 one_popped items old new rest e all is = sym (append_assoc new (e ∷ []) rest) ∙ (ap (λ (l : List Edition). l ++ rest) (sym is) ∙ all)
 
-pub each_grows : (version : ℕ) (image : ImageValue) (n : ℕ) (items : List Edition) (e : Edition) → EachHas version image n items → e.version ≡ version → arc_value e.image ≡ image → EachHas version image (n + 1) (items ++ e ∷ [])
+pub each_grows : (version : ℕ) (image : ImageValue) (n : ℕ) (items : List Edition) (e : Edition)
+    → EachHas version image n items → e.version ≡ version → arc_value e.image ≡ image
+    → EachHas version image (n + 1) (items ++ e ∷ [])
 each_grows version image n items e all is its = (
   longer items n all.0,
   λ j less. dite (ℕ_discrete j n)
@@ -33,6 +35,7 @@ each_grows version image n items e all is its = (
         more (x ∷ xs) = let r = more xs in omega arith
 
 -- sixteen editions, laid from the first slot of a shelf on
-pub laid_have : (version : ℕ) (image : ImageValue) (items : List Edition) (k : ℕ) → EachHas version image 16 items → AllHave version image k (laid items (16 * k))
+pub laid_have : (version : ℕ) (image : ImageValue) (items : List Edition) (k : ℕ) → EachHas version image 16 items
+    → AllHave version image k (laid items (16 * k))
 laid_have version image items k all j from to =
     let h = all.1 (j - 16 * k) (omega arith) in (h.0, h.1, h.2, h.3)

@@ -10,16 +10,26 @@ use Rattle.shelf_steps.specs.declared.views.WorkerView.{WorkerView}
 use Rattle.shelf_steps.specs.declared.views.LoaderView.{LoaderView}
 use Rattle.shelf_steps.specs.declared.views.View.{View}
 use Rattle.shelf_steps.specs.Ruled.{Ruled}
-use Rattle.shelf_steps.specs.Plays.{OfWorker, Mine, Looks, Takes, TakesFound, TakesAs, Leaves, GivesBack, OpensOn, PublishesOn, ClosesOn, CollectsOn, CollectsFound, GathersOn, PutsBackOn, IsLate, looked_at, is_open, newest_of}
+use Rattle.shelf_steps.specs.Plays.{OfWorker, Mine, Looks, Takes, TakesFound, TakesAs, Leaves, GivesBack, OpensOn}
+use Rattle.shelf_steps.specs.Plays.{PublishesOn, ClosesOn, CollectsOn, CollectsFound, GathersOn, PutsBackOn, IsLate}
+use Rattle.shelf_steps.specs.Plays.{looked_at, is_open, newest_of}
 use Rattle.shelf_steps.specs.Laws.{Shelved, IsLoader}
-use Rattle.shelf_steps.specs.Events.{IsEvent, IsWorkers, LooksAreEvents, TakesAreEvents, DropsAreEvents, OpensAreEvents, PublishesAreEvents, ClosesAreEvents, CollectsAreEvents, SpareTriesAreEvents, LateTakesTell, LateTakesRise}
+use Rattle.shelf_steps.specs.Events.{IsEvent, IsWorkers, LooksAreEvents, TakesAreEvents, DropsAreEvents, OpensAreEvents}
+use Rattle.shelf_steps.specs.Events.{PublishesAreEvents, ClosesAreEvents, CollectsAreEvents, SpareTriesAreEvents}
+use Rattle.shelf_steps.specs.Events.{LateTakesTell, LateTakesRise}
 use Rattle.shelf_steps.proofs.Says.{looks_are}
 
 looks_so : (u : View) (c : List (ℕ × Option Edition)) (m' : Mine) (n : ℕ) → Looks (u, c) n m' → IsWorkers Event.Look (Reply.Looked (n / 8) (n % 8)) u m'.0
 looks_so (View.Loading l) c m' n h = absurd h
 looks_so (View.Noting x') c m' n h = absurd h
 looks_so View.Spent c m' n h = absurd h
-looks_so (View.Working v) c m' n h = subst (λ (m : Mine). IsWorkers Event.Look (Reply.Looked (n / 8) (n % 8)) (View.Working v) m.0) (sym h.1) (v.number, refl, refl, h.2)
+looks_so (View.Working v) c m' n h = subst
+    (λ (m : Mine). IsWorkers Event.Look (Reply.Looked (n / 8) (n % 8)) (View.Working v) m.0) (sym h.1) (
+      v.number,
+      refl,
+      refl,
+      h.2,
+    )
 
 pub looks_events : LooksAreEvents
 looks_events m m' n h = looks_so m.0 m.1 m' n h
@@ -60,17 +70,23 @@ drops_so (View.Working v) c m' h = elim h [
 pub drops_events : DropsAreEvents
 drops_events m m' h = drops_so m.0 m.1 m' h
 
-opens_so : (u : View) (c : List (ℕ × Option Edition)) (m' : Mine) (k : ℕ) → OpensOn k (u, c) m' → (edition version : ℕ) × IsEvent u (Event.Open edition) (Reply.Opened version k) m'.0
+opens_so : (u : View) (c : List (ℕ × Option Edition)) (m' : Mine) (k : ℕ) → OpensOn k (u, c) m'
+    → (edition version : ℕ) × IsEvent u (Event.Open edition) (Reply.Opened version k) m'.0
 opens_so (View.Working v) c m' k h = absurd h
 opens_so (View.Noting x') c m' k h = absurd h
 opens_so View.Spent c m' k h = absurd h
-opens_so (View.Loading l) c m' k h =
-    (newest_of l, newest_of l + 1, subst (λ (m : Mine). IsEvent (View.Loading l) (Event.Open (newest_of l)) (Reply.Opened (newest_of l + 1) k) m.0) (sym h.5) h.6)
+opens_so (View.Loading l) c m' k h = (
+  newest_of l,
+  newest_of l + 1,
+  subst (λ (m : Mine).
+      IsEvent (View.Loading l) (Event.Open (newest_of l)) (Reply.Opened (newest_of l + 1) k) m.0) (sym h.5) h.6,
+)
 
 pub opens_events : OpensAreEvents
 opens_events m m' k h = opens_so m.0 m.1 m' k h
 
-publishes_so : (u : View) (c : List (ℕ × Option Edition)) (m' : Mine) (version k : ℕ) → PublishesOn version k (u, c) m' → IsEvent u Event.Publish (Reply.Published version) m'.0
+publishes_so : (u : View) (c : List (ℕ × Option Edition)) (m' : Mine) (version k : ℕ) → PublishesOn version k (u, c) m'
+    → IsEvent u Event.Publish (Reply.Published version) m'.0
 publishes_so (View.Working v) c m' version k h = absurd h
 publishes_so (View.Noting x') c m' version k h = absurd h
 publishes_so View.Spent c m' version k h = absurd h
@@ -103,7 +119,8 @@ collects_so (View.Loading l) c m' k version n h = collects_found_so l m' k versi
 pub collects_events : CollectsAreEvents
 collects_events m m' k version n h = collects_so m.0 m.1 m' k version n h
 
-spares_so : (u : View) (c : List (ℕ × Option Edition)) (m' : Mine) (k : ℕ) → GathersOn k (u, c) m' ⊎ PutsBackOn k (u, c) m' → IsEvent u (Event.Collect k) Reply.NotNow m'.0
+spares_so : (u : View) (c : List (ℕ × Option Edition)) (m' : Mine) (k : ℕ)
+    → GathersOn k (u, c) m' ⊎ PutsBackOn k (u, c) m' → IsEvent u (Event.Collect k) Reply.NotNow m'.0
 spares_so (View.Working v) c m' k h = elim h [ inl a ↦ absurd a | inr b ↦ absurd b ]
 spares_so (View.Noting x') c m' k h = elim h [ inl a ↦ absurd a | inr b ↦ absurd b ]
 spares_so View.Spent c m' k h = elim h [ inl a ↦ absurd a | inr b ↦ absurd b ]
@@ -119,11 +136,13 @@ spares_events m m' k h = spares_so m.0 m.1 m' k h
 abbrev Passed : ℕ → View → Type 0
 Passed version u = OfWorker u (λ v. (v.last ≡ version) × (v.passed ≡ true))
 
-late_found : (v : WorkerView) (c : List (ℕ × Option Edition)) (version k n : ℕ) (b : Bool) (m' : Mine) → TakesFound v c version k n b m' → IsLate k m'.0 → OfWorker m'.0 (λ x. (x.last ≡ v.last) × (x.passed ≡ true))
+late_found : (v : WorkerView) (c : List (ℕ × Option Edition)) (version k n : ℕ) (b : Bool) (m' : Mine)
+    → TakesFound v c version k n b m' → IsLate k m'.0 → OfWorker m'.0 (λ x. (x.last ≡ v.last) × (x.passed ≡ true))
 late_found v c version k n true m' h late = absurd (let z = subst (λ (m : Mine). IsLate k m.0) h.2 late in cc)
 late_found v c version k n false m' h late = subst (λ (m : Mine). OfWorker m.0 (λ x. (x.last ≡ v.last) × (x.passed ≡ true))) (sym h.1) (refl, refl)
 
-late_so : (u : View) (c : List (ℕ × Option Edition)) (m1 m2 : Mine) (n word : ℕ) → Looks (u, c) n m1 → Takes m1 word m2 → IsLate (n % 8) m2.0 → Passed (n / 8) m2.0
+late_so : (u : View) (c : List (ℕ × Option Edition)) (m1 m2 : Mine) (n word : ℕ) → Looks (u, c) n m1 → Takes m1 word m2
+    → IsLate (n % 8) m2.0 → Passed (n / 8) m2.0
 late_so (View.Loading l) c m1 m2 n word look take late = absurd look
 late_so (View.Noting x') c m1 m2 n word look take late = absurd look
 late_so View.Spent c m1 m2 n word look take late = absurd look
@@ -131,7 +150,8 @@ late_so (View.Working v) c m1 m2 n word look take late =
     let t : TakesFound (looked_at v n look.0) c (n / 8) (n % 8) word (is_open word (n / 8)) m2 = subst (λ (m : Mine). Takes m word m2) look.1 take in
     late_found (looked_at v n look.0) c (n / 8) (n % 8) word (is_open word (n / 8)) m2 t late
 
-tells_so : (u : View) (version : ℕ) → Passed version u → (table : Shelved) (l : LoaderView) (i : ℕ) → Ruled table → IsLoader table l → get_elem? table.views i ≡ some u → version < l.current
+tells_so : (u : View) (version : ℕ) → Passed version u → (table : Shelved) (l : LoaderView) (i : ℕ) → Ruled table
+    → IsLoader table l → get_elem? table.views i ≡ some u → version < l.current
 tells_so (View.Loading x) version p table l i r loads at = absurd p
 tells_so (View.Noting x') version p table l i r loads at = absurd p
 tells_so View.Spent version p table l i r loads at = absurd p

@@ -1,7 +1,8 @@
 -- A load, and a try at a closing shelf, step after step.
 use Rattle.reasoning.proofs.ListLemmas.{slice_get-set_same, slice_get-set_other}
 use Rattle.image_layout.specs.Image.{ImageValue}
-use Rattle.std.proofs.Common.{◌≡◌, ◌≢◌, ℕ, ◌+◌, ◌*◌, ◌<◌, ◌≤◌, ◌%◌, ◌==◌, Bool, true, false, List, [], ◌∷◌, ◌++◌, length, set, Option, Some, None, slice_get, refl, ap, sym, ◌∙◌, subst, arith}
+use Rattle.std.proofs.Common.{◌≡◌, ◌≢◌, ℕ, ◌+◌, ◌*◌, ◌<◌, ◌≤◌, ◌%◌, ◌==◌, Bool, true, false, List, [], ◌∷◌, ◌++◌}
+use Rattle.std.proofs.Common.{length, set, Option, Some, None, slice_get, refl, ap, sym, ◌∙◌, subst, arith}
 use Rattle.std.proofs.lemmas.Option.{slice_get_within}
 use Rattle.std.specs.Arc.{arc_value}
 use Rattle.version_core.specs.declared.event.Event.{Event}
@@ -13,7 +14,9 @@ use Rattle.shelf_steps.specs.declared.views.LoaderView.{LoaderView}
 use Rattle.shelf_steps.specs.declared.views.View.{View}
 use Rattle.shelf_steps.specs.Course.{Happened}
 use Rattle.shelf_steps.specs.Slots.{down_from, nothings}
-use Rattle.shelf_steps.specs.Plays.{OfLoader, Mine, newest_of, with_open, with_free, with_hand, HasImage, IsBlock, AllHave, OpensOn, PublishesOn, ClosesOn, CollectsFound, CollectsOn, GathersOn, PutsBackOn, MayOpenOn, MayPublish, MayClose, MayCollect, MayGather, MayPutBack}
+use Rattle.shelf_steps.specs.Plays.{OfLoader, Mine, newest_of, with_open, with_free, with_hand, HasImage, IsBlock}
+use Rattle.shelf_steps.specs.Plays.{AllHave, OpensOn, PublishesOn, ClosesOn, CollectsFound, CollectsOn, GathersOn}
+use Rattle.shelf_steps.specs.Plays.{PutsBackOn, MayOpenOn, MayPublish, MayClose, MayCollect, MayGather, MayPutBack}
 use Rattle.shelf_steps.specs.Loading.{MayLoad, Loads, Frees, FindsBusy}
 
 abbrev IsReady : ℕ → ℕ → ℕ → View → Type 0
@@ -40,9 +43,13 @@ block_front : (f g : ℕ → Option Edition) (k : ℕ) → down_from f (16 * k) 
 block_front f g k e = ap front_of e
 
 one_image : (version version' : ℕ) (image image' : ImageValue) (x : Option Edition) → HasImage version image x → HasImage version' image' x → image' ≡ image
-one_image version version' image image' x a b = let z : Some a.0 ≡ Some b.0 = sym a.1 ∙ b.1 in let same : a.0 ≡ b.0 = cc in sym b.3 ∙ (ap (λ (e : Edition). arc_value e.image) (sym same) ∙ a.3)
+one_image version version' image image' x a b = let z : Some a.0 ≡ Some b.0 = sym a.1 ∙ b.1 in let same : a.0 ≡ b.0 =
+    cc in sym b.3
+    ∙ (ap (λ (e : Edition). arc_value e.image) (sym same) ∙ a.3)
 
-module _ (shelf version before : ℕ) (l : LoaderView) (image : ImageValue) (f : ℕ → Option Edition) (may : MayLoad shelf version before l) (all : AllHave version image shelf f) (c : List (ℕ × Option Edition)) (m1 m2 : Mine)
+module _ (shelf version before : ℕ) (l : LoaderView) (image : ImageValue) (f : ℕ
+    → Option Edition) (may : MayLoad shelf version before l) (all : AllHave version image shelf f) (c : List (ℕ
+    × Option Edition)) (m1 m2 : Mine)
     (g : GathersOn shelf (View.Loading l, c) m1) (filled : m2 ≡ (m1.0, down_from f (16 * shelf) 16 [])) where
   second : m2 ≡ (View.Loading (with_hand l (Some shelf) g.0), down_from f (16 * shelf) 16 [])
   second = filled ∙ ap (λ (m : Mine). (m.0, down_from f (16 * shelf) 16 [])) g.1
@@ -51,18 +58,31 @@ module _ (shelf version before : ℕ) (l : LoaderView) (image : ImageValue) (f :
   same_newest = ap (λ (x : List ImageValue). length x) g.2.1
 
   may_open_now : version ≤ 1000000000 → MayOpenOn shelf version m2.0 m2.1
-  may_open_now few = subst (λ (m : Mine). MayOpenOn shelf version m.0 m.1) (sym second) (may.free, refl, may.current ∙ sym same_newest, may.next ∙ ap (λ n. n + 1) (sym same_newest), few, (image, f, refl, all))
+  may_open_now few = subst (λ (m : Mine). MayOpenOn shelf version m.0 m.1) (sym second) (
+    may.free,
+    refl,
+    may.current ∙ sym same_newest,
+    may.next ∙ ap (λ n. n + 1) (sym same_newest),
+    few,
+    (image, f, refl, all),
+  )
 
   opened_so : (m3 : Mine) → OpensOn shelf m2 m3
-      → (known : Known) × (m3 ≡ (View.Loading (with_open (with_hand l (Some shelf) g.0) shelf version known), [])) × Happened g.0 (Event.Open (newest_of l)) (Reply.Opened version shelf) known × (known.images ≡ l.known.images ++ image ∷ [])
+      → (known : Known) × (m3 ≡ (View.Loading (with_open (with_hand l (Some shelf) g.0) shelf version known), []))
+      × Happened g.0 (Event.Open (newest_of l)) (Reply.Opened version shelf) known
+      × (known.images ≡ l.known.images ++ image ∷ [])
   opened_so m3 o =
-      let h : OpensOn shelf (View.Loading (with_hand l (Some shelf) g.0), down_from f (16 * shelf) 16 []) m3 = subst (λ (m : Mine). OpensOn shelf m m3) second o in
+      let h : OpensOn shelf (View.Loading (with_hand l (Some shelf) g.0), down_from f (16 * shelf) 16 []) m3 =
+      subst (λ (m : Mine). OpensOn shelf m m3) second o in
       let next : length g.0.images + 1 ≡ version = ap (λ n. n + 1) same_newest ∙ sym may.next in
       let is : f (16 * shelf + 15) ≡ h.1 (16 * shelf + 15) = block_front f h.1 shelf h.3 in
-      let one : h.0 ≡ image = one_image version (length g.0.images + 1) image h.0 (h.1 (16 * shelf + 15)) (subst (λ (x : Option Edition). HasImage version image x) is (all (16 * shelf + 15) (omega arith) (omega arith))) (h.4 (16 * shelf + 15) (omega arith) (omega arith)) in (
+      let one : h.0 ≡ image = one_image version (length g.0.images + 1) image h.0 (h.1 (16 * shelf + 15))
+      (subst (λ (x : Option Edition). HasImage version image x) is
+      (all (16 * shelf + 15) (omega arith) (omega arith))) (h.4 (16 * shelf + 15) (omega arith) (omega arith)) in (
         h.2,
         h.5 ∙ ap (λ n. (View.Loading (with_open (with_hand l (Some shelf) g.0) shelf n h.2), [])) next,
-        subst (λ n. Happened g.0 (Event.Open (newest_of l)) (Reply.Opened n shelf) h.2) next (subst (λ n. Happened g.0 (Event.Open n) (Reply.Opened (length g.0.images + 1) shelf) h.2) same_newest h.6),
+        subst (λ n. Happened g.0 (Event.Open (newest_of l)) (Reply.Opened n shelf) h.2) next
+            (subst (λ n. Happened g.0 (Event.Open n) (Reply.Opened (length g.0.images + 1) shelf) h.2) same_newest h.6),
         h.7 ∙ (ap (λ (x : List ImageValue). x ++ h.0 ∷ []) g.2.1 ∙ ap (λ (x : ImageValue). l.known.images ++ x ∷ []) one),
       )
 
@@ -70,7 +90,8 @@ module _ (shelf version before : ℕ) (l : LoaderView) (image : ImageValue) (f :
   older = let a = may.current in let b = may.next in omega arith
 
   may_publish_now : (m3 : Mine) → OpensOn shelf m2 m3 → MayPublish version shelf m3.0
-  may_publish_now m3 o = subst (λ (m : Mine). MayPublish version shelf m.0) (sym (opened_so m3 o).1) (slice_get-set_same l.shelves shelf (Shelf.Open version) (slice_get_within l.shelves shelf _ may.free), older)
+  may_publish_now m3 o = subst (λ (m : Mine). MayPublish version shelf m.0) (sym (opened_so m3 o).1)
+      (slice_get-set_same l.shelves shelf (Shelf.Open version) (slice_get_within l.shelves shelf _ may.free), older)
 
   other_shelf : before ≢ shelf
   other_shelf e = let z : Some Shelf.Free ≡ Some (Shelf.Open l.current) = sym may.free ∙ (ap (λ n. slice_get l.shelves n) (sym e) ∙ may.before_open) in cc
@@ -109,61 +130,83 @@ module _ (shelf version before : ℕ) (l : LoaderView) (image : ImageValue) (f :
           refl,
         )
 
-pub may_open_then : (shelf version before : ℕ) (u : View) (image : ImageValue) (f : ℕ → Option Edition) (c : List (ℕ × Option Edition)) (m1 m2 : Mine) → IsReady shelf version before u → version ≤ 1000000000 → AllHave version image shelf f
+pub may_open_then : (shelf version before : ℕ) (u : View) (image : ImageValue) (f : ℕ
+    → Option Edition) (c : List (ℕ × Option Edition)) (m1 m2 : Mine) → IsReady shelf version before u
+    → version ≤ 1000000000 → AllHave version image shelf f
     → GathersOn shelf (u, c) m1 → m2 ≡ (m1.0, down_from f (16 * shelf) 16 []) → MayOpenOn shelf version m2.0 m2.1
 may_open_then shelf version before (View.Working v) image f c m1 m2 may few all g filled = absurd may
 may_open_then shelf version before (View.Noting x') image f c m1 m2 may few all g filled = absurd may
 may_open_then shelf version before View.Spent image f c m1 m2 may few all g filled = absurd may
-may_open_then shelf version before (View.Loading l) image f c m1 m2 may few all g filled = may_open_now shelf version before l image f may all c m1 m2 g filled few
+may_open_then shelf version before (View.Loading l) image f c m1 m2 may few all g filled =
+    may_open_now shelf version before l image f may all c m1 m2 g filled few
 
-pub may_publish_then : (shelf version before : ℕ) (u : View) (image : ImageValue) (f : ℕ → Option Edition) (c : List (ℕ × Option Edition)) (m1 m2 m3 : Mine) → IsReady shelf version before u → AllHave version image shelf f
+pub may_publish_then : (shelf version before : ℕ) (u : View) (image : ImageValue) (f : ℕ
+    → Option Edition) (c : List (ℕ × Option Edition)) (m1 m2 m3 : Mine) → IsReady shelf version before u
+    → AllHave version image shelf f
     → GathersOn shelf (u, c) m1 → m2 ≡ (m1.0, down_from f (16 * shelf) 16 []) → OpensOn shelf m2 m3 → MayPublish version shelf m3.0
 may_publish_then shelf version before (View.Working v) image f c m1 m2 m3 may all g filled o = absurd may
 may_publish_then shelf version before (View.Noting x') image f c m1 m2 m3 may all g filled o = absurd may
 may_publish_then shelf version before View.Spent image f c m1 m2 m3 may all g filled o = absurd may
-may_publish_then shelf version before (View.Loading l) image f c m1 m2 m3 may all g filled o = may_publish_now shelf version before l image f may all c m1 m2 g filled m3 o
+may_publish_then shelf version before (View.Loading l) image f c m1 m2 m3 may all g filled o =
+    may_publish_now shelf version before l image f may all c m1 m2 g filled m3 o
 
-pub may_close_then : (shelf version before : ℕ) (u : View) (image : ImageValue) (f : ℕ → Option Edition) (c : List (ℕ × Option Edition)) (m1 m2 m3 m4 : Mine) → IsReady shelf version before u → AllHave version image shelf f
+pub may_close_then : (shelf version before : ℕ) (u : View) (image : ImageValue) (f : ℕ
+    → Option Edition) (c : List (ℕ × Option Edition)) (m1 m2 m3 m4 : Mine) → IsReady shelf version before u
+    → AllHave version image shelf f
     → GathersOn shelf (u, c) m1 → m2 ≡ (m1.0, down_from f (16 * shelf) 16 []) → OpensOn shelf m2 m3 → PublishesOn version shelf m3 m4 → MayClose before m4.0
 may_close_then shelf version before (View.Working v) image f c m1 m2 m3 m4 may all g filled o p = absurd may
 may_close_then shelf version before (View.Noting x') image f c m1 m2 m3 m4 may all g filled o p = absurd may
 may_close_then shelf version before View.Spent image f c m1 m2 m3 m4 may all g filled o p = absurd may
-may_close_then shelf version before (View.Loading l) image f c m1 m2 m3 m4 may all g filled o p = may_close_now shelf version before l image f may all c m1 m2 g filled m3 m4 o p
+may_close_then shelf version before (View.Loading l) image f c m1 m2 m3 m4 may all g filled o p =
+    may_close_now shelf version before l image f may all c m1 m2 g filled m3 m4 o p
 
-pub loads_then : (shelf version before : ℕ) (u : View) (image : ImageValue) (f : ℕ → Option Edition) (c : List (ℕ × Option Edition)) (m1 m2 m3 m4 m5 : Mine) → IsReady shelf version before u → AllHave version image shelf f
-    → GathersOn shelf (u, c) m1 → m2 ≡ (m1.0, down_from f (16 * shelf) 16 []) → OpensOn shelf m2 m3 → PublishesOn version shelf m3 m4 → ClosesOn before m4 m5 → Loads shelf version before image u m5.0 × (m5.1 ≡ [])
+pub loads_then : (shelf version before : ℕ) (u : View) (image : ImageValue) (f : ℕ
+    → Option Edition) (c : List (ℕ × Option Edition)) (m1 m2 m3 m4 m5 : Mine) → IsReady shelf version before u
+    → AllHave version image shelf f
+    → GathersOn shelf (u, c) m1 → m2 ≡ (m1.0, down_from f (16 * shelf) 16 []) → OpensOn shelf m2 m3
+    → PublishesOn version shelf m3 m4 → ClosesOn before m4 m5
+    → Loads shelf version before image u m5.0 × (m5.1 ≡ [])
 loads_then shelf version before (View.Working v) image f c m1 m2 m3 m4 m5 may all g filled o p k = absurd may
 loads_then shelf version before (View.Noting x') image f c m1 m2 m3 m4 m5 may all g filled o p k = absurd may
 loads_then shelf version before View.Spent image f c m1 m2 m3 m4 m5 may all g filled o p k = absurd may
-loads_then shelf version before (View.Loading l) image f c m1 m2 m3 m4 m5 may all g filled o p k = loaded_so shelf version before l image f may all c m1 m2 g filled m3 m4 o p m5 k
+loads_then shelf version before (View.Loading l) image f c m1 m2 m3 m4 m5 may all g filled o p k =
+    loaded_so shelf version before l image f may all c m1 m2 g filled m3 m4 o p m5 k
 
 -- a shelf that was found with no worker
-pub freed_block : (shelf version n : ℕ) (u : View) (c : List (ℕ × Option Edition)) (m1 : Mine) → CollectsOn shelf version n (u, c) m1 → (n == 512 + 65536 * version) ≡ true → (f : ℕ → Option Edition) × IsBlock f shelf m1.1
+pub freed_block : (shelf version n : ℕ) (u : View) (c : List (ℕ × Option Edition)) (m1 : Mine)
+    → CollectsOn shelf version n (u, c) m1 → (n == 512 + 65536 * version) ≡ true
+    → (f : ℕ → Option Edition) × IsBlock f shelf m1.1
 freed_block shelf version n (View.Working v) c m1 h is = absurd h
 freed_block shelf version n (View.Noting x') c m1 h is = absurd h
 freed_block shelf version n View.Spent c m1 h is = absurd h
 freed_block shelf version n (View.Loading l) c m1 h is =
     let k = subst (λ (b : Bool). CollectsFound l shelf version n b m1) is h in (k.0, ap (λ (m : Mine). m.1) k.2)
 
-pub may_put_back : (shelf version n : ℕ) (u : View) (c : List (ℕ × Option Edition)) (m1 m2 : Mine) → MayCollect shelf version u c → CollectsOn shelf version n (u, c) m1 → (n == 512 + 65536 * version) ≡ true
+pub may_put_back : (shelf version n : ℕ) (u : View) (c : List (ℕ × Option Edition)) (m1 m2 : Mine)
+    → MayCollect shelf version u c → CollectsOn shelf version n (u, c) m1 → (n == 512 + 65536 * version) ≡ true
     → m2 ≡ (m1.0, down_from nothings (16 * shelf) 16 []) → MayPutBack shelf m2.0 m2.1
 may_put_back shelf version n (View.Working v) c m1 m2 may h is e = absurd h
 may_put_back shelf version n (View.Noting x') c m1 m2 may h is e = absurd h
 may_put_back shelf version n View.Spent c m1 m2 may h is e = absurd h
 may_put_back shelf version n (View.Loading l) c m1 m2 may h is e =
     let k = subst (λ (b : Bool). CollectsFound l shelf version n b m1) is h in
-    let second : m2 ≡ (View.Loading (with_free l shelf k.1), down_from nothings (16 * shelf) 16 []) = e ∙ ap (λ (m : Mine). (m.0, down_from nothings (16 * shelf) 16 [])) k.2 in
-    subst (λ (m : Mine). MayPutBack shelf m.0 m.1) (sym second) (slice_get-set_same l.shelves shelf Shelf.Free (slice_get_within l.shelves shelf _ may.0), refl, refl)
+    let second : m2 ≡ (View.Loading (with_free l shelf k.1), down_from nothings (16 * shelf) 16 []) =
+    e ∙ ap (λ (m : Mine). (m.0, down_from nothings (16 * shelf) 16 [])) k.2 in
+    subst (λ (m : Mine). MayPutBack shelf m.0 m.1) (sym second)
+    (slice_get-set_same l.shelves shelf Shelf.Free (slice_get_within l.shelves shelf _ may.0), refl, refl)
 
-pub frees_then : (shelf version n : ℕ) (u : View) (c : List (ℕ × Option Edition)) (m1 m2 m3 : Mine) → MayCollect shelf version u c → CollectsOn shelf version n (u, c) m1 → (n == 512 + 65536 * version) ≡ true
+pub frees_then : (shelf version n : ℕ) (u : View) (c : List (ℕ × Option Edition)) (m1 m2 m3 : Mine)
+    → MayCollect shelf version u c → CollectsOn shelf version n (u, c) m1 → (n == 512 + 65536 * version) ≡ true
     → m2 ≡ (m1.0, down_from nothings (16 * shelf) 16 []) → PutsBackOn shelf m2 m3 → Frees shelf u m3.0 × (m3.1 ≡ [])
 frees_then shelf version n (View.Working v) c m1 m2 m3 may h is e p = absurd h
 frees_then shelf version n (View.Noting x') c m1 m2 m3 may h is e p = absurd h
 frees_then shelf version n View.Spent c m1 m2 m3 may h is e p = absurd h
 frees_then shelf version n (View.Loading l) c m1 m2 m3 may h is e p =
     let k = subst (λ (b : Bool). CollectsFound l shelf version n b m1) is h in
-    let second : m2 ≡ (View.Loading (with_free l shelf k.1), down_from nothings (16 * shelf) 16 []) = e ∙ ap (λ (m : Mine). (m.0, down_from nothings (16 * shelf) 16 [])) k.2 in
-    let q : PutsBackOn shelf (View.Loading (with_free l shelf k.1), down_from nothings (16 * shelf) 16 []) m3 = subst (λ (m : Mine). PutsBackOn shelf m m3) second p in
+    let second : m2 ≡ (View.Loading (with_free l shelf k.1), down_from nothings (16 * shelf) 16 []) =
+    e ∙ ap (λ (m : Mine). (m.0, down_from nothings (16 * shelf) 16 [])) k.2 in
+    let q : PutsBackOn shelf (View.Loading (with_free l shelf k.1), down_from nothings (16 * shelf) 16 []) m3 =
+    subst (λ (m : Mine). PutsBackOn shelf m m3) second p in
     subst (λ (m : Mine). Frees shelf (View.Loading l) m.0 × (m.1 ≡ [])) (sym q.1) (
       record {
         freed = k.1;
@@ -179,7 +222,9 @@ frees_then shelf version n (View.Loading l) c m1 m2 m3 may h is e p =
       refl,
     )
 
-pub busy_then : (shelf version n : ℕ) (u : View) (c : List (ℕ × Option Edition)) (m1 : Mine) → CollectsOn shelf version n (u, c) m1 → (n == 512 + 65536 * version) ≡ false → FindsBusy shelf (n % 256) u m1.0 × (m1.1 ≡ [])
+pub busy_then : (shelf version n : ℕ) (u : View) (c : List (ℕ × Option Edition)) (m1 : Mine)
+    → CollectsOn shelf version n (u, c) m1 → (n == 512 + 65536 * version) ≡ false
+    → FindsBusy shelf (n % 256) u m1.0 × (m1.1 ≡ [])
 busy_then shelf version n (View.Working v) c m1 h is = absurd h
 busy_then shelf version n (View.Noting x') c m1 h is = absurd h
 busy_then shelf version n View.Spent c m1 h is = absurd h

@@ -2,7 +2,9 @@
 use Rattle.reasoning.proofs.ListLemmas.{slice_get-append, slice_get-last, slice_get-set_same, slice_get-set_other}
 use Rattle.version_core.specs.Actors.{nobody, actor}
 use Rattle.image_layout.specs.Image.{ImageValue}
-use Rattle.std.proofs.Common.{◌≡◌, ◌≢◌, ℕ, zero, suc, ◌+◌, ◌-◌, ◌*◌, ◌%◌, ◌<◌, ◌≤◌, ◌==◌, ◌⊎◌, Bool, true, false, List, [], ◌∷◌, ◌++◌, length, set, get_or, Option, Some, None, slice_get, refl, ap, sym, ◌∙◌, subst, arith, get_or-set_same, get_or-set_other, length-set, length-append, inl, inr}
+use Rattle.std.proofs.Common.{◌≡◌, ◌≢◌, ℕ, zero, suc, ◌+◌, ◌-◌, ◌*◌, ◌%◌, ◌<◌, ◌≤◌, ◌==◌, ◌⊎◌, Bool, true, false, List}
+use Rattle.std.proofs.Common.{[], ◌∷◌, ◌++◌, length, set, get_or, Option, Some, None, slice_get, refl, ap, sym, ◌∙◌}
+use Rattle.std.proofs.Common.{subst, arith, get_or-set_same, get_or-set_other, length-set, length-append, inl, inr}
 use Rattle.std.proofs.lemmas.Bool.Decides.{nat_tests}
 use mathlib.Core.Option.{Option as Maybe, none, some}
 use mathlib.Core.List.{IsPrefix}
@@ -29,14 +31,18 @@ use Rattle.version_core.specs.Shown.{WordsShow, shelf_word}
 use Rattle.shelf_steps.specs.Seats.{WorkerFits, LoaderFits}
 use Rattle.shelf_steps.specs.Slots.{SlotsFit, SlotFits, down_from, nothings}
 use Rattle.shelf_steps.specs.Ruled.{Ruled}
-use Rattle.shelf_steps.specs.Plays.{OfLoader, Mine, newest_of, with_open, with_current, with_closing, with_free, with_hand, AllHave, Noted, Opens, Publishes, Closes, CollectsFound, Collects, Gathers, PutsBack, MayOpenOn, MayPublish, MayClose, MayCollect, MayGather, MayPutBack}
+use Rattle.shelf_steps.specs.Plays.{OfLoader, Mine, newest_of, with_open, with_current, with_closing, with_free}
+use Rattle.shelf_steps.specs.Plays.{with_hand, AllHave, Noted, Opens, Publishes, Closes, CollectsFound, Collects}
+use Rattle.shelf_steps.specs.Plays.{Gathers, PutsBack, MayOpenOn, MayPublish, MayClose, MayCollect, MayGather}
+use Rattle.shelf_steps.specs.Plays.{MayPutBack}
 use Rattle.shelf_steps.proofs.Courses.{kept_of, joined_same, no_join, nothing_snoc}
 use Rattle.shelf_steps.proofs.Courses.{begins_longer, happened, goes_on, goes_same, loader_next, prefix_same, other_fits}
 use Rattle.shelf_steps.proofs.Frames.{loader_moves}
 use Rattle.shelf_steps.proofs.WordsAfter.{words_same, words_after, few_counted, version_bound, found_at}
 use Rattle.shelf_steps.proofs.NoteLists.{notices_loader}
 use Rattle.shelf_steps.proofs.SlotsAfter.{slots_block}
-use Rattle.shelf_steps.proofs.Chains.{take_block, give_block, IsHome, block_valid, block_else, block_out, carried_down, gives_valid, given_else, given_home, given_rest}
+use Rattle.shelf_steps.proofs.Chains.{take_block, give_block, IsHome, block_valid, block_else, block_out, carried_down}
+use Rattle.shelf_steps.proofs.Chains.{gives_valid, given_else, given_home, given_rest}
 
 module _ (table : Table (Option Edition) View) (r : Ruled table) (id : ℕ) (l : LoaderView) (at : get_elem? table.views id ≡ some (View.Loading l)) where
   is_loader : l ≡ r.loader
@@ -55,8 +61,10 @@ module _ (table : Table (Option Edition) View) (r : Ruled table) (id : ℕ) (l :
   newest_is = ap (λ (xs : List ImageValue). length xs) loader_knows.images ∙ r.goes.as_many
 
 -- a step of the loader leaves what the workers do
-module _ (table : Table (Option Edition) View) (r : Ruled table) (id : ℕ) (l l' : LoaderView) (at : get_elem? table.views id ≡ some (View.Loading l)) (as_many : l'.handed ≡ l.handed)
-    (e : Event) (reply : Reply) (t : State) (images : List ImageValue) (whose : actor e ≡ None) (goes : Goes (extended r.course e reply t images)) (more : IsPrefix r.course.images images)
+module _ (table : Table (Option Edition) View) (r : Ruled table) (id : ℕ) (l l' : LoaderView)
+    (at : get_elem? table.views id ≡ some (View.Loading l)) (as_many : l'.handed ≡ l.handed)
+    (e : Event) (reply : Reply) (t : State) (images : List ImageValue) (whose : actor e
+    ≡ None) (goes : Goes (extended r.course e reply t images)) (more : IsPrefix r.course.images images)
     (workers : t.workers ≡ r.course.state.workers) (seen : t.seen ≡ r.course.state.seen) (notices : t.notices ≡ r.course.state.notices)
     (up : r.course.state.current ≤ t.current) where
   not_of : (u : ℕ) → actor e ≢ Some u
@@ -67,11 +75,15 @@ module _ (table : Table (Option Edition) View) (r : Ruled table) (id : ℕ) (l l
 
   others : (u : WorkerView) → WorkerFits r.course u → WorkerFits (extended r.course e reply t images) u
   others u f =
-      other_fits r.course (extended r.course e reply t images) u (ap (λ (x : List Worker). slice_get x u.number) workers) (ap (λ (x : List ℕ). get_or x u.number 0) seen) up more
+      other_fits r.course (extended r.course e reply t images) u
+      (ap (λ (x : List Worker). slice_get x u.number) workers) (ap (λ (x : List ℕ). get_or x u.number 0) seen) up
+      more
       (begins_longer r.course e reply t images u.known (Some u.number) (not_of u.number) more f.known)
       (joined_same u.number r.course.events e (no_join u.number e not_nobodys)) f
 
-  loader_ruled : (words' : List ℕ) (homes' : List (Maybe (Option Edition))) → LoaderFits (extended r.course e reply t images) l' → WordsShow words' t → SlotsFit homes' t.shelves t.workers images l'.hand
+  loader_ruled : (words' : List ℕ) (homes' : List (Maybe (Option Edition)))
+      → LoaderFits (extended r.course e reply t images) l' → WordsShow words' t
+      → SlotsFit homes' t.shelves t.workers images l'.hand
       → Ruled record { words = words'; homes = homes'; views = set table.views id (View.Loading l') }
   loader_ruled words' homes' fits words slots = record {
     course = extended r.course e reply t images;
@@ -85,22 +97,29 @@ module _ (table : Table (Option Edition) View) (r : Ruled table) (id : ℕ) (l l
   }
 
   loader_happened : Happened l.known e reply (all_of (extended r.course e reply t images))
-  loader_happened = happened r.course e reply t images l.known (subst (λ (a : Option ℕ). Begins l.known a r.course) (sym whose) (loader_knows table r id l at).known) goes more
+  loader_happened = happened r.course e reply t images l.known
+      (subst (λ (a : Option ℕ). Begins l.known a r.course) (sym whose) (loader_knows table r id l at).known) goes more
 
 -- the shelf k becomes another, and its word with it
-words_shelved : (words : List ℕ) (k new : ℕ) (y : Shelf) (s t : State) → WordsShow words s → k < 8 → length s.shelves ≡ 8 → t.shelves ≡ set s.shelves k y → t.counts ≡ s.counts → t.current ≡ s.current → t.current_shelf ≡ s.current_shelf
+words_shelved : (words : List ℕ) (k new : ℕ) (y : Shelf) (s t : State) → WordsShow words s → k < 8
+    → length s.shelves ≡ 8 → t.shelves ≡ set s.shelves k y → t.counts ≡ s.counts → t.current ≡ s.current
+    → t.current_shelf ≡ s.current_shelf
     → new ≡ shelf_word y (get_or s.counts k 0) → WordsShow (set words (k + 1) new) t
 words_shelved words k new y s t shown small eight shelves counts current current_shelf is =
     words_after words k new s t shown small current current_shelf
     (λ j ne. (ap (λ (xs : List Shelf). slice_get xs j) shelves ∙ slice_get-set_other s.shelves k j y ne, ap (λ (xs : List ℕ). get_or xs j 0) counts))
-    (λ x at. let q : Some y ≡ Some x = sym (slice_get-set_same s.shelves k y (omega arith)) ∙ (ap (λ (xs : List Shelf). slice_get xs k) (sym shelves) ∙ at) in let same : y ≡ x = cc in
+    (λ x at. let q : Some y ≡ Some x = sym (slice_get-set_same s.shelves k y (omega arith))
+    ∙ (ap (λ (xs : List Shelf). slice_get xs k) (sym shelves) ∙ at) in let same : y ≡ x = cc in
     is ∙ (λ i. shelf_word (same i) (get_or (sym counts i) k 0)))
 
-words_current : (words : List ℕ) (new : ℕ) (s t : State) → WordsShow words s → t.shelves ≡ s.shelves → t.counts ≡ s.counts → new ≡ 8 * t.current + t.current_shelf → WordsShow (set words 0 new) t
+words_current : (words : List ℕ) (new : ℕ) (s t : State) → WordsShow words s → t.shelves ≡ s.shelves
+    → t.counts ≡ s.counts → new ≡ 8 * t.current + t.current_shelf → WordsShow (set words 0 new) t
 words_current words new s t shown shelves counts is = let nine = shown.nine in record {
   nine = length-set words 0 new ∙ shown.nine;
   cur = get_or-set_same words 0 new 0 (omega arith) ∙ is;
-  each = λ k x at. get_or-set_other words 0 (k + 1) new 0 (λ e. omega arith) ∙ (shown.each k x (ap (λ (xs : List Shelf). slice_get xs k) (sym shelves) ∙ at) ∙ ap (λ (xs : List ℕ). shelf_word x (get_or xs k 0)) (sym counts));
+  each = λ k x at. get_or-set_other words 0 (k + 1) new 0 (λ e. omega arith)
+      ∙ (shown.each k x (ap (λ (xs : List Shelf). slice_get xs k) (sym shelves) ∙ at)
+      ∙ ap (λ (xs : List ℕ). shelf_word x (get_or xs k 0)) (sym counts));
 }
 
 -- what stands in a list with one more behind it
@@ -113,14 +132,22 @@ got_snoc (x ∷ xs) a b (suc i) e = elim (got_snoc xs a b i e) [ inl q ↦ inl q
 pub image_last : (images : List ImageValue) (x : ImageValue) (v : ℕ) → v ≡ suc (length images) → image_of (images ++ x ∷ []) v ≡ Some x
 image_last images x v e = subst (λ n. image_of (images ++ x ∷ []) n ≡ Some x) (sym e) (slice_get-last images x)
 
-open_word : (n count version : ℕ) → n ≡ count → count ≤ 16 → version ≤ 1000000000 → (n + (256 + 65536 * version)) % 18446744073709551616 ≡ count + 256 + 65536 * version
+open_word : (n count version : ℕ) → n ≡ count → count ≤ 16 → version ≤ 1000000000
+    → (n + (256 + 65536 * version)) % 18446744073709551616 ≡ count + 256 + 65536 * version
 open_word n count version is few small = omega arith
 
-close_word : (n count version : ℕ) → n ≡ count + 256 + 65536 * version → count ≤ 16 → version ≤ 1000000000 → (n + 256) % 18446744073709551616 ≡ count + 512 + 65536 * version
+close_word : (n count version : ℕ) → n ≡ count + 256 + 65536 * version → count ≤ 16 → version ≤ 1000000000
+    → (n + 256) % 18446744073709551616 ≡ count + 512 + 65536 * version
 close_word n count version is few small = omega arith
 
-opens_as : (slots id k version : ℕ) (l : LoaderView) (image : ImageValue) (f : ℕ → Option Edition) → slots ≡ 128 → k < 8 → slice_get l.shelves k ≡ Some Shelf.Free → l.hand ≡ Some k → l.current ≡ newest_of l → version ≡ newest_of l + 1 → version ≤ 1000000000 → AllHave version image k f
-    → Allows Ruled slots id (View.Loading l, down_from f (16 * k) 16 []) (k + 1) (λ n. (n + (256 + 65536 * version)) % 18446744073709551616) (Opens (step slots (k + 1) (256 + 65536 * version) 0 none) (View.Loading l, down_from f (16 * k) 16 []))
+opens_as : (slots id k version : ℕ) (l : LoaderView) (image : ImageValue) (f : ℕ → Option Edition) → slots ≡ 128 → k < 8
+    → slice_get l.shelves k ≡ Some Shelf.Free → l.hand ≡ Some k → l.current ≡ newest_of l → version ≡ newest_of l + 1
+    → version ≤ 1000000000 → AllHave version image k f
+    → Allows Ruled slots id (
+      View.Loading l,
+      down_from f (16 * k) 16 [],
+    ) (k + 1) (λ n. (n + (256 + 65536 * version)) % 18446744073709551616)
+    (Opens (step slots (k + 1) (256 + 65536 * version) 0 none) (View.Loading l, down_from f (16 * k) 16 []))
 opens_as slots id k version l image f many small free hand current next few all table r full at fits =
     let s = r.course.state in let n = get_or table.words (k + 1) 0 in let top = newest_of l in
     let kept : Kept s = kept_of r.course r.goes in
@@ -144,12 +171,18 @@ opens_as slots id k version l image f many small free hand current next few all 
     let found = r.words.each k Shelf.Free is_free in
     let word : (n + (256 + 65536 * version)) % 18446744073709551616 ≡ shelf_word (Shelf.Open (newest s + 1)) (get_or s.counts k 0) =
     open_word n (get_or s.counts k 0) version found counted few ∙ ap (λ m. get_or s.counts k 0 + 256 + 65536 * m) (next ∙ ap (λ m. m + 1) is_newest) in
-    let here : (u : ℕ) → u < 16 → SlotFits images s.workers None (Shelf.Open (newest s + 1)) k u (get_elem? (homes_after table.homes (down_from f (16 * k) 16 []) (give_block 16)) (16 * k + u)) =
+    let here : (u : ℕ) → u < 16 → SlotFits images s.workers None (Shelf.Open (newest s + 1)) k u
+    (get_elem? (homes_after table.homes (down_from f (16 * k) 16 []) (give_block 16)) (16 * k + u)) =
     λ u less. let h = all (16 * k + u) (omega arith) (omega arith) in
     inl (
       f (16 * k + u),
       given_home table.homes [] f (16 * k) 16 (16 * k + u) (omega arith) (omega arith) (omega arith),
-      (h.0, h.1, h.2 ∙ (next ∙ ap (λ m. m + 1) is_newest), image_last r.course.images image (newest s + 1) (omega arith) ∙ ap (λ (x : ImageValue). Some x) (sym h.3)),
+      (
+        h.0,
+        h.1,
+        h.2 ∙ (next ∙ ap (λ m. m + 1) is_newest),
+        image_last r.course.images image (newest s + 1) (omega arith) ∙ ap (λ (x : ImageValue). Some x) (sym h.3),
+      ),
     ) in
     let fits' : LoaderFits d l' = loader_next r.course d e l l' knows refl refl refl refl goes'.as_many knows.shows.current knows.shows.current_shelf
     (λ i. set (knows.shows.shelves i) k (Shelf.Open (is_newest i + 1))) in (
@@ -157,9 +190,12 @@ opens_as slots id k version l image f many small free hand current next few all 
       give_block 16,
       gives_valid table.homes (down_from f (16 * k) 16 []) 16,
       loader_ruled table r id l l' at refl e reply t images refl goes' more refl refl refl (omega arith)
-          (set table.words (k + 1) ((n + (256 + 65536 * version)) % 18446744073709551616)) (homes_after table.homes (down_from f (16 * k) 16 []) (give_block 16)) fits'
-          (words_shelved table.words k ((n + (256 + 65536 * version)) % 18446744073709551616) (Shelf.Open (newest s + 1)) s t r.words small eight refl refl refl refl word)
-          (slots_block table.homes (homes_after table.homes (down_from f (16 * k) 16 []) (give_block 16)) s.shelves t.shelves s.workers r.course.images images l.hand None k (Shelf.Open (newest s + 1))
+          (set table.words (k + 1) ((n + (256 + 65536 * version)) % 18446744073709551616))
+          (homes_after table.homes (down_from f (16 * k) 16 []) (give_block 16)) fits'
+          (words_shelved table.words k ((n + (256 + 65536 * version)) % 18446744073709551616)
+          (Shelf.Open (newest s + 1)) s t r.words small eight refl refl refl refl word)
+          (slots_block table.homes (homes_after table.homes (down_from f (16 * k) 16 []) (give_block 16)) s.shelves
+          t.shelves s.workers r.course.images images l.hand None k (Shelf.Open (newest s + 1))
           (slice_get-set_same s.shelves k (Shelf.Open (newest s + 1)) (omega arith)) (λ j ne. slice_get-set_other s.shelves k j (Shelf.Open (newest s + 1)) ne)
           (λ i h. given_else table.homes [] f (16 * k) 16 i h) more
           (λ j ne q. let z : Some k ≡ Some j = sym hand ∙ q in absurd (ne (cc))) (λ j ne q. absurd (cc)) here (loader_slots table r id l at)),
@@ -180,25 +216,34 @@ opens_as slots id k version l image f many small free hand current next few all 
     )
 
 openings_as : (slots id k version : ℕ) (u : View) (c : List (ℕ × Option Edition)) → slots ≡ 128 → k < 8 → MayOpenOn k version u c
-    → Allows Ruled slots id (u, c) (k + 1) (λ n. (n + (256 + 65536 * version)) % 18446744073709551616) (Opens (step slots (k + 1) (256 + 65536 * version) 0 none) (u, c))
+    → Allows Ruled slots id (u, c) (k + 1) (λ n. (n + (256 + 65536 * version)) % 18446744073709551616)
+    (Opens (step slots (k + 1) (256 + 65536 * version) 0 none) (u, c))
 openings_as slots id k version (View.Working v) c many small may = absurd may
 openings_as slots id k version (View.Noting x') c many small may = absurd may
 openings_as slots id k version View.Spent c many small may = absurd may
 openings_as slots id k version (View.Loading l) c many small may =
     let block = may.5 in
-    subst (λ (x : List (ℕ × Option Edition)). Allows Ruled slots id (View.Loading l, x) (k + 1) (λ n. (n + (256 + 65536 * version)) % 18446744073709551616) (Opens (step slots (k + 1) (256 + 65536 * version) 0 none) (View.Loading l, x))) (sym block.2)
+    subst (λ (x : List (ℕ × Option Edition)). Allows Ruled slots id (
+      View.Loading l,
+      x,
+    ) (k + 1) (λ n. (n + (256 + 65536 * version)) % 18446744073709551616)
+    (Opens (step slots (k + 1) (256 + 65536 * version) 0 none) (View.Loading l, x))) (sym block.2)
     (opens_as slots id k version l block.0 block.1 many small may.0 may.1 may.2 may.3 may.4 block.3)
 
 pub openings : (slots id k version : ℕ) (me : Mine) → slots ≡ 128 → k < 8 → MayOpenOn k version me.0 me.1
-    → Allows Ruled slots id me (k + 1) (λ n. (n + (256 + 65536 * version)) % 18446744073709551616) (Opens (step slots (k + 1) (256 + 65536 * version) 0 none) me)
+    → Allows Ruled slots id me (k + 1) (λ n. (n + (256 + 65536 * version)) % 18446744073709551616)
+    (Opens (step slots (k + 1) (256 + 65536 * version) 0 none) me)
 openings slots id k version me many small may = openings_as slots id k version me.0 me.1 many small may
 
 -- a step that adds no version
-module _ (table : Table (Option Edition) View) (r : Ruled table) (id : ℕ) (l l' : LoaderView) (at : get_elem? table.views id ≡ some (View.Loading l)) (as_many : l'.handed ≡ l.handed)
+module _ (table : Table (Option Edition) View) (r : Ruled table) (id : ℕ) (l l' : LoaderView)
+    (at : get_elem? table.views id ≡ some (View.Loading l)) (as_many : l'.handed ≡ l.handed)
     (e : Event) (reply : Reply) (t : State) (whose : actor e ≡ None) (is_step : Step r.course.state e reply t) (editions : t.editions ≡ r.course.state.editions)
     (workers : t.workers ≡ r.course.state.workers) (seen : t.seen ≡ r.course.state.seen) (notices : t.notices ≡ r.course.state.notices)
     (up : r.course.state.current ≤ t.current) where
-  pub noted_ruled : (words' : List ℕ) (homes' : List (Maybe (Option Edition))) → LoaderFits (extended r.course e reply t r.course.images) l' → WordsShow words' t → SlotsFit homes' t.shelves t.workers r.course.images l'.hand
+  pub noted_ruled : (words' : List ℕ) (homes' : List (Maybe (Option Edition)))
+      → LoaderFits (extended r.course e reply t r.course.images) l' → WordsShow words' t
+      → SlotsFit homes' t.shelves t.workers r.course.images l'.hand
       → Ruled record { words = words'; homes = homes'; views = set table.views id (View.Loading l') }
   noted_ruled = loader_ruled table r id l l' at as_many e reply t r.course.images whose (goes_same r.course e reply t r.goes is_step editions)
       (prefix_same r.course.images) workers seen notices up
@@ -268,11 +313,15 @@ closings_as slots id k (View.Loading l) c small may table r full at fits =
           (words_shelved table.words k ((n + 256) % 18446744073709551616) (Shelf.Closing version) s t r.words small eight refl refl refl refl word)
           (slots_block table.homes table.homes s.shelves t.shelves s.workers r.course.images r.course.images l.hand l.hand k (Shelf.Closing version)
           (slice_get-set_same s.shelves k (Shelf.Closing version) (omega arith)) (λ j ne. slice_get-set_other s.shelves k j (Shelf.Closing version) ne)
-          (λ i h. refl) (prefix_same r.course.images) (λ j ne q. q) (λ j ne q. q) (λ u less. loader_slots table r id l at k u (Shelf.Open version) stands less) (loader_slots table r id l at)),
+          (λ i h. refl) (prefix_same r.course.images) (λ j ne q. q) (λ j ne q. q)
+          (λ u less. loader_slots table r id l at k u (Shelf.Open version) stands less)
+          (loader_slots table r id l at)),
       (k, refl, (version, all_of d, may.1, refl, noted table r id l l' at refl e reply t refl is_step refl refl refl refl (omega arith))),
     )
 
-pub closings : (slots id k : ℕ) (me : Mine) → k < 8 → MayClose k me.0 → Allows Ruled slots id me (k + 1) (λ n. (n + 256) % 18446744073709551616) (Closes (step slots (k + 1) 256 0 none) me)
+pub closings : (slots id k : ℕ) (me : Mine) → k < 8 → MayClose k me.0
+    → Allows Ruled slots id me (k + 1) (λ n. (n + 256) % 18446744073709551616)
+    (Closes (step slots (k + 1) 256 0 none) me)
 closings slots id k me small may = closings_as slots id k me.0 me.1 small may
 
 -- what lies in a slot that is at home
@@ -282,7 +331,8 @@ value_at (some none) = None
 value_at (some (some x)) = x
 
 -- where nobody is at a shelf, its slots are at home
-all_home : (homes : List (Maybe (Option Edition))) (shelves : List Shelf) (counts : List ℕ) (workers : List Worker) (images : List ImageValue) (hand : Option ℕ) (k version : ℕ)
+all_home : (homes : List (Maybe (Option Edition))) (shelves : List Shelf) (counts : List ℕ) (workers : List Worker)
+    (images : List ImageValue) (hand : Option ℕ) (k version : ℕ)
     → ((w : ℕ) (worker : Worker) → slice_get workers w ≡ Some worker → is_at k worker ≡ false) → slice_get shelves k ≡ Some (Shelf.Closing version)
     → SlotsFit homes shelves workers images hand → IsHome homes (λ j. value_at (get_elem? homes j)) (16 * k) 16
 all_home homes shelves counts workers images hand k version away closing fit j from to =
@@ -319,9 +369,12 @@ closing_at id k version l table r at small shelf b found =
     let few = few_counted r.course.state k (kept_of r.course r.goes) small in
     (closing, count_found (get_or table.words (k + 1) 0) (get_or r.course.state.counts k 0) version word few b found)
 
-collects_found : (id k version : ℕ) (l : LoaderView) (table : Table (Option Edition) View) (r : Ruled table) → get_elem? table.views id ≡ some (View.Loading l) → length table.homes ≡ 128 → k < 8
+collects_found : (id k version : ℕ) (l : LoaderView) (table : Table (Option Edition) View) (r : Ruled table)
+    → get_elem? table.views id ≡ some (View.Loading l) → length table.homes ≡ 128 → k < 8
     → slice_get l.shelves k ≡ Some (Shelf.Closing version) → l.hand ≡ None → (b : Bool) → (get_or table.words (k + 1) 0 == 512 + 65536 * version) ≡ b
-    → (w : View) × (a : Act (Option Edition)) × Valid table.homes [] a × Ruled (stepped table (k + 1) (either b 0 (get_or table.words (k + 1) 0)) id [] w a) × CollectsFound l k version (get_or table.words (k + 1) 0) b (w, carried_after [] a)
+    → (w : View) × (a : Act (Option Edition)) × Valid table.homes [] a
+    × Ruled (stepped table (k + 1) (either b 0 (get_or table.words (k + 1) 0)) id [] w a)
+    × CollectsFound l k version (get_or table.words (k + 1) 0) b (w, carried_after [] a)
 collects_found id k version l table r at many small shelf hand true found =
     let s = r.course.state in let kept : Kept s = kept_of r.course r.goes in
     let knows = loader_knows table r id l at in
@@ -333,7 +386,9 @@ collects_found id k version l table r at many small shelf hand true found =
     let l' : LoaderView = with_free l k (all_of d) in
     let eight = kept.shelves.eight in
     let f : ℕ → Option Edition = λ j. value_at (get_elem? table.homes j) in
-    let home : IsHome table.homes f (16 * k) 16 = all_home table.homes s.shelves s.counts s.workers r.course.images l.hand k version (no_one_at s.counts s.workers k kept.counts small nobody) here.0 (loader_slots table r id l at) in
+    let home : IsHome table.homes f (16 * k) 16 =
+    all_home table.homes s.shelves s.counts s.workers r.course.images l.hand k version
+    (no_one_at s.counts s.workers k kept.counts small nobody) here.0 (loader_slots table r id l at) in
     let fits' : LoaderFits d l' = loader_next r.course d e l l' knows refl refl refl refl r.goes.as_many knows.shows.current knows.shows.current_shelf
     (λ i. set (knows.shows.shelves i) k Shelf.Free) in (
       View.Loading l',
@@ -342,7 +397,8 @@ collects_found id k version l table r at many small shelf hand true found =
       noted_ruled table r id l l' at refl e reply t refl is_step refl refl refl refl (omega arith) (set table.words (k + 1) 0) (homes_after table.homes []
           (take_block f (16 * k) 16)) fits'
           (words_shelved table.words k 0 Shelf.Free s t r.words small eight refl refl refl refl (sym nobody))
-          (slots_block table.homes (homes_after table.homes [] (take_block f (16 * k) 16)) s.shelves t.shelves s.workers r.course.images r.course.images l.hand (Some k) k Shelf.Free
+          (slots_block table.homes (homes_after table.homes [] (take_block f (16 * k) 16)) s.shelves t.shelves s.workers
+          r.course.images r.course.images l.hand (Some k) k Shelf.Free
           (slice_get-set_same s.shelves k Shelf.Free (omega arith)) (λ j ne. slice_get-set_other s.shelves k j Shelf.Free ne)
           (λ i h. block_else table.homes [] f (16 * k) 16 i h) (prefix_same r.course.images)
           (λ j ne q. let z : None ≡ Some j = sym hand ∙ q in absurd (cc)) (λ j ne q. absurd (ne (cc)))
@@ -369,7 +425,9 @@ collects_found id k version l table r at many small shelf hand false found =
       keeps,
       tt,
       noted_ruled table r id l l' at refl e reply s refl is_step refl refl refl refl (omega arith) (set table.words (k + 1) n) table.homes fits'
-          (words_same table.words (k + 1) s s r.words refl refl refl refl) (subst (λ (x : Option ℕ). SlotsFit table.homes s.shelves s.workers r.course.images x) hand (loader_slots table r id l at)),
+          (words_same table.words (k + 1) s s r.words refl refl refl refl)
+          (subst (λ (x : Option ℕ). SlotsFit table.homes s.shelves s.workers r.course.images x) hand
+          (loader_slots table r id l at)),
       (
         all_of d,
         refl,
@@ -385,7 +443,11 @@ collectings_as slots id k version (View.Working v) c many small may = absurd may
 collectings_as slots id k version (View.Noting x') c many small may = absurd may
 collectings_as slots id k version View.Spent c many small may = absurd may
 collectings_as slots id k version (View.Loading l) c many small may =
-    subst (λ (x : List (ℕ × Option Edition)). Allows Ruled slots id (View.Loading l, x) (k + 1) (λ n. either (n == 512 + 65536 * version) 0 n) (Collects (step slots (k + 1) (512 + 65536 * version) 0 none) (View.Loading l, x))) (sym may.2)
+    subst (λ (x : List (ℕ × Option Edition)). Allows Ruled slots id (
+      View.Loading l,
+      x,
+    ) (k + 1) (λ n. either (n == 512 + 65536 * version) 0 n)
+    (Collects (step slots (k + 1) (512 + 65536 * version) 0 none) (View.Loading l, x))) (sym may.2)
     (λ table r full at fits.
     let n = get_or table.words (k + 1) 0 in
     let z = collects_found id k version l table r at (full ∙ many) small may.0 may.1 (n == 512 + 65536 * version) refl in
@@ -396,7 +458,8 @@ pub collectings : (slots id k version : ℕ) (me : Mine) → slots ≡ 128 → k
 collectings slots id k version me many small may = collectings_as slots id k version me.0 me.1 many small may
 
 -- the slots of a free shelf, where they are not out
-spares_home : (homes : List (Maybe (Option Edition))) (shelves : List Shelf) (workers : List Worker) (images : List ImageValue) (hand : Option ℕ) (k : ℕ) → hand ≡ None → slice_get shelves k ≡ Some Shelf.Free
+spares_home : (homes : List (Maybe (Option Edition))) (shelves : List Shelf) (workers : List Worker)
+    (images : List ImageValue) (hand : Option ℕ) (k : ℕ) → hand ≡ None → slice_get shelves k ≡ Some Shelf.Free
     → SlotsFit homes shelves workers images hand → IsHome homes nothings (16 * k) 16
 spares_home homes shelves workers images hand k empty free fit j from to =
     let e : 16 * k + (j - 16 * k) ≡ j = omega arith in
@@ -407,12 +470,23 @@ spares_home homes shelves workers images hand k empty free fit j from to =
     ])
 
 -- a step that finds a free shelf, and moves its empty slots
-tries_free : (id k : ℕ) (l : LoaderView) (c : List (ℕ × Option Edition)) (hand' : Option ℕ) (a : Act (Option Edition)) (table : Table (Option Edition) View) (r : Ruled table) → get_elem? table.views id ≡ some (View.Loading l) → k < 8
-    → slice_get l.shelves k ≡ Some Shelf.Free → SlotsFit (homes_after table.homes c a) r.course.state.shelves r.course.state.workers r.course.images hand' → (b : Bool) → (get_or table.words (k + 1) 0 == 512) ≡ b
-    → (known : Known) × Ruled (stepped table (k + 1) (either b 0 (get_or table.words (k + 1) 0)) id c (View.Loading (with_hand l hand' known)) a) × Noted l (Event.Collect k) Reply.NotNow known
+tries_free : (id k : ℕ) (l : LoaderView) (c : List (ℕ
+    × Option Edition)) (hand' : Option ℕ) (a : Act (Option Edition)) (table : Table (Option Edition) View)
+    (r : Ruled table) → get_elem? table.views id ≡ some (View.Loading l) → k < 8
+    → slice_get l.shelves k ≡ Some Shelf.Free
+    → SlotsFit (homes_after table.homes c a) r.course.state.shelves r.course.state.workers r.course.images hand'
+    → (b : Bool) → (get_or table.words (k + 1) 0 == 512) ≡ b
+    → (known : Known) × Ruled (stepped table (k + 1) (either b 0 (get_or table.words (k + 1) 0)) id c
+    (View.Loading (with_hand l hand' known)) a) × Noted l (Event.Collect k) Reply.NotNow known
 tries_free id k l c hand' a table r at small free slots true found =
     let s = r.course.state in let n = get_or table.words (k + 1) 0 in let kept : Kept s = kept_of r.course r.goes in
-    let word = r.words.each k Shelf.Free (shelf_is table r id l at k Shelf.Free free) in let few = few_counted s k kept small in let is = is_equal n 512 found in absurd (omega arith)
+    let word = r.words.each k Shelf.Free (shelf_is table r id l at k Shelf.Free free) in let few =
+    few_counted s k kept
+    small in let is =
+    is_equal n
+    512 found
+    in absurd
+    (omega arith)
 tries_free id k l c hand' a table r at small free slots false found =
     let s = r.course.state in let n = get_or table.words (k + 1) 0 in
     let knows = loader_knows table r id l at in
@@ -441,9 +515,11 @@ abbrev SparedOn : LoaderView → (ℕ → Option ℕ) → (ℕ → List (ℕ × 
 SparedOn l hand after j m' = (known : Known) × (m' ≡ (View.Loading (with_hand l (hand j) known), after j)) × Noted l (Event.Collect j) Reply.NotNow known
 
 -- the loader may try a free shelf, where an act moves the shelf's empty slots
-spare_tries : (slots id k : ℕ) (l : LoaderView) (c was : List (ℕ × Option Edition)) (hand : ℕ → Option ℕ) (after : ℕ → List (ℕ × Option Edition)) (a : Act (Option Edition)) → c ≡ was → k < 8 → slice_get l.shelves k ≡ Some Shelf.Free
+spare_tries : (slots id k : ℕ) (l : LoaderView) (c was : List (ℕ × Option Edition)) (hand : ℕ → Option ℕ) (after : ℕ
+    → List (ℕ × Option Edition)) (a : Act (Option Edition)) → c ≡ was → k < 8 → slice_get l.shelves k ≡ Some Shelf.Free
     → carried_after was a ≡ after k
-    → ((table : Table (Option Edition) View) (r : Ruled table) → length table.homes ≡ slots → get_elem? table.views id ≡ some (View.Loading l) → IsFree r.course.state k
+    → ((table : Table (Option Edition) View) (r : Ruled table) → length table.homes ≡ slots
+    → get_elem? table.views id ≡ some (View.Loading l) → IsFree r.course.state k
     → Valid table.homes was a × SlotsFit (homes_after table.homes was a) r.course.state.shelves r.course.state.workers r.course.images (hand k))
     → Allows Ruled slots id (View.Loading l, c) (k + 1) (λ n. either (n == 512) 0 n)
     (λ n m'. (j : ℕ) × (k + 1 ≡ j + 1) × SparedOn l hand after j m')
@@ -455,31 +531,52 @@ spare_tries slots id k l c was hand after a is small free moves moved =
     let z = tries_free id k l was (hand k) a table r at small free m.1 (get_or table.words (k + 1) 0 == 512) refl in
     (View.Loading (with_hand l (hand k) z.0), a, m.0, z.1, (k, refl, (z.0, (λ i. (View.Loading (with_hand l (hand k) z.0), moves i)), z.2))))
 
-pub gatherings : (slots id k : ℕ) (me : Mine) → slots ≡ 128 → k < 8 → MayGather k me.0 me.1 → Allows Ruled slots id me (k + 1) (λ n. either (n == 512) 0 n) (Gathers (step slots (k + 1) 512 0 none) me)
+pub gatherings : (slots id k : ℕ) (me : Mine) → slots ≡ 128 → k < 8 → MayGather k me.0 me.1
+    → Allows Ruled slots id me (k + 1) (λ n. either (n == 512) 0 n) (Gathers (step slots (k + 1) 512 0 none) me)
 gatherings slots id k me many small may =
-    of_loader (λ l. MayGather k (View.Loading l) me.1) (λ u. Allows Ruled slots id (u, me.1) (k + 1) (λ n. either (n == 512) 0 n) (Gathers (step slots (k + 1) 512 0 none) (u, me.1))) me.0
-    (λ l free. spare_tries slots id k l me.1 [] (λ j. Some j) (λ j. down_from nothings (16 * j) 16 []) (take_block nothings (16 * k) 16) free.2 small free.0 (carried_down nothings (16 * k) 16 [])
+    of_loader (λ l. MayGather k (View.Loading l) me.1) (λ u. Allows Ruled slots id (
+      u,
+      me.1,
+    ) (k + 1) (λ n. either (n == 512) 0 n) (Gathers (step slots (k + 1) 512 0 none) (u, me.1))) me.0
+    (λ l free. spare_tries slots id k l me.1 [] (λ j. Some j) (λ j. down_from nothings (16 * j) 16 [])
+    (take_block nothings (16 * k) 16) free.2 small free.0 (carried_down nothings (16 * k) 16 [])
     (λ table r full at is_free.
     let s = r.course.state in (
-      block_valid table.homes [] nothings (16 * k) 16 (spares_home table.homes s.shelves s.workers r.course.images l.hand k free.1 is_free (loader_slots table r id l at)),
-      slots_block table.homes (homes_after table.homes [] (take_block nothings (16 * k) 16)) s.shelves s.shelves s.workers r.course.images r.course.images l.hand (Some k) k Shelf.Free is_free (λ j ne. refl)
+      block_valid table.homes [] nothings (16 * k) 16
+          (spares_home table.homes s.shelves s.workers r.course.images l.hand k free.1 is_free
+          (loader_slots table r id l at)),
+      slots_block table.homes (homes_after table.homes [] (take_block nothings (16 * k) 16)) s.shelves s.shelves
+          s.workers r.course.images r.course.images l.hand (Some k) k Shelf.Free is_free (λ j ne. refl)
           (λ i h. block_else table.homes [] nothings (16 * k) 16 i h) (prefix_same r.course.images)
           (λ j ne q. let y : None ≡ Some j = sym free.1 ∙ q in absurd (cc)) (λ j ne q. absurd (ne (cc)))
-          (λ w less. inr (refl, block_out table.homes [] nothings (16 * k) 16 (16 * k + w) (omega arith) (omega arith) (omega arith))) (loader_slots table r id l at),
+          (λ w less. inr (
+            refl,
+            block_out table.homes [] nothings (16 * k) 16 (16 * k + w) (omega arith) (omega arith)
+                (omega arith),
+          )) (loader_slots table r id l at),
     ))) may
 
-pub puttings : (slots id k : ℕ) (me : Mine) → slots ≡ 128 → k < 8 → MayPutBack k me.0 me.1 → Allows Ruled slots id me (k + 1) (λ n. either (n == 512) 0 n) (PutsBack (step slots (k + 1) 512 0 none) me)
+pub puttings : (slots id k : ℕ) (me : Mine) → slots ≡ 128 → k < 8 → MayPutBack k me.0 me.1
+    → Allows Ruled slots id me (k + 1) (λ n. either (n == 512) 0 n) (PutsBack (step slots (k + 1) 512 0 none) me)
 puttings slots id k me many small may =
-    of_loader (λ l. MayPutBack k (View.Loading l) me.1) (λ u. Allows Ruled slots id (u, me.1) (k + 1) (λ n. either (n == 512) 0 n) (PutsBack (step slots (k + 1) 512 0 none) (u, me.1))) me.0
+    of_loader (λ l. MayPutBack k (View.Loading l) me.1) (λ u. Allows Ruled slots id (
+      u,
+      me.1,
+    ) (k + 1) (λ n. either (n == 512) 0 n) (PutsBack (step slots (k + 1) 512 0 none) (u, me.1))) me.0
     (λ l free. let c = down_from nothings (16 * k) 16 [] in
     spare_tries slots id k l me.1 c (λ j. None) (λ j. []) (give_block 16) free.2 small free.0 (given_rest nothings (16 * k) 16 [])
     (λ table r full at is_free.
     let s = r.course.state in (
       gives_valid table.homes c 16,
-      slots_block table.homes (homes_after table.homes c (give_block 16)) s.shelves s.shelves s.workers r.course.images r.course.images l.hand None k Shelf.Free is_free (λ j ne. refl)
+      slots_block table.homes (homes_after table.homes c (give_block 16)) s.shelves s.shelves s.workers r.course.images
+          r.course.images l.hand None k Shelf.Free is_free (λ j ne. refl)
           (λ i h. given_else table.homes [] nothings (16 * k) 16 i h) (prefix_same r.course.images)
           (λ j ne q. let y : Some k ≡ Some j = sym free.1 ∙ q in absurd (ne (cc))) (λ j ne q. absurd (cc))
-          (λ w less. inl ((λ q. cc), given_home table.homes [] nothings (16 * k) 16 (16 * k + w) (omega arith) (omega arith) (omega arith))) (loader_slots table r id l at),
+          (λ w less. inl (
+            (λ q. cc),
+            given_home table.homes [] nothings (16 * k) 16 (16 * k + w) (omega arith)
+                (omega arith) (omega arith),
+          )) (loader_slots table r id l at),
     ))) may
 
 -- an image stays while others come

@@ -1,6 +1,8 @@
 -- The start, and the seats that are handed out.
 use Rattle.image_layout.specs.Image.{ImageValue}
-use Rattle.std.proofs.Common.{◌≡◌, ◌≢◌, ℕ, zero, suc, ◌+◌, ◌*◌, ◌<◌, ◌≤◌, ◌==◌, ◌⊎◌, true, false, cond, List, [], ◌∷◌, ◌++◌, map, length, replicate, set, get_or, Option, Some, None, slice_get, refl, ap, sym, ◌∙◌, subst, arith, rules, inl, inr, ⊎_elim, length-set}
+use Rattle.std.proofs.Common.{◌≡◌, ◌≢◌, ℕ, zero, suc, ◌+◌, ◌*◌, ◌<◌, ◌≤◌, ◌==◌, ◌⊎◌, true, false, cond, List, [], ◌∷◌}
+use Rattle.std.proofs.Common.{◌++◌, map, length, replicate, set, get_or, Option, Some, None, slice_get, refl, ap, sym}
+use Rattle.std.proofs.Common.{◌∙◌, subst, arith, rules, inl, inr, ⊎_elim, length-set}
 use Rattle.std.proofs.lemmas.Bool.Decides.{nat_tests}
 use Rattle.std.proofs.lemmas.List.{append-nil}
 use mathlib.Core.Logic.{dite}
@@ -39,8 +41,11 @@ first_goes image = record { run = refl; as_many = refl; numbered = only_first }
 first_each : (k : ℕ) (x : Shelf) → slice_get start.shelves k ≡ Some x → get_or first_words (k + 1) 0 ≡ shelf_word x (get_or start.counts k 0)
 first_each = search rules
 
-first_seat : (image : ImageValue) (seat : ℕ) (u : View) → get_elem? (View.Loading (first_loader image) ∷ []) seat ≡ some u → SeatFits (first_course image) (first_loader image) (λ n. 0) seat u
-first_seat image zero u e = subst (λ (x : View). SeatFits (first_course image) (first_loader image) (λ n. 0) 0 x) (some-injective (View.Loading (first_loader image)) u e) (refl, refl)
+first_seat : (image : ImageValue) (seat : ℕ) (u : View)
+    → get_elem? (View.Loading (first_loader image) ∷ []) seat ≡ some u
+    → SeatFits (first_course image) (first_loader image) (λ n. 0) seat u
+first_seat image zero u e = subst (λ (x : View). SeatFits (first_course image) (first_loader image) (λ n. 0) 0 x)
+    (some-injective (View.Loading (first_loader image)) u e) (refl, refl)
 first_seat image (suc seat) u e = absurd (some-ne-none u (sym e))
 
 first_workers : (w : ℕ) → 0 ≤ w → w < 16 → (slice_get start.workers w ≡ Some Worker.Idle) × (get_or start.seen w 0 ≡ 0) × HasDoneNothing w []
@@ -51,7 +56,8 @@ free_at zero k x e = absurd (cc)
 free_at (suc n) zero x e = (cc, omega arith)
 free_at (suc n) (suc k) x e = let z = free_at n k x e in (z.0, (let q = z.1 in omega arith))
 
-first_at : (image : ImageValue) (items : List (Option Edition)) → FirstSlots image 128 items → SlotsFit (map some items) start.shelves start.workers (image ∷ []) None
+first_at : (image : ImageValue) (items : List (Option Edition)) → FirstSlots image 128 items
+    → SlotsFit (map some items) start.shelves start.workers (image ∷ []) None
 first_at image items f zero w x at less =
     let q = f.1 (16 * zero + w) (omega arith) in
     let h = q.2.0 (omega arith) in
@@ -64,7 +70,8 @@ first_at image items f (suc k) w x at less =
     subst (λ (y : Shelf). SlotFits (image ∷ []) start.workers None y (suc k) w (get_elem? (map some items) (16 * suc k + w))) z.0
     (inl ((λ e. cc), at_map some items (16 * suc k + w) q.0 q.1 ∙ ap (λ (y : Option Edition). some (some y)) (q.2.1 (omega arith))))
 
-pub opens_ruled : (image : ImageValue) (items : List (Option Edition)) → FirstSlots image 128 items → Ruled (opening first_words items (View.Loading (first_loader image)))
+pub opens_ruled : (image : ImageValue) (items : List (Option Edition)) → FirstSlots image 128 items
+    → Ruled (opening first_words items (View.Loading (first_loader image)))
 opens_ruled image items f = record {
   course = first_course image;
   loader = first_loader image;
@@ -89,7 +96,8 @@ opens_ruled image items f = record {
 }
 
 -- one slot more at the start
-pub first_slots_grow : (image : ImageValue) (n : ℕ) (items : List (Option Edition)) (x : Option Edition) → FirstSlots image n items → FirstSlot image n x → FirstSlots image (n + 1) (items ++ x ∷ [])
+pub first_slots_grow : (image : ImageValue) (n : ℕ) (items : List (Option Edition)) (x : Option Edition)
+    → FirstSlots image n items → FirstSlot image n x → FirstSlots image (n + 1) (items ++ x ∷ [])
 first_slots_grow image n items x f new = (
   omega (arith, f.0, length-snoc items x),
   λ j less. dite (ℕ_discrete j n)
@@ -117,14 +125,16 @@ owner_new owner number seat = let t : (number == number) ≡ true = grind (arith
 owner_old : (owner : ℕ → ℕ) (number seat w : ℕ) → w ≢ number → owner_after owner number seat w ≡ owner w
 owner_old owner number seat w ne = let t : (w == number) ≡ false = grind (arith, nat_tests) in rw t refl
 
-old_seat : (c : Course) (l : LoaderView) (owner : ℕ → ℕ) (new seat : ℕ) (u : View) → seat ≢ 0 → SeatFits c l owner seat u → SeatFits c (one_more l) (owner_after owner l.handed new) seat u
+old_seat : (c : Course) (l : LoaderView) (owner : ℕ → ℕ) (new seat : ℕ) (u : View) → seat ≢ 0
+    → SeatFits c l owner seat u → SeatFits c (one_more l) (owner_after owner l.handed new) seat u
 old_seat c l owner new seat (View.Loading x) apart o = absurd (apart o.0)
 old_seat c l owner new seat (View.Noting n) apart o = tt
 old_seat c l owner new seat View.Spent apart o = tt
 old_seat c l owner new seat (View.Working v) apart o = let a = o.0 in (omega arith, owner_old owner l.handed new v.number (λ e. omega arith) ∙ o.1, o.2)
 
 -- the loader hands out one more seat: nothing happens
-split_seats : (c : Course) (views : List View) (l : LoaderView) (fit : SeatsFit c views l) (id : ℕ) → id ≡ 0 → get_elem? views id ≡ some (View.Loading l) → Kept c.state → l.handed < 16
+split_seats : (c : Course) (views : List View) (l : LoaderView) (fit : SeatsFit c views l) (id : ℕ) → id ≡ 0
+    → get_elem? views id ≡ some (View.Loading l) → Kept c.state → l.handed < 16
     → SeatsFit c (set views id (View.Loading (one_more l)) ++ View.Working (newcomer l.handed) ∷ []) (one_more l)
 split_seats c views l fit id first at kept room =
     let long = there views id (View.Loading l) at in
@@ -141,7 +151,9 @@ split_seats c views l fit id first at kept room =
     } in
     record {
       owner = owner;
-      loader_seat = at_longer (set views id (View.Loading (one_more l))) (View.Working (newcomer l.handed) ∷ []) 0 (View.Loading (one_more l)) (ap (λ n. get_elem? (set views id (View.Loading (one_more l))) n) (sym first) ∙ set_here views id (View.Loading (one_more l)) long);
+      loader_seat = at_longer (set views id (View.Loading (one_more l))) (View.Working (newcomer l.handed)
+          ∷ []) 0 (View.Loading (one_more l)) (ap (λ n. get_elem? (set views id (View.Loading (one_more l))) n)
+          (sym first) ∙ set_here views id (View.Loading (one_more l)) long);
       loads = let f = fit.loads in record { shows = f.shows; images = f.images; known = f.known; notes = f.notes };
       few = omega arith;
       each = λ seat u e. ⊎_elim
@@ -149,17 +161,31 @@ split_seats c views l fit id first at kept room =
           (λ (q : (seat ≡ id) × (View.Loading (one_more l) ≡ u)). subst (λ (x : View). SeatFits c (one_more l) owner seat x) q.1 (q.0 ∙ first, refl))
           (λ (q : (seat ≢ id) × (get_elem? views seat ≡ some u)). old_seat c l fit.owner (length views) seat u (λ z. q.0 (z ∙ sym first)) (fit.each seat u q.1))
           (at_set views id seat (View.Loading (one_more l)) u old))
-          (λ (q : (seat ≡ length (set views id (View.Loading (one_more l)))) × (View.Working (newcomer l.handed) ≡ u)). subst (λ (x : View). SeatFits c (one_more l) owner seat x) q.1
+          (λ (q : (seat ≡ length (set views id (View.Loading (one_more l))))
+          × (View.Working (newcomer l.handed) ≡ u)). subst (λ (x : View). SeatFits c (one_more l) owner seat x) q.1
           (omega arith, owner_new fit.owner l.handed (length views) ∙ sym (q.0 ∙ size), new))
           (at_end (set views id (View.Loading (one_more l))) (View.Working (newcomer l.handed)) u seat e);
       every = λ w less. dite (ℕ_discrete w l.handed)
-          (λ e. (newcomer l.handed, sym e, ap (λ n. get_elem? (set views id (View.Loading (one_more l)) ++ View.Working (newcomer l.handed) ∷ []) n) (ap owner e ∙ owner_new fit.owner l.handed (length views)) ∙ at_last (set views id (View.Loading (one_more l))) (View.Working (newcomer l.handed)) (length views) size))
+          (λ e. (
+            newcomer l.handed,
+            sym e,
+            ap (λ n.
+                get_elem? (set views id (View.Loading (one_more l)) ++ View.Working (newcomer l.handed) ∷ []) n)
+                (ap owner e ∙ owner_new fit.owner l.handed (length views))
+                ∙ at_last (set views id (View.Loading (one_more l))) (View.Working (newcomer l.handed)) (length views)
+                size,
+          ))
           (λ ne. let n = fit.every w (omega arith) in (
             n.0,
             n.1,
-            ap (λ z. get_elem? (set views id (View.Loading (one_more l)) ++ View.Working (newcomer l.handed) ∷ []) z) (owner_old fit.owner l.handed (length views) w ne)
+            ap (λ z. get_elem? (set views id (View.Loading (one_more l)) ++ View.Working (newcomer l.handed) ∷ []) z)
+                (owner_old fit.owner l.handed (length views) w ne)
                 ∙ at_longer (set views id (View.Loading (one_more l))) (View.Working (newcomer l.handed) ∷ []) (fit.owner w) (View.Working n.0)
-                (set_else views id (fit.owner w) (View.Loading (one_more l)) (λ e. let same : some (View.Working n.0) ≡ some (View.Loading l) = sym n.2 ∙ (ap (λ z. get_elem? views z) e ∙ at) in cc) ∙ n.2),
+                (set_else views id (fit.owner w) (View.Loading (one_more l)) (λ e. let same : some (View.Working n.0)
+                ≡ some (View.Loading l) =
+                sym n.2 ∙ (ap
+                (λ z. get_elem? views z) e
+                ∙ at) in cc) ∙ n.2),
           ));
       unseated = λ w past small. fit.unseated w (omega arith) small;
     }

@@ -13,13 +13,15 @@ looked_here (View.Noting x') c n m' h = absurd h
 looked_here View.Spent c n m' h = absurd h
 looked_here (View.Working v) c n m' h = subst (λ (x : Mine). HasLooked (n % 8) x.0) (sym h.1) (n / 8, refl)
 
-took : (a : WorkerView) (c : List (ℕ × Option Edition)) (n word : ℕ) (m1 m2 : Mine) (b : Bool) → (look : Looks (View.Working a, c) n m1) → Takes m1 word m2 → is_open word (n / 8) ≡ b
+took : (a : WorkerView) (c : List (ℕ × Option Edition)) (n word : ℕ) (m1 m2 : Mine) (b : Bool)
+    → (look : Looks (View.Working a, c) n m1) → Takes m1 word m2 → is_open word (n / 8) ≡ b
     → TakesFound (looked_at a n look.0) c (n / 8) (n % 8) word b m2
 took a c n word m1 m2 b look take is =
     let t : TakesFound (looked_at a n look.0) c (n / 8) (n % 8) word (is_open word (n / 8)) m2 = subst (λ (m : Mine). Takes m word m2) look.1 take in
     subst (λ x. TakesFound (looked_at a n look.0) c (n / 8) (n % 8) word x m2) is t
 
-pub well_so : (u : View) (c : List (ℕ × Option Edition)) (number n word : ℕ) (m1 m2 : Mine) → OfWorker u (λ a. (a.now ≡ Worker.Idle) × (a.number ≡ number)) → c ≡ []
+pub well_so : (u : View) (c : List (ℕ × Option Edition)) (number n word : ℕ) (m1 m2 : Mine)
+    → OfWorker u (λ a. (a.now ≡ Worker.Idle) × (a.number ≡ number)) → c ≡ []
     → Looks (u, c) n m1 → Takes m1 word m2 → is_open word (n / 8) ≡ true
     → (e : Edition) × (m2.1 ≡ (16 * (n % 8) + number, Some e) ∷ []) × (e.version ≡ n / 8) × Well u (n / 8) (n % 8) e m2.0
     × OfWorker m2.0 (λ b. (b.now ≡ Worker.Holding (n % 8) (n / 8)) × (b.number ≡ number) × (b.edition ≡ Some e))
@@ -45,7 +47,8 @@ well_so (View.Working a) c number n word m1 m2 idle empty look take stands =
             its = t.4;
             shows = t.5;
           },
-      subst (λ (m : Mine). OfWorker m.0 (λ b. (b.now ≡ Worker.Holding (n % 8) (n / 8)) × (b.number ≡ number) × (b.edition ≡ Some e))) (sym t.2) (refl, idle.1, refl),
+      subst (λ (m : Mine). OfWorker m.0 (λ b. (b.now ≡ Worker.Holding (n % 8) (n / 8)) × (b.number ≡ number)
+          × (b.edition ≡ Some e))) (sym t.2) (refl, idle.1, refl),
     )
 
 pub late_here : (u : View) (c : List (ℕ × Option Edition)) (number n word : ℕ) (m1 m2 : Mine) → OfWorker u (λ a. (a.now ≡ Worker.Idle) × (a.number ≡ number))
@@ -56,7 +59,8 @@ late_here View.Spent c number n word m1 m2 idle look take shut = absurd idle
 late_here (View.Working a) c number n word m1 m2 idle look take shut =
     let t = took a c n word m1 m2 false look take shut in subst (λ (m : Mine). IsLate (n % 8) m.0) (sym t.1) refl
 
-pub late_so : (u : View) (c : List (ℕ × Option Edition)) (number n word : ℕ) (m1 m2 m3 : Mine) → OfWorker u (λ a. (a.now ≡ Worker.Idle) × (a.number ≡ number)) → c ≡ []
+pub late_so : (u : View) (c : List (ℕ × Option Edition)) (number n word : ℕ) (m1 m2 m3 : Mine)
+    → OfWorker u (λ a. (a.now ≡ Worker.Idle) × (a.number ≡ number)) → c ≡ []
     → Looks (u, c) n m1 → Takes m1 word m2 → is_open word (n / 8) ≡ false → Leaves m2 m3 → Late u (n / 8) m3.0 × IsIdleAs number m3
 late_so (View.Loading l) c number n word m1 m2 m3 idle empty look take shut leave = absurd idle
 late_so (View.Noting x') c number n word m1 m2 m3 idle empty look take shut leave = absurd idle
@@ -121,10 +125,33 @@ pub pinned_second : (number : ℕ) (u v : View) (i : ℕ) (h : ℕ × Edition) (
 pinned_second number u v i h w a t = (t.0, (i ∷ [], omega arith, v, (v, a, refl), t.1, (late_well u v w.0 i h.1.version h.0 h.1 a t.1, tt)), t.2)
 
 pub pinned_third : (number : ℕ) (u v x : View) (i j : ℕ) (h : ℕ × Edition) (w : Mine) → Late u i v → Late v j x → Held number x h w → Pinned number u h w
-pinned_third number u v x i j h w a b t = (t.0, (i ∷ j ∷ [], omega arith, x, (v, a, (x, b, refl)), t.1, (late_late u v x i j a b, (late_well v x w.0 j h.1.version h.0 h.1 b t.1, tt))), t.2)
+pinned_third number u v x i j h w a b t = (
+  t.0,
+  (
+    i ∷ j ∷ [],
+    omega arith,
+    x,
+    (v, a, (x, b, refl)),
+    t.1,
+    (late_late u v x i j a b, (late_well v x w.0 j h.1.version h.0 h.1 b t.1, tt)),
+  ),
+  t.2,
+)
 
-pub pinned_fourth : (number : ℕ) (u v x y : View) (i j k : ℕ) (h : ℕ × Edition) (w : Mine) → Late u i v → Late v j x → Late x k y → Held number y h w → Pinned number u h w
-pinned_fourth number u v x y i j k h w a b d t = (t.0, (i ∷ j ∷ k ∷ [], omega arith, y, (v, a, (x, b, (y, d, refl))), t.1, (late_late u v x i j a b, (late_late v x y j k b d, (late_well x y w.0 k h.1.version h.0 h.1 d t.1, tt)))), t.2)
+pub pinned_fourth : (number : ℕ) (u v x y : View) (i j k : ℕ) (h : ℕ × Edition) (w : Mine) → Late u i v → Late v j x
+    → Late x k y → Held number y h w → Pinned number u h w
+pinned_fourth number u v x y i j k h w a b d t = (
+  t.0,
+  (
+    i ∷ j ∷ k ∷ [],
+    omega arith,
+    y,
+    (v, a, (x, b, (y, d, refl))),
+    t.1,
+    (late_late u v x i j a b, (late_late v x y j k b d, (late_well x y w.0 k h.1.version h.0 h.1 d t.1, tt))),
+  ),
+  t.2,
+)
 
 pub moved : (u v x y z : View) (i j k n : ℕ) → Late u i v → Late v j x → Late x k y → Late y n z → Moves u n z
 moved u v x y z i j k n a b d e = (i, j, k, (v, a, (x, b, (y, d, (z, e, refl)))), late_late u v x i j a b, late_late v x y j k b d, late_late x y z k n d e)

@@ -73,21 +73,34 @@ held_have table l i k v w r loads at now =
       subst (λ (x : List ImageValue). IsEdition x v w.edition) (sym kn.images) (subst (λ (x : Worker). HasEdition r.course.images x w.edition) now f.edition),
     )
 
-filled : (images : List ImageValue) (ws : List Worker) (hand : Option ℕ) (y : Shelf) (k w v : ℕ) (slot : Slot) → version_of y ≡ Some v → SlotFits images ws hand y k w slot → IsFilled images ws k w v slot
+filled : (images : List ImageValue) (ws : List Worker) (hand : Option ℕ) (y : Shelf) (k w v : ℕ) (slot : Slot)
+    → version_of y ≡ Some v → SlotFits images ws hand y k w slot → IsFilled images ws k w v slot
 filled images ws hand Shelf.Free k w v slot e f = absurd (cc)
 filled images ws hand (Shelf.Open x) k w v slot e f = let same : x ≡ v = cc in subst (λ n. IsFilled images ws k w n slot) same f
 filled images ws hand (Shelf.Closing x) k w v slot e f = let same : x ≡ v = cc in subst (λ n. IsFilled images ws k w n slot) same f
 
-slot_of : (table : Shelved) (l : LoaderView) (k w v : ℕ) (r : Ruled table) → IsLoader table l → version_on l.shelves k ≡ Some v → w < 16 → IsFilled r.course.images r.course.state.workers k w v (get_elem? table.homes (16 * k + w))
+slot_of : (table : Shelved) (l : LoaderView) (k w v : ℕ) (r : Ruled table) → IsLoader table l
+    → version_on l.shelves k ≡ Some v → w < 16
+    → IsFilled r.course.images r.course.state.workers k w v (get_elem? table.homes (16 * k + w))
 slot_of table l k w v r at is less =
     let y = held_on l.shelves k v is in
-    filled r.course.images r.course.state.workers r.loader.hand y.0 k w v (get_elem? table.homes (16 * k + w)) y.2 (r.slots k w y.0 (same_shelf table l r at k y.0 y.1) less)
+    filled r.course.images r.course.state.workers r.loader.hand y.0 k w v (get_elem? table.homes (16 * k + w)) y.2
+    (r.slots k w y.0 (same_shelf table l r at k y.0 y.1) less)
 
 pub slots_out : SlotsOutAreHeld
 slots_out table l k w v r at is less out =
     let s = r.course.state in
-    let here : slice_get s.workers w ≡ Some (Worker.Holding k v) = elim (slot_of table l k w v r at is less) [ inl a ↦ absurd (let z : some none ≡ some (some a.0) = sym out ∙ a.1 in cc) | inr b ↦ b.1 ] in
-    let seated : w < r.loader.handed = dite (dec_le r.loader.handed w) (λ past. absurd (let u = r.seats.unseated w past less in let z : Some Worker.Idle ≡ Some (Worker.Holding k v) = sym u.0 ∙ here in cc)) (λ not. lt_of_not-le not) in
+    let here : slice_get s.workers w ≡ Some (Worker.Holding k v) =
+    elim (slot_of table l k w v r at is less) [
+      | inl a ↦
+          absurd (let z : some none ≡ some (some a.0) = sym out ∙ a.1 in cc)
+      | inr b ↦ b.1
+    ] in
+    let seated : w < r.loader.handed = dite (dec_le r.loader.handed w) (λ past. absurd (let u =
+    r.seats.unseated w past
+    less in let z : Some
+    Worker.Idle
+    ≡ Some (Worker.Holding k v) = sym u.0 ∙ here in cc)) (λ not. lt_of_not-le not) in
     let n = r.seats.every w seated in
     let f : WorkerFits r.course n.0 = (r.seats.each (r.seats.owner w) (View.Working n.0) n.2).2 in
     let z : Some n.0.now ≡ Some (Worker.Holding k v) = sym f.shows.now ∙ (ap (λ m. slice_get s.workers m) n.1 ∙ here) in
@@ -98,7 +111,10 @@ slots_home table l k w v x r at is less home =
     let kn = knows table l r at in
     subst (λ (xs : List ImageValue). IsEdition xs v x) (sym kn.images)
     (elim (slot_of table l k w v r at is less) [
-      | inl a ↦ (let z : some (some x) ≡ some (some a.0) = sym home ∙ a.1 in let same : x ≡ a.0 = cc in subst (λ (o : Option Edition). IsEdition r.course.images v o) (sym same) a.2)
+      | inl a ↦ (let z : some (some x) ≡ some (some a.0) = sym home ∙ a.1 in let same : x ≡ a.0 =
+          cc in subst (λ (o : Option Edition).
+          IsEdition r.course.images v o)
+          (sym same) a.2)
       | inr b ↦ absurd (let z : some (some x) ≡ some none = sym home ∙ b.0 in cc)
     ])
 
@@ -117,7 +133,10 @@ one_loads table r = ((r.loader, r.seats.loader_seat), (λ i l at. (r.seats.each 
 
 pub looks_are : LooksAreSo
 looks_are table l i w r loads at =
-    let f : WorkerFits r.course w = (r.seats.each i (View.Working w) at).2 in let kn = knows table l r loads in let kept : Kept r.course.state = kept_of r.course r.goes in
+    let f : WorkerFits r.course w = (r.seats.each i (View.Working w) at).2 in let kn =
+    knows table l r loads in
+    let kept : Kept r.course.state =
+    kept_of r.course r.goes in
     let c = kn.shows.current in (
       (let a = seen_small r.course.state w.number w.now kept f.shows.now in let b = f.shows.seen in omega arith),
       (let a = f.last.0 in omega arith),

@@ -15,8 +15,11 @@ use Rattle.shelf_steps.specs.Laws.{Shelved, IsLoader, TableShows, OneStateIsShow
 use Rattle.shelf_steps.proofs.Courses.{kept_of}
 use Rattle.shelf_steps.proofs.Says.{is_loader, knows}
 
-same_items : {X : Type 0} (d : X) (xs ys : List X) → length xs ≡ length ys → ((i : ℕ) → i < length xs → (x : X) × (slice_get xs i ≡ Some x) × (slice_get ys i ≡ Some x)) → xs ≡ ys
-same_items d xs ys long same = ext_get_or d xs ys long (λ i low. let q = same i low in get_or_from_slice_get xs i q.0 d q.1 ∙ sym (get_or_from_slice_get ys i q.0 d q.2))
+same_items : {X : Type 0} (d : X) (xs ys : List X) → length xs ≡ length ys
+    → ((i : ℕ) → i < length xs → (x : X) × (slice_get xs i ≡ Some x) × (slice_get ys i ≡ Some x)) → xs ≡ ys
+same_items d xs ys long same = ext_get_or d xs ys long (λ i low. let q =
+    same i low in get_or_from_slice_get xs i q.0 d
+    q.1 ∙ sym (get_or_from_slice_get ys i q.0 d q.2))
 
 -- a word of a known shelf has one count
 one_count : (x : Shelf) (a b : ℕ) → shelf_word x a ≡ shelf_word x b → a ≡ b
@@ -39,7 +42,8 @@ module _ (table : Shelved) (l : LoaderView) (r : Ruled table) (at : IsLoader tab
   }
 
   module _ (s t : State) (kept_s : Kept s) (kept : Kept t) (a : TableShows table l s) (b : TableShows table l t) where
-    worker_at : (w : ℕ) → w < 16 → ((x : Worker) × (slice_get s.workers w ≡ Some x) × (slice_get t.workers w ≡ Some x)) × (get_or s.seen w 0 ≡ get_or t.seen w 0)
+    worker_at : (w : ℕ) → w < 16 → ((x : Worker) × (slice_get s.workers w ≡ Some x) × (slice_get t.workers w ≡ Some x))
+        × (get_or s.seen w 0 ≡ get_or t.seen w 0)
     worker_at w small = dite (dec_le l.handed w)
         (λ past. let p = a.unseated w past small in let q = b.unseated w past small in ((Worker.Idle, p.0, q.0), p.1 ∙ sym q.1))
         (λ not. let n = r.seats.every w (subst (λ m. w < m) same_handed (lt_of_not-le not)) in
@@ -56,15 +60,19 @@ module _ (table : Shelved) (l : LoaderView) (r : Ruled table) (at : IsLoader tab
         let eight = kept_s.shelves.eight in
         let x = get_or s.shelves k Shelf.Free in
         let here : slice_get s.shelves k ≡ Some x = slice_get-get_or s.shelves k Shelf.Free (omega arith) in
-        one_count x (get_or s.counts k 0) (get_or t.counts k 0) (sym (a.words.each k x here) ∙ b.words.each k x (ap (λ (xs : List Shelf). slice_get xs k) (sym same_shelves) ∙ here))
+        one_count x (get_or s.counts k 0) (get_or t.counts k 0) (sym (a.words.each k x here)
+        ∙ b.words.each k x (ap (λ (xs : List Shelf). slice_get xs k) (sym same_shelves) ∙ here))
 
     edition_at : (i : ℕ) → i < length s.editions → get_or s.editions i 0 ≡ get_or t.editions i 0
     edition_at i low =
         let many = a.loader.newest_is in let many' = b.loader.newest_is in
-        a.numbered i (get_or s.editions i 0) (slice_get-get_or s.editions i 0 low) ∙ sym (b.numbered i (get_or t.editions i 0) (slice_get-get_or t.editions i 0 (omega arith)))
+        a.numbered i (get_or s.editions i 0) (slice_get-get_or s.editions i 0 low)
+        ∙ sym (b.numbered i (get_or t.editions i 0) (slice_get-get_or t.editions i 0 (omega arith)))
 
     same_workers : s.workers ≡ t.workers
-    same_workers = let n = kept_s.workers.sixteen in same_items Worker.Idle s.workers t.workers (n ∙ sym kept.workers.sixteen) (λ w low. (worker_at w (omega arith)).0)
+    same_workers = let n = kept_s.workers.sixteen in
+        same_items Worker.Idle s.workers t.workers (n
+        ∙ sym kept.workers.sixteen) (λ w low. (worker_at w (omega arith)).0)
 
     same_seen : s.seen ≡ t.seen
     same_seen = let n = kept_s.workers.sixteen_seen in ext_get_or 0 s.seen t.seen (n ∙ sym kept.workers.sixteen_seen) (λ w low. (worker_at w (omega arith)).1)

@@ -1,5 +1,7 @@
 -- Words, and what they show.
-use Rattle.std.proofs.Common.{◌≡◌, ◌≢◌, ℕ, ◌+◌, ◌-◌, ◌*◌, ◌/◌, ◌%◌, ◌<◌, ◌≤◌, ◌==◌, Bool, true, false, MatchBool, List, [], ◌∷◌, ◌++◌, set, get_or, Some, slice_get, refl, ap, sym, ◌∙◌, subst, arith, length-set, get_or-set_same, get_or-set_other, ◌⊎◌, inl, inr}
+use Rattle.std.proofs.Common.{◌≡◌, ◌≢◌, ℕ, ◌+◌, ◌-◌, ◌*◌, ◌/◌, ◌%◌, ◌<◌, ◌≤◌, ◌==◌, Bool, true, false, MatchBool, List}
+use Rattle.std.proofs.Common.{[], ◌∷◌, ◌++◌, set, get_or, Some, slice_get, refl, ap, sym, ◌∙◌, subst, arith, length-set}
+use Rattle.std.proofs.Common.{get_or-set_same, get_or-set_other, ◌⊎◌, inl, inr}
 use Rattle.std.proofs.lemmas.List.{set-get_or}
 use Rattle.std.proofs.lemmas.List.Sums.{count_by-le-length}
 use Rattle.std.proofs.lemmas.Option.{slice_get_within}
@@ -20,10 +22,13 @@ use Rattle.shelf_steps.proofs.Courses.{kept_of}
 
 -- the word that `CUR` was found to be
 pub current_word : (s : State) (n : ℕ) → Kept s → n ≡ 8 * s.current + s.current_shelf → (s.current_shelf < 8) × (n / 8 ≡ s.current) × (n % 8 ≡ s.current_shelf)
-current_word s n kept e = let l = slice_get_within s.shelves s.current_shelf _ kept.shelves.current_open in let z = kept.shelves.eight in (omega arith, omega arith, omega arith)
+current_word s n kept e = let l = slice_get_within s.shelves s.current_shelf _ kept.shelves.current_open in let z =
+    kept.shelves.eight in (omega arith, omega arith, omega arith)
 
 -- a load changes no word
-pub words_same : (words : List ℕ) (i : ℕ) (s t : State) → WordsShow words s → t.current ≡ s.current → t.current_shelf ≡ s.current_shelf → t.shelves ≡ s.shelves → t.counts ≡ s.counts → WordsShow (set words i (get_or words i 0)) t
+pub words_same : (words : List ℕ) (i : ℕ) (s t : State) → WordsShow words s → t.current ≡ s.current
+    → t.current_shelf ≡ s.current_shelf → t.shelves ≡ s.shelves → t.counts ≡ s.counts
+    → WordsShow (set words i (get_or words i 0)) t
 words_same words i s t w a b c d = subst (λ (l : List ℕ). WordsShow l t) (sym (set-get_or words i 0)) record {
   nine = w.nine;
   cur = w.cur ∙ (λ i. 8 * sym a i + sym b i);
@@ -39,8 +44,11 @@ words_after words k new s t w small a b others here = record {
   cur = get_or-set_other words (k + 1) 0 new 0 (λ e. omega arith) ∙ (w.cur ∙ (λ i. 8 * sym a i + sym b i));
   each = λ j x at. dite (ℕ_discrete j k)
       (λ e. let at' : slice_get t.shelves k ≡ Some x = ap (λ n. slice_get t.shelves n) (sym e) ∙ at in let l = w.nine in
-      ap (λ n. get_or (set words (k + 1) new) (n + 1) 0) e ∙ (get_or-set_same words (k + 1) new 0 (omega arith) ∙ (here x at' ∙ ap (λ n. shelf_word x (get_or t.counts n 0)) (sym e))))
-      (λ ne. let o = others j ne in get_or-set_other words (k + 1) (j + 1) new 0 (λ e. ne (omega arith)) ∙ (w.each j x (sym o.0 ∙ at) ∙ ap (λ n. shelf_word x n) (sym o.1)));
+      ap (λ n. get_or (set words (k + 1) new) (n + 1) 0) e
+      ∙ (get_or-set_same words (k + 1) new 0 (omega arith)
+      ∙ (here x at' ∙ ap (λ n. shelf_word x (get_or t.counts n 0)) (sym e))))
+      (λ ne. let o = others j ne in get_or-set_other words (k + 1) (j + 1) new 0 (λ e. ne (omega arith))
+      ∙ (w.each j x (sym o.0 ∙ at) ∙ ap (λ n. shelf_word x n) (sym o.1)));
 }
 
 pub word_up : (x : Shelf) (count : ℕ) → shelf_word x count + 1 ≡ shelf_word x (count + 1)
@@ -48,7 +56,9 @@ word_up Shelf.Free count = refl
 word_up (Shelf.Open x) count = omega arith
 word_up (Shelf.Closing x) count = omega arith
 
-word_small : (x : Shelf) (count : ℕ) → count < 256 → ((v : ℕ) → (x ≡ Shelf.Open v) ⊎ (x ≡ Shelf.Closing v) → v ≤ 1000000000) → shelf_word x count + 1 < 18446744073709551616
+word_small : (x : Shelf) (count : ℕ) → count < 256
+    → ((v : ℕ) → (x ≡ Shelf.Open v) ⊎ (x ≡ Shelf.Closing v) → v ≤ 1000000000)
+    → shelf_word x count + 1 < 18446744073709551616
 word_small Shelf.Free count small bound = omega arith
 word_small (Shelf.Open v) count small bound = let b = bound v (inl refl) in omega arith
 word_small (Shelf.Closing v) count small bound = let b = bound v (inr refl) in omega arith
@@ -56,13 +66,21 @@ word_small (Shelf.Closing v) count small bound = let b = bound v (inr refl) in o
 pub few_counted : (s : State) (k : ℕ) → Kept s → k < 8 → get_or s.counts k 0 ≤ 16
 few_counted s k kept small = let c = kept.counts.each k small in let l = kept.workers.sixteen in omega (arith, count_by-le-length (is_at k) s.workers)
 
-pub version_bound : (s : State) (k : ℕ) (x : Shelf) → Kept s → slice_get s.shelves k ≡ Some x → (v : ℕ) → (x ≡ Shelf.Open v) ⊎ (x ≡ Shelf.Closing v) → v ≤ 1000000000
+pub version_bound : (s : State) (k : ℕ) (x : Shelf) → Kept s → slice_get s.shelves k ≡ Some x → (v : ℕ)
+    → (x ≡ Shelf.Open v) ⊎ (x ≡ Shelf.Closing v) → v ≤ 1000000000
 version_bound s k x kept at v is = let r = kept.room in
-    let on : version_on s.shelves k ≡ Some v = elim is [ inl a ↦ version_at s.shelves k (Shelf.Open v) (at ∙ ap (λ (y : Shelf). Some y) a) | inr b ↦ version_at s.shelves k (Shelf.Closing v) (at ∙ ap (λ (y : Shelf). Some y) b) ] in
+    let on : version_on s.shelves k ≡ Some v =
+    elim is [
+      | inl a ↦ version_at s.shelves k (Shelf.Open v) (at ∙ ap (λ (y : Shelf). Some y) a)
+      | inr b ↦
+          version_at s.shelves k (Shelf.Closing v) (at ∙ ap (λ (y : Shelf). Some y) b)
+    ] in
     let h = kept.shelves.known k v on in let q = h.1 in omega arith
 
 -- a shelf with its word, to which one may be added
-pub found_shelf : (words : List ℕ) (s : State) (k : ℕ) → Kept s → WordsShow words s → k < 8 → (x : Shelf) × (slice_get s.shelves k ≡ Some x) × (get_or words (k + 1) 0 ≡ shelf_word x (get_or s.counts k 0)) × (get_or words (k + 1) 0 + 1 < 18446744073709551616)
+pub found_shelf : (words : List ℕ) (s : State) (k : ℕ) → Kept s → WordsShow words s → k < 8
+    → (x : Shelf) × (slice_get s.shelves k ≡ Some x) × (get_or words (k + 1) 0 ≡ shelf_word x (get_or s.counts k 0))
+    × (get_or words (k + 1) 0 + 1 < 18446744073709551616)
 found_shelf words s k kept w small =
     let l = kept.shelves.eight in let x = at_below s.shelves k (omega arith) in let few = few_counted s k kept small in
     let is = w.each k x.0 x.1 in let top = word_small x.0 (get_or s.counts k 0) (omega arith) (version_bound s k x.0 kept x.1) in
@@ -89,7 +107,8 @@ word_rises words s k kept w small y at =
     one_more (get_or words (k + 1) 0) x.3 ∙ (ap (λ n. n + 1) (w.each k y at) ∙ word_up y (get_or s.counts k 0))
 
 -- and of one whose count falls
-pub word_falls : (words : List ℕ) (s : State) (k : ℕ) → Kept s → WordsShow words s → k < 8 → 1 ≤ get_or s.counts k 0 → (y : Shelf) → slice_get s.shelves k ≡ Some y
+pub word_falls : (words : List ℕ) (s : State) (k : ℕ) → Kept s → WordsShow words s → k < 8 → 1 ≤ get_or s.counts k 0
+    → (y : Shelf) → slice_get s.shelves k ≡ Some y
     → (get_or words (k + 1) 0 + (18446744073709551616 - 1)) % 18446744073709551616 ≡ shelf_word y (get_or s.counts k 0 - 1)
 word_falls words s k kept w small some_one y at =
     let x = found_shelf words s k kept w small in let count = get_or s.counts k 0 in
@@ -108,11 +127,13 @@ is_open_at (Shelf.Open x) n count v e small = let a : n / 256 % 4 ≡ 1 = omega 
         (λ ne. let t : (x == v) ≡ false = grind (arith, nat_tests) in rw t (λ q. ne (cc)))
 
 -- the word says whether the shelf is open with the version
-pub word_tells : (words : List ℕ) (s : State) (k v : ℕ) → Kept s → WordsShow words s → k < 8 → MatchBool (is_open (get_or words (k + 1) 0) v) (IsOpen s k v) (¬ (IsOpen s k v))
+pub word_tells : (words : List ℕ) (s : State) (k v : ℕ) → Kept s → WordsShow words s → k < 8
+    → MatchBool (is_open (get_or words (k + 1) 0) v) (IsOpen s k v) (¬ (IsOpen s k v))
 word_tells words s k v kept w small =
     let x = found_shelf words s k kept w small in let few = few_counted s k kept small in
     told x.0 (is_open (get_or words (k + 1) 0) v) x.1 (is_open_at x.0 (get_or words (k + 1) 0) (get_or s.counts k 0) v x.2 (omega arith))
   where
-    told : (x : Shelf) (b : Bool) → slice_get s.shelves k ≡ Some x → MatchBool b (x ≡ Shelf.Open v) (x ≢ Shelf.Open v) → MatchBool b (IsOpen s k v) (¬ (IsOpen s k v))
+    told : (x : Shelf) (b : Bool) → slice_get s.shelves k ≡ Some x → MatchBool b (x ≡ Shelf.Open v) (x ≢ Shelf.Open v)
+        → MatchBool b (IsOpen s k v) (¬ (IsOpen s k v))
     told x true at is = at ∙ ap (λ (y : Shelf). Some y) is
     told x false at is = λ q. is (let z : Some x ≡ Some (Shelf.Open v) = sym at ∙ q in cc)

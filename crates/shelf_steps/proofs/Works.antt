@@ -2,7 +2,9 @@
 use Rattle.reasoning.proofs.ListLemmas.{slice_get-set_same, slice_get-set_other}
 use Rattle.version_core.specs.Actors.{nobody, actor}
 use Rattle.image_layout.specs.Image.{ImageValue}
-use Rattle.std.proofs.Common.{◌≡◌, ◌≢◌, ℕ, zero, suc, ◌+◌, ◌-◌, ◌*◌, ◌/◌, ◌%◌, ◌<◌, ◌≤◌, Bool, true, false, MatchBool, List, [], ◌∷◌, length, set, get_or, Option, Some, None, slice_get, refl, ap, sym, ◌∙◌, subst, arith, get_or-set_same, get_or-set_other, le_refl, inl, inr}
+use Rattle.std.proofs.Common.{◌≡◌, ◌≢◌, ℕ, zero, suc, ◌+◌, ◌-◌, ◌*◌, ◌/◌, ◌%◌, ◌<◌, ◌≤◌, Bool, true, false, MatchBool}
+use Rattle.std.proofs.Common.{List, [], ◌∷◌, length, set, get_or, Option, Some, None, slice_get, refl, ap, sym, ◌∙◌}
+use Rattle.std.proofs.Common.{subst, arith, get_or-set_same, get_or-set_other, le_refl, inl, inr}
 use Rattle.std.proofs.lemmas.Option.{slice_get_within}
 use mathlib.Core.Option.{Option as Maybe, none, some}
 use lib.ListN.{get_elem?}
@@ -24,7 +26,8 @@ use Rattle.version_core.specs.Shown.{WordsShow, WorkerShows, shelf_word}
 use Rattle.shelf_steps.specs.Seats.{WorkerFits, LoaderFits, SeatsFit, HasEdition}
 use Rattle.shelf_steps.specs.Slots.{SlotsFit, SlotFits}
 use Rattle.shelf_steps.specs.Ruled.{Ruled}
-use Rattle.shelf_steps.specs.Plays.{Mine, looked_at, is_open, holding, come_late, gone, Looks, TakesFound, TakesAs, Takes, Leaves, GivesBack, IsIdle, HasLooked, IsLate, HoldsOut, ShowsIn}
+use Rattle.shelf_steps.specs.Plays.{Mine, looked_at, is_open, holding, come_late, gone, Looks, TakesFound, TakesAs}
+use Rattle.shelf_steps.specs.Plays.{Takes, Leaves, GivesBack, IsIdle, HasLooked, IsLate, HoldsOut, ShowsIn}
 use Rattle.shelf_steps.proofs.Courses.{kept_of, joined_same, no_note, no_join, nothing_snoc}
 use Rattle.shelf_steps.proofs.Courses.{begins_longer, happened, goes_same, loader_apart, prefix_same, other_fits, worker_next}
 use Rattle.shelf_steps.proofs.Frames.{there, worker_moves}
@@ -33,9 +36,12 @@ use Rattle.shelf_steps.proofs.NoteLists.{notices_worker}
 use Rattle.shelf_steps.proofs.SlotsAfter.{slots_worker, slots_one}
 
 -- a step of a worker changes what is so of that worker alone
-module _ (table : Table (Option Edition) View) (r : Ruled table) (id : ℕ) (v v' : WorkerView) (at : get_elem? table.views id ≡ some (View.Working v)) (named : v'.number ≡ v.number)
+module _ (table : Table (Option Edition) View) (r : Ruled table) (id : ℕ) (v v' : WorkerView)
+    (at : get_elem? table.views id ≡ some (View.Working v)) (named : v'.number ≡ v.number)
     (e : Event) (reply : Reply) (t : State) (whose : actor e ≡ Some v.number) (is_step : Step r.course.state e reply t)
-    (current : t.current ≡ r.course.state.current) (current_shelf : t.current_shelf ≡ r.course.state.current_shelf) (shelves : t.shelves ≡ r.course.state.shelves) (editions : t.editions ≡ r.course.state.editions)
+    (current : t.current ≡ r.course.state.current) (current_shelf : t.current_shelf
+    ≡ r.course.state.current_shelf) (shelves : t.shelves ≡ r.course.state.shelves) (editions : t.editions
+    ≡ r.course.state.editions)
     (rest : (w : ℕ) → w ≢ v.number → (slice_get t.workers w ≡ slice_get r.course.state.workers w) × (get_or t.seen w 0 ≡ get_or r.course.state.seen w 0)) where
   pub next : Course
   next = extended r.course e reply t r.course.images
@@ -65,7 +71,8 @@ module _ (table : Table (Option Edition) View) (r : Ruled table) (id : ℕ) (v v
       (begins_longer r.course e reply t r.course.images u.known (Some u.number) (not_of u.number other) (prefix_same r.course.images) f.known)
       (joined_same u.number r.course.events e (no_join u.number e not_nobodys)) f
 
-  pub next_seats : WorkerFits (extended r.course e reply t r.course.images) v' → SeatsFit (extended r.course e reply t r.course.images) (set table.views id (View.Working v')) r.loader
+  pub next_seats : WorkerFits (extended r.course e reply t r.course.images) v'
+      → SeatsFit (extended r.course e reply t r.course.images) (set table.views id (View.Working v')) r.loader
   next_seats fits = worker_moves r.course (extended r.course e reply t r.course.images) table.views r.loader r.seats id v v' at named others loads rest
       (λ w low other h. nothing_snoc w r.course.events e (not_of w other) (no_join w e not_nobodys) h) fits
 
@@ -119,7 +126,19 @@ looks_as slots id (View.Working v) c idle table r full at small =
           (words_same table.words 0 s t r.words refl refl refl refl)
           (slots_worker table.homes s.shelves s.workers r.course.images r.loader.hand w Worker.Idle (Worker.Looked s.current s.current_shelf) is_idle
           (λ k x q. cc) r.slots) refl,
-      (all_of d, refl, next_happened table r id v v' at refl e reply t refl is_step refl refl refl refl rest, seen_less, (λ p. let q = f.passed p in let q' = z.1 in omega arith), (t, next_goes table r id v v' at refl e reply t refl is_step refl refl refl refl rest, fits.shows)),
+      (
+        all_of d,
+        refl,
+        next_happened table r id v v' at refl e reply t refl is_step refl refl refl refl rest,
+        seen_less,
+        (λ p. let q = f.passed p in let q' = z.1 in omega arith),
+        (
+          t,
+          next_goes table r id v v' at refl e reply t refl is_step refl refl refl
+              refl rest,
+          fits.shows,
+        ),
+      ),
     )
 
 pub looks : (slots id : ℕ) (me : Mine) → IsIdle me.0 → Allows Ruled slots id me 0 (λ n. n) (Looks me)
@@ -127,7 +146,8 @@ looks slots id me idle = looks_as slots id me.0 me.1 idle
 
 -- the count of the shelf k becomes another, and its word with it
 words_counted : (words : List ℕ) (k new count : ℕ) (ws : List Worker) (s : State) → Kept s → WordsShow words s → k < 8
-    → ((y : Shelf) → slice_get s.shelves k ≡ Some y → new ≡ shelf_word y count) → WordsShow (set words (k + 1) new) (record s { counts = set s.counts k count; workers = ws })
+    → ((y : Shelf) → slice_get s.shelves k ≡ Some y → new ≡ shelf_word y count)
+    → WordsShow (set words (k + 1) new) (record s { counts = set s.counts k count; workers = ws })
 words_counted words k new count ws s kept shown small is =
     let l = kept.counts.eight in
     words_after words k new s (record s { counts = set s.counts k count; workers = ws }) shown small refl refl
@@ -141,15 +161,21 @@ record Looker (s : State) (d : Course) (v : WorkerView) (version k : ℕ) : Type
   within : v.number < length s.workers
   shelf : (v.number < 16) × (k < 8) × (get_or s.seen v.number 0 ≡ version) × (version ≤ s.current) × (version ≡ s.current → k ≡ s.current_shelf)
 
-looker : (id k : ℕ) (v : WorkerView) (version : ℕ) (table : Table (Option Edition) View) (r : Ruled table) → get_elem? table.views id ≡ some (View.Working v) → v.now ≡ Worker.Looked version k → Looker r.course.state r.course v version k
+looker : (id k : ℕ) (v : WorkerView) (version : ℕ) (table : Table (Option Edition) View) (r : Ruled table)
+    → get_elem? table.views id ≡ some (View.Working v) → v.now ≡ Worker.Looked version k
+    → Looker r.course.state r.course v version k
 looker id k v version table r at now =
     let s = r.course.state in let f : WorkerFits r.course v = (r.seats.each id (View.Working v) at).2 in
     let has : HasLookedAt s v.number version k = f.shows.now ∙ ap (λ (x : Worker). Some x) now in
     record { fits = f; has = has; within = slice_get_within s.workers v.number _ has; shelf = looked_fits s v.number version k (kept_of r.course r.goes) has }
 
-takes_found : (id k : ℕ) (v : WorkerView) (version : ℕ) (c : List (ℕ × Option Edition)) (table : Table (Option Edition) View) (r : Ruled table) → get_elem? table.views id ≡ some (View.Working v) → v.now ≡ Worker.Looked version k
+takes_found : (id k : ℕ) (v : WorkerView) (version : ℕ) (c : List (ℕ
+    × Option Edition)) (table : Table (Option Edition) View) (r : Ruled table)
+    → get_elem? table.views id ≡ some (View.Working v) → v.now ≡ Worker.Looked version k
     → (b : Bool) → MatchBool b (IsOpen r.course.state k version) (¬ (IsOpen r.course.state k version))
-    → (w : View) × (a : Act (Option Edition)) × Valid table.homes c a × Ruled (stepped table (k + 1) ((get_or table.words (k + 1) 0 + 1) % 18446744073709551616) id c w a) × TakesFound v c version k (get_or table.words (k + 1) 0) b (w, carried_after c a)
+    → (w : View) × (a : Act (Option Edition)) × Valid table.homes c a
+    × Ruled (stepped table (k + 1) ((get_or table.words (k + 1) 0 + 1) % 18446744073709551616) id c w a)
+    × TakesFound v c version k (get_or table.words (k + 1) 0) b (w, carried_after c a)
 takes_found id k v version c table r at now true stands =
     let s = r.course.state in let w = v.number in let n = get_or table.words (k + 1) 0 in
     let kept : Kept s = kept_of r.course r.goes in let l = looker id k v version table r at now in
@@ -157,7 +183,9 @@ takes_found id k v version c table r at now true stands =
     let t : State = arrived s w k (Worker.Holding k version) in
     let e : Event = Event.Take w in let reply : Reply = Reply.Holds version in
     let is_step : Step s e reply t = (k, has, stands, refl) in
-    let rest : (j : ℕ) → j ≢ w → (slice_get t.workers j ≡ slice_get s.workers j) × (get_or t.seen j 0 ≡ get_or s.seen j 0) = λ j other. (slice_get-set_other s.workers w j (Worker.Holding k version) other, refl) in
+    let rest : (j : ℕ) → j ≢ w → (slice_get t.workers j ≡ slice_get s.workers j)
+    × (get_or t.seen j 0 ≡ get_or s.seen j 0) =
+    λ j other. (slice_get-set_other s.workers w j (Worker.Holding k version) other, refl) in
     let home : (x : Option Edition) × (get_elem? table.homes (16 * k + w) ≡ some (some x)) × IsEdition r.course.images version x =
     elim (r.slots k w (Shelf.Open version) stands z.0) [
       | inl a ↦ a
@@ -197,7 +225,9 @@ takes_found id k v version c table r at now false shut =
     let t : State = arrived s w k (Worker.Late k) in
     let e : Event = Event.Take w in let reply : Reply = Reply.Late in
     let is_step : Step s e reply t = (version, k, has, shut, refl) in
-    let rest : (j : ℕ) → j ≢ w → (slice_get t.workers j ≡ slice_get s.workers j) × (get_or t.seen j 0 ≡ get_or s.seen j 0) = λ j other. (slice_get-set_other s.workers w j (Worker.Late k) other, refl) in
+    let rest : (j : ℕ) → j ≢ w → (slice_get t.workers j ≡ slice_get s.workers j)
+    × (get_or t.seen j 0 ≡ get_or s.seen j 0) =
+    λ j other. (slice_get-set_other s.workers w j (Worker.Late k) other, refl) in
     let d : Course = extended r.course e reply t r.course.images in
     let v' : WorkerView = come_late v k (all_of d) in
     let goes' : Goes d = next_goes table r id v v' at refl e reply t refl is_step refl refl refl refl rest in
@@ -208,10 +238,12 @@ takes_found id k v version c table r at now false shut =
       View.Working v',
       keeps,
       tt,
-      next_ruled table r id v v' at refl e reply t refl is_step refl refl refl refl rest (set table.words (k + 1) ((n + 1) % 18446744073709551616)) table.homes fits
+      next_ruled table r id v v' at refl e reply t refl is_step refl refl refl refl rest
+          (set table.words (k + 1) ((n + 1) % 18446744073709551616)) table.homes fits
           (words_counted table.words k ((n + 1) % 18446744073709551616) (get_or s.counts k 0 + 1) t.workers s kept r.words z.1
           (word_rises table.words s k kept r.words z.1))
-          (slots_worker table.homes s.shelves s.workers r.course.images r.loader.hand w (Worker.Looked version k) (Worker.Late k) has (λ j x q. cc) r.slots) refl,
+          (slots_worker table.homes s.shelves s.workers r.course.images r.loader.hand w (Worker.Looked version k)
+          (Worker.Late k) has (λ j x q. cc) r.slots) refl,
       (
         all_of d,
         refl,
@@ -221,7 +253,8 @@ takes_found id k v version c table r at now false shut =
       ),
     )
 
-takes_as : (slots id k : ℕ) (u : View) (c : List (ℕ × Option Edition)) → HasLooked k u → Allows Ruled slots id (u, c) (k + 1) (λ n. (n + 1) % 18446744073709551616) (Takes (u, c))
+takes_as : (slots id k : ℕ) (u : View) (c : List (ℕ × Option Edition)) → HasLooked k u
+    → Allows Ruled slots id (u, c) (k + 1) (λ n. (n + 1) % 18446744073709551616) (Takes (u, c))
 takes_as slots id k (View.Loading l) c has table r full at fits = absurd has
 takes_as slots id k (View.Noting x') c has table r full at fits = absurd has
 takes_as slots id k View.Spent c has table r full at fits = absurd has
@@ -237,10 +270,15 @@ pub takings : (slots id k : ℕ) (me : Mine) → HasLooked k me.0 → Allows Rul
 takings slots id k me has = takes_as slots id k me.0 me.1 has
 
 -- a worker leaves the shelf k, and something is done with the slots
-leaves_with : (id k : ℕ) (v : WorkerView) (table : Table (Option Edition) View) (r : Ruled table) (at : get_elem? table.views id ≡ some (View.Working v)) (stays : StaysAt r.course.state v.number k) (c : List (ℕ × Option Edition)) (a : Act (Option Edition))
+leaves_with : (id k : ℕ) (v : WorkerView) (table : Table (Option Edition) View) (r : Ruled table)
+    (at : get_elem? table.views id ≡ some (View.Working v)) (stays : StaysAt r.course.state v.number k) (c : List (ℕ
+    × Option Edition)) (a : Act (Option Edition))
     → get_or table.words (k + 1) 0 < 18446744073709551616
     → SlotsFit (homes_after table.homes c a) r.course.state.shelves (set r.course.state.workers v.number Worker.Idle) r.course.images r.loader.hand
-    → (known : Known) × Ruled (stepped table (k + 1) ((get_or table.words (k + 1) 0 + (18446744073709551616 - 1)) % 18446744073709551616) id c (View.Working (gone v known)) a) × Happened v.known (Event.Drop v.number) Reply.Dropped known × ShowsIn (gone v known)
+    → (known : Known) × Ruled (stepped table (k + 1)
+    ((get_or table.words (k + 1) 0 + (18446744073709551616 - 1)) % 18446744073709551616) id c
+    (View.Working (gone v known)) a) × Happened v.known (Event.Drop v.number) Reply.Dropped known
+    × ShowsIn (gone v known)
 leaves_with id k v table r at stays c a small slots =
     let s = r.course.state in let w = v.number in let n = get_or table.words (k + 1) 0 in
     let kept : Kept s = kept_of r.course r.goes in
@@ -250,7 +288,9 @@ leaves_with id k v table r at stays c a small slots =
     let t : State = departed s w k in
     let e : Event = Event.Drop w in let reply : Reply = Reply.Dropped in
     let is_step : Step s e reply t = (k, stays, refl) in
-    let rest : (j : ℕ) → j ≢ w → (slice_get t.workers j ≡ slice_get s.workers j) × (get_or t.seen j 0 ≡ get_or s.seen j 0) = λ j other. (slice_get-set_other s.workers w j Worker.Idle other, refl) in
+    let rest : (j : ℕ) → j ≢ w → (slice_get t.workers j ≡ slice_get s.workers j)
+    × (get_or t.seen j 0 ≡ get_or s.seen j 0) =
+    λ j other. (slice_get-set_other s.workers w j Worker.Idle other, refl) in
     let d : Course = extended r.course e reply t r.course.images in
     let v' : WorkerView = gone v (all_of d) in
     let shows : WorkerShows w v'.now v'.seen d.state = record { now = slice_get-set_same s.workers w Worker.Idle within; seen = f.shows.seen } in
@@ -264,7 +304,9 @@ leaves_with id k v table r at stays c a small slots =
       (t, next_goes table r id v v' at refl e reply t refl is_step refl refl refl refl rest, fits.shows),
     )
 
-leaves_as : (slots id k : ℕ) (u : View) (c : List (ℕ × Option Edition)) → IsLate k u → Allows Ruled slots id (u, c) (k + 1) (λ n. (n + (18446744073709551616 - 1)) % 18446744073709551616) (λ _. Leaves (u, c))
+leaves_as : (slots id k : ℕ) (u : View) (c : List (ℕ × Option Edition)) → IsLate k u
+    → Allows Ruled slots id (u, c) (k + 1) (λ n. (n + (18446744073709551616 - 1)) % 18446744073709551616)
+    (λ _. Leaves (u, c))
 leaves_as slots id k (View.Loading l) c late table r full at fits = absurd late
 leaves_as slots id k (View.Noting x') c late table r full at fits = absurd late
 leaves_as slots id k View.Spent c late table r full at fits = absurd late
@@ -272,29 +314,51 @@ leaves_as slots id k (View.Working v) c late table r full at small =
     let s = r.course.state in
     let f : WorkerFits r.course v = (r.seats.each id (View.Working v) at).2 in
     let here : slice_get s.workers v.number ≡ Some (Worker.Late k) = f.shows.now ∙ ap (λ (x : Worker). Some x) late in
-    let t = leaves_with id k v table r at (inl here) c keeps small (slots_worker table.homes s.shelves s.workers r.course.images r.loader.hand v.number (Worker.Late k) Worker.Idle here (λ j x q. cc) r.slots) in
+    let t = leaves_with id k v table r at (inl here) c keeps small
+    (slots_worker table.homes s.shelves s.workers r.course.images r.loader.hand v.number (Worker.Late k)
+    Worker.Idle here (λ j x q. cc) r.slots) in
     (View.Working (gone v t.0), keeps, tt, t.1, (t.0, refl, t.2, t.3))
 
-pub leavings : (slots id k : ℕ) (me : Mine) → IsLate k me.0 → Allows Ruled slots id me (k + 1) (λ n. (n + (18446744073709551616 - 1)) % 18446744073709551616) (λ _. Leaves me)
+pub leavings : (slots id k : ℕ) (me : Mine) → IsLate k me.0
+    → Allows Ruled slots id me (k + 1) (λ n. (n + (18446744073709551616 - 1)) % 18446744073709551616) (λ _. Leaves me)
 leavings slots id k me late = leaves_as slots id k me.0 me.1 late
 
 -- the shelf that a worker holds
-pub held_on : (shelves : List Shelf) (k version : ℕ) → version_on shelves k ≡ Some version → (y : Shelf) × (slice_get shelves k ≡ Some y) × (version_of y ≡ Some version)
+pub held_on : (shelves : List Shelf) (k version : ℕ) → version_on shelves k ≡ Some version
+    → (y : Shelf) × (slice_get shelves k ≡ Some y) × (version_of y ≡ Some version)
 held_on [] k version e = absurd (cc)
 held_on (y ∷ ys) zero version e = (y, refl, e)
 held_on (y ∷ ys) (suc k) version e = held_on ys k version e
 
-held_shelf : (s : State) (w k version : ℕ) → Kept s → slice_get s.workers w ≡ Some (Worker.Holding k version) → (y : Shelf) × (slice_get s.shelves k ≡ Some y) × (version_of y ≡ Some version)
+held_shelf : (s : State) (w k version : ℕ) → Kept s → slice_get s.workers w ≡ Some (Worker.Holding k version)
+    → (y : Shelf) × (slice_get s.shelves k ≡ Some y) × (version_of y ≡ Some version)
 held_shelf s w k version kept here = held_on s.shelves k version (held_known s w k version kept here).0
 
 -- a slot at home with the edition of the shelf's version
-fills : (y : Shelf) (images : List ImageValue) (ws : List Worker) (hand : Option ℕ) (k w version : ℕ) (edition : Option Edition) → version_of y ≡ Some version → IsEdition images version edition → SlotFits images ws hand y k w (some (some edition))
+fills : (y : Shelf) (images : List ImageValue) (ws : List Worker) (hand : Option ℕ) (k w version : ℕ)
+    (edition : Option Edition) → version_of y ≡ Some version → IsEdition images version edition
+    → SlotFits images ws hand y k w (some (some edition))
 fills Shelf.Free images ws hand k w version edition e its = absurd (cc)
-fills (Shelf.Open v) images ws hand k w version edition e its = let same : version ≡ v = cc in inl (edition, refl, subst (λ n. IsEdition images n edition) same its)
-fills (Shelf.Closing v) images ws hand k w version edition e its = let same : version ≡ v = cc in inl (edition, refl, subst (λ n. IsEdition images n edition) same its)
+fills (Shelf.Open v) images ws hand k w version edition e its = let same : version ≡ v =
+    cc in inl (
+      edition,
+      refl,
+      subst (λ n. IsEdition images n edition) same its,
+    )
+fills (Shelf.Closing v) images ws hand k w version edition e its = let same : version ≡ v =
+    cc in inl (
+      edition,
+      refl,
+      subst (λ n. IsEdition images n edition) same
+          its,
+    )
 
 gives_as : (slots id k version : ℕ) (v : WorkerView) → slots ≡ 128 → v.now ≡ Worker.Holding k version
-    → Allows Ruled slots id (View.Working v, (16 * k + v.number, v.edition) ∷ []) (k + 1) (λ n. (n + (18446744073709551616 - 1)) % 18446744073709551616) (λ _. GivesBack (View.Working v, (16 * k + v.number, v.edition) ∷ []))
+    → Allows Ruled slots id (
+      View.Working v,
+      (16 * k + v.number, v.edition) ∷ [],
+    ) (k + 1) (λ n. (n + (18446744073709551616 - 1)) % 18446744073709551616)
+    (λ _. GivesBack (View.Working v, (16 * k + v.number, v.edition) ∷ []))
 gives_as slots id k version v many now table r full at small =
     let s = r.course.state in let w = v.number in let kept : Kept s = kept_of r.course r.goes in
     let f : WorkerFits r.course v = (r.seats.each id (View.Working v) at).2 in
@@ -304,16 +368,27 @@ gives_as slots id k version v many now table r full at small =
     let stands = held_shelf s w k version kept here in
     let t = leaves_with id k v table r at (inr (version, here)) ((16 * k + w, v.edition) ∷ []) gives small
     (slots_one table.homes s.shelves s.workers r.course.images r.loader.hand k w (Worker.Holding k version) Worker.Idle stands.0 (some v.edition) here
-    (λ j x ne q. ne (cc)) stands.1 z.0 (let a = z.0 in let b = z.1 in omega arith) (fills stands.0 r.course.images (set s.workers w Worker.Idle) r.loader.hand k w version v.edition stands.2 its) r.slots) in
+    (λ j x ne q. ne (cc)) stands.1 z.0 (let a = z.0 in let b =
+    z.1 in omega arith) (fills stands.0 r.course.images
+    (set s.workers w Worker.Idle) r.loader.hand k w version
+    v.edition stands.2 its) r.slots) in
     (View.Working (gone v t.0), gives, tt, t.1, (t.0, refl, t.2, t.3))
 
-givings_as : (slots id k : ℕ) (u : View) (c : List (ℕ × Option Edition)) → slots ≡ 128 → HoldsOut k u c → Allows Ruled slots id (u, c) (k + 1) (λ n. (n + (18446744073709551616 - 1)) % 18446744073709551616) (λ _. GivesBack (u, c))
+givings_as : (slots id k : ℕ) (u : View) (c : List (ℕ × Option Edition)) → slots ≡ 128 → HoldsOut k u c
+    → Allows Ruled slots id (u, c) (k + 1) (λ n. (n + (18446744073709551616 - 1)) % 18446744073709551616)
+    (λ _. GivesBack (u, c))
 givings_as slots id k (View.Loading l) c many h = absurd h
 givings_as slots id k (View.Noting x') c many h = absurd h
 givings_as slots id k View.Spent c many h = absurd h
 givings_as slots id k (View.Working v) c many h =
-    subst (λ (x : List (ℕ × Option Edition)). Allows Ruled slots id (View.Working v, x) (k + 1) (λ n. (n + (18446744073709551616 - 1)) % 18446744073709551616) (λ _. GivesBack (View.Working v, x))) (sym h.2)
+    subst (λ (x : List (ℕ × Option Edition)). Allows Ruled slots id (
+      View.Working v,
+      x,
+    ) (k + 1) (λ n. (n + (18446744073709551616 - 1)) % 18446744073709551616) (λ _. GivesBack (View.Working v, x)))
+    (sym h.2)
     (gives_as slots id k h.0 v many h.1)
 
-pub givings : (slots id k : ℕ) (me : Mine) → slots ≡ 128 → HoldsOut k me.0 me.1 → Allows Ruled slots id me (k + 1) (λ n. (n + (18446744073709551616 - 1)) % 18446744073709551616) (λ _. GivesBack me)
+pub givings : (slots id k : ℕ) (me : Mine) → slots ≡ 128 → HoldsOut k me.0 me.1
+    → Allows Ruled slots id me (k + 1) (λ n. (n + (18446744073709551616 - 1)) % 18446744073709551616)
+    (λ _. GivesBack me)
 givings slots id k me many h = givings_as slots id k me.0 me.1 many h

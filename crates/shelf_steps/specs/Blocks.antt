@@ -10,4 +10,6 @@ laid items first j = slice_get items (j - first)
 
 -- n editions of the version, each with the image
 abbrev pub EachHas : ℕ → ImageValue → ℕ → List Edition → Type 0
-EachHas version image n items = (length items ≡ n) × ((j : ℕ) → j < n → (e : Edition) × (slice_get items j ≡ Some e) × (e.version ≡ version) × (arc_value e.image ≡ image))
+EachHas version image n items = (length items ≡ n)
+    × ((j : ℕ) → j < n → (e : Edition) × (slice_get items j ≡ Some e) × (e.version ≡ version)
+    × (arc_value e.image ≡ image))

@@ -33,7 +33,8 @@ abbrev pub LooksAreEvents : Type 0
 LooksAreEvents = (m m' : Mine) (n : ℕ) → Looks m n m' → IsWorkers Event.Look (Reply.Looked (n / 8) (n % 8)) m.0 m'.0
 
 abbrev pub TakesAreEvents : Type 0
-TakesAreEvents = (m m' : Mine) (n : ℕ) → Takes m n m' → ((version : ℕ) × IsWorkers Event.Take (Reply.Holds version) m.0 m'.0) ⊎ IsWorkers Event.Take Reply.Late m.0 m'.0
+TakesAreEvents = (m m' : Mine) (n : ℕ) → Takes m n m'
+    → ((version : ℕ) × IsWorkers Event.Take (Reply.Holds version) m.0 m'.0) ⊎ IsWorkers Event.Take Reply.Late m.0 m'.0
 
 abbrev pub DropsAreEvents : Type 0
 DropsAreEvents = (m m' : Mine) → Leaves m m' ⊎ GivesBack m m' → IsWorkers Event.Drop Reply.Dropped m.0 m'.0

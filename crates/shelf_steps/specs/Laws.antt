@@ -36,7 +36,8 @@ WordsAreTheLoaders =
     × (slice_get l.shelves l.current_shelf ≡ Some (Shelf.Open l.current))
     × ((k : ℕ) (x : Shelf) → slice_get l.shelves k ≡ Some x → (count : ℕ) × (count ≤ 16) × (slice_index table.words (k + 1) ≡ shelf_word x count))
 
--- there is one list of what sixteen workers do: each seat has its worker's place in it, a worker with no seat yet is idle, and the count in each shelf word is the number of those that are late at the shelf or hold it
+-- there is one list of what sixteen workers do: each seat has its worker's place in it, a worker with no seat yet is
+-- idle, and the count in each shelf word is the number of those that are late at the shelf or hold it
 abbrev pub CountsAreWorkers : Type 0
 CountsAreWorkers =
     (table : Shelved) (l : LoaderView) → Ruled table → IsLoader table l
@@ -49,25 +50,29 @@ CountsAreWorkers =
 -- no two seats have one worker's number, and there are at most sixteen
 abbrev pub NumbersDiffer : Type 0
 NumbersDiffer =
-    (table : Shelved) (i j : ℕ) (v w : WorkerView) → Ruled table → get_elem? table.views i ≡ some (View.Working v) → get_elem? table.views j ≡ some (View.Working w)
+    (table : Shelved) (i j : ℕ) (v w : WorkerView) → Ruled table → get_elem? table.views i ≡ some (View.Working v)
+    → get_elem? table.views j ≡ some (View.Working w)
     → (v.number < 16) × (v.number ≡ w.number → i ≡ j)
 
 -- who holds a version finds its shelf open or closing with it, and has its edition, which is that version's in the loader's list
 abbrev pub HeldHaveEditions : Type 0
 HeldHaveEditions =
-    (table : Shelved) (l : LoaderView) (i k v : ℕ) (w : WorkerView) → Ruled table → IsLoader table l → get_elem? table.views i ≡ some (View.Working w) → w.now ≡ Worker.Holding k v
+    (table : Shelved) (l : LoaderView) (i k v : ℕ) (w : WorkerView) → Ruled table → IsLoader table l
+    → get_elem? table.views i ≡ some (View.Working w) → w.now ≡ Worker.Holding k v
     → (version_on l.shelves k ≡ Some v) × IsEdition l.known.images v w.edition
 
 -- a slot of an open or closing shelf that isn't at home is its own worker's, whose view holds the shelf
 abbrev pub SlotsOutAreHeld : Type 0
 SlotsOutAreHeld =
-    (table : Shelved) (l : LoaderView) (k w v : ℕ) → Ruled table → IsLoader table l → version_on l.shelves k ≡ Some v → w < 16 → get_elem? table.homes (16 * k + w) ≡ some none
+    (table : Shelved) (l : LoaderView) (k w v : ℕ) → Ruled table → IsLoader table l → version_on l.shelves k ≡ Some v
+    → w < 16 → get_elem? table.homes (16 * k + w) ≡ some none
     → (i : ℕ) × (u : WorkerView) × (get_elem? table.views i ≡ some (View.Working u)) × (u.number ≡ w) × (u.now ≡ Worker.Holding k v)
 
 -- one that is at home has that version's edition
 abbrev pub SlotsAtHomeAreFilled : Type 0
 SlotsAtHomeAreFilled =
-    (table : Shelved) (l : LoaderView) (k w v : ℕ) (x : Option Edition) → Ruled table → IsLoader table l → version_on l.shelves k ≡ Some v → w < 16 → get_elem? table.homes (16 * k + w) ≡ some (some x)
+    (table : Shelved) (l : LoaderView) (k w v : ℕ) (x : Option Edition) → Ruled table → IsLoader table l
+    → version_on l.shelves k ≡ Some v → w < 16 → get_elem? table.homes (16 * k + w) ≡ some (some x)
     → IsEdition l.known.images v x
 
 -- seen and looked versions are at most the current one; a looked version that is still current names its shelf; one that was found late is below
@@ -82,7 +87,8 @@ abbrev pub NoticesAreOfTheirTime : Type 0
 NoticesAreOfTheirTime = (table : Shelved) (l : LoaderView) (i v : ℕ) → Ruled table → IsLoader table l → get_elem? table.views i ≡ some (View.Noting v)
     → v ≤ l.current
 
--- the words, and what each seat knows, show the state: editions are places in the loader's list of images, and a worker with no seat yet is idle and has seen nothing
+-- the words, and what each seat knows, show the state: editions are places in the loader's list of images, and a worker
+-- with no seat yet is idle and has seen nothing
 pub record TableShows (table : Shelved) (l : LoaderView) (s : State) : Type 0 where
   pub words : WordsShow table.words s
   pub loader : LoaderShows l.current l.current_shelf l.shelves (length l.known.images) s

@@ -79,7 +79,8 @@ IsIdleAs number m = OfWorker m.0 (λ a. (a.now ≡ Worker.Idle) × (a.number ≡
 
 -- the worker holds the shelf with the edition in hand
 abbrev pub IsHoldingAs : ℕ → ℕ → Edition → Mine → Type 0
-IsHoldingAs number shelf e m = OfWorker m.0 (λ a. (a.now ≡ Worker.Holding shelf e.version) × (a.number ≡ number) × (a.edition ≡ Some e)) × (m.1 ≡ (16 * shelf + number, None) ∷ [])
+IsHoldingAs number shelf e m = OfWorker m.0 (λ a. (a.now ≡ Worker.Holding shelf e.version) × (a.number ≡ number)
+    × (a.edition ≡ Some e)) × (m.1 ≡ (16 * shelf + number, None) ∷ [])
 
 -- one drop, and the worker is idle
 pub record LetGo (a b : WorkerView) : Type 0 where

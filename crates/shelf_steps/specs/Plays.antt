@@ -88,11 +88,13 @@ Takes m n m' = OfWorker m.0 (λ v. TakesAs v m.1 v.now n m')
 
 -- the step `Leaving`: the worker is idle again, and the slots that are out stay so
 abbrev pub Leaves : Mine → Mine → Type 0
-Leaves m m' = OfWorker m.0 (λ v. (known : Known) × (m' ≡ (View.Working (gone v known), m.1)) × Happened v.known (Event.Drop v.number) Reply.Dropped known × ShowsIn (gone v known))
+Leaves m m' = OfWorker m.0 (λ v. (known : Known) × (m' ≡ (View.Working (gone v known), m.1))
+    × Happened v.known (Event.Drop v.number) Reply.Dropped known × ShowsIn (gone v known))
 
 -- the step `GivingBack`: the worker is idle again, and its slot is out no longer
 abbrev pub GivesBack : Mine → Mine → Type 0
-GivesBack m m' = OfWorker m.0 (λ v. (known : Known) × (m' ≡ (View.Working (gone v known), [])) × Happened v.known (Event.Drop v.number) Reply.Dropped known × ShowsIn (gone v known))
+GivesBack m m' = OfWorker m.0 (λ v. (known : Known) × (m' ≡ (View.Working (gone v known), []))
+    × Happened v.known (Event.Drop v.number) Reply.Dropped known × ShowsIn (gone v known))
 
 -- the view is that of an idle worker
 abbrev pub IsIdle : View → Type 0
@@ -168,7 +170,9 @@ Opens st m n m' = (k : ℕ) × (st.word ≡ k + 1) × OpensOn k m m'
 
 -- the version on the shelf k becomes the current one, and the slots that are out stay so
 abbrev pub PublishesOn : ℕ → ℕ → Mine → Mine → Type 0
-PublishesOn version k m m' = OfLoader m.0 (λ l. (known : Known) × (m' ≡ (View.Loading (with_current l version k known), m.1)) × Noted l Event.Publish (Reply.Published version) known)
+PublishesOn version k m m' = OfLoader m.0 (λ l. (known : Known)
+    × (m' ≡ (View.Loading (with_current l version k known), m.1))
+    × Noted l Event.Publish (Reply.Published version) known)
 
 -- the step `Publishing`, which stores eight times the version and its shelf
 abbrev pub Publishes : Step (Option Edition) → Mine → ℕ → Mine → Type 0
@@ -177,7 +181,8 @@ Publishes st m n m' = (version k : ℕ) × (st.first ≡ 8 * version + k) × (k 
 -- the shelf k, which is open, is closing with its version
 abbrev pub ClosesOn : ℕ → Mine → Mine → Type 0
 ClosesOn k m m' = OfLoader m.0 (λ l.
-    (version : ℕ) × (known : Known) × (slice_get l.shelves k ≡ Some (Shelf.Open version)) × (m' ≡ (View.Loading (with_closing l k version known), m.1)) × Noted l (Event.Close k) Reply.Closing known)
+    (version : ℕ) × (known : Known) × (slice_get l.shelves k ≡ Some (Shelf.Open version))
+    × (m' ≡ (View.Loading (with_closing l k version known), m.1)) × Noted l (Event.Close k) Reply.Closing known)
 
 -- the step `Closing`, on the word of a shelf
 abbrev pub Closes : Step (Option Edition) → Mine → ℕ → Mine → Type 0
@@ -202,7 +207,9 @@ Collects st m n m' = (k version : ℕ) × (st.word ≡ k + 1) × (st.first ≡ 5
 
 -- the empty slots of a free shelf go out with the loader
 abbrev pub GathersOn : ℕ → Mine → Mine → Type 0
-GathersOn k m m' = OfLoader m.0 (λ l. (known : Known) × (m' ≡ (View.Loading (with_hand l (Some k) known), down_from nothings (16 * k) 16 [])) × Noted l (Event.Collect k) Reply.NotNow known)
+GathersOn k m m' = OfLoader m.0 (λ l. (known : Known)
+    × (m' ≡ (View.Loading (with_hand l (Some k) known), down_from nothings (16 * k) 16 []))
+    × Noted l (Event.Collect k) Reply.NotNow known)
 
 -- the step `Gathering`, on the word of a shelf
 abbrev pub Gathers : Step (Option Edition) → Mine → ℕ → Mine → Type 0

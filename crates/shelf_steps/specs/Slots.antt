@@ -30,7 +30,9 @@ SlotFits images workers hand (Shelf.Closing v) k w slot = IsFilled images worker
 
 -- each slot fits its shelf
 abbrev pub SlotsFit : List (Maybe (Option Edition)) → List Shelf → List Worker → List ImageValue → Option ℕ → Type 0
-SlotsFit homes shelves workers images hand = (k w : ℕ) (x : Shelf) → slice_get shelves k ≡ Some x → w < 16 → SlotFits images workers hand x k w (get_elem? homes (16 * k + w))
+SlotsFit homes shelves workers images hand =
+    (k w : ℕ) (x : Shelf) → slice_get shelves k ≡ Some x → w < 16
+    → SlotFits images workers hand x k w (get_elem? homes (16 * k + w))
 
 -- n slots with their values, from k + n - 1 down to k, before those of c
 abbrev pub down_from : {S : Type 0} → (ℕ → S) → ℕ → ℕ → List (ℕ × S) → List (ℕ × S)

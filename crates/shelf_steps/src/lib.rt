@@ -1,8 +1,9 @@
 //! Shelves of versions as nine words and 128 slots. Each step on a word keeps one rule and is one event of the table of
 //! versions, whatever other seats do meanwhile.
 //!
-//! The first word has the current version and its shelf, each of the others a shelf: what it is for, its version, and how many
-//! workers are at it. For each shelf and worker there is a slot that has that worker's edition.
+//! The first word has the current version and its shelf, each of the others a shelf: what it is
+//! for, its version, and how many workers are at it. For each shelf and worker there is a slot that
+//! has that worker's edition.
 //!
 //! The table's own type is closed to all others: steps are those of the module `laws`, and there is no other.
 #![tactic(auto)]

@@ -1,6 +1,7 @@
 //! The steps of the loader, each one atomic operation on a word and one event.
 ghost use Rattle.std.specs.Prelude.{◌≡◌, ◌<◌, ◌≤◌};
-ghost use Rattle.shelf_steps.specs.Plays.{OpensOn, PublishesOn, ClosesOn, CollectsOn, GathersOn, PutsBackOn, MayOpenOn, MayPublish, MayClose, MayCollect, MayGather, MayPutBack};
+ghost use Rattle.shelf_steps.specs.Plays.{OpensOn, PublishesOn, ClosesOn, CollectsOn, GathersOn, PutsBackOn};
+ghost use Rattle.shelf_steps.specs.Plays.{MayOpenOn, MayPublish, MayClose, MayCollect, MayGather, MayPutBack};
 
 use crate::places::{Place, ShelfTable};
 use crate::rule::{Closing, Collecting, Gathering, Opening, Publishing, PuttingBack};
@@ -47,7 +48,8 @@ pub fn close(shelves: &ShelfTable, loader: &mut Place, shelf: usize)
         .fetch_add::<Closing>(&mut loader.seat, shelf + 1, 256);
 }
 
-/// Frees a closing shelf where no worker is at it, and answers the word that was found. Then its slots are out with the loader.
+/// Frees a closing shelf where no worker is at it, and answers the word that was found. Then its
+/// slots are out with the loader.
 pub fn collect(shelves: &ShelfTable, loader: &mut Place, shelf: usize, version: u64) -> u64
     requires table { loader.old.table ≡ shelves.now }
     requires numbers { (shelf < 8) × (version ≤ 1000000000) }

@@ -14,8 +14,8 @@ use image_verifier::Verified;
 use std::alloc::{AllocError, Global};
 use std::sync::Arc;
 
-/// The image becomes the next version, which is current, on a free shelf; the shelf before is closing. Want of memory is told
-/// before the first step.
+/// The image becomes the next version, which is current, on a free shelf; the shelf before is
+/// closing. Want of memory is told before the first step.
 pub fn load(
     shelves: &ShelfTable,
     loader: &mut Place,
@@ -54,7 +54,8 @@ fn load_editions(
     requires empty { loader.old.me.1 ≡ [] }
     requires editions { (image : ImageValue) × EachHas version image 16 editions.items }
     ensures table { loader.new.table ≡ loader.old.table }
-    ensures load { (image : ImageValue) → EachHas version image 16 editions.items → Loads shelf version before image loader.old.me.0 loader.new.me.0 }
+    ensures load { (image : ImageValue) → EachHas version image 16 editions.items
+        → Loads shelf version before image loader.old.me.0 loader.new.me.0 }
     ensures empty { loader.new.me.1 ≡ [] }
 {
     gather(shelves, loader, shelf);

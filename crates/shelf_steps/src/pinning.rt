@@ -22,7 +22,8 @@ pub fn try_once(
     requires table { worker.old.table ≡ shelves.now }
     requires worker { (number < 16) × IsIdleAs number worker.old.me }
     ensures table { worker.new.table ≡ worker.old.table }
-    ensures well { IfOk result (λ h. (h.0 < 8) × Well worker.old.me.0 h.1.version h.0 h.1 worker.new.me.0 × IsHoldingAs number h.0 h.1 worker.new.me) }
+    ensures well { IfOk result (λ h. (h.0 < 8) × Well worker.old.me.0 h.1.version h.0 h.1 worker.new.me.0
+        × IsHoldingAs number h.0 h.1 worker.new.me) }
     ensures late { IfErr result (λ n. Late worker.old.me.0 n worker.new.me.0 × IsIdleAs number worker.new.me) }
 {
     let found = look(shelves, worker);
@@ -44,7 +45,8 @@ pub fn pin(shelves: &ShelfTable, worker: &mut Place, number: usize) -> Result<(u
     requires table { worker.old.table ≡ shelves.now }
     requires worker { (number < 16) × IsIdleAs number worker.old.me }
     ensures table { worker.new.table ≡ worker.old.table }
-    ensures pins { IfOk result (λ h. (h.0 < 8) × Pins worker.old.me.0 h.1.version h.0 h.1 worker.new.me.0 × IsHoldingAs number h.0 h.1 worker.new.me) }
+    ensures pins { IfOk result (λ h. (h.0 < 8) × Pins worker.old.me.0 h.1.version h.0 h.1 worker.new.me.0
+        × IsHoldingAs number h.0 h.1 worker.new.me) }
     ensures moves { IfErr result (λ n. Moves worker.old.me.0 n worker.new.me.0 × IsIdleAs number worker.new.me) }
 {
     if let Ok(held) = try_once(shelves, worker, number) {

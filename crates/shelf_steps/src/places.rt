@@ -12,7 +12,8 @@ use std::alloc::Global;
 use std::marker::Model;
 use std::sync::Arc;
 
-/// Nine words and 128 slots, of which the rule of the shelves is true between any two steps. Contracts see which table it is.
+/// Nine words and 128 slots, of which the rule of the shelves is true between any two steps.
+/// Contracts see which table it is.
 #[derive(Drop)]
 pub struct ShelfTable {
     pub(crate) table: Table<Option<Edition>, View, Arc<Verified, Global>, ShelfRule, Global>,
@@ -30,7 +31,8 @@ impl Model for ShelfTable {
 }
 
 impl ShelfTable {
-    /// A word as it is found: word 0 has the current version, the words from 1 on have the shelves. It tells nothing to contracts.
+    /// A word as it is found: word 0 has the current version, the words from 1 on have the shelves.
+    /// It tells nothing to contracts.
     pub fn word(&self, word: usize) -> u64
         requires { word < 9 }
     {
@@ -53,7 +55,8 @@ impl Model for Place {
 }
 
 impl Place {
-    /// Puts an edition, or none, into the slot at the front of those that are out with this seat, and answers what was there.
+    /// Puts an edition, or none, into the slot at the front of those that are out with this seat,
+    /// and answers what was there.
     pub fn swap_edition(
         &mut self,
         shelves: &ShelfTable,

@@ -29,8 +29,8 @@ impl Play<Option<Edition>, View> for Looking {
     ghost then = { λ _. Looks };
 }
 
-/// The step by which a worker that has looked is counted at the shelf that it saw: the event `Take`. Where the version was still
-/// open there its slot goes out with it, else it is late.
+/// The step by which a worker that has looked is counted at the shelf that it saw: the event
+/// `Take`. Where the version was still open there its slot goes out with it, else it is late.
 pub struct Taking;
 
 impl Play<Option<Edition>, View> for Taking {
@@ -57,7 +57,8 @@ impl Play<Option<Edition>, View> for GivingBack {
     ghost then = { λ _ m _. GivesBack m };
 }
 
-/// The step by which the loader opens a free shelf with the next version and puts its filled slots back: the event `Open`.
+/// The step by which the loader opens a free shelf with the next version and puts its filled slots
+/// back: the event `Open`.
 pub struct Opening;
 
 impl Play<Option<Edition>, View> for Opening {
@@ -84,8 +85,8 @@ impl Play<Option<Edition>, View> for Closing {
     ghost then = { Closes };
 }
 
-/// The step by which the loader tries a closing shelf: the event `Collect`. Where no worker is at it, it is free, and its slots are
-/// out with the loader.
+/// The step by which the loader tries a closing shelf: the event `Collect`. Where no worker is at
+/// it, it is free, and its slots are out with the loader.
 pub struct Collecting;
 
 impl Play<Option<Edition>, View> for Collecting {

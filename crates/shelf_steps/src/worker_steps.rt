@@ -15,8 +15,9 @@ pub fn look(shelves: &ShelfTable, worker: &mut Place) -> u64
     shelves.table.shared.load::<Looking>(&mut worker.seat, 0)
 }
 
-/// Takes the shelf that the worker saw, and answers the shelf's word as it was found. Where it was open with the version
-/// that the worker looked at, the worker holds it, and its slot is out with the worker; else the worker is late.
+/// Takes the shelf that the worker saw, and answers the shelf's word as it was found. Where it was
+/// open with the version that the worker looked at, the worker holds it, and its slot is out with
+/// the worker; else the worker is late.
 pub fn take(shelves: &ShelfTable, worker: &mut Place, shelf: usize) -> u64
     requires table { worker.old.table ≡ shelves.now }
     requires looked { (shelf < 8) × HasLooked shelf worker.old.me.0 }

@@ -72,7 +72,9 @@ start_order t stop first end at_first at_end =
     ]
 
 -- between two starts stand footpaths into the stop
-pub between_starts : (t : TimetableValue) (stop first end place : ℕ) → IsStartPlace t stop first → IsStartPlace t (stop + 1) end → first ≤ place → place < end → (f : Footpath) → At t.footpaths place f → f.to ≡ stop
+pub between_starts : (t : TimetableValue) (stop first end place : ℕ) → IsStartPlace t stop first
+    → IsStartPlace t (stop + 1) end → first ≤ place → place < end → (f : Footpath) → At t.footpaths place f
+    → f.to ≡ stop
 between_starts t stop first end place at_first at_end low high f at =
     let below = (at_end.exact place f at).1 high in
     elim (cases_lt f.to stop) [
@@ -104,7 +106,8 @@ all_held t paths legal holds =
 abbrev pub AreStartsBelow : TimetableValue → ℕ → List ℕ → Type 0
 AreStartsBelow t stop places = (s : ℕ) → s < stop → IsStartPlace t s (slice_index places s)
 
-pub starts_more : (t : TimetableValue) (stop place : ℕ) (places : List ℕ) → length places ≡ stop → AreStartsBelow t stop places → IsStartPlace t stop place → AreStartsBelow t (stop + 1) (places ++ place ∷ [])
+pub starts_more : (t : TimetableValue) (stop place : ℕ) (places : List ℕ) → length places ≡ stop
+    → AreStartsBelow t stop places → IsStartPlace t stop place → AreStartsBelow t (stop + 1) (places ++ place ∷ [])
 starts_more t stop place places long starts next s lt =
     elim (cases_eq s stop) [
       | inl same ↦
@@ -120,7 +123,9 @@ starts_more t stop place places long starts next s lt =
 -- departures never fall
 pub departures_in_order : (t : TimetableValue) → IsLegal t → IsNonDecreasingBy (λ (c : Connection). c.dep) t.connections
 departures_in_order t legal i j d le lt =
-    let first : get_or t.connections i d ≡ connection_at t i = get_or_from_slice_get t.connections i (connection_at t i) d (connection_at-stands t i (omega (arith, le, lt))) in
+    let first : get_or t.connections i d ≡ connection_at t i =
+    get_or_from_slice_get t.connections i (connection_at t i) d (connection_at-stands t i (omega (arith, le, lt)))
+    in
     let second : get_or t.connections j d ≡ connection_at t j = get_or_from_slice_get t.connections j (connection_at t j) d (connection_at-stands t j lt) in
     let up : (connection_at t i).dep ≤ (connection_at t j).dep = departures_rise t legal j i le lt in
     omega (arith, up, ap (λ (c : Connection). c.dep) first, ap (λ (c : Connection). c.dep) second)

@@ -14,7 +14,8 @@ use image_verifier::Verified;
 use std::alloc::{AllocError, Global};
 use timetable::{Connection, Footpath, Trace};
 
-/// The connections and the footpaths of an image in lists of their own, with the place at which those into each stop start.
+/// The connections and the footpaths of an image in lists of their own, with the place at which
+/// those into each stop start.
 #[derive(Drop)]
 pub struct Decoded {
     stops: u32,
@@ -82,7 +83,8 @@ fn first_departure(connections: &[Connection], time: u32) -> usize
     requires { IsNonDecreasingBy (λ (c : Connection). c.dep) connections.now }
     ensures within { result ≤ length connections.now }
     ensures before { (k : ℕ) (d : Connection) → k < result → (slice_index_or connections.now k d).dep < time }
-    ensures after { (k : ℕ) (d : Connection) → result ≤ k → k < length connections.now → time ≤ (slice_index_or connections.now k d).dep }
+    ensures after { (k : ℕ) (d : Connection) → result ≤ k → k < length connections.now
+        → time ≤ (slice_index_or connections.now k d).dep }
 {
     connections.partition_point(|connection| connection.dep < time)
 }

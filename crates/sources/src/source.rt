@@ -12,8 +12,8 @@ use timetable::{Connection, Footpath};
 
 /// Where a scan gets its connections and footpaths from.
 ///
-/// It stands for a legal timetable within the limits, and keeps a log of the connections asked for, which contracts alone see.
-/// None of its calls takes memory.
+/// It stands for a legal timetable within the limits, and keeps a log of the connections asked for,
+/// which contracts alone see. None of its calls takes memory.
 pub trait ConnSource {
     // the timetable that it stands for
     ghost timetable: { Self → TimetableValue };
@@ -50,7 +50,8 @@ pub trait ConnSource {
         requires { stop < (timetable self.now).stops }
         ensures order { result.0 ≤ result.1 }
         ensures within { result.1 ≤ length (timetable self.now).footpaths }
-        ensures exact { (k : ℕ) (f : Footpath) → At (timetable self.now).footpaths k f → (f.to ≡ stop) ↔ ((result.0 ≤ k) × (k < result.1)) };
+        ensures exact { (k : ℕ) (f : Footpath) → At (timetable self.now).footpaths k f → (f.to ≡ stop)
+            ↔ ((result.0 ≤ k) × (k < result.1)) };
 
     /// The footpath at a place. Its stop may be searched for: see `footpath_into`.
     fn footpath(&self, place: usize) -> Footpath

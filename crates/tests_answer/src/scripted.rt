@@ -73,8 +73,8 @@ const FAST: &str =
 
 const SLOW: &str = "{\"arr\":\"08:30:00\",\"dep\":\"08:00:00\",\"journey\":\"ride 0 1\"}";
 
-// What the model knows: the version that is held, the feeds of all versions so far, those that may still be ordered, and whether an order
-// publishes one.
+// What the model knows: the version that is held, the feeds of all versions so far, those that may
+// still be ordered, and whether an order publishes one.
 #[derive(Drop)]
 struct Shown {
     held: Option<usize>,
@@ -461,7 +461,8 @@ const GROWING: [Asked; 6] = [
     Asked::Release,
 ];
 
-// What is told where memory is wanting at this line: nothing comes of the line. A second version was there before, and no order publishes one.
+// What is told where memory is wanting at this line: nothing comes of the line. A second version
+// was there before, and no order publishes one.
 fn wanting_at(alloc: Global, line: usize) -> Result<Script, AllocError> {
     let mut script = Script::new(alloc)?;
     script.shown.published.push("slow")?;
@@ -483,7 +484,8 @@ fn is_told_by_one(scripts: &[Script], replies: &[u8]) -> bool {
         .any(|script| script.replies.as_bytes() == replies)
 }
 
-// Orders that take no memory. Each that nobody waits for is counted; who waits is told of a version that was there before.
+// Orders that take no memory. Each that nobody waits for is counted; who waits is told of a version
+// that was there before.
 #[derive(Drop)]
 struct OrderCount<B: Named> {
     count: usize,
@@ -518,7 +520,8 @@ impl<B: Named> Orders for OrderCount<B> {
     }
 }
 
-// Publishes a second version at these shelves and serves the requests: what came of it, what was written, and how many orders nobody waited for.
+// Publishes a second version at these shelves and serves the requests: what came of it, what was
+// written, and how many orders nobody waited for.
 fn counting_at<B: Named, R: Wait>(
     rt: &R,
     alloc: Global,
@@ -568,8 +571,9 @@ fn loads_told(replies: &[u8]) -> usize {
         .count()
 }
 
-/// Whichever growth is refused while a line is answered, that line's reply tells want of memory, the others are as ever, a pin that can't be
-/// told is given back, and a load that can't be told isn't ordered. A refused growth ends the test with `AllocError`.
+/// Whichever growth is refused while a line is answered, that line's reply tells want of memory,
+/// the others are as ever, a pin that can't be told is given back, and a load that can't be told
+/// isn't ordered. A refused growth ends the test with `AllocError`.
 #[test]
 fn refused_growth_is_told_by_a_reply(rt: HostRuntime) -> Result<(), Fail> {
     let alloc: Global = rt.alloc();

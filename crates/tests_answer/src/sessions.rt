@@ -292,7 +292,8 @@ fn tallied<R: Wait>(
     Ok((ended, tally.replies))
 }
 
-/// A session ends at the first read or flush that fails, though the next one would succeed. Nothing is replied behind it.
+/// A session ends at the first read or flush that fails, though the next one would succeed. Nothing
+/// is replied behind it.
 #[test]
 fn one_failure_ends_the_session(rt: HostRuntime) -> Result<(), Fail> {
     let alloc: Global = rt.alloc();
@@ -382,7 +383,8 @@ fn a_load_is_waited_for(rt: HostRuntime) -> Result<(), Fail> {
     Ok(())
 }
 
-// Orders of which each that is waited for is overtaken by two others before it is answered; its version may be kept back behind a fault.
+// Orders of which each that is waited for is overtaken by two others before it is answered; its
+// version may be kept back behind a fault.
 #[derive(Drop)]
 struct Overtaken<O> {
     orders: O,

@@ -88,8 +88,8 @@ pub(crate) fn taker_of(alloc: Global, room: usize, is_failing: bool) -> Taker {
     }
 }
 
-/// A stream that gives line ends without end, and takes all that is written. Its call of one number, from 1 on, fails, or takes none; those
-/// behind it succeed.
+/// A stream that gives line ends without end, and takes all that is written. Its call of one
+/// number, from 1 on, fails, or takes none; those behind it succeed.
 #[derive(Drop)]
 pub(crate) struct FailsOnce {
     pub(crate) calls: u64,

@@ -1,4 +1,5 @@
-//! From a feed's files to its image: tests alone, of the crates that no other test stands in, so that these are proved once.
+//! From a feed's files to its image: tests alone, of the crates that no other test stands in, so
+//! that these are proved once.
 #![tactic(auto)]
 
 #[cfg(test)]

@@ -1,12 +1,14 @@
 -- Two answers computed from the definitions alone, over every journey: one point, and none.
-use Rattle.std.proofs.Common.{◌≡◌, ◌≢◌, ℕ, zero, suc, ◌+◌, ◌<◌, ◌≤◌, nat_le, List, [], ◌∷◌, Contains, Option, Some, None, arith, refl, sym, ◌∙◌, ap, subst, rules as std_rules}
+use Rattle.std.proofs.Common.{◌≡◌, ◌≢◌, ℕ, zero, suc, ◌+◌, ◌<◌, ◌≤◌, nat_le, List, [], ◌∷◌, Contains, Option, Some}
+use Rattle.std.proofs.Common.{None, arith, refl, sym, ◌∙◌, ap, subst, rules as std_rules}
 use Rattle.std.proofs.lemmas.Bool.{le-leb, leb-true}
 use Rattle.reasoning.proofs.ListLemmas.{contains_only, not_in_nil}
 use Rattle.criteria.specs.Laws.{Rules, NoWorse}
 use Rattle.bags.specs.declared.point.Point.{Point}
 use Rattle.timetable.specs.declared.network.Footpath.{Footpath}
 use Rattle.timetable.specs.JourneyValue.{RideValue, JourneyValue}
-use Rattle.timetable.specs.Journeys.{connection_at, IsWalk, walk_end, Leads, final_time, time_after, stop_after, IsStart, start_end, start_secs, Counts, arrival}
+use Rattle.timetable.specs.Journeys.{connection_at, IsWalk, walk_end, Leads, final_time, time_after, stop_after}
+use Rattle.timetable.specs.Journeys.{IsStart, start_end, start_secs, Counts, arrival}
 use Rattle.profile_scan.specs.Values.{journey_value, walked, ridden, started}
 use Rattle.profile_scan.specs.Points.{IsPoint, IsUndominated, IsAnswer}
 use Rattle.tests_scan.specs.Examples.{with_loops, with_walk, asked, by_change, footpath, on_foot}
@@ -42,15 +44,22 @@ module _ (at_a at_b : ℕ) where
   reaches_c (suc (suc (suc k))) lt is = absurd (omega arith)
 
   -- a journey to C arrives at 30000 or later
-  arrives_late : (stop time : ℕ) (ride : RideValue) (rides : List RideValue) → Leads (with_loops at_a at_b) 2 stop time (ride ∷ rides) → 30000 ≤ final_time (with_loops at_a at_b) 0 (ride ∷ rides)
+  arrives_late : (stop time : ℕ) (ride : RideValue) (rides : List RideValue)
+      → Leads (with_loops at_a at_b) 2 stop time (ride ∷ rides)
+      → 30000 ≤ final_time (with_loops at_a at_b) 0 (ride ∷ rides)
   arrives_late stop time ride [] leads =
       let in_last = leads.0.in_range in
-      let reaches = reaches_c ride.leg.last in_last (sym (stays at_a at_b (connection_at (with_loops at_a at_b) ride.leg.last).to ride.walk leads.3) ∙ leads.5) in
+      let reaches = reaches_c ride.leg.last in_last
+      (sym (stays at_a at_b (connection_at (with_loops at_a at_b) ride.leg.last).to ride.walk leads.3)
+      ∙ leads.5) in
       omega arith
-  arrives_late stop time ride (next ∷ rides) leads = arrives_late (stop_after (with_loops at_a at_b) ride) (time_after (with_loops at_a at_b) ride) next rides leads.5
+  arrives_late stop time ride (next ∷ rides) leads =
+      arrives_late (stop_after (with_loops at_a at_b) ride) (time_after (with_loops at_a at_b) ride) next rides leads.5
 
   -- a journey from A departs at 28800
-  departs_at_eight : (until by departure : ℕ) (start : Option Footpath) (rides : List RideValue) → start ≡ None → Counts (with_loops at_a at_b) (asked until by) departure (record { start = start; rides = rides }) → departure ≡ 28800
+  departs_at_eight : (until by departure : ℕ) (start : Option Footpath) (rides : List RideValue) → start ≡ None
+      → Counts (with_loops at_a at_b) (asked until by) departure (record { start = start; rides = rides })
+      → departure ≡ 28800
   departs_at_eight until by departure start [] none c = absurd (c.journey.has_rides refl)
   departs_at_eight until by departure start (ride ∷ rides) none c =
       let t = with_loops at_a at_b in
@@ -66,7 +75,10 @@ module _ (at_a at_b : ℕ) where
 -- no journey departs before 08:00:00
 pub nothing_before_eight : {V : Type 0} (rules : Rules V) → IsAnswer rules (with_loops 60 0) (asked 28799 36000) []
 nothing_before_eight rules = record {
-  exactly = λ departure v. ((λ listed. absurd (omega (arith, listed.1.1))), (λ undominated. absurd (no_point departure undominated.is_point.0 undominated.is_point.1)));
+  exactly = λ departure v. (
+    (λ listed. absurd (omega (arith, listed.1.1))),
+    (λ undominated. absurd (no_point departure undominated.is_point.0 undominated.is_point.1)),
+  );
   unbeaten = λ departure v point. absurd (no_point departure point.0 point.1);
   ordered = λ i j d lt in_j. absurd (omega arith);
 }
@@ -78,7 +90,8 @@ nothing_before_eight rules = record {
         omega arith
 
 -- the first trip counts where the better one leaves too late, so some point covers it
-pub the_first_trip_counts : {V : Type 0} (rules : Rules V) → Counts with_walk (asked 29399 36000) 29280 (on_foot 120 1) → IsAnswer rules with_walk (asked 29399 36000) [] → ⊥
+pub the_first_trip_counts : {V : Type 0} (rules : Rules V) → Counts with_walk (asked 29399 36000) 29280 (on_foot 120 1)
+    → IsAnswer rules with_walk (asked 29399 36000) [] → ⊥
 the_first_trip_counts rules counts answer =
     let covered = answer.unbeaten 29280 (journey_value rules with_walk (on_foot 120 1)) (on_foot 120 1, counts, refl) in
     not_in_nil covered.0 covered.1
@@ -97,7 +110,8 @@ module _ (rules : Rules ℕ) (by_arrival : IsByArrival rules) where
 
   ridden_is : (time : ℕ) (rides : List RideValue) → ridden rules time rides ≡ time
   ridden_is time [] = by_arrival.arrives time
-  ridden_is time (ride ∷ rides) = by_arrival.rides (walked rules ride.walk (ridden rules time rides)) ∙ walked_is ride.walk (ridden rules time rides) ∙ ridden_is time rides
+  ridden_is time (ride ∷ rides) = by_arrival.rides (walked rules ride.walk (ridden rules time rides))
+      ∙ walked_is ride.walk (ridden rules time rides) ∙ ridden_is time rides
 
   started_is : (start : Option Footpath) (v : ℕ) → started rules start v ≡ v
   started_is None v = refl
@@ -108,11 +122,14 @@ module _ (rules : Rules ℕ) (by_arrival : IsByArrival rules) where
   point_is departure v p =
       let j = p.0 in
       let departs = departs_at_eight 0 0 32400 36000 departure j.start j.rides (starts_at_source 0 0 0 j.start p.1.journey.starts) p.1 in
-      let worth : v ≡ arrival (with_loops 0 0) j = p.2 ∙ started_is j.start (ridden rules (arrival (with_loops 0 0) j) j.rides) ∙ ridden_is (arrival (with_loops 0 0) j) j.rides in
+      let worth : v ≡ arrival (with_loops 0 0) j =
+      p.2 ∙ started_is j.start (ridden rules (arrival (with_loops 0 0) j) j.rides)
+      ∙ ridden_is (arrival (with_loops 0 0) j) j.rides in
       let late = late_rides j.rides p.1.journey.has_rides (start_end 0 j.start) p.1.journey.leads in
       (departs, omega arith)
     where
-      late_rides : (rides : List RideValue) → (rides ≡ [] → ⊥) → (stop : ℕ) → Leads (with_loops 0 0) 2 stop 0 rides → 30000 ≤ final_time (with_loops 0 0) 0 rides
+      late_rides : (rides : List RideValue) → (rides ≡ [] → ⊥) → (stop : ℕ) → Leads (with_loops 0 0) 2 stop 0 rides
+          → 30000 ≤ final_time (with_loops 0 0) 0 rides
       late_rides [] some stop leads = absurd (some refl)
       late_rides (ride ∷ rides) some stop leads = arrives_late 0 0 stop 0 ride rides leads
 
@@ -138,7 +155,13 @@ module _ (rules : Rules ℕ) (by_arrival : IsByArrival rules) where
           let same = undominated.only_itself 28800 30000 change_is_point (omega arith) (no_worse 30000 v at.1) in
           (the_point tag, (zero, omega arith, refl), same.0, same.1)),
     );
-    unbeaten = λ departure v point. let at = point_is departure v point in (the_point tag, (zero, omega arith, refl), omega (arith, at.0), no_worse 30000 v at.1);
+    unbeaten = λ departure v point. let at =
+        point_is departure v point in (
+          the_point tag,
+          (zero, omega arith, refl),
+          omega (arith, at.0),
+          no_worse 30000 v at.1,
+        );
     ordered = λ i j d lt in_j. absurd (omega arith);
   }
     where

@@ -51,7 +51,8 @@ two_hops_legal = record {
   unbroken = λ i j c d is. let before = is.before in elim (at_two first_hop second_hop d j is.second) [
     | inl e ↦ absurd (omega (arith, e.0, before))
     | inr e ↦ elim (at_two first_hop second_hop c i is.first) [
-      | inl f ↦ subst (λ (x : Connection). (x.to ≡ d.from) × (x.arr ≤ d.dep)) f.1 (subst (λ (x : Connection). (0 ≡ x.from) × (200 ≤ x.dep)) e.1 (refl, omega arith))
+      | inl f ↦ subst (λ (x : Connection). (x.to ≡ d.from)
+          × (x.arr ≤ d.dep)) f.1 (subst (λ (x : Connection). (0 ≡ x.from) × (200 ≤ x.dep)) e.1 (refl, omega arith))
       | inr f ↦ absurd (omega (arith, e.0, f.0, before))
     ]
   ];
@@ -111,7 +112,15 @@ module _ {V : Type 0} (rules : Rules V) (laws : Laws rules) where
 
   leaves_at_the_target : TakesIn rules (leavings rules two_hops (over_one_hop 1000) turn 1 []) [] (label ∷ [])
   leaves_at_the_target = takes_from_nothing rules laws (leavings rules two_hops (over_one_hop 1000) turn 1 []) (label ∷ [])
-      (λ p is. subst (IsOffered (leavings rules two_hops (over_one_hop 1000) turn 1 [])) (sym (contains_only label p is)) (record { way = ends; is_open = (refl, (refl, omega arith)); departs = refl; worth = refl; fits = refl }))
+      (λ p is. subst (IsOffered (leavings rules two_hops (over_one_hop 1000) turn 1 []))
+      (sym (contains_only label p is)) (record {
+        way = ends;
+        is_open = (refl, (refl, omega arith));
+        departs =
+            refl;
+        worth = refl;
+        fits = refl;
+      }))
       (λ way open_way. by_way way open_way.1)
     where
       by_way : (way : Leaving V) → MayLeave two_hops (over_one_hop 1000) 1 [] way → Covers rules (label ∷ []) 0 (leaving_value rules two_hops 1 way)
@@ -122,7 +131,8 @@ module _ {V : Type 0} (rules : Rules V) (laws : Laws rules) where
   kept_after_the_second : MatchesFrom rules two_hops (over_one_hop 1000) spoken 1 seated
   kept_after_the_second =
       let q = over_one_hop 1000 in
-      one_index_down rules laws two_hops q can_scan turn 1 (omega arith) (nothing rules laws) seated (nothing_follows rules two_hops q can_scan 2 past_the_end spoken)
+      one_index_down rules laws two_hops q can_scan turn 1 (omega arith) (nothing rules laws) seated
+      (nothing_follows rules two_hops q can_scan 2 past_the_end spoken)
       (leaving_nothing_out rules two_hops q turn 1 (nothing rules laws) seated (record {
         between = spoken;
         kept_first = spoken_stays;
@@ -148,7 +158,17 @@ module _ {V : Type 0} (rules : Rules V) (laws : Laws rules) where
       }) in
       let is_seated : IsLabelled two_hops q 0 0 0 stays_seated = record {
         departed = refl;
-        aboard = record { later = omega arith; in_range = omega arith; on_trip = refl; alights = refl; is_walk = tt; walks = λ some. absurd (some refl); leads = refl; arrives = omega arith };
+        aboard = record {
+          later = omega arith;
+          in_range = omega arith;
+          on_trip = refl;
+          alights = refl;
+          is_walk =
+              tt;
+          walks = λ some. absurd (some refl);
+          leads = refl;
+          arrives = omega arith;
+        };
       } in
       elim ((matched.in_trips 0 (omega arith)).complete 0 stays_seated is_seated) [
         | inl covered ↦ not_in_nil covered.0 covered.1

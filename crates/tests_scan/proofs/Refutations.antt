@@ -1,5 +1,6 @@
 -- A timetable of one connection: the wrong steps are refuted on it, and the right one leads to its answer.
-use Rattle.std.proofs.Common.{◌≡◌, ◌≢◌, ◌⊎◌, ℕ, zero, suc, ◌+◌, ◌-◌, ◌<◌, ◌≤◌, List, [], ◌∷◌, Contains, Option, Some, None, arith, refl, sym, ◌∙◌, ap, subst, inl, inr, get_or, rules as std_rules}
+use Rattle.std.proofs.Common.{◌≡◌, ◌≢◌, ◌⊎◌, ℕ, zero, suc, ◌+◌, ◌-◌, ◌<◌, ◌≤◌, List, [], ◌∷◌, Contains, Option, Some}
+use Rattle.std.proofs.Common.{None, arith, refl, sym, ◌∙◌, ap, subst, inl, inr, get_or, rules as std_rules}
 use Rattle.std.proofs.lemmas.Option.{same_Some}
 use Rattle.reasoning.proofs.ListLemmas.{contains_only, not_in_nil}
 use Rattle.criteria.specs.Laws.{Rules, Laws, Admits}
@@ -18,10 +19,15 @@ use Rattle.profile_scan.specs.Points.{Covers, IsAnswer}
 use Rattle.sources.specs.FirstAt.{IsFirstAt}
 use Rattle.profile_scan.specs.Continuations.{Onward, Aboard, IsOnward}
 use Rattle.profile_scan.specs.Matching.{Spelling, Spellings, Keeps, from_to, ScanValue, MatchesFrom}
-use Rattle.profile_scan.specs.Steps.{Offer, TakesIn, IsOffered, Leaving, ends, ends_after, changes, MayLeave, leaving_value, leavings, boarded, Boarding, MayBoard, boardings, SettingOut, settings_out, IsStep}
+use Rattle.profile_scan.specs.Steps.{Offer, TakesIn, IsOffered, Leaving, ends, ends_after, changes, MayLeave}
+use Rattle.profile_scan.specs.Steps.{leaving_value, leavings, boarded, Boarding, MayBoard, boardings, SettingOut}
+use Rattle.profile_scan.specs.Steps.{settings_out, IsStep}
 use Rattle.profile_scan.specs.LawStatements.{CanScan, OneIndexDown, CutIsTheSources}
 use Rattle.tests_scan.specs.Examples.{one_hop, over_one_hop, with_loops, asked, by_change, ride, footpath}
-use Rattle.tests_scan.specs.WrongSteps.{IsStepWith, cut_boardings, IsStepWithBagCut, loop_starts, LeavesSource, MayBoardAtOnce, at_once_departure, at_once_value, IsStepWithLoopStart, Unchanged, on_foot, at_once, at_once_boardings, IsStepWithoutChange, CountsLegByLeg}
+use Rattle.tests_scan.specs.WrongSteps.{IsStepWith, cut_boardings, IsStepWithBagCut, loop_starts, LeavesSource}
+use Rattle.tests_scan.specs.WrongSteps.{MayBoardAtOnce, at_once_departure, at_once_value, IsStepWithLoopStart}
+use Rattle.tests_scan.specs.WrongSteps.{Unchanged, on_foot, at_once, at_once_boardings, IsStepWithoutChange}
+use Rattle.tests_scan.specs.WrongSteps.{CountsLegByLeg}
 use Rattle.profile_scan.proofs.Ends.{nothing_follows}
 use Rattle.profile_scan.proofs.StepLemmas.{one_index_down}
 use Rattle.profile_scan.proofs.Outdone.{all_carried}
@@ -93,19 +99,36 @@ one_hop_legal = record {
   in_order = λ i d e at_d at_e. elim (at_two long_loop short_loop e (i + 1) at_e) [
     | inl f ↦ absurd (omega (arith, f.0))
     | inr f ↦ elim (at_two long_loop short_loop d i at_d) [
-      | inl g ↦ subst (λ (x : Footpath). (d.to ≤ x.to) × (d.to ≡ x.to → d.from < x.from)) f.1 (subst (λ (x : Footpath). (x.to ≤ 1) × (x.to ≡ 1 → x.from < 1)) g.1 (omega arith, λ e. omega arith))
+      | inl g ↦ subst (λ (x : Footpath). (d.to ≤ x.to)
+          × (d.to ≡ x.to → d.from < x.from)) f.1 (subst (λ (x : Footpath). (x.to ≤ 1)
+          × (x.to ≡ 1 → x.from < 1)) g.1 (omega arith, λ e. omega arith))
       | inr g ↦ absurd (omega (arith, f.0, g.0))
     ]
   ];
-  loops = λ s in_s. elim (two_stops s in_s) [ inl e ↦ (60, subst (λ (n : ℕ). HasFootpath one_hop.footpaths n n 60) (sym e) (0, refl)) | inr e ↦ (0, subst (λ (n : ℕ). HasFootpath one_hop.footpaths n n 0) (sym e) (1, refl)) ];
+  loops = λ s in_s. elim (two_stops s in_s) [
+    | inl e ↦
+        (60, subst (λ (n : ℕ). HasFootpath one_hop.footpaths n n 60) (sym e) (0, refl))
+    | inr e ↦
+        (0, subst (λ (n : ℕ). HasFootpath one_hop.footpaths n n 0) (sym e) (1, refl))
+  ];
   closed = λ a b c d1 d2 first second. elim (its_pairs a b d1 first) [
     | inl e ↦ elim (its_pairs b c d2 second) [
-      | inl f ↦ (60, subst (λ (n : ℕ). HasFootpath one_hop.footpaths n c 60) (sym e.0) (subst (λ (n : ℕ). HasFootpath one_hop.footpaths 0 n 60) (sym f.1) (0, refl)), omega (arith, e.2, f.2))
+      | inl f ↦ (
+        60,
+        subst (λ (n : ℕ). HasFootpath one_hop.footpaths n c 60) (sym e.0)
+            (subst (λ (n : ℕ). HasFootpath one_hop.footpaths 0 n 60) (sym f.1) (0, refl)),
+        omega (arith, e.2, f.2),
+      )
       | inr f ↦ absurd (omega (arith, e.1, f.0))
     ]
     | inr e ↦ elim (its_pairs b c d2 second) [
       | inl f ↦ absurd (omega (arith, e.1, f.0))
-      | inr f ↦ (0, subst (λ (n : ℕ). HasFootpath one_hop.footpaths n c 0) (sym e.0) (subst (λ (n : ℕ). HasFootpath one_hop.footpaths 1 n 0) (sym f.1) (1, refl)), omega arith)
+      | inr f ↦ (
+        0,
+        subst (λ (n : ℕ). HasFootpath one_hop.footpaths n c 0) (sym e.0)
+            (subst (λ (n : ℕ). HasFootpath one_hop.footpaths 1 n 0) (sym f.1) (1, refl)),
+        omega arith,
+      )
     ]
   ];
 }
@@ -169,10 +192,30 @@ spoken_stays = record { onward = λ tag x e. e; aboard = λ tag x e. e; journey 
 the_label : (x : Aboard) → Some one_stop ≡ Some x → one_stop ≡ x
 the_label x e = same_Some one_stop x e
 
-goes_on : (walk : List Footpath) (x : Aboard) → Some one_stop ≡ Some x → Some (let y : Onward = record { walk = walk; rides = boarded 0 one_stop } in y) ≡ Some (record { walk = walk; rides = boarded 0 x })
+goes_on : (walk : List Footpath) (x : Aboard) → Some one_stop ≡ Some x → Some (let y : Onward =
+    record {
+      walk = walk;
+      rides =
+          boarded 0 one_stop;
+    } in
+    y) ≡ Some (record {
+      walk =
+          walk;
+      rides = boarded 0 x;
+    })
 goes_on walk x e = ap (λ (z : Aboard). Some (let y : Onward = record { walk = walk; rides = boarded 0 z } in y)) (the_label x e)
 
-sets_out : (start : Option Footpath) (x : Aboard) → Some one_stop ≡ Some x → Some (let y : JourneyValue = record { start = start; rides = boarded 0 one_stop } in y) ≡ Some (record { start = start; rides = boarded 0 x })
+sets_out : (start : Option Footpath) (x : Aboard) → Some one_stop ≡ Some x → Some (let y : JourneyValue =
+    record {
+      start = start;
+      rides =
+          boarded 0 one_stop;
+    } in
+    y) ≡ Some (record {
+      start =
+          start;
+      rides = boarded 0 x;
+    })
 sets_out start x e = ap (λ (z : Aboard). Some (let y : JourneyValue = record { start = start; rides = boarded 0 z } in y)) (the_label x e)
 
 two_in : {X : Type 0} (x y z : X) → Contains (x ∷ y ∷ []) z → (x ≡ z) ⊎ (y ≡ z)
@@ -228,12 +271,24 @@ module _ {V : Type 0} (rules : Rules V) (laws : Laws rules) where
   pub takes_none : {A : Type 0} (offer : Offer A V) → ((way : A) → offer.is_open way → ⊥) → TakesIn rules offer [] []
   takes_none offer none = record { only = λ p is. inl is; kept = λ d v a c. c; covered = λ way open_way. absurd (none way open_way) }
 
-  pub takes_from_nothing : {A : Type 0} (offer : Offer A V) (points : List (Point V)) → ((p : Point V) → Contains points p → IsOffered offer p) → ((way : A) → offer.is_open way → Covers rules points (offer.departure way) (offer.value way)) → TakesIn rules offer [] points
-  takes_from_nothing offer points offered covered = record { only = λ p is. inr (offered p is); kept = λ d v a c. absurd (not_in_nil c.0 c.1); covered = covered }
+  pub takes_from_nothing : {A : Type 0} (offer : Offer A V) (points : List (Point V))
+      → ((p : Point V) → Contains points p → IsOffered offer p)
+      → ((way : A) → offer.is_open way → Covers rules points (offer.departure way) (offer.value way))
+      → TakesIn rules offer [] points
+  takes_from_nothing offer points offered covered =
+      record { only = λ p is. inr (offered p is); kept = λ d v a c. absurd (not_in_nil c.0 c.1); covered = covered }
 
   leaves_by_end : (until : ℕ) → TakesIn rules (leavings rules one_hop (over_one_hop until) turn 0 []) [] (label ∷ [])
   leaves_by_end until = takes_from_nothing (leavings rules one_hop (over_one_hop until) turn 0 []) (label ∷ [])
-      (λ p is. subst (IsOffered (leavings rules one_hop (over_one_hop until) turn 0 [])) (sym (contains_only label p is)) (record { way = ends; is_open = (refl, (refl, omega arith)); departs = refl; worth = refl; fits = refl }))
+      (λ p is. subst (IsOffered (leavings rules one_hop (over_one_hop until) turn 0 []))
+      (sym (contains_only label p is)) (record {
+        way = ends;
+        is_open = (refl, (refl, omega arith));
+        departs =
+            refl;
+        worth = refl;
+        fits = refl;
+      }))
       (λ way open_way. by_way way open_way.1)
     where
       by_way : (way : Leaving V) → MayLeave one_hop (over_one_hop until) 0 [] way → Covers rules (label ∷ []) 0 (leaving_value rules one_hop 0 way)
@@ -261,9 +316,12 @@ module _ {V : Type 0} (rules : Rules V) (laws : Laws rules) where
   }
 
   -- a law that the steps of one kind keep matches would tell of what such a step makes of nothing
-  after_step : (Step : TimetableValue → Query → Spellings → ℕ → ScanValue V → ScanValue V → Type 0) → OneIndexDown rules Step → (until : ℕ) (new : ScanValue V) → Step one_hop (over_one_hop until) turn 0 nothing new → MatchesFrom rules one_hop (over_one_hop until) spoken 0 new
+  after_step : (Step : TimetableValue → Query → Spellings → ℕ → ScanValue V → ScanValue V → Type 0)
+      → OneIndexDown rules Step → (until : ℕ) (new : ScanValue V) → Step one_hop (over_one_hop until) turn 0 nothing new
+      → MatchesFrom rules one_hop (over_one_hop until) spoken 0 new
   after_step Step law until new step =
-      law one_hop (over_one_hop until) (can_scan until) turn 0 (omega arith) nothing new (nothing_follows rules one_hop (over_one_hop until) (can_scan until) 1 past_the_end spoken) step
+      law one_hop (over_one_hop until) (can_scan until) turn 0 (omega arith) nothing new
+      (nothing_follows rules one_hop (over_one_hop until) (can_scan until) 1 past_the_end spoken) step
 
   -- the source's bag, cut at 30, lacks who may leave at 40 to come to the target
   abbrev cut_bag : ScanValue V
@@ -287,7 +345,21 @@ module _ {V : Type 0} (rules : Rules V) (laws : Laws rules) where
         walks = λ e. cc;
         is_walk = ((zero, omega arith, refl), refl, tt);
         boards = omega arith;
-        leads = (record { rising = omega arith; in_range = omega arith; one_trip = refl; boards = refl; alights = refl }, refl, omega arith, tt, λ some. absurd (some refl), refl);
+        leads = (
+          record {
+            rising = omega arith;
+            in_range = omega arith;
+            one_trip = refl;
+            boards = refl;
+            alights =
+                refl;
+          },
+          refl,
+          omega arith,
+          tt,
+          λ some. absurd (some refl),
+          refl,
+        );
         arrives = omega arith;
       } in
       elim ((matched.at_stops 0 (omega arith)).complete 40 onward is_onward) [
@@ -300,7 +372,15 @@ module _ {V : Type 0} (rules : Rules V) (laws : Laws rules) where
       by_start (Some f) is leads late = is.2 leads
 
   loop_is_open : MayBoard one_hop 0 0 (label ∷ []) (record { walk = long_loop; label = label })
-  loop_is_open = record { boards = refl; is_footpath = (zero, omega arith, refl); leaves = refl; leads = refl; fits = omega arith; is_label = (zero, omega arith, refl) }
+  loop_is_open = record {
+    boards = refl;
+    is_footpath = (zero, omega arith, refl);
+    leaves = refl;
+    leads = refl;
+    fits =
+        omega arith;
+    is_label = (zero, omega arith, refl);
+  }
 
   by_loop : IsOffered (boardings rules one_hop turn 0 0 (label ∷ [])) on_loop
   by_loop = record {
@@ -311,11 +391,14 @@ module _ {V : Type 0} (rules : Rules V) (laws : Laws rules) where
     fits = goes_on (long_loop ∷ []);
   }
 
-  loop_covered : (points : List (Point V)) → Contains points on_loop → (way : Boarding V) → MayBoard one_hop 0 0 (label ∷ []) way → Covers rules points (100 - way.walk.secs) (rules.walk way.walk.secs (rules.ride way.label.value))
+  loop_covered : (points : List (Point V)) → Contains points on_loop → (way : Boarding V)
+      → MayBoard one_hop 0 0 (label ∷ []) way
+      → Covers rules points (100 - way.walk.secs) (rules.walk way.walk.secs (rules.ride way.label.value))
   loop_covered points is way may =
       let e = only_from_zero way.walk may.is_footpath may.leads in
       subst (λ (f : Footpath). Covers rules points (100 - f.secs) (rules.walk f.secs (rules.ride way.label.value))) (sym e)
-      (subst (λ (l : Point V). Covers rules points 40 (rules.walk 60 (rules.ride l.value))) (sym (contains_only label way.label may.is_label)) (covers_itself points on_loop is walked_admitted))
+      (subst (λ (l : Point V). Covers rules points 40 (rules.walk 60 (rules.ride l.value)))
+      (sym (contains_only label way.label may.is_label)) (covers_itself points on_loop is walked_admitted))
 
   elsewhere : (n : ℕ) (way : Boarding V) → MayBoard one_hop 0 (suc n) (label ∷ []) way → ⊥
   elsewhere n way may =
@@ -331,10 +414,12 @@ module _ {V : Type 0} (rules : Rules V) (laws : Laws rules) where
   takes_loop (suc n) = takes_none (boardings rules one_hop turn 0 (suc n) (label ∷ [])) (λ way may. elsewhere n way may)
 
   at_stop_covered : (points : List (Point V)) → Contains points at_stop → (l : Point V) → Contains (label ∷ []) l → Covers rules points 100 (rules.ride l.value)
-  at_stop_covered points is l in_labels = subst (λ (k : Point V). Covers rules points 100 (rules.ride k.value)) (sym (contains_only label l in_labels)) (covers_itself points at_stop is ridden_admitted)
+  at_stop_covered points is l in_labels = subst (λ (k : Point V). Covers rules points 100 (rules.ride k.value))
+      (sym (contains_only label l in_labels)) (covers_itself points at_stop is ridden_admitted)
 
   -- a start by the loop is found to depart at 40, and no journey does
-  no_journey_at_40 : (until : ℕ) (start : Option Footpath) (rides : List RideValue) → Counts one_hop (over_one_hop until) 40 (record { start = start; rides = rides }) → ⊥
+  no_journey_at_40 : (until : ℕ) (start : Option Footpath) (rides : List RideValue)
+      → Counts one_hop (over_one_hop until) 40 (record { start = start; rides = rides }) → ⊥
   no_journey_at_40 until start [] c = c.journey.has_rides refl
   no_journey_at_40 until None (ride ∷ rides) c =
       let first = boards_at_zero 1 0 0 ride rides c.journey.leads in
@@ -356,8 +441,43 @@ module _ {V : Type 0} (rules : Rules V) (laws : Laws rules) where
       let offer : Offer (SettingOut V) V = loop_starts rules one_hop q turn 0 (label ∷ []) in
       let sets_out = takes_from_nothing (loop_starts rules one_hop q turn 0 (label ∷ [])) (at_stop ∷ on_loop ∷ [])
       (λ p is. elim (two_in at_stop on_loop p is) [
-        | inl e ↦ subst (IsOffered (loop_starts rules one_hop q turn 0 (label ∷ []))) e (record { way = record { start = None; label = label }; is_open = record { boards = refl; is_start = tt; leads = refl; fits = omega arith; not_early = omega arith; not_late = omega arith; is_label = (zero, omega arith, refl) }; departs = refl; worth = refl; fits = sets_out None })
-        | inr e ↦ subst (IsOffered (loop_starts rules one_hop q turn 0 (label ∷ []))) e (record { way = record { start = Some long_loop; label = label }; is_open = record { boards = refl; is_start = ((zero, omega arith, refl), refl); leads = refl; fits = omega arith; not_early = omega arith; not_late = omega arith; is_label = (zero, omega arith, refl) }; departs = refl; worth = refl; fits = sets_out (Some long_loop) })
+        | inl e ↦ subst (IsOffered (loop_starts rules one_hop q turn 0 (label ∷ []))) e (record {
+          way =
+              record { start = None; label = label };
+          is_open =
+              record {
+                boards = refl;
+                is_start = tt;
+                leads = refl;
+                fits = omega arith;
+                not_early = omega arith;
+                not_late =
+                    omega arith;
+                is_label = (zero, omega arith, refl);
+              };
+          departs = refl;
+          worth = refl;
+          fits = sets_out None;
+        })
+        | inr e ↦ subst (IsOffered (loop_starts rules one_hop q turn 0 (label ∷ []))) e (record {
+          way =
+              record { start = Some long_loop; label = label };
+          is_open =
+              record {
+                boards = refl;
+                is_start = ((zero, omega arith, refl), refl);
+                leads = refl;
+                fits =
+                    omega arith;
+                not_early = omega arith;
+                not_late = omega arith;
+                is_label =
+                    (zero, omega arith, refl);
+              };
+          departs = refl;
+          worth = refl;
+          fits = sets_out (Some long_loop);
+        })
       ])
       (λ way may. by_start way.start way.label may.is_start may.leads may.is_label) in
       let matched = after_step (IsStepWithLoopStart rules) law 1000 loop_start
@@ -368,12 +488,27 @@ module _ {V : Type 0} (rules : Rules V) (laws : Laws rules) where
       loop_fits : (f : Footpath) → Contains one_hop.footpaths f → f.to ≡ 0 → f.secs ≤ 100
       loop_fits f is at = let secs : f.secs ≡ 60 = ap (λ (x : Footpath). x.secs) (only_from_zero f is at) in omega arith
 
-      by_start : (start : Option Footpath) (l : Point V) → LeavesSource one_hop 0 start → start_end 0 start ≡ 0 → Contains (label ∷ []) l → Covers rules (at_stop ∷ on_loop ∷ []) (100 - start_secs start) (started rules start (rules.ride l.value))
+      by_start : (start : Option Footpath) (l : Point V) → LeavesSource one_hop 0 start → start_end 0 start ≡ 0
+          → Contains (label ∷ []) l → Covers rules (at_stop ∷ on_loop
+          ∷ []) (100 - start_secs start) (started rules start (rules.ride l.value))
       by_start None l leaves leads is = at_stop_covered (at_stop ∷ on_loop ∷ []) (zero, omega arith, refl) l is
-      by_start (Some f) l leaves leads is = loop_covered (at_stop ∷ on_loop ∷ []) (suc zero, omega arith, refl) (record { walk = f; label = l }) (record { boards = refl; is_footpath = leaves.0; leaves = leaves.1; leads = leads; fits = loop_fits f leaves.0 leads; is_label = is })
+      by_start (Some f) l leaves leads is = loop_covered (at_stop ∷ on_loop ∷ []) (
+        suc zero,
+        omega arith,
+        refl,
+      ) (record { walk = f; label = l }) (record {
+        boards = refl;
+        is_footpath = leaves.0;
+        leaves =
+            leaves.1;
+        leads = leads;
+        fits = loop_fits f leaves.0 leads;
+        is_label = is;
+      })
 
   -- boarding without the change time is kept as leaving at 100, from where no walk of a minute comes in time
-  none_leaves_at_100 : (walk : List Footpath) (rides : List RideValue) → IsOnward one_hop (over_one_hop 1000) 0 0 100 (record { walk = walk; rides = rides }) → ⊥
+  none_leaves_at_100 : (walk : List Footpath) (rides : List RideValue)
+      → IsOnward one_hop (over_one_hop 1000) 0 0 100 (record { walk = walk; rides = rides }) → ⊥
   none_leaves_at_100 [] rides on = on.walks refl
   none_leaves_at_100 (f ∷ fs) [] on = on.boards
   none_leaves_at_100 (f ∷ fs) (ride ∷ rides) on =
@@ -391,12 +526,30 @@ module _ {V : Type 0} (rules : Rules V) (laws : Laws rules) where
   takes_at_once : (stop : ℕ) → TakesIn rules (at_once_boardings rules one_hop turn 0 stop (label ∷ [])) [] (at_zero (on_loop ∷ at_stop ∷ []) stop)
   takes_at_once zero = takes_from_nothing (at_once_boardings rules one_hop turn 0 0 (label ∷ [])) (on_loop ∷ at_stop ∷ [])
       (λ p is. elim (two_in on_loop at_stop p is) [
-        | inl e ↦ subst (IsOffered (at_once_boardings rules one_hop turn 0 0 (label ∷ []))) e (record { way = on_foot (record { walk = long_loop; label = label }); is_open = loop_is_open; departs = refl; worth = refl; fits = goes_on (long_loop ∷ []) })
-        | inr e ↦ subst (IsOffered (at_once_boardings rules one_hop turn 0 0 (label ∷ []))) e (record { way = at_once label; is_open = (refl, refl, (zero, omega arith, refl)); departs = refl; worth = refl; fits = goes_on [] })
+        | inl e ↦ subst (IsOffered (at_once_boardings rules one_hop turn 0 0 (label ∷ []))) e (record {
+          way =
+              on_foot (record { walk = long_loop; label = label });
+          is_open = loop_is_open;
+          departs = refl;
+          worth =
+              refl;
+          fits = goes_on (long_loop ∷ []);
+        })
+        | inr e ↦ subst (IsOffered (at_once_boardings rules one_hop turn 0 0 (label ∷ []))) e (record {
+          way =
+              at_once label;
+          is_open = (refl, refl, (zero, omega arith, refl));
+          departs = refl;
+          worth = refl;
+          fits =
+              goes_on [];
+        })
       ])
       by_way
     where
-      by_way : (way : Unchanged V) → MayBoardAtOnce rules one_hop turn 0 0 (label ∷ []) way → Covers rules (on_loop ∷ at_stop ∷ []) (at_once_departure rules one_hop turn 0 0 (label ∷ []) way) (at_once_value rules one_hop turn 0 0 (label ∷ []) way)
+      by_way : (way : Unchanged V) → MayBoardAtOnce rules one_hop turn 0 0 (label ∷ []) way
+          → Covers rules (on_loop ∷ at_stop ∷ []) (at_once_departure rules one_hop turn 0 0 (label ∷ []) way)
+          (at_once_value rules one_hop turn 0 0 (label ∷ []) way)
       by_way (on_foot way) may = loop_covered (on_loop ∷ at_stop ∷ []) (zero, omega arith, refl) way may
       by_way (at_once l) may = at_stop_covered (on_loop ∷ at_stop ∷ []) (suc zero, omega arith, refl) l may.2
   takes_at_once (suc n) = takes_none (at_once_boardings rules one_hop turn 0 (suc n) (label ∷ [])) by_way
@@ -408,10 +561,29 @@ module _ {V : Type 0} (rules : Rules V) (laws : Laws rules) where
   -- the points found are offered the label at the source itself
   sets_out_once : TakesIn rules (settings_out rules one_hop (over_one_hop 1000) turn 0 (label ∷ [])) [] (at_stop ∷ [])
   sets_out_once = takes_from_nothing (settings_out rules one_hop (over_one_hop 1000) turn 0 (label ∷ [])) (at_stop ∷ [])
-      (λ p is. subst (IsOffered (settings_out rules one_hop (over_one_hop 1000) turn 0 (label ∷ []))) (sym (contains_only at_stop p is)) (record { way = record { start = None; label = label }; is_open = record { boards = refl; is_start = tt; leads = refl; fits = omega arith; not_early = omega arith; not_late = omega arith; is_label = (zero, omega arith, refl) }; departs = refl; worth = refl; fits = sets_out None }))
+      (λ p is. subst (IsOffered (settings_out rules one_hop (over_one_hop 1000) turn 0 (label ∷ [])))
+      (sym (contains_only at_stop p is)) (record {
+        way = record { start = None; label = label };
+        is_open =
+            record {
+              boards = refl;
+              is_start = tt;
+              leads = refl;
+              fits = omega arith;
+              not_early = omega arith;
+              not_late =
+                  omega arith;
+              is_label = (zero, omega arith, refl);
+            };
+        departs = refl;
+        worth = refl;
+        fits = sets_out None;
+      }))
       (λ way may. by_start way.start way.label may.is_start may.leads may.is_label)
     where
-      by_start : (start : Option Footpath) (l : Point V) → IsStart one_hop 0 start → start_end 0 start ≡ 0 → Contains (label ∷ []) l → Covers rules (at_stop ∷ []) (100 - start_secs start) (started rules start (rules.ride l.value))
+      by_start : (start : Option Footpath) (l : Point V) → IsStart one_hop 0 start → start_end 0 start ≡ 0
+          → Contains (label ∷ []) l → Covers rules (at_stop
+          ∷ []) (100 - start_secs start) (started rules start (rules.ride l.value))
       by_start None l starts leads is = at_stop_covered (at_stop ∷ []) (zero, omega arith, refl) l is
       by_start (Some f) l starts leads is = absurd (starts.2 leads)
 
@@ -436,8 +608,13 @@ module _ {V : Type 0} (rules : Rules V) (laws : Laws rules) where
       let step = stepped 1000 (λ now. boardings rules one_hop now 0) (λ now. settings_out rules one_hop q now 0)
       scanned.bag scanned.found takes_loop sets_out_once in
       let matched = after_step (IsStep rules) (one_index_down rules laws) 1000 scanned (leaving_nothing_out rules one_hop q turn 0 nothing scanned step) in
-      let bag : IsBag rules (at_stop ∷ []) = record { admitted = λ p is. subst (λ (x : Point V). Admits rules x.value) (sym (contains_only at_stop p is)) ridden_admitted; undominated = λ i j d lt in_j. absurd (omega arith) } in
-      match_is_the_answer rules laws one_hop (over_one_hop 1000) (can_scan 1000) 0 from_the_start spoken (at_stop ∷ []) matched.at_source bag (λ i j d lt in_j. absurd (omega arith))
+      let bag : IsBag rules (at_stop ∷ []) = record {
+        admitted =
+            λ p is. subst (λ (x : Point V). Admits rules x.value) (sym (contains_only at_stop p is)) ridden_admitted;
+        undominated = λ i j d lt in_j. absurd (omega arith);
+      } in
+      match_is_the_answer rules laws one_hop (over_one_hop 1000) (can_scan 1000) 0 from_the_start spoken (at_stop
+      ∷ []) matched.at_source bag (λ i j d lt in_j. absurd (omega arith))
 
 -- a cut of each leg loses a journey when the window shrinks, although it departs at its end
 pub leg_by_leg_is_wrong : CutIsTheSources CountsLegByLeg → ⊥

@@ -1,4 +1,5 @@
--- Worked examples: three stops A, B and C (0, 1, 2) and two trips, one from A over B to C, and a faster one from B to C that leaves two minutes after the first has come.
+-- Worked examples: three stops A, B and C (0, 1, 2) and two trips, one from A over B to C, and a faster one from B to C
+-- that leaves two minutes after the first has come.
 use Rattle.std.specs.Prelude.{ℕ, true, false, List, [], ◌∷◌, Option, Some, None}
 use Rattle.timetable.specs.declared.network.Connection.{Connection}
 use Rattle.timetable.specs.declared.network.Footpath.{Footpath}

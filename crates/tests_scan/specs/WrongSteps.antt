@@ -12,13 +12,17 @@ use Rattle.profile_scan.specs.Matching.{Spelling, Spellings, Keeps, from_to, Sca
 use Rattle.profile_scan.specs.Steps.{Offer, TakesIn, leavings, boarded, Boarding, MayBoard, boardings, SettingOut, MaySetOutBy, settings_out}
 
 -- a step that offers something else to the bags, or to the points found
-pub record IsStepWith {V A B : Type 0} (rules : Rules V) (t : TimetableValue) (q : Query) (tags : Spellings) (i : ℕ) (to_bag : Spellings → ℕ → List (Point V) → Offer A V) (to_found : Spellings → List (Point V) → Offer B V) (old new : ScanValue V) : Type 0 where
+pub record IsStepWith {V A B : Type 0} (rules : Rules V) (t : TimetableValue) (q : Query) (tags : Spellings) (i : ℕ)
+    (to_bag : Spellings → ℕ → List (Point V) → Offer A V) (to_found : Spellings → List (Point V)
+    → Offer B V) (old new : ScanValue V) : Type 0 where
   pub between : Spelling
   pub kept_first : Keeps tags.earlier between
   pub kept_then : Keeps between tags.later
-  pub leaves : TakesIn rules (leavings rules t q (from_to tags.earlier between) i (old.bag (connection_at t i).to)) (old.labels (connection_at t i).trip) (new.labels (connection_at t i).trip)
+  pub leaves : TakesIn rules (leavings rules t q (from_to tags.earlier between) i (old.bag (connection_at t i).to))
+      (old.labels (connection_at t i).trip) (new.labels (connection_at t i).trip)
   pub other_trips : (trip : ℕ) → trip ≢ (connection_at t i).trip → new.labels trip ≡ old.labels trip
-  pub boards : (stop : ℕ) → stop < t.stops → TakesIn rules (to_bag (from_to between tags.later) stop (new.labels (connection_at t i).trip)) (old.bag stop) (new.bag stop)
+  pub boards : (stop : ℕ) → stop < t.stops → TakesIn rules
+      (to_bag (from_to between tags.later) stop (new.labels (connection_at t i).trip)) (old.bag stop) (new.bag stop)
   pub sets_out : TakesIn rules (to_found (from_to between tags.later) (new.labels (connection_at t i).trip)) old.found new.found
 
 -- the source's bag is cut at the latest departure: who comes back to the source later can't leave it again
@@ -60,8 +64,10 @@ module _ {V : Type 0} (rules : Rules V) (t : TimetableValue) (tags : Spellings) 
   at_once_value (at_once label) = rules.ride label.value
 
   abbrev pub AtOnceTag : Unchanged V → ℕ → Type 0
-  AtOnceTag (on_foot way) tag = (x : Aboard) → tags.earlier.aboard way.label.tag ≡ Some x → tags.later.onward tag ≡ Some (record { walk = way.walk ∷ []; rides = boarded i x })
-  AtOnceTag (at_once label) tag = (x : Aboard) → tags.earlier.aboard label.tag ≡ Some x → tags.later.onward tag ≡ Some (record { walk = []; rides = boarded i x })
+  AtOnceTag (on_foot way) tag = (x : Aboard) → tags.earlier.aboard way.label.tag ≡ Some x
+      → tags.later.onward tag ≡ Some (record { walk = way.walk ∷ []; rides = boarded i x })
+  AtOnceTag (at_once label) tag = (x : Aboard) → tags.earlier.aboard label.tag ≡ Some x
+      → tags.later.onward tag ≡ Some (record { walk = []; rides = boarded i x })
 
   abbrev pub at_once_boardings : Offer (Unchanged V) V
   at_once_boardings = record { is_open = MayBoardAtOnce; departure = at_once_departure; value = at_once_value; fits_tag = AtOnceTag }
@@ -76,7 +82,9 @@ pub record IsStepWithoutLabels {V : Type 0} (rules : Rules V) (t : TimetableValu
   pub kept_then : Keeps between tags.later
   pub leaves : TakesIn rules (leavings rules t q (from_to tags.earlier between) i (old.bag (connection_at t i).to)) [] (new.labels (connection_at t i).trip)
   pub other_trips : (trip : ℕ) → trip ≢ (connection_at t i).trip → new.labels trip ≡ old.labels trip
-  pub boards : (stop : ℕ) → stop < t.stops → TakesIn rules (boardings rules t (from_to between tags.later) i stop (new.labels (connection_at t i).trip)) (old.bag stop) (new.bag stop)
+  pub boards : (stop : ℕ) → stop < t.stops → TakesIn rules
+      (boardings rules t (from_to between tags.later) i stop (new.labels (connection_at t i).trip)) (old.bag stop)
+      (new.bag stop)
   pub sets_out : TakesIn rules (settings_out rules t q (from_to between tags.later) i (new.labels (connection_at t i).trip)) old.found new.found
 
 -- each leg, and not the journey alone, has to depart by the latest departure

@@ -1,4 +1,5 @@
-//! The scan, and what it stands on, as others call it: tests alone, of crates in which no other test stands, so that these are proved once.
+//! The scan, and what it stands on, as others call it: tests alone, of crates in which no other
+//! test stands, so that these are proved once.
 #![tactic(auto)]
 
 #[cfg(test)]

@@ -1,4 +1,5 @@
-//! The scan's crates, called from outside; images, examples and sources that several of them use are in `images`, `examples` and `in_turn`.
+//! The scan's crates, called from outside; images, examples and sources that several of them use
+//! are in `images`, `examples` and `in_turn`.
 
 mod answering;
 mod bonus;

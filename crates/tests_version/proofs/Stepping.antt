@@ -1,5 +1,7 @@
 -- What steps leave to be remembered.
-use Rattle.std.proofs.Common.{get_or, ◌≡◌, ℕ, zero, suc, ◌+◌, ◌*◌, ◌/◌, ◌%◌, ◌<◌, ◌≤◌, Bool, true, false, List, [], ◌∷◌, length, set, Option, Some, slice_get, refl, ap, sym, ◌∙◌, subst, arith, length-set, length-append}
+use Rattle.std.proofs.Common.{get_or, ◌≡◌, ℕ, zero, suc, ◌+◌, ◌*◌, ◌/◌, ◌%◌, ◌<◌, ◌≤◌, Bool, true, false, List, [], ◌∷◌}
+use Rattle.std.proofs.Common.{length, set, Option, Some, slice_get, refl, ap, sym, ◌∙◌, subst, arith, length-set}
+use Rattle.std.proofs.Common.{length-append}
 use Rattle.std.proofs.Common.{inl, inr}
 use mathlib.Core.Logic.{dite}
 use native.Mathlib.Decide.{ℕ_discrete}
@@ -15,7 +17,9 @@ use Rattle.shelf_steps.specs.declared.views.WorkerView.{WorkerView}
 use Rattle.shelf_steps.specs.declared.views.View.{View}
 use Rattle.shelf_steps.specs.Slots.{down_from}
 use Rattle.shelf_steps.specs.Loading.{Frees, FindsBusy}
-use Rattle.shelf_steps.specs.Plays.{OfLoader, Mine, Looks, Takes, TakesFound, Leaves, GivesBack, IsIdle, HasLooked, IsLate, HoldsOut, is_open, with_hand, AllHave, OpensOn, PublishesOn, ClosesOn, GathersOn, MayOpenOn, MayPublish, MayClose, MayCollect, MayGather}
+use Rattle.shelf_steps.specs.Plays.{OfLoader, Mine, Looks, Takes, TakesFound, Leaves, GivesBack, IsIdle, HasLooked}
+use Rattle.shelf_steps.specs.Plays.{IsLate, HoldsOut, is_open, with_hand, AllHave, OpensOn, PublishesOn, ClosesOn}
+use Rattle.shelf_steps.specs.Plays.{GathersOn, MayOpenOn, MayPublish, MayClose, MayCollect, MayGather}
 use Rattle.shelf_steps.specs.Plays.{IsSettled, IsNotice, IsLoading, joins_notice, gives_notice, new_notice}
 use Rattle.tests_version.specs.Stepping.{DoesSo, Remembers, RemembersSo}
 
@@ -55,7 +59,8 @@ of_holding k version (View.Working v) c h = (h.1.0, (version, h.0, h.1.1))
 pub holding_now : (k version : ℕ) (m : Mine) → DoesSo (Worker.Holding k version) m → (k < 8) × HoldsOut k m.0 m.1
 holding_now k version m h = of_holding k version m.0 m.1 h
 
-after_look : (u : View) (c : List (ℕ × Option Edition)) (n : ℕ) (m' : Mine) → DoesSo Worker.Idle (u, c) → Looks (u, c) n m' → DoesSo (Worker.Looked (n / 8) (n % 8)) m'
+after_look : (u : View) (c : List (ℕ × Option Edition)) (n : ℕ) (m' : Mine) → DoesSo Worker.Idle (u, c)
+    → Looks (u, c) n m' → DoesSo (Worker.Looked (n / 8) (n % 8)) m'
 after_look (View.Loading l) c n m' h look = absurd h
 after_look (View.Noting x') c n m' h look = absurd h
 after_look View.Spent c n m' h look = absurd h
@@ -68,12 +73,18 @@ abbrev taken : ℕ → ℕ → Bool → Worker
 taken version k true = Worker.Holding k version
 taken version k false = Worker.Late k
 
-found_so : (v : WorkerView) (c : List (ℕ × Option Edition)) (version k n : ℕ) (b : Bool) (m' : Mine) → k < 8 → c ≡ [] → TakesFound v c version k n b m' → DoesSo (taken version k b) m'
+found_so : (v : WorkerView) (c : List (ℕ × Option Edition)) (version k n : ℕ) (b : Bool) (m' : Mine) → k < 8 → c ≡ []
+    → TakesFound v c version k n b m' → DoesSo (taken version k b) m'
 found_so v c version k n true m' small empty t =
-    subst (λ (m : Mine). DoesSo (Worker.Holding k version) m) (sym t.2) (refl, (small, ap (λ (l : List (ℕ × Option Edition)). (16 * k + v.number, Some t.0) ∷ l) empty))
+    subst (λ (m : Mine). DoesSo (Worker.Holding k version) m) (sym t.2) (
+      refl,
+      (small, ap (λ (l : List (ℕ × Option Edition)). (16 * k + v.number, Some t.0) ∷ l) empty),
+    )
 found_so v c version k n false m' small empty t = subst (λ (m : Mine). DoesSo (Worker.Late k) m) (sym t.1) (refl, (small, empty))
 
-after_take : (u : View) (c : List (ℕ × Option Edition)) (version k n : ℕ) (b : Bool) (m' : Mine) → DoesSo (Worker.Looked version k) (u, c) → Takes (u, c) n m' → is_open n version ≡ b → DoesSo (taken version k b) m'
+after_take : (u : View) (c : List (ℕ × Option Edition)) (version k n : ℕ) (b : Bool) (m' : Mine)
+    → DoesSo (Worker.Looked version k) (u, c) → Takes (u, c) n m' → is_open n version ≡ b
+    → DoesSo (taken version k b) m'
 after_take (View.Loading l) c version k n b m' h take is = absurd h
 after_take (View.Noting x') c version k n b m' h take is = absurd h
 after_take View.Spent c version k n b m' h take is = absurd h
@@ -81,7 +92,8 @@ after_take (View.Working v) c version k n b m' h take is =
     let t : TakesFound v c version k n (is_open n version) m' = subst (λ (w : Worker). Rattle.shelf_steps.specs.Plays.TakesAs v c w n m') h.0 take in
     found_so v c version k n b m' h.1.0 h.1.1 (subst (λ x. TakesFound v c version k n x m') is t)
 
-pub held_so : (m m' : Mine) (version k n : ℕ) → DoesSo (Worker.Looked version k) m → Takes m n m' → is_open n version ≡ true → DoesSo (Worker.Holding k version) m'
+pub held_so : (m m' : Mine) (version k n : ℕ) → DoesSo (Worker.Looked version k) m → Takes m n m'
+    → is_open n version ≡ true → DoesSo (Worker.Holding k version) m'
 held_so m m' version k n h take is = after_take m.0 m.1 version k n true m' h take is
 
 pub late_so : (m m' : Mine) (version k n : ℕ) → DoesSo (Worker.Looked version k) m → Takes m n m' → is_open n version ≡ false → DoesSo (Worker.Late k) m'
@@ -106,39 +118,58 @@ pub given_so : (m m' : Mine) → GivesBack m m' → DoesSo Worker.Idle m'
 given_so m m' give = after_give m.0 m.1 m' give
 
 -- the versions of the shelves after one of them became another
-known_after : (shelves : List Shelf) (k : ℕ) (x : Shelf) (top top' : ℕ) → k < length shelves → top ≤ top' → ((j v : ℕ) → version_on shelves j ≡ Some v → v ≤ top) → ((v : ℕ) → version_of x ≡ Some v → v ≤ top')
+known_after : (shelves : List Shelf) (k : ℕ) (x : Shelf) (top top' : ℕ) → k < length shelves → top ≤ top'
+    → ((j v : ℕ) → version_on shelves j ≡ Some v → v ≤ top) → ((v : ℕ) → version_of x ≡ Some v → v ≤ top')
     → (j v : ℕ) → version_on (set shelves k x) j ≡ Some v → v ≤ top'
 known_after shelves k x top top' within up known new j v is = dite (ℕ_discrete j k)
-    (λ e. new v (sym (ap (λ (s : Option Shelf). option_and_then version_of s) (ap (λ n. slice_get (set shelves k x) n) e ∙ slice_get-set_same shelves k x within)) ∙ is))
+    (λ e. new v (sym (ap (λ (s : Option Shelf). option_and_then version_of s) (ap (λ n. slice_get (set shelves k x) n) e
+    ∙ slice_get-set_same shelves k x within)) ∙ is))
     (λ ne. let z = known j v (sym (ap (λ (s : Option Shelf). option_and_then version_of s) (slice_get-set_other shelves k j x ne)) ∙ is) in omega arith)
 
 -- the loader may gather the slots of a free shelf
-gather_of : (k current newest : ℕ) (shelves : List Shelf) (u : View) (c : List (ℕ × Option Edition)) → RemembersSo current newest shelves (u, c) → slice_get shelves k ≡ Some Shelf.Free → MayGather k u c
+gather_of : (k current newest : ℕ) (shelves : List Shelf) (u : View) (c : List (ℕ × Option Edition))
+    → RemembersSo current newest shelves (u, c) → slice_get shelves k ≡ Some Shelf.Free → MayGather k u c
 gather_of k current newest shelves (View.Working v) c h free = absurd h.0
 gather_of k current newest shelves (View.Noting x') c h free = absurd h.0
 gather_of k current newest shelves View.Spent c h free = absurd h.0
 gather_of k current newest shelves (View.Loading l) c h free = (ap (λ (s : List Shelf). slice_get s k) h.0.shelves_are ∙ free, h.0.empty, h.1)
 
-pub may_gather_so : (k current newest : ℕ) (shelves : List Shelf) (m : Mine) → RemembersSo current newest shelves m → slice_get shelves k ≡ Some Shelf.Free → MayGather k m.0 m.1
+pub may_gather_so : (k current newest : ℕ) (shelves : List Shelf) (m : Mine) → RemembersSo current newest shelves m
+    → slice_get shelves k ≡ Some Shelf.Free → MayGather k m.0 m.1
 may_gather_so k current newest shelves m h free = gather_of k current newest shelves m.0 m.1 h free
 
-filled_of : (k current newest : ℕ) (shelves : List Shelf) (image : ImageValue) (f : ℕ → Option Edition) (u : View) (c : List (ℕ × Option Edition)) (m1 m2 : Mine) → RemembersSo current newest shelves (u, c) → slice_get shelves k ≡ Some Shelf.Free
-    → current ≡ newest → newest < 1000000000 → AllHave (newest + 1) image k f → GathersOn k (u, c) m1 → m2 ≡ (m1.0, down_from f (16 * k) 16 []) → MayOpenOn k (newest + 1) m2.0 m2.1
+filled_of : (k current newest : ℕ) (shelves : List Shelf) (image : ImageValue) (f : ℕ
+    → Option Edition) (u : View) (c : List (ℕ × Option Edition)) (m1 m2 : Mine)
+    → RemembersSo current newest shelves (u, c) → slice_get shelves k ≡ Some Shelf.Free
+    → current ≡ newest → newest < 1000000000 → AllHave (newest + 1) image k f → GathersOn k (u, c) m1
+    → m2 ≡ (m1.0, down_from f (16 * k) 16 []) → MayOpenOn k (newest + 1) m2.0 m2.1
 filled_of k current newest shelves image f (View.Working v) c m1 m2 h free same left all g filled = absurd h.0
 filled_of k current newest shelves image f (View.Noting x') c m1 m2 h free same left all g filled = absurd h.0
 filled_of k current newest shelves image f View.Spent c m1 m2 h free same left all g filled = absurd h.0
 filled_of k current newest shelves image f (View.Loading l) c m1 m2 h free same left all g filled =
     let r = h.0 in
     let top : length g.0.images ≡ newest = ap (λ (x : List ImageValue). length x) g.2.1 ∙ r.newest_is in
-    subst (λ (m : Mine). MayOpenOn k (newest + 1) m.0 m.1) (sym (filled ∙ ap (λ (m : Mine). (m.0, down_from f (16 * k) 16 [])) g.1))
-    (ap (λ (s : List Shelf). slice_get s k) r.shelves_are ∙ free, refl, r.current_is ∙ (same ∙ sym top), ap (λ n. n + 1) (sym top), omega arith, (image, f, refl, all))
+    subst (λ (m : Mine). MayOpenOn k (newest + 1) m.0 m.1) (sym (filled ∙ ap (λ (m : Mine). (m.0, down_from f (16 * k) 16 [])) g.1)) (
+      ap (λ (s : List Shelf). slice_get s k) r.shelves_are ∙ free,
+      refl,
+      r.current_is ∙ (same ∙ sym top),
+      ap (λ n. n + 1) (sym top),
+      omega arith,
+      (image, f, refl, all),
+    )
 
-pub may_open_so : (k current newest : ℕ) (shelves : List Shelf) (image : ImageValue) (f : ℕ → Option Edition) (m m1 m2 : Mine) → RemembersSo current newest shelves m → slice_get shelves k ≡ Some Shelf.Free
-    → current ≡ newest → newest < 1000000000 → AllHave (newest + 1) image k f → GathersOn k m m1 → m2 ≡ (m1.0, down_from f (16 * k) 16 []) → MayOpenOn k (newest + 1) m2.0 m2.1
-may_open_so k current newest shelves image f m m1 m2 h free same left all g filled = filled_of k current newest shelves image f m.0 m.1 m1 m2 h free same left all g filled
+pub may_open_so : (k current newest : ℕ) (shelves : List Shelf) (image : ImageValue) (f : ℕ
+    → Option Edition) (m m1 m2 : Mine) → RemembersSo current newest shelves m → slice_get shelves k ≡ Some Shelf.Free
+    → current ≡ newest → newest < 1000000000 → AllHave (newest + 1) image k f → GathersOn k m m1
+    → m2 ≡ (m1.0, down_from f (16 * k) 16 []) → MayOpenOn k (newest + 1) m2.0 m2.1
+may_open_so k current newest shelves image f m m1 m2 h free same left all g filled =
+    filled_of k current newest shelves image f m.0 m.1 m1 m2 h free same left all g filled
 
-open_of : (k current newest : ℕ) (shelves : List Shelf) (f : ℕ → Option Edition) (u : View) (c : List (ℕ × Option Edition)) (m1 m2 m3 : Mine) → RemembersSo current newest shelves (u, c) → k < 8 → newest < 1000000000
-    → GathersOn k (u, c) m1 → m2 ≡ (m1.0, down_from f (16 * k) 16 []) → OpensOn k m2 m3 → RemembersSo current (newest + 1) (set shelves k (Shelf.Open (newest + 1))) m3
+open_of : (k current newest : ℕ) (shelves : List Shelf) (f : ℕ
+    → Option Edition) (u : View) (c : List (ℕ × Option Edition)) (m1 m2 m3 : Mine)
+    → RemembersSo current newest shelves (u, c) → k < 8 → newest < 1000000000
+    → GathersOn k (u, c) m1 → m2 ≡ (m1.0, down_from f (16 * k) 16 []) → OpensOn k m2 m3
+    → RemembersSo current (newest + 1) (set shelves k (Shelf.Open (newest + 1))) m3
 open_of k current newest shelves f (View.Working v) c m1 m2 m3 h small left g filled o = absurd h.0
 open_of k current newest shelves f (View.Noting x') c m1 m2 m3 h small left g filled o = absurd h.0
 open_of k current newest shelves f View.Spent c m1 m2 m3 h small left g filled o = absurd h.0
@@ -156,16 +187,20 @@ open_of k current newest shelves f (View.Loading l) c m1 m2 m3 h small left g fi
         shelves_are = λ i. set (r.shelves_are i) k (Shelf.Open (top i + 1));
         eight = length-set shelves k (Shelf.Open (newest + 1)) ∙ eight;
         small = omega arith;
-        known = known_after shelves k (Shelf.Open (newest + 1)) newest (newest + 1) (omega arith) (omega arith) r.known (λ v e. let z : newest + 1 ≡ v = cc in omega arith);
+        known = known_after shelves k (Shelf.Open (newest + 1)) newest (newest + 1) (omega arith) (omega arith) r.known
+            (λ v e. let z : newest + 1 ≡ v = cc in omega arith);
       },
       refl,
     )
 
-pub opened_so : (k current newest : ℕ) (shelves : List Shelf) (f : ℕ → Option Edition) (m m1 m2 m3 : Mine) → RemembersSo current newest shelves m → k < 8 → newest < 1000000000
-    → GathersOn k m m1 → m2 ≡ (m1.0, down_from f (16 * k) 16 []) → OpensOn k m2 m3 → RemembersSo current (newest + 1) (set shelves k (Shelf.Open (newest + 1))) m3
+pub opened_so : (k current newest : ℕ) (shelves : List Shelf) (f : ℕ → Option Edition) (m m1 m2 m3 : Mine)
+    → RemembersSo current newest shelves m → k < 8 → newest < 1000000000
+    → GathersOn k m m1 → m2 ≡ (m1.0, down_from f (16 * k) 16 []) → OpensOn k m2 m3
+    → RemembersSo current (newest + 1) (set shelves k (Shelf.Open (newest + 1))) m3
 opened_so k current newest shelves f m m1 m2 m3 h small left g filled o = open_of k current newest shelves f m.0 m.1 m1 m2 m3 h small left g filled o
 
-publish_of : (k version current newest : ℕ) (shelves : List Shelf) (u : View) (c : List (ℕ × Option Edition)) → RemembersSo current newest shelves (u, c) → slice_get shelves k ≡ Some (Shelf.Open version) → current < version
+publish_of : (k version current newest : ℕ) (shelves : List Shelf) (u : View) (c : List (ℕ × Option Edition))
+    → RemembersSo current newest shelves (u, c) → slice_get shelves k ≡ Some (Shelf.Open version) → current < version
     → (version ≤ 1000000000) × MayPublish version k u × ((m' : Mine) → PublishesOn version k (u, c) m' → RemembersSo version newest shelves m')
 publish_of k version current newest shelves (View.Working v) c h is later = absurd h.0
 publish_of k version current newest shelves (View.Noting x') c h is later = absurd h.0
@@ -174,15 +209,29 @@ publish_of k version current newest shelves (View.Loading l) c h is later =
     let r = h.0 in let a = r.known k version (ap (λ (s : Option Shelf). option_and_then version_of s) is) in let b = r.small in (
       omega arith,
       (ap (λ (s : List Shelf). slice_get s k) r.shelves_are ∙ is, subst (λ n. n < version) (sym r.current_is) later),
-      λ m' p. subst (λ (m : Mine). RemembersSo version newest shelves m) (sym p.1)
-          (record { empty = r.empty; current_is = refl; newest_is = ap (λ (x : List ImageValue). length x) p.2.1 ∙ r.newest_is; shelves_are = r.shelves_are; eight = r.eight; small = r.small; known = r.known }, h.1),
+      λ m' p. subst (λ (m : Mine). RemembersSo version newest shelves m) (sym p.1) (
+        record {
+          empty = r.empty;
+          current_is = refl;
+          newest_is =
+              ap (λ (x : List ImageValue). length x) p.2.1 ∙ r.newest_is;
+          shelves_are = r.shelves_are;
+          eight =
+              r.eight;
+          small = r.small;
+          known = r.known;
+        },
+        h.1,
+      ),
     )
 
-pub published_so : (k version current newest : ℕ) (shelves : List Shelf) (m : Mine) → RemembersSo current newest shelves m → slice_get shelves k ≡ Some (Shelf.Open version) → current < version
+pub published_so : (k version current newest : ℕ) (shelves : List Shelf) (m : Mine)
+    → RemembersSo current newest shelves m → slice_get shelves k ≡ Some (Shelf.Open version) → current < version
     → (version ≤ 1000000000) × MayPublish version k m.0 × ((m' : Mine) → PublishesOn version k m m' → RemembersSo version newest shelves m')
 published_so k version current newest shelves m h is later = publish_of k version current newest shelves m.0 m.1 h is later
 
-close_of : (k version current newest : ℕ) (shelves : List Shelf) (u : View) (c : List (ℕ × Option Edition)) → RemembersSo current newest shelves (u, c) → slice_get shelves k ≡ Some (Shelf.Open version) → version < current
+close_of : (k version current newest : ℕ) (shelves : List Shelf) (u : View) (c : List (ℕ × Option Edition))
+    → RemembersSo current newest shelves (u, c) → slice_get shelves k ≡ Some (Shelf.Open version) → version < current
     → MayClose k u × ((m' : Mine) → ClosesOn k (u, c) m' → RemembersSo current newest (set shelves k (Shelf.Closing version)) m')
 close_of k version current newest shelves (View.Working v) c h is older = absurd h.0
 close_of k version current newest shelves (View.Noting x') c h is older = absurd h.0
@@ -202,17 +251,21 @@ close_of k version current newest shelves (View.Loading l) c h is older =
               eight = length-set shelves k (Shelf.Closing version) ∙ r.eight;
               small = r.small;
               known = known_after shelves k (Shelf.Closing version) newest newest within (omega arith) r.known
-                  (λ v e. let same' : version ≡ v = cc in subst (λ n. n ≤ newest) same' (r.known k version (ap (λ (s : Option Shelf). option_and_then version_of s) is)));
+                  (λ v e. let same' : version ≡ v = cc in
+                  subst (λ n. n ≤ newest) same' (r.known k version
+                  (ap (λ (s : Option Shelf). option_and_then version_of s) is)));
             },
             h.1,
           ),
     )
 
-pub closed_so : (k version current newest : ℕ) (shelves : List Shelf) (m : Mine) → RemembersSo current newest shelves m → slice_get shelves k ≡ Some (Shelf.Open version) → version < current
+pub closed_so : (k version current newest : ℕ) (shelves : List Shelf) (m : Mine) → RemembersSo current newest shelves m
+    → slice_get shelves k ≡ Some (Shelf.Open version) → version < current
     → MayClose k m.0 × ((m' : Mine) → ClosesOn k m m' → RemembersSo current newest (set shelves k (Shelf.Closing version)) m')
 closed_so k version current newest shelves m h is older = close_of k version current newest shelves m.0 m.1 h is older
 
-collect_of : (k version current newest : ℕ) (shelves : List Shelf) (u : View) (c : List (ℕ × Option Edition)) → RemembersSo current newest shelves (u, c) → slice_get shelves k ≡ Some (Shelf.Closing version)
+collect_of : (k version current newest : ℕ) (shelves : List Shelf) (u : View) (c : List (ℕ × Option Edition))
+    → RemembersSo current newest shelves (u, c) → slice_get shelves k ≡ Some (Shelf.Closing version)
     → (version ≤ 1000000000) × MayCollect k version u c
 collect_of k version current newest shelves (View.Working v) c h is = absurd h.0
 collect_of k version current newest shelves (View.Noting x') c h is = absurd h.0
@@ -221,10 +274,14 @@ collect_of k version current newest shelves (View.Loading l) c h is =
     let r = h.0 in let a = r.known k version (ap (λ (s : Option Shelf). option_and_then version_of s) is) in let b = r.small in
     ((omega arith), (ap (λ (s : List Shelf). slice_get s k) r.shelves_are ∙ is, r.empty, h.1))
 
-pub may_collect_so : (k version current newest : ℕ) (shelves : List Shelf) (m : Mine) → RemembersSo current newest shelves m → slice_get shelves k ≡ Some (Shelf.Closing version) → (version ≤ 1000000000) × MayCollect k version m.0 m.1
+pub may_collect_so : (k version current newest : ℕ) (shelves : List Shelf) (m : Mine)
+    → RemembersSo current newest shelves m → slice_get shelves k ≡ Some (Shelf.Closing version)
+    → (version ≤ 1000000000) × MayCollect k version m.0 m.1
 may_collect_so k version current newest shelves m h is = collect_of k version current newest shelves m.0 m.1 h is
 
-pub freed_so : (k current newest : ℕ) (shelves : List Shelf) (u u' : View) (x : Shelf) → OfLoader u (λ l. Remembers current newest shelves l) → slice_get shelves k ≡ Some x → Frees k u u' → OfLoader u' (λ l. Remembers current newest (set shelves k Shelf.Free) l)
+pub freed_so : (k current newest : ℕ) (shelves : List Shelf) (u u' : View) (x : Shelf)
+    → OfLoader u (λ l. Remembers current newest shelves l) → slice_get shelves k ≡ Some x → Frees k u u'
+    → OfLoader u' (λ l. Remembers current newest (set shelves k Shelf.Free) l)
 freed_so k current newest shelves (View.Working v) u' x h is f = absurd h
 freed_so k current newest shelves (View.Noting x') u' x h is f = absurd h
 freed_so k current newest shelves View.Spent u' x h is f = absurd h
@@ -241,7 +298,9 @@ freed_so k current newest shelves (View.Loading a) (View.Loading b) x h is f = r
   known = known_after shelves k Shelf.Free newest newest (slice_get_within shelves k x is) (omega arith) h.known (λ v e. absurd (cc));
 }
 
-pub busy_so : (k count current newest : ℕ) (shelves : List Shelf) (u u' : View) → OfLoader u (λ l. Remembers current newest shelves l) → FindsBusy k count u u' → OfLoader u' (λ l. Remembers current newest shelves l)
+pub busy_so : (k count current newest : ℕ) (shelves : List Shelf) (u u' : View)
+    → OfLoader u (λ l. Remembers current newest shelves l) → FindsBusy k count u u'
+    → OfLoader u' (λ l. Remembers current newest shelves l)
 busy_so k count current newest shelves (View.Working v) u' h f = absurd h
 busy_so k count current newest shelves (View.Noting x') u' h f = absurd h
 busy_so k count current newest shelves View.Spent u' h f = absurd h

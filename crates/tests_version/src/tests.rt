@@ -1,5 +1,5 @@
-//! Of `version_core` is `machine`, of `shelf_steps` are `steps` and `plain_store`, of `epochs` is `shelves`. The images that they publish are
-//! in `images`.
+//! Of `version_core` is `machine`, of `shelf_steps` are `steps` and `plain_store`, of `epochs` is
+//! `shelves`. The images that they publish are in `images`.
 
 mod images;
 mod machine;

@@ -1,4 +1,5 @@
-//! Workers, the loader and the orders between them: tests alone. Of `orders` is `ordering`, of `load_orders` `queueing`, of `workers` `serving`.
+//! Workers, the loader and the orders between them: tests alone. Of `orders` is `ordering`, of
+//! `load_orders` `queueing`, of `workers` `serving`.
 #![tactic(auto)]
 
 #[cfg(test)]

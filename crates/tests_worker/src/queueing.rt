@@ -312,8 +312,8 @@ loader takes: slow
 loader takes: slow
 loader takes: nothing";
 
-/// An order for which its worker would wait isn't put: the queue is full, or there was no memory for a way back. Neither changes
-/// the queue.
+/// An order for which its worker would wait isn't put: the queue is full, or there was no memory
+/// for a way back. Neither changes the queue.
 fn awaits_at_a_full_queue<R: Wait + Abort>(rt: &R, ends: &mut Ends<'_>) -> Result<(), Fail> {
     play(rt, ends, FILLED);
     let answer = ends.answer(rt, "other awaits slow");
@@ -325,8 +325,8 @@ fn awaits_at_a_full_queue<R: Wait + Abort>(rt: &R, ends: &mut Ends<'_>) -> Resul
     Ok(())
 }
 
-/// A growth that is refused before the ends stand makes no queue; one of the way back leaves the orders that wait as they are.
-/// Either ends the test with `AllocError`.
+/// A growth that is refused before the ends stand makes no queue; one of the way back leaves the
+/// orders that wait as they are. Either ends the test with `AllocError`.
 #[test]
 fn refused_growth_makes_no_queue(rt: HostRuntime) -> Result<(), Fail> {
     let names = two_names(rt.alloc())?;

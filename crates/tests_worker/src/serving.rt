@@ -259,7 +259,8 @@ enum Manner {
     IsShut,
 }
 
-/// Serves visitors who ask so, the last first; how their sessions ended, what was replied, and what was written to the errors.
+/// Serves visitors who ask so, the last first; how their sessions ended, what was replied, and what
+/// was written to the errors.
 fn serve_asking<R: Threads + Wait + Sync + Abort, G: Gate + Sync>(
     rt: &R,
     alloc: Global,
@@ -352,7 +353,8 @@ fn loads_are_waited_for(rt: HostRuntime) -> Result<(), Fail> {
     Ok(())
 }
 
-/// A client that waits and goes away: its load is carried out, its session fails, and its worker serves the next client.
+/// A client that waits and goes away: its load is carried out, its session fails, and its worker
+/// serves the next client.
 #[test]
 fn whoever_waits_may_go_away(rt: HostRuntime) -> Result<(), Fail> {
     let wait = "{\"do\":\"load\",\"feed\":\"slow\",\"wait\":true}\n";

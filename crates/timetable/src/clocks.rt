@@ -32,14 +32,16 @@ impl fmt::Display for Clock {
     }
 }
 
-/// The text of a time in seconds: at least two digits of hours, no more than they need, and two digits of minutes and of seconds.
+/// The text of a time in seconds: at least two digits of hours, no more than they need, and two
+/// digits of minutes and of seconds.
 pub fn clock_text(alloc: Global, seconds: u32) -> Result<String, AllocError>
     ensures { IfOk result (λ text. string_bytes text ≡ clock_bytes seconds) }
 {
     Clock(seconds).to_string(alloc)
 }
 
-/// The seconds that a clock text spells: hours of one to six digits, `:`, minutes and `:` and seconds of two digits below 60 each.
+/// The seconds that a clock text spells: hours of one to six digits, `:`, minutes and `:` and
+/// seconds of two digits below 60 each.
 pub fn clock_parse(text: &[u8]) -> Option<u32>
     ensures { MatchOption result ((time : ℕ) → ¬ SpellsClock text.now time) (SpellsClock text.now) }
 {

@@ -8,9 +8,11 @@ use crate::limits::{
     MAX_CONNECTIONS, MAX_FOOTPATHS, MAX_NAME_BYTES, MAX_STOPS, MAX_TRIPS, MAX_WALK_SECS, TIME_END,
 };
 
-/// The limits of an image, in numbers: definitions and code cite the constants, so that a slip in one would show nowhere else.
+/// The limits of an image, in numbers: definitions and code cite the constants, so that a slip in
+/// one would show nowhere else.
 pub fn limits()
-    ensures counts { (MAX_STOPS ≡ 1000000) × (MAX_TRIPS ≡ 20000000) × (MAX_CONNECTIONS ≡ 20000000) × (MAX_FOOTPATHS ≡ 5000000) }
+    ensures counts { (MAX_STOPS ≡ 1000000) × (MAX_TRIPS ≡ 20000000) × (MAX_CONNECTIONS ≡ 20000000)
+        × (MAX_FOOTPATHS ≡ 5000000) }
     ensures bytes { MAX_NAME_BYTES ≡ 400000000 }
     ensures times { (MAX_WALK_SECS ≡ 1000000) × (TIME_END ≡ 2000000000) }
 {}

@@ -1,5 +1,5 @@
-//! The largest timetable that an image holds. Every sum of times and of walks stays far below 2^64, and every place in an
-//! image below 2^32.
+//! The largest timetable that an image holds. Every sum of times and of walks stays far below 2^64,
+//! and every place in an image below 2^32.
 
 /// Stops of a timetable, at most.
 pub const MAX_STOPS: u32 = 1_000_000;

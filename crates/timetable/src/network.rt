@@ -34,8 +34,8 @@ pub struct Footpath {
 
 /// Stops and trips by number, connections and footpaths.
 ///
-/// A legal timetable lists its connections by departure and its footpaths by the stop led into, then by the stop left, each
-/// pair once: so a finite set of footpaths is one list.
+/// A legal timetable lists its connections by departure and its footpaths by the stop led into,
+/// then by the stop left, each pair once: so a finite set of footpaths is one list.
 #[derive(Drop)]
 pub struct Timetable {
     /// The number of stops: they are called 0, 1, .. in what follows.
@@ -51,5 +51,11 @@ impl Model for Timetable {
 
     ghost Value = { TimetableValue };
 
-    ghost view = { λ t. record { stops = t.stops; trips = t.trips; connections = t.connections.items; footpaths = t.footpaths.items } };
+    ghost view = { λ t. record {
+      stops = t.stops;
+      trips = t.trips;
+      connections = t.connections.items;
+      footpaths =
+          t.footpaths.items;
+    } };
 }

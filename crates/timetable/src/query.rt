@@ -4,7 +4,8 @@ use crate::limits::TIME_END;
 use reasoning::variant_name;
 use thiserror::Error;
 
-/// What a client asks: from a stop to a stop, departing in a window, arriving by a time. Times are seconds after the base.
+/// What a client asks: from a stop to a stop, departing in a window, arriving by a time. Times are
+/// seconds after the base.
 #[derive(Clone, Copy, Debug, PartialEq, Eq)]
 pub struct Query {
     pub source: u32,
@@ -26,7 +27,8 @@ pub enum QueryFault {
     /// The source is the target.
     #[error("source and target are one stop")]
     SameStop = 32,
-    /// The window ends before it begins, or the latest arrival is before it, or a time is past those of every timetable.
+    /// The window ends before it begins, or the latest arrival is before it, or a time is past
+    /// those of every timetable.
     #[error("the window can't be")]
     BadWindow = 33,
 }

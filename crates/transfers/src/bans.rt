@@ -7,7 +7,8 @@ ghost use Rattle.transfers.specs.Bans.{AreBans, HasBans, IsBan, ban_between, ban
 use gtfs_tables::{Place, Transfer, TransferKind};
 use std::alloc::{AllocError, Global};
 
-/// That no transfer is possible from the stops of a station to those of a station, unless one names both stops themselves.
+/// That no transfer is possible from the stops of a station to those of a station, unless one names
+/// both stops themselves.
 #[derive(Clone, Copy, PartialEq, Eq, PartialOrd, Ord)]
 pub(crate) struct Ban {
     pub to: u32,

@@ -4,7 +4,8 @@ ghost use Rattle.std.specs.Prelude.{◌≡◌, OnOk};
 ghost use Rattle.transfers.specs.Bans.{Aloud, IsOwnInto};
 ghost use Rattle.transfers.specs.declared.claims.Claim.{Claim};
 ghost use Rattle.transfers.specs.Listed.{source_of, given_or, word_of};
-ghost use Rattle.transfers.specs.Claims.{Adds, ForOneOf, IsPairClaim, IsRowInto, IsNumberedClaim, IsSiblingPair, IsSiblingInto};
+ghost use Rattle.transfers.specs.Claims.{Adds, ForOneOf, IsPairClaim, IsRowInto, IsNumberedClaim, IsSiblingPair};
+ghost use Rattle.transfers.specs.Claims.{IsSiblingInto};
 ghost use Rattle.transfers.specs.Claims.{IsStationClaim, IsLoopOf, IsStopClaim, IsClaimInto};
 ghost use Rattle.transfers.specs.Lookup.{IsKnown, stops_in, transfers_in};
 
@@ -38,8 +39,9 @@ pub enum Word {
     Takes(u32),
 }
 
-/// Something that is said of an ordered pair of stops. Claims are in order by the stop led into, then by the stop left, then by who
-/// says it, then by what is said: so of each pair the claim that counts comes first.
+/// Something that is said of an ordered pair of stops. Claims are in order by the stop led into,
+/// then by the stop left, then by who says it, then by what is said: so of each pair the claim that
+/// counts comes first.
 #[derive(Clone, Copy, Debug, PartialEq, Eq, PartialOrd, Ord)]
 pub struct Claim {
     pub to: u32,
@@ -113,7 +115,8 @@ fn claim_into(
     froms: &[u32],
     to: u32,
 ) -> Result<(), AllocError>
-    ensures { OnOk result (Adds claims.old.items claims.new.items (ForOneOf froms.now (λ from. IsPairClaim row.now from to))) }
+    ensures { OnOk result (Adds claims.old.items claims.new.items
+        (ForOneOf froms.now (λ from. IsPairClaim row.now from to))) }
 {
     for from in froms {
         claim_pair(claims, row, *from, to)?;
@@ -138,7 +141,8 @@ fn claim_sibling(claims: &mut Vec<Claim>, from: u32, to: u32) -> Result<(), Allo
 
 // Adds what holds of the ways to a stop from those of the same station, where no transfer counts.
 fn claim_siblings_of(claims: &mut Vec<Claim>, children: &[u32], to: u32) -> Result<(), AllocError>
-    ensures { OnOk result (Adds claims.old.items claims.new.items (ForOneOf children.now (λ from. IsSiblingPair from to))) }
+    ensures { OnOk result (Adds claims.old.items claims.new.items
+        (ForOneOf children.now (λ from. IsSiblingPair from to))) }
 {
     for from in children {
         claim_sibling(claims, *from, to)?;
@@ -150,7 +154,8 @@ impl Claims {
     // Adds what a transfer says of a stop's loop, if it leaves the stop.
     fn add_own(&mut self, known: &Known, row: &Transfer, to: u32) -> Result<(), AllocError>
         requires { IsKnown known.now }
-        ensures { OnOk result (Adds self.old.made.items self.new.made.items (IsOwnInto (stops_in known.now) to row.now)) }
+        ensures { OnOk result (Adds self.old.made.items self.new.made.items
+            (IsOwnInto (stops_in known.now) to row.now)) }
     {
         if known.stands_for(&row.from, to) {
             claim_pair(&mut self.made, row, to, to)
@@ -250,7 +255,8 @@ impl Claims {
         }
     }
 
-    /// Adds all that is said of the ways into a stop, but for what doesn't count since no transfer is possible between their stations.
+    /// Adds all that is said of the ways into a stop, but for what doesn't count since no transfer
+    /// is possible between their stations.
     pub fn add_ways(&mut self, known: &Known, to: u32) -> Result<(), AllocError>
         requires { IsKnown known.now }
         ensures { OnOk result (Adds self.old.made.items self.new.made.items

@@ -84,7 +84,8 @@ impl Groups {
 
     /// The places with a key.
     pub fn group(&self, key: u32) -> &[u32]
-        ensures { (all : List (Option ℕ)) → AreGroups all self.now.keys.items self.now.numbers.items → IsGroup all key result.now }
+        ensures { (all : List (Option ℕ)) → AreGroups all self.now.keys.items self.now.numbers.items
+            → IsGroup all key result.now }
     {
         let first = self.keys.partition_point(|other| *other < key);
         let end = self.keys.partition_point(|other| *other <= key);

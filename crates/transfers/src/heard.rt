@@ -15,8 +15,9 @@ enum End {
     Station(u32),
 }
 
-// The places of a transfer, and what it says between two stops and at one: transfers in this order stand together by their places,
-// and of those of the same two places the ones that count come first.
+// The places of a transfer, and what it says between two stops and at one: transfers in this order
+// stand together by their places, and of those of the same two places the ones that count come
+// first.
 #[derive(Clone, Copy, Debug, PartialEq, Eq, PartialOrd, Ord)]
 struct Turn {
     to: End,
@@ -86,7 +87,8 @@ fn hear(kept: &mut Vec<Transfer>, row: &Transfer) -> Result<(), AllocError>
     Ok(())
 }
 
-/// The transfers without those that say nothing that counts beside others of the same two places: at most four are left of these.
+/// The transfers without those that say nothing that counts beside others of the same two places:
+/// at most four are left of these.
 pub(crate) fn heard_once(alloc: Global, rows: &[Transfer]) -> Result<Vec<Transfer>, AllocError>
     ensures { IfOk result (λ kept. HearsOnce rows.now kept.items) }
 {

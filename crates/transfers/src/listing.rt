@@ -1,4 +1,5 @@
-//! The footpaths that a feed lists: for each pair of stops the time of the claim that counts, in the order of a timetable.
+//! The footpaths that a feed lists: for each pair of stops the time of the claim that counts, in
+//! the order of a timetable.
 
 ghost use Rattle.std.specs.Prelude.{◌≡◌, ◌<◌, ◌≤◌, ◌++◌, ◌+◌, ◌^◌, length, IfOk, IfErr, OnOk, true, false};
 ghost use Rattle.timetable.specs.Legal.{AreInOrder};
@@ -45,7 +46,8 @@ fn add_path(paths: &mut Vec<Footpath>, claim: &Claim) -> Result<(), AllocError>
 // Adds the footpath of the claim at a place, where the claim is the first on its pair.
 fn add_first(paths: &mut Vec<Footpath>, claims: &[Claim], place: usize) -> Result<(), AllocError>
     requires { place < length claims.now }
-    ensures paths { ArePathsBelow claims.now place paths.old.items → OnOk result (ArePathsBelow claims.now (place + 1) paths.new.items) }
+    ensures paths { ArePathsBelow claims.now place paths.old.items
+        → OnOk result (ArePathsBelow claims.now (place + 1) paths.new.items) }
     ensures order { AreSorted claims.now → ArePathsBelow claims.now place paths.old.items → AreInOrder paths.old.items
         → OnOk result (AreInOrder paths.new.items) }
 {
@@ -135,25 +137,27 @@ fn paths_below(
     Ok(paths)
 }
 
-/// The footpaths that a feed lists, with their times in seconds, by the stop led into, then by the stop left, as the GTFS
-/// Schedule Reference has them, where they are that many at most.
+/// The footpaths that a feed lists, with their times in seconds, by the stop led into, then by the
+/// stop left, as the GTFS Schedule Reference has them, where they are that many at most.
 ///
-/// A transfer that names a station stands for each stop of it. For an ordered pair of stops the transfers that name both
-/// stops themselves count, where there are any, else those that name a station. Where one of them says that no transfer is
-/// possible there is no footpath, else the least of their times is taken. Where none counts, two stops of one station are
-/// 120 seconds apart, and a stop's loop takes no time.
+/// A transfer that names a station stands for each stop of it. For an ordered pair of stops the
+/// transfers that name both stops themselves count, where there are any, else those that name a
+/// station. Where one of them says that no transfer is possible there is no footpath, else the
+/// least of their times is taken. Where none counts, two stops of one station are 120 seconds
+/// apart, and a stop's loop takes no time.
 ///
-/// A transfer takes its min_transfer_time, a day at most. Where none is given a timed transfer takes no time, nor does a
-/// recommended one from a stop to itself; any other takes 120 seconds. A transfer that says that none is possible from a stop
-/// to itself is passed over, and so are skipped transfers.
+/// A transfer takes its min_transfer_time, a day at most. Where none is given a timed transfer
+/// takes no time, nor does a recommended one from a stop to itself; any other takes 120 seconds. A
+/// transfer that says that none is possible from a stop to itself is passed over, and so are
+/// skipped transfers.
 ///
 /// Where the feed's transfers name its own stops, the footpaths join its stops.
 ///
 /// # Errors
 ///
-/// `TooMany` where the feed lists more footpaths than that. It is told as soon as more are found, stop by stop: never is there
-/// room for more than those and the footpaths into one stop. `OutOfMemory` where memory was wanting; more stops than a `u32` can
-/// number count as that.
+/// `TooMany` where the feed lists more footpaths than that. It is told as soon as more are found,
+/// stop by stop: never is there room for more than those and the footpaths into one stop.
+/// `OutOfMemory` where memory was wanting; more stops than a `u32` can number count as that.
 pub fn listed_within(alloc: Global, feed: &Feed, most: usize) -> Result<Vec<Footpath>, ListingFault>
     ensures all { IfOk result (λ v. AreAllListed feed.now v.items) }
     ensures few { IfOk result (λ v. length v.items ≤ most) }
@@ -171,7 +175,8 @@ pub fn listed_within(alloc: Global, feed: &Feed, most: usize) -> Result<Vec<Foot
     paths_below(alloc, &known, end, most)
 }
 
-/// The footpaths that a feed lists, as [`listed_within`] gives them, however many they are. Want of memory is the only error.
+/// The footpaths that a feed lists, as [`listed_within`] gives them, however many they are. Want of
+/// memory is the only error.
 pub fn listed(alloc: Global, feed: &Feed) -> Result<Vec<Footpath>, AllocError>
     ensures all { IfOk result (λ v. AreAllListed feed.now v.items) }
 {

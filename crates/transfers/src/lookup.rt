@@ -7,7 +7,8 @@ ghost use Rattle.transfers.specs.Bans.{IsMute, IsVoid, station_at};
 ghost use Rattle.transfers.specs.Claims.{AreStoodFor, AreChildren};
 ghost use Rattle.transfers.specs.Heard.{HearsOnce};
 ghost use Rattle.transfers.specs.Listed.{NamesBelow, is_station, stands_for, station_of};
-ghost use Rattle.transfers.specs.Lookup.{EndsBelow, IsKnown, IsLookup, stop_named, station_named, stops_in, transfers_in};
+ghost use Rattle.transfers.specs.Lookup.{EndsBelow, IsKnown, IsLookup, stop_named, station_named, stops_in};
+ghost use Rattle.transfers.specs.Lookup.{transfers_in};
 
 use crate::bans::{Ban, bans_of, is_ban};
 use crate::claims::{Source, source_of};
@@ -110,14 +111,16 @@ impl Lookup {
 
     /// The stops of a station.
     pub fn children_of(&self, station: u32) -> &[u32]
-        ensures { (all : List TheStop) (rows : List TheTransfer) → IsLookup all rows self.now → AreChildren all station result.now }
+        ensures { (all : List TheStop) (rows : List TheTransfer) → IsLookup all rows self.now
+            → AreChildren all station result.now }
     {
         self.children.group(station)
     }
 
     /// The stops that an end of a transfer stands for.
     pub fn stood_for<'a>(&'a self, place: &'a Place) -> &'a [u32]
-        ensures { (all : List TheStop) (rows : List TheTransfer) → IsLookup all rows self.now → AreStoodFor all place.now result.now }
+        ensures { (all : List TheStop) (rows : List TheTransfer) → IsLookup all rows self.now
+            → AreStoodFor all place.now result.now }
     {
         match place {
             Place::Stop(stop) => slice::from_ref(stop),
@@ -170,8 +173,8 @@ impl<'a> Known<'a> {
         }
     }
 
-    /// Whether a transfer says nothing of the ways into a stop but of its loop: none is possible between its stations, and it doesn't
-    /// name both stops itself.
+    /// Whether a transfer says nothing of the ways into a stop but of its loop: none is possible
+    /// between its stations, and it doesn't name both stops itself.
     pub fn is_mute(&self, row: &Transfer, to: u32) -> bool
         requires { IsKnown self.now }
         ensures mute { result ≡ true → IsMute (stops_in self.now) (transfers_in self.now) row.now to }

@@ -31,12 +31,14 @@ look_kept s w kept idle =
     }
 
 -- what is known of a worker that has looked
-pub looked_fits : (s : State) (w v k : ℕ) → Kept s → HasLooked s w v k → (w < 16) × (k < 8) × (get_or s.seen w 0 ≡ v) × (v ≤ s.current) × (v ≡ s.current → k ≡ s.current_shelf)
+pub looked_fits : (s : State) (w v k : ℕ) → Kept s → HasLooked s w v k
+    → (w < 16) × (k < 8) × (get_or s.seen w 0 ≡ v) × (v ≤ s.current) × (v ≡ s.current → k ≡ s.current_shelf)
 looked_fits s w v k kept has =
     let f = kept.workers.each w (Worker.Looked v k) has in let l = slice_get_within s.workers w _ has in let e = kept.workers.sixteen in
     (omega arith, f.0, f.1, f.2, f.3)
 
-arrived_kept : (s : State) (w v k : ℕ) (now : Worker) → Kept s → HasLooked s w v k → ((i : ℕ) → is_at i now ≡ (k == i)) → Fits s.current s.current_shelf s.shelves now (get_or s.seen w 0) → Kept (arrived s w k now)
+arrived_kept : (s : State) (w v k : ℕ) (now : Worker) → Kept s → HasLooked s w v k → ((i : ℕ) → is_at i now ≡ (k == i))
+    → Fits s.current s.current_shelf s.shelves now (get_or s.seen w 0) → Kept (arrived s w k now)
 arrived_kept s w v k now kept has there fits = record {
   room = kept.room;
   shelves = kept.shelves;
@@ -62,11 +64,26 @@ pub stays_fits : (s : State) (w k : ℕ) → Kept s → StaysAt s w k → (w < 1
 stays_fits s w k kept stays =
     let e = kept.workers.sixteen in
     elim stays [
-      | inl a ↦ (let l = slice_get_within s.workers w _ a in let f = kept.workers.each w (Worker.Late k) a in (omega arith, f.0, counted_at s.counts s.workers w k (Worker.Late k) kept.counts f.0 a (own_equal k)))
-      | inr b ↦ (let v = b.0 in let l = slice_get_within s.workers w _ b.1 in let f = kept.workers.each w (Worker.Holding k v) b.1 in (omega arith, f.0, counted_at s.counts s.workers w k (Worker.Holding k v) kept.counts f.0 b.1 (own_equal k)))
+      | inl a ↦ (let l = slice_get_within s.workers w _ a in let f =
+          kept.workers.each w (Worker.Late k) a in (
+            omega arith,
+            f.0,
+            counted_at s.counts s.workers w k (Worker.Late k)
+                kept.counts f.0 a (own_equal k),
+          ))
+      | inr b ↦ (let v = b.0 in let l = slice_get_within s.workers w _ b.1 in let f =
+          kept.workers.each w
+          (Worker.Holding k v) b.1 in (
+            omega arith,
+            f.0,
+            counted_at s.counts s.workers w k
+                (Worker.Holding k v) kept.counts f.0
+                b.1 (own_equal k),
+          ))
     ]
 
-departed_kept : (s : State) (w k : ℕ) (was : Worker) → Kept s → k < 8 → slice_get s.workers w ≡ Some was → ((i : ℕ) → is_at i was ≡ (k == i)) → get_or s.seen w 0 ≤ s.current → Kept (departed s w k)
+departed_kept : (s : State) (w k : ℕ) (was : Worker) → Kept s → k < 8 → slice_get s.workers w ≡ Some was
+    → ((i : ℕ) → is_at i was ≡ (k == i)) → get_or s.seen w 0 ≤ s.current → Kept (departed s w k)
 departed_kept s w k was kept small here there seen = record {
   room = kept.room;
   shelves = kept.shelves;
@@ -89,7 +106,8 @@ none_waits s kept rest k v new = none_unpublished s.current s.current_shelf (new
 pub newest_is_current : (s : State) → Kept s → ((k v : ℕ) → ¬ (IsUnpublished s k v)) → newest s ≡ s.current
 newest_is_current s kept none = elim kept.shelves.newest_open [ inl a ↦ a | inr b ↦ absurd (none b.1.0 (newest s) (b.1.1, (let q = b.0 in omega arith))) ]
 
-pub may_open_where : (s : State) (few : Bool) → Kept s → newest s ≡ s.current → (few ≡ true → newest s < 1000000000) → (few ≡ false → ¬ (newest s < 1000000000)) → MatchBool few (MayOpen s) (¬ (MayOpen s))
+pub may_open_where : (s : State) (few : Bool) → Kept s → newest s ≡ s.current → (few ≡ true → newest s < 1000000000)
+    → (few ≡ false → ¬ (newest s < 1000000000)) → MatchBool few (MayOpen s) (¬ (MayOpen s))
 may_open_where s true kept rest fewer more = (none_waits s kept rest, fewer refl)
 may_open_where s false kept rest fewer more = λ may. more refl may.1
 
@@ -101,7 +119,8 @@ open_kept s k e kept may free =
       room = omega arith;
       shelves = rw longer (shelves_open s.current s.current_shelf (newest s) k s.shelves kept.shelves (newest_is_current s kept may.0) free);
       counts = kept.counts;
-      workers = workers_stay s.current s.current_shelf s.shelves _ s.workers s.seen (λ j v has. opening_stays s.shelves k (newest s + 1) j v free has) kept.workers;
+      workers = workers_stay s.current s.current_shelf s.shelves _ s.workers s.seen
+          (λ j v has. opening_stays s.shelves k (newest s + 1) j v free has) kept.workers;
       notices = kept.notices;
     }
 
@@ -136,7 +155,8 @@ free_kept s k v kept closing none =
       room = kept.room;
       shelves = shelves_free s.current s.current_shelf (newest s) k v s.shelves kept.shelves closing;
       counts = kept.counts;
-      workers = workers_away s.current s.current_shelf k s.shelves Shelf.Free s.workers s.seen (no_one_at s.counts s.workers k kept.counts (omega arith) none) kept.workers;
+      workers = workers_away s.current s.current_shelf k s.shelves Shelf.Free s.workers s.seen
+          (no_one_at s.counts s.workers k kept.counts (omega arith) none) kept.workers;
       notices = kept.notices;
     }
 

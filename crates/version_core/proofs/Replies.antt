@@ -13,7 +13,8 @@ use Rattle.version_core.proofs.Pins.{stays_once}
 use Rattle.version_core.proofs.Rising.{remove_one}
 
 look_one : (s t u : State) (w : ℕ) (r q : Reply) → LookStep s w r t → LookStep s w q u → (q ≡ r) × (u ≡ t)
-look_one s t u w (Reply.Looked v k) (Reply.Looked x j) a b = (ap (λ n. Reply.Looked n j) (b.1 ∙ sym a.1) ∙ ap (λ n. Reply.Looked v n) (b.2 ∙ sym a.2), b.3 ∙ sym a.3)
+look_one s t u w (Reply.Looked v k) (Reply.Looked x j) a b =
+    (ap (λ n. Reply.Looked n j) (b.1 ∙ sym a.1) ∙ ap (λ n. Reply.Looked v n) (b.2 ∙ sym a.2), b.3 ∙ sym a.3)
 look_one s t u w (Reply.Looked v k) Reply.NotNow a b = absurd (b.0 a.0)
 look_one s t u w (Reply.Looked v k) _ a b = absurd b
 look_one s t u w Reply.NotNow (Reply.Looked x j) a b = absurd (a.0 b.0)
@@ -76,7 +77,8 @@ drop_one s t u w r q a b = done_alike s t u r q ((k : ℕ) × StaysAt s w k) (λ
 neither_below : (m n : ℕ) → ¬ (m < n) → ¬ (n < m) → n ≡ m
 neither_below m n a b = omega (arith, a, b)
 
-open_one : (s t u : State) (e : ℕ) (r q : Reply) → OpenStep s e r t → OpensLeast s (Event.Open e) r → OpenStep s e q u → OpensLeast s (Event.Open e) q → (q ≡ r) × (u ≡ t)
+open_one : (s t u : State) (e : ℕ) (r q : Reply) → OpenStep s e r t → OpensLeast s (Event.Open e) r → OpenStep s e q u
+    → OpensLeast s (Event.Open e) q → (q ≡ r) × (u ≡ t)
 open_one s t u e (Reply.Opened v k) (Reply.Opened x j) a least b least' =
     let p : x ≡ v = b.2 ∙ sym a.2 in
     let q : j ≡ k = neither_below k j (λ less. least' k less a.1) (λ less. least j less b.1) in

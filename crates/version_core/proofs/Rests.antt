@@ -1,5 +1,6 @@
 -- How the table comes to rest.
-use Rattle.std.proofs.Common.{◌≡◌, ◌≢◌, ℕ, zero, suc, ◌+◌, ◌<◌, [], ◌∷◌, ◌++◌, length, set, Some, slice_get, refl, ap, sym, ◌∙◌, subst, arith, inl, inr, length-append}
+use Rattle.std.proofs.Common.{◌≡◌, ◌≢◌, ℕ, zero, suc, ◌+◌, ◌<◌, [], ◌∷◌, ◌++◌, length, set, Some, slice_get, refl, ap}
+use Rattle.std.proofs.Common.{sym, ◌∙◌, subst, arith, inl, inr, length-append}
 use Rattle.std.proofs.lemmas.Option.{slice_get_within, slice_get-get_or}
 use mathlib.Core.Logic.{dite}
 use native.Mathlib.Decide.{ℕ_discrete}
@@ -46,7 +47,12 @@ drop_rests s w _ t rest h = absurd h
 freed_rests : (s : State) (k v : ℕ) → IsAtRest s → IsClosing s k v → IsAtRest (shelved s k Shelf.Free)
 freed_rests s k v rest closing = record {
   published = rest.published;
-  one_open = λ j x is. elim (slice_get-set s.shelves k j Shelf.Free (Shelf.Open x) (slice_get_within s.shelves k _ closing) is) [ inl a ↦ absurd (let e = a.1 in cc) | inr b ↦ rest.one_open j x b.1 ];
+  one_open = λ j x is. elim (slice_get-set s.shelves k j Shelf.Free (Shelf.Open x)
+      (slice_get_within s.shelves k _ closing) is) [
+        | inl a ↦ absurd (let e = a.1 in cc)
+        | inr b ↦
+            rest.one_open j x b.1
+      ];
 }
 
 collect_rests : (s : State) (k : ℕ) (r : Reply) (t : State) → IsAtRest s → CollectStep s k r t → IsAtRest t
@@ -86,30 +92,44 @@ opened_is_open : (s : State) (k e : ℕ) → IsFree s k → IsOpen (opened s k e
 opened_is_open s k e free = slice_get-set_same s.shelves k (Shelf.Open (newest s + 1)) (slice_get_within s.shelves k _ free)
 
 -- after an opening at rest, Publish can only publish what was opened
-published_is : (s : State) (k e : ℕ) (r : Reply) (t : State) → Kept s → IsAtRest s → MayOpen s → IsFree s k → PublishStep (opened s k e) r t → (r ≡ Reply.Published (newest s + 1)) × (t ≡ published (opened s k e) k (newest s + 1))
+published_is : (s : State) (k e : ℕ) (r : Reply) (t : State) → Kept s → IsAtRest s → MayOpen s → IsFree s k
+    → PublishStep (opened s k e) r t → (r ≡ Reply.Published (newest s + 1))
+    × (t ≡ published (opened s k e) k (newest s + 1))
 published_is s k e (Reply.Published v) t kept rest may free h =
     let after = open_kept s k e kept may free in
     let longer : length (s.editions ++ e ∷ []) ≡ newest s + 1 = omega (arith, length-append s.editions (e ∷ [])) in
     let known = after.shelves.known h.0 v (version_at _ h.0 (Shelf.Open v) h.1.0) in
     let most = known.1 in let later = h.1.1 in let p = rest.published in
     let same : v ≡ newest s + 1 = omega arith in
-    let here : h.0 ≡ k = after.shelves.apart h.0 k v (version_at _ h.0 (Shelf.Open v) h.1.0) (version_at _ k (Shelf.Open (newest s + 1)) (opened_is_open s k e free) ∙ ap (λ n. Some n) (sym same)) in
+    let here : h.0 ≡ k = after.shelves.apart h.0 k v (version_at _ h.0 (Shelf.Open v) h.1.0)
+    (version_at _ k (Shelf.Open (newest s + 1)) (opened_is_open s k e free) ∙ ap (λ n. Some n) (sym same)) in
     (ap (λ n. Reply.Published n) same, h.2 ∙ (ap (λ j. published (opened s k e) j v) here ∙ ap (λ n. published (opened s k e) k n) same))
 published_is s k e Reply.NotNow t kept rest may free h = let p = rest.published in absurd (h.0 k (newest s + 1) (opened_is_open s k e free, (omega arith)))
 published_is s k e _ t kept rest may free h = absurd h
 
 current_stays : (s : State) (k e : ℕ) → Kept s → IsFree s k → IsOpen (opened s k e) s.current_shelf s.current
 current_stays s k e kept free =
-    slice_get-set_other s.shelves k s.current_shelf (Shelf.Open (newest s + 1)) (λ q. let two : Some (Shelf.Open s.current) ≡ Some Shelf.Free = sym kept.shelves.current_open ∙ (ap (λ n. slice_get s.shelves n) q ∙ free) in (cc))
+    slice_get-set_other s.shelves k s.current_shelf (Shelf.Open (newest s + 1))
+    (λ q. let two : Some (Shelf.Open s.current) ≡ Some Shelf.Free =
+    sym kept.shelves.current_open ∙ (ap (λ n. slice_get s.shelves n) q ∙ free) in (cc))
     ∙ kept.shelves.current_open
 
 -- then Close of the shelf that was current can only close it
-closed_is : (s : State) (k e : ℕ) (r : Reply) (t : State) → Kept s → IsAtRest s → IsFree s k → CloseStep (published (opened s k e) k (newest s + 1)) s.current_shelf r t → (r ≡ Reply.Closing) × (t ≡ loaded s k e)
+closed_is : (s : State) (k e : ℕ) (r : Reply) (t : State) → Kept s → IsAtRest s → IsFree s k
+    → CloseStep (published (opened s k e) k (newest s + 1)) s.current_shelf r t
+    → (r ≡ Reply.Closing) × (t ≡ loaded s k e)
 closed_is s k e Reply.Closing t kept rest free h =
     let two : Some (Shelf.Open h.0) ≡ Some (Shelf.Open s.current) = sym h.1.0 ∙ current_stays s k e kept free in
     let same : h.0 ≡ s.current = cc in
     (refl, h.2 ∙ ap (λ n. shelved (published (opened s k e) k (newest s + 1)) s.current_shelf (Shelf.Closing n)) same)
-closed_is s k e Reply.NotNow t kept rest free h = let p = rest.published in absurd (h.0 s.current (current_stays s k e kept free, (λ q. (omega arith)), (λ new. let later = new.1 in (omega arith))))
+closed_is s k e Reply.NotNow t kept rest free h = let p =
+    rest.published in absurd
+    (h.0 s.current (
+      current_stays s k e kept free,
+      (λ q. (omega arith)),
+      (λ new. let later =
+          new.1 in (omega arith)),
+    ))
 closed_is s k e _ t kept rest free h = absurd h
 
 loaded_rests : (s : State) (k e : ℕ) → Kept s → IsAtRest s → IsFree s k → IsAtRest (loaded s k e)
@@ -118,16 +138,20 @@ loaded_rests s k e kept rest free =
     let xs = set s.shelves k (Shelf.Open n) in
     record {
       published = omega (arith, length-append s.editions (e ∷ []));
-      one_open = λ j x is. elim (slice_get-set xs s.current_shelf j (Shelf.Closing s.current) (Shelf.Open x) (slice_get_within xs s.current_shelf _ (current_stays s k e kept free)) is) [
-        | inl a ↦ absurd (let q = a.1 in cc)
-        | inr b ↦ elim (slice_get-set s.shelves k j (Shelf.Open n) (Shelf.Open x) (slice_get_within s.shelves k _ free) b.1) [
-          | inl c ↦ (let q = c.1 in cc)
-          | inr d ↦ absurd (b.0 (kept.shelves.apart j s.current_shelf x (version_at s.shelves j (Shelf.Open x) d.1) (version_at s.shelves s.current_shelf (Shelf.Open s.current) kept.shelves.current_open ∙ ap (λ m. Some m) (sym (rest.one_open j x d.1)))))
-        ]
-      ];
+      one_open = λ j x is. elim (slice_get-set xs s.current_shelf j (Shelf.Closing s.current) (Shelf.Open x)
+          (slice_get_within xs s.current_shelf _ (current_stays s k e kept free)) is) [
+            | inl a ↦ absurd (let q = a.1 in cc)
+            | inr b ↦ elim (slice_get-set s.shelves k j (Shelf.Open n) (Shelf.Open x) (slice_get_within s.shelves k _ free) b.1) [
+              | inl c ↦ (let q = c.1 in cc)
+              | inr d ↦ absurd (b.0 (kept.shelves.apart j s.current_shelf x (version_at s.shelves j (Shelf.Open x) d.1)
+                  (version_at s.shelves s.current_shelf (Shelf.Open s.current) kept.shelves.current_open
+                  ∙ ap (λ m. Some m) (sym (rest.one_open j x d.1)))))
+            ]
+          ];
     }
 
-pub loads_rest : (s t : State) (e v k : ℕ) (second third : Reply) → Kept s → IsAtRest s → Run s (Event.Open e ∷ Event.Publish ∷ Event.Close s.current_shelf ∷ []) (Reply.Opened v k ∷ second ∷ third ∷ []) t
+pub loads_rest : (s t : State) (e v k : ℕ) (second third : Reply) → Kept s → IsAtRest s
+    → Run s (Event.Open e ∷ Event.Publish ∷ Event.Close s.current_shelf ∷ []) (Reply.Opened v k ∷ second ∷ third ∷ []) t
     → (v ≡ newest s + 1) × (second ≡ Reply.Published v) × (third ≡ Reply.Closing) × (t ≡ loaded s k e) × IsAtRest t
 loads_rest s t e v k second third kept rest h =
     let first = h.1 in
@@ -140,11 +164,14 @@ pub rest_is_spent : (s : State) → Kept s → IsAtRest s → ¬ (MayOpen s) →
 rest_is_spent s kept rest not =
     dite (ℕ_discrete (newest s) 1000000000) (λ e. e) (λ e. let most = kept.room in absurd (not (none_waits s kept rest.published, (omega arith))))
 
-closing_here : (s : State) (k : ℕ) (shelf : Shelf) → Kept s → IsAtRest s → slice_get s.shelves k ≡ Some shelf → ¬ (IsFree s k) → k ≢ s.current_shelf → (v : ℕ) × IsClosing s k v
+closing_here : (s : State) (k : ℕ) (shelf : Shelf) → Kept s → IsAtRest s → slice_get s.shelves k ≡ Some shelf
+    → ¬ (IsFree s k) → k ≢ s.current_shelf → (v : ℕ) × IsClosing s k v
 closing_here s k (Shelf.Closing v) kept rest is not other = (v, is)
 closing_here s k Shelf.Free kept rest is not other = absurd (not is)
 closing_here s k (Shelf.Open v) kept rest is not other =
-    absurd (other (kept.shelves.apart k s.current_shelf v (version_at s.shelves k (Shelf.Open v) is) (version_at s.shelves s.current_shelf (Shelf.Open s.current) kept.shelves.current_open ∙ ap (λ m. Some m) (sym (rest.one_open k v is)))))
+    absurd (other (kept.shelves.apart k s.current_shelf v (version_at s.shelves k (Shelf.Open v) is)
+    (version_at s.shelves s.current_shelf (Shelf.Open s.current) kept.shelves.current_open
+    ∙ ap (λ m. Some m) (sym (rest.one_open k v is)))))
 
 pub rest_is_full : (s : State) (k : ℕ) → Kept s → IsAtRest s → ((j : ℕ) → ¬ (IsFree s j)) → k < 8 → k ≢ s.current_shelf → (v : ℕ) × IsClosing s k v
 rest_is_full s k kept rest none small other =

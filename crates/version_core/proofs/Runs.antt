@@ -28,7 +28,8 @@ run_kept s (e ∷ es) [] t kept h = absurd h
 pub reached_kept : (s : State) → IsReached s → Kept s
 reached_kept s h = run_kept start h.0 h.1.replies s start_kept h.1.run
 
-pub runs_join : (s t u : State) (before after : List Event) (first second : List Reply) → Run s before first t → Run t after second u → Run s (before ++ after) (first ++ second) u
+pub runs_join : (s t u : State) (before after : List Event) (first second : List Reply) → Run s before first t
+    → Run t after second u → Run s (before ++ after) (first ++ second) u
 runs_join s t u [] after [] second h next = subst (λ (x : State). Run x after second u) h next
 runs_join s t u (e ∷ es) after (r ∷ rs) second h next = (h.0, h.1, runs_join h.0 t u es after rs second h.2 next)
 runs_join s t u [] after (r ∷ rs) second h next = absurd h
@@ -41,31 +42,42 @@ runs_part s u (e ∷ es) after (r ∷ rs) h = let p = runs_part h.0 u es after r
 runs_part s u (e ∷ es) after [] h = absurd h
 
 -- the list of events grows by the event of a step
-pub runs_grow : (s t u : State) (before : List Event) (replies : List Reply) (e : Event) (r : Reply) → Run s before replies t → Step t e r u → Run s (before ++ e ∷ []) (replies ++ r ∷ []) u
+pub runs_grow : (s t u : State) (before : List Event) (replies : List Reply) (e : Event) (r : Reply)
+    → Run s before replies t → Step t e r u → Run s (before ++ e ∷ []) (replies ++ r ∷ []) u
 runs_grow s t u before replies e r h step = runs_join s t u before (e ∷ []) replies (r ∷ []) h (u, step, refl)
 
 -- so does a list that is kept, with the replies or without
-pub list_grows_with_replies : (s t u : State) (before events : List Event) (e : Event) (first replies : List Reply) (r : Reply) → Run s before first t → events ≡ before ++ e ∷ [] → replies ≡ first ++ r ∷ [] → Step t e r u → Run s events replies u
+pub list_grows_with_replies : (s t u : State) (before events : List Event) (e : Event) (first replies : List Reply)
+    (r : Reply) → Run s before first t → events ≡ before ++ e ∷ [] → replies ≡ first ++ r ∷ [] → Step t e r u
+    → Run s events replies u
 list_grows_with_replies s t u before events e first replies r h is all step = rw is (rw all (runs_grow s t u before first e r h step))
 
-pub list_grows_by_run : (s t u : State) (before added events : List Event) (replies : List Reply) → IsRun s before t → events ≡ before ++ added → Run t added replies u → IsRun s events u
-list_grows_by_run s t u before added events replies h is more = record { replies = h.replies ++ replies; run = rw is (runs_join s t u before added h.replies replies h.run more) }
+pub list_grows_by_run : (s t u : State) (before added events : List Event) (replies : List Reply) → IsRun s before t
+    → events ≡ before ++ added → Run t added replies u → IsRun s events u
+list_grows_by_run s t u before added events replies h is more =
+    record { replies = h.replies ++ replies; run = rw is (runs_join s t u before added h.replies replies h.run more) }
 
-pub list_grows : (s t u : State) (before events : List Event) (e : Event) (r : Reply) → IsRun s before t → events ≡ before ++ e ∷ [] → Step t e r u → IsRun s events u
+pub list_grows : (s t u : State) (before events : List Event) (e : Event) (r : Reply) → IsRun s before t
+    → events ≡ before ++ e ∷ [] → Step t e r u → IsRun s events u
 list_grows s t u before events e r h is step = list_grows_by_run s t u before (e ∷ []) events (r ∷ []) h is (u, step, refl)
 
 -- a run goes on by the next event of a list
-pub run_take : (s : State) (xs : List Event) (i : ℕ) (d : Event) (rs : List Reply) (t u : State) (r : Reply) → i < length xs → Run s (take i xs) rs t → Step t (get_or xs i d) r u → Run s (take (i + 1) xs) (rs ++ r ∷ []) u
+pub run_take : (s : State) (xs : List Event) (i : ℕ) (d : Event) (rs : List Reply) (t u : State) (r : Reply)
+    → i < length xs → Run s (take i xs) rs t → Step t (get_or xs i d) r u → Run s (take (i + 1) xs) (rs ++ r ∷ []) u
 run_take s xs i d rs t u r less h step = rw (take_more xs i d less) (runs_grow s t u (take i xs) rs (get_or xs i d) r h step)
 
-least_join : (s t u : State) (before after : List Event) (first second : List Reply) → LeastRun s before first t → LeastRun t after second u → LeastRun s (before ++ after) (first ++ second) u
+least_join : (s t u : State) (before after : List Event) (first second : List Reply) → LeastRun s before first t
+    → LeastRun t after second u → LeastRun s (before ++ after) (first ++ second) u
 least_join s t u [] after [] second h next = subst (λ (x : State). LeastRun x after second u) h next
 least_join s t u (e ∷ es) after (r ∷ rs) second h next = (h.0, h.1, h.2, least_join h.0 t u es after rs second h.3 next)
 least_join s t u [] after (r ∷ rs) second h next = absurd h
 least_join s t u (e ∷ es) after [] second h next = absurd h
 
-pub least_take : (s : State) (xs : List Event) (i : ℕ) (d : Event) (rs : List Reply) (t u : State) (r : Reply) → i < length xs → LeastRun s (take i xs) rs t → Step t (get_or xs i d) r u → OpensLeast t (get_or xs i d) r → LeastRun s (take (i + 1) xs) (rs ++ r ∷ []) u
-least_take s xs i d rs t u r less h step least = rw (take_more xs i d less) (least_join s t u (take i xs) (get_or xs i d ∷ []) rs (r ∷ []) h (u, step, least, refl))
+pub least_take : (s : State) (xs : List Event) (i : ℕ) (d : Event) (rs : List Reply) (t u : State) (r : Reply)
+    → i < length xs → LeastRun s (take i xs) rs t → Step t (get_or xs i d) r u → OpensLeast t (get_or xs i d) r
+    → LeastRun s (take (i + 1) xs) (rs ++ r ∷ []) u
+least_take s xs i d rs t u r less h step least =
+    rw (take_more xs i d less) (least_join s t u (take i xs) (get_or xs i d ∷ []) rs (r ∷ []) h (u, step, least, refl))
 
 pub one_run : (s t u : State) (es : List Event) (rs qs : List Reply) → Kept s → LeastRun s es rs t → LeastRun s es qs u → (qs ≡ rs) × (u ≡ t)
 one_run s t u [] [] [] kept a b = (refl, b ∙ sym a)
@@ -104,14 +116,19 @@ later_later : (s t u : State) → IsLater s t → IsLater t u → IsLater s u
 later_later s t u one two = record {
   current = (let a = one.current in let b = two.current in omega arith);
   seen = λ w. let a = one.seen w in let b = two.seen w in omega arith;
-  editions = (one.editions.0 ++ two.editions.0, two.editions.1 ∙ (ap (λ l. l ++ two.editions.0) one.editions.1 ∙ append_assoc s.editions one.editions.0 two.editions.0));
+  editions = (
+    one.editions.0 ++ two.editions.0,
+    two.editions.1 ∙ (ap (λ l. l ++ two.editions.0) one.editions.1
+        ∙ append_assoc s.editions one.editions.0 two.editions.0),
+  );
 }
 
 looked_later : (s : State) (w : ℕ) → Kept s → IsIdle s w → IsLater s (looked s w)
 looked_later s w kept idle = record {
   current = omega arith;
   seen = λ j. dite (ℕ_discrete j w)
-      (λ e. let f = kept.workers.each w Worker.Idle idle in let l = slice_get_within s.workers w _ idle in let z = kept.workers.sixteen in let z' = kept.workers.sixteen_seen in
+      (λ e. let f = kept.workers.each w Worker.Idle idle in let l = slice_get_within s.workers w _ idle in let z =
+      kept.workers.sixteen in let z' = kept.workers.sixteen_seen in
       subst (λ n. get_or s.seen n 0 ≤ get_or (set s.seen w s.current) n 0) (sym e) (let g = get_or-set_same s.seen w s.current 0 (omega arith) in omega arith))
       (λ e. let g = get_or-set_other s.seen w j s.current 0 e in omega arith);
   editions = ([], sym (append-nil s.editions));
@@ -229,19 +246,27 @@ pub edition_of-place : (editions : List ℕ) (v e : ℕ) → 0 < v → slice_get
 edition_of-place editions zero e some is = absurd (omega arith)
 edition_of-place editions (suc n) e some is = let place : suc n - 1 ≡ n = omega arith in rw place at is
 
-pub opens_with_edition : (s t : State) (e v k : ℕ) → Step s (Event.Open e) (Reply.Opened v k) t → IsOpen t k v × (v ≡ newest t) × (edition_of t.editions v ≡ Some e)
+pub opens_with_edition : (s t : State) (e v k : ℕ) → Step s (Event.Open e) (Reply.Opened v k) t
+    → IsOpen t k v × (v ≡ newest t) × (edition_of t.editions v ≡ Some e)
 opens_with_edition s t e v k h =
     let longer : length (s.editions ++ e ∷ []) ≡ newest s + 1 = omega (arith, length-append s.editions (e ∷ [])) in
-    let there : slice_get (s.editions ++ e ∷ []) (newest s + 1 - 1) ≡ Some e = (let same : newest s + 1 - 1 ≡ newest s = omega arith in rw same (slice_get-last s.editions e)) in
+    let there : slice_get (s.editions ++ e ∷ []) (newest s + 1 - 1) ≡ Some e =
+    (let same : newest s + 1 - 1 ≡ newest s = omega arith in rw same (slice_get-last s.editions e)) in
     let new = opened s k e in
-    let all : IsOpen new k (newest s + 1) × (newest s + 1 ≡ newest new) × (edition_of new.editions (newest s + 1) ≡ Some e) =
-    (slice_get-set_same s.shelves k (Shelf.Open (newest s + 1)) (slice_get_within s.shelves k Shelf.Free h.1), sym longer, edition_of-place new.editions (newest s + 1) e (omega arith) there) in
-    subst (λ x. IsOpen x k v × (v ≡ newest x) × (edition_of x.editions v ≡ Some e)) (sym h.3) (subst (λ n. IsOpen new k n × (n ≡ newest new) × (edition_of new.editions n ≡ Some e)) (sym h.2) all)
+    let all : IsOpen new k (newest s + 1) × (newest s + 1 ≡ newest new) × (edition_of new.editions (newest s + 1) ≡ Some e) = (
+      slice_get-set_same s.shelves k (Shelf.Open (newest s + 1)) (slice_get_within s.shelves k Shelf.Free h.1),
+      sym longer,
+      edition_of-place new.editions (newest s + 1) e (omega arith) there,
+    ) in
+    subst (λ x. IsOpen x k v × (v ≡ newest x)
+    × (edition_of x.editions v ≡ Some e)) (sym h.3) (subst (λ n. IsOpen new k n × (n ≡ newest new)
+    × (edition_of new.editions n ≡ Some e)) (sym h.2) all)
 
 place_of : (s : State) (v : ℕ) → 0 < v → v ≤ newest s → (e : ℕ) × (edition_of s.editions v ≡ Some e)
 place_of s v some most = (get_or s.editions (v - 1) 0, edition_of-place s.editions v _ some (slice_get-get_or s.editions (v - 1) 0 (omega arith)))
 
-answered : (s : State) (w k v e : ℕ) (r : Reply) (t : State) → Holds s w k v → edition_of s.editions v ≡ Some e → AskStep s w r t → (r ≡ Reply.From v e) × (t ≡ s)
+answered : (s : State) (w k v e : ℕ) (r : Reply) (t : State) → Holds s w k v → edition_of s.editions v ≡ Some e
+    → AskStep s w r t → (r ≡ Reply.From v e) × (t ≡ s)
 answered s w k v e (Reply.From x y) t holds is h =
     let one : Some (Worker.Holding k v) ≡ Some (Worker.Holding h.0 x) = sym holds ∙ h.1 in
     let same : v ≡ x = cc in
@@ -250,7 +275,9 @@ answered s w k v e (Reply.From x y) t holds is h =
 answered s w k v e Reply.NotNow t holds is h = absurd (h.0 k v holds)
 answered s w k v e _ t holds is h = absurd h
 
-pub asked : (s : State) (w k v : ℕ) → Kept s → Holds s w k v → (e : ℕ) × (edition_of s.editions v ≡ Some e) × ((reply : Reply) (t : State) → Step s (Event.Ask w) reply t → (reply ≡ Reply.From v e) × (t ≡ s))
+pub asked : (s : State) (w k v : ℕ) → Kept s → Holds s w k v
+    → (e : ℕ) × (edition_of s.editions v ≡ Some e)
+    × ((reply : Reply) (t : State) → Step s (Event.Ask w) reply t → (reply ≡ Reply.From v e) × (t ≡ s))
 asked s w k v kept holds =
     let known = held_known s w k v kept holds in
     let place = place_of s v known.1 known.2 in

@@ -12,19 +12,22 @@ use Rattle.version_core.proofs.Lists.{slice_get-set}
 use Rattle.version_core.proofs.Shelves.{version_on-set_other}
 
 -- one worker changes, and what it has seen stays
-pub workers_go_on : (current at : ℕ) (xs : List Shelf) (ws : List Worker) (seen : List ℕ) (w : ℕ) (was now : Worker) → WorkersFit current at xs ws seen → slice_get ws w ≡ Some was
+pub workers_go_on : (current at : ℕ) (xs : List Shelf) (ws : List Worker) (seen : List ℕ) (w : ℕ) (was now : Worker)
+    → WorkersFit current at xs ws seen → slice_get ws w ≡ Some was
     → Fits current at xs now (get_or seen w 0) → WorkersFit current at xs (set ws w now) seen
 workers_go_on current at xs ws seen w was now fit here fits = record {
   sixteen = length-set ws w now ∙ fit.sixteen;
   sixteen_seen = fit.sixteen_seen;
   each = λ j worker is. elim (slice_get-set ws w j now worker (slice_get_within ws w was here) is) [
-    | inl a ↦ subst (λ (n : ℕ). Fits current at xs worker (get_or seen n 0)) (sym a.0) (subst (λ (q : Worker). Fits current at xs q (get_or seen w 0)) (sym a.1) fits)
+    | inl a ↦ subst (λ (n : ℕ). Fits current at xs worker (get_or seen n 0)) (sym a.0)
+        (subst (λ (q : Worker). Fits current at xs q (get_or seen w 0)) (sym a.1) fits)
     | inr b ↦ fit.each j worker b.1
   ];
 }
 
 -- an idle worker looks at the current version
-pub workers_look : (current at : ℕ) (xs : List Shelf) (ws : List Worker) (seen : List ℕ) (w : ℕ) → WorkersFit current at xs ws seen → slice_get ws w ≡ Some Worker.Idle → at < 8
+pub workers_look : (current at : ℕ) (xs : List Shelf) (ws : List Worker) (seen : List ℕ) (w : ℕ)
+    → WorkersFit current at xs ws seen → slice_get ws w ≡ Some Worker.Idle → at < 8
     → WorkersFit current at xs (set ws w (Worker.Looked current at)) (set seen w current)
 workers_look current at xs ws seen w fit here small =
     let within = slice_get_within ws w Worker.Idle here in let l = fit.sixteen in let l' = fit.sixteen_seen in
@@ -34,19 +37,24 @@ workers_look current at xs ws seen w fit here small =
       sixteen = length-set ws w now ∙ fit.sixteen;
       sixteen_seen = length-set seen w current ∙ fit.sixteen_seen;
       each = λ j worker is. elim (slice_get-set ws w j now worker within is) [
-        | inl a ↦ subst (λ (n : ℕ). Fits current at xs worker (get_or (set seen w current) n 0)) (sym a.0) (subst (λ (q : Worker). Fits current at xs q (get_or (set seen w current) w 0)) (sym a.1) new)
+        | inl a ↦ subst (λ (n : ℕ). Fits current at xs worker (get_or (set seen w current) n 0)) (sym a.0)
+            (subst (λ (q : Worker). Fits current at xs q (get_or (set seen w current) w 0)) (sym a.1) new)
         | inr b ↦ subst (λ (n : ℕ). Fits current at xs worker n) (sym (get_or-set_other seen w j current 0 b.0)) (fit.each j worker b.1)
       ];
     }
 
 -- a worker fits where no version went away
-fits_there : (current at : ℕ) (xs ys : List Shelf) (worker : Worker) (seen : ℕ) → ((k v : ℕ) → version_on xs k ≡ Some v → version_on ys k ≡ Some v) → Fits current at xs worker seen → Fits current at ys worker seen
+fits_there : (current at : ℕ) (xs ys : List Shelf) (worker : Worker) (seen : ℕ)
+    → ((k v : ℕ) → version_on xs k ≡ Some v → version_on ys k ≡ Some v) → Fits current at xs worker seen
+    → Fits current at ys worker seen
 fits_there current at xs ys (Worker.Holding k v) seen stays f = (f.0, stays k v f.1, f.2, f.3)
 fits_there current at xs ys Worker.Idle seen stays f = f
 fits_there current at xs ys (Worker.Looked v k) seen stays f = f
 fits_there current at xs ys (Worker.Late k) seen stays f = f
 
-pub workers_stay : (current at : ℕ) (xs ys : List Shelf) (ws : List Worker) (seen : List ℕ) → ((k v : ℕ) → version_on xs k ≡ Some v → version_on ys k ≡ Some v) → WorkersFit current at xs ws seen → WorkersFit current at ys ws seen
+pub workers_stay : (current at : ℕ) (xs ys : List Shelf) (ws : List Worker) (seen : List ℕ)
+    → ((k v : ℕ) → version_on xs k ≡ Some v → version_on ys k ≡ Some v) → WorkersFit current at xs ws seen
+    → WorkersFit current at ys ws seen
 workers_stay current at xs ys ws seen stays fit = record {
   sixteen = fit.sixteen;
   sixteen_seen = fit.sixteen_seen;
@@ -54,13 +62,15 @@ workers_stay current at xs ys ws seen stays fit = record {
 }
 
 -- a worker fits once a greater version is current
-fits_later : (current at next k : ℕ) (xs : List Shelf) (worker : Worker) (seen : ℕ) → current < next → Fits current at xs worker seen → Fits next k xs worker seen
+fits_later : (current at next k : ℕ) (xs : List Shelf) (worker : Worker) (seen : ℕ) → current < next
+    → Fits current at xs worker seen → Fits next k xs worker seen
 fits_later current at next k xs Worker.Idle seen up f = omega arith
 fits_later current at next k xs (Worker.Looked v j) seen up f = let a = f.2 in (f.0, f.1, omega arith, λ e. absurd (omega arith))
 fits_later current at next k xs (Worker.Late j) seen up f = let a = f.1 in (f.0, omega arith)
 fits_later current at next k xs (Worker.Holding j v) seen up f = let a = f.3 in (f.0, f.1, f.2, omega arith)
 
-pub workers_later : (current at next k : ℕ) (xs : List Shelf) (ws : List Worker) (seen : List ℕ) → current < next → WorkersFit current at xs ws seen → WorkersFit next k xs ws seen
+pub workers_later : (current at next k : ℕ) (xs : List Shelf) (ws : List Worker) (seen : List ℕ) → current < next
+    → WorkersFit current at xs ws seen → WorkersFit next k xs ws seen
 workers_later current at next k xs ws seen up fit = record {
   sixteen = fit.sixteen;
   sixteen_seen = fit.sixteen_seen;
@@ -68,7 +78,8 @@ workers_later current at next k xs ws seen up fit = record {
 }
 
 -- a worker that is not at a shelf fits whatever becomes of it
-fits_away : (current at k : ℕ) (xs : List Shelf) (y : Shelf) (worker : Worker) (seen : ℕ) → is_at k worker ≡ false → Fits current at xs worker seen → Fits current at (set xs k y) worker seen
+fits_away : (current at k : ℕ) (xs : List Shelf) (y : Shelf) (worker : Worker) (seen : ℕ) → is_at k worker ≡ false
+    → Fits current at xs worker seen → Fits current at (set xs k y) worker seen
 fits_away current at k xs y (Worker.Holding j v) seen gone f =
     let other : j ≢ k = λ e. let t : (j == k) ≡ true = grind (arith, nat_tests) in cc in
     (f.0, version_on-set_other xs k j y other ∙ f.1, f.2, f.3)
@@ -76,7 +87,9 @@ fits_away current at k xs y Worker.Idle seen gone f = f
 fits_away current at k xs y (Worker.Looked v j) seen gone f = f
 fits_away current at k xs y (Worker.Late j) seen gone f = f
 
-pub workers_away : (current at k : ℕ) (xs : List Shelf) (y : Shelf) (ws : List Worker) (seen : List ℕ) → ((w : ℕ) (worker : Worker) → slice_get ws w ≡ Some worker → is_at k worker ≡ false) → WorkersFit current at xs ws seen → WorkersFit current at (set xs k y) ws seen
+pub workers_away : (current at k : ℕ) (xs : List Shelf) (y : Shelf) (ws : List Worker) (seen : List ℕ)
+    → ((w : ℕ) (worker : Worker) → slice_get ws w ≡ Some worker → is_at k worker ≡ false)
+    → WorkersFit current at xs ws seen → WorkersFit current at (set xs k y) ws seen
 workers_away current at k xs y ws seen gone fit = record {
   sixteen = fit.sixteen;
   sixteen_seen = fit.sixteen_seen;

@@ -21,7 +21,8 @@ pub enum Event {
     Ask { worker: usize },
     /// A notice of the current version goes out.
     Note,
-    /// A worker that is idle or holds a version takes in a notice of this version: from then on it has seen that version.
+    /// A worker that is idle or holds a version takes in a notice of this version: from then on it
+    /// has seen that version.
     Join { worker: usize, version: u64 },
 }
 

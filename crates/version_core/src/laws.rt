@@ -1,8 +1,11 @@
 //! Laws over every list of events. The functions do nothing: their contracts are the laws.
 
-ghost use Rattle.version_core.specs.Laws.{EveryRunKeeps, EveryStepKeeps, CountsAreWorkers, NoHeldShelfIsCollected, NothingFalls, NothingFallsInAStep};
-ghost use Rattle.version_core.specs.Laws.{EditionsStay, AsksAreAnswered, LooksAndTakesHold, DropsLetGo, OpensWithEdition, NoticesAreOfTheirTime};
-ghost use Rattle.version_core.specs.Laws.{JoinedVersionsStay, OneReply, OneRun, RunsBegin, RunsGrow, RunsGrowByRuns, RunsGrowWithReplies, RunsJoin, RunsPart};
+ghost use Rattle.version_core.specs.Laws.{EveryRunKeeps, EveryStepKeeps, CountsAreWorkers, NoHeldShelfIsCollected};
+ghost use Rattle.version_core.specs.Laws.{NothingFalls, NothingFallsInAStep};
+ghost use Rattle.version_core.specs.Laws.{EditionsStay, AsksAreAnswered, LooksAndTakesHold, DropsLetGo};
+ghost use Rattle.version_core.specs.Laws.{OpensWithEdition, NoticesAreOfTheirTime};
+ghost use Rattle.version_core.specs.Laws.{JoinedVersionsStay, OneReply, OneRun, RunsBegin, RunsGrow};
+ghost use Rattle.version_core.specs.Laws.{RunsGrowByRuns, RunsGrowWithReplies, RunsJoin, RunsPart};
 ghost use Rattle.version_core.specs.State.{start};
 ghost use Rattle.version_core.specs.Kept.{Kept};
 ghost use Rattle.version_core.specs.Rest.{IsAtRest, RestStays, LoadsRest, RestIsSpent, RestIsFull};
@@ -19,8 +22,9 @@ pub fn every_run()
     ensures replies { OneRun }
 {}
 
-/// What one step does, for whoever has a state that is kept and no list of the events before it. The start is kept, a step
-/// leads from kept to kept, and the state and the event leave nothing open but which free shelf is opened.
+/// What one step does, for whoever has a state that is kept and no list of the events before it.
+/// The start is kept, a step leads from kept to kept, and the state and the event leave nothing
+/// open but which free shelf is opened.
 pub fn every_step()
     ensures start { Kept start }
     ensures kept { EveryStepKeeps }
@@ -29,7 +33,8 @@ pub fn every_step()
     ensures reply { OneReply }
 {}
 
-/// A notice never tells of a version that isn't published yet, and what a worker has taken in by one it never falls behind.
+/// A notice never tells of a version that isn't published yet, and what a worker has taken in by
+/// one it never falls behind.
 pub fn notices()
     ensures versions { NoticesAreOfTheirTime }
     ensures looks { JoinedVersionsStay }
@@ -41,8 +46,9 @@ pub fn holding()
     ensures drops { DropsLetGo }
 {}
 
-/// Runs may be put together and taken apart. Whoever keeps the list of events beside a core adds the event of each step, or
-/// the events of a run, and the list still leads to the core's state. A step that is refused adds none.
+/// Runs may be put together and taken apart. Whoever keeps the list of events beside a core adds
+/// the event of each step, or the events of a run, and the list still leads to the core's state. A
+/// step that is refused adds none.
 pub fn runs_in_parts()
     ensures begin { RunsBegin }
     ensures grow { RunsGrow }

@@ -1,9 +1,12 @@
 //! The table of versions, and what each event does to it.
 
-ghost use Rattle.std.specs.Prelude.{◌≡◌, ℕ, ◌<◌, ◌≤◌, max, IfOk, OnErr, MatchBool, MatchOption, slice_get, slice_index, Some};
+ghost use Rattle.std.specs.Prelude.{◌≡◌, ℕ, ◌<◌, ◌≤◌, max, IfOk, OnErr, MatchBool, MatchOption, slice_get};
+ghost use Rattle.std.specs.Prelude.{slice_index, Some};
 ghost use Rattle.version_core.specs.State.{start, edition_of, looked, arrived, departed, joined};
-ghost use Rattle.version_core.specs.Steps.{IsIdle, HasLooked, Holds, StaysAt, IsFree, IsOpen, IsClosing, IsUnpublished, IsOutdated, IsSettled, IsNoted};
-ghost use Rattle.version_core.specs.Steps.{MayOpen, Grows, OpensLeast, Step, LookStep, TakeStep, DropStep, OpenStep, PublishStep, CloseStep, CollectStep};
+ghost use Rattle.version_core.specs.Steps.{IsIdle, HasLooked, Holds, StaysAt, IsFree, IsOpen, IsClosing};
+ghost use Rattle.version_core.specs.Steps.{IsUnpublished, IsOutdated, IsSettled, IsNoted};
+ghost use Rattle.version_core.specs.Steps.{MayOpen, Grows, OpensLeast, Step, LookStep, TakeStep, DropStep};
+ghost use Rattle.version_core.specs.Steps.{OpenStep, PublishStep, CloseStep, CollectStep};
 ghost use Rattle.version_core.specs.Steps.{AskStep, NoteStep, JoinStep};
 ghost use Rattle.version_core.specs.Kept.{Kept};
 ghost use Rattle.version_core.specs.declared.event.Event.{Event};
@@ -36,9 +39,30 @@ impl Model for Core {
 
     ghost Value = { State };
 
-    ghost view = { λ c. record { current = c.current; current_shelf = c.current_shelf; shelves = c.shelves; counts = c.counts; workers = c.workers; seen = c.seen; editions = c.editions.items; notices = c.notices.items } };
+    ghost view = { λ c. record {
+      current = c.current;
+      current_shelf = c.current_shelf;
+      shelves = c.shelves;
+      counts =
+          c.counts;
+      workers = c.workers;
+      seen = c.seen;
+      editions = c.editions.items;
+      notices = c.notices.items;
+    } };
 
-    ghost invariant = { λ c. Kept (record { current = c.current; current_shelf = c.current_shelf; shelves = c.shelves; counts = c.counts; workers = c.workers; seen = c.seen; editions = c.editions.items; notices = c.notices.items }) };
+    ghost invariant = { λ c. Kept (record {
+      current = c.current;
+      current_shelf = c.current_shelf;
+      shelves =
+          c.shelves;
+      counts = c.counts;
+      workers = c.workers;
+      seen = c.seen;
+      editions = c.editions.items;
+      notices =
+          c.notices.items;
+    }) };
 }
 
 impl Core {
@@ -164,7 +188,8 @@ impl Core {
 
     // The version that the worker looked at, and its shelf.
     fn looked_at(&self, worker: usize) -> Option<(u64, usize)>
-        ensures { MatchOption result ((v k : ℕ) → ¬ (HasLooked self.now worker v k)) (λ at. HasLooked self.now worker at.0 at.1) }
+        ensures { MatchOption result ((v k : ℕ)
+            → ¬ (HasLooked self.now worker v k)) (λ at. HasLooked self.now worker at.0 at.1) }
     {
         match self.worker(worker) {
             Some(Worker::Looked { version, shelf }) => Some((version, shelf)),
@@ -260,7 +285,8 @@ impl Core {
 
     /// The least free shelf: the one that the next version is opened on.
     pub fn free_shelf(&self) -> Option<usize>
-        ensures { MatchOption result ((k : ℕ) → ¬ (IsFree self.now k)) (λ k. IsFree self.now k × ((j : ℕ) → j < k → ¬ (IsFree self.now j))) }
+        ensures { MatchOption result ((k : ℕ)
+            → ¬ (IsFree self.now k)) (λ k. IsFree self.now k × ((j : ℕ) → j < k → ¬ (IsFree self.now j))) }
     {
         let _ = &self.current;
         for k in 0..8 {
@@ -294,7 +320,8 @@ impl Core {
 
     // The shelf with the unpublished version, and that version.
     fn unpublished(&self) -> Option<(usize, u64)>
-        ensures { MatchOption result ((k v : ℕ) → ¬ (IsUnpublished self.now k v)) (λ at. IsUnpublished self.now at.0 at.1) }
+        ensures { MatchOption result ((k v : ℕ)
+            → ¬ (IsUnpublished self.now k v)) (λ at. IsUnpublished self.now at.0 at.1) }
     {
         let _ = &self.current;
         for k in 0..8 {
@@ -306,7 +333,8 @@ impl Core {
     }
 
     fn unpublished_on(&self, shelf: usize) -> Option<u64>
-        ensures { MatchOption result ((v : ℕ) → ¬ (IsUnpublished self.now shelf v)) (λ v. IsUnpublished self.now shelf v) }
+        ensures { MatchOption result ((v : ℕ)
+            → ¬ (IsUnpublished self.now shelf v)) (λ v. IsUnpublished self.now shelf v) }
     {
         let version = self.open_on(shelf)?;
         if version > self.current {
@@ -383,7 +411,8 @@ impl Core {
     }
 
     fn held_by(&self, worker: usize) -> Option<u64>
-        ensures { MatchOption result ((k v : ℕ) → ¬ (Holds self.now worker k v)) (λ v. (k : ℕ) × Holds self.now worker k v) }
+        ensures { MatchOption result ((k v : ℕ)
+            → ¬ (Holds self.now worker k v)) (λ v. (k : ℕ) × Holds self.now worker k v) }
     {
         match self.worker(worker) {
             Some(Worker::Holding { shelf: _, version }) => Some(version),
@@ -432,7 +461,8 @@ impl Core {
 
     // The place of the first notice of the version.
     fn notice_of(&self, version: u64) -> Option<usize>
-        ensures { MatchOption result (¬ (IsNoted self.now version)) (λ place. slice_get self.now.notices place ≡ Some version) }
+        ensures { MatchOption result (¬ (IsNoted self.now version)) (λ place. slice_get self.now.notices place
+            ≡ Some version) }
     {
         let _ = &self.current;
         for place in 0..self.notices.len() {

@@ -30,7 +30,8 @@ module _ {N D : Type 0} (noted : N → ℕ) (are_files : ℕ → D → Type 0) (
   pub carries_also : (a m taken b : LoaderOrdersValue N) (order : OrderMark) (before between after : List LoaderAnswer)
       → CarriesOut noted are_files holds is_plan places a m before between
       → taken.taken ≡ m.taken ++ order ∷ [] → taken.answered ≡ m.answered → b.taken ≡ taken.taken
-      → ((answer : AnsweredValue N) × (b.answered ≡ taken.answered ++ answer ∷ []) × IsCarriedOut noted are_files holds is_plan places order answer between after)
+      → ((answer : AnsweredValue N) × (b.answered ≡ taken.answered ++ answer ∷ [])
+      × IsCarriedOut noted are_files holds is_plan places order answer between after)
       → CarriesOut noted are_files holds is_plan places a b before after
   carries_also a m taken b order before between after so_far took same_answers same_taken also =
       let more = ap (λ items. items ++ order ∷ []) so_far.2 ∙ append_assoc a.taken so_far.0 (order ∷ []) in

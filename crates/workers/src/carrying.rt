@@ -19,8 +19,8 @@ use std::io;
 use std::io::Write;
 use std::sync::Wait;
 
-/// Carries out orders until no more come: the feed of each is loaded once, in turn, and by its own way back it is told what came of
-/// that. The orders' end and the loader's seat come back.
+/// Carries out orders until no more come: the feed of each is loaded once, in turn, and by its own
+/// way back it is told what came of that. The orders' end and the loader's seat come back.
 pub(crate) fn load_all<R: Wait, N: Drop, T: Versions<Notice = N> + Loads, F: Feeds, E: Write>(
     rt: &R,
     alloc: Global,
@@ -32,7 +32,8 @@ pub(crate) fn load_all<R: Wait, N: Drop, T: Versions<Notice = N> + Loads, F: Fee
 ) -> (LoaderOrders<N>, T::Loader, E)
     requires { T.Loads.loads shelves.now loader }
     ensures loads { T.Loads.loads shelves.now result.1 }
-    ensures carried { CarriesOut T.Versions.noted (F.are_files feeds.now) F.Files.holds (F.is_plan feeds.now) (length (F.named feeds.now))
+    ensures carried { CarriesOut T.Versions.noted (F.are_files feeds.now) F.Files.holds (F.is_plan feeds.now)
+        (length (F.named feeds.now))
         orders result.0 (T.Loads.answers loader) (T.Loads.answers result.1) }
 {
     for _ in rt.forever() {
@@ -68,7 +69,8 @@ fn load_feed<R: Wait, N: Drop, T: Versions<Notice = N> + Loads, F: Feeds, E: Wri
     ensures loads { T.Loads.loads shelves.now loader.new }
     ensures taken { orders.new.taken ≡ orders.old.taken }
     ensures carried { (answer : AnsweredValue N) × (orders.new.answered ≡ orders.old.answered ++ answer ∷ [])
-        × IsCarriedOut T.Versions.noted (F.are_files feeds.now) F.Files.holds (F.is_plan feeds.now) (length (F.named feeds.now))
+        × IsCarriedOut T.Versions.noted (F.are_files feeds.now) F.Files.holds (F.is_plan feeds.now)
+        (length (F.named feeds.now))
         (mark_of order) answer (T.Loads.answers loader.old) (T.Loads.answers loader.new) }
 {
     let answer = load_place(rt, alloc, order.feed, shelves, loader, feeds, errors);
@@ -87,7 +89,8 @@ fn load_place<R: Wait, N, T: Versions<Notice = N> + Loads, F: Feeds, E: Write>(
 ) -> LoadAnswer<N>
     requires { T.Loads.loads shelves.now loader.old }
     ensures loads { T.Loads.loads shelves.now loader.new }
-    ensures load { IsLoadOf T.Versions.noted (F.are_files feeds.now) F.Files.holds (F.is_plan feeds.now) (length (F.named feeds.now))
+    ensures load { IsLoadOf T.Versions.noted (F.are_files feeds.now) F.Files.holds (F.is_plan feeds.now)
+        (length (F.named feeds.now))
         place result (T.Loads.answers loader.old) (T.Loads.answers loader.new) }
 {
     match (feeds.names().get(place), feeds.files(place)) {
@@ -116,7 +119,8 @@ fn load_planned<R: Wait, N, T: Versions<Notice = N> + Loads, F: Feeds>(
     requires failures { F.Files.failures files ≡ 0 }
     ensures loads { T.Loads.loads shelves.now loader.new }
     ensures outcome { (plan : Plan) × F.is_plan feeds.now plan
-        × IsOutcome T.Versions.noted (F.Files.holds files) plan (T.Loads.answers loader.old) result (T.Loads.answers loader.new) }
+        × IsOutcome T.Versions.noted (F.Files.holds files) plan (T.Loads.answers loader.old) result
+        (T.Loads.answers loader.new) }
 {
     match feeds.plan(alloc) {
         Ok(plan) => load_one(rt, alloc, &mut files, &plan, shelves, loader),
@@ -133,7 +137,8 @@ fn version_or_refusal<N>(
     }
 }
 
-// What whoever waits for a load is told of it: its version's notice, that there was no memory for one, or the refusal's number.
+// What whoever waits for a load is told of it: its version's notice, that there was no memory for
+// one, or the refusal's number.
 fn answer_of<N>(outcome: Result<(u64, Option<N>), LoadRefusal>) -> LoadAnswer<N>
     ensures { result ≡ load_answer outcome }
 {

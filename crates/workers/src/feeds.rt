@@ -35,5 +35,6 @@ pub trait Feeds {
 
     /// The files of the feed at the place, of which no read has failed yet. None only where there is no such place.
     fn files(&self, place: usize) -> Option<Self::Files>
-        ensures { MatchOption result (length (named self.now) ≤ place) (λ files. (Self.Files.failures files ≡ 0) × are_files self.now place files) };
+        ensures { MatchOption result (length (named self.now) ≤ place) (λ files. (Self.Files.failures files ≡ 0)
+            × are_files self.now place files) };
 }

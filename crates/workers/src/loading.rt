@@ -15,8 +15,8 @@ use image_verifier::Verified;
 use std::alloc::Global;
 use std::sync::{Arc, Wait};
 
-/// Loads a feed and publishes its image as the next version, which is told with a notice of it, where there was memory for one; then
-/// shelves that nobody needs are freed.
+/// Loads a feed and publishes its image as the next version, which is told with a notice of it,
+/// where there was memory for one; then shelves that nobody needs are freed.
 pub fn load_one<R: Wait, F: FeedFiles, N, T: Versions<Notice = N> + Loads>(
     rt: &R,
     alloc: Global,
@@ -33,7 +33,8 @@ pub fn load_one<R: Wait, F: FeedFiles, N, T: Versions<Notice = N> + Loads>(
     ensures same { F.holds files.new ≡ F.holds files.old }
     ensures failures { F.failures files.new ≡ F.failures files.old + failed_in (reading result) }
     ensures failed { F.failed files.new ≡ failed_by (F.failed files.old) (reading result) }
-    ensures outcome { IsOutcome T.Versions.noted (F.holds files.old) plan.now (T.Loads.answers loader.old) result (T.Loads.answers loader.new) }
+    ensures outcome { IsOutcome T.Versions.noted (F.holds files.old) plan.now (T.Loads.answers loader.old) result
+        (T.Loads.answers loader.new) }
 {
     match shared_image(alloc, files, plan) {
         Ok(image) => match publish_image(rt, shelves, loader, image) {
@@ -56,7 +57,8 @@ fn shared_image<F: FeedFiles>(
     ensures same { F.holds files.new ≡ F.holds files.old }
     ensures failures { F.failures files.new ≡ F.failures files.old + failed_in (reading result) }
     ensures failed { F.failed files.new ≡ failed_by (F.failed files.old) (reading result) }
-    ensures ok { (content : Content) → Tells (F.holds files.old) content → IfOk result (λ image. IsImageOf content plan.now (arc_value image)) }
+    ensures ok { (content : Content) → Tells (F.holds files.old) content
+        → IfOk result (λ image. IsImageOf content plan.now (arc_value image)) }
     ensures err { (content : Content) → Tells (F.holds files.old) content → IfErr result (MayRefuse content plan.now) }
     ensures early { IfErr result IsEarly }
 {

@@ -29,8 +29,8 @@ impl LoadRefusal {
     }
 }
 
-/// The number, the name and the places, each after a space, as in `8 IdTwice stops.txt 3`. Where no shelf is free, the places are
-/// the counts of all shelves, as in `94 ShelvesFull 1 1 1 1 1 1 1 0`.
+/// The number, the name and the places, each after a space, as in `8 IdTwice stops.txt 3`. Where no
+/// shelf is free, the places are the counts of all shelves, as in `94 ShelvesFull 1 1 1 1 1 1 1 0`.
 impl fmt::Display for LoadRefusal {
     fn fmt<W: fmt::Write>(&self, f: &mut fmt::Formatter<W>) -> fmt::Result {
         match self {

@@ -35,10 +35,10 @@ impl From<AllocError> for WorkersFault {
     }
 }
 
-/// Serves all clients, with a worker for each seat, and loads the feeds that they order. Profiles are replied in this form.
-/// What came of a load is written to the error writer, and goes to whoever waits for it. It returns when there are no more
-/// clients, all sessions have ended, and all orders were carried out: how the sessions ended, seat after seat, and the
-/// clients' source.
+/// Serves all clients, with a worker for each seat, and loads the feeds that they order. Profiles
+/// are replied in this form. What came of a load is written to the error writer, and goes to
+/// whoever waits for it. It returns when there are no more clients, all sessions have ended, and
+/// all orders were carried out: how the sessions ended, seat after seat, and the clients' source.
 pub fn run_workers<
     I: Read + Send + Drop,
     O: Write + Send + Drop,
@@ -79,7 +79,8 @@ pub fn run_workers<
         thread::scope_env(),
         rt,
         move |scope| -> Result<(Served, K), WorkersFault>
-            requires { IsSync R.row × IsSync T.row × IsSync F.row × IsSync G.row × IsSend S.row × IsSend L.row × IsSend N.row
+            requires { IsSync R.row × IsSync T.row × IsSync F.row × IsSync G.row × IsSend S.row × IsSend L.row
+                × IsSend N.row
                 × IsSend C.row × IsSend I.row × IsSend O.row × IsSend D.row × IsSend E.row
                 × All (T.Versions.fits shelves.now) seats.items × T.Loads.loads shelves.now loader }
             ensures none_left { IfOk result (λ served. K.none_left served.1) }

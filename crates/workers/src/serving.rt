@@ -21,8 +21,8 @@ pub struct Worker<'a, R, T, G> {
 }
 
 impl<'a, R: Wait, N: Drop, T: Versions<Notice = N>, G: Gate> Worker<'a, R, T, G> {
-    /// Serves a client at this seat, and adds how its session ended. A client that can't be opened is a session that failed, and then
-    /// there is no reader and no writer to give back.
+    /// Serves a client at this seat, and adds how its session ended. A client that can't be opened
+    /// is a session that failed, and then there is no reader and no writer to give back.
     pub fn serve_client<C: Client, O: Orders<Notice = N>>(
         &self,
         client: C,
@@ -38,7 +38,8 @@ impl<'a, R: Wait, N: Drop, T: Versions<Notice = N>, G: Gate> Worker<'a, R, T, G>
         ensures profiles { TellPublished (T.known seat.new) (T.value seat.old) (T.value seat.new) }
         ensures idle { (T.value seat.old).held ≡ None → (T.value seat.new).held ≡ None }
         ensures session { (end : End) × (served.new ≡ served.old ++ end ∷ [])
-            × IsServed self.now.desk.form C.opens C.Reader.remaining C.Writer.contents (T.number seat.old) client result end (T.value seat.old) (O.asked orders.old) (T.value seat.new) (O.asked orders.new) }
+            × IsServed self.now.desk.form C.opens C.Reader.remaining C.Writer.contents (T.number seat.old) client
+            result end (T.value seat.old) (O.asked orders.old) (T.value seat.new) (O.asked orders.new) }
     {
         match client.open() {
             Ok((reader, writer)) => {

@@ -11,8 +11,8 @@ use std::marker::PhantomData;
 use std::snapshot::Snapshot;
 use std::thread::{Promise, PromisedHandle, Threads};
 
-/// That a worker's share is the ends of sessions at its seat, from what the seat was when the worker began, with replies
-/// in this form.
+/// That a worker's share is the ends of sessions at its seat, from what the seat was when the
+/// worker began, with replies in this form.
 #[derive(Drop)]
 pub(crate) struct ShareAt<C, T: Versions> {
     pub seat: Snapshot<T::Seat>,

@@ -31,8 +31,8 @@ impl Clock for Stopped {
     }
 }
 
-// Zones, and what their clocks show at instants: the day, and the day before. The days by `date` of GNU; 253402207200 is the last second of the
-// calendar, -62135596800 the first of the year 1.
+// Zones, and what their clocks show at instants: the day, and the day before. The days by `date` of
+// GNU; 253402207200 is the last second of the calendar, -62135596800 the first of the year 1.
 const SHOWN: &str = "
 = CET-1CEST,M3.5.0,M10.5.0/3
 > 1711839599 20240330 20240329

@@ -97,8 +97,9 @@ fn told_of(
     Ok(told(alloc, answer)?)
 }
 
-// Each number of stops with footpaths that are listed, and their closure: walks of a million seconds, of one more, and where a sum of
-// 32 bits would begin again. Within a bound, that there are too many is told first.
+// Each number of stops with footpaths that are listed, and their closure: walks of a million
+// seconds, of one more, and where a sum of 32 bits would begin again. Within a bound, that there
+// are too many is told first.
 const CLOSURES: &str = "
 = 3
 0 0 0, 1 1 0, 2 2 0, 0 1 60, 1 2 60
@@ -165,8 +166,8 @@ fn faults_are_told(rt: HostRuntime) -> Result<(), Fail> {
     Ok(())
 }
 
-// Whichever growth is refused, want of memory is told and nothing else, and else the closure comes. A refused growth ends the
-// test with `AllocError`.
+// Whichever growth is refused, want of memory is told and nothing else, and else the closure comes.
+// A refused growth ends the test with `AllocError`.
 #[test]
 fn refused_growth_is_told(rt: HostRuntime) -> Result<(), Fail> {
     let listed = paths_of(rt.alloc(), "0 0 0, 1 1 0, 2 2 0, 0 1 60, 1 2 60")?;

@@ -25,8 +25,9 @@ fn add_line(told: &mut String) -> Result<(), AllocError> {
     }
 }
 
-// Zones, with days and the seconds at which they start there. 08:00:00 of the first day of summer time is 1711864800, and that day starts
-// eight hours earlier. In the second zone the clocks skip noon in March, and in October they show it twice.
+// Zones, with days and the seconds at which they start there. 08:00:00 of the first day of summer
+// time is 1711864800, and that day starts eight hours earlier. In the second zone the clocks skip
+// noon in March, and in October they show it twice.
 const STARTS: &str = "
 = CET-1CEST,M3.5.0,M10.5.0/3
 > 20240330 1711753200
@@ -275,7 +276,8 @@ const ONE_DAY_OUT: &str = "\
 calendar.txt: S,1,1,1,1,1,1,1,20240110,20240220
 S -20240112";
 
-// Whichever growth is refused, want of memory is told and nothing else. A refused growth ends the test with `AllocError`.
+// Whichever growth is refused, want of memory is told and nothing else. A refused growth ends the
+// test with `AllocError`.
 #[test]
 fn refused_growth_of_services(rt: HostRuntime) -> Result<(), Fail> {
     let services = services_of(rt.alloc(), ONE_DAY_OUT)?;

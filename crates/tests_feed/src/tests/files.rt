@@ -249,7 +249,8 @@ fn a_folder_is_read_whole(rt: HostRuntime) -> Result<(), Fail> {
     Ok(())
 }
 
-// Whichever growth is refused, want of memory is told and nothing else. A refused growth ends the test with `AllocError`.
+// Whichever growth is refused, want of memory is told and nothing else. A refused growth ends the
+// test with `AllocError`.
 #[test]
 fn refused_growth_is_told(rt: HostRuntime) -> Result<(), Fail> {
     let files: [(&str, &[u8]); 1] = [("agency.txt", b"agency_timezone\n")];

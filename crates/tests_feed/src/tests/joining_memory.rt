@@ -1,5 +1,5 @@
-//! Where a growth is refused, want of memory is told and nothing else, whichever growth it is. A refused growth ends the
-//! test with `AllocError`.
+//! Where a growth is refused, want of memory is told and nothing else, whichever growth it is. A
+//! refused growth ends the test with `AllocError`.
 
 ghost use Rattle.std.specs.Prelude.{◌≡◌};
 

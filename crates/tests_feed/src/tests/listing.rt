@@ -123,7 +123,8 @@ fn platforms(alloc: Global, count: u32) -> Result<String, Fail> {
     Ok(stops)
 }
 
-// How many footpaths a station of so many platforms lists with these transfers, if they may be as many as the platforms.
+// How many footpaths a station of so many platforms lists with these transfers, if they may be as
+// many as the platforms.
 fn listed_at(alloc: Global, count: u32, transfers: &str) -> Result<Option<usize>, Fail> {
     let stops = platforms(alloc, count)?;
     let files = format!(in alloc; "transfers.txt: {transfers}\n{stops}")?;

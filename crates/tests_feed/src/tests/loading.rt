@@ -173,7 +173,8 @@ fn written_anew(alloc: Global, image: &Verified) -> Result<Vec<u32>, AllocError>
     write(alloc, &timetable, &names)
 }
 
-/// Words that are judged, unpacked and written again are the same words; those of the first layout come out in the second.
+/// Words that are judged, unpacked and written again are the same words; those of the first layout
+/// come out in the second.
 #[test]
 fn an_image_is_written_anew(rt: HostRuntime) -> Result<(), Fail> {
     let first = sample_words();
@@ -235,7 +236,8 @@ stops.txt: S,1,|P,0,S|Q,0,S
 trips.txt service_id,trip_id
 stop_times.txt trip_id,arrival_time,departure_time,stop_id,stop_sequence";
 
-/// Its image without transfers, worked out by hand: 120 s lead from either stop to the other, and changing at one takes no time.
+/// Its image without transfers, worked out by hand: 120 s lead from either stop to the other, and
+/// changing at one takes no time.
 const FREE_LOOPS: [u32; 24] = [
     0x50415343, 2, 2, 0, 0, 4, 2, 1705276800, 0, 0, 2, 4, 0, 0, 1, 120, 0, 120, 1, 0, 0, 1, 2,
     0x5150,
@@ -345,8 +347,9 @@ fn refused_growth_is_told(rt: HostRuntime) -> Result<(), Fail> {
     }
 }
 
-/// All files: a station with two stops, a quoted id, a blank row, a day that is taken out, and ways between a station's stops. One trip
-/// repeats by one row, the other by five that overlap: at the seconds 0, 1, 5, 10, 15, 20, 25 and 29.
+/// All files: a station with two stops, a quoted id, a blank row, a day that is taken out, and ways
+/// between a station's stops. One trip repeats by one row, the other by five that overlap: at the
+/// seconds 0, 1, 5, 10, 15, 20, 25 and 29.
 const ALL_FILES: &str = "\
 agency.txt: Etc/UTC
 stops.txt: S,1,|\"A\",0,S|B,0,S|C,0,

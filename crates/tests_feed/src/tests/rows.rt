@@ -176,8 +176,8 @@ const ROWS: &str = "
 > FrequencyRow { trip: \"one\", start: 36000, end: 32400, headway: 60 }
 > FrequencyRow { trip: \"two\", start: 86400, end: 90001, headway: 1200 }";
 
-// Whether the starts of frequencies are exact isn't read. A row of stop times names its trip and its stop by their places among the
-// ids, which stand in the order of the records.
+// Whether the starts of frequencies are exact isn't read. A row of stop times names its trip and
+// its stop by their places among the ids, which stand in the order of the records.
 #[test]
 fn rows_are_read(rt: HostRuntime) -> Result<(), Fail> {
     try_files(&rt, rt.alloc(), ROWS)

@@ -1,5 +1,5 @@
-//! Where a growth is refused, each call answers with the want of memory, whichever growth it is. A refused growth ends the
-//! test with `AllocError`.
+//! Where a growth is refused, each call answers with the want of memory, whichever growth it is. A
+//! refused growth ends the test with `AllocError`.
 
 use gtfs_rows::{
     FaultKind, StopTimes, Table, TableFault, read_agency, read_calendar, read_calendar_dates,

@@ -23,10 +23,11 @@ stop_times.txt: T,08:00:00,08:00:00,A,1|T,08:00:00,08:00:00,B,2|T,08:00:00,08:00
 calendar_dates.txt: S,20240115,1
 transfers.txt from_stop_id,to_stop_id,transfer_type|A,B,9";
 
-// Feeds behind what they show, with the first day, the number of days and the zone; and what they make. In the second 25:10:00 of the
-// first day is 1711843800, 08:00:00 of the second 1711864800, and the base 1711753200, that of the first. In the third X runs on its one
-// day, Y never; a flex trip, and a trip of one row, run on no day. In the last connections stand by departure, then by arrival, then by
-// run: of two runs on each of two days.
+// Feeds behind what they show, with the first day, the number of days and the zone; and what they
+// make. In the second 25:10:00 of the first day is 1711843800, 08:00:00 of the second 1711864800,
+// and the base 1711753200, that of the first. In the third X runs on its one day, Y never; a flex
+// trip, and a trip of one row, run on no day. In the last connections stand by departure, then by
+// arrival, then by run: of two runs on each of two days.
 const FEEDS: &str = "
 = times are lifted: 20240115 1 fixed:0
 > Report { stops: 4, runs: 1, connections: 3, footpaths: 0, lifted: 1, flex: 0, frequencies: 0, skipped: 1 }
@@ -92,8 +93,8 @@ frequencies.txt: T,00:20:00,00:20:01,7|T,00:00:00,00:40:00,1200
 > Connection { from: 1, to: 2, dep: 1800, arr: 3000, trip: 1, board: true, alight: true }
 > Connection { from: 1, to: 2, dep: 29520, arr: 30000, trip: 2, board: true, alight: true }";
 
-// How many runs and connections two days of these trips have, whichever the starts are, exact or not, in whichever order of the rows,
-// also where so many rows overlap that seconds are marked.
+// How many runs and connections two days of these trips have, whichever the starts are, exact or
+// not, in whichever order of the rows, also where so many rows overlap that seconds are marked.
 const COUNTED: &str = "
 = three starts: 20240115 2 fixed:0
 frequencies.txt: T,09:00:00,10:00:00,1200
@@ -199,7 +200,12 @@ fn feeds_make_runs(rt: HostRuntime) -> Result<(), Fail> {
 
 /// Where there are too many runs, trips.txt is named, and none of its records.
 fn too_many_runs()
-    ensures { too_many_of Table.Trips ≡ RunsFault.Table (record { table = Table.Trips; row = 0; kind = FaultKind.TooMany }) }
+    ensures { too_many_of Table.Trips ≡ RunsFault.Table (record {
+      table = Table.Trips;
+      row = 0;
+      kind =
+          FaultKind.TooMany;
+    }) }
 {}
 
 #[test]
@@ -216,7 +222,8 @@ fn is_want_of_memory(fault: RunsFault) -> bool {
     }
 }
 
-// Whichever growth is refused, want of memory is told and nothing else. A refused growth ends the test with `AllocError`.
+// Whichever growth is refused, want of memory is told and nothing else. A refused growth ends the
+// test with `AllocError`.
 #[test]
 fn refused_growth_is_told(rt: HostRuntime) -> Result<(), Fail> {
     let feed = joined_or_refused(&rt, rt.alloc(), "", LEVEL)?;

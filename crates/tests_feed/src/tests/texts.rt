@@ -1,7 +1,8 @@
 //! Cases as texts: what is given and what is wanted, compared as texts, so that a further case costs no proof.
 //!
-//! A text has one case behind another. Each begins with a line `= HEAD`, may have further lines of what is given, and ends with the lines that are
-//! wanted, each behind `> `. A file is a line: its name and its text, with a bar for each LF.
+//! A text has one case behind another. Each begins with a line `= HEAD`, may have further lines of
+//! what is given, and ends with the lines that are wanted, each behind `> `. A file is a line: its
+//! name and its text, with a bar for each LF.
 
 ghost use Rattle.std.specs.Prelude.{IfOk};
 ghost use Rattle.gtfs_tables.specs.Joined.{IsRunnable};
@@ -184,7 +185,8 @@ pub(crate) fn lines_of(alloc: Global, text: &str) -> Result<String, AllocError> 
     Ok(lines)
 }
 
-/// The text of a file, as [`lines_of`] gives it: of `FILE: ROWS` the rows below the usual columns, of `FILE TEXT` the text.
+/// The text of a file, as [`lines_of`] gives it: of `FILE: ROWS` the rows below the usual columns,
+/// of `FILE TEXT` the text.
 pub(crate) fn file_of<'a>(alloc: Global, line: &'a str) -> Result<(&'a str, String), AllocError> {
     if let Some((file, rows)) = line.split_once(": ") {
         let text = format!(in alloc; "{}|{rows}", usual_columns(file))?;
@@ -204,7 +206,8 @@ pub(crate) fn feed_of(alloc: Global, changed: &str, base: &str) -> Result<String
     Ok(feed)
 }
 
-/// The files of a feed by their names. Of two with one name the first counts, so those of a base stand in where there is no other.
+/// The files of a feed by their names. Of two with one name the first counts, so those of a base
+/// stand in where there is no other.
 pub(crate) fn files_of(alloc: Global, feed: &str) -> Result<Vec<(&str, &[u8])>, AllocError> {
     let mut files = Vec::new(alloc);
     for file in feed.split('|') {

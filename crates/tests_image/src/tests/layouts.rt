@@ -26,10 +26,19 @@ macro_rules! words_in {
     };
 }
 
-/// An image of two stops: its connections are flagged 1, 2 and 3, its base is before 1970, and one of its names is empty.
+/// An image of two stops: its connections are flagged 1, 2 and 3, its base is before 1970, and one
+/// of its names is empty.
 fn early_words() -> [u32; 48]
     ensures whole { IsWhole result }
-    ensures counts { header_of result ≡ record { layout = 1; stops = 2; trips = 2; connections = 3; footpaths = 4; name_bytes = 9 } }
+    ensures counts { header_of result ≡ record {
+      layout = 1;
+      stops = 2;
+      trips = 2;
+      connections = 3;
+      footpaths =
+          4;
+      name_bytes = 9;
+    } }
     ensures port { length (name_of result 1) ≡ 4 }
 {
     words_in!(1)
@@ -38,7 +47,15 @@ fn early_words() -> [u32; 48]
 /// The same in the layout that is written, with repeats 5 and 0.
 fn repeated_words() -> [u32; 50]
     ensures whole { IsWhole result }
-    ensures counts { header_of result ≡ record { layout = 2; stops = 2; trips = 2; connections = 3; footpaths = 4; name_bytes = 9 } }
+    ensures counts { header_of result ≡ record {
+      layout = 2;
+      stops = 2;
+      trips = 2;
+      connections = 3;
+      footpaths =
+          4;
+      name_bytes = 9;
+    } }
     ensures port { length (name_of result 1) ≡ 4 }
 {
     words_in!(2, 5, 0)
@@ -77,7 +94,8 @@ fn early_connections() -> [Connection; 3] {
     ]
 }
 
-/// The six words of a connection, each read by itself. Bit 0 of the last says that one may board, bit 1 that one may alight.
+/// The six words of a connection, each read by itself. Bit 0 of the last says that one may board,
+/// bit 1 that one may alight.
 fn six_words(words: &[u32], i: usize) -> [u32; 6]
     requires whole { IsWhole words.now }
     requires within { i < (header_of words.now).connections }
@@ -249,8 +267,8 @@ fn faults_have_numbers_names_and_messages(rt: HostRuntime) -> Result<(), Fail> {
     Ok(())
 }
 
-/// Whichever growth is refused, want of memory is told, and else the words come back. A refused growth ends the test with
-/// `AllocError`.
+/// Whichever growth is refused, want of memory is told, and else the words come back. A refused
+/// growth ends the test with `AllocError`.
 #[test]
 fn refused_growth_is_told(rt: HostRuntime) -> Result<(), Fail> {
     let sample = sample_words();

@@ -7,8 +7,8 @@ use std::process::Abort;
 use std::test::*;
 use timetable::{Connection, Footpath, Timetable, TripName};
 
-/// Four stops, three trips and four connections, flagged 1, 2, 3 and 0, an hour before 1970. Stops 0 and 2 are both called Ham,
-/// stop 1 and trip 1 have empty names.
+/// Four stops, three trips and four connections, flagged 1, 2, 3 and 0, an hour before 1970. Stops
+/// 0 and 2 are both called Ham, stop 1 and trip 1 have empty names.
 const EARLY: [u32; 67] = [
     0x50415343, 1, 4, 3, 4, 6, 21, 4294963696, 4294967295, 0, 1, 100, 160, 0, 1, 2, 3, 100, 130, 1,
     2, 1, 2, 160, 220, 0, 3, 3, 0, 300, 400, 2, 0, 0, 2, 4, 5, 6, 0, 60, 1, 45, 0, 30, 1, 0, 2, 20,
@@ -202,8 +202,8 @@ fn a_fault_has_a_number_a_name_and_a_message(rt: HostRuntime) -> Result<(), Fail
     Ok(())
 }
 
-/// Whichever growth is refused, want of memory is told and nothing else, and the very same words come back. A refused growth
-/// ends the test with `AllocError`.
+/// Whichever growth is refused, want of memory is told and nothing else, and the very same words
+/// come back. A refused growth ends the test with `AllocError`.
 #[test]
 fn refused_growth_gives_the_words_back(rt: HostRuntime) -> Result<(), Fail> {
     let words = sample_words().to_vec(rt.alloc())?;

@@ -115,8 +115,8 @@ fn names_fill_words(rt: HostRuntime) -> Result<(), Fail> {
     Ok(())
 }
 
-/// Whichever growth is refused, want of memory is told, and else all words are there. A refused growth ends the test with
-/// `AllocError`.
+/// Whichever growth is refused, want of memory is told, and else all words are there. A refused
+/// growth ends the test with `AllocError`.
 #[test]
 fn refused_growth_is_told(rt: HostRuntime) -> Result<(), Fail> {
     let timetable = one_stop(rt.alloc())?;

@@ -54,7 +54,8 @@ pub(crate) fn make<R: Machine>(rt: &R) -> Result<(), Fail> {
     Ok(())
 }
 
-/// Writes a file of it with another record: `stop_times.txt 2 T1,08:60:00,08:10:00,B,2` has this one in the place of its second.
+/// Writes a file of it with another record: `stop_times.txt 2 T1,08:60:00,08:10:00,B,2` has this
+/// one in the place of its second.
 pub(crate) fn change<R: Machine>(rt: &R, words: &str) -> Result<(), Fail> {
     let Some((file, rest)) = words.split_once(' ') else {
         return Err(Fail::new("a file, a number and a record"));

@@ -32,8 +32,9 @@ impl Clock for Stopped {
 /// The rule of Central Europe.
 const ZONE: &str = "CET-1CEST,M3.5.0,M10.5.0/3";
 
-/// What is asked for, what the clock shows at a load, and the second from which the image counts. 1705273200 is the start of 20240115, 1711836000
-/// that of 20240331, an hour before its midnight. A day that the clock doesn't give, or beyond the calendar, has no start.
+/// What is asked for, what the clock shows at a load, and the second from which the image counts.
+/// 1705273200 is the start of 20240115, 1711836000 that of 20240331, an hour before its midnight. A
+/// day that the clock doesn't give, or beyond the calendar, has no start.
 const LOADS: [(&str, Option<u64>, Option<i64>); 11] = [
     ("today", Some(1_705_273_199), Some(1_705_186_800)),
     ("today", Some(1_705_273_200), Some(1_705_273_200)),

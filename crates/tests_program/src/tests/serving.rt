@@ -1,4 +1,5 @@
-//! `csa serve`: what is told of wrong words. How it serves is tried over the built program (`.ci/server`), and over workers.
+//! `csa serve`: what is told of wrong words. How it serves is tried over the built program
+//! (`.ci/server`), and over workers.
 
 use crate::tests::running::outcome_of;
 use crate::tests::transcript::try_lines;

@@ -3,7 +3,8 @@
 use crate::tests::transcript::try_lines;
 use std::test::Fail;
 
-/// The image has seven connections of four trips with all kinds of flags, and footpaths from A to B and C and from B to C.
+/// The image has seven connections of four trips with all kinds of flags, and footpaths from A to B
+/// and C and from B to C.
 const TOWN: &str = "
 image 1346458435 1 4 4 7 7 4 0 0 1 3 50 60 3 3 0 1 100 200 0 1 1 2 200 300 0 2 2 3 300 400 0 3 1 3 320 420 1 3 2 3 350 450 2 1 3 0 500 600 2 0 0 1 3 6 7 0 0 0 90 1 30 0 140 1 60 2 20 3 0 0 1 2 3 4 4 4 4 4 0 0 0 0 1145258561
 

@@ -1,4 +1,5 @@
-//! Transcripts: what stands in files, what a user types, and what the program answers, line after line. The first word of a line says what it is.
+//! Transcripts: what stands in files, what a user types, and what the program answers, line after
+//! line. The first word of a line says what it is.
 //!
 //! | line | meaning |
 //! |---|---|
@@ -28,7 +29,8 @@
 //! | `holds PATH` | the file has the bytes of the input |
 //! | `lacks PATH` | there is no such file |
 //!
-//! Each command is tried before the next one and before the end, and so is each `prints` and `tells`: one that nothing ran is refused.
+//! Each command is tried before the next one and before the end, and so is each `prints` and
+//! `tells`: one that nothing ran is refused.
 
 use crate::tests::base_feed;
 use crate::tests::running::{Machine, Outcome, outcome_of};
@@ -200,7 +202,8 @@ fn words_of<'a>(alloc: Global, text: &'a str) -> Result<Vec<&'a str>, AllocError
     Ok(words)
 }
 
-/// The words of a command over the input with a query: its ends, its clocks, and behind them the criterion, or the legs.
+/// The words of a command over the input with a query: its ends, its clocks, and behind them the
+/// criterion, or the legs.
 fn asked<'a>(alloc: Global, command: &'a str, text: &'a str) -> Result<Vec<&'a str>, Fail> {
     let mut words = vec![in alloc; "csa", command, "-"]?;
     let mut rest = text;
@@ -294,7 +297,8 @@ fn expect_lines<R: Machine + Net<Listener = TcpListener, Stream = TcpStream> + A
     Ok(())
 }
 
-/// The command prints one more line than stand ready, its last one, and ends well, or with a refusal where the line is one.
+/// The command prints one more line than stand ready, its last one, and ends well, or with a
+/// refusal where the line is one.
 fn expect_last<R: Machine + Net<Listener = TcpListener, Stream = TcpStream> + Abort>(
     rt: &R,
     stage: &mut Stage<'_>,

@@ -1,5 +1,5 @@
-//! Worked queries from stop 0 to stop 2, over images read in place and decoded: points and journeys were worked out by hand, and each
-//! journey is judged again.
+//! Worked queries from stop 0 to stop 2, over images read in place and decoded: points and journeys
+//! were worked out by hand, and each journey is judged again.
 
 ghost use Rattle.std.specs.Prelude.{◌<◌, length};
 ghost use Rattle.profile_scan.specs.Found.{listed};
@@ -39,7 +39,8 @@ const WITH_WALK: [u32; 49] = [
     20240115, 0x54434241, 0x00325431,
 ];
 
-/// The sample with footpaths of a minute from stop 0 to stop 1 and from there to stop 2, and of two minutes from stop 0 to stop 2.
+/// The sample with footpaths of a minute from stop 0 to stop 1 and from there to stop 2, and of two
+/// minutes from stop 0 to stop 2.
 const WITH_CHAIN: [u32; 53] = [
     0x50415343, 1, 3, 2, 3, 6, 7, 1705276800, 0, 0, 1, 28800, 29400, 0, 3, 1, 2, 29400, 30600, 0,
     3, 1, 2, 29520, 30000, 1, 3, 0, 1, 3, 6, 0, 0, 0, 60, 1, 0, 0, 120, 1, 60, 2, 0, 0, 1, 2, 3, 5,
@@ -103,7 +104,8 @@ fn assert_journey(
     Ok(())
 }
 
-/// The point at a place departs and arrives so, and its journey, which counts for the query and is worth as much, has this text.
+/// The point at a place departs and arrives so, and its journey, which counts for the query and is
+/// worth as much, has this text.
 fn assert_point<C: Told>(
     rt: &impl Abort,
     alloc: Global,
@@ -191,8 +193,8 @@ fn by_a_change(rt: HostRuntime) -> Result<(), Fail> {
     assert_answers(&rt, alloc, &second, &ArrivalTrips, &ASKED, &both)
 }
 
-/// Each repeat is a trip of its own: from 09:00:00 until 10:00:00 one leaves three times, and none but the last where one leaves
-/// after the second.
+/// Each repeat is a trip of its own: from 09:00:00 until 10:00:00 one leaves three times, and none
+/// but the last where one leaves after the second.
 #[test]
 fn by_repeats(rt: HostRuntime) -> Result<(), Fail> {
     let alloc = rt.alloc();
@@ -355,9 +357,9 @@ fn by_names(rt: HostRuntime) -> Result<(), Fail> {
     Ok(())
 }
 
-/// The answer at one call: each departure with its value and its journey, and how many connections were read. Whichever growth is
-/// refused, want of memory is told: then the test ends with `AllocError`. Either way connections were asked for from the last one on,
-/// each in its turn.
+/// The answer at one call: each departure with its value and its journey, and how many connections
+/// were read. Whichever growth is refused, want of memory is told: then the test ends with
+/// `AllocError`. Either way connections were asked for from the last one on, each in its turn.
 #[test]
 fn refused_growth_is_told(rt: HostRuntime) -> Result<(), Fail> {
     let alloc = rt.alloc();

@@ -1,5 +1,5 @@
-//! A criterion of one's own by which riding makes a value better: so a scan may leave nothing out by what it found, and must find
-//! what it would leave out otherwise.
+//! A criterion of one's own by which riding makes a value better: so a scan may leave nothing out
+//! by what it found, and must find what it would leave out otherwise.
 
 ghost use Rattle.std.specs.Prelude.{◌-◌, nat_le, nat_lt};
 ghost use Rattle.std.specs.Ordering.{nat_cmp};
@@ -75,7 +75,8 @@ impl Criterion for WithBonus {
     } };
 }
 
-/// From stop 0 to stop 2 by a change at stop 1, there at 08:20:30, or a trip that leaves later and is there at 08:20:00.
+/// From stop 0 to stop 2 by a change at stop 1, there at 08:20:30, or a trip that leaves later and
+/// is there at 08:20:00.
 const LATER_AND_EARLIER: [u32; 56] = [
     0x50415343, 1, 3, 3, 4, 3, 9, 1705276800, 0, 0, 1, 28800, 29400, 0, 3, 1, 2, 29400, 30600, 0,
     3, 1, 2, 29520, 30030, 1, 3, 0, 2, 29600, 30000, 2, 3, 0, 1, 2, 3, 0, 0, 1, 0, 2, 0, 0, 1, 2,
@@ -141,8 +142,9 @@ fn assert_answers<C: Criterion<V = u32>>(
     )
 }
 
-/// Who rides twice is there half a minute later, and gets a minute more off. When the trips of that journey are read, the later departure
-/// was found already, and it betters each of them as long as the first ride isn't counted.
+/// Who rides twice is there half a minute later, and gets a minute more off. When the trips of that
+/// journey are read, the later departure was found already, and it betters each of them as long as
+/// the first ride isn't counted.
 #[test]
 fn riding_may_better_a_value(rt: HostRuntime) -> Result<(), Fail> {
     let alloc = rt.alloc();

@@ -9,7 +9,8 @@ ghost use Rattle.profile_scan.specs.Window.{window, falling};
 ghost use Rattle.profile_scan.specs.Plain.{IsPlain};
 ghost use Rattle.profile_scan.specs.Nodes.{spelling};
 ghost use Rattle.profile_scan.specs.declared.nodes.Node.TheVariants.{Ends, Changes, Boards, SetsOut};
-ghost use Rattle.tests_scan.specs.Examples.{asked, by_change, direct, footpath, from_start, on_foot, ride, with_chain, with_loops, with_walk};
+ghost use Rattle.tests_scan.specs.Examples.{asked, by_change, direct, footpath, from_start, on_foot, ride};
+ghost use Rattle.tests_scan.specs.Examples.{with_chain, with_loops, with_walk};
 
 use criteria::{Arrival, ArrivalTrips, ArrivalTripsWalk, Criterion};
 
@@ -17,11 +18,13 @@ use criteria::{Arrival, ArrivalTrips, ArrivalTripsWalk, Criterion};
 fn both_ways_count()
     ensures by_change { Counts (with_loops 0 0) (asked 32400 36000) 28800 (by_change 0) }
     ensures direct { Counts (with_loops 0 0) (asked 32400 36000) 28800 direct }
-    ensures only_then { (departure : ℕ) → Counts (with_loops 0 0) (asked 32400 36000) departure direct → departure ≡ 28800 }
+    ensures only_then { (departure : ℕ) → Counts (with_loops 0 0) (asked 32400 36000) departure direct
+        → departure ≡ 28800 }
 {}
 
 fn they_are_worth(arrival: &Arrival, trips: &ArrivalTrips)
-    ensures arrival { journey_value (⟦<Arrival as Criterion>⟧.rules arrival.now) (with_loops 0 0) (by_change 0) ≡ 30000 }
+    ensures arrival { journey_value (⟦<Arrival as Criterion>⟧.rules arrival.now) (with_loops 0 0) (by_change 0)
+        ≡ 30000 }
     ensures trips { journey_value (⟦<ArrivalTrips as Criterion>⟧.rules trips.now) (with_loops 0 0) (by_change 0)
         ≡ record { time = 30000; trips = 2 } }
     ensures direct { journey_value (⟦<ArrivalTrips as Criterion>⟧.rules trips.now) (with_loops 0 0) direct
@@ -33,14 +36,16 @@ fn a_slow_change_misses_the_trip()
     ensures just { Counts (with_loops 0 120) (asked 32400 36000) 28800 (by_change 120) }
     ensures slow { (departure : ℕ) → Counts (with_loops 0 121) (asked 32400 36000) departure (by_change 121) → ⊥ }
     ensures still { Counts (with_loops 0 121) (asked 32400 36000) 28800 direct }
-    ensures without { (source target : ℕ) → IsJourney (with_loops 0 0) source target (from_start None (ride 0 0 [] ∷ ride 2 2 [] ∷ [])) → ⊥ }
+    ensures without { (source target : ℕ) → IsJourney (with_loops 0 0) source target
+        (from_start None (ride 0 0 [] ∷ ride 2 2 [] ∷ [])) → ⊥ }
 {}
 
 // both ends of the window of departures count, and a loop is no start
 fn the_latest_departure_counts()
     ensures at { Counts (with_loops 60 0) (asked 28800 36000) 28800 direct }
     ensures after { (departure : ℕ) → Counts (with_loops 60 0) (asked 28799 36000) departure direct → ⊥ }
-    ensures by_loop { (source target : ℕ) → IsJourney (with_loops 60 0) source target (from_start (Some (footpath 0 0 60)) (ride 0 1 [] ∷ [])) → ⊥ }
+    ensures by_loop { (source target : ℕ) → IsJourney (with_loops 60 0) source target
+        (from_start (Some (footpath 0 0 60)) (ride 0 1 [] ∷ [])) → ⊥ }
 {}
 
 fn the_latest_arrival_counts()
@@ -60,9 +65,11 @@ pub(crate) fn a_start_on_foot_counts(arrival: &Arrival, walking: &ArrivalTripsWa
 
 // a walk after the last leg, and one before the first; a chain may stand after a leg, and is no start
 fn walks_count()
-    ensures after { Counts with_chain (asked 32400 36000) 28800 (from_start None (ride 0 0 (footpath 1 2 60 ∷ []) ∷ [])) }
+    ensures after { Counts with_chain (asked 32400 36000) 28800
+        (from_start None (ride 0 0 (footpath 1 2 60 ∷ []) ∷ [])) }
     ensures before { Counts with_chain (asked 32400 36000) 29460 (on_foot 60 2) }
-    ensures chain { Counts with_chain (asked 32400 36000) 28800 (from_start None (ride 0 0 (footpath 1 1 0 ∷ footpath 1 2 60 ∷ []) ∷ [])) }
+    ensures chain { Counts with_chain (asked 32400 36000) 28800
+        (from_start None (ride 0 0 (footpath 1 1 0 ∷ footpath 1 2 60 ∷ []) ∷ [])) }
 {}
 
 fn windows_are_computed()
@@ -88,7 +95,8 @@ fn answers_are_computed(arrival: &Arrival)
     ensures none { IsAnswer (⟦<Arrival as Criterion>⟧.rules arrival.now) (with_loops 60 0) (asked 28799 36000) [] }
 {}
 
-// a change by one footpath is plain, and so is one footpath to the target; a chain isn't, nor a loop at the target, nor a change by none
+// a change by one footpath is plain, and so is one footpath to the target; a chain isn't, nor a
+// loop at the target, nor a change by none
 fn some_are_plain()
     ensures change { IsPlain (with_loops 0 0) 2 (by_change 0) }
     ensures direct { IsPlain (with_loops 0 0) 2 direct }
@@ -101,8 +109,10 @@ fn some_are_plain()
 // nodes spell by the ones before them, and by no others
 #[tactic(auto, unfolding(profile_scan::specs::Nodes::spelled_on))]
 fn nodes_spell()
-    ensures change { (spelling (Ends 2 None ∷ Boards (footpath 1 1 0) 2 0 ∷ Changes 0 1 ∷ SetsOut None 0 2 ∷ [])).journey 3 ≡ Some (by_change 0) }
-    ensures on_foot { (spelling (Ends 2 None ∷ SetsOut (Some (footpath 0 1 120)) 2 0 ∷ [])).journey 1 ≡ Some (on_foot 120 2) }
+    ensures change { (spelling (Ends 2 None ∷ Boards (footpath 1 1 0) 2 0 ∷ Changes 0 1 ∷ SetsOut None 0 2
+        ∷ [])).journey 3 ≡ Some (by_change 0) }
+    ensures on_foot { (spelling (Ends 2 None ∷ SetsOut (Some (footpath 0 1 120)) 2 0 ∷ [])).journey 1
+        ≡ Some (on_foot 120 2) }
     ensures no_journey { (spelling (Ends 2 None ∷ SetsOut None 2 0 ∷ [])).journey 0 ≡ None }
     ensures forward { (spelling (SetsOut None 0 1 ∷ Ends 1 None ∷ [])).journey 0 ≡ None }
     ensures none { (spelling []).journey 0 ≡ None }

@@ -29,7 +29,8 @@ fn judged(
     Ok(check(image, &asked(query), &journey))
 }
 
-/// Four stops, seven connections of four trips with all kinds of flags, and footpaths from A to B and C and from B to C.
+/// Four stops, seven connections of four trips with all kinds of flags, and footpaths from A to B
+/// and C and from B to C.
 const TOWN: [u32; 83] = [
     0x50415343, 1, 4, 4, 7, 7, 0, 0, 0, 1, 3, 50, 60, 3, 3, 0, 1, 100, 200, 0, 1, 1, 2, 200, 300,
     0, 2, 2, 3, 300, 400, 0, 3, 1, 3, 320, 420, 1, 3, 2, 3, 350, 450, 2, 1, 3, 0, 500, 600, 2, 0,

@@ -12,8 +12,9 @@ open 1: Opened { version: 2, shelf: 1 }
 publish: Published { version: 2 }
 close 0: Closing";
 
-/// Events with their replies, from the start on: a block for each course of events, under a title. A line `outdated` stands for
-/// those of `OUTDATED`, and `load 2..8` for an opening and a publish of each of these versions, on the shelf before its number.
+/// Events with their replies, from the start on: a block for each course of events, under a title.
+/// A line `outdated` stands for those of `OUTDATED`, and `load 2..8` for an opening and a publish
+/// of each of these versions, on the shelf before its number.
 const COURSES: &str = "\
 # a late take and a new look
 outdated

@@ -1,4 +1,5 @@
-//! Shelves, and the table of versions behind a lock and without one: what their calls answer, and which refusals have which numbers.
+//! Shelves, and the table of versions behind a lock and without one: what their calls answer, and
+//! which refusals have which numbers.
 
 mod scripts;
 mod stages;
@@ -220,8 +221,8 @@ fn faults_have_numbers_and_names(rt: HostRuntime) {
     }
 }
 
-/// Whether the image of the next second became the next version. Else it came back for want of memory, and the version that was
-/// current stays so.
+/// Whether the image of the next second became the next version. Else it came back for want of
+/// memory, and the version that was current stays so.
 fn publishes_next<R: Wait + Abort>(
     rt: &R,
     shelves: &LockedShelves,
@@ -256,8 +257,8 @@ fn publish_seven<R: Wait + Abort>(
     Ok(())
 }
 
-/// Whichever growth is refused, the image comes back, and the version that was current stays so. A refused growth ends the
-/// test with `AllocError`.
+/// Whichever growth is refused, the image comes back, and the version that was current stays so. A
+/// refused growth ends the test with `AllocError`.
 #[test]
 fn refused_growth_gives_the_image_back(rt: HostRuntime) -> Result<(), Fail> {
     let alloc: Global = rt.alloc();

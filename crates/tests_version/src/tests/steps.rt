@@ -35,7 +35,8 @@ impl Model for Scene {
     ghost view = { λ s. s.table };
 
     // Each seat and each notice is of these shelves.
-    ghost invariant = { λ s. (s.loader ≡ s.table) × (s.first ≡ s.table) × (s.second ≡ s.table) × All (λ notice. notice ≡ s.table) s.notices.items };
+    ghost invariant = { λ s. (s.loader ≡ s.table) × (s.first ≡ s.table) × (s.second ≡ s.table)
+        × All (λ notice. notice ≡ s.table) s.notices.items };
 }
 
 impl Scene {
@@ -309,8 +310,8 @@ fn worker_steps(
 }
 
 impl Scene {
-    /// One step of the loader, here and in the state machine, which opens the least free shelf and knows which one to publish. A
-    /// version that is published comes with a notice.
+    /// One step of the loader, here and in the state machine, which opens the least free shelf and
+    /// knows which one to publish. A version that is published comes with a notice.
     fn loader_steps(
         &mut self,
         beside: &mut Beside,

@@ -14,4 +14,5 @@ loop-line-preserved c =
     c.later_of-last.ensures.0 (rw arrives at c.later_of-last.ensures.1) c.loop-line.invariant
 
 pub returns : goal.returns
-returns c = subst (All (IsBetween c.loop-line.first c.loop-line.last)) (take_all c.loop-line.line-index c.args.lines.now (omega (arith, c.loop-line-test.false))) c.loop-line.invariant
+returns c = subst (All (IsBetween c.loop-line.first c.loop-line.last))
+    (take_all c.loop-line.line-index c.args.lines.now (omega (arith, c.loop-line-test.false))) c.loop-line.invariant

@@ -6,7 +6,9 @@ use Rattle.answer_pictures.proofs.drawing.put_tick.Goals as goal
 pub returns : goal.returns
 unfolding tick_text
 returns c =
-    five (string_bytes c.args.out.now) (string_bytes c.put_text.new.out) (string_bytes c.put_attribute.new.out) (string_bytes c.put_text-2.new.out) (string_bytes c.put_moment.new.out) (string_bytes c.put_text-3.new.out) _ _ _ _ _
+    five (string_bytes c.args.out.now) (string_bytes c.put_text.new.out) (string_bytes c.put_attribute.new.out)
+    (string_bytes c.put_text-2.new.out) (string_bytes c.put_moment.new.out) (string_bytes c.put_text-3.new.out) _ _
+    _ _ _
     c.in_ok-put_text.ensures
     (rw c.place.ensures at c.in_ok-put_attribute.ensures)
     c.in_ok-put_text-2.ensures

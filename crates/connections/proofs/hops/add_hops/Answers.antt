@@ -7,5 +7,6 @@ loop-position-init c = hops_none c.args.clock.day.base (zero_of c.args.clock) c.
 
 pub loop-position-preserved : goal.loop-position-preserved
 loop-position-preserved c =
-    hops_more c.args.clock.day.base (zero_of c.args.clock) c.args.rows.now c.args.run c.loop-position.position c.args.connections.now.items c.loop-position.connections.items
+    hops_more c.args.clock.day.base (zero_of c.args.clock) c.args.rows.now c.args.run c.loop-position.position
+    c.args.connections.now.items c.loop-position.connections.items
     c.push.new.self.items c.connection-hop.result c.loop-position.invariant c.connection-hop.ensures c.in_ok-push.ensures.items

@@ -4,4 +4,5 @@ use Rattle.csa_program.specs.Listing.{departure_line, named_text}
 use Rattle.csa_program.proofs.listing.append_all_named.Given as goal
 
 abbrev pub invariant-loop-departure : goal.invariant-loop-departure
-invariant-loop-departure g l = string_bytes l.lines ≡ string_bytes l.fn.lines ++ flat_map (departure_line g.C.Told.told (named_text l.image)) (take l.departure-index l.departures)
+invariant-loop-departure g l = string_bytes l.lines ≡ string_bytes l.fn.lines
+    ++ flat_map (departure_line g.C.Told.told (named_text l.image)) (take l.departure-index l.departures)

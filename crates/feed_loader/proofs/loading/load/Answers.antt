@@ -17,8 +17,24 @@ returns-in_err-feed-clause-err g c = λ content tells.
 
 pub returns-clause-ok : goal.returns-clause-ok
 returns-clause-ok g c = λ content tells.
-    IfOk-weaker c.image_of.result _ _ (λ made is. record { feed = c.in_ok-feed.feed; read = record { t = c.in_ok-tables.tables; held = c.in_ok-tables.ensures.ok content tells; joined = c.in_ok-feed.ensures.ok }; made = is }) c.image_of.ensures.ok
+    IfOk-weaker c.image_of.result _ _ (λ made is. record {
+      feed = c.in_ok-feed.feed;
+      read =
+          record {
+            t = c.in_ok-tables.tables;
+            held = c.in_ok-tables.ensures.ok content tells;
+            joined =
+                c.in_ok-feed.ensures.ok;
+          };
+      made = is;
+    }) c.image_of.ensures.ok
 
 pub returns-clause-err : goal.returns-clause-err
 returns-clause-err g c = λ content tells.
-    IfErr-weaker c.image_of.result _ _ (λ fault wrong. feed_refused content c.args.plan.now c.in_ok-feed.feed fault (record { t = c.in_ok-tables.tables; held = c.in_ok-tables.ensures.ok content tells; joined = c.in_ok-feed.ensures.ok }) wrong) c.image_of.ensures.err
+    IfErr-weaker c.image_of.result _ _ (λ fault wrong.
+    feed_refused content c.args.plan.now c.in_ok-feed.feed fault (record {
+      t = c.in_ok-tables.tables;
+      held =
+          c.in_ok-tables.ensures.ok content tells;
+      joined = c.in_ok-feed.ensures.ok;
+    }) wrong) c.image_of.ensures.err

@@ -13,11 +13,29 @@ pub returns-in_err-names-clause-err : goal.returns-in_err-names-clause-err
 returns-in_err-names-clause-err c =
     let told = err_from_is_err_and c.from_residual-in_err-names.result c.from_residual-in_err-names.ensures.1 in
     rw (told.1, told.2) (names_refused c.args.feed.now c.args.plan.now c.in_ok-connections.connections.items c.in_ok-connections.runs.items
-    c.in_err-names.field-0.0 c.requires.some (omega (arith, c.if-len.false, c.len.ensures)) c.in_ok-connections.ensures.ok (rw (← c.deref.ensures.value) c.in_err-names.ensures.err))
+    c.in_err-names.field-0.0 c.requires.some (omega (
+      arith,
+      c.if-len.false,
+      c.len.ensures,
+    )) c.in_ok-connections.ensures.ok (rw (← c.deref.ensures.value) c.in_err-names.ensures.err))
 
 -- what is written is legal and within limits
 pub written-requires : goal.written-requires
 written-requires c =
-    is_writable c.args.feed.now c.args.plan.now _ c.in_ok-names.names c.in_ok-connections.connections.items c.in_ok-connections.runs.items c.in_ok-footpaths.footpaths.items (omega (arith, c.len-4.ensures)) (omega (arith, c.len-5.ensures)) refl refl
-    (omega (arith, c.if-len.false, c.len.ensures)) c.in_ok-connections.ensures.ok (c.listing_is_legal.ensures c.args.feed.now c.args.plan.now.zone c.args.plan.now.first_day c.args.plan.now.days c.in_ok-connections.connections.items c.in_ok-connections.runs.items c.requires.feed c.requires.some c.in_ok-connections.ensures.ok) (c.listing_is_within_limits.ensures c.args.feed.now c.args.plan.now.zone c.args.plan.now.first_day c.args.plan.now.days c.in_ok-connections.connections.items c.in_ok-connections.runs.items c.requires.some c.in_ok-connections.ensures.ok) (subst (λ (n : ℕ). HasLegalFootpaths n c.in_ok-footpaths.footpaths.items) (omega (arith, c.len-2.ensures)) c.in_ok-footpaths.ensures.legal) c.in_ok-footpaths.ensures.few
-    (λ i f at. All-contains (λ (p : Footpath). p.secs ≤ MAX_WALK_SECS) _ f c.in_ok-footpaths.ensures.short (Contains-At _ i f at)) (rw (← c.deref.ensures.value) c.in_ok-names.ensures.ok) c.in_ok-names.ensures.short
+    is_writable c.args.feed.now c.args.plan.now _ c.in_ok-names.names c.in_ok-connections.connections.items
+    c.in_ok-connections.runs.items c.in_ok-footpaths.footpaths.items (omega (arith, c.len-4.ensures)) (omega (
+      arith,
+      c.len-5.ensures,
+    )) refl refl
+    (omega (arith, c.if-len.false, c.len.ensures)) c.in_ok-connections.ensures.ok
+    (c.listing_is_legal.ensures c.args.feed.now c.args.plan.now.zone c.args.plan.now.first_day c.args.plan.now.days
+    c.in_ok-connections.connections.items c.in_ok-connections.runs.items c.requires.feed c.requires.some
+    c.in_ok-connections.ensures.ok) (c.listing_is_within_limits.ensures c.args.feed.now c.args.plan.now.zone
+    c.args.plan.now.first_day c.args.plan.now.days c.in_ok-connections.connections.items
+    c.in_ok-connections.runs.items c.requires.some c.in_ok-connections.ensures.ok)
+    (subst (λ (n : ℕ). HasLegalFootpaths n c.in_ok-footpaths.footpaths.items) (omega (
+      arith,
+      c.len-2.ensures,
+    )) c.in_ok-footpaths.ensures.legal) c.in_ok-footpaths.ensures.few
+    (λ i f at. All-contains (λ (p : Footpath). p.secs ≤ MAX_WALK_SECS) _ f c.in_ok-footpaths.ensures.short
+    (Contains-At _ i f at)) (rw (← c.deref.ensures.value) c.in_ok-names.ensures.ok) c.in_ok-names.ensures.short

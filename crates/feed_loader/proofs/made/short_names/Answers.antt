@@ -10,7 +10,8 @@ use Rattle.feed_loader.proofs.made.short_names.Goals as goal
 
 pub returns-then-count_name_bytes-clause-err : goal.returns-then-count_name_bytes-clause-err
 returns-then-count_name_bytes-clause-err c =
-    let long = long_names c.args.feed.now c.args.plan.now c.args.runs.now c.in_ok-base.base MAX_NAME_BYTES c.in_ok-base.ensures.ok (omega (arith, c.count_name_bytes.ensures, c.if-count_name_bytes.true)) in
+    let long = long_names c.args.feed.now c.args.plan.now c.args.runs.now c.in_ok-base.base MAX_NAME_BYTES
+    c.in_ok-base.ensures.ok (omega (arith, c.count_name_bytes.ensures, c.if-count_name_bytes.true)) in
     inr (inr (c.too_many.ensures, long.0, long.1, long.2))
 
 pub returns-clause-ok : goal.returns-clause-ok
@@ -18,7 +19,9 @@ returns-clause-ok c =
     let fits : FitsSigned w64 c.in_ok-base.base = search rules in
     let stops = c.in-Ok.ensures ∙ ap (λ (xs : List Stop). map (λ (stop : Stop). string_bytes stop.id) xs) c.deref.ensures.value in
     let trips = c.in-Ok-run_names.ensures ∙ ap (λ (xs : List Trip). map (run_name xs) c.args.runs.now) c.deref-2.ensures.value in
-    rw (to_z-of_z w64 c.in_ok-base.base fits) (are_names c.args.feed.now c.args.plan.now c.args.runs.now _ c.in_ok-base.base c.in_ok-base.ensures.ok refl stops trips)
+    rw (to_z-of_z w64 c.in_ok-base.base fits)
+    (are_names c.args.feed.now c.args.plan.now c.args.runs.now _ c.in_ok-base.base c.in_ok-base.ensures.ok refl
+    stops trips)
 
 pub returns-clause-short : goal.returns-clause-short
 returns-clause-short c =

@@ -16,8 +16,11 @@ invariant-loop-from g l =
       joined : (was : ℕ)
           × IsPath l.fn.entries.items l.head l.passed.items was
           × (was < length l.fn.entries.items)
-          × ((departure_of l.fn.entries.items l.place ≤ departure_of l.entries.items l.new) ⊎ ((0 < was) × (departure_of l.fn.entries.items was ≤ departure_of l.entries.items l.new)))
-          × IsUnion rules (points_from l.fn.entries.items l.fn.items.items was) (points_from l.fn.entries.items l.fn.items.items l.place) (points_from l.entries.items l.items.items l.new);
+          × ((departure_of l.fn.entries.items l.place ≤ departure_of l.entries.items l.new)
+          ⊎ ((0 < was) × (departure_of l.fn.entries.items was ≤ departure_of l.entries.items l.new)))
+          × IsUnion rules (points_from l.fn.entries.items l.fn.items.items was)
+          (points_from l.fn.entries.items l.fn.items.items l.place)
+          (points_from l.entries.items l.items.items l.new);
     }
 
 abbrev pub decreases-loop-from : goal.decreases-loop-from

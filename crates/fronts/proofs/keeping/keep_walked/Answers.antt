@@ -10,17 +10,23 @@ use Rattle.fronts.proofs.keeping.keep_walked.Goals.{then-not-front_betters+in_ok
 pub loop-i-init : goal.loop-i-init
 loop-i-init g c = record {
   more = extends_none c.args.steps.now.items;
-  boarded = boardings_none (g.C.Criterion.rules c.args.criterion.now) c.args.boarding.departure c.args.boarding.first c.args.boarding.walk c.args.boarding.secs c.args.ridden.now c.args.steps.now.items c.clear.new.self.items c.clear.ensures.items;
+  boarded = boardings_none (g.C.Criterion.rules c.args.criterion.now) c.args.boarding.departure c.args.boarding.first
+      c.args.boarding.walk c.args.boarding.secs c.args.ridden.now c.args.steps.now.items c.clear.new.self.items
+      c.clear.ensures.items;
   all = λ k d lt. absurd (omega arith);
 }
 
 pub front_betters-requires-clause-value : goal.front_betters-requires-clause-value
 front_betters-requires-clause-value g c =
     let rules = g.C.Criterion.rules c.args.criterion.now in
-    subst (Admits rules) (sym c.walk-value.ensures) ((g.met.C.Criterion.laws c.args.criterion.now).walk_admits c.args.boarding.secs c.index-ridden-i.result.value c.requires.secs (c.requires.ridden c.index-ridden-i.result (c.loop-i.i, omega arith, sym c.index-ridden-i.is)))
+    subst (Admits rules) (sym c.walk-value.ensures)
+    ((g.met.C.Criterion.laws c.args.criterion.now).walk_admits c.args.boarding.secs c.index-ridden-i.result.value
+    c.requires.secs (c.requires.ridden c.index-ridden-i.result (c.loop-i.i, omega arith, sym c.index-ridden-i.is)))
 
 pub returns-in_err-keep_value-clause-more : goal.returns-in_err-keep_value-clause-more
-returns-in_err-keep_value-clause-more g c = extends_on c.args.steps.now.items c.loop-i.steps.items c.keep_value.new.steps.items c.loop-i.invariant.more c.in_err-keep_value.ensures.more
+returns-in_err-keep_value-clause-more g c =
+    extends_on c.args.steps.now.items c.loop-i.steps.items c.keep_value.new.steps.items c.loop-i.invariant.more
+    c.in_err-keep_value.ensures.more
 
 pub returns-clause-all : goal.returns-clause-all
 returns-clause-all g c = λ k d lt. c.loop-i.invariant.all k d (omega arith)
@@ -36,17 +42,26 @@ loop-i-preserved g c =
     let admitted = subst (Admits rules) (sym c.walk-value.ensures) (laws.walk_admits c.args.boarding.secs r.value c.requires.secs contained) in
     elim c.if-not-front_betters.branch [
       | then-not-front_betters+in_ok-keep_value w ↦ (
-          let m = boardings_more rules c.args.boarding.departure c.args.boarding.first c.args.boarding.walk c.args.boarding.secs c.args.ridden.now laws c.loop-i.steps.items w.keep_value.new.steps.items c.loop-i.kept.items w.keep_value.new.kept.items c.walk-value.result r
+          let m = boardings_more rules c.args.boarding.departure c.args.boarding.first c.args.boarding.walk
+          c.args.boarding.secs c.args.ridden.now laws c.loop-i.steps.items w.keep_value.new.steps.items
+          c.loop-i.kept.items w.keep_value.new.kept.items c.walk-value.result r
           inv.boarded admitted (c.loop-i.i, omega arith, sym c.index-ridden-i.is) c.walk-value.ensures w.in_ok-keep_value.ensures.keeps in
           rw (w.steps-is, w.kept-is) (record {
             more = extends_on c.args.steps.now.items c.loop-i.steps.items w.keep_value.new.steps.items inv.more w.in_ok-keep_value.ensures.more;
             boarded = m.0;
-            all = all_more rules c.args.boarding.departure c.args.boarding.first c.args.boarding.walk c.args.boarding.secs c.args.ridden.now points c.loop-i.kept.items w.keep_value.new.kept.items c.loop-i.i r m.1 (omega arith) c.index-ridden-i.is inv.all (inl (subst (Betters rules w.keep_value.new.kept.items) c.walk-value.ensures m.2));
+            all = all_more rules c.args.boarding.departure c.args.boarding.first c.args.boarding.walk
+                c.args.boarding.secs c.args.ridden.now points c.loop-i.kept.items w.keep_value.new.kept.items c.loop-i.i
+                r m.1 (omega arith) c.index-ridden-i.is inv.all
+                (inl (subst (Betters rules w.keep_value.new.kept.items) c.walk-value.ensures m.2));
           }))
       | else-not-front_betters w ↦ rw (w.steps-is, w.kept-is) (record {
         more = inv.more;
         boarded = inv.boarded;
-        all = all_more rules c.args.boarding.departure c.args.boarding.first c.args.boarding.walk c.args.boarding.secs c.args.ridden.now points c.loop-i.kept.items c.loop-i.kept.items c.loop-i.i r (extends_none c.loop-i.kept.items) (omega arith) c.index-ridden-i.is inv.all
-            (inr (subst (Betters rules points) c.walk-value.ensures (betters_some rules points c.walk-value.result (sym c.front_betters.ensures ∙ w.if-not-front_betters.false))));
+        all = all_more rules c.args.boarding.departure c.args.boarding.first c.args.boarding.walk c.args.boarding.secs
+            c.args.ridden.now points c.loop-i.kept.items c.loop-i.kept.items c.loop-i.i r
+            (extends_none c.loop-i.kept.items) (omega arith) c.index-ridden-i.is inv.all
+            (inr (subst (Betters rules points) c.walk-value.ensures
+            (betters_some rules points c.walk-value.result (sym c.front_betters.ensures
+            ∙ w.if-not-front_betters.false))));
       })
     ]

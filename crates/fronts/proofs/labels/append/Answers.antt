@@ -8,4 +8,5 @@ returns g c run =
     let new = c.args.new.now in
     let mid = c.extend_from_slice.new.self.items in
     end_puts c.args.labels.now.items run new mid c.extend_from_slice-2.new.self.items c.in_ok-first.first c.in_ok-count.count c.in_ok-room.room
-    (search rules) (search rules) (search rules) (search rules) (c.in_ok-extend_from_slice-2.ensures.items ∙ ap (λ xs. mid ++ xs) (between_to_end new 1 (length new) (omega arith)))
+    (search rules) (search rules) (search rules) (search rules) (c.in_ok-extend_from_slice-2.ensures.items
+    ∙ ap (λ xs. mid ++ xs) (between_to_end new 1 (length new) (omega arith)))

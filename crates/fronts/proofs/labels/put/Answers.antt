@@ -9,4 +9,5 @@ returns-then-count-run g c = IfOk-weaker c.append.result _ _ (λ placed puts. pu
 pub returns : goal.returns
 returns g c =
     let fits = c.if-count-run.false in
-    over_puts c.args.labels.now.items c.args.run c.args.new.now c.write_over.new.labels.items c.in_ok-count.count (search rules) (omega arith) c.requires.within c.write_over.ensures
+    over_puts c.args.labels.now.items c.args.run c.args.new.now c.write_over.new.labels.items c.in_ok-count.count
+    (search rules) (omega arith) c.requires.within c.write_over.ensures

@@ -13,20 +13,31 @@ use Rattle.fronts.proofs.putting.put.Goals as goal
 
 -- the items when all are pushed
 grown : (g : given.Over) (c : goal.In_ok-leave_front g) → Extends c.args.items.now.items c.leave_front.new.items.items
-grown g c = extends_on c.args.items.now.items c.push_others.new.items.items c.leave_front.new.items.items c.in_ok-push_others.ensures.extends c.in_ok-leave_front.ensures.extends
+grown g c = extends_on c.args.items.now.items c.push_others.new.items.items c.leave_front.new.items.items
+    c.in_ok-push_others.ensures.extends c.in_ok-leave_front.ensures.extends
 
 pub returns-in_err-push_others-clause-entries : goal.returns-in_err-push_others-clause-entries
-returns-in_err-push_others-clause-entries g c = are_more (g.C.Criterion.rules c.args.criterion.now) c.args.entries.now.items c.args.items.now.items c.push_others.new.items.items c.requires.entries c.in_err-push_others.ensures.extends
+returns-in_err-push_others-clause-entries g c =
+    are_more (g.C.Criterion.rules c.args.criterion.now) c.args.entries.now.items c.args.items.now.items
+    c.push_others.new.items.items c.requires.entries c.in_err-push_others.ensures.extends
 
 pub leave_front-requires-clause-entries : goal.leave_front-requires-clause-entries
 leave_front-requires-clause-entries g c =
-    subst (λ es. AreEntries (g.C.Criterion.rules c.args.criterion.now) es c.push_others.new.items.items) (sym c.deref.ensures.value) (are_more (g.C.Criterion.rules c.args.criterion.now) c.args.entries.now.items c.args.items.now.items c.push_others.new.items.items c.requires.entries c.in_ok-push_others.ensures.extends)
+    subst (λ es. AreEntries (g.C.Criterion.rules c.args.criterion.now) es c.push_others.new.items.items)
+    (sym c.deref.ensures.value) (are_more (g.C.Criterion.rules c.args.criterion.now) c.args.entries.now.items
+    c.args.items.now.items c.push_others.new.items.items c.requires.entries c.in_ok-push_others.ensures.extends)
 
 pub returns-in_err-leave_front-clause-entries : goal.returns-in_err-leave_front-clause-entries
-returns-in_err-leave_front-clause-entries g c = are_more (g.C.Criterion.rules c.args.criterion.now) c.args.entries.now.items c.args.items.now.items c.leave_front.new.items.items c.requires.entries (extends_on c.args.items.now.items c.push_others.new.items.items c.leave_front.new.items.items c.in_ok-push_others.ensures.extends c.in_err-leave_front.ensures.extends)
+returns-in_err-leave_front-clause-entries g c =
+    are_more (g.C.Criterion.rules c.args.criterion.now) c.args.entries.now.items c.args.items.now.items
+    c.leave_front.new.items.items c.requires.entries
+    (extends_on c.args.items.now.items c.push_others.new.items.items c.leave_front.new.items.items
+    c.in_ok-push_others.ensures.extends c.in_err-leave_front.ensures.extends)
 
 pub returns-in_err-leave_front-clause-more_items : goal.returns-in_err-leave_front-clause-more_items
-returns-in_err-leave_front-clause-more_items g c = extends_on c.args.items.now.items c.push_others.new.items.items c.leave_front.new.items.items c.in_ok-push_others.ensures.extends c.in_err-leave_front.ensures.extends
+returns-in_err-leave_front-clause-more_items g c =
+    extends_on c.args.items.now.items c.push_others.new.items.items c.leave_front.new.items.items
+    c.in_ok-push_others.ensures.extends c.in_err-leave_front.ensures.extends
 
 pub returns-in_err-push-clause-more_items : goal.returns-in_err-push-clause-more_items
 returns-in_err-push-clause-more_items g c = grown g (goal.at.returns-in_err-push-clause-more_items g c).In_ok-leave_front
@@ -35,7 +46,10 @@ pub returns-clause-more_items : goal.returns-clause-more_items
 returns-clause-more_items g c = grown g (goal.at.returns-clause-more_items g c).In_ok-leave_front
 
 pub returns-in_err-count-clause-entries : goal.returns-in_err-count-clause-entries
-returns-in_err-count-clause-entries g c = are_more (g.C.Criterion.rules c.args.criterion.now) c.args.entries.now.items c.args.items.now.items c.leave_front.new.items.items c.requires.entries (grown g (goal.at.returns-in_err-count-clause-entries g c).In_ok-leave_front)
+returns-in_err-count-clause-entries g c =
+    are_more (g.C.Criterion.rules c.args.criterion.now) c.args.entries.now.items c.args.items.now.items
+    c.leave_front.new.items.items c.requires.entries
+    (grown g (goal.at.returns-in_err-count-clause-entries g c).In_ok-leave_front)
 
 pub follow-next-requires : goal.follow-next-requires
 follow-next-requires g c =
@@ -46,23 +60,44 @@ follow-next-requires g c =
 pub returns-in_err-push-clause-entries : goal.returns-in_err-push-clause-entries
 returns-in_err-push-clause-entries g c =
     let rules = g.C.Criterion.rules c.args.criterion.now in
-    subst (λ es. AreEntries rules es c.leave_front.new.items.items) (sym c.in_err-push.ensures.items) (are_more rules c.args.entries.now.items c.args.items.now.items c.leave_front.new.items.items c.requires.entries (grown g (goal.at.returns-in_err-push-clause-entries g c).In_ok-leave_front))
+    subst (λ es. AreEntries rules es c.leave_front.new.items.items) (sym c.in_err-push.ensures.items)
+    (are_more rules c.args.entries.now.items c.args.items.now.items c.leave_front.new.items.items c.requires.entries
+    (grown g (goal.at.returns-in_err-push-clause-entries g c).In_ok-leave_front))
 
 pub returns-in_err-push-clause-more_entries : goal.returns-in_err-push-clause-more_entries
 returns-in_err-push-clause-more_entries g c = ([], c.in_err-push.ensures.items ∙ sym (append-nil c.args.entries.now.items))
 
 -- what the put does
-made : (g : given.Over) (c : goal.In_ok-push g) → IsPut (g.C.Criterion.rules c.args.criterion.now) c.args.entries.now.items c.push.new.self.items c.args.items.now.items c.leave_front.new.items.items c.args.departure c.args.place c.args.points.now c.in_ok-new.new
+made : (g : given.Over) (c : goal.In_ok-push g)
+    → IsPut (g.C.Criterion.rules c.args.criterion.now) c.args.entries.now.items c.push.new.self.items
+    c.args.items.now.items c.leave_front.new.items.items c.args.departure c.args.place c.args.points.now c.in_ok-new.new
 made g c =
     let rules = g.C.Criterion.rules c.args.criterion.now in
     let x = c.index-points-0.result in
-    let e : Entry g.row.C-V.Denot = record { departure = c.args.departure; next = c.follow-next.result; rest = c.in_ok-rest.rest; count = c.in_ok-count.count; tag = x.tag; value = x.value } in
-    let grows = extends_long c.args.items.now.items c.leave_front.new.items.items (extends_on c.args.items.now.items c.push_others.new.items.items c.leave_front.new.items.items c.in_ok-push_others.ensures.extends c.in_ok-leave_front.ensures.extends) in
+    let e : Entry g.row.C-V.Denot = record {
+      departure = c.args.departure;
+      next = c.follow-next.result;
+      rest =
+          c.in_ok-rest.rest;
+      count = c.in_ok-count.count;
+      tag = x.tag;
+      value = x.value;
+    } in
+    let grows = extends_long c.args.items.now.items c.leave_front.new.items.items
+    (extends_on c.args.items.now.items c.push_others.new.items.items c.leave_front.new.items.items
+    c.in_ok-push_others.ensures.extends c.in_ok-leave_front.ensures.extends) in
     let new_is = c.in_ok-new.ensures in
     let rest_is = c.in_ok-rest.ensures in
     let count_is = c.in_ok-count.ensures in
-    put_all rules (g.met.C.Criterion.laws c.args.criterion.now) c.args.entries.now.items c.deref.result.now c.push.new.self.items c.args.items.now.items c.leave_front.new.items.items c.args.departure c.args.place c.in_ok-new.new c.args.points.now e c.index.result.now x
-    c.requires.entries c.requires.may c.deref.ensures.value c.index-points-0.is refl refl refl c.index.ensures c.follow-next.ensures (leave_behind rules c.args.points.now c.deref.result.now c.args.items.now.items c.push_others.new.items.items c.leave_front.new.items.items (drop 1 c.args.points.now) (subst (λ es. AreEntries rules es c.args.items.now.items) (sym c.deref.ensures.value) c.requires.entries) c.args.place c.in_ok-push_others.ensures.pushed c.in_ok-leave_front.ensures.left) (omega arith) (omega arith) c.in_ok-push.ensures.items (omega arith)
+    put_all rules (g.met.C.Criterion.laws c.args.criterion.now) c.args.entries.now.items c.deref.result.now
+    c.push.new.self.items c.args.items.now.items c.leave_front.new.items.items c.args.departure c.args.place
+    c.in_ok-new.new c.args.points.now e c.index.result.now x
+    c.requires.entries c.requires.may c.deref.ensures.value c.index-points-0.is refl refl refl c.index.ensures
+    c.follow-next.ensures (leave_behind rules c.args.points.now c.deref.result.now c.args.items.now.items
+    c.push_others.new.items.items c.leave_front.new.items.items (drop 1 c.args.points.now)
+    (subst (λ es. AreEntries rules es c.args.items.now.items) (sym c.deref.ensures.value) c.requires.entries)
+    c.args.place c.in_ok-push_others.ensures.pushed c.in_ok-leave_front.ensures.left) (omega arith) (omega arith)
+    c.in_ok-push.ensures.items (omega arith)
 
 pub returns-clause-entries : goal.returns-clause-entries
 returns-clause-entries g c = (made g c).are

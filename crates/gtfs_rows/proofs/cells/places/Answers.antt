@@ -8,5 +8,6 @@ use Rattle.gtfs_rows.proofs.cells.places.Goals as goal
 pub returns : goal.returns
 returns c =
     c.loop-name.invariant
-    ∙ ap (map (λ (name : Bor (List ℕ)). column name.now (fields_of c.args.header.now))) (take_all c.loop-name.name-index c.args.names.now c.loop-name-test.false)
+    ∙ ap (map (λ (name : Bor (List ℕ)). column name.now (fields_of c.args.header.now)))
+    (take_all c.loop-name.name-index c.args.names.now c.loop-name-test.false)
     ∙ places_names c.args.names.now (fields_of c.args.header.now)

@@ -9,5 +9,8 @@ returns-in-Some-clause-more c = stands_among (map string_bytes c.args.ids.now.ke
 
 pub returns-in-Some-find_id-clause-more : goal.returns-in-Some-find_id-clause-more
 returns-in-Some-find_id-clause-more c =
-    let there : StandsAt (map string_bytes c.args.ids.now.keys) c.in-Some-find_id.place c.args.id.now = rw c.from_utf8_unchecked-text.ensures at c.in-Some-find_id.ensures in
-    IfOk-weaker c.as_place.result _ _ (λ n is. stands_among (map string_bytes c.args.ids.now.keys) c.in-Some-find_id.place c.args.id.now there) c.as_place.ensures.ok
+    let there : StandsAt (map string_bytes c.args.ids.now.keys) c.in-Some-find_id.place c.args.id.now =
+    rw c.from_utf8_unchecked-text.ensures at c.in-Some-find_id.ensures in
+    IfOk-weaker c.as_place.result _ _ (λ n is.
+    stands_among (map string_bytes c.args.ids.now.keys) c.in-Some-find_id.place c.args.id.now there)
+    c.as_place.ensures.ok

@@ -11,7 +11,8 @@ returns-in-Nothing-clause-ok c = rw c.in-Nothing.is (λ before held. (refl, held
 pub returns-in_ok-key-in-Column-clause-ok : goal.returns-in_ok-key-in-Column-clause-ok
 returns-in_ok-key-in-Column-clause-ok c = rw c.in-Column.is (λ before held.
     on_ok_both c.add_key.result
-    (key_new (key_by (keys.Column c.in-Column.column) c.args.cells.now.places.now) (string_bytes c.in_ok-key-in-Column.key) before (fields_of c.args.cells.now.fields.now)
+    (key_new (key_by (keys.Column c.in-Column.column) c.args.cells.now.places.now)
+    (string_bytes c.in_ok-key-in-Column.key) before (fields_of c.args.cells.now.fields.now)
     c.args.kept.now.keys c.add_key.new.keys.keys (ap Some (sym c.in_ok-key-in-Column.ensures.ok)) held)
     c.add_key.ensures.new c.add_key.ensures.last)
 

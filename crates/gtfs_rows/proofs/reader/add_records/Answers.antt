@@ -15,20 +15,32 @@ returns-in-Ok-false-clause-ok g c =
 
 pub returns-in-Err-add_record-clause-err : goal.returns-in-Err-add_record-clause-err
 returns-in-Err-add_record-clause-err g c = λ other.
-    let next : left_of c.loop-taken.reader ≡ fields_of c.take_record.new.fields ∷ left_of c.take_record.new.reader = rw c.in-Ok-true.field-0-test at c.in-Ok-true.ensures.reads in
-    let bad = c.in-Err-add_record.ensures.err (take c.loop-taken.taken (left_of c.args.reader.now)) c.loop-taken.invariant.held (rw c.fault.ensures.kind at other) in
-    (c.loop-taken.taken, c.fault.ensures.row, rw c.fault.ensures.kind (first_fault (length_first c.args.width (judge_of g.T.TableRows.TABLE c.args.places.now)) (left_of c.args.reader.now) (left_of c.take_record.new.reader) c.loop-taken.taken (fields_of c.take_record.new.fields) c.in-Err-add_record.kind (c.loop-taken.invariant.left ∙ next) bad c.loop-taken.invariant.good))
+    let next : left_of c.loop-taken.reader ≡ fields_of c.take_record.new.fields ∷ left_of c.take_record.new.reader =
+    rw c.in-Ok-true.field-0-test at c.in-Ok-true.ensures.reads in
+    let bad = c.in-Err-add_record.ensures.err (take c.loop-taken.taken (left_of c.args.reader.now))
+    c.loop-taken.invariant.held (rw c.fault.ensures.kind at other) in (
+      c.loop-taken.taken,
+      c.fault.ensures.row,
+      rw c.fault.ensures.kind (first_fault (length_first c.args.width
+          (judge_of g.T.TableRows.TABLE c.args.places.now)) (left_of c.args.reader.now) (left_of c.take_record.new.reader)
+          c.loop-taken.taken (fields_of c.take_record.new.fields) c.in-Err-add_record.kind (c.loop-taken.invariant.left
+          ∙ next) bad c.loop-taken.invariant.good),
+    )
 
 pub loop-taken-preserved : goal.loop-taken-preserved
 loop-taken-preserved g c =
-    let next : left_of c.loop-taken.reader ≡ fields_of c.take_record.new.fields ∷ left_of c.take_record.new.reader = rw c.in-Ok-true.field-0-test at c.in-Ok-true.ensures.reads in
+    let next : left_of c.loop-taken.reader ≡ fields_of c.take_record.new.fields ∷ left_of c.take_record.new.reader =
+    rw c.in-Ok-true.field-0-test at c.in-Ok-true.ensures.reads in
     let here = c.loop-taken.invariant.left ∙ next in
-    let (less, head, after, more) = opened [] c.loop-taken.taken (left_of c.args.reader.now) (left_of c.take_record.new.reader) (fields_of c.take_record.new.fields) here in
+    let (less, head, after, more) = opened [] c.loop-taken.taken (left_of c.args.reader.now)
+    (left_of c.take_record.new.reader) (fields_of c.take_record.new.fields) here in
     let good = c.in_default.ensures.ok (take c.loop-taken.taken (left_of c.args.reader.now)) c.loop-taken.invariant.held in
     record {
       sound = c.in-Ok-true.ensures.sound;
       text = text_rest (left_of c.loop-taken.reader) (left_of c.take_record.new.reader) (fields_of c.take_record.new.fields) next c.loop-taken.invariant.text;
       left = after;
-      good = faultless_more (length_first c.args.width (judge_of g.T.TableRows.TABLE c.args.places.now)) (left_of c.args.reader.now) (left_of c.take_record.new.reader) c.loop-taken.taken (fields_of c.take_record.new.fields) here good.0 c.loop-taken.invariant.good;
+      good = faultless_more (length_first c.args.width (judge_of g.T.TableRows.TABLE c.args.places.now))
+          (left_of c.args.reader.now) (left_of c.take_record.new.reader) c.loop-taken.taken
+          (fields_of c.take_record.new.fields) here good.0 c.loop-taken.invariant.good;
       held = rw more good.1;
     }

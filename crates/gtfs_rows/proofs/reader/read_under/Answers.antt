@@ -11,7 +11,12 @@ returns-clause-err g c =
     IfErr-weaker c.add_records.result _ _ (λ fault found other. fault_under (shape_of g.T.TableRows.TABLE)
     (fields_of c.args.header.now) (left_of c.args.reader.now) c.deref-2.result.now c.len.result
     (c.deref-2.ensures.value ∙ (rw (c.columns.ensures, c.TABLE.ensures) at c.in-Ok.ensures)) c.len.ensures
-    (rw (c.deref.ensures.value, sym c.deref-2.ensures.value, c.required.ensures.number, c.TABLE-2.ensures) at (sym c.has_required.ensures ∙ c.if-not-has_required.false))
+    (rw (
+      c.deref.ensures.value,
+      sym c.deref-2.ensures.value,
+      c.required.ensures.number,
+      c.TABLE-2.ensures,
+    ) at (sym c.has_required.ensures ∙ c.if-not-has_required.false))
     fault.row fault.kind (found other)) c.add_records.ensures.err
 
 pub returns-clause-ok : goal.returns-clause-ok
@@ -19,4 +24,9 @@ returns-clause-ok g c =
     IfOk-weaker c.add_records.result _ _ (λ t held. held_under (shape_of g.T.TableRows.TABLE)
     (fields_of c.args.header.now) (left_of c.args.reader.now) c.deref-2.result.now c.len.result g.T.TableRows.holds t
     (c.deref-2.ensures.value ∙ (rw (c.columns.ensures, c.TABLE.ensures) at c.in-Ok.ensures)) c.len.ensures
-    (rw (c.deref.ensures.value, sym c.deref-2.ensures.value, c.required.ensures.number, c.TABLE-2.ensures) at (sym c.has_required.ensures ∙ c.if-not-has_required.false)) held) c.add_records.ensures.ok
+    (rw (
+      c.deref.ensures.value,
+      sym c.deref-2.ensures.value,
+      c.required.ensures.number,
+      c.TABLE-2.ensures,
+    ) at (sym c.has_required.ensures ∙ c.if-not-has_required.false)) held) c.add_records.ensures.ok

@@ -40,7 +40,8 @@ returns-clause-ok c = λ before held.
       board = rw c.get-3.ensures at c.available.ensures;
       alight = rw c.get-4.ensures at c.available-2.ensures;
     } in (
-      no_stop_time_fault c.args.cells.now.places.now (fields_of c.args.cells.now.fields.now) c.in_ok-sequence.sequence c.in_ok-arrival.ensures.fine c.in_ok-departure.ensures.fine
+      no_stop_time_fault c.args.cells.now.places.now (fields_of c.args.cells.now.fields.now) c.in_ok-sequence.sequence
+          c.in_ok-arrival.ensures.fine c.in_ok-departure.ensures.fine
           c.in_ok-sequence.ensures.ok,
       record {
         trips = trips_more c.args.cells.now.places.now before (fields_of c.args.cells.now.fields.now) (map string_bytes c.args.times.now.trips.keys)
@@ -49,7 +50,9 @@ returns-clause-ok c = λ before held.
             (map string_bytes c.stop_place.new.stops.keys) held.stops (rw c.get-2.ensures at c.in_ok-stop.ensures.more);
         rows = rows_more (map string_bytes c.args.times.now.trips.keys) (map string_bytes c.args.times.now.stops.keys)
             (map string_bytes c.place_of.new.ids.keys) (map string_bytes c.stop_place.new.stops.keys)
-            (value c.args.cells.now.places.now 0 (fields_of c.args.cells.now.fields.now)) (value c.args.cells.now.places.now 3 (fields_of c.args.cells.now.fields.now)) c.args.cells.now.places.now before
+            (value c.args.cells.now.places.now 0 (fields_of c.args.cells.now.fields.now))
+            (value c.args.cells.now.places.now 3 (fields_of c.args.cells.now.fields.now))
+            c.args.cells.now.places.now before
             (fields_of c.args.cells.now.fields.now)
             c.args.times.now.rows.items c.add_row.new.rows.items row (rw c.get.ensures at c.in_ok-trip.ensures.more)
             (rw c.get-2.ensures at c.in_ok-stop.ensures.more) c.in_ok-add_row.ensures.ok held.rows spelled;

@@ -3,7 +3,9 @@ use Rattle.reasoning.proofs.DigitLemmas.{few_digits}
 use Rattle.gtfs_rows.proofs.values.decimal.Goals as goal
 
 pub overflow_mul-number : goal.overflow_mul-number
-overflow_mul-number c = let small : c.loop-byte.number < 10 ^ 8 = few_digits c.loop-byte.number c.loop-byte.byte-index (omega arith) c.loop-byte.invariant.small in omega arith
+overflow_mul-number c = let small : c.loop-byte.number < 10 ^ 8 =
+    few_digits c.loop-byte.number c.loop-byte.byte-index (omega arith)
+    c.loop-byte.invariant.small in omega arith
 
 pub overflow_add-number : goal.overflow_add-number
 overflow_add-number c =

@@ -9,5 +9,6 @@ use Rattle.gtfs_tables.proofs.joining.feed_stops.Given as goal
 abbrev pub invariant-loop-row : goal.invariant-loop-row
 invariant-loop-row l = record {
   place : l.place ≡ length l.yielded;
-  stops : (named : List ℕ → Option Named) → l.stations ≡ map (station_of named) l.fn.rows.items → l.stops.items ≡ map (feed_stop named) (filter is_stop l.yielded);
+  stops : (named : List ℕ → Option Named) → l.stations ≡ map (station_of named) l.fn.rows.items
+      → l.stops.items ≡ map (feed_stop named) (filter is_stop l.yielded);
 }

@@ -35,5 +35,10 @@ returns-in-Err-clause-err c = λ other.
     record {
       turns = wrong.turns;
       in_order = wrong.in_order;
-      first = option_or-some (naming_fault (stop_named c.args.tables.stops.items) (trip_named c.args.tables.trips.items) c.args.tables) (option_or (first_below (trip_fault c.args.strict wrong.turns (rows_by (stop_named c.args.tables.stops.items) (trip_named c.args.tables.trips.items) c.args.tables wrong.turns)) (length c.args.tables.trips.items)) (first_fault_of kinds.Transfers (transfer_fault (stop_named c.args.tables.stops.items)) c.args.tables.transfers.items)) c.in-Err.fault wrong.first;
+      first = option_or-some (naming_fault (stop_named c.args.tables.stops.items) (trip_named c.args.tables.trips.items)
+          c.args.tables) (option_or (first_below
+          (trip_fault c.args.strict wrong.turns (rows_by (stop_named c.args.tables.stops.items)
+          (trip_named c.args.tables.trips.items) c.args.tables wrong.turns)) (length c.args.tables.trips.items))
+          (first_fault_of kinds.Transfers (transfer_fault (stop_named c.args.tables.stops.items))
+          c.args.tables.transfers.items)) c.in-Err.fault wrong.first;
     }

@@ -17,10 +17,16 @@ returns-in_default-trips_by_id-clause-err c = λ other. absurd (other c.out_of_m
 
 pub returns-clause-ok : goal.returns-clause-ok
 returns-clause-ok c =
-    links_told (held_at c.in-Ok.names) (stop_named c.args.tables.now.stops.items) (held_at c.in-Ok-trips_by_id.places) (trip_named c.args.tables.now.trips.items) c.args.tables.now c.link_by.result
-    (λ id. c.in-Ok.ensures id ∙ ap (λ stops. stop_named stops id) c.deref.ensures.value) (λ id. c.in-Ok-trips_by_id.ensures id ∙ ap (λ trips. trip_named trips id) c.deref-2.ensures.value) c.link_by.ensures.ok
+    links_told (held_at c.in-Ok.names) (stop_named c.args.tables.now.stops.items) (held_at c.in-Ok-trips_by_id.places)
+    (trip_named c.args.tables.now.trips.items) c.args.tables.now c.link_by.result
+    (λ id. c.in-Ok.ensures id ∙ ap (λ stops. stop_named stops id) c.deref.ensures.value)
+    (λ id. c.in-Ok-trips_by_id.ensures id ∙ ap (λ trips. trip_named trips id) c.deref-2.ensures.value)
+    c.link_by.ensures.ok
 
 pub returns-clause-err : goal.returns-clause-err
 returns-clause-err c =
-    fault_told (held_at c.in-Ok.names) (stop_named c.args.tables.now.stops.items) (held_at c.in-Ok-trips_by_id.places) (trip_named c.args.tables.now.trips.items) c.args.tables.now c.link_by.result
-    (λ id. c.in-Ok.ensures id ∙ ap (λ stops. stop_named stops id) c.deref.ensures.value) (λ id. c.in-Ok-trips_by_id.ensures id ∙ ap (λ trips. trip_named trips id) c.deref-2.ensures.value) c.link_by.ensures.err
+    fault_told (held_at c.in-Ok.names) (stop_named c.args.tables.now.stops.items) (held_at c.in-Ok-trips_by_id.places)
+    (trip_named c.args.tables.now.trips.items) c.args.tables.now c.link_by.result
+    (λ id. c.in-Ok.ensures id ∙ ap (λ stops. stop_named stops id) c.deref.ensures.value)
+    (λ id. c.in-Ok-trips_by_id.ensures id ∙ ap (λ trips. trip_named trips id) c.deref-2.ensures.value)
+    c.link_by.ensures.err

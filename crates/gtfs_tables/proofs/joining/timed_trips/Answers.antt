@@ -22,7 +22,14 @@ loop-row-init c = record {
 pub loop-row-preserved : goal.loop-row-preserved
 loop-row-preserved c = record {
   place = grind (arith, common_steps);
-  left = let step = ap length c.in-Some.ensures.steps.0 in let more = length-append c.loop-row.yielded (c.in-Some.row ∷ []) in omega (arith, step, more, c.loop-row.invariant.left);
+  left = let step = ap length c.in-Some.ensures.steps.0 in let more =
+      length-append c.loop-row.yielded (c.in-Some.row
+      ∷ []) in omega (
+        arith,
+        step,
+        more,
+        c.loop-row.invariant.left,
+      );
   within = c.end_of_trip-end.ensures.within;
   first = c.end_of_trip-end.ensures.end;
   before = c.end_of_trip-end.ensures.before;
@@ -31,7 +38,9 @@ loop-row-preserved c = record {
       c.end_of_trip-end.result c.loop-row.invariant.first c.end_of_trip-end.ensures.end ∙ c.in-Ok-judge_trip.ensures.ok);
   timed = c.in-Ok-push.ensures.items ∙ feed_trips-more (turns_by c.args.order.now c.args.rows.now) c.args.rows.now
       (λ t. slice_index_or c.args.repeats.now t false) c.loop-row.place c.loop-row.yielded c.in-Some.row c.loop-row.timed.items
-      c.loop-row.first c.end_of_trip-end.result c.flex_at.result c.is_flex.result c.loop-row.invariant.place c.loop-row.invariant.timed c.loop-row.invariant.first c.end_of_trip-end.ensures.end c.flex_at.ensures c.is_flex.ensures;
+      c.loop-row.first c.end_of_trip-end.result c.flex_at.result c.is_flex.result c.loop-row.invariant.place
+      c.loop-row.invariant.timed c.loop-row.invariant.first c.end_of_trip-end.ensures.end c.flex_at.ensures
+      c.is_flex.ensures;
 }
 
 pub returns-in-Err-clause-err : goal.returns-in-Err-clause-err

@@ -13,7 +13,8 @@ loop-place-init c = first_below-start _
 pub loop-place-preserved : goal.loop-place-preserved
 loop-place-preserved c =
     let row = slice_index_or c.args.rows.now c.loop-place.place no_row in
-    copy_fine StopTimes (λ row. linked_fault c.args.trips.now c.args.stops.now (is_flex_id c.args.rows.now row.trip) row) c.args.rows.now c.loop-place.place no_row (omega arith)
+    copy_fine StopTimes (λ row. linked_fault c.args.trips.now c.args.stops.now (is_flex_id c.args.rows.now row.trip)
+    row) c.args.rows.now c.loop-place.place no_row (omega arith)
     (sym (fault_same c.args.trips.now c.args.stops.now c.args.rows.now c.args.flex.now row c.requires)
     ∙ ap (λ flex. linked_fault c.args.trips.now c.args.stops.now flex row) (sym c.flex_at.ensures) ∙ sym c.wrong_link.ensures ∙ c.in_default.is)
     c.loop-place.invariant
@@ -21,7 +22,9 @@ loop-place-preserved c =
 pub returns-in-Some-clause-err : goal.returns-in-Some-clause-err
 returns-in-Some-clause-err c =
     let row = slice_index_or c.args.rows.now c.loop-place.place no_row in
-    let wrong = copy_wrong StopTimes (λ row. linked_fault c.args.trips.now c.args.stops.now (is_flex_id c.args.rows.now row.trip) row) c.args.rows.now c.loop-place.place no_row c.in-Some.kind (omega arith)
+    let wrong = copy_wrong StopTimes (λ row.
+    linked_fault c.args.trips.now c.args.stops.now (is_flex_id c.args.rows.now row.trip) row) c.args.rows.now
+    c.loop-place.place no_row c.in-Some.kind (omega arith)
     (sym (fault_same c.args.trips.now c.args.stops.now c.args.rows.now c.args.flex.now row c.requires)
     ∙ ap (λ flex. linked_fault c.args.trips.now c.args.stops.now flex row) (sym c.flex_at.ensures) ∙ sym c.wrong_link.ensures ∙ c.in-Some.is)
     c.loop-place.invariant in

@@ -11,4 +11,5 @@ loop-turn-preserved c =
     let link = λ (row : StopTimeRow). linked_row c.args.names.now.trips.items c.args.names.now.stops.items (is_flex_id c.args.rows.now row.trip) row in
     c.in_ok-push.ensures.items ∙ mapped_more (λ turn. link (row_of c.args.rows.now turn.number)) c.args.turns.now c.loop-turn.turn-index no_turn
     c.loop-turn.ordered.items c.linked_marked.result (omega arith) c.loop-turn.invariant
-    (c.linked_marked.ensures ∙ row_same c.args.names.now.trips.items c.args.names.now.stops.items c.args.rows.now c.args.names.now.flex.items row c.requires ∙ ap link c.row_numbered-row.ensures)
+    (c.linked_marked.ensures ∙ row_same c.args.names.now.trips.items c.args.names.now.stops.items c.args.rows.now
+    c.args.names.now.flex.items row c.requires ∙ ap link c.row_numbered-row.ensures)

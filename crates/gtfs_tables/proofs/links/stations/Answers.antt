@@ -12,10 +12,14 @@ loop-place-init c = record { fine = first_below-start _; found = c.in-Ok.ensures
 
 pub loop-place-preserved : goal.loop-place-preserved
 loop-place-preserved c = record {
-  fine = row_fine Stops (parent_fault (held_at c.args.names.now)) c.args.stops.now c.loop-place.place c.index-stops-place.result (omega arith) c.index-stops-place.is c.in-Ok-station.ensures.fine c.loop-place.invariant.fine;
+  fine = row_fine Stops (parent_fault (held_at c.args.names.now)) c.args.stops.now c.loop-place.place
+      c.index-stops-place.result (omega arith) c.index-stops-place.is c.in-Ok-station.ensures.fine
+      c.loop-place.invariant.fine;
   found = grind (arith, common_steps, c.in-Ok-station.ensures.ok);
 }
 
 pub returns-in-Err-clause-err : goal.returns-in-Err-clause-err
 returns-in-Err-clause-err c = λ _.
-    rw c.fault_at.ensures (row_wrong Stops (parent_fault (held_at c.args.names.now)) c.args.stops.now c.loop-place.place c.index-stops-place.result c.in-Err.kind (omega arith) c.index-stops-place.is c.in-Err.ensures.err c.loop-place.invariant.fine)
+    rw c.fault_at.ensures (row_wrong Stops (parent_fault (held_at c.args.names.now)) c.args.stops.now c.loop-place.place
+    c.index-stops-place.result c.in-Err.kind (omega arith) c.index-stops-place.is c.in-Err.ensures.err
+    c.loop-place.invariant.fine)

@@ -15,7 +15,22 @@ loop-place-init c = record {
 
 pub loop-place-preserved : goal.loop-place-preserved
 loop-place-preserved c = record {
-  number = elim c.if-eq.branch [ then-eq w ↦ grind (arith, common_steps, count_by_more_yes is_stop c.args.stops.now c.loop-place.place c.index-stops-place.result) | else-eq w ↦ grind (arith, common_steps, count_by_more_no is_stop c.args.stops.now c.loop-place.place c.index-stops-place.result) ];
+  number = elim c.if-eq.branch [
+    | then-eq w ↦
+        grind (
+          arith,
+          common_steps,
+          count_by_more_yes is_stop c.args.stops.now c.loop-place.place
+              c.index-stops-place.result,
+        )
+    | else-eq w ↦
+        grind (
+          arith,
+          common_steps,
+          count_by_more_no is_stop c.args.stops.now c.loop-place.place
+              c.index-stops-place.result,
+        )
+  ];
   held = λ id.
       let before = c.loop-place.invariant.held id in
       let count = c.loop-place.invariant.number in

@@ -6,4 +6,6 @@ use Rattle.gtfs_tables.proofs.spread.add_times.Goals as goal
 
 pub unreachable-requires-in_default-departure : goal.unreachable-requires-in_default-departure
 unreachable-requires-in_default-departure c =
-    is_some-none (departure_at c.args.rows.now c.args.at) (departs c.args.rows.now c.args.at c.in-Some.arrives (sym c.arrival.ensures ∙ c.in-Some.is)) (sym c.departure.ensures ∙ c.in_default-departure.is)
+    is_some-none (departure_at c.args.rows.now c.args.at)
+    (departs c.args.rows.now c.args.at c.in-Some.arrives (sym c.arrival.ensures ∙ c.in-Some.is))
+    (sym c.departure.ensures ∙ c.in_default-departure.is)

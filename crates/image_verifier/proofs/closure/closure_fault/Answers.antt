@@ -17,6 +17,7 @@ returns-in-Some c =
 
 pub loop-into-preserved : goal.loop-into-preserved
 loop-into-preserved c = record {
-  none_before = first_below-more (into_fault c.args.words.now) c.loop-into.into c.loop-into.invariant.none_before (sym c.into_fault.ensures.fault ∙ c.in_default.is);
+  none_before = first_below-more (into_fault c.args.words.now) c.loop-into.into c.loop-into.invariant.none_before
+      (sym c.into_fault.ensures.fault ∙ c.in_default.is);
   empty = c.in_default.ensures.empty;
 }

@@ -9,4 +9,5 @@ loop-k-init c = rw c.foot_index_at-k.ensures (HasSecs-none c.args.words.now (foo
 pub loop-k-preserved : goal.loop-k-preserved
 loop-k-preserved c =
     rw (c.foot_from_at.ensures, c.foot_secs_at.ensures)
-    (HasSecs-more c.args.words.now c.args.into c.loop-k.k c.loop-k.secs (c.requires.ranges c.args.into c.requires.into) (omega arith) (omega arith) c.loop-k.invariant)
+    (HasSecs-more c.args.words.now c.args.into c.loop-k.k c.loop-k.secs (c.requires.ranges c.args.into c.requires.into)
+    (omega arith) (omega arith) c.loop-k.invariant)

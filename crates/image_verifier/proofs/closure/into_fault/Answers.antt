@@ -15,13 +15,15 @@ returns-in-Some-clause-fault c =
     let w = c.args.words.now in
     let into = c.args.into in
     sym (into_by_place w into (c.requires.ranges into c.requires.into)
-    ∙ first_between-found (way_at w into) (foot_index_of w into) (foot_index_of w (into + 1)) c.loop-second.second c.in-Some.fault (omega arith) (omega arith) c.loop-second.invariant (sym c.way_fault.ensures ∙ c.in-Some.is))
+    ∙ first_between-found (way_at w into) (foot_index_of w into) (foot_index_of w (into + 1)) c.loop-second.second
+    c.in-Some.fault (omega arith) (omega arith) c.loop-second.invariant (sym c.way_fault.ensures ∙ c.in-Some.is))
 
 pub loop-second-preserved : goal.loop-second-preserved
 loop-second-preserved c =
     let w = c.args.words.now in
     let into = c.args.into in
-    first_between-more (way_at w into) (foot_index_of w into) c.loop-second.second (omega arith) c.loop-second.invariant (sym c.way_fault.ensures ∙ c.in_default.is)
+    first_between-more (way_at w into) (foot_index_of w into) c.loop-second.second (omega arith) c.loop-second.invariant
+    (sym c.way_fault.ensures ∙ c.in_default.is)
 
 pub returns-clause-fault : goal.returns-clause-fault
 returns-clause-fault c =

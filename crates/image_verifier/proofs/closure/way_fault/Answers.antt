@@ -12,7 +12,8 @@ pub loop-first-init : goal.loop-first-init
 loop-first-init c =
     let w = c.args.words.now in
     let middle = foot_from_of w c.args.second in
-    let first : c.foot_index_at-first.result ≡ foot_index_of w middle = c.foot_index_at-first.ensures ∙ ap (λ (m : ℕ). foot_index_of w m) c.foot_from_at-middle.ensures in
+    let first : c.foot_index_at-first.result ≡ foot_index_of w middle =
+    c.foot_index_at-first.ensures ∙ ap (λ (m : ℕ). foot_index_of w m) c.foot_from_at-middle.ensures in
     first_between-empty (open_at w middle c.args.into) (foot_index_of w middle) c.foot_index_at-first.result (omega arith)
 
 -- the footpath at hand is one of those into where the second begins
@@ -20,8 +21,10 @@ leads_there : (c : goal.After-foot_secs_at) → IsInto c.args.words.now (foot_fr
 leads_there c =
     let w = c.args.words.now in
     let middle = foot_from_of w c.args.second in
-    let start : c.foot_index_at-first.result ≡ foot_index_of w middle = c.foot_index_at-first.ensures ∙ ap (λ (m : ℕ). foot_index_of w m) c.foot_from_at-middle.ensures in
-    let end : c.foot_index_at-first-end.result ≡ foot_index_of w (middle + 1) = c.foot_index_at-first-end.ensures ∙ ap (λ (m : ℕ). foot_index_of w (m + 1)) c.foot_from_at-middle.ensures in
+    let start : c.foot_index_at-first.result ≡ foot_index_of w middle =
+    c.foot_index_at-first.ensures ∙ ap (λ (m : ℕ). foot_index_of w m) c.foot_from_at-middle.ensures in
+    let end : c.foot_index_at-first-end.result ≡ foot_index_of w (middle + 1) =
+    c.foot_index_at-first-end.ensures ∙ ap (λ (m : ℕ). foot_index_of w (m + 1)) c.foot_from_at-middle.ensures in
     let in_range = (c.requires.ranges c.args.into c.requires.second.stop).from c.args.second c.requires.second.start c.requires.second.end in
     record { stop = in_range; start = omega arith; end = omega arith }
 
@@ -32,7 +35,8 @@ unfolding secs_between
 direct c =
     let w = c.args.words.now in
     let there = leads_there c in
-    c.requires.entered.entry (foot_from_of w c.loop-first.first) ((c.requires.ranges (foot_from_of w c.args.second) there.stop).from c.loop-first.first there.start there.end)
+    c.requires.entered.entry (foot_from_of w c.loop-first.first)
+    ((c.requires.ranges (foot_from_of w c.args.second) there.stop).from c.loop-first.first there.start there.end)
 
 pub returns-then-secs-from : goal.returns-then-secs-from
 returns-then-secs-from c =
@@ -44,7 +48,8 @@ returns-then-secs-from c =
     let there = leads_there at_hand in
     let long : foot_secs_of w first + foot_secs_of w c.args.second < get_or c.args.secs.now (foot_from_of w first) 0 =
     rw (c.foot_from_at-from.ensures, c.foot_secs_at.ensures, c.foot_secs_at-second_secs.ensures) at c.if-secs-from.true in
-    let longer = pair_open w first c.args.second into (get_or c.args.secs.now (foot_from_of w first) 0) c.requires.ranges there c.requires.second (direct at_hand) long in
+    let longer = pair_open w first c.args.second into (get_or c.args.secs.now (foot_from_of w first) 0)
+    c.requires.ranges there c.requires.second (direct at_hand) long in
     rw (c.foot_from_at-from.ensures, c.foot_from_at-middle.ensures)
     (sym (way_by_place w middle into (c.requires.ranges middle there.stop)
     ∙ first_between-found (open_at w middle into) (foot_index_of w middle) (foot_index_of w (middle + 1)) first (NotClosed (foot_from_of w first) middle into)
@@ -66,7 +71,9 @@ pub returns : goal.returns
 returns c =
     let w = c.args.words.now in
     let middle = foot_from_of w c.args.second in
-    let end : c.foot_index_at-first-end.result ≡ foot_index_of w (middle + 1) = c.foot_index_at-first-end.ensures ∙ ap (λ (m : ℕ). foot_index_of w (m + 1)) c.foot_from_at-middle.ensures in
+    let end : c.foot_index_at-first-end.result ≡ foot_index_of w (middle + 1) =
+    c.foot_index_at-first-end.ensures ∙ ap (λ (m : ℕ). foot_index_of w (m + 1)) c.foot_from_at-middle.ensures in
     let in_range = (c.requires.ranges c.args.into c.requires.second.stop).from c.args.second c.requires.second.start c.requires.second.end in
     sym (way_by_place w middle c.args.into (c.requires.ranges middle in_range)
-    ∙ none_to_end (open_at w middle c.args.into) (foot_index_of w middle) (foot_index_of w (middle + 1)) c.loop-first.first (omega arith) c.loop-first.invariant)
+    ∙ none_to_end (open_at w middle c.args.into) (foot_index_of w middle) (foot_index_of w (middle + 1))
+    c.loop-first.first (omega arith) c.loop-first.invariant)

@@ -7,6 +7,15 @@ use Rattle.image_verifier.proofs.laws.faultless_words.Goals as goal
 
 pub returns : goal.returns
 returns c = λ w fits. (
-  λ none. (timetable_of w, names_of w, IsImage-from w (record { whole = (IsHeader-from w (AreFaultless-from w none).header).whole; faultless = none; fits = word_at w fits })),
+  λ none. (
+    timetable_of w,
+    names_of w,
+    IsImage-from w (record {
+      whole =
+          (IsHeader-from w (AreFaultless-from w none).header).whole;
+      faultless = none;
+      fits = word_at w fits;
+    }),
+  ),
   λ is. image_is_faultless w is.0 is.1 (word_at w fits) is.2,
 )

@@ -17,5 +17,6 @@ loop-stop-preserved c =
 pub returns : goal.returns
 unfolding footpaths_of
 returns c =
-    all_made (λ (n : ℕ). flat_map (footpaths_into c.args.words.now) (range_with_len 0 n)) c.loop-stop.stop (header_of c.args.words.now).stops _ c.loop-stop.invariant
+    all_made (λ (n : ℕ). flat_map (footpaths_into c.args.words.now) (range_with_len 0 n)) c.loop-stop.stop
+    (header_of c.args.words.now).stops _ c.loop-stop.invariant
     (omega (arith, c.loop-stop-test.false, c.loop-stop.auto, ap (λ (h : Header). h.stops) c.of-header.ensures))

@@ -9,7 +9,9 @@ use Rattle.image_verifier.proofs.unpacked.unpack_stop_names.Goals as goal
 
 pub loop-stop-preserved : goal.loop-stop-preserved
 loop-stop-preserved c =
-    ap (λ ns. map string_bytes ns) c.in_ok-push.ensures.items ∙ next_shown string_bytes (name_of c.args.words.now) c.loop-stop.stop _ _ c.loop-stop.invariant c.in_ok-unpack_name.ensures
+    ap (λ ns. map string_bytes ns) c.in_ok-push.ensures.items
+    ∙ next_shown string_bytes (name_of c.args.words.now) c.loop-stop.stop _ _ c.loop-stop.invariant
+    c.in_ok-unpack_name.ensures
 
 pub returns : goal.returns
 returns c =

@@ -14,7 +14,9 @@ loop-trip-preserved c =
     let trip = c.loop-trip.trip in
     let name = c.in_ok-unpack_name.ensures ∙ ap (λ (h : Header). name_of w (h.stops + trip)) c.of-header.ensures in
     c.in_ok-push.ensures.items
-    ∙ next_one (trip_name_of w) trip _ _ c.loop-trip.invariant (label_is (string_bytes c.in_ok-unpack_name.field-0) c.day_at.result c.repeat_at.result (trip_name_of w trip) name c.day_at.ensures c.repeat_at.ensures)
+    ∙ next_one (trip_name_of w) trip _ _ c.loop-trip.invariant
+    (label_is (string_bytes c.in_ok-unpack_name.field-0) c.day_at.result c.repeat_at.result (trip_name_of w trip)
+    name c.day_at.ensures c.repeat_at.ensures)
 
 pub returns : goal.returns
 returns c =

@@ -23,7 +23,8 @@ loop-place-preserved c =
     let place = c.loop-place.place in
     let from_first : foot_index_of w stop ≤ place = omega (arith, c.loop-place.auto.place, c.foot_index_at-first.ensures) in
     c.in_ok-push.ensures.items
-    ∙ one_more (footpath_of w stop) (foot_index_of w stop) place c.args.footpaths.now.items _ _ from_first c.loop-place.invariant (rw (c.foot_from_at.ensures, c.foot_secs_at.ensures) refl)
+    ∙ one_more (footpath_of w stop) (foot_index_of w stop) place c.args.footpaths.now.items _ _ from_first
+    c.loop-place.invariant (rw (c.foot_from_at.ensures, c.foot_secs_at.ensures) refl)
 
 pub returns : goal.returns
 returns c =

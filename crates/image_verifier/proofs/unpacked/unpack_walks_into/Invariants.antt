@@ -6,4 +6,6 @@ use Rattle.image_verifier.proofs.unpacked.unpack_walks_into.Given as goal
 
 abbrev pub invariant-loop-place : goal.invariant-loop-place
 invariant-loop-place l =
-    l.footpaths.items ≡ l.initial.footpaths.items ++ map (footpath_of l.words l.stop) (range_with_len (foot_index_of l.words l.stop) (l.place - foot_index_of l.words l.stop))
+    l.footpaths.items ≡ l.initial.footpaths.items
+    ++ map (footpath_of l.words l.stop) (range_with_len (foot_index_of l.words l.stop)
+    (l.place - foot_index_of l.words l.stop))

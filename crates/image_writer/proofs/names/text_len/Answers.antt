@@ -11,4 +11,5 @@ overflow_add-bytes c =
 
 pub loop-i-preserved : goal.loop-i-preserved
 loop-i-preserved c =
-    ap (λ (n : ℕ). n + length c.name_at.result.now) c.loop-i.invariant ∙ sym (count_next (name_list c.args.names.now) c.loop-i.i c.name_at.result.now c.name_at.ensures.name)
+    ap (λ (n : ℕ). n + length c.name_at.result.now) c.loop-i.invariant
+    ∙ sym (count_next (name_list c.args.names.now) c.loop-i.i c.name_at.result.now c.name_at.ensures.name)

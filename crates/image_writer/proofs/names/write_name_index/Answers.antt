@@ -11,7 +11,13 @@ overflow_cast-bytes c = omega (arith, c.requires, c.loop-i.invariant.0, count_wi
 pub overflow_add-bytes : goal.overflow_add-bytes
 overflow_add-bytes c =
     let names = name_list c.args.names.now in
-    omega (arith, c.requires, c.loop-i.invariant.0, count_next names c.loop-i.i c.name_at.result.now c.name_at.ensures.name, count_within names (c.loop-i.i + 1))
+    omega (
+      arith,
+      c.requires,
+      c.loop-i.invariant.0,
+      count_next names c.loop-i.i c.name_at.result.now c.name_at.ensures.name,
+      count_within names (c.loop-i.i + 1),
+    )
 
 pub loop-i-preserved : goal.loop-i-preserved
 loop-i-preserved c =

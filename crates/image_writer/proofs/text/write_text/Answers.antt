@@ -15,10 +15,13 @@ loop-i-preserved c =
     let names = name_list c.args.names.now in
     let i = c.loop-i.i in
     let next = text_next names i c.name_at.result.now c.name_at.ensures.name in (
-      c.in_ok-waiting.ensures.written ∙ written_more _ _ (concat (take i names)) _ c.name_at.result.now c.loop-i.invariant.0 c.loop-i.invariant.1 ∙ ap (λ (bytes : List ℕ). c.args.words.now.items ++ full_words bytes) (sym next),
+      c.in_ok-waiting.ensures.written ∙ written_more _ _ (concat (take i names)) _ c.name_at.result.now
+          c.loop-i.invariant.0 c.loop-i.invariant.1
+          ∙ ap (λ (bytes : List ℕ). c.args.words.now.items ++ full_words bytes) (sym next),
       c.in_ok-waiting.ensures.rest ∙ rest_more (concat (take i names)) _ c.name_at.result.now c.loop-i.invariant.1 ∙ ap rest_of (sym next),
       λ k name lt at. elim (cases_eq k i) [
-        | inl same ↦ subst IsUtf8 (same_Some c.name_at.result.now name (sym c.name_at.ensures.name ∙ ap (λ (j : ℕ). slice_get names j) (sym same) ∙ at)) c.name_at.ensures.utf8
+        | inl same ↦ subst IsUtf8 (same_Some c.name_at.result.now name (sym c.name_at.ensures.name
+            ∙ ap (λ (j : ℕ). slice_get names j) (sym same) ∙ at)) c.name_at.ensures.utf8
         | inr other ↦ c.loop-i.invariant.2 k name (omega (arith, lt, other)) at
       ],
     )
@@ -34,4 +37,10 @@ returns-clause-written c =
 pub returns-clause-utf8 : goal.returns-clause-utf8
 returns-clause-utf8 c =
     let names = name_list c.args.names.now in
-    λ i name at. c.loop-i.invariant.2 i name (omega (arith, slice_get_within names i name at, c.loop-i-test.false, c.loop-i.auto.i-end, c.name_count-i-end.ensures)) at
+    λ i name at. c.loop-i.invariant.2 i name (omega (
+      arith,
+      slice_get_within names i name at,
+      c.loop-i-test.false,
+      c.loop-i.auto.i-end,
+      c.name_count-i-end.ensures,
+    )) at

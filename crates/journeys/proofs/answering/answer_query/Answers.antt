@@ -35,7 +35,8 @@ pub returns-clause-points : goal.returns-clause-points
 returns-clause-points g c =
     let rules = g.C.Criterion.rules c.args.criterion.now in
     let t = g.S.ConnSource.timetable c.args.source.now in
-    let answer = subst (λ (ps : List (Point g.row.C-V.Denot)). IsAnswer rules t c.args.query.now ps) (sym c.points-points.ensures) c.in_ok-found.ensures.answers.answer in
+    let answer = subst (λ (ps : List (Point g.row.C-V.Denot)). IsAnswer rules t c.args.query.now ps)
+    (sym c.points-points.ensures) c.in_ok-found.ensures.answers.answer in
     all_told rules t c.args.query.now c.points-points.result.now c.loop-i.i c.loop-i.departures.items c.loop-i.invariant (omega arith) answer
 
 pub returns-clause-journeys : goal.returns-clause-journeys

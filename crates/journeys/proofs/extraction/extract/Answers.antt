@@ -13,7 +13,8 @@ here : (g : given.Over) (c : goal.In_ok-journey g) → slice_get (listed c.args.
 here g c =
     let points = c.points-points.result.now in
     let same = c.points-points.ensures in
-    point_at (listed c.args.found.now) points c.args.i c.index-points-i.result same (subst (λ ps. c.args.i < length ps) (sym same) c.requires) c.index-points-i.is
+    point_at (listed c.args.found.now) points c.args.i c.index-points-i.result same
+    (subst (λ ps. c.args.i < length ps) (sym same) c.requires) c.index-points-i.is
 
 pub returns-in-Some-clause-attains : goal.returns-in-Some-clause-attains
 returns-in-Some-clause-attains g c criterion t q p answers at =

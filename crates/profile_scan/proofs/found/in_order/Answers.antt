@@ -21,16 +21,21 @@ put-requires g c =
       ordered = inv.ordered;
       admitted = λ p h. bag.admitted p (listed_in rules points c.loop-left.left listed inv p h);
       value = bag.admitted c.point-point.result (Contains-At points (c.loop-left.left - 1) c.point-point.result c.point-point.ensures);
-      comparable = comparable rules points (g.met.C.Criterion.laws c.args.criterion.now) bag c.loop-left.left listed c.point-point.result inv (omega arith) c.point-point.ensures;
+      comparable = comparable rules points (g.met.C.Criterion.laws c.args.criterion.now) bag c.loop-left.left listed
+          c.point-point.result inv (omega arith) c.point-point.ensures;
     }
 
 pub loop-left-preserved : goal.loop-left-preserved
 loop-left-preserved g c =
-    one_listed (g.C.Criterion.rules c.args.criterion.now) (points_of c.args.bag.now) c.loop-left.left c.loop-left.points.items c.put.new.points.items c.point-point.result c.loop-left.invariant (omega arith) c.point-point.ensures
+    one_listed (g.C.Criterion.rules c.args.criterion.now) (points_of c.args.bag.now) c.loop-left.left
+    c.loop-left.points.items c.put.new.points.items c.point-point.result c.loop-left.invariant (omega arith)
+    c.point-point.ensures
     c.in_ok-put.ensures.ordered c.in_ok-put.ensures.put
 
 pub returns-clause-only : goal.returns-clause-only
-returns-clause-only g c = listed_in (g.C.Criterion.rules c.args.criterion.now) (points_of c.args.bag.now) c.loop-left.left c.loop-left.points.items c.loop-left.invariant
+returns-clause-only g c = listed_in (g.C.Criterion.rules c.args.criterion.now) (points_of c.args.bag.now)
+    c.loop-left.left c.loop-left.points.items c.loop-left.invariant
 
 pub returns-clause-each : goal.returns-clause-each
-returns-clause-each g c = all_listed (g.C.Criterion.rules c.args.criterion.now) (points_of c.args.bag.now) c.loop-left.left c.loop-left.points.items (omega arith) c.loop-left.invariant
+returns-clause-each g c = all_listed (g.C.Criterion.rules c.args.criterion.now) (points_of c.args.bag.now)
+    c.loop-left.left c.loop-left.points.items (omega arith) c.loop-left.invariant

@@ -20,5 +20,12 @@ returns-then-not-comes_first-clause-before g c =
     let last = c.index-points-place.result in
     let inv = c.loop-place.invariant in
     let not = told_not_before rules c.args.point.now last (sym c.comes_first.ensures ∙ c.if-not-comes_first.true) in
-    let is : Before rules last c.args.point.now = elim (c.requires.comparable last (c.loop-place.place - 1, omega arith, sym c.index-points-place.is)) [ inl first ↦ first | inr second ↦ absurd (not second) ] in
-    before_here rules (g.met.C.Criterion.laws c.args.criterion.now) c.args.points.now c.args.point.now last c.loop-place.place c.requires.ordered c.requires.admitted c.requires.value (omega arith) inv.within c.index-points-place.is is
+    let is : Before rules last c.args.point.now =
+    elim (c.requires.comparable last (
+      c.loop-place.place - 1,
+      omega arith,
+      sym c.index-points-place.is,
+    )) [ inl first ↦ first | inr second ↦ absurd (not second) ] in
+    before_here rules (g.met.C.Criterion.laws c.args.criterion.now) c.args.points.now c.args.point.now last
+    c.loop-place.place c.requires.ordered c.requires.admitted c.requires.value (omega arith) inv.within
+    c.index-points-place.is is

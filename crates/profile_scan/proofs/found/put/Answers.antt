@@ -10,7 +10,8 @@ returns-clause-ordered g c =
     let points = c.deref.result.now in
     put_in_order rules points c.insert.new.self.items c.place_for-place.result c.args.point
     (c.in_ok-insert.ensures.items ∙ ap (λ xs. insert xs c.place_for-place.result c.args.point) (sym c.deref.ensures.value))
-    c.place_for-place.ensures.within (subst (AllPairs (Before rules)) (sym c.deref.ensures.value) c.requires.ordered) c.place_for-place.ensures.before c.place_for-place.ensures.after
+    c.place_for-place.ensures.within (subst (AllPairs (Before rules)) (sym c.deref.ensures.value) c.requires.ordered)
+    c.place_for-place.ensures.before c.place_for-place.ensures.after
 
 pub returns-clause-put : goal.returns-clause-put
 returns-clause-put g c = put_there c.args.points.now.items c.insert.new.self.items c.place_for-place.result c.args.point c.in_ok-insert.ensures.items

@@ -5,13 +5,19 @@ use Rattle.profile_scan.proofs.riding.ride_label.Goals as goal
 
 pub is_bettered-requires-clause-value : goal.is_bettered-requires-clause-value
 is_bettered-requires-clause-value g c =
-    subst (Admits (g.C.Criterion.rules c.args.criterion.now)) (sym c.ride-value.ensures) ((g.met.C.Criterion.laws c.args.criterion.now).ride_admits c.args.label.now.value c.requires.label)
+    subst (Admits (g.C.Criterion.rules c.args.criterion.now)) (sym c.ride-value.ensures)
+    ((g.met.C.Criterion.laws c.args.criterion.now).ride_admits c.args.label.now.value c.requires.label)
 
 pub returns-then-is_bettered : goal.returns-then-is_bettered
 returns-then-is_bettered g c =
-    rides_none (g.C.Criterion.rules c.args.criterion.now) c.args.bound.now c.args.label.now c.ride-value.result c.args.ridden.now.items c.ride-value.ensures (sym c.is_bettered.ensures ∙ c.if-is_bettered.true)
+    rides_none (g.C.Criterion.rules c.args.criterion.now) c.args.bound.now c.args.label.now c.ride-value.result
+    c.args.ridden.now.items c.ride-value.ensures (sym c.is_bettered.ensures ∙ c.if-is_bettered.true)
 
 pub returns : goal.returns
 returns g c =
-    rides_one (g.C.Criterion.rules c.args.criterion.now) c.args.bound.now c.args.label.now (record { value = c.ride-value.result; label = c.in_ok-number.number }) c.args.ridden.now.items c.push.new.self.items
+    rides_one (g.C.Criterion.rules c.args.criterion.now) c.args.bound.now c.args.label.now (record {
+      value =
+          c.ride-value.result;
+      label = c.in_ok-number.number;
+    }) c.args.ridden.now.items c.push.new.self.items
     (sym c.is_bettered.ensures ∙ c.if-is_bettered.false) c.ride-value.ensures c.in_ok-number.ensures c.in_ok-push.ensures.items

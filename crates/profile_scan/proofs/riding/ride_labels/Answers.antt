@@ -6,7 +6,8 @@ use Rattle.profile_scan.specs.Adding.{label_points}
 use Rattle.profile_scan.proofs.riding.ride_labels.Goals as goal
 
 pub loop-place-init : goal.loop-place-init
-loop-place-init g c = ridden_none (g.C.Criterion.rules c.args.criterion.now) c.args.bound.now (label_points c.args.labels.now) c.clear.new.self.items c.clear.ensures.items
+loop-place-init g c = ridden_none (g.C.Criterion.rules c.args.criterion.now) c.args.bound.now
+    (label_points c.args.labels.now) c.clear.new.self.items c.clear.ensures.items
 
 pub ride_label-requires-clause-label : goal.ride_label-requires-clause-label
 ride_label-requires-clause-label g c =
@@ -14,7 +15,8 @@ ride_label-requires-clause-label g c =
 
 pub loop-place-preserved : goal.loop-place-preserved
 loop-place-preserved g c =
-    ridden_more (g.C.Criterion.rules c.args.criterion.now) c.args.bound.now (label_points c.args.labels.now) c.loop-place.place c.label_at-label.result c.loop-place.ridden.items c.ride_label.new.ridden.items
+    ridden_more (g.C.Criterion.rules c.args.criterion.now) c.args.bound.now (label_points c.args.labels.now)
+    c.loop-place.place c.label_at-label.result c.loop-place.ridden.items c.ride_label.new.ridden.items
     c.label_at-label.ensures c.in_ok-ride_label.ensures c.loop-place.invariant
 
 pub returns : goal.returns
@@ -22,4 +24,5 @@ returns g c =
     let labels = c.args.labels.now in
     let long : length (label_points labels) ≡ length labels = length-map labels _ in
     let over = c.loop-place-test.false in
-    ridden_all (g.C.Criterion.rules c.args.criterion.now) c.args.bound.now (label_points c.args.labels.now) c.loop-place.place c.loop-place.ridden.items (omega arith) c.loop-place.invariant
+    ridden_all (g.C.Criterion.rules c.args.criterion.now) c.args.bound.now (label_points c.args.labels.now)
+    c.loop-place.place c.loop-place.ridden.items (omega arith) c.loop-place.invariant

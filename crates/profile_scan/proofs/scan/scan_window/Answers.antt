@@ -24,7 +24,13 @@ loop-place-init g c =
     let rules = g.C.Criterion.rules c.args.asked.now.criterion in
     let t = g.S.ConnSource.timetable c.args.source.now in
     let q = c.args.asked.now.query in
-    let can : CanScan (g.S.ConnSource.timetable c.args.source.now) c.args.asked.now.query = record { legal = g.met.S.ConnSource.legal c.args.source.now; limits = g.met.S.ConnSource.limits c.args.source.now; in_time = c.requires.can_ask.by } in
+    let can : CanScan (g.S.ConnSource.timetable c.args.source.now) c.args.asked.now.query =
+    record {
+      legal = g.met.S.ConnSource.legal c.args.source.now;
+      limits =
+          g.met.S.ConnSource.limits c.args.source.now;
+      in_time = c.requires.can_ask.by;
+    } in
     let state = c.in_ok-state.state in
     let spelled = told t.footpaths (story_of state) in
     let made = c.in_ok-state.ensures in
@@ -38,7 +44,12 @@ loop-place-init g c =
         state = subst (λ (n : ℕ). IsState g.C.Criterion.rules c.args.asked.now.criterion n t.trips state) c.stops.ensures counted;
         bound = no_bounds rules t (points_of state.origin.found) c.args.window.end c.new-2.result.values.items c.new-2.ensures;
       };
-      matched = matches_alike rules t q spelled c.args.window.end (record { bag = λ _. []; labels = λ _. []; found = [] }) (kept_by state) made.bags made.labels made.found
+      matched = matches_alike rules t q spelled c.args.window.end (record {
+        bag = λ _. [];
+        labels = λ _. [];
+        found =
+            [];
+      }) (kept_by state) made.bags made.labels made.found
           (nothing_follows rules t q can c.args.window.end c.requires.past spelled);
     }
 
@@ -54,7 +65,13 @@ loop-place-preserved g c =
     let source = c.connection-connection.new.self in
     let t = g.S.ConnSource.timetable c.args.source.now in
     let same = c.connection-connection.ensures.same ∙ inv.timetable in
-    let can : CanScan (g.S.ConnSource.timetable c.args.source.now) c.args.asked.now.query = record { legal = g.met.S.ConnSource.legal c.args.source.now; limits = g.met.S.ConnSource.limits c.args.source.now; in_time = c.requires.can_ask.by } in
+    let can : CanScan (g.S.ConnSource.timetable c.args.source.now) c.args.asked.now.query =
+    record {
+      legal = g.met.S.ConnSource.legal c.args.source.now;
+      limits =
+          g.met.S.ConnSource.limits c.args.source.now;
+      in_time = c.requires.can_ask.by;
+    } in
     let in_range = c.requires.past.in_range in
     let in_i : c.loop-place.place - 1 < length (g.S.ConnSource.timetable c.args.source.now).connections = omega arith in
     let tags = from_to (told t.footpaths (story_of c.loop-place.scan.state)) (told t.footpaths (story_of c.step.new.self.state)) in
@@ -63,12 +80,17 @@ loop-place-preserved g c =
       low = omega arith;
       high = omega arith;
       timetable = same;
-      log = c.connection-connection.ensures.log ∙ ap (λ ks. ks ++ i ∷ []) inv.log ∙ log_more (g.S.ConnSource.log c.args.source.now) i c.loop-place.place c.args.window.end (omega arith) high;
+      log = c.connection-connection.ensures.log ∙ ap (λ ks. ks ++ i ∷ []) inv.log
+          ∙ log_more (g.S.ConnSource.log c.args.source.now) i c.loop-place.place c.args.window.end (omega arith) high;
       scan = subst (λ (x : TimetableValue). IsScan g.C.Criterion.rules c.args.asked.now.criterion x i c.step.new.self) same c.in_ok-step.ensures.scan;
       matched =
-          one_index_down rules (g.met.C.Criterion.laws c.args.asked.now.criterion) t q can tags i in_i (kept_by c.loop-place.scan.state) (kept_by c.step.new.self.state)
+          one_index_down rules (g.met.C.Criterion.laws c.args.asked.now.criterion) t q can tags i in_i
+          (kept_by c.loop-place.scan.state) (kept_by c.step.new.self.state)
           (subst (λ (n : ℕ). MatchesFrom rules t q (told t.footpaths (story_of c.loop-place.scan.state)) n (kept_by c.loop-place.scan.state)) up inv.matched)
-          (subst (λ (x : TimetableValue). IsStep rules x q (from_to (told x.footpaths (story_of c.loop-place.scan.state)) (told x.footpaths (story_of c.step.new.self.state))) i (kept_by c.loop-place.scan.state) (kept_by c.step.new.self.state)) same
+          (subst (λ (x : TimetableValue). IsStep rules x q
+          (from_to (told x.footpaths (story_of c.loop-place.scan.state))
+          (told x.footpaths (story_of c.step.new.self.state))) i (kept_by c.loop-place.scan.state)
+          (kept_by c.step.new.self.state)) same
           c.in_ok-step.ensures.step);
     }
 
@@ -108,8 +130,15 @@ returns-in_err-step-clause-err g c =
     let high = inv.high in
     let test = c.loop-place-test.true in
     let i = c.loop-place.place - 1 in
-    let log : g.S.ConnSource.log c.connection-connection.new.self ≡ g.S.ConnSource.log c.args.source.now ++ falling i (c.args.window.end - i) = c.connection-connection.ensures.log ∙ ap (λ ks. ks ++ i ∷ []) inv.log ∙ log_more (g.S.ConnSource.log c.args.source.now) i c.loop-place.place c.args.window.end (omega arith) high in
-    on_err c.from_residual-in_err-step.result _ (c.args.window.end - i, log ∙ log_front (g.S.ConnSource.log c.args.source.now) c.args.window.start i c.args.window.end (omega arith) (omega arith))
+    let log : g.S.ConnSource.log c.connection-connection.new.self ≡ g.S.ConnSource.log c.args.source.now
+    ++ falling i (c.args.window.end - i) =
+    c.connection-connection.ensures.log ∙ ap (λ ks. ks ++ i ∷ []) inv.log
+    ∙ log_more (g.S.ConnSource.log c.args.source.now) i c.loop-place.place c.args.window.end (omega arith) high in
+    on_err c.from_residual-in_err-step.result _ (
+      c.args.window.end - i,
+      log ∙ log_front (g.S.ConnSource.log c.args.source.now) c.args.window.start i c.args.window.end (omega arith)
+          (omega arith),
+    )
 
 pub returns-clause-found : goal.returns-clause-found
 returns-clause-found g c =
@@ -124,5 +153,6 @@ returns-clause-found g c =
     let m = inv.matched in
     record {
       same = inv.scan.state.found;
-      matches = subst (λ (n : ℕ). Matches rules (told t.footpaths (story_of state)).journey (CountsFrom t q n) (IsPlain t q.target) (journey_value rules t) (points_of state.origin.found)) at m.at_source;
+      matches = subst (λ (n : ℕ). Matches rules (told t.footpaths (story_of state)).journey (CountsFrom t q n)
+          (IsPlain t q.target) (journey_value rules t) (points_of state.origin.found)) at m.at_source;
     }

@@ -11,8 +11,10 @@ tell_journey-requires g c = c.requires c.index-points-i.result (c.loop-i.i, omeg
 pub loop-i-preserved : goal.loop-i-preserved
 loop-i-preserved g c =
     let walks = (g.S.ConnSource.timetable c.args.source.now).footpaths in
-    let m = retold_more walks (story_of c.args.state.now) c.args.points.now c.loop-i.told.items c.push.new.self.items c.loop-i.nodes.items c.tell_journey.new.nodes.items c.loop-i.i c.index-points-i.result c.in_ok-tag.tag
-    c.in_ok-tag.ensures.nodes (omega arith) c.index-points-i.is c.in_ok-push.ensures.items c.in_ok-tag.ensures.says c.loop-i.invariant.same c.loop-i.invariant.says in
+    let m = retold_more walks (story_of c.args.state.now) c.args.points.now c.loop-i.told.items c.push.new.self.items
+    c.loop-i.nodes.items c.tell_journey.new.nodes.items c.loop-i.i c.index-points-i.result c.in_ok-tag.tag
+    c.in_ok-tag.ensures.nodes (omega arith) c.index-points-i.is c.in_ok-push.ensures.items c.in_ok-tag.ensures.says
+    c.loop-i.invariant.same c.loop-i.invariant.says in
     record { same = m.0; says = m.1 }
 
 pub returns-clause-same : goal.returns-clause-same

@@ -5,12 +5,15 @@ use Rattle.profile_scan.proofs.WayLemmas.{AreFound, none_found, one_found, all_f
 use Rattle.profile_scan.proofs.ways.ways_to.Goals as goal
 
 pub loop-place-init : goal.loop-place-init
-loop-place-init g c = none_found (g.S.ConnSource.timetable c.args.source.now) c.args.target c.walks_into-begin.result.0 c.stops.result (map way_in c.in_ok-seconds.seconds.items) c.stops.ensures (none_in_words c.stops.result c.in_ok-seconds.seconds.items c.in_ok-seconds.ensures)
+loop-place-init g c = none_found (g.S.ConnSource.timetable c.args.source.now) c.args.target c.walks_into-begin.result.0
+    c.stops.result (map way_in c.in_ok-seconds.seconds.items) c.stops.ensures
+    (none_in_words c.stops.result c.in_ok-seconds.seconds.items c.in_ok-seconds.ensures)
 
 pub index_mut-requires : goal.index_mut-requires
 index_mut-requires g c =
     let from_in = ((g.met.S.ConnSource.legal c.args.source.now).ends_in_range c.loop-place.place c.footpath_into-walk.result c.footpath_into-walk.ensures).0 in
-    subst (λ (n : ℕ). c.footpath_into-walk.result.from < n) (sym c.loop-place.invariant.long ∙ length-map c.loop-place.seconds.items way_in ∙ sym c.loop-place.seconds.ok.0) from_in
+    subst (λ (n : ℕ). c.footpath_into-walk.result.from < n) (sym c.loop-place.invariant.long
+    ∙ length-map c.loop-place.seconds.items way_in ∙ sym c.loop-place.seconds.ok.0) from_in
 
 pub loop-place-preserved : goal.loop-place-preserved
 loop-place-preserved g c =

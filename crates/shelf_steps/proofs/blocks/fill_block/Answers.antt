@@ -25,11 +25,13 @@ loop-i-preserved c =
       view = ap (λ m. m.0) t.turned ∙ (ap (λ m. m.0) e.is ∙ c.loop-i.invariant.view);
       left = omega arith;
       gone = (c.in-Some.edition ∷ gone.0, all);
-      block = ap (λ m. m.1) t.turned ∙ rotates nothings (laid c.args.editions.items (16 * c.args.shelf)) (16 * c.args.shelf) c.loop-i.i c.loop-i.loader.me.1 _ (omega arith) c.loop-i.invariant.block
+      block = ap (λ m. m.1) t.turned ∙ rotates nothings (laid c.args.editions.items (16 * c.args.shelf))
+          (16 * c.args.shelf) c.loop-i.i c.loop-i.loader.me.1 _ (omega arith) c.loop-i.invariant.block
           (ap (λ m. m.1) e.is ∙ ap (λ x. (16 * c.args.shelf + (15 - c.loop-i.i), x) ∷ rest c.loop-i.loader.me.1) (sym here));
     }
 
 pub returns-clause-block : goal.returns-clause-block
 returns-clause-block c =
-    let last = rotated nothings (laid c.args.editions.items (16 * c.args.shelf)) (16 * c.args.shelf) c.loop-i.i c.loop-i.loader.me.1 (omega arith) c.loop-i.invariant.block in
+    let last = rotated nothings (laid c.args.editions.items (16 * c.args.shelf)) (16 * c.args.shelf) c.loop-i.i
+    c.loop-i.loader.me.1 (omega arith) c.loop-i.invariant.block in
     λ i. (c.loop-i.invariant.view i, last i)

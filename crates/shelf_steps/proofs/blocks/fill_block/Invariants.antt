@@ -10,5 +10,6 @@ invariant-loop-i l = record {
   view : l.loader.me.0 ≡ l.fn.loader.me.0;
   left : length l.editions.items ≡ 16 - l.i;
   gone : (rest : List Edition) × (l.editions.items ++ rest ≡ l.fn.editions.items);
-  block : l.loader.me.1 ≡ down_from nothings (16 * l.shelf) (16 - l.i) [] ++ down_from (laid l.fn.editions.items (16 * l.shelf)) (16 * l.shelf + (16 - l.i)) l.i [];
+  block : l.loader.me.1 ≡ down_from nothings (16 * l.shelf) (16 - l.i) []
+      ++ down_from (laid l.fn.editions.items (16 * l.shelf)) (16 * l.shelf + (16 - l.i)) l.i [];
 }

@@ -16,4 +16,5 @@ returns-clause-publish c =
     let h = c.store.ensures.2 in let e = h.2 in let few = h.3 in let few' = c.requires.numbers.0 in
     let same : h.1 ≡ c.args.shelf = omega arith in let same' : h.0 ≡ c.args.version = omega arith in
     subst (λ (p : PlaceValue). PublishesOn c.args.version c.args.shelf p.me c.store.new.seat.me) c.loader.view_is
-    (subst (λ v. PublishesOn v c.args.shelf c.loader.inside.seat.me c.store.new.seat.me) same' (subst (λ k. PublishesOn h.0 k c.loader.inside.seat.me c.store.new.seat.me) same h.4))
+    (subst (λ v. PublishesOn v c.args.shelf c.loader.inside.seat.me c.store.new.seat.me) same'
+    (subst (λ k. PublishesOn h.0 k c.loader.inside.seat.me c.store.new.seat.me) same h.4))

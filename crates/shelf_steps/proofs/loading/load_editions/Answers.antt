@@ -6,21 +6,24 @@ use Rattle.shelf_steps.proofs.loading.load_editions.Goals as goal
 
 pub open-requires-clause-ready : goal.open-requires-clause-ready
 open-requires-clause-ready c =
-    may_open_then c.args.shelf c.args.version c.args.before c.args.loader.now.me.0 c.requires.editions.0 (laid c.args.editions.items (16 * c.args.shelf)) c.args.loader.now.me.1
+    may_open_then c.args.shelf c.args.version c.args.before c.args.loader.now.me.0 c.requires.editions.0
+    (laid c.args.editions.items (16 * c.args.shelf)) c.args.loader.now.me.1
     c.gather.new.loader.me c.fill_block.new.loader.me c.requires.ready c.requires.numbers.1
     (laid_have c.args.version c.requires.editions.0 c.args.editions.items c.args.shelf c.requires.editions.1)
     c.gather.ensures.gather c.fill_block.ensures.block
 
 pub publish-requires-clause-ready : goal.publish-requires-clause-ready
 publish-requires-clause-ready c =
-    may_publish_then c.args.shelf c.args.version c.args.before c.args.loader.now.me.0 c.requires.editions.0 (laid c.args.editions.items (16 * c.args.shelf)) c.args.loader.now.me.1
+    may_publish_then c.args.shelf c.args.version c.args.before c.args.loader.now.me.0 c.requires.editions.0
+    (laid c.args.editions.items (16 * c.args.shelf)) c.args.loader.now.me.1
     c.gather.new.loader.me c.fill_block.new.loader.me c.open.new.loader.me c.requires.ready
     (laid_have c.args.version c.requires.editions.0 c.args.editions.items c.args.shelf c.requires.editions.1)
     c.gather.ensures.gather c.fill_block.ensures.block c.open.ensures.open
 
 pub close-requires-clause-ready : goal.close-requires-clause-ready
 close-requires-clause-ready c =
-    may_close_then c.args.shelf c.args.version c.args.before c.args.loader.now.me.0 c.requires.editions.0 (laid c.args.editions.items (16 * c.args.shelf)) c.args.loader.now.me.1
+    may_close_then c.args.shelf c.args.version c.args.before c.args.loader.now.me.0 c.requires.editions.0
+    (laid c.args.editions.items (16 * c.args.shelf)) c.args.loader.now.me.1
     c.gather.new.loader.me c.fill_block.new.loader.me c.open.new.loader.me c.publish.new.loader.me c.requires.ready
     (laid_have c.args.version c.requires.editions.0 c.args.editions.items c.args.shelf c.requires.editions.1)
     c.gather.ensures.gather c.fill_block.ensures.block c.open.ensures.open c.publish.ensures.publish

@@ -18,4 +18,5 @@ pub returns-clause-late : goal.returns-clause-late
 returns-clause-late c =
     late_so c.args.worker.now.me.0 c.args.worker.now.me.1 c.args.number c.look-found.result c.take-word.result
     c.look-found.new.worker.me c.take-word.new.worker.me c.leave_late.new.worker.me
-    c.requires.worker.1.0 c.requires.worker.1.1 c.look-found.ensures.look c.take-word.ensures.take (sym c.says_open.ensures ∙ c.if-says_open.false) c.leave_late.ensures.leave
+    c.requires.worker.1.0 c.requires.worker.1.1 c.look-found.ensures.look c.take-word.ensures.take
+    (sym c.says_open.ensures ∙ c.if-says_open.false) c.leave_late.ensures.leave

@@ -7,5 +7,6 @@ pub fetch_add-requires : goal.fetch_add-requires
 fetch_add-requires c = (
   ap (λ (p : PlaceValue). p.table) c.worker.view_is ∙ (c.requires.table ∙ sym c.shelves.view_is),
   (let n = c.shelves.invariant.0 in let k = c.requires.looked.0 in omega arith),
-  takings _ c.worker.inside.seat.id c.args.shelf c.worker.inside.seat.me (subst (λ (p : PlaceValue). HasLooked c.args.shelf p.me.0) (sym c.worker.view_is) c.requires.looked.1),
+  takings _ c.worker.inside.seat.id c.args.shelf c.worker.inside.seat.me
+      (subst (λ (p : PlaceValue). HasLooked c.args.shelf p.me.0) (sym c.worker.view_is) c.requires.looked.1),
 )

@@ -7,4 +7,6 @@ pub loop-i-preserved : goal.loop-i-preserved
 loop-i-preserved c =
     let cs = c.args.image.now.timetable.connections in
     let lt : c.loop-i.i < length cs = omega (arith, c.loop-i-test.true, c.len-count.ensures) in
-    ◌∙◌ {A = List Connection} c.in_ok-push.ensures.items (next_taken cs c.loop-i.connections.items c.loop-i.i c.connection.result lt c.loop-i.invariant c.connection.ensures)
+    ◌∙◌ {A = List Connection} c.in_ok-push.ensures.items
+    (next_taken cs c.loop-i.connections.items c.loop-i.i c.connection.result lt c.loop-i.invariant
+    c.connection.ensures)

@@ -22,7 +22,8 @@ pub returns-clause-footpaths : goal.returns-clause-footpaths
 returns-clause-footpaths c =
     let t = c.args.image.now.timetable in
     let done : c.loop-stop.stop ≡ t.stops = omega (arith, c.loop-stop-test.false, c.loop-stop.auto, c.stops-stops.ensures.stops) in
-    all_held t c.loop-stop.footpaths.items c.stops-stops.ensures.kept.legal (subst (λ (s : ℕ). HoldsBelow t s c.loop-stop.footpaths.items) done c.loop-stop.invariant.holds)
+    all_held t c.loop-stop.footpaths.items c.stops-stops.ensures.kept.legal
+    (subst (λ (s : ℕ). HoldsBelow t s c.loop-stop.footpaths.items) done c.loop-stop.invariant.holds)
 
 pub returns-clause-starts : goal.returns-clause-starts
 returns-clause-starts c =

@@ -48,7 +48,8 @@ collect: freed [true, false, false, false, false, false, false, false], busy [0,
 collect: freed [false, false, false, false, false, false, false, false], busy [0, 0, 0, 0, 0, 0, 0, 0]
 pin 3: ok, 2 at 7";
 
-/// Two seats take in a notice each, one while it holds an older version, and each notice is overtaken by later publishes.
+/// Two seats take in a notice each, one while it holds an older version, and each notice is
+/// overtaken by later publishes.
 const NOTICES: &str = "\
 pin 1: ok, 1 at 1
 publish 2: 2
@@ -242,8 +243,8 @@ fn a_seat_of_other_shelves(rt: HostRuntime) -> Result<(), Fail> {
     play(&rt, &mut stage, OTHER_SHELVES)
 }
 
-/// A seat of the first shelves pins at the second, where its worker is free. So the second's own seat of that worker is lost, and the
-/// first shelves know nothing of what their seat holds.
+/// A seat of the first shelves pins at the second, where its worker is free. So the second's own
+/// seat of that worker is lost, and the first shelves know nothing of what their seat holds.
 #[test]
 fn a_pin_at_other_shelves(rt: HostRuntime) -> Result<(), Fail> {
     let mut first = LockedStage::new(rt.alloc())?;

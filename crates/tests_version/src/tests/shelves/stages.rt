@@ -19,8 +19,8 @@ pub(crate) enum Deed {
     Release,
 }
 
-/// Shelves with all their seats. The call of a seat tells the answer and what the seat holds then, as `ok, 2 at 7`: version 2,
-/// whose image begins at second 7.
+/// Shelves with all their seats. The call of a seat tells the answer and what the seat holds then,
+/// as `ok, 2 at 7`: version 2, whose image begins at second 7.
 pub(crate) trait Stage {
     fn alloc(&self) -> Global;
 

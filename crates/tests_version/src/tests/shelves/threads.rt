@@ -201,7 +201,8 @@ fn publishes_the_last<B: Named, R: Wait + Abort>(
     assert_eq!(rt; found.busy, [0; 8]);
 }
 
-/// A refused pin found four versions that were gone, each newer than those before: with fifty that go, that is at most twelve times.
+/// A refused pin found four versions that were gone, each newer than those before: with fifty that
+/// go, that is at most twelve times.
 fn try_two_workers<B: Named + Send + Sync, R: Threads + Wait + Sync + Abort>(
     rt: &R,
     stage: &mut NamedStage<B, ManySeats>,

@@ -29,9 +29,13 @@ returns c = λ before.
     (moved_claims c.new.result.items c.add_ways.new.self.made.items c.sort.new.self.items
     (Aloud stops rows (IsClaimInto stops rows c.args.to)) c.new.ensures.items c.in_ok-add_ways.ensures c.in_ok-sort.ensures.permutation x) in
     let ways : AreListed c.args.known.now.feed.now (λ a b. b ≡ c.args.to) c.in_ok-ways.ways.items =
-    same_listed c.args.known.now.feed.now heard refl c.requires.heard (λ a b. b ≡ c.args.to) c.in_ok-ways.ways.items (ways_listed heard c.args.to claims c.in_ok-ways.ways.items sorted all c.in_ok-ways.ensures.paths c.in_ok-ways.ensures.order) in
+    same_listed c.args.known.now.feed.now heard refl c.requires.heard (λ a b. b
+    ≡ c.args.to) c.in_ok-ways.ways.items (ways_listed heard c.args.to claims c.in_ok-ways.ways.items sorted all
+    c.in_ok-ways.ensures.paths c.in_ok-ways.ensures.order) in
     let next : AreListed c.args.known.now.feed.now (LeadBelow (c.args.to + 1))
     (c.args.paths.now.items ++ c.in_ok-ways.ways.items) = listed_next c.args.known.now.feed.now c.args.to c.args.paths.now.items c.in_ok-ways.ways.items before
     ways in
     let added : OnOk c.extend_from_slice.result (c.extend_from_slice.new.self.items ≡ c.args.paths.now.items ++ c.in_ok-ways.ways.items) = search rules in
-    on_ok_weaker c.extend_from_slice.result (λ is. subst (λ (xs : List Footpath). AreListed c.args.known.now.feed.now (LeadBelow (c.args.to + 1)) xs) (sym is) next) added
+    on_ok_weaker c.extend_from_slice.result (λ is.
+    subst (λ (xs : List Footpath). AreListed c.args.known.now.feed.now (LeadBelow (c.args.to + 1)) xs) (sym is)
+    next) added

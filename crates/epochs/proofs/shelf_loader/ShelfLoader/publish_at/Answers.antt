@@ -15,4 +15,5 @@ returns-in-Ok-clause-steps c =
 pub returns-in-Err-clause-loader : goal.returns-in-Err-clause-loader
 returns-in-Err-clause-loader c =
     let noted : c.tell-in-Err.new.self.answers ≡ c.args.self.now.answers ++ LoaderAnswer.PublishRefused c.in-Err.fault ∷ [] = search rules in
-    refuses c.args.self.now.view c.publish_quietly.new.self.view c.in-Err.fault c.args.self.now.answers c.tell-in-Err.new.self.answers c.in-Err.ensures.refused noted
+    refuses c.args.self.now.view c.publish_quietly.new.self.view c.in-Err.fault c.args.self.now.answers
+    c.tell-in-Err.new.self.answers c.in-Err.ensures.refused noted

@@ -9,7 +9,11 @@ loop-shelf-preserved c =
       table = new.0 ∙ i.table;
       current = new.1 ∙ i.current;
       answers = new.2 ∙ i.answers;
-      eight = (length-set c.loop-shelf.found.freed c.loop-shelf.shelf c.try_at-freed.result.0 ∙ e.0, length-set c.loop-shelf.found.busy c.loop-shelf.shelf c.try_at-freed.result.1 ∙ e.1);
-      tried = one_more_try c.loop-shelf.shelf c.args.self.now.view c.loop-shelf.self.view c.try_at-freed.new.self.view c.loop-shelf.found.freed c.loop-shelf.found.busy c.try_at-freed.result.0 c.try_at-freed.result.1
+      eight = (
+        length-set c.loop-shelf.found.freed c.loop-shelf.shelf c.try_at-freed.result.0 ∙ e.0,
+        length-set c.loop-shelf.found.busy c.loop-shelf.shelf c.try_at-freed.result.1 ∙ e.1,
+      );
+      tried = one_more_try c.loop-shelf.shelf c.args.self.now.view c.loop-shelf.self.view c.try_at-freed.new.self.view
+          c.loop-shelf.found.freed c.loop-shelf.found.busy c.try_at-freed.result.0 c.try_at-freed.result.1
           (let a = e.0 in omega arith) (let a = e.1 in omega arith) i.tried c.try_at-freed.ensures.tried;
     }

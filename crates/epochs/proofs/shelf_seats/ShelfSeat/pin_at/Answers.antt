@@ -20,7 +20,8 @@ returns-in-Ok-clause-pin c =
     (none, (e.version, c.of-image.result, older, pinned_is a c.note-in-Ok.new.self c.of-image.result (arc_value e.image) e.version _ noted shows seen.1))
 
 pub returns-in-Ok-clause-known : goal.returns-in-Ok-clause-known
-returns-in-Ok-clause-known c = pins_hold c.self.inside.place.me.0 c.pin.new.worker.me c.self.inside.number c.in-Ok.shelf c.in-Ok.edition c.in-Ok.ensures.pins.1 c.in-Ok.ensures.pins.2
+returns-in-Ok-clause-known c = pins_hold c.self.inside.place.me.0 c.pin.new.worker.me c.self.inside.number c.in-Ok.shelf
+    c.in-Ok.edition c.in-Ok.ensures.pins.1 c.in-Ok.ensures.pins.2
 
 pub returns-in-Ok-clause-grows : goal.returns-in-Ok-clause-grows
 returns-in-Ok-clause-grows c =

@@ -5,6 +5,8 @@ use Rattle.epochs.proofs.table.VersionTable.leave.Goals as goal
 pub invariant_of-self : goal.invariant_of-self
 invariant_of-self c =
     let drop = drop_same c.self.inside.core c.leave-dropped.new.self c.args.worker c.leave-dropped.result c.leave-dropped.ensures in (
-      history_goes_on c.self.inside.core c.leave-dropped.new.self c.self.inside.events c.note.new.self c.self.inside.images (Event.Drop c.args.worker) c.leave-dropped.result c.laws.ensures.grow c.laws.ensures.stays c.self.invariant.0 tt c.leave-dropped.ensures drop.editions c.note.ensures,
+      history_goes_on c.self.inside.core c.leave-dropped.new.self c.self.inside.events c.note.new.self
+          c.self.inside.images (Event.Drop c.args.worker) c.leave-dropped.result c.laws.ensures.grow
+          c.laws.ensures.stays c.self.invariant.0 tt c.leave-dropped.ensures drop.editions c.note.ensures,
       still_shelved c.self.inside.core c.leave-dropped.new.self c.self.inside.editions c.self.inside.images drop c.self.invariant.1,
     )

@@ -12,11 +12,16 @@ returns-clause-grows g c = extends_long (entries_of c.args.self.now) c.insert.ne
 pub returns-clause-same : goal.returns-clause-same
 returns-clause-same g c place lt =
     let lists = c.args.self.now in
-    ap (map point_of) (same_points (g.C.Criterion.rules (lists_criterion lists)) (entries_of lists) c.insert.new.entries.items (items_of lists) c.insert.new.items.items c.requires.sound c.insert.ensures.more_entries c.insert.ensures.more_items place lt)
+    ap (map point_of) (same_points (g.C.Criterion.rules (lists_criterion lists)) (entries_of lists)
+    c.insert.new.entries.items (items_of lists) c.insert.new.items.items c.requires.sound
+    c.insert.ensures.more_entries c.insert.ensures.more_items place lt)
 
 pub returns-clause-takes : goal.returns-clause-takes
 returns-clause-takes g c =
     let lists = c.args.self.now in
     IfOk-weaker c.insert.result _ _
-    (λ new takes. takes_points (g.C.Criterion.rules (lists_criterion lists)) c.insert.new.steps.items c.args.departure c.args.first c.args.walk c.args.secs c.args.ridden.now (points_from (entries_of lists) (items_of lists) c.args.head) (points_from c.insert.new.entries.items c.insert.new.items.items new) takes)
+    (λ new takes. takes_points (g.C.Criterion.rules (lists_criterion lists)) c.insert.new.steps.items c.args.departure
+    c.args.first c.args.walk c.args.secs c.args.ridden.now
+    (points_from (entries_of lists) (items_of lists) c.args.head)
+    (points_from c.insert.new.entries.items c.insert.new.items.items new) takes)
     c.insert.ensures.takes

@@ -16,4 +16,6 @@ returns c =
     let w = c.self.inside.words.items in
     let e = ap (λ (v : ImageValue). length v.timetable.connections) c.self.view_is in
     let at = connection_is w c.args.i (omega (arith, e, length-connections_of w, c.requires)) in
-    ap (λ (v : ImageValue). slice_get v.timetable.connections c.args.i) (sym c.self.view_is) ∙ at ∙ ap Some (ap (λ (x : List ℕ). connection_of x c.args.i) (sym c.deref.ensures.value) ∙ sym c.connection_at.ensures)
+    ap (λ (v : ImageValue). slice_get v.timetable.connections c.args.i) (sym c.self.view_is) ∙ at
+    ∙ ap Some (ap (λ (x : List ℕ). connection_of x c.args.i) (sym c.deref.ensures.value)
+    ∙ sym c.connection_at.ensures)

@@ -8,4 +8,5 @@ use Rattle.image_verifier.proofs.verified.Verified.footpath_count.Goals as goal
 pub returns : goal.returns
 returns c =
     let w = c.self.inside.words.items in
-    ap (λ (h : Header). h.footpaths) c.of.ensures ∙ ap (λ (x : List ℕ). slice_index x 5) c.deref.ensures.value ∙ sym (walks_count w c.self.invariant) ∙ ap (λ (v : ImageValue). length v.timetable.footpaths) c.self.view_is
+    ap (λ (h : Header). h.footpaths) c.of.ensures ∙ ap (λ (x : List ℕ). slice_index x 5) c.deref.ensures.value
+    ∙ sym (walks_count w c.self.invariant) ∙ ap (λ (v : ImageValue). length v.timetable.footpaths) c.self.view_is

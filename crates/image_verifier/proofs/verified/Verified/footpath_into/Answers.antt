@@ -7,7 +7,8 @@ use Rattle.image_verifier.proofs.ShownLemmas.{is_among}
 use Rattle.image_verifier.proofs.verified.Verified.footpath_into.Goals as goal
 
 -- the place is among those into the stop
-among : (c : goal.After-deref) → (foot_index_of c.self.inside.words.items c.args.stop ≤ c.args.place) × (c.args.place < foot_index_of c.self.inside.words.items (c.args.stop + 1))
+among : (c : goal.After-deref) → (foot_index_of c.self.inside.words.items c.args.stop ≤ c.args.place)
+    × (c.args.place < foot_index_of c.self.inside.words.items (c.args.stop + 1))
 among c =
     let back = sym c.self.view_is in
     is_among c.self.inside.words.items c.args.stop c.args.place c.self.invariant

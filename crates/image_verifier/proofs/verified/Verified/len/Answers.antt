@@ -8,4 +8,5 @@ use Rattle.image_verifier.proofs.verified.Verified.len.Goals as goal
 pub returns : goal.returns
 returns c =
     let w = c.self.inside.words.items in
-    ap (λ (h : Header). h.connections) c.of.ensures ∙ ap (λ (x : List ℕ). slice_index x 4) c.deref.ensures.value ∙ sym (length-connections_of w) ∙ ap (λ (v : ImageValue). length v.timetable.connections) c.self.view_is
+    ap (λ (h : Header). h.connections) c.of.ensures ∙ ap (λ (x : List ℕ). slice_index x 4) c.deref.ensures.value
+    ∙ sym (length-connections_of w) ∙ ap (λ (v : ImageValue). length v.timetable.connections) c.self.view_is

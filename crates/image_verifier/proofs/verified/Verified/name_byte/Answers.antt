@@ -14,8 +14,10 @@ pub name_byte_at-requires-clause-inside : goal.name_byte_at-requires-clause-insi
 name_byte_at-requires-clause-inside c =
     let w = c.self.inside.words.items in
     let within = within_names _ w w c.args.i c.self.view_is refl c.requires.name in
-    let inside = subst (λ (v : ImageValue). (name : List ℕ) → At (name_list v.names) c.args.i name → c.args.j < length name) (sym c.self.view_is) c.requires.byte in
+    let inside = subst (λ (v : ImageValue). (name : List ℕ) → At (name_list v.names) c.args.i name
+    → c.args.j < length name) (sym c.self.view_is) c.requires.byte in
     subst (λ (x : List ℕ). c.args.j < length (name_of x c.args.i)) (sym c.deref.ensures.value) (inside (name_of w c.args.i) (name_is w c.args.i within))
 
 pub returns : goal.returns
-returns c = λ name at. ap (λ (x : List ℕ). slice_get x c.args.j) (sym (name_told _ _ _ c.args.i name c.self.view_is c.deref.ensures.value at)) ∙ c.name_byte_at.ensures
+returns c = λ name at. ap (λ (x : List ℕ). slice_get x c.args.j)
+    (sym (name_told _ _ _ c.args.i name c.self.view_is c.deref.ensures.value at)) ∙ c.name_byte_at.ensures

@@ -13,15 +13,19 @@ pub returns-in_ok-push-clause-takes : goal.returns-in_ok-push-clause-takes
 returns-in_ok-push-clause-takes g c walks exits steps before all ext_before ext =
     let tag_is = c.len-tag.ensures ∙ c.args.self.now.set_outs.ok.0 in
     let way = set_out_way (from_to (told walks before) (told walks all)) c.args.departure c.args.value c.args.set_out in
-    inserted_under g.C.Criterion.rules c.args.self.now.found.criterion c.args.criterion.now (g.met.C.Criterion.laws c.args.criterion.now) (points_of c.args.self.now.found) (points_of c.insert.new.self)
+    inserted_under g.C.Criterion.rules c.args.self.now.found.criterion c.args.criterion.now
+    (g.met.C.Criterion.laws c.args.criterion.now) (points_of c.args.self.now.found) (points_of c.insert.new.self)
     (record { departure = c.args.departure; value = c.args.value; tag = c.len-tag.result }) (way.fits_tag tt) c.in_ok-stands.stands
     c.requires.same c.args.self.now.found.kept c.requires.admitted c.in_ok-stands.ensures.stands c.in_ok-stands.ensures.inserted
-    (λ _. subst (way.fits_tag tt) (sym tag_is) (set_out_next walks exits steps c.args.self.now.set_outs.items c.push.new.self.items before all c.args.set_out c.in_ok-push.ensures.items ext_before ext))
+    (λ _. subst (way.fits_tag tt) (sym tag_is)
+    (set_out_next walks exits steps c.args.self.now.set_outs.items c.push.new.self.items before all c.args.set_out
+    c.in_ok-push.ensures.items ext_before ext))
 
 pub returns-else-stands-clause-takes : goal.returns-else-stands-clause-takes
 returns-else-stands-clause-takes g c walks exits steps before all ext_before ext =
     let way = set_out_way (from_to (told walks before) (told walks all)) c.args.departure c.args.value c.args.set_out in
-    inserted_under g.C.Criterion.rules c.args.self.now.found.criterion c.args.criterion.now (g.met.C.Criterion.laws c.args.criterion.now) (points_of c.args.self.now.found) (points_of c.insert.new.self)
+    inserted_under g.C.Criterion.rules c.args.self.now.found.criterion c.args.criterion.now
+    (g.met.C.Criterion.laws c.args.criterion.now) (points_of c.args.self.now.found) (points_of c.insert.new.self)
     (record { departure = c.args.departure; value = c.args.value; tag = c.len-tag.result }) (way.fits_tag tt) c.in_ok-stands.stands
     c.requires.same c.args.self.now.found.kept c.requires.admitted c.in_ok-stands.ensures.stands c.in_ok-stands.ensures.inserted
     (λ is. absurd (true≢false (sym is ∙ c.if-stands.false)))

@@ -19,7 +19,11 @@ loop-place-init g c =
     let walks = (g.S.ConnSource.timetable c.args.source.now).footpaths in
     record {
       origin = c.in_ok-set_out_by.ensures.origin;
-      takes = λ exits steps before all ext_before ext. starts_first rules walks (settings_out_by rules (from_to (told walks before) (told walks all)) c.args.hop.now.place c.args.hop.now.connection c.args.asked.now.query (label_points c.args.labels.now)) c.walks_into-begin.result.0 (points_of c.args.self.now.found) (points_of c.set_out_by.new.self.found) (c.in_ok-set_out_by.ensures.takes walks exits steps before all ext_before ext);
+      takes = λ exits steps before all ext_before ext.
+          starts_first rules walks (settings_out_by rules (from_to (told walks before) (told walks all))
+          c.args.hop.now.place c.args.hop.now.connection c.args.asked.now.query (label_points c.args.labels.now))
+          c.walks_into-begin.result.0 (points_of c.args.self.now.found) (points_of c.set_out_by.new.self.found)
+          (c.in_ok-set_out_by.ensures.takes walks exits steps before all ext_before ext);
     }
 
 pub loop-place-preserved : goal.loop-place-preserved
@@ -31,15 +35,25 @@ loop-place-preserved g c =
     let mid_outs = c.loop-place.self.set_outs.items in
     let new_outs = c.set_out_by-in-loop-place.new.self.set_outs.items in
     record {
-      origin = origin_on c.args.asked.now.criterion c.args.self.now c.loop-place.self c.set_out_by-in-loop-place.new.self inv.origin c.in_ok-set_out_by-2.ensures.origin;
+      origin = origin_on c.args.asked.now.criterion c.args.self.now c.loop-place.self
+          c.set_out_by-in-loop-place.new.self inv.origin c.in_ok-set_out_by-2.ensures.origin;
       takes = λ exits steps before all ext_before ext.
           let s0 = story exits steps old_outs in
           let s1 = story exits steps mid_outs in
           let s2 = story exits steps new_outs in
-          starts_next (g.C.Criterion.rules c.args.asked.now.criterion) (g.met.C.Criterion.laws c.args.asked.now.criterion) t (g.met.S.ConnSource.limits c.args.source.now) (label_points c.args.labels.now) c.requires.labels (from_to (told t.footpaths before) (told t.footpaths all)) c.args.hop.now.place c.args.hop.now.connection c.args.asked.now.query c.walks_into-begin.result.0 c.loop-place.place walk (points_of c.args.self.now.found) (points_of c.loop-place.self.found) (points_of c.set_out_by-in-loop-place.new.self.found)
+          starts_next (g.C.Criterion.rules c.args.asked.now.criterion)
+          (g.met.C.Criterion.laws c.args.asked.now.criterion) t (g.met.S.ConnSource.limits c.args.source.now)
+          (label_points c.args.labels.now) c.requires.labels
+          (from_to (told t.footpaths before) (told t.footpaths all)) c.args.hop.now.place c.args.hop.now.connection
+          c.args.asked.now.query c.walks_into-begin.result.0 c.loop-place.place walk
+          (points_of c.args.self.now.found) (points_of c.loop-place.self.found)
+          (points_of c.set_out_by-in-loop-place.new.self.found)
           c.loop-place.auto.place c.footpath_into-walk.ensures
-          (inv.takes exits steps before all ext_before (grows_on s1 s2 all (set_outs_grow exits steps mid_outs new_outs c.in_ok-set_out_by-2.ensures.origin.set_outs) ext))
-          (c.in_ok-set_out_by-2.ensures.takes t.footpaths exits steps before all (grows_on before s0 s1 ext_before (set_outs_grow exits steps old_outs mid_outs inv.origin.set_outs)) ext);
+          (inv.takes exits steps before all ext_before
+          (grows_on s1 s2 all (set_outs_grow exits steps mid_outs new_outs
+          c.in_ok-set_out_by-2.ensures.origin.set_outs) ext))
+          (c.in_ok-set_out_by-2.ensures.takes t.footpaths exits steps before all
+          (grows_on before s0 s1 ext_before (set_outs_grow exits steps old_outs mid_outs inv.origin.set_outs)) ext);
     }
 
 pub returns-clause-takes : goal.returns-clause-takes
@@ -52,9 +66,12 @@ returns-clause-takes g c exits steps before all ext_before ext =
     let over = c.loop-place-test.false in
     let within = c.loop-place.auto.place-end c.walks_into-begin.ensures.order in
     let at_end : c.loop-place.place ≡ c.walks_into-begin.result.1 = omega arith in
-    settings_out_taken rules t tags c.args.hop.now.place c.args.hop.now.connection c.requires.hop.stands.is c.if-not-hop.false begin c.walks_into-begin.result.1 c.walks_into-begin.ensures.exact labels
+    settings_out_taken rules t tags c.args.hop.now.place c.args.hop.now.connection c.requires.hop.stands.is
+    c.if-not-hop.false begin c.walks_into-begin.result.1 c.walks_into-begin.ensures.exact labels
     c.args.asked.now.query (points_of c.args.self.now.found) (points_of c.loop-place.self.found)
-    (subst (λ (n : ℕ). TakesIn rules (each_of (IsTried t.footpaths begin n) (settings_out_by rules tags c.args.hop.now.place c.args.hop.now.connection c.args.asked.now.query labels)) (points_of c.args.self.now.found) (points_of c.loop-place.self.found)) at_end
+    (subst (λ (n : ℕ). TakesIn rules (each_of (IsTried t.footpaths begin n)
+    (settings_out_by rules tags c.args.hop.now.place c.args.hop.now.connection c.args.asked.now.query labels))
+    (points_of c.args.self.now.found) (points_of c.loop-place.self.found)) at_end
     (c.loop-place.invariant.takes exits steps before all ext_before ext))
 
 -- no footpath leads there from the source
@@ -62,7 +79,9 @@ pub returns-then-not-hop-2-clause-takes : goal.returns-then-not-hop-2-clause-tak
 returns-then-not-hop-2-clause-takes g c exits steps before all ext_before ext =
     let t = g.S.ConnSource.timetable c.args.source.now in
     let hop = c.args.hop.now in
-    alone_taken (g.C.Criterion.rules c.args.asked.now.criterion) t (from_to (told t.footpaths before) (told t.footpaths all)) hop.place c.args.asked.now.query (label_points c.args.labels.now) (points_of c.args.self.now.found) (points_of c.set_out_by.new.self.found)
+    alone_taken (g.C.Criterion.rules c.args.asked.now.criterion) t
+    (from_to (told t.footpaths before) (told t.footpaths all)) hop.place c.args.asked.now.query
+    (label_points c.args.labels.now) (points_of c.args.self.now.found) (points_of c.set_out_by.new.self.found)
     hop.connection c.requires.hop.stands.is c.if-not-hop.false hop.led c.if-not-hop-2.true c.requires.hop.led
     (c.in_ok-set_out_by.ensures.takes t.footpaths exits steps before all ext_before ext)
 
@@ -70,7 +89,8 @@ returns-then-not-hop-2-clause-takes g c exits steps before all ext_before ext =
 begins : (g : given.Over) (c : goal.Start g) → c.args.hop.now.connection.from < (g.S.ConnSource.timetable c.args.source.now).stops
 begins g c =
     let at = c.requires.hop.stands in
-    begins_in (g.S.ConnSource.timetable c.args.source.now) (g.met.S.ConnSource.legal c.args.source.now) c.args.hop.now.place at.in_range c.args.hop.now.connection at.is
+    begins_in (g.S.ConnSource.timetable c.args.source.now) (g.met.S.ConnSource.legal c.args.source.now)
+    c.args.hop.now.place at.in_range c.args.hop.now.connection at.is
 
 pub walks_into-begin-requires : goal.walks_into-begin-requires
 walks_into-begin-requires g c = begins g (goal.at.walks_into-begin-requires g c).Start

@@ -13,5 +13,9 @@ invariant-loop-place g l =
     let walks = (g.S.ConnSource.timetable l.source).footpaths in
     record {
       origin : ChangesOrigin l.asked.criterion l.fn.self l.self;
-      takes : (exits : List Exit) (steps : List Step) → Takes rules walks (story exits steps l.fn.self.set_outs.items) (story exits steps l.self.set_outs.items) (λ tags. each_of (IsTried walks l.begin l.place) (settings_out_by rules tags l.hop.place l.hop.connection l.asked.query (label_points l.labels))) (points_of l.fn.self.found) (points_of l.self.found);
+      takes : (exits : List Exit) (steps : List Step)
+          → Takes rules walks (story exits steps l.fn.self.set_outs.items) (story exits steps l.self.set_outs.items)
+          (λ tags. each_of (IsTried walks l.begin l.place)
+          (settings_out_by rules tags l.hop.place l.hop.connection l.asked.query (label_points l.labels)))
+          (points_of l.fn.self.found) (points_of l.self.found);
     }

@@ -14,5 +14,10 @@ invariant-loop-place g l =
     let rules = g.C.Criterion.rules l.asked.criterion in
     record {
       origin : ChangesOrigin l.asked.criterion l.fn.self l.self;
-      takes : (walks : List Footpath) (exits : List Exit) (steps : List Step) → Takes rules walks (story exits steps l.fn.self.set_outs.items) (story exits steps l.self.set_outs.items) (λ tags. each_of (StandsBefore (label_points l.labels) l.place) (λ label. set_out_way tags l.departure.time (started rules l.departure.start (rules.ride label.value)) (record { start = l.departure.start; first = l.hop.place; label = label.tag }))) (points_of l.fn.self.found) (points_of l.self.found);
+      takes : (walks : List Footpath) (exits : List Exit) (steps : List Step)
+          → Takes rules walks (story exits steps l.fn.self.set_outs.items) (story exits steps l.self.set_outs.items)
+          (λ tags. each_of (StandsBefore (label_points l.labels) l.place)
+          (λ label. set_out_way tags l.departure.time (started rules l.departure.start (rules.ride label.value))
+          (record { start = l.departure.start; first = l.hop.place; label = label.tag }))) (points_of l.fn.self.found)
+          (points_of l.self.found);
     }

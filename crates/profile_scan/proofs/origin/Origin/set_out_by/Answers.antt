@@ -26,8 +26,11 @@ returns-in-Some-clause-takes g c =
     let tags = from_to (told walks before) (told walks all) in
     takes_if rules (MayStart c.args.asked.now.query c.args.hop.now.connection c.args.start)
     (settings_out_after rules tags c.args.hop.now.place (c.args.hop.now.connection.dep - start_secs c.args.start) c.args.start labels) old new is.0
-    (subst (λ (start : Option Footpath). TakesIn rules (settings_out_after rules tags c.args.hop.now.place (c.args.hop.now.connection.dep - start_secs c.args.start) start labels) old new) is.1
-    (subst (λ (n : ℕ). TakesIn rules (settings_out_after rules tags c.args.hop.now.place n c.in-Some.departure.start labels) old new) is.2 (takes walks exits steps before all ext_before ext))))
+    (subst (λ (start : Option Footpath). TakesIn rules
+    (settings_out_after rules tags c.args.hop.now.place (c.args.hop.now.connection.dep - start_secs c.args.start)
+    start labels) old new) is.1
+    (subst (λ (n : ℕ). TakesIn rules (settings_out_after rules tags c.args.hop.now.place n c.in-Some.departure.start
+    labels) old new) is.2 (takes walks exits steps before all ext_before ext))))
     c.set_out_after.ensures.takes
 
 pub returns-in-None-clause-origin : goal.returns-in-None-clause-origin

@@ -18,7 +18,9 @@ loop-i-preserved g c =
     let s = story_of c.args.self.now in
     let is = sym c.change_after.ensures ∙ c.in-Some.is in
     record {
-      route = subst (λ ls. IsRoute s c.args.first ls c.in-Some.change.step.label) (sym c.in_ok-push-in-Some.ensures.items) (route_push s c.args.first c.loop-i.route.items c.loop-i.label c.in-Some.change c.loop-i.invariant.route is);
+      route = subst (λ ls. IsRoute s c.args.first ls c.in-Some.change.step.label)
+          (sym c.in_ok-push-in-Some.ensures.items)
+          (route_push s c.args.first c.loop-i.route.items c.loop-i.label c.in-Some.change c.loop-i.invariant.route is);
       tells = λ walks told.
           let before = c.loop-i.invariant.tells walks told in
           let t = tells_change walks s (length s.exits - c.loop-i._i) c.loop-i.label c.in-Some.change.last c.in-Some.change.step before.0 is before.1 in

@@ -9,5 +9,6 @@ use Rattle.profile_scan.proofs.scan.State.note_route.Given as goal
 abbrev pub invariant-loop-i : goal.invariant-loop-i
 invariant-loop-i g l = record {
   route : IsRoute (story_of l.self) l.first l.route.items l.label;
-  tells : (walks : List Footpath) → IsLabelTold walks (story_of l.self) l.first → (x : Aboard) × (label_tells walks (story_of l.self) (length (story_of l.self).exits - l._i) l.label ≡ Some x);
+  tells : (walks : List Footpath) → IsLabelTold walks (story_of l.self) l.first
+      → (x : Aboard) × (label_tells walks (story_of l.self) (length (story_of l.self).exits - l._i) l.label ≡ Some x);
 }

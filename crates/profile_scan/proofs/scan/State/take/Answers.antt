@@ -22,13 +22,16 @@ use Rattle.profile_scan.proofs.scan.State.take.Goals as goal
 
 pub alight-requires-clause-hop : goal.alight-requires-clause-hop
 alight-requires-clause-hop g c =
-    hop_within (g.C.Criterion.rules c.args.asked.now.criterion) (g.S.ConnSource.timetable c.args.source.now) (g.met.S.ConnSource.limits c.args.source.now) c.args.asked.now.query c.args.hop.now c.requires.hop
+    hop_within (g.C.Criterion.rules c.args.asked.now.criterion) (g.S.ConnSource.timetable c.args.source.now)
+    (g.met.S.ConnSource.limits c.args.source.now) c.args.asked.now.query c.args.hop.now c.requires.hop
 
 pub alight-requires-clause-trip : goal.alight-requires-clause-trip
 alight-requires-clause-trip g c =
     let at = c.requires.hop.stands in
     record {
-      there = subst (λ (n : ℕ). c.args.hop.now.connection.trip < n) (sym c.requires.state.long) (trip_in (g.S.ConnSource.timetable c.args.source.now) (g.met.S.ConnSource.legal c.args.source.now) c.args.hop.now.place at.in_range c.args.hop.now.connection at.is);
+      there = subst (λ (n : ℕ). c.args.hop.now.connection.trip < n) (sym c.requires.state.long)
+          (trip_in (g.S.ConnSource.timetable c.args.source.now) (g.met.S.ConnSource.legal c.args.source.now)
+          c.args.hop.now.place at.in_range c.args.hop.now.connection at.is);
       labels = c.requires.state.labels;
     }
 
@@ -37,14 +40,19 @@ alight-requires-clause-stop g c =
     let at = c.requires.hop.stands in
     let stops = c.requires.state.at_stops in
     record {
-      there = subst (λ (n : ℕ). c.args.hop.now.connection.to < n) (sym stops.long) (ends_in (g.S.ConnSource.timetable c.args.source.now) (g.met.S.ConnSource.legal c.args.source.now) c.args.hop.now.place at.in_range c.args.hop.now.connection at.is);
+      there = subst (λ (n : ℕ). c.args.hop.now.connection.to < n) (sym stops.long)
+          (ends_in (g.S.ConnSource.timetable c.args.source.now) (g.met.S.ConnSource.legal c.args.source.now)
+          c.args.hop.now.place at.in_range c.args.hop.now.connection at.is);
       stops = subst (λ (n : ℕ). AreStops g.C.Criterion.rules c.args.asked.now.criterion n c.args.self.now.stops) (sym stops.long) stops;
     }
 
 pub of-labels-requires-clause-trip : goal.of-labels-requires-clause-trip
 of-labels-requires-clause-trip g c =
     let at = c.requires.hop.stands in
-    subst (λ (n : ℕ). c.args.hop.now.connection.trip < n) (sym (c.in_ok-alight.ensures.trip.labels.long ∙ c.requires.state.long)) (trip_in (g.S.ConnSource.timetable c.args.source.now) (g.met.S.ConnSource.legal c.args.source.now) c.args.hop.now.place at.in_range c.args.hop.now.connection at.is)
+    subst (λ (n : ℕ). c.args.hop.now.connection.trip < n)
+    (sym (c.in_ok-alight.ensures.trip.labels.long ∙ c.requires.state.long))
+    (trip_in (g.S.ConnSource.timetable c.args.source.now) (g.met.S.ConnSource.legal c.args.source.now)
+    c.args.hop.now.place at.in_range c.args.hop.now.connection at.is)
 
 pub of-labels-requires-clause-labels : goal.of-labels-requires-clause-labels
 of-labels-requires-clause-labels g c = (g.C.Criterion.rules c.args.asked.now.criterion, c.in_ok-alight.ensures.trip.labels.labels)
@@ -112,10 +120,15 @@ returns-clause-takes g c =
           (leavings_taken rules t legal q tags hop.place hop.connection at.is hop.way c.requires.hop.way bag old new
           (c.in_ok-alight.ensures.takes t.footpaths steps outs before all ext_before ext));
       boards = λ stop before all ext_before ext.
-          subst (λ (xs : List (Label g.row.C-V.Denot)). TakesIn rules (boardings rules t (from_to (told t.footpaths before) (told t.footpaths all)) hop.place stop (carried rules hop.bound.now (label_points xs))) (points_at stops stop) (points_at c.board.new.self stop)) c.of-labels.ensures
+          subst (λ (xs : List (Label g.row.C-V.Denot)). TakesIn rules
+          (boardings rules t (from_to (told t.footpaths before) (told t.footpaths all)) hop.place stop
+          (carried rules hop.bound.now (label_points xs))) (points_at stops stop) (points_at c.board.new.self stop))
+          c.of-labels.ensures
           (c.in_ok-board.ensures.takes stop mid now_outs before all (grows_on before between set_out ext_before out_grows) ext);
       sets_out = λ before all ext_before ext.
-          subst (λ (xs : List (Label g.row.C-V.Denot)). TakesIn rules (settings_out rules t q (from_to (told t.footpaths before) (told t.footpaths all)) hop.place (label_points xs)) (points_of origin.found) (points_of c.set_out.new.self.found)) c.of-labels.ensures
+          subst (λ (xs : List (Label g.row.C-V.Denot)). TakesIn rules
+          (settings_out rules t q (from_to (told t.footpaths before) (told t.footpaths all)) hop.place
+          (label_points xs)) (points_of origin.found) (points_of c.set_out.new.self.found)) c.of-labels.ensures
           (c.in_ok-set_out.ensures.takes mid steps before all ext_before (grows_on set_out after all in_grows ext));
     }
 
@@ -150,7 +163,8 @@ returns-then-labels-eq0-clause-takes g c =
           (leavings_taken rules t legal q tags hop.place hop.connection at.is hop.way c.requires.hop.way bag old new
           (c.in_ok-alight.ensures.takes t.footpaths steps outs before all ext_before ext));
       boards = λ stop before all ext_before ext.
-          takes_none rules (boardings rules t (from_to (told t.footpaths before) (told t.footpaths all)) hop.place stop (carried rules hop.bound.now new)) (points_at stops stop)
+          takes_none rules (boardings rules t (from_to (told t.footpaths before) (told t.footpaths all)) hop.place stop
+          (carried rules hop.bound.now new)) (points_at stops stop)
           (λ way may. none way.label (from_carried rules hop.bound.now new way.label may.is_label).0);
       sets_out = λ before all ext_before ext.
           takes_none rules (settings_out rules t q (from_to (told t.footpaths before) (told t.footpaths all)) hop.place new) (points_of origin.found)

@@ -15,4 +15,5 @@ returns-in-Some-clause-says g c =
     c.add.ensures.added
 
 pub returns-in-None-clause-says : goal.returns-in-None-clause-says
-returns-in-None-clause-says g c walks told none = absurd (told_ends walks (story_of c.args.self.now) c.args.label told none (sym c.end_after.ensures ∙ c.in-None.is))
+returns-in-None-clause-says g c walks told none =
+    absurd (told_ends walks (story_of c.args.self.now) c.args.label told none (sym c.end_after.ensures ∙ c.in-None.is))

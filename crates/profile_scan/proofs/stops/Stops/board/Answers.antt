@@ -20,14 +20,17 @@ use Rattle.profile_scan.proofs.stops.Stops.board.Goals as goal
 begins : (g : given.Over) (c : goal.Start g) → c.args.hop.now.connection.from < (g.S.ConnSource.timetable c.args.source.now).stops
 begins g c =
     let at = c.requires.hop.stands in
-    begins_in (g.S.ConnSource.timetable c.args.source.now) (g.met.S.ConnSource.legal c.args.source.now) c.args.hop.now.place at.in_range c.args.hop.now.connection at.is
+    begins_in (g.S.ConnSource.timetable c.args.source.now) (g.met.S.ConnSource.legal c.args.source.now)
+    c.args.hop.now.place at.in_range c.args.hop.now.connection at.is
 
 pub walks_into-begin-requires : goal.walks_into-begin-requires
 walks_into-begin-requires g c = begins g (goal.at.walks_into-begin-requires g c).Start
 
 pub board_walks-requires-clause-walks : goal.board_walks-requires-clause-walks
 board_walks-requires-clause-walks g c =
-    walks_into_it (g.S.ConnSource.timetable c.args.source.now) c.args.hop.now.connection.from c.walks_into-begin.result.0 c.walks_into-begin.result.1 (begins g (goal.at.board_walks-requires-clause-walks g c).Start)
+    walks_into_it (g.S.ConnSource.timetable c.args.source.now) c.args.hop.now.connection.from
+    c.walks_into-begin.result.0 c.walks_into-begin.result.1
+    (begins g (goal.at.board_walks-requires-clause-walks g c).Start)
     c.walks_into-begin.ensures.order c.walks_into-begin.ensures.within c.walks_into-begin.ensures.exact
 
 pub board_walks-requires-clause-ready : goal.board_walks-requires-clause-ready
@@ -38,7 +41,9 @@ board_walks-requires-clause-ready g c =
     let values = c.args.hop.now.bound.now in
     record {
       stops = record { under = c.requires.stops.under; sound = c.requires.stops.sound; long = c.requires.stops.long; within = c.requires.stops.within };
-      ridden = ridden_admitted rules (carried rules values labels) laws (λ p h. c.requires.labels p (from_carried rules values labels p h).0) c.ride_labels.new.ridden.items c.in_ok-ride_labels.ensures;
+      ridden = ridden_admitted rules (carried rules values labels) laws
+          (λ p h. c.requires.labels p (from_carried rules values labels p h).0) c.ride_labels.new.ridden.items
+          c.in_ok-ride_labels.ensures;
     }
 
 pub returns-clause-takes : goal.returns-clause-takes
@@ -47,9 +52,13 @@ returns-clause-takes g c stop exits set_outs before all ext_before ext =
     let t = g.S.ConnSource.timetable c.args.source.now in
     let all_labels = label_points c.args.labels.now in
     let values = c.args.hop.now.bound.now in
-    boardings_taken rules t (from_to (told t.footpaths before) (told t.footpaths all)) c.args.hop.now.place c.args.hop.now.connection c.requires.hop.stands.is c.if-not-hop.false c.walks_into-begin.result.0 c.walks_into-begin.result.1 c.walks_into-begin.ensures.exact (carried rules values all_labels)
+    boardings_taken rules t (from_to (told t.footpaths before) (told t.footpaths all)) c.args.hop.now.place
+    c.args.hop.now.connection c.requires.hop.stands.is c.if-not-hop.false c.walks_into-begin.result.0
+    c.walks_into-begin.result.1 c.walks_into-begin.ensures.exact (carried rules values all_labels)
     stop (points_at c.args.self.now stop) (points_at c.board_walks.new.self stop)
-    (c.in_ok-board_walks.ensures.takes (carried rules values all_labels) c.in_ok-ride_labels.ensures (λ p h. c.requires.labels p (from_carried rules values all_labels p h).0) stop exits set_outs before all ext_before ext)
+    (c.in_ok-board_walks.ensures.takes (carried rules values all_labels) c.in_ok-ride_labels.ensures
+    (λ p h. c.requires.labels p (from_carried rules values all_labels p h).0) stop exits set_outs before all
+    ext_before ext)
 
 -- all labels are bettered
 pub returns-then-len-eq0-clause-takes : goal.returns-then-len-eq0-clause-takes
@@ -57,14 +66,25 @@ returns-then-len-eq0-clause-takes g c stop exits set_outs before all ext_before 
     let rules = g.C.Criterion.rules c.args.asked.now.criterion in
     let t = g.S.ConnSource.timetable c.args.source.now in
     let labels = carried rules c.args.hop.now.bound.now (label_points c.args.labels.now) in
-    takes_none rules (boardings rules t (from_to (told t.footpaths before) (told t.footpaths all)) c.args.hop.now.place stop labels) (points_at c.args.self.now stop)
+    takes_none rules (boardings rules t (from_to (told t.footpaths before) (told t.footpaths all)) c.args.hop.now.place
+    stop labels) (points_at c.args.self.now stop)
     (λ way may. no_ridden rules labels c.ride_labels.new.ridden.items c.in_ok-ride_labels.ensures (omega arith) way.label may.is_label)
 
 pub returns-clause-stops : goal.returns-clause-stops
 returns-clause-stops g c = record { stops = c.in_ok-board_walks.ensures.stops.stops; steps = c.in_ok-board_walks.ensures.stops.steps }
 
 pub returns-then-len-eq0-clause-stops : goal.returns-then-len-eq0-clause-stops
-returns-then-len-eq0-clause-stops g c = record { stops = record { under = c.requires.stops.under; sound = c.requires.stops.sound; long = c.requires.stops.long; within = c.requires.stops.within }; steps = extends_none (steps_of c.args.self.now.lists) }
+returns-then-len-eq0-clause-stops g c = record {
+  stops =
+      record {
+        under = c.requires.stops.under;
+        sound = c.requires.stops.sound;
+        long = c.requires.stops.long;
+        within =
+            c.requires.stops.within;
+      };
+  steps = extends_none (steps_of c.args.self.now.lists);
+}
 
 pub returns-then-not-hop-clause-stops : goal.returns-then-not-hop-clause-stops
 returns-then-not-hop-clause-stops g c = record { stops = c.requires.stops; steps = extends_none (steps_of c.args.self.now.lists) }

@@ -13,13 +13,20 @@ returns-clause-takes g c labels are walks at stop exits set_outs before all ext_
     let heads = c.args.self.now.heads in
     let within : c.args.walk.from < length heads.items = subst (λ n. c.args.walk.from < n) heads.ok.0 c.requires.stop in
     let head_is : c.head-head.result ≡ slice_index heads.items c.args.walk.from = c.head-head.ensures in
-    let at_number : slice_get walks c.in_ok-number.number ≡ Some c.args.walk = subst (λ n. slice_get walks n ≡ Some c.args.walk) (sym c.in_ok-number.ensures) at in
+    let at_number : slice_get walks c.in_ok-number.number ≡ Some c.args.walk =
+    subst (λ n. slice_get walks n ≡ Some c.args.walk) (sym c.in_ok-number.ensures) at in
     let was = story exits (steps_of lists) set_outs in
     let now = story exits (steps_of c.insert.new.self) set_outs in
     let takes =
-    subst (λ (rs : List (Ridden g.row.C-V.Denot)). TakesRidden (g.C.Criterion.rules (lists_criterion lists)) (steps_of c.insert.new.self) (c.args.hop.now.connection.dep - walk.secs) c.args.hop.now.place c.in_ok-number.number walk.secs rs (list_points lists c.head-head.result) (list_points c.insert.new.self c.in_ok-new.new)) c.deref.ensures.value
+    subst (λ (rs : List (Ridden g.row.C-V.Denot)). TakesRidden (g.C.Criterion.rules (lists_criterion lists))
+    (steps_of c.insert.new.self) (c.args.hop.now.connection.dep - walk.secs) c.args.hop.now.place
+    c.in_ok-number.number walk.secs rs (list_points lists c.head-head.result)
+    (list_points c.insert.new.self c.in_ok-new.new)) c.deref.ensures.value
     c.in_ok-new.ensures.takes in
     boarded_at g.C.Criterion.rules (lists_criterion lists) c.args.asked.now.criterion c.requires.ready.stops.under labels walks c.args.self.now.ridden.items are
     (list_points lists) (list_points c.insert.new.self) heads.items (length (entries_of lists)) c.requires.ready.stops.within c.insert.ensures.same
-    (steps_of c.insert.new.self) walk c.in_ok-number.number c.args.hop.now.place c.args.hop.now.connection.dep c.head-head.result c.in_ok-new.new within c.if-walk-dep.false at_number head_is takes
-    stop before all (grows_on before was all ext_before (grows_on was now all (steps_grow exits (steps_of lists) (steps_of c.insert.new.self) set_outs c.insert.ensures.more_steps) ext)) ext.steps
+    (steps_of c.insert.new.self) walk c.in_ok-number.number c.args.hop.now.place c.args.hop.now.connection.dep
+    c.head-head.result c.in_ok-new.new within c.if-walk-dep.false at_number head_is takes
+    stop before all (grows_on before was all ext_before
+    (grows_on was now all (steps_grow exits (steps_of lists) (steps_of c.insert.new.self) set_outs
+    c.insert.ensures.more_steps) ext)) ext.steps

@@ -17,15 +17,20 @@ loop-place-init g c =
     let rules = g.C.Criterion.rules c.args.asked.now.criterion in
     let walks = (g.S.ConnSource.timetable c.args.source.now).footpaths in
     record {
-      stops = lists_none g.C.Criterion.rules c.args.asked.now.criterion (g.S.ConnSource.timetable c.args.source.now).stops c.args.self.now c.requires.ready.stops;
+      stops = lists_none g.C.Criterion.rules c.args.asked.now.criterion
+          (g.S.ConnSource.timetable c.args.source.now).stops c.args.self.now c.requires.ready.stops;
       takes = λ labels are admitted stop exits set_outs before all ext_before ext.
-          walks_first rules walks (boardings_by rules (from_to (told walks before) (told walks all)) c.args.hop.now.place c.args.hop.now.connection stop labels) c.args.walks.start (points_at c.args.self.now stop);
+          walks_first rules walks (boardings_by rules (from_to (told walks before) (told walks all))
+          c.args.hop.now.place c.args.hop.now.connection stop labels) c.args.walks.start
+          (points_at c.args.self.now stop);
     }
 
 pub board_after-requires-clause-stop : goal.board_after-requires-clause-stop
 board_after-requires-clause-stop g c =
     let t = g.S.ConnSource.timetable c.args.source.now in
-    let from_in : c.footpath_into-walk.result.from < (g.S.ConnSource.timetable c.args.source.now).stops = ((g.met.S.ConnSource.legal c.args.source.now).ends_in_range c.loop-place.place c.footpath_into-walk.result c.footpath_into-walk.ensures).0 in
+    let from_in : c.footpath_into-walk.result.from < (g.S.ConnSource.timetable c.args.source.now).stops =
+    ((g.met.S.ConnSource.legal c.args.source.now).ends_in_range c.loop-place.place c.footpath_into-walk.result
+    c.footpath_into-walk.ensures).0 in
     subst (λ (n : ℕ). c.footpath_into-walk.result.from < n) (sym c.loop-place.invariant.stops.stops.long) from_in
 
 pub board_after-requires-clause-ready : goal.board_after-requires-clause-ready
@@ -33,7 +38,8 @@ board_after-requires-clause-ready g c =
     let inv = c.loop-place.invariant.stops in
     record {
       stops = subst (λ (n : ℕ). AreStops g.C.Criterion.rules c.args.asked.now.criterion n c.loop-place.self) (sym inv.stops.long) inv.stops;
-      ridden = subst (λ (rs : List (Ridden g.row.C-V.Denot)). (r : Ridden g.row.C-V.Denot) → Contains rs r → Admits (g.C.Criterion.rules c.args.asked.now.criterion) r.value) (sym inv.ridden) c.requires.ready.ridden;
+      ridden = subst (λ (rs : List (Ridden g.row.C-V.Denot)). (r : Ridden g.row.C-V.Denot) → Contains rs r
+          → Admits (g.C.Criterion.rules c.args.asked.now.criterion) r.value) (sym inv.ridden) c.requires.ready.ridden;
     }
 
 pub loop-place-preserved : goal.loop-place-preserved
@@ -45,15 +51,25 @@ loop-place-preserved g c =
     let mid_steps = steps_of c.loop-place.self.lists in
     let new_steps = steps_of c.board_after.new.self.lists in
     record {
-      stops = lists_on g.C.Criterion.rules c.args.asked.now.criterion t.stops c.args.self.now c.loop-place.self c.board_after.new.self inv.stops c.in_ok-board_after.ensures.stops;
+      stops = lists_on g.C.Criterion.rules c.args.asked.now.criterion t.stops c.args.self.now c.loop-place.self
+          c.board_after.new.self inv.stops c.in_ok-board_after.ensures.stops;
       takes = λ labels are admitted stop exits set_outs before all ext_before ext.
           let s0 = story exits old_steps set_outs in
           let s1 = story exits mid_steps set_outs in
           let s2 = story exits new_steps set_outs in
-          walks_next (g.C.Criterion.rules c.args.asked.now.criterion) (g.met.C.Criterion.laws c.args.asked.now.criterion) t (g.met.S.ConnSource.limits c.args.source.now) labels admitted (from_to (told t.footpaths before) (told t.footpaths all)) c.args.hop.now.place c.args.hop.now.connection stop c.args.walks.start c.loop-place.place walk (points_at c.args.self.now stop) (points_at c.loop-place.self stop) (points_at c.board_after.new.self stop)
+          walks_next (g.C.Criterion.rules c.args.asked.now.criterion)
+          (g.met.C.Criterion.laws c.args.asked.now.criterion) t (g.met.S.ConnSource.limits c.args.source.now) labels
+          admitted (from_to (told t.footpaths before) (told t.footpaths all)) c.args.hop.now.place
+          c.args.hop.now.connection stop c.args.walks.start c.loop-place.place walk (points_at c.args.self.now stop)
+          (points_at c.loop-place.self stop) (points_at c.board_after.new.self stop)
           c.loop-place.auto.place c.footpath_into-walk.ensures
-          (inv.takes labels are admitted stop exits set_outs before all ext_before (grows_on s1 s2 all (steps_grow exits mid_steps new_steps set_outs c.in_ok-board_after.ensures.stops.steps) ext))
-          (c.in_ok-board_after.ensures.takes labels (subst (AreRidden (g.C.Criterion.rules c.args.asked.now.criterion) labels) (sym inv.stops.ridden) are) t.footpaths c.footpath_into-walk.ensures stop exits set_outs before all (grows_on before s0 s1 ext_before (steps_grow exits old_steps mid_steps set_outs inv.stops.steps)) ext);
+          (inv.takes labels are admitted stop exits set_outs before all ext_before
+          (grows_on s1 s2 all (steps_grow exits mid_steps new_steps set_outs
+          c.in_ok-board_after.ensures.stops.steps) ext))
+          (c.in_ok-board_after.ensures.takes labels
+          (subst (AreRidden (g.C.Criterion.rules c.args.asked.now.criterion) labels) (sym inv.stops.ridden) are)
+          t.footpaths c.footpath_into-walk.ensures stop exits set_outs before all
+          (grows_on before s0 s1 ext_before (steps_grow exits old_steps mid_steps set_outs inv.stops.steps)) ext);
     }
 
 pub returns-clause-takes : goal.returns-clause-takes
@@ -63,5 +79,8 @@ returns-clause-takes g c labels are admitted stop exits set_outs before all ext_
     let over = c.loop-place-test.false in
     let within = c.loop-place.auto.place-end c.requires.walks.order in
     let at_end : c.loop-place.place ≡ c.args.walks.end = omega arith in
-    subst (λ (n : ℕ). TakesIn rules (each_of (StandsBetween t.footpaths c.args.walks.start n) (boardings_by rules (from_to (told t.footpaths before) (told t.footpaths all)) c.args.hop.now.place c.args.hop.now.connection stop labels)) (points_at c.args.self.now stop) (points_at c.loop-place.self stop)) at_end
+    subst (λ (n : ℕ). TakesIn rules (each_of (StandsBetween t.footpaths c.args.walks.start n)
+    (boardings_by rules (from_to (told t.footpaths before) (told t.footpaths all)) c.args.hop.now.place
+    c.args.hop.now.connection stop labels)) (points_at c.args.self.now stop) (points_at c.loop-place.self stop))
+    at_end
     (c.loop-place.invariant.takes labels are admitted stop exits set_outs before all ext_before ext)

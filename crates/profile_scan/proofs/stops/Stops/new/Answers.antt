@@ -9,7 +9,10 @@ returns-clause-stops g c = record {
   under = c.in_ok-lists.ensures.criterion;
   sound = c.in_ok-lists.ensures.sound;
   long = c.in_ok-heads.heads.ok.0 ∙ ap length c.in_ok-heads.ensures ∙ length-replicate {A = ℕ} c.args.count 0;
-  within = λ stop. let none = ap (λ hs. slice_index hs stop) c.in_ok-heads.ensures ∙ slice_index-replicate c.args.count stop in subst (λ n. n < length (entries_of c.in_ok-lists.lists)) (sym none) c.in_ok-lists.ensures.sound.some;
+  within = λ stop. let none = ap (λ hs. slice_index hs stop) c.in_ok-heads.ensures
+      ∙ slice_index-replicate c.args.count stop in
+      subst (λ n. n < length (entries_of c.in_ok-lists.lists)) (sym none)
+      c.in_ok-lists.ensures.sound.some;
 }
 
 pub returns-clause-none : goal.returns-clause-none

@@ -18,13 +18,17 @@ use Rattle.profile_scan.proofs.trips.Trips.change.Goals as goal
 pub loop-k-init : goal.loop-k-init
 loop-k-init g c = record {
   trip = changes_none (g.C.Criterion.rules c.args.asked.now.criterion) c.args.hop.now.connection.trip c.args.self.now c.requires.trip;
-  takes = λ walks steps set_outs before all ext_before ext. takes_first (g.C.Criterion.rules c.args.asked.now.criterion) (front_at c.args.stops.now.lists c.front_from-place.result) _ (trip_points c.args.self.now.labels c.args.hop.now.connection.trip);
+  takes = λ walks steps set_outs before all ext_before ext.
+      takes_first (g.C.Criterion.rules c.args.asked.now.criterion)
+      (front_at c.args.stops.now.lists c.front_from-place.result) _
+      (trip_points c.args.self.now.labels c.args.hop.now.connection.trip);
 }
 
 pub change_by-requires-clause-point : goal.change_by-requires-clause-point
 change_by-requires-clause-point g c =
     let front = front_at c.args.stops.now.lists c.front_from-place.result in
-    let are = subst (λ k. AreOf (g.C.Criterion.rules k) (list_points c.args.stops.now.lists c.head-head.result) c.args.hop.now.connection.arr front) c.requires.stop.stops.under c.front_from-place.ensures.made_of in
+    let are = subst (λ k. AreOf (g.C.Criterion.rules k) (list_points c.args.stops.now.lists c.head-head.result)
+    c.args.hop.now.connection.arr front) c.requires.stop.stops.under c.front_from-place.ensures.made_of in
     (are c.front_point-point.result (Contains-At front c.loop-k.k c.front_point-point.result c.front_point-point.ensures)).2
 
 pub loop-k-preserved : goal.loop-k-preserved
@@ -32,18 +36,26 @@ loop-k-preserved g c =
     let rules = g.C.Criterion.rules c.args.asked.now.criterion in
     let front = front_at c.args.stops.now.lists c.front_from-place.result in
     let x = c.front_point-point.result in
-    let are = subst (λ k. AreOf (g.C.Criterion.rules k) (list_points c.args.stops.now.lists c.head-head.result) c.args.hop.now.connection.arr front) c.requires.stop.stops.under c.front_from-place.ensures.made_of in
+    let are = subst (λ k. AreOf (g.C.Criterion.rules k) (list_points c.args.stops.now.lists c.head-head.result)
+    c.args.hop.now.connection.arr front) c.requires.stop.stops.under c.front_from-place.ensures.made_of in
     record {
-      trip = changes_on rules c.args.hop.now.connection.trip c.args.self.now c.loop-k.self c.change_by.new.self c.loop-k.invariant.trip c.in_ok-change_by.ensures.trip;
+      trip = changes_on rules c.args.hop.now.connection.trip c.args.self.now c.loop-k.self c.change_by.new.self
+          c.loop-k.invariant.trip c.in_ok-change_by.ensures.trip;
       takes = λ walks steps set_outs before all ext_before ext.
           let was = story c.args.self.now.exits.items steps set_outs in
           let mid = story c.loop-k.self.exits.items steps set_outs in
           let now = story c.change_by.new.self.exits.items steps set_outs in
           takes_next rules front (change_way rules (from_to (told walks before) (told walks all)) c.args.hop.now.place c.args.hop.now.bound.now)
-          c.loop-k.k x (trip_points c.args.self.now.labels c.args.hop.now.connection.trip) (trip_points c.loop-k.self.labels c.args.hop.now.connection.trip) (trip_points c.change_by.new.self.labels c.args.hop.now.connection.trip) c.front_point-point.ensures
+          c.loop-k.k x (trip_points c.args.self.now.labels c.args.hop.now.connection.trip)
+          (trip_points c.loop-k.self.labels c.args.hop.now.connection.trip)
+          (trip_points c.change_by.new.self.labels c.args.hop.now.connection.trip) c.front_point-point.ensures
           (λ y way is opened. (are y is).2)
-          (c.loop-k.invariant.takes walks steps set_outs before all ext_before (grows_on mid now all (exits_grow c.loop-k.self.exits.items c.change_by.new.self.exits.items steps set_outs c.in_ok-change_by.ensures.trip.exits) ext))
-          (c.in_ok-change_by.ensures.takes walks steps set_outs before all (grows_on before was mid ext_before (exits_grow c.args.self.now.exits.items c.loop-k.self.exits.items steps set_outs c.loop-k.invariant.trip.exits)) ext);
+          (c.loop-k.invariant.takes walks steps set_outs before all ext_before
+          (grows_on mid now all (exits_grow c.loop-k.self.exits.items c.change_by.new.self.exits.items steps
+          set_outs c.in_ok-change_by.ensures.trip.exits) ext))
+          (c.in_ok-change_by.ensures.takes walks steps set_outs before all
+          (grows_on before was mid ext_before (exits_grow c.args.self.now.exits.items c.loop-k.self.exits.items
+          steps set_outs c.loop-k.invariant.trip.exits)) ext);
     }
 
 pub returns-clause-takes : goal.returns-clause-takes
@@ -52,15 +64,28 @@ returns-clause-takes g c walks steps set_outs before all ext_before ext =
     let laws = g.met.C.Criterion.laws c.args.asked.now.criterion in
     let front = front_at lists c.front_from-place.result in
     let points = list_points lists c.head-head.result in
-    let admitted = subst (λ k. AreAdmitted (g.C.Criterion.rules k) points) c.requires.stop.stops.under (list_admitted (g.C.Criterion.rules (lists_criterion lists)) lists.entries.items lists.items.items c.requires.stop.stops.sound c.head-head.result) in
-    subst (λ (n : ℕ). TakesIn (g.C.Criterion.rules c.args.asked.now.criterion) (changes_from (from_to (told walks before) (told walks all)) c.args.hop.now.place c.args.hop.now.connection.arr (carried (g.C.Criterion.rules c.args.asked.now.criterion) c.args.hop.now.bound.now (list_points lists n))) (trip_points c.args.self.now.labels c.args.hop.now.connection.trip) (trip_points c.loop-k.self.labels c.args.hop.now.connection.trip)) c.head-head.ensures
-    (changes_under g.C.Criterion.rules (lists_criterion lists) c.args.asked.now.criterion c.requires.stop.stops.under points laws admitted (from_to (told walks before) (told walks all)) c.args.hop.now.place c.args.hop.now.connection.arr c.args.hop.now.bound.now c.requires.hop.bound front c.loop-k.k (trip_points c.args.self.now.labels c.args.hop.now.connection.trip) (trip_points c.loop-k.self.labels c.args.hop.now.connection.trip) (trip_admitted (g.C.Criterion.rules c.args.asked.now.criterion) c.loop-k.self.labels c.loop-k.invariant.trip.labels.labels c.args.hop.now.connection.trip)
+    let admitted = subst (λ k. AreAdmitted (g.C.Criterion.rules k) points) c.requires.stop.stops.under
+    (list_admitted (g.C.Criterion.rules (lists_criterion lists)) lists.entries.items lists.items.items
+    c.requires.stop.stops.sound c.head-head.result) in
+    subst (λ (n : ℕ). TakesIn (g.C.Criterion.rules c.args.asked.now.criterion)
+    (changes_from (from_to (told walks before) (told walks all)) c.args.hop.now.place c.args.hop.now.connection.arr
+    (carried (g.C.Criterion.rules c.args.asked.now.criterion) c.args.hop.now.bound.now (list_points lists n)))
+    (trip_points c.args.self.now.labels c.args.hop.now.connection.trip)
+    (trip_points c.loop-k.self.labels c.args.hop.now.connection.trip)) c.head-head.ensures
+    (changes_under g.C.Criterion.rules (lists_criterion lists) c.args.asked.now.criterion c.requires.stop.stops.under
+    points laws admitted (from_to (told walks before) (told walks all)) c.args.hop.now.place
+    c.args.hop.now.connection.arr c.args.hop.now.bound.now c.requires.hop.bound front c.loop-k.k
+    (trip_points c.args.self.now.labels c.args.hop.now.connection.trip)
+    (trip_points c.loop-k.self.labels c.args.hop.now.connection.trip)
+    (trip_admitted (g.C.Criterion.rules c.args.asked.now.criterion) c.loop-k.self.labels
+    c.loop-k.invariant.trip.labels.labels c.args.hop.now.connection.trip)
     c.front_from-place.ensures.made_of c.front_from-place.ensures.betters (omega arith)
     (c.loop-k.invariant.takes walks steps set_outs before all ext_before ext))
 
 pub change_by-requires-clause-trip : goal.change_by-requires-clause-trip
 change_by-requires-clause-trip g c =
-    still_there (g.C.Criterion.rules c.args.asked.now.criterion) c.args.hop.now.connection.trip c.args.self.now c.loop-k.self c.requires.trip c.loop-k.invariant.trip
+    still_there (g.C.Criterion.rules c.args.asked.now.criterion) c.args.hop.now.connection.trip c.args.self.now
+    c.loop-k.self c.requires.trip c.loop-k.invariant.trip
 
 pub front_from-place-requires-clause-head : goal.front_from-place-requires-clause-head
 front_from-place-requires-clause-head g c =

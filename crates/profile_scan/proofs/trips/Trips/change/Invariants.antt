@@ -14,5 +14,9 @@ invariant-loop-k g l =
     let rules = g.C.Criterion.rules l.asked.criterion in
     record {
       trip : ChangesTrip rules l.hop.connection.trip l.fn.self l.self;
-      takes : (walks : List Footpath) (steps : List Step) (set_outs : List SetOut) → Takes rules walks (story l.fn.self.exits.items steps set_outs) (story l.self.exits.items steps set_outs) (λ tags. each_of (StandsBefore (front_at l.stops.lists l.place) l.k) (change_way rules tags l.hop.place l.hop.bound.now)) (trip_points l.fn.self.labels l.hop.connection.trip) (trip_points l.self.labels l.hop.connection.trip);
+      takes : (walks : List Footpath) (steps : List Step) (set_outs : List SetOut)
+          → Takes rules walks (story l.fn.self.exits.items steps set_outs) (story l.self.exits.items steps set_outs)
+          (λ tags. each_of (StandsBefore (front_at l.stops.lists l.place) l.k)
+          (change_way rules tags l.hop.place l.hop.bound.now)) (trip_points l.fn.self.labels l.hop.connection.trip)
+          (trip_points l.self.labels l.hop.connection.trip);
     }

@@ -12,14 +12,17 @@ use Rattle.profile_scan.proofs.trips.Trips.change_by.Goals as goal
 
 pub is_bettered-requires-clause-value : goal.is_bettered-requires-clause-value
 is_bettered-requires-clause-value g c =
-    subst (Admits (g.C.Criterion.rules c.args.asked.now.criterion)) (sym c.ride-ridden.ensures) ((g.met.C.Criterion.laws c.args.asked.now.criterion).ride_admits c.args.point.now.value c.requires.point)
+    subst (Admits (g.C.Criterion.rules c.args.asked.now.criterion)) (sym c.ride-ridden.ensures)
+    ((g.met.C.Criterion.laws c.args.asked.now.criterion).ride_admits c.args.point.now.value c.requires.point)
 
 pub returns-then-is_bettered-clause-takes : goal.returns-then-is_bettered-clause-takes
 returns-then-is_bettered-clause-takes g c walks steps set_outs before all ext_before ext =
     let rules = g.C.Criterion.rules c.args.asked.now.criterion in
     let p = c.args.point.now in
     let bettered = ap (is_bettered rules c.args.hop.now.bound.now) (sym c.ride-ridden.ensures) ∙ sym c.is_bettered.ensures ∙ c.if-is_bettered.true in
-    takes_unless rules (is_bettered rules c.args.hop.now.bound.now (rules.ride p.value) ≡ false) (one_way 0 p.value (IsExit (from_to (told walks before) (told walks all)) (Changes c.args.hop.now.place p.tag))) (trip_points c.args.self.now.labels c.args.hop.now.connection.trip)
+    takes_unless rules (is_bettered rules c.args.hop.now.bound.now (rules.ride p.value)
+    ≡ false) (one_way 0 p.value (IsExit (from_to (told walks before) (told walks all))
+    (Changes c.args.hop.now.place p.tag))) (trip_points c.args.self.now.labels c.args.hop.now.connection.trip)
     (λ free. true≢false (sym bettered ∙ free))
 
 pub returns-clause-takes : goal.returns-clause-takes
@@ -28,9 +31,16 @@ returns-clause-takes g c =
     let p = c.args.point.now in
     let free = ap (is_bettered rules c.args.hop.now.bound.now) (sym c.ride-ridden.ensures) ∙ sym c.is_bettered.ensures ∙ c.if-is_bettered.false in
     on_ok_more c.offer.result _ _
-    (λ takes walks steps set_outs before all ext_before ext. takes_if rules (is_bettered rules c.args.hop.now.bound.now (rules.ride p.value) ≡ false) (one_way 0 p.value (IsExit (from_to (told walks before) (told walks all)) (Changes c.args.hop.now.place p.tag)))
-    (trip_points c.args.self.now.labels c.args.hop.now.connection.trip) (trip_points c.offer.new.self.labels c.args.hop.now.connection.trip) free (takes walks steps set_outs before all ext_before ext))
+    (λ takes walks steps set_outs before all ext_before ext.
+    takes_if rules (is_bettered rules c.args.hop.now.bound.now (rules.ride p.value)
+    ≡ false) (one_way 0 p.value (IsExit (from_to (told walks before) (told walks all))
+    (Changes c.args.hop.now.place p.tag)))
+    (trip_points c.args.self.now.labels c.args.hop.now.connection.trip)
+    (trip_points c.offer.new.self.labels c.args.hop.now.connection.trip) free
+    (takes walks steps set_outs before all ext_before ext))
     c.offer.ensures.takes
 
 pub returns-then-is_bettered-clause-trip : goal.returns-then-is_bettered-clause-trip
-returns-then-is_bettered-clause-trip g c = changes_none (g.C.Criterion.rules c.args.asked.now.criterion) c.args.hop.now.connection.trip c.args.self.now c.requires.trip
+returns-then-is_bettered-clause-trip g c =
+    changes_none (g.C.Criterion.rules c.args.asked.now.criterion) c.args.hop.now.connection.trip c.args.self.now
+    c.requires.trip

@@ -24,13 +24,21 @@ pub returns-in_ok-push-clause-takes : goal.returns-in_ok-push-clause-takes
 returns-in_ok-push-clause-takes g c walks steps set_outs before all ext_before ext =
     let rules = g.C.Criterion.rules c.args.criterion.now in
     let tag_is = c.len-tag.ensures ∙ c.args.self.now.exits.ok.0 in
-    offered_takes rules (g.met.C.Criterion.laws c.args.criterion.now) (labels_at c.args.self.now.labels c.args.trip) (labels_at c.offer_label.new.labels c.args.trip) c.args.value c.len-tag.result (IsExit (from_to (told walks before) (told walks all)) c.args.exit)
-    c.in_ok-stands.stands (trip_admitted rules c.args.self.now.labels c.requires.trip.labels c.args.trip) c.requires.admitted c.in_ok-stands.ensures.stands c.in_ok-stands.ensures.taken
-    (λ _. subst (IsExit (from_to (told walks before) (told walks all)) c.args.exit) (sym tag_is) (exit_next walks c.args.self.now.exits.items c.push.new.self.items steps set_outs before all c.args.exit c.in_ok-push.ensures.items ext_before ext))
+    offered_takes rules (g.met.C.Criterion.laws c.args.criterion.now) (labels_at c.args.self.now.labels c.args.trip)
+    (labels_at c.offer_label.new.labels c.args.trip) c.args.value c.len-tag.result
+    (IsExit (from_to (told walks before) (told walks all)) c.args.exit)
+    c.in_ok-stands.stands (trip_admitted rules c.args.self.now.labels c.requires.trip.labels c.args.trip)
+    c.requires.admitted c.in_ok-stands.ensures.stands c.in_ok-stands.ensures.taken
+    (λ _. subst (IsExit (from_to (told walks before) (told walks all)) c.args.exit) (sym tag_is)
+    (exit_next walks c.args.self.now.exits.items c.push.new.self.items steps set_outs before all c.args.exit
+    c.in_ok-push.ensures.items ext_before ext))
 
 pub returns-else-stands-clause-takes : goal.returns-else-stands-clause-takes
 returns-else-stands-clause-takes g c walks steps set_outs before all ext_before ext =
     let rules = g.C.Criterion.rules c.args.criterion.now in
-    offered_takes rules (g.met.C.Criterion.laws c.args.criterion.now) (labels_at c.args.self.now.labels c.args.trip) (labels_at c.offer_label.new.labels c.args.trip) c.args.value c.len-tag.result (IsExit (from_to (told walks before) (told walks all)) c.args.exit)
-    c.in_ok-stands.stands (trip_admitted rules c.args.self.now.labels c.requires.trip.labels c.args.trip) c.requires.admitted c.in_ok-stands.ensures.stands c.in_ok-stands.ensures.taken
+    offered_takes rules (g.met.C.Criterion.laws c.args.criterion.now) (labels_at c.args.self.now.labels c.args.trip)
+    (labels_at c.offer_label.new.labels c.args.trip) c.args.value c.len-tag.result
+    (IsExit (from_to (told walks before) (told walks all)) c.args.exit)
+    c.in_ok-stands.stands (trip_admitted rules c.args.self.now.labels c.requires.trip.labels c.args.trip)
+    c.requires.admitted c.in_ok-stands.ensures.stands c.in_ok-stands.ensures.taken
     (λ is. absurd (true≢false (sym is ∙ c.if-stands.false)))

@@ -1,12 +1,22 @@
 use Rattle.std.proofs.Common.{◌∙◌, refl, sym, arith, inl}
 use Rattle.reasoning.proofs.BoolLemmas.{where_true, where_false}
 use Rattle.lines.proofs.GivenLemmas.{Gives-ended, Gives-nothing, Gives-rest}
-use Rattle.session.proofs.LineLemmas.{nothing_is_one_line, some_bytes, SoFar-more, SoFar-start, TurnsTo-number, cut_short_at_line, cut_short_at_rest, ends_at_end, ends_with_rest, not_rose, read_fails, rose, too_many, why_failed}
+use Rattle.session.proofs.LineLemmas.{nothing_is_one_line, some_bytes, SoFar-more, SoFar-start, TurnsTo-number}
+use Rattle.session.proofs.LineLemmas.{cut_short_at_line, cut_short_at_rest, ends_at_end, ends_with_rest, not_rose}
+use Rattle.session.proofs.LineLemmas.{read_fails, rose, too_many, why_failed}
 use Rattle.session.proofs.LearnLemmas.{learns_on, learns_same}
 use Rattle.session.proofs.desk.Desk.answer_lines.Goals as goal
 
 pub loop-init : goal.loop-init
-loop-init g c = record { fits = c.requires.fits; number = refl; learns = learns_same _ _; reads = refl; writes = refl; so_far = SoFar-start _ _ _ _ _ _ c.new-lines.ensures }
+loop-init g c = record {
+  fits = c.requires.fits;
+  number = refl;
+  learns = learns_same _ _;
+  reads = refl;
+  writes =
+      refl;
+  so_far = SoFar-start _ _ _ _ _ _ c.new-lines.ensures;
+}
 
 pub returns-in-Err-clause-session : goal.returns-in-Err-clause-session
 returns-in-Err-clause-session g c =
@@ -53,7 +63,8 @@ returns-in-Ok-clause-session g c =
     let done = c.in-Ok.ensures.turn _ (c.line-line.ensures _ gives.shown) in
     let turn = TurnsTo-number _ _ _ _ _ _ _ c.loop.invariant.number done.2 in
     ends_with_rest _ _ _ _ _ e.0 _ _ _ _ _ _ _ _ _ _ _ _ _ _ (omega (arith, c.loop-test.true, c.loop.auto.counter-end))
-    c.loop.invariant.so_far e.1 gives done.0 done.1 turn done.3 (not_rose _ _ (e.2.1 ∙ c.loop.invariant.reads)) (not_rose _ _ (c.in-Ok.ensures.failures ∙ c.loop.invariant.writes))
+    c.loop.invariant.so_far e.1 gives done.0 done.1 turn done.3 (not_rose _ _ (e.2.1 ∙ c.loop.invariant.reads))
+    (not_rose _ _ (c.in-Ok.ensures.failures ∙ c.loop.invariant.writes))
 
 pub returns-in-Err-answer_line-clause-session : goal.returns-in-Err-answer_line-clause-session
 returns-in-Err-answer_line-clause-session g c =
@@ -68,7 +79,12 @@ returns-in-Err-answer_line-clause-session g c =
 pub returns-in-Ok-true-clause-session : goal.returns-in-Ok-true-clause-session
 returns-in-Ok-true-clause-session g c =
     let e = c.in-Ok-true.ensures in
-    too_many _ _ _ _ _ e.0 _ _ _ _ _ _ _ _ _ (omega (arith, c.loop-test.false, c.loop.auto.counter-end)) c.loop.invariant.so_far e.1 (some_bytes _ _ e.2 (where_true _ _ _ c.in-Ok-true.field-0-test e.3.0))
+    too_many _ _ _ _ _ e.0 _ _ _ _ _ _ _ _ _ (omega (
+      arith,
+      c.loop-test.false,
+      c.loop.auto.counter-end,
+    )) c.loop.invariant.so_far e.1
+    (some_bytes _ _ e.2 (where_true _ _ _ c.in-Ok-true.field-0-test e.3.0))
     (not_rose _ _ (e.3.1 ∙ c.loop.invariant.reads)) (not_rose _ _ c.loop.invariant.writes)
 
 pub returns-in-Ok-false-clause-session : goal.returns-in-Ok-false-clause-session
@@ -82,7 +98,8 @@ pub returns-clause-session : goal.returns-clause-session
 returns-clause-session g c =
     let e = c.in-Err-has_byte.ensures in
     read_fails _ _ _ _ _ e.0 _ _ _ _ _ _ _ _ _ (omega (arith, c.loop-test.false, c.loop.auto.counter-end))
-    c.loop.invariant.so_far e.1 (nothing_is_one_line _ (sym e.2 ∙ e.3.0)) (inl (rose _ _ _ c.requires.counts.0 c.loop.invariant.reads e.3.1)) (not_rose _ _ c.loop.invariant.writes)
+    c.loop.invariant.so_far e.1 (nothing_is_one_line _ (sym e.2 ∙ e.3.0))
+    (inl (rose _ _ _ c.requires.counts.0 c.loop.invariant.reads e.3.1)) (not_rose _ _ c.loop.invariant.writes)
 
 pub returns-in-Err-clause-learns : goal.returns-in-Err-clause-learns
 returns-in-Err-clause-learns g c = c.loop.invariant.learns

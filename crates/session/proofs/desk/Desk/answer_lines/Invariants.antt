@@ -14,5 +14,7 @@ invariant-loop g l = record {
   writes : failures_of l.writer ≡ failures_of l.fn.writer;
   so_far : SoFar l.self.form (g.T.Versions.number l.fn.seat)
       (g.In.Read.remaining (inner_of l.fn.reader)) (g.In.Read.remaining (inner_of l.reader)) (unread_of l.lines)
-      (g.Out.Write.contents (inner_of l.fn.writer)) (g.Out.Write.contents (inner_of l.writer)) (g.T.Versions.value l.fn.seat) (g.O.Orders.asked l.fn.orders) (g.T.Versions.value l.seat) (g.O.Orders.asked l.orders) l.counter;
+      (g.Out.Write.contents (inner_of l.fn.writer)) (g.Out.Write.contents (inner_of l.writer))
+      (g.T.Versions.value l.fn.seat) (g.O.Orders.asked l.fn.orders) (g.T.Versions.value l.seat)
+      (g.O.Orders.asked l.orders) l.counter;
 }

@@ -9,7 +9,8 @@ returns-in-Err-clause-met g c = profile_refused _ _ _ _ _ _ c.requires.idle c.in
 
 pub returns-clause-met : goal.returns-clause-met
 returns-clause-met g c =
-    let known = subst (λ n. HoldsInSome n (g.T.Versions.value c.pin.new.seat).held) c.in_default.ensures.number (g.T.Versions.known c.pin.new.seat, c.in_default.ensures.known) in
+    let known = subst (λ n. HoldsInSome n (g.T.Versions.value c.pin.new.seat).held) c.in_default.ensures.number
+    (g.T.Versions.known c.pin.new.seat, c.in_default.ensures.known) in
     profile_met_once _ _ _ _ _ _ _ _ _ c.in_default.ensures.pin known c.in-Some.ensures.lent c.release.ensures.release c.answer_from-reply.ensures
 
 pub returns-in-Err-clause-learns : goal.returns-in-Err-clause-learns

@@ -11,13 +11,16 @@ returns-in-Err-clause-met g c = pin_refused _ _ _ _ _ c.in-Err.ensures.pin c.pin
 
 pub returns-in-Ok-clause-met : goal.returns-in-Ok-clause-met
 returns-in-Ok-clause-met g c =
-    let told : string_bytes c.in-Ok.line ≡ pin_text (arc_value c.in-Some.edition.now.image).names.base c.in-Some.edition.now.version ++ 10 ∷ [] = search rules in
-    let known = subst (λ n. HoldsInSome n (g.T.Versions.value c.pin.new.seat).held) c.in_default.ensures.number (g.T.Versions.known c.pin.new.seat, c.in_default.ensures.known) in
+    let told : string_bytes c.in-Ok.line ≡ pin_text (arc_value c.in-Some.edition.now.image).names.base
+    c.in-Some.edition.now.version ++ 10 ∷ [] = search rules in
+    let known = subst (λ n. HoldsInSome n (g.T.Versions.value c.pin.new.seat).held) c.in_default.ensures.number
+    (g.T.Versions.known c.pin.new.seat, c.in_default.ensures.known) in
     pin_met _ _ _ _ _ _ c.in_default.ensures.pin known c.in-Some.ensures.lent (c.made.ensures ∙ told)
 
 pub returns-in-Err-told-clause-met : goal.returns-in-Err-told-clause-met
 returns-in-Err-told-clause-met g c =
-    let known = subst (λ n. HoldsInSome n (g.T.Versions.value c.pin.new.seat).held) c.in_default.ensures.number (g.T.Versions.known c.pin.new.seat, c.in_default.ensures.known) in
+    let known = subst (λ n. HoldsInSome n (g.T.Versions.value c.pin.new.seat).held) c.in_default.ensures.number
+    (g.T.Versions.known c.pin.new.seat, c.in_default.ensures.known) in
     pin_given_back _ _ _ _ _ _ _ _ c.in_default.ensures.pin known c.in-Some.ensures.lent c.release.ensures.release c.refusal.ensures
 
 pub returns-in-Err-clause-learns : goal.returns-in-Err-clause-learns

@@ -14,26 +14,38 @@ returns-in-NoRoom-clause-turn g c = λ l shows. memory_turn _ _ _ l _ c.refusal-
 
 pub returns-in-Err-BadJson-clause-turn : goal.returns-in-Err-BadJson-clause-turn
 returns-in-Err-BadJson-clause-turn g c = λ l shows.
-    bad_json_turn _ _ _ c.in-Whole.bytes.now l _ (whole c.args.line c.in-Whole.bytes l c.in-Whole.is shows) (c.in-Err-BadJson.ensures.bad (ap (λ (fault : LineFault). Err fault) c.in-Err-BadJson.field-0-is)) c.refusal-in-Err-BadJson.ensures
+    bad_json_turn _ _ _ c.in-Whole.bytes.now l _ (whole c.args.line c.in-Whole.bytes l c.in-Whole.is shows)
+    (c.in-Err-BadJson.ensures.bad (ap (λ (fault : LineFault). Err fault) c.in-Err-BadJson.field-0-is))
+    c.refusal-in-Err-BadJson.ensures
 
 pub returns-in-Err-OutOfMemory-clause-turn : goal.returns-in-Err-OutOfMemory-clause-turn
 returns-in-Err-OutOfMemory-clause-turn g c = λ l shows. memory_turn _ _ _ l _ c.refusal-in-Err-OutOfMemory.ensures
 
 pub returns-in-None-clause-turn : goal.returns-in-None-clause-turn
 returns-in-None-clause-turn g c = λ l shows.
-    bad_request_turn _ _ _ c.in-Whole.bytes.now l _ (view c.in-Ok.value) (whole c.args.line c.in-Whole.bytes l c.in-Whole.is shows) c.in-Ok.ensures.value c.in-None.ensures c.refusal-in-None.ensures
+    bad_request_turn _ _ _ c.in-Whole.bytes.now l _ (view c.in-Ok.value)
+    (whole c.args.line c.in-Whole.bytes l c.in-Whole.is shows) c.in-Ok.ensures.value c.in-None.ensures
+    c.refusal-in-None.ensures
 
 pub returns-in-Some-Pin-clause-turn : goal.returns-in-Some-Pin-clause-turn
 returns-in-Some-Pin-clause-turn g c = λ l shows.
-    seat_turn _ _ _ _ c.in-Whole.bytes.now l _ (view c.in-Ok.value) _ (whole c.args.line c.in-Whole.bytes l c.in-Whole.is shows) c.in-Ok.ensures.value (asks_known (view c.in-Ok.value) _ _ c.in-Some-Pin.field-0-is c.in-Some-Pin.ensures) c.pin.ensures.met
+    seat_turn _ _ _ _ c.in-Whole.bytes.now l _ (view c.in-Ok.value) _
+    (whole c.args.line c.in-Whole.bytes l c.in-Whole.is shows) c.in-Ok.ensures.value
+    (asks_known (view c.in-Ok.value) _ _ c.in-Some-Pin.field-0-is c.in-Some-Pin.ensures) c.pin.ensures.met
 
 pub returns-in-Some-Release-clause-turn : goal.returns-in-Some-Release-clause-turn
 returns-in-Some-Release-clause-turn g c = λ l shows.
-    seat_turn _ _ _ _ c.in-Whole.bytes.now l _ (view c.in-Ok.value) _ (whole c.args.line c.in-Whole.bytes l c.in-Whole.is shows) c.in-Ok.ensures.value (asks_known (view c.in-Ok.value) _ _ c.in-Some-Release.field-0-is c.in-Some-Release.ensures) c.release.ensures.met
+    seat_turn _ _ _ _ c.in-Whole.bytes.now l _ (view c.in-Ok.value) _
+    (whole c.args.line c.in-Whole.bytes l c.in-Whole.is shows) c.in-Ok.ensures.value
+    (asks_known (view c.in-Ok.value) _ _ c.in-Some-Release.field-0-is c.in-Some-Release.ensures)
+    c.release.ensures.met
 
 pub returns-in-Some-Profile-clause-turn : goal.returns-in-Some-Profile-clause-turn
 returns-in-Some-Profile-clause-turn g c = λ l shows.
-    seat_turn _ _ _ _ c.in-Whole.bytes.now l _ (view c.in-Ok.value) _ (whole c.args.line c.in-Whole.bytes l c.in-Whole.is shows) c.in-Ok.ensures.value (asks_known (view c.in-Ok.value) _ _ c.in-Some-Profile.field-0-is c.in-Some-Profile.ensures) c.answer_profile.ensures.met
+    seat_turn _ _ _ _ c.in-Whole.bytes.now l _ (view c.in-Ok.value) _
+    (whole c.args.line c.in-Whole.bytes l c.in-Whole.is shows) c.in-Ok.ensures.value
+    (asks_known (view c.in-Ok.value) _ _ c.in-Some-Profile.field-0-is c.in-Some-Profile.ensures)
+    c.answer_profile.ensures.met
 
 pub returns-in-Some-Load-default-false-clause-turn : goal.returns-in-Some-Load-default-false-clause-turn
 returns-in-Some-Load-default-false-clause-turn g c = λ l shows.

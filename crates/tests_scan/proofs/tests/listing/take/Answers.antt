@@ -7,7 +7,9 @@ use Rattle.criteria.specs.declared.arrival_trips.TimeTrips.{TimeTrips}
 use Rattle.fronts.specs.declared.entry.Ridden.{Ridden}
 use Rattle.tests_scan.proofs.tests.listing.take.Goals as goal
 
-of_one : (x r : Ridden TimeTrips) → Contains (x ∷ []) r → (nat_lt x.value.time time_limit && nat_le x.value.trips 65535) ≡ true → (nat_lt r.value.time time_limit && nat_le r.value.trips 65535) ≡ true
+of_one : (x r : Ridden TimeTrips) → Contains (x ∷ []) r
+    → (nat_lt x.value.time time_limit && nat_le x.value.trips 65535) ≡ true
+    → (nat_lt r.value.time time_limit && nat_le r.value.trips 65535) ≡ true
 of_one x r h a = elim (Contains-push_cases [] x r h) [
   | inl none ↦ absurd (not_in_nil r none)
   | inr e ↦ subst (λ (z : Ridden TimeTrips). (nat_lt z.value.time time_limit && nat_le z.value.trips 65535) ≡ true) e a
@@ -16,4 +18,5 @@ of_one x r h a = elim (Contains-push_cases [] x r h) [
 pub insert-requires-clause-ridden : goal.insert-requires-clause-ridden
 insert-requires-clause-ridden c r h =
     of_one (record { value = record { time = c.args.time; trips = c.args.trips }; label = c.args.label }) r h
-    (and_from (nat_lt c.args.time time_limit) (nat_le c.args.trips 65535) (lt-ltb c.args.time time_limit c.requires.time) (le-leb c.args.trips 65535 (omega arith)))
+    (and_from (nat_lt c.args.time time_limit) (nat_le c.args.trips 65535)
+    (lt-ltb c.args.time time_limit c.requires.time) (le-leb c.args.trips 65535 (omega arith)))

@@ -13,4 +13,6 @@ index-requires c = let known = held_known _ c.requires.0 c.requires.1 c.args.ver
 pub returns : goal.returns
 returns c =
     let known = held_known _ c.requires.0 c.requires.1 c.args.version c.self.invariant (rw (← c.self.view_is) at c.requires.2) in
-    rw (← c.self.view_is) (edition_of-place _ c.args.version _ known.1 (slice_get_read c.self.inside.editions.items (length c.self.inside.editions.items) (c.args.version - 1) _ refl (omega arith) c.index.ensures))
+    rw (← c.self.view_is) (edition_of-place _ c.args.version _ known.1
+    (slice_get_read c.self.inside.editions.items (length c.self.inside.editions.items) (c.args.version - 1) _ refl
+    (omega arith) c.index.ensures))

@@ -5,4 +5,5 @@ use Rattle.version_core.proofs.Keeps.{on_none}
 use Rattle.version_core.proofs.machine.Core.free_shelf.Goals as goal
 
 pub returns : goal.returns
-returns c = on_none c.args.self.now Shelf.Free (subst Kept c.self.view_is c.self.invariant) (λ j less. c.loop-k.invariant j (let t = c.loop-k-test.false in omega arith))
+returns c = on_none c.args.self.now Shelf.Free (subst Kept c.self.view_is c.self.invariant)
+    (λ j less. c.loop-k.invariant j (let t = c.loop-k-test.false in omega arith))
