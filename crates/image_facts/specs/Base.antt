@@ -14,10 +14,13 @@ utc_day instant = int_div_euclid instant (pos 86_400)
 abbrev pub utc_second : ℤ → ℕ
 utc_second instant = unsigned_abs (int_rem_euclid instant (pos 86_400))
 
--- a year in four digits, after a minus sign if it is before the year 0
+-- a minus sign before the years before the year 0
+abbrev pub sign_text : ℤ → List ℕ
+sign_text year = if is_negative year then codes "-" else []
+
+-- a year in four digits, behind its sign
 unfoldable pub year_text : ℤ → List ℕ
-year_text year =
-    ((if is_negative year then codes "-" else []) ++ two_digits (unsigned_abs year / 100)) ++ two_digits (unsigned_abs year % 100)
+year_text year = (sign_text year ++ two_digits (unsigned_abs year / 100)) ++ two_digits (unsigned_abs year % 100)
 
 unfoldable pub date_text : Date → List ℕ
 date_text date = (((year_text date.year ++ codes "-") ++ two_digits date.month) ++ codes "-") ++ two_digits date.day

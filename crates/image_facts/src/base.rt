@@ -2,9 +2,9 @@
 
 ghost use Rattle.std.specs.Prelude.{◌≡◌, ◌++◌, List, ℕ, OnOk, string_bytes};
 ghost use Rattle.timetable.specs.Clocks.{clock_bytes};
-ghost use Rattle.image_facts.specs.Base.{HasBase, IsUtcLine, base_line, date_text, utc_line, utc_second, year_text};
+ghost use Rattle.image_facts.specs.Base.{HasBase, IsUtcLine, base_line, date_text, sign_text, utc_day, utc_line, utc_second, year_text};
 
-use crate::putting::{put_text, put_two};
+use crate::putting::{put_signed, put_text, put_two};
 use jiff_core::civil::Date;
 use std::alloc::AllocError;
 use std::fmt::Write as _;
@@ -28,8 +28,7 @@ pub fn append_base(lines: &mut String, base: i64) -> Result<(), AllocError>
 fn append_seconds(lines: &mut String, base: i64) -> Result<(), AllocError>
     ensures { OnOk result (string_bytes lines.new ≡ string_bytes lines.old ++ base_line base) }
 {
-    put_text(lines, "base ")?;
-    write!(lines, "{base}")?;
+    put_signed(lines, "base ", base)?;
     put_text(lines, "\n")?;
     Ok(())
 }
@@ -40,10 +39,17 @@ fn append_utc(lines: &mut String, instant: i64) -> Result<(), AllocError>
         × (string_bytes lines.new ≡ string_bytes lines.old ++ line)) }
 {
     let second = second_of(instant);
-    match Date::from_unix_epoch_day(instant.div_euclid(DAY)) {
+    match Date::from_unix_epoch_day(day_of(instant)) {
         Ok(date) => append_moment(lines, date, second),
         Err(_range) => put_text(lines, "utc none\n"),
     }
+}
+
+// The day that has an instant.
+fn day_of(instant: i64) -> i64
+    ensures { result ≡ utc_day instant }
+{
+    instant.div_euclid(DAY)
 }
 
 // The second of an instant's day.
@@ -77,18 +83,27 @@ fn append_date(lines: &mut String, date: Date) -> Result<(), AllocError>
 {
     append_year(lines, date.year)?;
     put_text(lines, "-")?;
-    put_two(lines, u64::from(date.month))?;
+    put_two(lines, date.month as u64)?;
     put_text(lines, "-")?;
-    put_two(lines, u64::from(date.day))?;
+    put_two(lines, date.day as u64)?;
     Ok(())
 }
 
 fn append_year(lines: &mut String, year: i16) -> Result<(), AllocError>
     ensures { OnOk result (string_bytes lines.new ≡ string_bytes lines.old ++ year_text year) }
 {
-    let number = u64::from(year.unsigned_abs());
-    put_text(lines, if year < 0 { "-" } else { "" })?;
+    let number = year.unsigned_abs() as u64;
+    put_sign(lines, year)?;
     put_two(lines, number / 100)?;
     put_two(lines, number % 100)?;
     Ok(())
+}
+
+fn put_sign(lines: &mut String, year: i16) -> Result<(), AllocError>
+    ensures { OnOk result (string_bytes lines.new ≡ string_bytes lines.old ++ sign_text year) }
+{
+    if year < 0 {
+        return put_text(lines, "-");
+    }
+    put_text(lines, "")
 }

@@ -14,7 +14,8 @@ pub fn append_days(lines: &mut String, days: &[u32]) -> Result<(), AllocError>
     ensures { OnOk result ((text : List ℕ) × HasDays days.now text
         × (string_bytes lines.new ≡ string_bytes lines.old ++ text)) }
 {
-    append_entries(lines, days)
+    append_entries(lines, days)?;
+    Ok(())
 }
 
 // Adds a line for each day of a list, with how many entries in a row it has.
@@ -63,7 +64,7 @@ fn is_last(day: u32, more: &[u32]) -> bool
 fn append_day(lines: &mut String, count: usize, day: u32) -> Result<(), AllocError>
     ensures { OnOk result (string_bytes lines.new ≡ string_bytes lines.old ++ day_line count day) }
 {
-    put_number(lines, "trips-", u64::from(day))?;
+    put_number(lines, "trips-", day as u64)?;
     put_number(lines, " ", count as u64)?;
     put_text(lines, "\n")?;
     Ok(())

@@ -32,7 +32,7 @@ pub fn facts_of(alloc: Global, image: &Verified) -> Result<String, AllocError>
 fn append_file(lines: &mut String, image: &Verified) -> Result<(), AllocError>
     ensures { OnOk result (string_bytes lines.new ≡ string_bytes lines.old ++ file_text image.now) }
 {
-    put_line(lines, "layout ", u64::from(header_of(image).layout))?;
+    put_line(lines, "layout ", header_of(image).layout as u64)?;
     put_line(lines, "bytes ", byte_count(image))?;
     Ok(())
 }
@@ -41,11 +41,11 @@ fn append_file(lines: &mut String, image: &Verified) -> Result<(), AllocError>
 fn append_counts(lines: &mut String, image: &Verified) -> Result<(), AllocError>
     ensures { OnOk result (string_bytes lines.new ≡ string_bytes lines.old ++ counts_text image.now) }
 {
-    put_line(lines, "stops ", u64::from(image.stops()))?;
-    put_line(lines, "trips ", u64::from(image.trips()))?;
+    put_line(lines, "stops ", image.stops() as u64)?;
+    put_line(lines, "trips ", image.trips() as u64)?;
     put_line(lines, "connections ", image.len() as u64)?;
     put_line(lines, "footpaths ", image.footpath_count() as u64)?;
-    put_line(lines, "name-bytes ", u64::from(header_of(image).name_bytes))?;
+    put_line(lines, "name-bytes ", header_of(image).name_bytes as u64)?;
     Ok(())
 }
 

@@ -1,6 +1,7 @@
 //! Texts and numbers, added to lines.
 
 ghost use Rattle.std.specs.Prelude.{◌≡◌, ◌<◌, ◌++◌, ◌∷◌, codes, decimal, OnOk, string_bytes};
+ghost use Rattle.std.specs.Fmt.{signed_decimal};
 ghost use Rattle.timetable.specs.Clocks.{two_digits};
 ghost use Rattle.image_facts.specs.Facts.{number_line};
 
@@ -17,6 +18,14 @@ pub fn put_text(lines: &mut String, text: &str) -> Result<(), AllocError>
 /// Adds a word and a number.
 pub fn put_number(lines: &mut String, word: &str, number: u64) -> Result<(), AllocError>
     ensures { OnOk result (string_bytes lines.new ≡ string_bytes lines.old ++ (word.now ++ decimal number)) }
+{
+    put_text(lines, word)?;
+    write!(lines, "{number}")
+}
+
+/// Adds a word and a number that may be negative.
+pub fn put_signed(lines: &mut String, word: &str, number: i64) -> Result<(), AllocError>
+    ensures { OnOk result (string_bytes lines.new ≡ string_bytes lines.old ++ (word.now ++ signed_decimal number)) }
 {
     put_text(lines, word)?;
     write!(lines, "{number}")

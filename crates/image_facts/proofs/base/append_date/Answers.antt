@@ -1,12 +1,17 @@
-use Rattle.std.proofs.Common.{string_bytes}
-use Rattle.image_facts.specs.Base.{date_text}
+use Rattle.std.proofs.Common.{◌≡◌, ◌++◌, FitsSigned, arith, string_bytes, subst, w16, ℤ}
+use Rattle.std.proofs.lemmas.Int.{fits_signed_from_abs, to_z-of_z}
+use Rattle.jiff_core.proofs.SignedLemmas.{signed_arith}
+use Rattle.image_facts.specs.Base.{date_text, year_text}
 use Rattle.image_facts.proofs.Joined.{five}
 use Rattle.image_facts.proofs.base.append_date.Goals as goal
 
 pub returns : goal.returns
 unfolding date_text
 returns c =
+    let fits : FitsSigned w16 c.args.date.year =
+    fits_signed_from_abs w16 c.args.date.year (omega (arith, signed_arith, c.args.date.year_in)) in
     five (string_bytes c.args.lines.now) (string_bytes c.append_year.new.lines) (string_bytes c.put_text.new.lines)
     (string_bytes c.put_two.new.lines) (string_bytes c.put_text-2.new.lines) (string_bytes c.put_two-2.new.lines) _ _ _ _ _
-    c.in_ok-append_year.ensures c.in_ok-put_text.ensures c.in_ok-put_two.ensures c.in_ok-put_text-2.ensures
-    c.in_ok-put_two-2.ensures
+    (subst (λ (year : ℤ). string_bytes c.append_year.new.lines ≡ string_bytes c.args.lines.now ++ year_text year)
+    (to_z-of_z w16 c.args.date.year fits) c.in_ok-append_year.ensures)
+    c.in_ok-put_text.ensures c.in_ok-put_two.ensures c.in_ok-put_text-2.ensures c.in_ok-put_two-2.ensures

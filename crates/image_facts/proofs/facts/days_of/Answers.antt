@@ -5,7 +5,7 @@ use Rattle.image_facts.proofs.facts.days_of.Goals as goal
 
 pub returns-clause-same : goal.returns-clause-same
 returns-clause-same c =
-    subst (λ (xs : List ℕ). IsPermutation xs c.sort_unstable.new.self.items) c.in_ok-unsorted_days.ensures
+    subst (λ (xs : List ℕ). IsPermutation xs c.sort_unstable.new.self.items) c.in_ok-days.ensures
     c.sort_unstable.ensures.permutation
 
 pub returns-clause-rising : goal.returns-clause-rising
