@@ -12,7 +12,8 @@ use std::io::Write;
 use std::random::RandomSource;
 use std::rt::Files;
 
-/// Reads and joins the tables of the folder's files, and prints the service days of the feed, or the first thing that is wrong.
+/// Reads and joins the tables of the folder's files, and prints the service days of the feed, or the first thing that
+/// is wrong.
 pub fn run<H: Files + RandomSource + AllocGlobal, O: Write, E: Write>(
     rt: &H,
     folder: &str,

@@ -12,8 +12,8 @@ use gtfs_tables::{Day, Trip};
 use service_days::{DayServices, Services};
 use std::alloc::{AllocError, Global};
 
-/// How many of the trips run on a day: the trip's service is active, it isn't a flex trip, and it has two rows or more. A trip
-/// that `frequencies.txt` repeats counts once.
+/// How many of the trips run on a day: the trip's service is active, it isn't a flex trip, and it has two rows or
+/// more. A trip that `frequencies.txt` repeats counts once.
 pub fn trips_on(
     alloc: Global,
     services: &Services,
@@ -26,7 +26,8 @@ pub fn trips_on(
     let mut asked = DayServices::new(alloc, services);
     let mut count = 0usize;
     for trip in trips {
-        count += running(&mut asked, services, day, trip)?;
+        let more = running(&mut asked, services, day, trip)?;
+        count += more;
     }
     Ok(count)
 }

@@ -11,8 +11,8 @@ use std::fmt::Write as _;
 /// The days that have a line, at most.
 pub const MOST_DAYS: u32 = 366;
 
-/// The lines of a feed's service days: the first and the last, or `none`; for each from the first on, `MOST_DAYS` at most,
-/// how many trips run on it; and how many more there are to the last.
+/// The lines of a feed's service days: the first and the last, or `none`; for each from the first on, `MOST_DAYS` at
+/// most, how many trips run on it; and how many more there are to the last.
 pub fn days_text(alloc: Global, feed: &Feed) -> Result<String, AllocError> {
     let mut lines = String::new(alloc);
     match span_of(&feed.calendar, &feed.calendar_dates) {

@@ -9,9 +9,9 @@ pub struct Span {
     pub last: Day,
 }
 
-/// The first and the last day that a row names: a row of `calendar.txt` with a weekday names all from its start to its end,
-/// one of `calendar_dates.txt` the day that it adds. None if no row names a day. That services are removed from a day
-/// doesn't make it another span.
+/// The first and the last day that a row names: a row of `calendar.txt` with a weekday names all from its start to its
+/// end, one of `calendar_dates.txt` the day that it adds. None if no row names a day. That services are removed from a
+/// day doesn't make it another span.
 pub fn span_of(calendar: &[CalendarRow], dates: &[CalendarDateRow]) -> Option<Span> {
     let mut span = None;
     for row in calendar {

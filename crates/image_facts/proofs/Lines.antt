@@ -28,9 +28,9 @@ unfolding rest_text
 at_end counted [] lines whole none is = sym (append-nil lines) ∙ is
 at_end counted (day ∷ rest) lines whole none is = absurd (omega (arith, none))
 
-pub none_left : {X : Type 0} {P : X → Type 0} (r : Option X) (len : ℕ) → MatchOption r (len ≡ 0) P → ((x : X) → r ≡ Some x → ⊥) → len ≡ 0
-none_left None len empty none = empty
-none_left (Some x) len empty none = absurd (none x refl)
+pub none_left : {X : Type 0} (P : X → Type 0) (r : Option X) (len : ℕ) → MatchOption r (len ≡ 0) P → ((x : X) → r ≡ Some x → ⊥) → len ≡ 0
+none_left P None len empty none = empty
+none_left P (Some x) len empty none = absurd (none x refl)
 
 -- the day of a trip more
 pub day_more : (trips : List TripNameValue) (i day : ℕ) (old new : List ℕ) → old ≡ take i (map (λ (t : TripNameValue). t.day) trips)

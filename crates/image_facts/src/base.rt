@@ -2,7 +2,8 @@
 
 ghost use Rattle.std.specs.Prelude.{◌≡◌, ◌++◌, List, ℕ, OnOk, string_bytes};
 ghost use Rattle.timetable.specs.Clocks.{clock_bytes};
-ghost use Rattle.image_facts.specs.Base.{HasBase, IsUtcLine, base_line, date_text, sign_text, utc_day, utc_line, utc_second, year_text};
+ghost use Rattle.image_facts.specs.Base.{HasBase, IsUtcLine, base_line, date_text, sign_text, utc_day, utc_line};
+ghost use Rattle.image_facts.specs.Base.{utc_second, year_text};
 
 use crate::putting::{put_signed, put_text, put_two};
 use jiff_core::civil::Date;

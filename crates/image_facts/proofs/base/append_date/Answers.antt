@@ -1,6 +1,5 @@
-use Rattle.std.proofs.Common.{◌≡◌, ◌++◌, FitsSigned, arith, string_bytes, subst, w16, ℤ}
-use Rattle.std.proofs.lemmas.Int.{fits_signed_from_abs, to_z-of_z}
-use Rattle.jiff_core.proofs.SignedLemmas.{signed_arith}
+use Rattle.std.proofs.Common.{◌≡◌, ◌++◌, FitsSigned, rules, string_bytes, subst, w16, ℤ}
+use Rattle.std.proofs.lemmas.Int.{to_z-of_z}
 use Rattle.image_facts.specs.Base.{date_text, year_text}
 use Rattle.image_facts.proofs.Joined.{five}
 use Rattle.image_facts.proofs.base.append_date.Goals as goal
@@ -8,8 +7,7 @@ use Rattle.image_facts.proofs.base.append_date.Goals as goal
 pub returns : goal.returns
 unfolding date_text
 returns c =
-    let fits : FitsSigned w16 c.args.date.year =
-    fits_signed_from_abs w16 c.args.date.year (omega (arith, signed_arith, c.args.date.year_in)) in
+    let fits : FitsSigned w16 c.args.date.year = search rules in
     five (string_bytes c.args.lines.now) (string_bytes c.append_year.new.lines) (string_bytes c.put_text.new.lines)
     (string_bytes c.put_two.new.lines) (string_bytes c.put_text-2.new.lines) (string_bytes c.put_two-2.new.lines) _ _ _ _ _
     (subst (λ (year : ℤ). string_bytes c.append_year.new.lines ≡ string_bytes c.args.lines.now ++ year_text year)

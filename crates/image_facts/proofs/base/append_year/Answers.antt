@@ -10,8 +10,8 @@ pub returns : goal.returns
 unfolding year_text
 returns c =
     let same = to_z-of_z w16 c.args.year c.ranges.year in
-    let number : c.unsigned_abs.result ≡ unsigned_abs c.args.year =
-    subst (λ (y : ℤ). c.unsigned_abs.result ≡ unsigned_abs y) same c.unsigned_abs.ensures.value in
+    let number : c.unsigned_abs-number.result ≡ unsigned_abs c.args.year =
+    subst (λ (y : ℤ). c.unsigned_abs-number.result ≡ unsigned_abs y) same c.unsigned_abs-number.ensures.value in
     three (string_bytes c.args.lines.now) (string_bytes c.put_sign.new.lines) (string_bytes c.put_two.new.lines)
     (string_bytes c.put_two-2.new.lines) _ _ _
     (subst (λ (y : ℤ). string_bytes c.put_sign.new.lines ≡ string_bytes c.args.lines.now ++ sign_text y) same c.in_ok-put_sign.ensures)
