@@ -257,5 +257,6 @@ in_any_order xs sorted text same has =
         rising = has.1.rising;
         exact = λ day. subst (λ n. Contains has.0 day ↔ (1 ≤ n)) (alike day) (has.1.exact day);
       },
-      has.2 ∙ every_line (λ day. day_line (trips_on sorted day) day) (λ day. day_line (trips_on xs day) day) has.0 (λ day. ap (λ n. day_line n day) (alike day)),
+      has.2 ∙ every_line (λ day. day_line (trips_on sorted day) day) (λ day. day_line (trips_on xs day) day) has.0
+          (λ day. ap (λ n. day_line n day) (alike day)),
     )
