@@ -186,11 +186,17 @@ const NEW_IMAGE: [Argument; 1] = [Argument::Word(
     "The file to which the image is written, by way of OUT.part; it may be IMAGE (- is a file name here)",
 )];
 
-const TASKS: [Task; 8] = [
+const TASKS: [Task; 10] = [
     Task {
         name: "verify",
         about: "Verifies that a file is the image of a legal timetable, and prints its counts",
         notes: texts::VERIFY,
+        arguments: &[&IMAGE],
+    },
+    Task {
+        name: "info",
+        about: "Prints what an image has: its layout, size and base, its counts, and the trips of each service day",
+        notes: texts::INFO,
         arguments: &[&IMAGE],
     },
     Task {
@@ -215,6 +221,12 @@ const TASKS: [Task; 8] = [
         name: "tables",
         about: "Checks the files of a GTFS feed, and prints how many records each has",
         notes: texts::TABLES,
+        arguments: &[&FOLDER],
+    },
+    Task {
+        name: "days",
+        about: "Prints the first and the last service day of a GTFS feed, and how many trips run on each day",
+        notes: texts::DAYS,
         arguments: &[&FOLDER],
     },
     Task {

@@ -147,10 +147,12 @@ fn request_in<'a>(alloc: Global, matches: &ArgMatches<'a>) -> Result<Request<'a>
 fn plain_request<'a>(name: &str, matches: &ArgMatches<'a>) -> Option<Request<'a>> {
     match name {
         "verify" => matches.get_str("image").map(Request::Verify),
+        "info" => matches.get_str("image").map(Request::Info),
         "journey" => journey_request(matches).map(Request::Journey),
         "profile" => profile_request(matches).map(Request::Profile),
         "stops" => stops_request(matches).map(Request::Stops),
         "tables" => matches.get_str("folder").map(Request::Tables),
+        "days" => matches.get_str("folder").map(Request::Days),
         "upgrade" => upgrade_request(matches).map(Request::Upgrade),
         _ => None,
     }

@@ -14,7 +14,32 @@ pub(crate) const STATUSES: &str = "Exit status:\n\
 
 pub(crate) const VERIFY: &str = "Example: csa verify examples/base.csa";
 
+pub(crate) const INFO: &str = "Each line is a word and a value, with a space between:\n\
+\x20 layout          the layout of the image, 1 or 2\n\
+\x20 bytes           the size of the image\n\
+\x20 base            the instant from which clocks count, in seconds after 1970-01-01T00:00:00Z\n\
+\x20 utc             the same as a date and time of UTC, or none outside the years -9999 to 9999\n\
+\x20 stops           stops\n\
+\x20 trips           trips, each on one service day\n\
+\x20 connections     rides from one stop to the next\n\
+\x20 footpaths       walks, each stop and itself included\n\
+\x20 name-bytes      bytes of all stop_ids and trip_ids together\n\
+\x20 trips-YYYYMMDD  trips of this service day; the earliest day first, days without trips left out\n\
+An image that csa verify refuses is refused.\n\
+\n\
+Example: csa info examples/base.csa";
+
 pub(crate) const STOPS: &str = "Example: csa stops examples/base.csa";
+
+pub(crate) const DAYS: &str = "Each line is a word and a value, with a space between:\n\
+\x20 first           the first day, YYYYMMDD, that a row of calendar.txt or calendar_dates.txt has service on, or none\n\
+\x20 last            the last one, or none\n\
+\x20 trips-YYYYMMDD  trips on this day, each counted once, also if frequencies.txt repeats it; a line for\n\
+\x20                 366 days at most, from the first on\n\
+\x20 left-out        days up to the last that have no line\n\
+A feed that csa tables refuses is refused.\n\
+\n\
+Example: csa days examples/base";
 
 pub(crate) const TABLES: &str = "Example: csa tables examples/base";
 

@@ -8,12 +8,16 @@ use criteria::CriterionName;
 pub enum Request<'a> {
     /// To verify the image in a file, or in the standard input for `-`.
     Verify(&'a str),
+    /// To print what the image in a file has, or in the standard input for `-`.
+    Info(&'a str),
     /// To check a journey against an image.
     Journey(JourneyRequest<'a>),
     /// To answer a profile query over an image.
     Profile(ProfileRequest<'a>),
     /// To read the tables of a feed's folder.
     Tables(&'a str),
+    /// To print the service days of a feed's folder.
+    Days(&'a str),
     /// To make the image of a feed's folder.
     Build(BuildRequest<'a>),
     /// To list stops by their names.

@@ -3,7 +3,7 @@
 use crate::explaining::explain;
 use crate::opening::open_image;
 use crate::question::query_asked;
-use crate::{journey, profile, status, stops, upgrade, verify};
+use crate::{info, journey, profile, status, stops, upgrade, verify};
 use command_requests::{JourneyRequest, ProfileRequest, Question, StopsRequest, UpgradeRequest};
 use image_verifier::Verified;
 use std::alloc::Global;
@@ -15,6 +15,7 @@ use timetable::QueryFault;
 #[derive(Clone, Copy, Drop)]
 pub enum Asked<'a> {
     Verify(&'a str),
+    Info(&'a str),
     Journey(JourneyRequest<'a>),
     Profile(ProfileRequest<'a>),
     Stops(StopsRequest<'a>),
@@ -24,7 +25,7 @@ pub enum Asked<'a> {
 impl<'a> Asked<'a> {
     fn path(self) -> &'a str {
         match self {
-            Asked::Verify(image) => image,
+            Asked::Verify(image) | Asked::Info(image) => image,
             Asked::Journey(request) => request.image,
             Asked::Profile(request) => request.image,
             Asked::Stops(request) => request.image,
@@ -36,7 +37,7 @@ impl<'a> Asked<'a> {
         match self {
             Asked::Journey(request) => Some(request.question),
             Asked::Profile(request) => Some(request.question),
-            Asked::Verify(_) | Asked::Stops(_) | Asked::Upgrade(_) => None,
+            Asked::Verify(_) | Asked::Info(_) | Asked::Stops(_) | Asked::Upgrade(_) => None,
         }
     }
 }
@@ -55,6 +56,7 @@ pub fn answer<H: Files + AllocGlobal, I: Read, O: Write, E: Write>(
     };
     let status = match asked {
         Asked::Verify(_) => verify::run(rt.alloc(), &image, output),
+        Asked::Info(_) => info::run(rt.alloc(), &image, output),
         Asked::Journey(request) => journey::run(rt.alloc(), &image, request, output),
         Asked::Profile(request) => profile::run(rt, &image, request, output, errors),
         Asked::Stops(request) => stops::run(rt.alloc(), &image, request, output),

@@ -4,8 +4,10 @@
 mod asked;
 mod bases;
 mod build;
+mod days;
 mod explaining;
 mod folders;
+mod info;
 mod journey;
 mod listing;
 mod logging;
@@ -76,10 +78,12 @@ fn run_command<
 >(rt: &H, words: &[S], input: &mut I, output: &mut O, errors: &mut E, is_terminal: bool) -> u8 {
     match read(rt.alloc(), words) {
         Ok(Request::Verify(image)) => answer(rt, Asked::Verify(image), input, output, errors),
+        Ok(Request::Info(image)) => answer(rt, Asked::Info(image), input, output, errors),
         Ok(Request::Journey(request)) => answer(rt, Asked::Journey(request), input, output, errors),
         Ok(Request::Profile(request)) => answer(rt, Asked::Profile(request), input, output, errors),
         Ok(Request::Stops(request)) => answer(rt, Asked::Stops(request), input, output, errors),
         Ok(Request::Tables(folder)) => tables::run(rt, folder, output, errors),
+        Ok(Request::Days(folder)) => days::run(rt, folder, output, errors),
         Ok(Request::Build(request)) => build::run(
             rt,
             request,
