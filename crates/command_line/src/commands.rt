@@ -186,7 +186,7 @@ const NEW_IMAGE: [Argument; 1] = [Argument::Word(
     "The file to which the image is written, by way of OUT.part; it may be IMAGE (- is a file name here)",
 )];
 
-const TASKS: [Task; 10] = [
+const TASKS: [Task; 9] = [
     Task {
         name: "verify",
         about: "Verifies that a file is the image of a legal timetable, and prints its counts",
@@ -221,12 +221,6 @@ const TASKS: [Task; 10] = [
         name: "tables",
         about: "Checks the files of a GTFS feed, and prints how many records each has",
         notes: texts::TABLES,
-        arguments: &[&FOLDER],
-    },
-    Task {
-        name: "days",
-        about: "Prints the first and the last service day of a GTFS feed, and how many trips run on each day",
-        notes: texts::DAYS,
         arguments: &[&FOLDER],
     },
     Task {

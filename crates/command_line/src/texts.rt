@@ -31,16 +31,6 @@ Example: csa info examples/base.csa";
 
 pub(crate) const STOPS: &str = "Example: csa stops examples/base.csa";
 
-pub(crate) const DAYS: &str = "Each line is a word and a value, with a space between:\n\
-\x20 first           the first day, YYYYMMDD, that a row of calendar.txt or calendar_dates.txt has service on, or none\n\
-\x20 last            the last one, or none\n\
-\x20 trips-YYYYMMDD  trips on this day, each counted once, also if frequencies.txt repeats it; a line for\n\
-\x20                 366 days at most, from the first on\n\
-\x20 left-out        days up to the last that have no line\n\
-A feed that csa tables refuses is refused.\n\
-\n\
-Example: csa days examples/base";
-
 pub(crate) const TABLES: &str = "Example: csa tables examples/base";
 
 pub(crate) const UPGRADE: &str = "Example: csa upgrade examples/base.csa base.csa";

@@ -16,8 +16,6 @@ pub enum Request<'a> {
     Profile(ProfileRequest<'a>),
     /// To read the tables of a feed's folder.
     Tables(&'a str),
-    /// To print the service days of a feed's folder.
-    Days(&'a str),
     /// To make the image of a feed's folder.
     Build(BuildRequest<'a>),
     /// To list stops by their names.

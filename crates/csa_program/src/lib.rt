@@ -4,7 +4,6 @@
 mod asked;
 mod bases;
 mod build;
-mod days;
 mod explaining;
 mod folders;
 mod info;
@@ -83,7 +82,6 @@ fn run_command<
         Ok(Request::Profile(request)) => answer(rt, Asked::Profile(request), input, output, errors),
         Ok(Request::Stops(request)) => answer(rt, Asked::Stops(request), input, output, errors),
         Ok(Request::Tables(folder)) => tables::run(rt, folder, output, errors),
-        Ok(Request::Days(folder)) => days::run(rt, folder, output, errors),
         Ok(Request::Build(request)) => build::run(
             rt,
             request,

@@ -28,10 +28,6 @@ complains 64
 run info no/such/file
 tells csa: no/such/file can't be read: no such file or folder
 ends 3
-run days
-complains 64
-run days folder more
-complains 64
 run tables
 complains 64
 run tables folder more
@@ -49,8 +45,6 @@ helps
 run verify --help
 helps
 run info --help
-helps
-run days --help
 helps
 run journey --help
 helps

@@ -1,4 +1,4 @@
-//! `csa info` and `csa days`: what an image has, and which days a feed has.
+//! `csa info`: what an image has.
 
 use crate::tests::transcript::try_lines;
 use std::test::Fail;
@@ -112,46 +112,4 @@ answers refused 51 OddLength
 #[test]
 fn images_are_described(rt: HostRuntime) -> Result<(), Fail> {
     try_lines(&rt, IMAGES)
-}
-
-const DAYS: &str = "
-# A feed of one day, of three days of which the second has no trips, and with a day added behind and one removed.
-base
-run days base_feed
-prints first 20240115
-prints last 20240115
-prints trips-20240115 2
-prints left-out 0
-ends 0
-rows base_feed/calendar.txt service_id,monday,tuesday,wednesday,thursday,friday,saturday,sunday,start_date,end_date | S,1,0,1,0,0,0,0,20240115,20240117
-rows base_feed/calendar_dates.txt service_id,date,exception_type | S,20240119,1 | S,20240117,2
-run days base_feed
-prints first 20240115
-prints last 20240119
-prints trips-20240115 2
-prints trips-20240116 0
-prints trips-20240117 0
-prints trips-20240118 0
-prints trips-20240119 2
-prints left-out 0
-ends 0
-
-# A range without a weekday, or that ends before it starts, and a removed day name no day.
-rows base_feed/calendar.txt service_id,monday,tuesday,wednesday,thursday,friday,saturday,sunday,start_date,end_date | S,0,0,0,0,0,0,0,20240115,20240117
-rows base_feed/calendar_dates.txt service_id,date,exception_type | S,20240117,2
-run days base_feed
-prints first none
-prints last none
-prints left-out 0
-ends 0
-remove base_feed
-
-# A feed that is refused by `csa tables`.
-run days no_such_folder
-answers refused 1 MissingFile agency.txt 0
-";
-
-#[test]
-fn days_of_feeds_are_listed(rt: HostRuntime) -> Result<(), Fail> {
-    try_lines(&rt, DAYS)
 }
