@@ -46,15 +46,13 @@ const IMAGE: [Argument; 1] = [Argument::Word(
     "The image's file, or - for standard input",
 )];
 
-/// Where a query begins. A text that begins with a hyphen may be a stop_id.
-const SOURCE: [Argument; 1] = [Argument::Option(
-    "from",
-    "STOP_ID",
-    "The stop_id of the stop where the journey begins",
-)];
-
-/// The other options of a query.
-const DESTINATION: [Argument; 4] = [
+/// The options of a query. A text that begins with a hyphen may be a stop_id.
+const QUERY: [Argument; 5] = [
+    Argument::Option(
+        "from",
+        "STOP_ID",
+        "The stop_id of the stop where the journey begins",
+    ),
     Argument::Option("to", "STOP_ID", "The stop_id of the stop where it ends"),
     Argument::Option(
         "after",
@@ -65,34 +63,14 @@ const DESTINATION: [Argument; 4] = [
     Argument::Option("by", "CLOCK", "The latest arrival"),
 ];
 
-const CRITERION: [Argument; 1] = [Argument::Criterion("criterion", "NAME", "What is best")];
-
-const DEPARTURES: [Argument; 4] = [
-    Argument::MaybeOption(
-        "from",
-        "FILE",
-        "Print the departures of the stops of FILE alone, a stop_id a line (- is a file name here)",
-    ),
-    Argument::OtherFlag(
-        "summary",
-        "Print a line a stop: its number of departures, the first, the last, the least seconds of travel, the direct walk",
-        "no-journeys",
-    ),
-    Argument::OtherFlag(
-        "json",
-        "Print a line of JSON a stop, and the counts as another one",
-        "summary",
-    ),
-    Argument::Flag("no-journeys", "Print no journeys"),
-];
-
 const JOURNEY: [Argument; 1] = [Argument::Word(
     "text",
     "TEXT",
     "The journey: `walk FROM TO SECS` and `ride FIRST LAST`, with a space between",
 )];
 
-const PROFILE: [Argument; 5] = [
+const PROFILE: [Argument; 6] = [
+    Argument::Criterion("criterion", "NAME", "What is best"),
     Argument::MaybeOption(
         "picture",
         "FILE",
@@ -216,22 +194,22 @@ const TASKS: [Task; 9] = [
         arguments: &[&IMAGE],
     },
     Task {
+        name: "info",
+        about: "Prints what an image has: its layout, size and base, its counts, and the trips of each service day",
+        notes: texts::INFO,
+        arguments: &[&IMAGE],
+    },
+    Task {
         name: "journey",
         about: "Checks that a journey is possible in an image and answers a query, and prints its times",
         notes: texts::JOURNEY,
-        arguments: &[&IMAGE, &JOURNEY, &SOURCE, &DESTINATION],
+        arguments: &[&IMAGE, &JOURNEY, &QUERY],
     },
     Task {
         name: "profile",
         about: "Prints every best departure from one stop to another within a time window",
         notes: texts::PROFILE,
-        arguments: &[&IMAGE, &SOURCE, &DESTINATION, &CRITERION, &PROFILE],
-    },
-    Task {
-        name: "departures",
-        about: "Prints every best departure from each stop to one stop within a time window",
-        notes: texts::DEPARTURES,
-        arguments: &[&IMAGE, &DESTINATION, &CRITERION, &DEPARTURES],
+        arguments: &[&IMAGE, &QUERY, &PROFILE],
     },
     Task {
         name: "stops",

@@ -5,9 +5,8 @@ use crate::values::{clock, count, named_folder, number, port, zone};
 use clap::error::ErrorKind;
 use clap::{ArgMatches, Error};
 use command_requests::{
-    AnswerForm, BuildRequest, DeparturesForm, DeparturesRequest, FirstDay, JourneyRequest,
-    NamedFolder, PlanText, ProfileRequest, Question, Request, Rows, ServeRequest, StopsRequest,
-    UpgradeRequest, Workers, days_of,
+    AnswerForm, BuildRequest, FirstDay, JourneyRequest, NamedFolder, PlanText, ProfileRequest,
+    Question, Request, Rows, ServeRequest, StopsRequest, UpgradeRequest, Workers, days_of,
 };
 use criteria::CriterionName;
 use std::alloc::{AllocError, Global};
@@ -148,9 +147,9 @@ fn request_in<'a>(alloc: Global, matches: &ArgMatches<'a>) -> Result<Request<'a>
 fn plain_request<'a>(name: &str, matches: &ArgMatches<'a>) -> Option<Request<'a>> {
     match name {
         "verify" => matches.get_str("image").map(Request::Verify),
+        "info" => matches.get_str("image").map(Request::Info),
         "journey" => journey_request(matches).map(Request::Journey),
         "profile" => profile_request(matches).map(Request::Profile),
-        "departures" => departures_request(matches).map(Request::Departures),
         "stops" => stops_request(matches).map(Request::Stops),
         "tables" => matches.get_str("folder").map(Request::Tables),
         "upgrade" => upgrade_request(matches).map(Request::Upgrade),
@@ -234,31 +233,6 @@ fn profile_request<'a>(matches: &ArgMatches<'a>) -> Option<ProfileRequest<'a>> {
         picture: matches.get_str("picture"),
         rows: rows(matches)?,
     })
-}
-
-fn departures_request<'a>(matches: &ArgMatches<'a>) -> Option<DeparturesRequest<'a>> {
-    Some(DeparturesRequest {
-        image: matches.get_str("image")?,
-        to: matches.get_str("to")?,
-        after: clock(matches.get_str("after")?)?,
-        until: clock(matches.get_str("until")?)?,
-        by: clock(matches.get_str("by")?)?,
-        criterion: CriterionName::of(matches.get_str("criterion")?)?,
-        form: departures_form(matches),
-        from: matches.get_str("from"),
-    })
-}
-
-fn departures_form(matches: &ArgMatches<'_>) -> DeparturesForm {
-    if matches.get_flag("summary") {
-        return DeparturesForm::Summary;
-    }
-    match (matches.get_flag("json"), matches.get_flag("no-journeys")) {
-        (true, true) => DeparturesForm::JsonPoints,
-        (true, false) => DeparturesForm::Json,
-        (false, true) => DeparturesForm::Points,
-        (false, false) => DeparturesForm::Journeys,
-    }
 }
 
 /// How many rows of a picture are asked for, none in a wrong form.

@@ -14,6 +14,21 @@ pub(crate) const STATUSES: &str = "Exit status:\n\
 
 pub(crate) const VERIFY: &str = "Example: csa verify examples/base.csa";
 
+pub(crate) const INFO: &str = "Each line is a word and a value, with a space between:\n\
+\x20 layout          the layout of the image, 1 or 2\n\
+\x20 bytes           the size of the image\n\
+\x20 base            the instant from which clocks count, in seconds after 1970-01-01T00:00:00Z\n\
+\x20 utc             the same as a date and time of UTC, or none outside the years -9999 to 9999\n\
+\x20 stops           stops\n\
+\x20 trips           trips, each on one service day\n\
+\x20 connections     rides from one stop to the next\n\
+\x20 footpaths       walks, each stop and itself included\n\
+\x20 name-bytes      bytes of all stop_ids and trip_ids together\n\
+\x20 trips-YYYYMMDD  trips of this service day; the earliest day first, days without trips left out\n\
+An image that csa verify refuses is refused.\n\
+\n\
+Example: csa info examples/base.csa";
+
 pub(crate) const STOPS: &str = "Example: csa stops examples/base.csa";
 
 pub(crate) const TABLES: &str = "Example: csa tables examples/base";
@@ -47,22 +62,6 @@ With --names a line is: dep 08:00:00 arr 08:30:00 trips 1 : ride T1 08:00:00 A 0
 With --json it is: {\"ok\":\"profile\",\"points\":[{\"arr\":\"08:30:00\",\"dep\":\"08:00:00\",\
 \"journey\":\"ride 0 1\",\"trips\":1}],\"version\":1,\"walk\":null}\n\
 With --picture answer.svg --rows 50 the first 50 journeys are drawn too.";
-
-pub(crate) const DEPARTURES: &str =
-    "Each line is one of `csa profile` from a stop, with the stop_id before it. All stops are answered at once, but for\n\
-the one where journeys end; a stop without departures has no line. Stops come in the image's order, as `csa stops`\n\
-prints it. The last line `stops N points N read N` has the number of stops that have a line, the number of their\n\
-departures, and the number of connections that were read.\n\
-A journey rides at least once, so a direct walk is not among the departures: --summary and --json have its seconds,\n\
-of the stops that have a line.\n\
-If a line of FILE is no stop_id of the image, nothing is printed but that line's number, on standard error.\n\
-\n\
-Example: csa departures examples/base.csa --to C --after 07:00:00 --until 09:00:00 --by 10:00:00 \
---criterion arrival\n\
-With --summary a line is: A points 1 first 08:00:00 last 08:00:00 least 1200 walk none\n\
-With --json it is: {\"from\":\"A\",\"points\":[{\"arr\":\"08:20:00\",\"dep\":\"08:00:00\",\
-\"journey\":\"ride 0 0 walk 1 1 0 ride 2 2\"}],\"walk\":null}\n\
-and at the end: {\"points\":2,\"read\":3,\"stops\":2}";
 
 pub(crate) const BUILD: &str = "Standard output has one line of counts:\n\
 \x20 stops        stops and platforms in stops.txt; stations, entrances and the like are not counted\n\

@@ -8,12 +8,12 @@ use criteria::CriterionName;
 pub enum Request<'a> {
     /// To verify the image in a file, or in the standard input for `-`.
     Verify(&'a str),
+    /// To print what the image in a file has, or in the standard input for `-`.
+    Info(&'a str),
     /// To check a journey against an image.
     Journey(JourneyRequest<'a>),
     /// To answer a profile query over an image.
     Profile(ProfileRequest<'a>),
-    /// To answer the queries from every stop over an image.
-    Departures(DeparturesRequest<'a>),
     /// To read the tables of a feed's folder.
     Tables(&'a str),
     /// To make the image of a feed's folder.
@@ -45,39 +45,6 @@ pub struct JourneyRequest<'a> {
     pub image: &'a str,
     pub text: &'a str,
     pub question: Question<'a>,
-}
-
-/// What is printed of the best departures from a stop.
-#[derive(Clone, Copy, Drop)]
-pub enum DeparturesForm {
-    /// A line for each, with its journey.
-    Journeys,
-    /// A line for each, without one.
-    Points,
-    /// A line for all of them, with their number, the first, the last, and the least seconds of travel.
-    Summary,
-    /// A line of JSON for all of them, with their journeys.
-    Json,
-    /// A line of JSON for all of them, without journeys.
-    JsonPoints,
-}
-
-/// Where to, by the name of the stop, and when, in seconds after the image's base; the image, what is best, and what is
-/// printed, of every stop or of those that a file names.
-#[derive(Clone, Copy, Drop)]
-pub struct DeparturesRequest<'a> {
-    pub image: &'a str,
-    pub to: &'a str,
-    /// The earliest departure.
-    pub after: u32,
-    /// The latest departure.
-    pub until: u32,
-    /// The latest arrival.
-    pub by: u32,
-    pub criterion: CriterionName,
-    pub form: DeparturesForm,
-    /// A file with a stop_id a line.
-    pub from: Option<&'a str>,
 }
 
 /// How an answer is printed.

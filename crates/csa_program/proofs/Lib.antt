@@ -1,5 +1,3 @@
 mod AnswerLemmas
-mod Commas
 mod Joined
 mod Picturing
-mod Stops

@@ -25,14 +25,10 @@ abbrev pub number_if_some : List ℕ → Option ℕ → List ℕ
 number_if_some word None = []
 number_if_some word (Some n) = word ++ decimal n
 
--- the times of a point, and its trips and the seconds walked where the criterion counts them
-unfoldable pub values_text : ℕ → ToldValue → List ℕ
-values_text departure told =
-    times_text departure told.arrival ++ number_if_some (codes " trips ") told.trips ++ number_if_some (codes " walked ") told.walked
-
--- what is printed of a point before its journey
+-- what is printed of a point before its journey: its times, and its trips and the seconds walked where the criterion counts them
 unfoldable pub point_text : ℕ → ToldValue → List ℕ
-point_text departure told = values_text departure told ++ codes " :"
+point_text departure told =
+    times_text departure told.arrival ++ number_if_some (codes " trips ") told.trips ++ number_if_some (codes " walked ") told.walked ++ codes " :"
 
 abbrev pub word_text : List ℕ → List ℕ
 word_text word = codes " " ++ word

@@ -4,9 +4,9 @@
 mod asked;
 mod bases;
 mod build;
-mod departures;
 mod explaining;
 mod folders;
+mod info;
 mod journey;
 mod listing;
 mod logging;
@@ -26,10 +26,6 @@ mod requests;
 mod serve;
 mod sockets;
 mod status;
-mod stop_json;
-mod stop_lines;
-mod stop_lists;
-mod stop_words;
 mod stops;
 mod suspects;
 mod table_fault;
@@ -81,11 +77,9 @@ fn run_command<
 >(rt: &H, words: &[S], input: &mut I, output: &mut O, errors: &mut E, is_terminal: bool) -> u8 {
     match read(rt.alloc(), words) {
         Ok(Request::Verify(image)) => answer(rt, Asked::Verify(image), input, output, errors),
+        Ok(Request::Info(image)) => answer(rt, Asked::Info(image), input, output, errors),
         Ok(Request::Journey(request)) => answer(rt, Asked::Journey(request), input, output, errors),
         Ok(Request::Profile(request)) => answer(rt, Asked::Profile(request), input, output, errors),
-        Ok(Request::Departures(request)) => {
-            answer(rt, Asked::Departures(request), input, output, errors)
-        }
         Ok(Request::Stops(request)) => answer(rt, Asked::Stops(request), input, output, errors),
         Ok(Request::Tables(folder)) => tables::run(rt, folder, output, errors),
         Ok(Request::Build(request)) => build::run(

@@ -4,7 +4,7 @@ ghost use Rattle.std.specs.Prelude.{◌≡◌, ◌++◌, IfOk, OnOk, length, str
 ghost use Rattle.std.specs.List.{flat_map};
 ghost use Rattle.criteria.specs.declared.told.ToldValue.{ToldValue};
 ghost use Rattle.csa_program.specs.Listing.{departure_line, end_line, lines_text, named_text, number_if_some};
-ghost use Rattle.csa_program.specs.Listing.{numbered_text, point_text, times_text, values_text, walk_word};
+ghost use Rattle.csa_program.specs.Listing.{numbered_text, point_text, times_text, walk_word};
 
 use crate::naming::append_named;
 use crate::putting::{put_clock, put_number, put_text, put_word};
@@ -86,8 +86,7 @@ fn append_all_named<C: Told>(
     Ok(())
 }
 
-/// Adds the line of a best departure, with its journey.
-pub fn append_by_numbers<C: Told>(
+fn append_by_numbers<C: Told>(
     lines: &mut String,
     alloc: Global,
     criterion: &C,
@@ -122,18 +121,10 @@ fn append_by_names<C: Told>(
 fn append_point(lines: &mut String, departure: u32, told: ToldValue) -> Result<(), AllocError>
     ensures { OnOk result (string_bytes lines.new ≡ string_bytes lines.old ++ point_text departure told) }
 {
-    append_values(lines, departure, told)?;
-    put_text(lines, " :")?;
-    Ok(())
-}
-
-/// Adds the times of a point, and its trips and the seconds walked if the criterion counts them.
-pub fn append_values(lines: &mut String, departure: u32, told: ToldValue) -> Result<(), AllocError>
-    ensures { OnOk result (string_bytes lines.new ≡ string_bytes lines.old ++ values_text departure told) }
-{
     append_times(lines, departure, told.arrival)?;
     append_number(lines, " trips ", told.trips)?;
     append_number(lines, " walked ", told.walked)?;
+    put_text(lines, " :")?;
     Ok(())
 }
 
@@ -147,7 +138,7 @@ pub fn append_times(lines: &mut String, departure: u32, arrival: u32) -> Result<
 }
 
 /// Adds a word and a number, if there is one.
-pub fn append_number(lines: &mut String, word: &str, number: Option<u32>) -> Result<(), AllocError>
+fn append_number(lines: &mut String, word: &str, number: Option<u32>) -> Result<(), AllocError>
     ensures { OnOk result (string_bytes lines.new ≡ string_bytes lines.old ++ number_if_some word.now number) }
 {
     match number {
@@ -179,8 +170,7 @@ fn append_end(
     Ok(())
 }
 
-/// Adds the seconds of the direct footpath, if there is one.
-pub fn append_direct(lines: &mut String, walk: Option<u32>) -> Result<(), AllocError>
+fn append_direct(lines: &mut String, walk: Option<u32>) -> Result<(), AllocError>
     ensures { OnOk result (string_bytes lines.new ≡ string_bytes lines.old ++ walk_word walk) }
 {
     match walk {

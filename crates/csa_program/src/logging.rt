@@ -31,6 +31,11 @@ impl Begun {
         Begun(Instant::now(clock).ok())
     }
 
+    /// It began then, if that is known.
+    pub fn at(instant: Option<Instant>) -> Begun {
+        Begun(instant)
+    }
+
     /// How long it has lasted by now.
     pub fn elapsed<C: Clock>(self, clock: &C) -> Option<Duration> {
         self.0?.elapsed(clock).ok()

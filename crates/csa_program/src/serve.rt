@@ -30,7 +30,7 @@ use std::net::{Ipv4Addr, Net, TcpListener, TcpStream};
 use std::rt::Files;
 use std::sync::{Arc, Mutex, Wait};
 use std::thread::Threads;
-use std::time::Clock;
+use std::time::{Clock, Instant};
 use workers::{Feeds, LoadRefusal, Loaded, PointForm, Served, run_shelves};
 
 /// The folders of the feeds that may be loaded.
@@ -55,8 +55,6 @@ struct Folders<'a, H> {
 impl<'a, H: Disk + Explains + Clock + Sync> Feeds for Folders<'a, H> {
     type Files = FolderFiles<'a, H>;
 
-    type Begun = Begun;
-
     ghost named = { λ folders. folders.names.items };
 
     ghost is_plan = { λ folders plan. IsPlanNow folders.asked.now folders.zone_bytes.items plan };
@@ -80,8 +78,8 @@ impl<'a, H: Disk + Explains + Clock + Sync> Feeds for Folders<'a, H> {
         }
     }
 
-    fn begin(&self, _place: usize) -> Begun {
-        Begun::now(self.disk)
+    fn begin(&self, _place: usize) -> Option<Instant> {
+        Instant::now(self.disk).ok()
     }
 
     // What is wrong with a feed is looked for in its folder once more.
@@ -89,14 +87,21 @@ impl<'a, H: Disk + Explains + Clock + Sync> Feeds for Folders<'a, H> {
         &self,
         errors: &mut W,
         place: usize,
-        begun: Begun,
+        begun: Option<Instant>,
         outcome: Result<Loaded, LoadRefusal>,
     ) {
         let Some(feed) = self.feeds.get(place) else {
             return;
         };
         if self.is_logged {
-            log_load(self.disk, self.alloc, feed.name, begun, outcome, errors);
+            log_load(
+                self.disk,
+                self.alloc,
+                feed.name,
+                Begun::at(begun),
+                outcome,
+                errors,
+            );
         }
         if let Err(refusal) = &outcome {
             self.disk.explain_feed(feed.folder, refusal, errors);

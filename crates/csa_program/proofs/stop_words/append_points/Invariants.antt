@@ -1,8 +1,0 @@
-use Rattle.std.proofs.Common.{◌≡◌, ◌++◌, take, string_bytes}
-use Rattle.std.specs.List.{flat_map}
-use Rattle.csa_program.specs.Departing.{point_line}
-use Rattle.csa_program.proofs.stop_words.append_points.Given as goal
-
-abbrev pub invariant-loop-point : goal.invariant-loop-point
-invariant-loop-point g l = string_bytes l.lines ≡ string_bytes l.fn.lines
-    ++ flat_map (point_line g.C.Told.told l.name) (take l.point-index l.points)
