@@ -210,7 +210,7 @@ fn listen<
     let errors = Mutex::new(errors);
     let shared = SharedErrors::of(rt, alloc, &errors);
     let door = Door::new(&listener, request.sessions, log_of(request.log, &shared));
-    match run_shelves::<Brand, _, _, _, _, _, _, _, _, _>(
+    match run_shelves::<Brand, _, _, _, _, _, _>(
         rt,
         alloc,
         door,
@@ -222,7 +222,7 @@ fn listen<
         form_of(request.legs),
         LoaderErrors::of(shared),
     ) {
-        Ok((served, door)) => tell_served(alloc, &served, door.has_failed(), output),
+        Ok(ran) => tell_served(alloc, &ran.served, ran.clients.has_failed(), output),
         Err(_) => status::OUT_OF_MEMORY,
     }
 }

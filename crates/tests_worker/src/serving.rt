@@ -2,7 +2,7 @@
 
 ghost use Rattle.std.specs.Prelude.{◌≡◌, ◌≤◌, [], All, length, IfOk};
 
-use epochs::{ShelfLoader, ShelfSeat, Shelves};
+use epochs::{PublishFault, ShelfLoader, ShelfSeat, Shelves};
 use feed_files::MemoryFiles;
 use feed_loader::Plan;
 use gtfs_tables::Day;
@@ -269,12 +269,12 @@ fn serve_all<R: Threads + Wait + Sync + Abort, G: Gate + Sync>(
         bytes: &told,
         is_gone: false,
     };
-    let Ok((served, _)) = run_shelves::<Brand, _, _, _, _, _, _, _, _, _>(
+    let Ok(ran) = run_shelves::<Brand, _, _, _, _, _, _>(
         rt, alloc, row, shelves, seats, loader, &feeds, gate, form, errors,
     ) else {
         return Err(AllocError.into());
     };
-    Ok((served, told.into_inner()))
+    Ok((ran.served, told.into_inner()))
 }
 
 /// What a visitor does with the replies.
@@ -381,21 +381,37 @@ fn loads_are_waited_for(rt: HostRuntime) -> Result<(), Fail> {
 }
 
 /// A client that waits and goes away: its load is carried out, its session fails, and its worker
-/// serves the next client.
+/// serves the next client. One that goes away with a version pinned leaves its seat idle.
 #[test]
 fn whoever_waits_may_go_away(rt: HostRuntime) -> Result<(), Fail> {
+    let pin = "{\"do\":\"pin\"}\n";
     let wait = "{\"do\":\"load\",\"feed\":\"slow\",\"wait\":true}\n";
     let asking = [
-        ("{\"do\":\"pin\"}\n", Manner::Reads),
+        (pin, Manner::Reads),
         (wait, Manner::GoesAway),
+        (pin, Manner::GoesAway),
     ];
     let (served, replies, told) = serve_asking(&rt, rt.alloc(), &asking, false, &OpenGate)?;
     assert_eq!(&rt; served.ended(), 1);
-    assert_eq!(&rt; served.failed(), 1);
+    assert_eq!(&rt; served.failed(), 2);
     assert!(&rt;
         replies.as_slice() == b"{\"base\":1705276800,\"ok\":\"pin\",\"version\":2}\n".as_slice()
     );
     assert!(&rt; told.as_slice() == b"loaded slow version 2\n0: 2 3 2 3\n".as_slice());
+    Ok(())
+}
+
+/// A load that finds no shelf free is reported with the counts of all shelves.
+#[test]
+fn full_shelves_are_reported(rt: HostRuntime) -> Result<(), Fail> {
+    let alloc: Global = rt.alloc();
+    let counts = [1, 1, 1, 1, 1, 1, 1, 0];
+    let refusal = LoadRefusal::Publish(PublishFault::ShelvesFull { counts });
+    let line = format!(in alloc; "load slow refused {refusal}\n")?;
+    assert_eq!(&rt;
+        line.as_str(),
+        "load slow refused 94 ShelvesFull 1 1 1 1 1 1 1 0\n"
+    );
     Ok(())
 }
 

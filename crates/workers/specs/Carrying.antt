@@ -1,5 +1,5 @@
 -- Orders that are carried out.
-use Rattle.std.specs.Prelude.{◌≡◌, ◌≤◌, ◌⊎◌, ◌++◌, ◌∷◌, ℕ, List, [], Option, Result}
+use Rattle.std.specs.Prelude.{◌≡◌, ◌≤◌, ◌⊎◌, ◌∷◌, ℕ, true, List, [], Option, Result}
 use Rattle.epochs.specs.declared.seats.LoaderAnswer.{LoaderAnswer}
 use Rattle.feed_loader.specs.declared.plan.Plan.{Plan}
 use Rattle.load_orders.specs.Telling.{AnsweredValue, IsToldBack, LoaderOrdersValue}
@@ -31,8 +31,6 @@ module _ {N D : Type 0} (noted : N → ℕ) (are_files : ℕ → D → Type 0) (
       (between : List LoaderAnswer) × IsCarriedOut order answered before between × AreCarriedOut orders rest between after
   AreCarriedOut _ _ before after = ⊥
 
-  -- all orders that were taken from the one to the other are
-  abbrev pub CarriesOut : LoaderOrdersValue N → LoaderOrdersValue N → List LoaderAnswer → List LoaderAnswer → Type 0
-  CarriesOut a b before after =
-      (orders : List OrderMark) × (answered : List (AnsweredValue N)) × (b.taken ≡ a.taken ++ orders) × (b.answered ≡ a.answered ++ answered)
-      × AreCarriedOut orders answered before after
+  -- at this end of the queue orders were taken until none came, and all were carried out in turn, each once
+  abbrev pub AllCarriedOut : LoaderOrdersValue N → List LoaderAnswer → List LoaderAnswer → Type 0
+  AllCarriedOut end before after = (end.over ≡ true) × AreCarriedOut end.taken end.answered before after
