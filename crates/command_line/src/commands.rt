@@ -243,6 +243,11 @@ const TASKS: [Task; 9] = [
     },
 ];
 
+// The commands, as a slice of any length: a loop over the constant itself takes its whole text into each goal.
+fn tasks() -> &'static [Task] {
+    &TASKS
+}
+
 fn value<'a>(alloc: Global, id: &'a str, name: &'a str, help: &'a str) -> Arg<'a> {
     Arg::new(alloc, id)
         .value_name(name)
@@ -307,7 +312,7 @@ fn command_of<'a>(alloc: Global, task: Task) -> Result<Command<'a>, AllocError> 
 
 /// The line of usage of a command, none if there is no such command.
 pub(crate) fn usage(alloc: Global, name: &str) -> Result<String, AllocError> {
-    for task in &TASKS {
+    for task in tasks() {
         if task.name == name {
             let whole = format!(in alloc; "csa {name}")?;
             let mut command = command_of(alloc, *task)?.bin_name(whole.as_str())?;
@@ -324,7 +329,7 @@ pub(crate) fn program<'a>(alloc: Global) -> Result<Command<'a>, AllocError> {
         .after_help(texts::STATUSES)
         .version(texts::VERSION)
         .subcommand_required(true);
-    for task in &TASKS {
+    for task in tasks() {
         command = command.subcommand(command_of(alloc, *task)?)?;
     }
     Ok(command)
