@@ -28,7 +28,7 @@ use std::net::{Ipv4Addr, Net, TcpListener, TcpStream};
 use std::rt::Files;
 use std::sync::{Arc, Wait};
 use std::thread::Threads;
-use std::time::Clock;
+use std::time::{Clock, Instant};
 use workers::{Feeds, PointForm, Served, run_shelves};
 
 /// The folders of the feeds that may be loaded.

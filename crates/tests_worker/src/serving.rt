@@ -18,7 +18,7 @@ use std::sync::atomic::{AtomicU64, Ordering};
 use std::sync::{Arc, Mutex, Wait};
 use std::test::Fail;
 use std::thread::Threads;
-use std::time::{Clock, Duration};
+use std::time::{Clock, Duration, Instant};
 use std::{io, thread};
 use workers::*;
 
@@ -68,7 +68,7 @@ const WAITING: (&str, &str) = (
 
 /// What the loader tells of the second.
 const LOADED: &str =
-    "loaded slow version 2\n0 0: 2 3 2 3\nload bad refused 1 MissingFile stops.txt 0\n1 1: 1\nloaded slow version 3\n0 0: 3 3 0 0\n";
+    "loaded slow version 2\n0: 2 3 2 3\nload bad refused 1 MissingFile stops.txt 0\n1: 1\nloaded slow version 3\n0: 3 3 0 0\n";
 
 /// A writer to bytes that several threads may share, or one that nobody reads any more.
 #[derive(Drop)]
@@ -144,8 +144,6 @@ struct TwoFeeds {
 impl Feeds for TwoFeeds {
     type Files = MemoryFiles<'static>;
 
-    type Begun = usize;
-
     ghost named = { λ feed. feed.names.items };
 
     fn names(&self) -> &[String] {
@@ -173,24 +171,24 @@ impl Feeds for TwoFeeds {
         Some(MemoryFiles { files: &FILES })
     }
 
-    fn begin(&self, place: usize) -> usize {
-        place
+    fn begin(&self, _place: usize) -> Option<Instant> {
+        None
     }
 
     fn finish<E: Write>(
         &self,
         errors: &mut E,
         place: usize,
-        begun: usize,
+        _begun: Option<Instant>,
         outcome: Result<Loaded, LoadRefusal>,
     ) {
         let _ = match outcome {
             Ok(Loaded { version, report }) => write!(
                 errors,
-                "{begun} {place}: {version} {} {} {}\n",
+                "{place}: {version} {} {} {}\n",
                 report.stops, report.runs, report.connections
             ),
-            Err(refusal) => write!(errors, "{begun} {place}: {}\n", refusal.number()),
+            Err(refusal) => write!(errors, "{place}: {}\n", refusal.number()),
         };
     }
 }
@@ -349,7 +347,7 @@ fn a_client_is_served(rt: HostRuntime) -> Result<(), Fail> {
     assert_eq!(&rt; served.failed(), 1);
     assert_eq!(&rt; served.spent(), 0);
     assert!(&rt; replies.as_slice() == expected.as_bytes());
-    assert!(&rt; told.as_slice() == b"loaded slow version 2\n0 0: 2 3 2 3\n".as_slice());
+    assert!(&rt; told.as_slice() == b"loaded slow version 2\n0: 2 3 2 3\n".as_slice());
     Ok(())
 }
 
@@ -399,7 +397,7 @@ fn whoever_waits_may_go_away(rt: HostRuntime) -> Result<(), Fail> {
     assert!(&rt;
         replies.as_slice() == b"{\"base\":1705276800,\"ok\":\"pin\",\"version\":2}\n".as_slice()
     );
-    assert!(&rt; told.as_slice() == b"loaded slow version 2\n0 0: 2 3 2 3\n".as_slice());
+    assert!(&rt; told.as_slice() == b"loaded slow version 2\n0: 2 3 2 3\n".as_slice());
     Ok(())
 }
 

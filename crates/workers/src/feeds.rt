@@ -10,13 +10,11 @@ use crate::refusal::LoadRefusal;
 use feed_loader::{FeedFiles, Plan};
 use std::alloc::{AllocError, Global};
 use std::io::Write;
+use std::time::Instant;
 
 /// The feeds that may be ordered by their names.
 pub trait Feeds {
     type Files: FeedFiles + Send + Drop;
-
-    /// What is kept of a load while it lasts.
-    type Begun: Drop;
 
     // Their names, by place.
     ghost named: { Self → List (String Global) };
@@ -44,8 +42,8 @@ pub trait Feeds {
         ensures { MatchOption result (length (named self.now) ≤ place) (λ files. (Self.Files.failures files ≡ 0)
             × are_files self.now place files) };
 
-    /// Called before the feed at the place is loaded.
-    fn begin(&self, place: usize) -> Self::Begun;
+    /// Called before the feed at the place is loaded: when that is, if it matters to these feeds.
+    fn begin(&self, place: usize) -> Option<Instant>;
 
     /// Called when that load has ended, behind the loader's own line, with its writer. Nothing else
     /// hangs on what is done here.
@@ -53,7 +51,7 @@ pub trait Feeds {
         &self,
         errors: &mut E,
         place: usize,
-        begun: Self::Begun,
+        begun: Option<Instant>,
         outcome: Result<Loaded, LoadRefusal>,
     );
 }
