@@ -18,7 +18,7 @@ loop-init g c = record {
 pub loop-preserved : goal.loop-preserved
 loop-preserved g c =
     let was = c.loop.invariant in
-    let one = c.serve_client in
+    let one = c.serve_client-streams in
     let asked = g.O.Orders.asked in
     record {
       next = tt;

@@ -56,15 +56,15 @@ returns g c =
     let shares = subst (λ seats. AreShares c.captures.form g.C.Client.opens g.C.Reader.Read.remaining g.C.Writer.Write.contents
     g.T.Versions.number g.T.Versions.value g.T.Versions.known
     seats c.join_workers-served.result) seats c.join_workers-served.ensures in
-    let done = c.join.result in
-    let promised = c.in-Ok-started.ensures.ok in
+    let done = c.join-orders.result in
+    let promised = c.in-Ok.ensures.ok in
     let feeds = ap (λ promise. promise.feeds.value) promised ∙ c.of-promise.ensures.feeds in
     let seat = ap (λ promise. promise.seat.value) promised ∙ c.of-promise.ensures.seat in
     let at_feeds = subst (λ feeds. AllCarriedOut g.T.Versions.noted (g.F.Feeds.are_files feeds) g.F.Files.FeedFiles.holds
     (g.F.Feeds.is_plan feeds) (length (g.F.Feeds.named feeds)) done.0
-    (g.T.Loads.answers c.in-Ok-started.loading.promise.seat.value) (g.T.Loads.answers done.1)) feeds c.join.ensures in
-    let loads = subst (λ seat. AllCarriedOut g.T.Versions.noted (g.F.Feeds.are_files c.captures.feeds.entry.now)
+    (g.T.Loads.answers c.in-Ok.loading.promise.seat.value) (g.T.Loads.answers done.1)) feeds c.join-orders.ensures in
+    let loads = subst (λ seat. AllCarriedOut g.T.Versions.noted (g.F.Feeds.are_files c.captures.feeds.now)
     g.F.Files.FeedFiles.holds
-    (g.F.Feeds.is_plan c.captures.feeds.entry.now) (length (g.F.Feeds.named c.captures.feeds.entry.now)) done.0
+    (g.F.Feeds.is_plan c.captures.feeds.now) (length (g.F.Feeds.named c.captures.feeds.now)) done.0
     (g.T.Loads.answers seat) (g.T.Loads.answers done.1)) seat at_feeds in
     search rules
