@@ -186,7 +186,8 @@ const NEW_IMAGE: [Argument; 1] = [Argument::Word(
     "The file to which the image is written, by way of OUT.part; it may be IMAGE (- is a file name here)",
 )];
 
-const TASKS: [Task; 9] = [
+/// The commands over an image, in the order of the help.
+const IMAGE_TASKS: [Task; 5] = [
     Task {
         name: "verify",
         about: "Verifies that a file is the image of a legal timetable, and prints its counts",
@@ -217,6 +218,10 @@ const TASKS: [Task; 9] = [
         notes: texts::STOPS,
         arguments: &[&IMAGE, &STOPS],
     },
+];
+
+/// The commands that follow them. There are two lists since one of all is too large a term for a proof.
+const OTHER_TASKS: [Task; 4] = [
     Task {
         name: "tables",
         about: "Checks the files of a GTFS feed, and prints how many records each has",
@@ -243,9 +248,13 @@ const TASKS: [Task; 9] = [
     },
 ];
 
-// The commands, as a slice of any length: a loop over the constant itself takes its whole text into each goal.
-fn tasks() -> &'static [Task] {
-    &TASKS
+// A slice, since a loop over the list itself takes its whole text into each goal.
+fn image_tasks() -> &'static [Task] {
+    &IMAGE_TASKS
+}
+
+fn other_tasks() -> &'static [Task] {
+    &OTHER_TASKS
 }
 
 fn value<'a>(alloc: Global, id: &'a str, name: &'a str, help: &'a str) -> Arg<'a> {
@@ -310,27 +319,55 @@ fn command_of<'a>(alloc: Global, task: Task) -> Result<Command<'a>, AllocError> 
     Ok(command)
 }
 
-/// The line of usage of a command, none if there is no such command.
-pub(crate) fn usage(alloc: Global, name: &str) -> Result<String, AllocError> {
-    for task in tasks() {
+// The command of this name.
+fn task_named(tasks: &[Task], name: &str) -> Option<Task> {
+    for task in tasks {
         if task.name == name {
-            let whole = format!(in alloc; "csa {name}")?;
-            let mut command = command_of(alloc, *task)?.bin_name(whole.as_str())?;
-            return command.render_usage();
+            return Some(*task);
         }
     }
-    Ok(String::new(alloc))
+    None
+}
+
+fn usage_of(alloc: Global, task: Task) -> Result<String, AllocError> {
+    let name = task.name;
+    let whole = format!(in alloc; "csa {name}")?;
+    let mut command = command_of(alloc, task)?.bin_name(whole.as_str())?;
+    command.render_usage()
+}
+
+/// The line of usage of a command, none if there is no such command.
+pub(crate) fn usage(alloc: Global, name: &str) -> Result<String, AllocError> {
+    if let Some(task) = task_named(image_tasks(), name) {
+        return usage_of(alloc, task);
+    }
+    match task_named(other_tasks(), name) {
+        Some(task) => usage_of(alloc, task),
+        None => Ok(String::new(alloc)),
+    }
+}
+
+fn with_tasks<'a>(
+    alloc: Global,
+    mut command: Command<'a>,
+    tasks: &[Task],
+) -> Result<Command<'a>, AllocError> {
+    for task in tasks {
+        command = command.subcommand(command_of(alloc, *task)?)?;
+    }
+    Ok(command)
 }
 
 /// All commands.
 pub(crate) fn program<'a>(alloc: Global) -> Result<Command<'a>, AllocError> {
-    let mut command = Command::new(alloc, "csa")
+    let command = Command::new(alloc, "csa")
         .about("Every best departure over verified public transport timetables")
         .after_help(texts::STATUSES)
         .version(texts::VERSION)
         .subcommand_required(true);
-    for task in tasks() {
-        command = command.subcommand(command_of(alloc, *task)?)?;
-    }
-    Ok(command)
+    with_tasks(
+        alloc,
+        with_tasks(alloc, command, image_tasks())?,
+        other_tasks(),
+    )
 }
