@@ -1,4 +1,0 @@
-mod Grouped
-mod Headers
-mod Joined
-mod Lines

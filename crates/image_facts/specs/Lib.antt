@@ -1,4 +1,0 @@
-pub mod Base
-pub mod Days
-pub mod Entries
-pub mod Facts
