@@ -83,8 +83,7 @@ impl<'a, H: Disk + Clock + Sync> Feeds for Folders<'a, H> {
         _place: usize,
         _begun: Option<Instant>,
         _outcome: Result<Loaded, LoadRefusal>,
-    ) {
-    }
+    ) {}
 }
 
 /// Serves sessions until as many were served as are asked for, or tells the first thing that is wrong.
