@@ -20,6 +20,8 @@ enum Argument {
     MaybeOption(&'static str, &'static str, &'static str),
     /// An option whose value is the name of a criterion.
     Criterion(&'static str, &'static str, &'static str),
+    /// An option with a value that is given only beside the one of the id behind.
+    OptionBeside(&'static str, &'static str, &'static str, &'static str),
     /// An option without a value.
     Flag(&'static str, &'static str),
     /// An option without a value that isn't given beside the one of the id behind.
@@ -67,12 +69,18 @@ const JOURNEY: [Argument; 1] = [Argument::Word(
     "The journey: `walk FROM TO SECS` and `ride FIRST LAST`, with a space between",
 )];
 
-const PROFILE: [Argument; 5] = [
+const PROFILE: [Argument; 6] = [
     Argument::Criterion("criterion", "NAME", "What is best"),
     Argument::MaybeOption(
         "picture",
         "FILE",
         "Write a picture of the answer to FILE, as SVG (- is a file name here)",
+    ),
+    Argument::OptionBeside(
+        "rows",
+        "N",
+        "With --picture: draw the first N journeys, 1 to 10000, and say how many more there are [default: 200]",
+        "picture",
     ),
     Argument::OtherFlag(
         "names",
@@ -136,7 +144,7 @@ const BUILD: [Argument; 3] = [
     Argument::Flag("no-warnings", "Leave out warnings on standard error"),
 ];
 
-const SERVER: [Argument; 6] = [
+const SERVER: [Argument; 7] = [
     Argument::Option(
         "image",
         "IMAGE",
@@ -161,6 +169,10 @@ const SERVER: [Argument; 6] = [
         "legs",
         "Reply each point of a profile with its legs, by trip_id, stop_id and clock",
     ),
+    Argument::Flag(
+        "log",
+        "Log each session that ends and each load on standard error",
+    ),
     Argument::Words(
         "feeds",
         "NAME=FOLDER",
@@ -174,11 +186,18 @@ const NEW_IMAGE: [Argument; 1] = [Argument::Word(
     "The file to which the image is written, by way of OUT.part; it may be IMAGE (- is a file name here)",
 )];
 
-const TASKS: [Task; 8] = [
+/// The commands over an image, in the order of the help.
+const IMAGE_TASKS: [Task; 5] = [
     Task {
         name: "verify",
         about: "Verifies that a file is the image of a legal timetable, and prints its counts",
         notes: texts::VERIFY,
+        arguments: &[&IMAGE],
+    },
+    Task {
+        name: "info",
+        about: "Prints what an image has: its layout, size and base, its counts, and the trips of each service day",
+        notes: texts::INFO,
         arguments: &[&IMAGE],
     },
     Task {
@@ -199,6 +218,10 @@ const TASKS: [Task; 8] = [
         notes: texts::STOPS,
         arguments: &[&IMAGE, &STOPS],
     },
+];
+
+/// The commands that follow them. There are two lists since one of all is too large a term for a proof.
+const OTHER_TASKS: [Task; 4] = [
     Task {
         name: "tables",
         about: "Checks the files of a GTFS feed, and prints how many records each has",
@@ -224,6 +247,15 @@ const TASKS: [Task; 8] = [
         arguments: &[&SERVER, &DAYS],
     },
 ];
+
+// A slice, since a loop over the list itself takes its whole text into each goal.
+fn image_tasks() -> &'static [Task] {
+    &IMAGE_TASKS
+}
+
+fn other_tasks() -> &'static [Task] {
+    &OTHER_TASKS
+}
 
 fn value<'a>(alloc: Global, id: &'a str, name: &'a str, help: &'a str) -> Arg<'a> {
     Arg::new(alloc, id)
@@ -257,6 +289,9 @@ fn arg_of<'a>(alloc: Global, argument: Argument) -> Result<Arg<'a>, AllocError> 
         Argument::Criterion(id, name, help) => {
             Ok(option(alloc, id, name, help).value_parser(CriterionName::NAMES.as_slice()))
         }
+        Argument::OptionBeside(id, name, help, other) => {
+            value(alloc, id, name, help).long(id).requires_arg(other)
+        }
         Argument::Flag(id, help) => Ok(flag(alloc, id, help)),
         Argument::OtherFlag(id, help, other) => flag(alloc, id, help).conflicts_with(other),
         Argument::FlagBeside(id, help, other) => flag(alloc, id, help).requires_arg(other),
@@ -284,27 +319,55 @@ fn command_of<'a>(alloc: Global, task: Task) -> Result<Command<'a>, AllocError> 
     Ok(command)
 }
 
-/// The line of usage of a command, none if there is no such command.
-pub(crate) fn usage(alloc: Global, name: &str) -> Result<String, AllocError> {
-    for task in &TASKS {
+// The command of this name.
+fn task_named(tasks: &[Task], name: &str) -> Option<Task> {
+    for task in tasks {
         if task.name == name {
-            let whole = format!(in alloc; "csa {name}")?;
-            let mut command = command_of(alloc, *task)?.bin_name(whole.as_str())?;
-            return command.render_usage();
+            return Some(*task);
         }
     }
-    Ok(String::new(alloc))
+    None
+}
+
+fn usage_of(alloc: Global, task: Task) -> Result<String, AllocError> {
+    let name = task.name;
+    let whole = format!(in alloc; "csa {name}")?;
+    let mut command = command_of(alloc, task)?.bin_name(whole.as_str())?;
+    command.render_usage()
+}
+
+/// The line of usage of a command, none if there is no such command.
+pub(crate) fn usage(alloc: Global, name: &str) -> Result<String, AllocError> {
+    if let Some(task) = task_named(image_tasks(), name) {
+        return usage_of(alloc, task);
+    }
+    match task_named(other_tasks(), name) {
+        Some(task) => usage_of(alloc, task),
+        None => Ok(String::new(alloc)),
+    }
+}
+
+fn with_tasks<'a>(
+    alloc: Global,
+    mut command: Command<'a>,
+    tasks: &[Task],
+) -> Result<Command<'a>, AllocError> {
+    for task in tasks {
+        command = command.subcommand(command_of(alloc, *task)?)?;
+    }
+    Ok(command)
 }
 
 /// All commands.
 pub(crate) fn program<'a>(alloc: Global) -> Result<Command<'a>, AllocError> {
-    let mut command = Command::new(alloc, "csa")
+    let command = Command::new(alloc, "csa")
         .about("Every best departure over verified public transport timetables")
         .after_help(texts::STATUSES)
         .version(texts::VERSION)
         .subcommand_required(true);
-    for task in &TASKS {
-        command = command.subcommand(command_of(alloc, *task)?)?;
-    }
-    Ok(command)
+    with_tasks(
+        alloc,
+        with_tasks(alloc, command, image_tasks())?,
+        other_tasks(),
+    )
 }

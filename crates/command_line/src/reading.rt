@@ -6,7 +6,7 @@ use clap::error::ErrorKind;
 use clap::{ArgMatches, Error};
 use command_requests::{
     AnswerForm, BuildRequest, FirstDay, JourneyRequest, NamedFolder, PlanText, ProfileRequest,
-    Question, Request, ServeRequest, StopsRequest, UpgradeRequest, Workers, days_of,
+    Question, Request, Rows, ServeRequest, StopsRequest, UpgradeRequest, Workers, days_of,
 };
 use criteria::CriterionName;
 use std::alloc::{AllocError, Global};
@@ -32,10 +32,11 @@ enum Form {
     Port,
     Workers,
     Sessions,
+    Rows,
 }
 
 /// The options whose values have a form of their own.
-const FORMS: [(&str, Form); 9] = [
+const FORMS: [(&str, Form); 10] = [
     ("after", Form::Clock),
     ("until", Form::Clock),
     ("by", Form::Clock),
@@ -45,6 +46,7 @@ const FORMS: [(&str, Form); 9] = [
     ("port", Form::Port),
     ("workers", Form::Workers),
     ("sessions", Form::Sessions),
+    ("rows", Form::Rows),
 ];
 
 impl Form {
@@ -57,6 +59,7 @@ impl Form {
             Form::Port => port(value).is_some(),
             Form::Workers => is_workers(value),
             Form::Sessions => count(value).is_some(),
+            Form::Rows => rows_of(value).is_some(),
         }
     }
 
@@ -74,6 +77,7 @@ impl Form {
             Form::Port => "a port is 0 to 65535",
             Form::Workers => "the number of workers is 1 to 16",
             Form::Sessions => "the number of sessions is decimal, 0 for no limit",
+            Form::Rows => "the number of rows is 1 to 10000",
         }
     }
 }
@@ -83,6 +87,10 @@ fn is_days(value: &str) -> bool {
         Some(number) => days_of(number).is_some(),
         None => false,
     }
+}
+
+fn rows_of(value: &str) -> Option<Rows> {
+    Rows::of(number(value)?)
 }
 
 fn is_workers(value: &str) -> bool {
@@ -139,6 +147,7 @@ fn request_in<'a>(alloc: Global, matches: &ArgMatches<'a>) -> Result<Request<'a>
 fn plain_request<'a>(name: &str, matches: &ArgMatches<'a>) -> Option<Request<'a>> {
     match name {
         "verify" => matches.get_str("image").map(Request::Verify),
+        "info" => matches.get_str("image").map(Request::Info),
         "journey" => journey_request(matches).map(Request::Journey),
         "profile" => profile_request(matches).map(Request::Profile),
         "stops" => stops_request(matches).map(Request::Stops),
@@ -222,7 +231,16 @@ fn profile_request<'a>(matches: &ArgMatches<'a>) -> Option<ProfileRequest<'a>> {
         criterion: CriterionName::of(matches.get_str("criterion")?)?,
         form: answer_form(matches),
         picture: matches.get_str("picture"),
+        rows: rows(matches)?,
     })
+}
+
+/// How many rows of a picture are asked for, none in a wrong form.
+fn rows(matches: &ArgMatches<'_>) -> Option<Rows> {
+    match matches.get_str("rows") {
+        Some(value) => rows_of(value),
+        None => Some(Rows::plain()),
+    }
 }
 
 fn answer_form(matches: &ArgMatches<'_>) -> AnswerForm {
@@ -283,6 +301,7 @@ fn serve_request<'a>(alloc: Global, matches: &ArgMatches<'a>) -> Result<Request<
         workers,
         sessions,
         legs: matches.get_flag("legs"),
+        log: matches.get_flag("log"),
         plan,
         feeds: named_folders(alloc, matches)?,
     }))

@@ -14,6 +14,21 @@ pub(crate) const STATUSES: &str = "Exit status:\n\
 
 pub(crate) const VERIFY: &str = "Example: csa verify examples/base.csa";
 
+pub(crate) const INFO: &str = "Each line is a word and a value, with a space between:\n\
+\x20 layout          the layout of the image, 1 or 2\n\
+\x20 bytes           the size of the image\n\
+\x20 base            the instant from which clocks count, in seconds after 1970-01-01T00:00:00Z\n\
+\x20 utc             the same as a date and time of UTC, or none outside the years -9999 to 9999\n\
+\x20 stops           stops\n\
+\x20 trips           trips, each on one service day\n\
+\x20 connections     rides from one stop to the next\n\
+\x20 footpaths       walks, each stop and itself included\n\
+\x20 name-bytes      bytes of all stop_ids and trip_ids together\n\
+\x20 trips-YYYYMMDD  trips of this service day; the earliest day first, days without trips left out\n\
+An image that csa verify refuses is refused.\n\
+\n\
+Example: csa info examples/base.csa";
+
 pub(crate) const STOPS: &str = "Example: csa stops examples/base.csa";
 
 pub(crate) const TABLES: &str = "Example: csa tables examples/base";
@@ -45,7 +60,8 @@ Example: csa profile examples/base.csa --from A --to C --after 07:00:00 --until 
 --by 10:00:00 --criterion arrival+trips\n\
 With --names a line is: dep 08:00:00 arr 08:30:00 trips 1 : ride T1 08:00:00 A 08:30:00 C\n\
 With --json it is: {\"ok\":\"profile\",\"points\":[{\"arr\":\"08:30:00\",\"dep\":\"08:00:00\",\
-\"journey\":\"ride 0 1\",\"trips\":1}],\"version\":1,\"walk\":null}";
+\"journey\":\"ride 0 1\",\"trips\":1}],\"version\":1,\"walk\":null}\n\
+With --picture answer.svg --rows 50 the first 50 journeys are drawn too.";
 
 pub(crate) const BUILD: &str = "Standard output has one line of counts:\n\
 \x20 stops        stops and platforms in stops.txt; stations, entrances and the like are not counted\n\
@@ -57,6 +73,10 @@ pub(crate) const BUILD: &str = "Standard output has one line of counts:\n\
 \x20 frequencies  trips that frequencies.txt names\n\
 \x20 skipped      rows of transfers.txt left out: between trips or routes, or of a transfer_type beyond 0 to 3\n\
 The counts lifted, flex and frequencies include trips that run on none of the days.\n\
+\n\
+With --progress standard error has a line for each file, with its bytes and the seconds that it took, and for each\n\
+phase with its counts; of a file that takes longer than a second also how many rows were read so far. On a\n\
+terminal one line is rewritten.\n\
 \n\
 Example: csa build examples/base base.csa --first 20240115 --days 1 --zone fixed:0 --progress";
 
@@ -70,6 +90,12 @@ A session is lines of JSON over TCP:\n\
 \x20     (with \"wait\":true the reply comes once the feed is loaded, or says why it is not)\n\
 \x20 {\"do\":\"profile\",\"from\":\"A\",\"to\":\"C\",\"after\":\"07:00:00\",\"until\":\"09:00:00\",\
 \"by\":\"10:00:00\",\"criterion\":\"arrival\"}\n\
+Standard error has a line for each load, and what is wrong with a feed that is refused. With --log it also has,\n\
+with the instant in UTC and the seconds that it took:\n\
+\x20 2024-01-15T06:00:00Z session 1 ended seconds 0.250 requests 4\n\
+\x20     (ended: all was replied; failed: a read or a write failed; spent: it sent too many requests)\n\
+\x20 2024-01-15T06:00:00Z load slow version 2 runs 2 connections 3 seconds 0.015\n\
+\x20 2024-01-15T06:00:00Z load slow refused 8 seconds 0.001\n\
 \n\
 Example: csa serve --image examples/base.csa --port 7077 --workers 2 --sessions 0 --first 20240115 \
 --days 1 --zone fixed:0 slow=examples/slow";

@@ -9,7 +9,8 @@ pub mod statuses;
 
 pub use ends::Ends;
 pub use plans::{
-    Ahead, FirstDay, MOST_AHEAD, MOST_DAYS, MOST_WORKERS, PlanText, Workers, ZoneText, days_of,
+    Ahead, FirstDay, MOST_AHEAD, MOST_DAYS, MOST_ROWS, MOST_WORKERS, PLAIN_ROWS, PlanText, Rows,
+    Workers, ZoneText, days_of,
 };
 pub use requests::{
     AnswerForm, BuildRequest, JourneyRequest, NamedFolder, ProfileRequest, Question, Request,

@@ -6,7 +6,7 @@ ghost use Rattle.jiff_core.specs.Calendar.{IsWithin};
 ghost use Rattle.gtfs_rows.specs.Values.{day_of};
 ghost use Rattle.gtfs_rows.specs.declared.values.Day.{Day};
 ghost use Rattle.command_requests.specs.Naming.{IsWordOf};
-ghost use Rattle.command_requests.specs.declared.plans.TheConstants.{MOST_DAYS, MOST_WORKERS};
+ghost use Rattle.command_requests.specs.declared.plans.TheConstants.{MOST_DAYS, MOST_ROWS, MOST_WORKERS};
 
 use gtfs_rows::Day;
 
@@ -15,6 +15,12 @@ pub const MOST_WORKERS: u32 = 16;
 
 /// How many service days may be asked for.
 pub const MOST_DAYS: u32 = 14;
+
+/// How many rows of a picture may be asked for.
+pub const MOST_ROWS: u32 = 10_000;
+
+/// How many rows a picture has at most if nothing else is asked for.
+pub const PLAIN_ROWS: u32 = 200;
 
 /// How many seconds a zone may be ahead of UTC, or behind it.
 pub const MOST_AHEAD: i32 = 86_399;
@@ -38,6 +44,37 @@ impl Workers {
         Some(Workers {
             number: asked as usize,
         })
+    }
+}
+
+/// How many journeys a picture shows at most: 1 to 10,000, 200 if nothing else is asked for.
+#[derive(Clone, Copy, Drop)]
+pub struct Rows {
+    pub number: usize,
+    ghost some: { 1 ≤ number },
+    ghost few: { number ≤ MOST_ROWS },
+}
+
+impl Rows {
+    /// As many as are asked for; none beyond the limits.
+    pub fn of(asked: u32) -> Option<Rows>
+        ensures { MatchOption result (¬ ((1 ≤ asked) × (asked ≤ MOST_ROWS))) (λ rows. rows.number ≡ asked) }
+    {
+        if asked < 1 || asked > MOST_ROWS {
+            return None;
+        }
+        Some(Rows {
+            number: asked as usize,
+        })
+    }
+
+    /// As many as a picture has if nothing else is asked for.
+    pub fn plain() -> Rows
+        ensures { result.number ≡ 200 }
+    {
+        Rows {
+            number: PLAIN_ROWS as usize,
+        }
     }
 }
 

@@ -1,6 +1,6 @@
 //! What a command line asks for.
 
-use crate::plans::{PlanText, Workers};
+use crate::plans::{PlanText, Rows, Workers};
 use criteria::CriterionName;
 
 /// A command with its arguments.
@@ -8,6 +8,8 @@ use criteria::CriterionName;
 pub enum Request<'a> {
     /// To verify the image in a file, or in the standard input for `-`.
     Verify(&'a str),
+    /// To print what the image in a file has, or in the standard input for `-`.
+    Info(&'a str),
     /// To check a journey against an image.
     Journey(JourneyRequest<'a>),
     /// To answer a profile query over an image.
@@ -67,6 +69,8 @@ pub struct ProfileRequest<'a> {
     pub form: AnswerForm,
     /// The file into which the answer is drawn.
     pub picture: Option<&'a str>,
+    /// How many of its journeys are drawn.
+    pub rows: Rows,
 }
 
 /// The image, and what the names of the stops that are listed have in them.
@@ -110,6 +114,8 @@ pub struct ServeRequest<'a> {
     pub sessions: u64,
     /// Whether profiles are replied with the legs of journeys.
     pub legs: bool,
+    /// Whether each session and each load is logged.
+    pub log: bool,
     pub plan: PlanText<'a>,
     pub feeds: Vec<NamedFolder<'a>>,
 }

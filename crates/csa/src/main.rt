@@ -1,10 +1,13 @@
 //! The program `csa`: it hands its words and streams to the library.
 #![tactic(auto)]
 
+mod sources;
+
+use crate::sources::SOURCES;
 use csa_program::run;
 use std::env;
 use std::fs::File;
-use std::io::{ErrorKind, IsTerminal};
+use std::io::{ErrorKind, IsTerminal, Write};
 use std::process::ExitCode;
 use std::rt::Env;
 
@@ -27,14 +30,34 @@ fn main(rt: HostRuntime) -> ExitCode {
     let mut output = rt.stdout();
     let mut errors = rt.stderr();
     let is_terminal = errors.is_terminal();
-    ExitCode::from(run(
+    let status = run(
         &rt,
         words.as_slice(),
         &mut input,
         &mut output,
         &mut errors,
         is_terminal,
-    ))
+    );
+    if status == 0 && asks_version(&words) {
+        return ExitCode::from(print_sources(&mut output));
+    }
+    ExitCode::from(status)
+}
+
+/// Whether the words ask for the version: what comes behind that word is not read.
+fn asks_version(words: &[String]) -> bool {
+    match words.get(1) {
+        Some(word) => matches!(word.as_str(), "--version" | "-V"),
+        None => false,
+    }
+}
+
+/// Prints the sum of the sources, below the version; the status, 3 where it can't be written.
+fn print_sources<W: Write>(output: &mut W) -> u8 {
+    match write!(output, "sources {SOURCES}\n") {
+        Ok(()) => 0,
+        Err(_) => 3,
+    }
 }
 
 /// The words of the command line; or the status without them, 4 where memory is wanting, 64 where a word is no text.

@@ -22,13 +22,15 @@ drawn_more R xs i x ys zs y lt there before last grown =
     subst (λ some. AllZip R some zs) front (subst (AllZip R (take i xs ++ x ∷ [])) (sym grown) (all_zipped_more R (take i xs) ys x y before last))
 
 -- a picture, whose lines are those of the departures that are drawn
-pub picture_made : {V : Type 0} (told : V → ToldValue) (image : ImageValue) (name : CriterionName) (q : Query) (departures drawn : List (Departure V))
+pub picture_made : {V : Type 0} (told : V
+    → ToldValue) (image : ImageValue) (name : CriterionName) (rows : ℕ) (q : Query)
+    (departures drawn : List (Departure V))
     (walk : Option ℕ) (text : List ℕ) (heading shown : HeadingValue) (axis : Axis) (lines seen drew : List LineValue) (left : ℕ)
-    → IsHeadingOf image.names name q heading → drawn ≡ take 200 departures → seen ≡ lines → drew ≡ lines
+    → IsHeadingOf image.names name q heading → drawn ≡ take rows departures → seen ≡ lines → drew ≡ lines
     → shown ≡ heading → AllZip (IsDrawnAs told image) drawn lines
-    → All (LiesOn axis) seen → left ≡ length departures - 200 → IsPicture shown axis walk drew left text
-    → IsPictureOf told image name q departures walk text
-picture_made told image name q departures drawn walk text heading shown axis lines seen drew left asked some same last above are covered rest is =
+    → All (LiesOn axis) seen → left ≡ length departures - rows → IsPicture shown axis walk drew left text
+    → IsPictureOf told image name rows q departures walk text
+picture_made told image name rows q departures drawn walk text heading shown axis lines seen drew left asked some same last above are covered rest is =
     record {
       heading = heading;
       axis = axis;

@@ -1,8 +1,10 @@
 pub mod Answering
 pub mod Asking
 pub mod Building
+pub mod Informing
 pub mod Judging
 pub mod Listing
+pub mod Logging
 pub mod Opening
 pub mod Picturing
 pub mod Serving

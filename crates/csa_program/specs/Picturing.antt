@@ -16,14 +16,14 @@ abbrev pub IsDrawnAs : {V : Type 0} → (V → ToldValue) → ImageValue → Dep
 IsDrawnAs told image departure line =
     IsLineOf image.timetable image.names departure.time (told departure.value) departure.journey line
 
--- the picture of a query's departures: what was asked, the direct walk, a line for each of the first 200 departures, in order, on an axis
+-- the picture of a query's departures: what was asked, the direct walk, a line for each of so many departures, the first, in order, on an axis
 -- that covers all of them, and how many more there are
-pub record IsPictureOf {V : Type 0} (told : V → ToldValue) (image : ImageValue) (criterion : CriterionName) (q : Query)
+pub record IsPictureOf {V : Type 0} (told : V → ToldValue) (image : ImageValue) (criterion : CriterionName) (rows : ℕ) (q : Query)
     (departures : List (Departure V)) (walk : Option ℕ) (text : List ℕ) : Type 0 where
   pub heading : HeadingValue
   pub axis : Axis
   pub lines : List LineValue
   pub asked : IsHeadingOf image.names criterion q heading
-  pub drawn : AllZip (IsDrawnAs told image) (take 200 departures) lines
+  pub drawn : AllZip (IsDrawnAs told image) (take rows departures) lines
   pub covered : All (LiesOn axis) lines
-  pub is : IsPicture heading axis walk lines (length departures - 200) text
+  pub is : IsPicture heading axis walk lines (length departures - rows) text

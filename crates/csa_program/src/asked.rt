@@ -3,9 +3,10 @@
 use crate::explaining::explain;
 use crate::opening::open_image;
 use crate::question::query_asked;
-use crate::{journey, profile, status, stops, upgrade, verify};
+use crate::{info, journey, profile, status, stops, upgrade, verify};
 use command_requests::{JourneyRequest, ProfileRequest, Question, StopsRequest, UpgradeRequest};
 use image_verifier::Verified;
+use std::alloc::Global;
 use std::io::{Read, Write};
 use std::rt::Files;
 use timetable::QueryFault;
@@ -14,6 +15,7 @@ use timetable::QueryFault;
 #[derive(Clone, Copy, Drop)]
 pub enum Asked<'a> {
     Verify(&'a str),
+    Info(&'a str),
     Journey(JourneyRequest<'a>),
     Profile(ProfileRequest<'a>),
     Stops(StopsRequest<'a>),
@@ -23,7 +25,7 @@ pub enum Asked<'a> {
 impl<'a> Asked<'a> {
     fn path(self) -> &'a str {
         match self {
-            Asked::Verify(image) => image,
+            Asked::Verify(image) | Asked::Info(image) => image,
             Asked::Journey(request) => request.image,
             Asked::Profile(request) => request.image,
             Asked::Stops(request) => request.image,
@@ -35,7 +37,7 @@ impl<'a> Asked<'a> {
         match self {
             Asked::Journey(request) => Some(request.question),
             Asked::Profile(request) => Some(request.question),
-            Asked::Verify(_) | Asked::Stops(_) | Asked::Upgrade(_) => None,
+            Asked::Verify(_) | Asked::Info(_) | Asked::Stops(_) | Asked::Upgrade(_) => None,
         }
     }
 }
@@ -54,17 +56,26 @@ pub fn answer<H: Files + AllocGlobal, I: Read, O: Write, E: Write>(
     };
     let status = match asked {
         Asked::Verify(_) => verify::run(rt.alloc(), &image, output),
+        Asked::Info(_) => info::run(rt.alloc(), &image, output),
         Asked::Journey(request) => journey::run(rt.alloc(), &image, request, output),
         Asked::Profile(request) => profile::run(rt, &image, request, output, errors),
         Asked::Stops(request) => stops::run(rt.alloc(), &image, request, output),
         Asked::Upgrade(request) => upgrade::run(rt, &image, request, output, errors),
     };
-    if status == status::REFUSED
-        && let Some(question) = asked.question()
-    {
-        explain_question(&image, &question, errors);
+    if status == status::REFUSED {
+        explain_asked(rt.alloc(), &image, asked, errors);
     }
     status
+}
+
+/// Says why what is asked of an image is refused.
+fn explain_asked<E: Write>(alloc: Global, image: &Verified, asked: Asked<'_>, errors: &mut E) {
+    if let Some(question) = asked.question() {
+        explain_question(image, &question, errors);
+    }
+    if let Asked::Journey(request) = asked {
+        journey::explain_journey(alloc, image, &request, errors);
+    }
 }
 
 /// Says what is wrong with a question: which end is no stop of the image, or which clock is before another.

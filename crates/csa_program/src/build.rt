@@ -1,19 +1,20 @@
 //! `csa build FOLDER OUT --first DAY --days N --zone ZONE [--strict] [--progress] [--no-warnings]`.
 
-ghost use Rattle.std.specs.Prelude.{◌≡◌, ◌++◌, IfOk, OnOk, string_bytes};
+ghost use Rattle.std.specs.Prelude.{◌≡◌, ◌≤◌, ◌<◌, ◌-◌, ◌^◌, ◌++◌, IfOk, OnOk, string_bytes};
+ghost use Rattle.connections.specs.declared.days.TheConstants.{MAX_DAYS};
 ghost use Rattle.csa_program.specs.Building.{changed_text, made_text, report_line};
 
 use crate::explaining::{explain_refused, reason_of};
 use crate::planning::{PlanFailure, plan_of};
-use crate::progress::{ToldFiles, load_told};
+use crate::progress::{Progress, ToldFiles, load_told};
 use crate::putting::{put_number, put_text};
 use crate::refusal::refuse_feed;
 use crate::status;
 use crate::warnings::{Built, warn};
 use crate::writing::put_image;
 use command_requests::BuildRequest;
-use feed_files::FolderFiles;
-use feed_loader::{LoadFault, Report};
+use feed_files::{FeedFiles, FolderFiles};
+use feed_loader::{LoadFault, Plan, Report};
 use std::alloc::{AllocError, Global};
 use std::io;
 use std::io::{ErrorKind, Write};
@@ -61,12 +62,12 @@ pub fn run<H: Files + RandomSource + AllocGlobal + Clock, O: Write, E: Write>(
 ) -> u8 {
     let alloc = rt.alloc();
     let folder = request.folder;
-    let log = if request.progress || is_terminal {
-        Some(&mut *errors)
+    let progress = if request.progress || is_terminal {
+        Some(Progress::new(alloc, rt, &mut *errors, is_terminal))
     } else {
         None
     };
-    match build(rt, &request, log) {
+    match build(rt, &request, progress) {
         Ok(built) => {
             if warnings {
                 warn(rt, folder, &request.plan.zone, &built, errors);
@@ -88,19 +89,37 @@ pub fn run<H: Files + RandomSource + AllocGlobal + Clock, O: Write, E: Write>(
 fn build<'a, H: Files + RandomSource + AllocGlobal + Clock, E: Write>(
     rt: &H,
     request: &BuildRequest<'a>,
-    log: Option<&mut E>,
+    progress: Option<Progress<'_, H, &mut E>>,
 ) -> Result<Built, Failure<'a>> {
     let plan = plan_of(rt, &request.plan)?;
-    let mut files = ToldFiles::new(FolderFiles::new(rt, request.folder), log);
-    let (image, report) = load_told(rt.alloc(), &mut files, &plan, request.out)?;
-    match put_image(rt, request.out, image.words()) {
-        Ok(()) => Ok(Built {
-            image,
-            plan,
-            report,
-        }),
-        Err(error) => Err(write_failure(&error, request.out)),
+    let mut files = ToldFiles::new(FolderFiles::new(rt, request.folder), progress);
+    let built = build_told(rt, request.out, &mut files, plan);
+    files.close();
+    built
+}
+
+// Builds the image of the files, and writes it at the path.
+fn build_told<'a, H: Files + AllocGlobal, F: FeedFiles, C: Clock, W: Write>(
+    rt: &H,
+    out: &'a str,
+    files: &mut ToldFiles<'_, F, C, W>,
+    plan: Plan,
+) -> Result<Built, Failure<'a>>
+    requires failures { F.failures files.old.files < 2 ^ 64 - 1 }
+    requires some { 1 ≤ plan.days }
+    requires few { plan.days ≤ MAX_DAYS }
+{
+    let (image, report) = load_told(rt.alloc(), files, &plan)?;
+    files.tell_writing(out);
+    if let Err(error) = put_image(rt, out, image.words()) {
+        return Err(write_failure(&error, out));
     }
+    files.tell_written(out, image.words().len());
+    Ok(Built {
+        image,
+        plan,
+        report,
+    })
 }
 
 fn write_failure<'a>(error: &io::Error, path: &'a str) -> Failure<'a> {

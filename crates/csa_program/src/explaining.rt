@@ -5,6 +5,7 @@
 use crate::folders::explain_folder;
 use crate::table_fault::{explain_failed, explain_table};
 use crate::warnings::zone_path;
+use epochs::PublishFault;
 use feed_loader::LoadFault;
 use std::alloc::{AllocError, Global};
 use std::convert::AsStr;
@@ -12,6 +13,7 @@ use std::fmt::Write as _;
 use std::fs::{self, File};
 use std::io::{ErrorKind, Write};
 use std::rt::Files;
+use workers::LoadRefusal;
 
 /// How many bytes of a value are shown.
 const LONGEST_SHOWN: usize = 60;
@@ -89,6 +91,34 @@ fn push_shown(text: &mut String, byte: u8) -> Result<(), AllocError> {
         b' '..=b'~' => text.push(byte as char),
         _ => write!(text, "\\x{byte:02X}"),
     }
+}
+
+/// Who can say more of a feed that isn't loaded, on any thread: it has no type of its own.
+pub trait Explains {
+    /// Says why the feed of a folder isn't loaded.
+    fn explain_feed<E: Write>(&self, folder: &str, refusal: &LoadRefusal, errors: &mut E);
+}
+
+impl<H: Files + AllocGlobal> Explains for H {
+    fn explain_feed<E: Write>(&self, folder: &str, refusal: &LoadRefusal, errors: &mut E) {
+        match refusal {
+            LoadRefusal::Load(fault) => explain_refused(self, folder, fault, errors),
+            LoadRefusal::Publish(fault) => explain_unpublished(*fault, errors),
+        }
+    }
+}
+
+/// Says why an image isn't published, and what to do. The counts of all shelves are in the refusal.
+fn explain_unpublished<E: Write>(fault: PublishFault, errors: &mut E) {
+    let reason = match fault {
+        PublishFault::ShelvesFull { .. } => {
+            "sessions hold all eight versions that there may be: one is free once those who pinned it release it or end"
+        }
+        PublishFault::VersionsSpent =>
+            "there is no further number of a version: start the server anew",
+        PublishFault::OutOfMemory => return,
+    };
+    explain(errors, &["csa: ", reason]);
 }
 
 /// Explains the refusal of a feed: what is wrong with its folder, or where a fault of a table is.

@@ -5,6 +5,7 @@ ghost use Rattle.command_requests.specs.declared.statuses.TheConstants.{ACCEPTED
 ghost use Rattle.csa_program.specs.declared.journey.Failure.TheVariants.{OutOfMemory};
 ghost use Rattle.csa_program.specs.Judging.{IsAccepted, IsFaulty, IsVerdict, times_line};
 
+use crate::explaining::explain;
 use crate::listing::append_times;
 use crate::putting::put_text;
 use crate::question::query_asked;
@@ -71,6 +72,67 @@ fn tell_failure<O: Write>(alloc: Global, output: &mut O, failure: Failure) -> u8
         Failure::OutOfMemory => return status::OUT_OF_MEMORY,
     };
     status::tell_refusal(alloc, output, &refusal)
+}
+
+/// Says why a journey is refused that is asked of an image. Nothing is said of a question that asks no query.
+pub fn explain_journey<E: Write>(
+    alloc: Global,
+    image: &Verified,
+    request: &JourneyRequest<'_>,
+    errors: &mut E,
+) {
+    match judge(alloc, image, request) {
+        Err(Failure::BadText) => explain(
+            errors,
+            &[
+                "csa: a journey is `ride FIRST LAST` and `walk FROM TO SECS`, with one space between words",
+            ],
+        ),
+        Err(Failure::Faulty(fault)) => explain_fault(fault, errors),
+        _ => {}
+    }
+}
+
+// It takes no memory.
+fn explain_fault<E: Write>(fault: JourneyFault, errors: &mut E) {
+    let reason = reason_of(fault);
+    let _ = match fault {
+        JourneyFault::LegRange(leg)
+        | JourneyFault::TwoTrips(leg)
+        | JourneyFault::NoBoarding(leg)
+        | JourneyFault::NoAlighting(leg)
+        | JourneyFault::TooEarly(leg) => {
+            write!(errors, "csa: ride {leg}, counted from 0: {reason}\n")
+        }
+        JourneyFault::NoFootpath(walk) | JourneyFault::WalkBroken(walk) => {
+            write!(
+                errors,
+                "csa: walk {walk}, walk 0 being the one before the first ride: {reason}\n"
+            )
+        }
+        JourneyFault::WrongEnds | JourneyFault::OutsideWindow => write!(errors, "csa: {reason}\n"),
+    };
+}
+
+fn reason_of(fault: JourneyFault) -> &'static str {
+    match fault {
+        JourneyFault::LegRange(_) => {
+            "there is no such ride, or the image has no such connections, or the first is behind the last"
+        }
+        JourneyFault::TwoTrips(_) => "its first and its last connection are of two trips",
+        JourneyFault::NoBoarding(_) => "nobody gets on where it departs",
+        JourneyFault::NoAlighting(_) => "nobody gets off where it ends",
+        JourneyFault::NoFootpath(_) => "the image has no such footpath of as many seconds",
+        JourneyFault::WalkBroken(_) => {
+            "it doesn't lead from where the ride before it ends to where the next departs; a change is a walk, \
+also at one stop and of 0 seconds"
+        }
+        JourneyFault::TooEarly(_) => "it departs before the ride and the walk before it are over",
+        JourneyFault::WrongEnds => "the journey doesn't begin at --from, or doesn't end at --to",
+        JourneyFault::OutsideWindow => {
+            "the journey departs before --after or behind --until, or arrives behind --by"
+        }
+    }
 }
 
 /// When the journey of a text departs and arrives, as an answer to the question; or the first fault: of the query,

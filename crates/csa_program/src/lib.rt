@@ -6,8 +6,10 @@ mod bases;
 mod build;
 mod explaining;
 mod folders;
+mod info;
 mod journey;
 mod listing;
+mod logging;
 mod machine;
 mod naming;
 mod opening;
@@ -20,6 +22,7 @@ mod question;
 mod records;
 mod refusal;
 mod replying;
+mod requests;
 mod serve;
 mod sockets;
 mod status;
@@ -74,6 +77,7 @@ fn run_command<
 >(rt: &H, words: &[S], input: &mut I, output: &mut O, errors: &mut E, is_terminal: bool) -> u8 {
     match read(rt.alloc(), words) {
         Ok(Request::Verify(image)) => answer(rt, Asked::Verify(image), input, output, errors),
+        Ok(Request::Info(image)) => answer(rt, Asked::Info(image), input, output, errors),
         Ok(Request::Journey(request)) => answer(rt, Asked::Journey(request), input, output, errors),
         Ok(Request::Profile(request)) => answer(rt, Asked::Profile(request), input, output, errors),
         Ok(Request::Stops(request)) => answer(rt, Asked::Stops(request), input, output, errors),

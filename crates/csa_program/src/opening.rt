@@ -7,6 +7,7 @@ use crate::refusal::Refusal;
 use crate::status;
 use image_files::{ImageFileFault, image_words};
 use image_verifier::{ImageFault, Verified, verify};
+use std::fmt;
 use std::io::{Read, Write};
 use std::rt::Files;
 
@@ -23,7 +24,14 @@ pub fn open_image<H: Files + AllocGlobal, I: Read, O: Write, E: Write>(
     let words = match image_words(rt, path, input) {
         Ok(words) => words,
         Err(ImageFileFault::OddLength) => {
-            return Err(status::tell_refusal(rt.alloc(), output, &Refusal::OddLength));
+            let status = status::tell_refusal(rt.alloc(), output, &Refusal::OddLength);
+            explain(
+                status,
+                path,
+                &"its bytes aren't whole words of four",
+                errors,
+            );
+            return Err(status);
         }
         Err(ImageFileFault::Unreadable) => {
             return Err(status::tell_unread(rt, errors, path));
@@ -34,7 +42,17 @@ pub fn open_image<H: Files + AllocGlobal, I: Read, O: Write, E: Write>(
         Ok(image) => Ok(image),
         Err((_words, ImageFault::OutOfMemory)) => Err(status::OUT_OF_MEMORY),
         Err((_words, fault)) => {
-            Err(status::tell_refusal(rt.alloc(), output, &Refusal::Image(fault)))
+            let status = status::tell_refusal(rt.alloc(), output, &Refusal::Image(fault));
+            explain(status, path, &fault, errors);
+            Err(status)
         }
+    }
+}
+
+// Says what is wrong with the image at a path, once its refusal was printed. It takes no memory.
+fn explain<F: fmt::Display, E: Write>(status: u8, path: &str, fault: &F, errors: &mut E) {
+    let name = if path == "-" { "standard input" } else { path };
+    if status == status::REFUSED {
+        let _ = write!(errors, "csa: {name}: {fault}\n");
     }
 }

@@ -5,7 +5,8 @@ ghost use Rattle.std.specs.List.{AllZip};
 ghost use Rattle.csa_program.specs.Picturing.{IsDrawnAs, IsPictureOf};
 
 use answer_pictures::{Axis, JourneyLine, heading_of, journey_line, picture};
-use criteria::{CriterionName, Told};
+use command_requests::ProfileRequest;
+use criteria::Told;
 use image_verifier::Verified;
 use journeys::{Answer, Departure};
 use std::alloc::{AllocError, Global};
@@ -13,9 +14,6 @@ use std::fs::File;
 use std::io::Write;
 use std::rt::Files;
 use timetable::Query;
-
-// So many journeys are drawn at most: what draws SVG has its own limit of height.
-const MOST_LINES: usize = 200;
 
 /// Why there is no picture.
 pub enum PictureFailure<'a> {
@@ -30,43 +28,45 @@ impl<'a> From<AllocError> for PictureFailure<'a> {
     }
 }
 
-/// The picture of an answer, with the first 200 of its departures.
+/// The picture of an answer, with as many of its departures as are asked for.
 pub fn picture_text<C: Told>(
     alloc: Global,
     image: &Verified,
     criterion: &C,
-    name: CriterionName,
+    request: ProfileRequest<'_>,
     query: &Query,
     answer: &Answer<C>,
 ) -> Result<String, AllocError>
-    ensures { IfOk result (λ text. IsPictureOf C.told image.now name query.now answer.now.departures.items
-        answer.now.walk (string_bytes text)) }
+    ensures { IfOk result (λ text. IsPictureOf C.told image.now request.entry.criterion request.entry.rows.number
+        query.now
+        answer.now.departures.items answer.now.walk (string_bytes text)) }
 {
-    let heading = heading_of(alloc, image, query, name)?;
-    let drawn = first_of(&answer.departures);
+    let rows = request.rows.number;
+    let heading = heading_of(alloc, image, query, request.criterion)?;
+    let drawn = first_of(&answer.departures, rows);
     let lines = lines_of(alloc, image, criterion, drawn)?;
     let axis = Axis::of_lines(&lines, query.from, query.until);
-    let left = left_of(&answer.departures);
+    let left = left_of(&answer.departures, rows);
     let text = picture(alloc, &heading, axis, answer.walk, &lines, left)?;
     Ok(text)
 }
 
 /// As many departures as are drawn.
-fn first_of<V>(departures: &[Departure<V>]) -> &[Departure<V>]
-    ensures { result.now ≡ take 200 departures.now }
+fn first_of<V>(departures: &[Departure<V>], rows: usize) -> &[Departure<V>]
+    ensures { result.now ≡ take rows departures.now }
 {
-    if departures.len() <= MOST_LINES {
+    if departures.len() <= rows {
         departures
     } else {
-        &departures[..MOST_LINES]
+        &departures[..rows]
     }
 }
 
 /// How many departures aren't drawn.
-fn left_of<V>(departures: &[Departure<V>]) -> usize
-    ensures { result ≡ length departures.now - 200 }
+fn left_of<V>(departures: &[Departure<V>], rows: usize) -> usize
+    ensures { result ≡ length departures.now - rows }
 {
-    departures.len().saturating_sub(MOST_LINES)
+    departures.len().saturating_sub(rows)
 }
 
 /// A line for each departure.

@@ -1,4 +1,4 @@
-//! `csa profile IMAGE QUERY --criterion NAME [--names | --json [--legs]] [--picture FILE]`.
+//! `csa profile IMAGE QUERY --criterion NAME [--names | --json [--legs]] [--picture FILE [--rows N]]`.
 
 ghost use Rattle.std.specs.Prelude.{◌≡◌, IfOk, string_bytes};
 ghost use Rattle.timetable.specs.Queries.{IsAskable};
@@ -111,8 +111,7 @@ fn answer_text<'a, H: Files + AllocGlobal, C: Told>(
     let mut source = InPlace::new(image);
     let answer = answer_query(rt.alloc(), &mut source, criterion, query)?;
     if let Some(path) = request.picture {
-        let name = request.criterion;
-        let drawn = picture_text(rt.alloc(), image, criterion, name, query, &answer)?;
+        let drawn = picture_text(rt.alloc(), image, criterion, request, query, &answer)?;
         write_picture(rt, drawn.as_str(), path)?;
     }
     let text = text_in_form(rt.alloc(), image, criterion, &answer, request.form)?;

@@ -1,12 +1,13 @@
-//! `csa serve --image IMAGE --port P --workers W --sessions N [--legs] --first DAY --days N --zone ZONE
+//! `csa serve --image IMAGE --port P --workers W --sessions N [--legs] [--log] --first DAY --days N --zone ZONE
 //! [NAME=FOLDER]..`.
 
-ghost use Rattle.std.specs.Prelude.{◌≡◌, ◌≤◌, All, length, IfOk};
+ghost use Rattle.std.specs.Prelude.{◌≡◌, ◌≤◌, All, length, map, string_bytes, IfOk};
 ghost use Rattle.csa_program.specs.Serving.{counts_of, form_with};
 ghost use Rattle.feed_plans.specs.Planning.{IsPlanNow};
 
 use crate::bases::tell_bases;
-use crate::explaining::{explain_load, reason_of};
+use crate::explaining::{Explains, explain_load, reason_of};
+use crate::logging::{Begun, LoaderErrors, SharedErrors, log_load};
 use crate::machine::Machine;
 use crate::opening::open_image;
 use crate::planning::{PlanFailure, zone_bytes};
@@ -22,11 +23,12 @@ use feed_plans::plan_at;
 use image_verifier::Verified;
 use orders::OpenGate;
 use std::alloc::{AllocError, Global};
+use std::io;
 use std::io::{ErrorKind, Read, Write};
 use std::marker::Brand;
 use std::net::{Ipv4Addr, Net, TcpListener, TcpStream};
 use std::rt::Files;
-use std::sync::{Arc, Wait};
+use std::sync::{Arc, Mutex, Wait};
 use std::thread::Threads;
 use std::time::{Clock, Instant};
 use workers::{Feeds, LoadRefusal, Loaded, PointForm, Served, run_shelves};
@@ -35,6 +37,7 @@ use workers::{Feeds, LoadRefusal, Loaded, PointForm, Served, run_shelves};
 #[derive(Drop)]
 struct Folders<'a, H> {
     disk: &'a H,
+    alloc: Global,
     names: Vec<String>,
     feeds: &'a [NamedFolder<'a>],
     /// What is asked for, and the bytes of the zone's file: a plan is made of them for each load.
@@ -42,11 +45,14 @@ struct Folders<'a, H> {
     zone_bytes: Vec<u8>,
     /// The plan that was made when the server began.
     first: Plan,
+    /// Whether each load is logged.
+    is_logged: bool,
     ghost named: { length names.items ≡ length feeds.now },
+    ghost texts: { map string_bytes names.items ≡ map (λ feed. feed.name.now) feeds.now },
     ghost made: { IsPlanNow asked.now zone_bytes.items first },
 }
 
-impl<'a, H: Disk + Clock + Sync> Feeds for Folders<'a, H> {
+impl<'a, H: Disk + Explains + Clock + Sync> Feeds for Folders<'a, H> {
     type Files = FolderFiles<'a, H>;
 
     ghost named = { λ folders. folders.names.items };
@@ -73,17 +79,34 @@ impl<'a, H: Disk + Clock + Sync> Feeds for Folders<'a, H> {
     }
 
     fn begin(&self, _place: usize) -> Option<Instant> {
-        None
+        Instant::now(self.disk).ok()
     }
 
-    // The loader's own line says it.
+    // What is wrong with a feed is looked for in its folder once more.
     fn finish<W: Write>(
         &self,
-        _errors: &mut W,
-        _place: usize,
-        _begun: Option<Instant>,
-        _outcome: Result<Loaded, LoadRefusal>,
-    ) {}
+        errors: &mut W,
+        place: usize,
+        begun: Option<Instant>,
+        outcome: Result<Loaded, LoadRefusal>,
+    ) {
+        let Some(feed) = self.feeds.get(place) else {
+            return;
+        };
+        if self.is_logged {
+            log_load(
+                self.disk,
+                self.alloc,
+                feed.name,
+                Begun::at(begun),
+                outcome,
+                errors,
+            );
+        }
+        if let Err(refusal) = &outcome {
+            self.disk.explain_feed(feed.folder, refusal, errors);
+        }
+    }
 }
 
 /// Serves sessions until as many were served as are asked for, or tells the first thing that is wrong.
@@ -112,11 +135,13 @@ pub fn run<
     };
     let folders = Folders {
         disk: rt,
+        alloc,
         names,
         feeds: &request.feeds,
         asked: &request.plan,
         zone_bytes,
         first,
+        is_logged: request.log,
     };
     if !request.feeds.is_empty() {
         tell_bases(alloc, &image, &folders.first, errors);
@@ -137,18 +162,25 @@ fn first_plan<'a, H: Files + AllocGlobal + Clock>(
 }
 
 fn names_of(alloc: Global, feeds: &[NamedFolder<'_>]) -> Result<Vec<String>, AllocError>
-    ensures { IfOk result (λ names. length names.items ≡ length feeds.now) }
+    ensures count { IfOk result (λ names. length names.items ≡ length feeds.now) }
+    ensures texts { IfOk result (λ names. map string_bytes names.items ≡ map (λ feed. feed.name.now) feeds.now) }
 {
     let mut names = Vec::with_capacity(alloc, feeds.len())?;
-    for place in 0..feeds.len() {
-        names.push(String::from_str(alloc, feeds[place].name)?)?;
+    for feed in feeds {
+        names.push(String::from_str(alloc, feed.name)?)?;
     }
     Ok(names)
 }
 
 // Listens at the port, and serves whoever comes.
 fn listen<
-    H: Disk + Clock + Net<Listener = TcpListener, Stream = TcpStream> + Threads + Wait + Sync,
+    H: Disk
+        + Explains
+        + Clock
+        + Net<Listener = TcpListener, Stream = TcpStream>
+        + Threads
+        + Wait
+        + Sync,
     O: Write,
     E: Write + Send,
 >(
@@ -163,23 +195,21 @@ fn listen<
     let Ok((shelves, loader, seats)) = shelves_of(alloc, image, request.workers.number) else {
         return status::OUT_OF_MEMORY;
     };
-    let listener = match TcpListener::bind(rt, (Ipv4Addr::LOCALHOST, request.port)) {
-        Ok(listener) => listener,
-        Err(error) => return unheard(alloc, errors, request.port, error.kind()),
-    };
-    let address = match listener.local_addr() {
-        Ok(address) => address,
+    let (listener, port) = match listener_at(rt, request.port) {
+        Ok(bound) => bound,
         Err(error) => return unheard(alloc, errors, request.port, error.kind()),
     };
     let begun = status::write_line(
         output,
-        format!(in alloc; "listening {}\n", address.port()),
+        format!(in alloc; "listening {port}\n"),
         status::ACCEPTED,
     );
     if begun != status::ACCEPTED {
         return begun;
     }
-    let door = Door::new(&listener, request.sessions);
+    let errors = Mutex::new(errors);
+    let shared = SharedErrors::of(rt, alloc, &errors);
+    let door = Door::new(&listener, request.sessions, log_of(request.log, &shared));
     match run_shelves::<Brand, _, _, _, _, _, _>(
         rt,
         alloc,
@@ -190,10 +220,32 @@ fn listen<
         folders,
         &OpenGate,
         form_of(request.legs),
-        errors,
+        LoaderErrors::of(shared),
     ) {
         Ok(ran) => tell_served(alloc, &ran.served, ran.clients.has_failed(), output),
         Err(_) => status::OUT_OF_MEMORY,
+    }
+}
+
+// What listens at the port, and at which one, if that one is free.
+fn listener_at<H: Net<Listener = TcpListener, Stream = TcpStream>>(
+    rt: &H,
+    port: u16,
+) -> io::Result<(TcpListener, u16)> {
+    let listener = TcpListener::bind(rt, (Ipv4Addr::LOCALHOST, port))?;
+    let address = listener.local_addr()?;
+    Ok((listener, address.port()))
+}
+
+// Where sessions are logged, if they are.
+fn log_of<'a, H, E>(
+    is_wanted: bool,
+    errors: &SharedErrors<'a, H, E>,
+) -> Option<SharedErrors<'a, H, E>> {
+    if is_wanted {
+        Some(errors.another())
+    } else {
+        None
     }
 }
 

@@ -7,6 +7,7 @@ mod checking;
 mod clocks;
 mod command_lines;
 mod hostile_images;
+mod informing;
 mod profiles;
 mod running;
 mod serving;

@@ -12,19 +12,29 @@ answers stops 3 runs 2 connections 3 footpaths 3 lifted 0 flex 0 frequencies 0 s
 sample 2
 holds built.csa
 
-# What is done is told beside the counts, each file as it is read.
+# What is done is reported beside the counts: each file with its bytes and lines, and each phase with its counts.
 run build base_feed built.csa --first 20240115 --days 1 --zone fixed:0 --progress
 prints stops 3 runs 2 connections 3 footpaths 3 lifted 0 flex 0 frequencies 0 skipped 0
 tells csa: reading agency.txt
+tells csa: read agency.txt: bytes 83 lines 2 seconds #
 tells csa: reading stops.txt
+tells csa: read stops.txt: bytes 29 lines 4 seconds #
 tells csa: reading trips.txt
+tells csa: read trips.txt: bytes 41 lines 3 seconds #
 tells csa: reading stop_times.txt
+tells csa: read stop_times.txt: bytes 182 lines 6 seconds #
 tells csa: reading calendar.txt
+tells csa: read calendar.txt: bytes 121 lines 2 seconds #
 tells csa: reading calendar_dates.txt
+tells csa: no file calendar_dates.txt
 tells csa: reading transfers.txt
+tells csa: no file transfers.txt
 tells csa: reading frequencies.txt
+tells csa: no file frequencies.txt
 tells csa: making connections and footpaths
+tells csa: made runs 2 connections 3 footpaths 3 seconds #
 tells csa: writing built.csa
+tells csa: wrote built.csa: bytes 196 seconds #
 ends 0
 holds built.csa
 

@@ -21,6 +21,13 @@ run verify a_folder
 tells csa: a_folder can't be read: it is a folder
 ends 3
 remove a_folder
+run info
+complains 64
+run info - more
+complains 64
+run info no/such/file
+tells csa: no/such/file can't be read: no such file or folder
+ends 3
 run tables
 complains 64
 run tables folder more
@@ -36,6 +43,8 @@ complains 64
 run --help
 helps
 run verify --help
+helps
+run info --help
 helps
 run journey --help
 helps

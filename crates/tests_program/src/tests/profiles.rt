@@ -196,6 +196,15 @@ prints dep 08:00:00 arr 08:20:00 : ride 0 0 walk 1 1 0 ride 2 2
 answers points 1 read 3 walk none
 run profile - --from A --to C --after 07:00:00 --until 09:00:00 --by 10:00:00 --criterion arrival --picture none/answer.svg
 complains 3
+run profile - --from A --to C --after 07:00:00 --until 09:00:00 --by 10:00:00 --criterion arrival --picture answer.svg --rows 1
+prints dep 08:00:00 arr 08:20:00 : ride 0 0 walk 1 1 0 ride 2 2
+answers points 1 read 3 walk none
+run profile - --from A --to C --after 07:00:00 --until 09:00:00 --by 10:00:00 --criterion arrival --picture answer.svg --rows 0
+complains 64
+run profile - --from A --to C --after 07:00:00 --until 09:00:00 --by 10:00:00 --criterion arrival --picture answer.svg --rows 10001
+complains 64
+run profile - --from A --to C --after 07:00:00 --until 09:00:00 --by 10:00:00 --criterion arrival --rows 10
+complains 64
 ";
 
 /// The answer is drawn beside its lines; a picture that can't be written is told, and nothing is printed.

@@ -1,0 +1,75 @@
+//! How many requests a session sends: the lines that are read.
+
+ghost use Rattle.std.specs.Prelude.{◌≡◌};
+ghost use Rattle.std.specs.List.{count_by};
+ghost use Rattle.csa_program.specs.Logging.{is_line_end};
+
+use std::io;
+use std::io::Read;
+
+/// A reader that counts the lines of what is read, and keeps what is said of them when they end.
+#[derive(Drop)]
+pub struct Requests<S, V> {
+    stream: S,
+    /// The lines that ended.
+    ended: u64,
+    /// Whether a line has begun.
+    has_begun: bool,
+    /// Whose requests they are.
+    pub visit: V,
+}
+
+impl<S, V> Requests<S, V> {
+    /// Nothing was read yet.
+    pub fn new(stream: S, visit: V) -> Requests<S, V>
+        ensures { result.stream ≡ stream }
+    {
+        Requests {
+            stream,
+            ended: 0,
+            has_begun: false,
+            visit,
+        }
+    }
+
+    /// How many lines were read; the last one counts also if it has no end.
+    pub fn count(&self) -> u64 {
+        self.ended.saturating_add(u64::from(self.has_begun))
+    }
+
+    fn note(&mut self, bytes: &[u8])
+        ensures { self.new.stream ≡ self.old.stream }
+    {
+        self.ended = self.ended.saturating_add(line_ends(bytes));
+        if let Some(last) = bytes.last() {
+            self.has_begun = *last != b'\n';
+        }
+    }
+}
+
+impl<S: Read, V> Read for Requests<S, V> {
+    ghost remaining = { λ requests. S.remaining requests.stream };
+
+    fn read(&mut self, room: &mut [u8]) -> io::Result<usize> {
+        match self.stream.read(room) {
+            Ok(count) => {
+                self.note(&room[..count]);
+                Ok(count)
+            }
+            Err(error) => Err(error),
+        }
+    }
+}
+
+/// How many lines end in the bytes.
+pub fn line_ends(bytes: &[u8]) -> u64
+    ensures { result ≡ count_by is_line_end bytes.now }
+{
+    bytes.iter().filter(|byte| is_end(**byte)).count() as u64
+}
+
+fn is_end(byte: u8) -> bool
+    ensures { result ≡ is_line_end byte }
+{
+    byte == b'\n'
+}

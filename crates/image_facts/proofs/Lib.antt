@@ -1,0 +1,4 @@
+mod Grouped
+mod Headers
+mod Joined
+mod Lines

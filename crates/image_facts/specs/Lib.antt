@@ -1,0 +1,4 @@
+pub mod Base
+pub mod Days
+pub mod Entries
+pub mod Facts

@@ -1,0 +1,110 @@
+//! The instant from which an image's clocks count.
+
+ghost use Rattle.std.specs.Prelude.{◌≡◌, ◌++◌, List, ℕ, OnOk, string_bytes};
+ghost use Rattle.timetable.specs.Clocks.{clock_bytes};
+ghost use Rattle.image_facts.specs.Base.{HasBase, IsUtcLine, base_line, date_text, sign_text, utc_day, utc_line};
+ghost use Rattle.image_facts.specs.Base.{utc_second, year_text};
+
+use crate::putting::{put_signed, put_text, put_two};
+use jiff_core::civil::Date;
+use std::alloc::AllocError;
+use std::fmt::Write as _;
+use timetable::Clock;
+
+/// The seconds of a day of UTC.
+const DAY: i64 = 86400;
+
+/// Adds an instant: in seconds after 1970-01-01T00:00:00Z, and as a date and a time of UTC if its
+/// year is one of -9999 to 9999.
+pub fn append_base(lines: &mut String, base: i64) -> Result<(), AllocError>
+    ensures { OnOk result ((text : List ℕ) × HasBase base text
+        × (string_bytes lines.new ≡ string_bytes lines.old ++ text)) }
+{
+    append_seconds(lines, base)?;
+    append_utc(lines, base)?;
+    Ok(())
+}
+
+// Adds an instant as a number.
+fn append_seconds(lines: &mut String, base: i64) -> Result<(), AllocError>
+    ensures { OnOk result (string_bytes lines.new ≡ string_bytes lines.old ++ base_line base) }
+{
+    put_signed(lines, "base ", base)?;
+    put_text(lines, "\n")?;
+    Ok(())
+}
+
+// Adds an instant as a date and a time.
+fn append_utc(lines: &mut String, instant: i64) -> Result<(), AllocError>
+    ensures { OnOk result ((line : List ℕ) × IsUtcLine instant line
+        × (string_bytes lines.new ≡ string_bytes lines.old ++ line)) }
+{
+    let second = second_of(instant);
+    match Date::from_unix_epoch_day(day_of(instant)) {
+        Ok(date) => append_moment(lines, date, second),
+        Err(_range) => put_text(lines, "utc none\n"),
+    }
+}
+
+// The day that has an instant.
+fn day_of(instant: i64) -> i64
+    ensures { result ≡ utc_day instant }
+{
+    instant.div_euclid(DAY)
+}
+
+// The second of an instant's day.
+fn second_of(instant: i64) -> u32
+    ensures { result ≡ utc_second instant }
+{
+    instant.rem_euclid(DAY) as u32
+}
+
+// Adds the line of a date and a time.
+fn append_moment(lines: &mut String, date: Date, second: u32) -> Result<(), AllocError>
+    ensures { OnOk result (string_bytes lines.new ≡ string_bytes lines.old ++ utc_line date second) }
+{
+    put_text(lines, "utc ")?;
+    append_date(lines, date)?;
+    put_text(lines, "T")?;
+    append_clock(lines, second)?;
+    put_text(lines, "Z\n")?;
+    Ok(())
+}
+
+fn append_clock(lines: &mut String, second: u32) -> Result<(), AllocError>
+    ensures { OnOk result (string_bytes lines.new ≡ string_bytes lines.old ++ clock_bytes second) }
+{
+    let clock = Clock(second);
+    write!(lines, "{clock}")
+}
+
+fn append_date(lines: &mut String, date: Date) -> Result<(), AllocError>
+    ensures { OnOk result (string_bytes lines.new ≡ string_bytes lines.old ++ date_text date) }
+{
+    append_year(lines, date.year)?;
+    put_text(lines, "-")?;
+    put_two(lines, date.month as u64)?;
+    put_text(lines, "-")?;
+    put_two(lines, date.day as u64)?;
+    Ok(())
+}
+
+fn append_year(lines: &mut String, year: i16) -> Result<(), AllocError>
+    ensures { OnOk result (string_bytes lines.new ≡ string_bytes lines.old ++ year_text year) }
+{
+    let number = year.unsigned_abs() as u64;
+    put_sign(lines, year)?;
+    put_two(lines, number / 100)?;
+    put_two(lines, number % 100)?;
+    Ok(())
+}
+
+fn put_sign(lines: &mut String, year: i16) -> Result<(), AllocError>
+    ensures { OnOk result (string_bytes lines.new ≡ string_bytes lines.old ++ sign_text year) }
+{
+    if year < 0 {
+        return put_text(lines, "-");
+    }
+    put_text(lines, "")
+}

@@ -1,0 +1,71 @@
+//! How many trips each day has: the days are a list in order, with an entry for each trip.
+
+ghost use Rattle.std.specs.Prelude.{◌≡◌, ◌≤◌, ◌<◌, ◌+◌, ◌++◌, ◌∷◌, List, ℕ, IfOk, OnOk, string_bytes};
+ghost use Rattle.std.specs.List.Sorted.{IsNonDecreasing};
+ghost use Rattle.image_facts.specs.Days.{HasDays, day_line};
+ghost use Rattle.image_facts.specs.Entries.{is_last_of, rest_text};
+
+use crate::putting::{put_number, put_text};
+use std::alloc::AllocError;
+
+/// Adds a line for each day of a list in order, the earliest first, with how many entries the day has.
+pub fn append_days(lines: &mut String, days: &[u32]) -> Result<(), AllocError>
+    requires { IsNonDecreasing days.now }
+    ensures { OnOk result ((text : List ℕ) × HasDays days.now text
+        × (string_bytes lines.new ≡ string_bytes lines.old ++ text)) }
+{
+    append_entries(lines, days)?;
+    Ok(())
+}
+
+// Adds a line for each day of a list, with how many entries in a row it has.
+fn append_entries(lines: &mut String, days: &[u32]) -> Result<(), AllocError>
+    ensures { OnOk result (string_bytes lines.new ≡ string_bytes lines.old ++ rest_text 0 days.now) }
+{
+    let mut rest = days;
+    let mut count = 0;
+    while let Some((day, more)) = rest.split_first() {
+        count = append_entry(lines, count, *day, more)?;
+        rest = more;
+    }
+    Ok(())
+}
+
+// Counts one entry more of a day, and adds the day's line at its last one: how many entries of the next were counted.
+fn append_entry(
+    lines: &mut String,
+    count: usize,
+    day: u32,
+    more: &[u32],
+) -> Result<usize, AllocError>
+    requires { count < usize.MAX }
+    ensures lines { IfOk result (λ counted. string_bytes lines.new ++ rest_text counted more.now
+        ≡ string_bytes lines.old ++ rest_text count (day ∷ more.now)) }
+    ensures counted { IfOk result (λ counted. counted ≤ count + 1) }
+{
+    if is_last(day, more) {
+        append_day(lines, count + 1, day)?;
+        return Ok(0);
+    }
+    Ok(count + 1)
+}
+
+// Whether a day's last entry is before these.
+fn is_last(day: u32, more: &[u32]) -> bool
+    ensures { result ≡ is_last_of day more.now }
+{
+    match more.first() {
+        None => true,
+        Some(next) => *next != day,
+    }
+}
+
+// Adds the line of a day.
+fn append_day(lines: &mut String, count: usize, day: u32) -> Result<(), AllocError>
+    ensures { OnOk result (string_bytes lines.new ≡ string_bytes lines.old ++ day_line count day) }
+{
+    put_number(lines, "trips-", day as u64)?;
+    put_number(lines, " ", count as u64)?;
+    put_text(lines, "\n")?;
+    Ok(())
+}

@@ -1,0 +1,115 @@
+//! `csa info`: what an image has.
+
+use crate::tests::transcript::try_lines;
+use std::test::Fail;
+
+const IMAGES: &str = "
+# The sample in each layout, from the input and from a file.
+sample
+run info -
+prints layout 1
+prints bytes 188
+prints base 1705276800
+prints utc 2024-01-15T00:00:00Z
+prints stops 3
+prints trips 2
+prints connections 3
+prints footpaths 3
+prints name-bytes 7
+prints trips-20240115 2
+ends 0
+sample 2
+saves base.csa
+run info base.csa
+prints layout 2
+prints bytes 196
+prints base 1705276800
+prints utc 2024-01-15T00:00:00Z
+prints stops 3
+prints trips 2
+prints connections 3
+prints footpaths 3
+prints name-bytes 7
+prints trips-20240115 2
+ends 0
+remove base.csa
+
+# The second trip is of an earlier day, and then of a later one; a base before 1970.
+sample
+set 44 20240109
+run info -
+prints layout 1
+prints bytes 188
+prints base 1705276800
+prints utc 2024-01-15T00:00:00Z
+prints stops 3
+prints trips 2
+prints connections 3
+prints footpaths 3
+prints name-bytes 7
+prints trips-20240109 1
+prints trips-20240115 1
+ends 0
+set 44 20240201
+set 7 4294967295
+set 8 4294967295
+run info -
+prints layout 1
+prints bytes 188
+prints base -1
+prints utc 1969-12-31T23:59:59Z
+prints stops 3
+prints trips 2
+prints connections 3
+prints footpaths 3
+prints name-bytes 7
+prints trips-20240115 1
+prints trips-20240201 1
+ends 0
+
+# Stops A, B and C with loops, no trips and no connections: no day.
+image 1346458435 1 3 0 0 3 3 1705276800 0 0 1 2 3 0 0 1 0 2 0 0 1 2 3 4407873
+run info -
+prints layout 1
+prints bytes 96
+prints base 1705276800
+prints utc 2024-01-15T00:00:00Z
+prints stops 3
+prints trips 0
+prints connections 0
+prints footpaths 3
+prints name-bytes 3
+ends 0
+
+# A feed on two of three days.
+base
+rows base_feed/calendar.txt service_id,monday,tuesday,wednesday,thursday,friday,saturday,sunday,start_date,end_date | S,1,0,1,0,0,0,0,20240115,20240117
+run build base_feed days.csa --first 20240115 --days 3 --zone fixed:0 --no-warnings
+answers stops 3 runs 4 connections 6 footpaths 3 lifted 0 flex 0 frequencies 0 skipped 0
+run info days.csa
+prints layout 2
+prints bytes 296
+prints base 1705276800
+prints utc 2024-01-15T00:00:00Z
+prints stops 3
+prints trips 4
+prints connections 6
+prints footpaths 3
+prints name-bytes 11
+prints trips-20240115 2
+prints trips-20240117 2
+ends 0
+remove days.csa
+remove base_feed
+
+# What is no image is refused as by `csa verify`.
+sample
+cut 3
+run info -
+answers refused 51 OddLength
+";
+
+#[test]
+fn images_are_described(rt: HostRuntime) -> Result<(), Fail> {
+    try_lines(&rt, IMAGES)
+}
