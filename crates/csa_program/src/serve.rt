@@ -28,8 +28,8 @@ use std::net::{Ipv4Addr, Net, TcpListener, TcpStream};
 use std::rt::Files;
 use std::sync::{Arc, Wait};
 use std::thread::Threads;
-use std::time::{Clock, Instant};
-use workers::{Feeds, LoadRefusal, Loaded, PointForm, Served, run_shelves};
+use std::time::Clock;
+use workers::{Feeds, PointForm, Served, run_shelves};
 
 /// The folders of the feeds that may be loaded.
 #[derive(Drop)]
@@ -71,19 +71,6 @@ impl<'a, H: Disk + Clock + Sync> Feeds for Folders<'a, H> {
             None => None,
         }
     }
-
-    fn begin(&self, _place: usize) -> Option<Instant> {
-        None
-    }
-
-    // The loader's own line says it.
-    fn finish<W: Write>(
-        &self,
-        _errors: &mut W,
-        _place: usize,
-        _begun: Option<Instant>,
-        _outcome: Result<Loaded, LoadRefusal>,
-    ) {}
 }
 
 /// Serves sessions until as many were served as are asked for, or tells the first thing that is wrong.
@@ -180,7 +167,7 @@ fn listen<
         return begun;
     }
     let door = Door::new(&listener, request.sessions);
-    match run_shelves::<Brand, _, _, _, _, _, _>(
+    match run_shelves::<Brand, _, _, _, _, _, _, _, _, _>(
         rt,
         alloc,
         door,
@@ -192,7 +179,7 @@ fn listen<
         form_of(request.legs),
         errors,
     ) {
-        Ok(ran) => tell_served(alloc, &ran.served, ran.clients.has_failed(), output),
+        Ok((served, door)) => tell_served(alloc, &served, door.has_failed(), output),
         Err(_) => status::OUT_OF_MEMORY,
     }
 }

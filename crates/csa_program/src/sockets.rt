@@ -4,7 +4,7 @@ ghost use Rattle.std.specs.Prelude.{◌≡◌, ◌⊎◌, true, false, MatchOpti
 
 use std::io::ErrorKind;
 use std::net::{TcpListener, TcpStream};
-use workers::{Client, Clients, ConnFault, End};
+use workers::{Client, Clients, ConnFault};
 
 /// A client whose TCP connection was accepted.
 #[derive(Drop)]
@@ -27,9 +27,6 @@ impl Client for Visitor {
             _ => Err(ConnFault),
         }
     }
-
-    // Nobody is told.
-    fn close(_reader: TcpStream, _writer: TcpStream, _end: End) {}
 }
 
 /// Accepts connections, as many as are wanted.
