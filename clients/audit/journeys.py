@@ -9,13 +9,14 @@ from dataclasses import dataclass, field
 from datetime import datetime
 from typing import Any, NamedTuple
 
-from csa_image import Connection, Image
+from csa_client import seconds_of
+from csa_client.image import Connection, Image
+
 
 USAGE = 64
 CRITERIA = ("arrival", "arrival+trips", "arrival+trips+walk")
 # so many are given to csa on its command line
 MOST_LEGS = 1000
-CLOCK = re.compile("([0-9]{1,6}):([0-5][0-9]):([0-5][0-9])")
 
 
 class Stop(Exception):
@@ -92,14 +93,6 @@ class Journey:
 
     def judged(self, verdict: str, why: str = "") -> None:
         self.verdict, self.why = verdict, why
-
-
-def seconds_of(clock: str) -> int:
-    matched = CLOCK.fullmatch(clock)
-    if matched is None:
-        raise ValueError(f"{clock!r} is no time HH:MM:SS")
-    hours, minutes, seconds = map(int, matched.groups())
-    return hours * 3600 + minutes * 60 + seconds
 
 
 def clock_of(seconds: int) -> str:
@@ -214,9 +207,9 @@ class Spelling:
             journey.judged("impossible", str(fault))
 
     def stop(self, name: str) -> int:
-        if name not in self.image.stops:
+        if name not in self.image.stop_numbers:
             raise Unknown(f"stop_id {name!r} isn't in the image")
-        return self.image.stops[name]
+        return self.image.stop_numbers[name]
 
     def walk(self, leg: Walk) -> str:
         source, target = self.stop(leg.source), self.stop(leg.target)
@@ -266,9 +259,9 @@ class Spelling:
         for kind in numbers:
             one, two = int(next(numbers)), int(next(numbers))
             if kind == "walk":
-                words += ["walk", self.image.stop_ids[one], self.image.stop_ids[two], next(numbers)]
+                words += ["walk", self.image.stop_id(one), self.image.stop_id(two), next(numbers)]
             else:
                 first, last = self.image.connection(one), self.image.connection(two)
-                ends = [clock_of(first.departure), self.image.stop_ids[first.source], clock_of(last.arrival), self.image.stop_ids[last.target]]
+                ends = [clock_of(first.departure), self.image.stop_id(first.source), clock_of(last.arrival), self.image.stop_id(last.target)]
                 words += ["ride", self.image.trip_id(first.trip), *ends]
         return " ".join(words)

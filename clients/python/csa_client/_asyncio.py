@@ -89,11 +89,11 @@ class AsyncCsaClient:
 
 async def _exchange(reader: asyncio.StreamReader, writer: asyncio.StreamWriter, line: bytes) -> bytes:
     """Sends a line and returns the one that comes back, with its end."""
-    writer.write(line)
-    await writer.drain()
     try:
+        writer.write(line)
+        await writer.drain()
         return await reader.readuntil(b"\n")
-    except asyncio.IncompleteReadError as error:
+    except (asyncio.IncompleteReadError, ConnectionResetError, BrokenPipeError) as error:
         raise SessionEnded("the server ended the session") from error
     except asyncio.LimitOverrunError as error:
         raise SessionEnded("the reply is too long") from error

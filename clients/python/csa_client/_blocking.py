@@ -78,15 +78,22 @@ class CsaClient:
             raise SessionEnded("the session is closed")
         deadline = time.monotonic() + (self._timeout if timeout is None else timeout)
         try:
-            self._socket.settimeout(_left(deadline))
-            self._socket.sendall(request.line())
-            return request.result(self._read_line(self._socket, deadline))
+            return request.result(self._exchange(self._socket, request.line(), deadline))
         except Refused:
             raise
         except BaseException:
             # what comes next on the connection could be the reply to this request
             self.close()
             raise
+
+    def _exchange(self, connection: socket.socket, line: bytes, deadline: float) -> bytes:
+        """Sends a line and returns the one that comes back, without its end."""
+        try:
+            connection.settimeout(_left(deadline))
+            connection.sendall(line)
+            return self._read_line(connection, deadline)
+        except (ConnectionResetError, BrokenPipeError) as error:
+            raise SessionEnded("the server ended the session") from error
 
     def _read_line(self, connection: socket.socket, deadline: float) -> bytes:
         """The next line of the server, without its end; TimeoutError when the deadline passes before it is whole."""

@@ -11,6 +11,7 @@ import asyncio
 import os
 import shutil
 import socket
+import struct
 import subprocess
 import tempfile
 import threading
@@ -20,7 +21,7 @@ from dataclasses import replace
 from datetime import datetime, timezone
 from pathlib import Path
 
-from csa_client import AsyncCsaClient, CsaClient, CsaError, NamedRide, NamedWalk, Pinned, Point, Profile, Refused, Ride, SessionEnded, Walk, parse_journey
+from csa_client import AsyncCsaClient, CsaClient, NamedRide, NamedWalk, Pinned, Point, Profile, Refused, Ride, SessionEnded, Walk, parse_journey
 
 TOP = Path(__file__).resolve().parents[3]
 WINDOW = {"after": "07:00:00", "until": "09:00:00", "by": "10:00:00"}
@@ -43,12 +44,13 @@ PROFILE = (
 class CannedServer:
     """Answers the lines of one connection by a list of pairs: the line that must come, and the bytes that go back (none: it hangs).
 
-    With a pause, in seconds, each byte of a reply waits for it.
+    With a pause, in seconds, each byte of a reply waits for it. With `reset`, it resets the connection when the next request comes.
     """
 
-    def __init__(self, *talk: tuple[str, bytes], pause: float = 0.0) -> None:
+    def __init__(self, *talk: tuple[str, bytes], pause: float = 0.0, reset: bool = False) -> None:
         self.talk = talk
         self.pause = pause
+        self.reset = reset
         self.mistakes: list[str] = []
         self.listener = socket.create_server(("127.0.0.1", 0))
         self.port = self.listener.getsockname()[1]
@@ -66,6 +68,9 @@ class CannedServer:
                 self.send(connection, reply)
                 if not reply:
                     self.ended.wait(5)
+            if self.reset:
+                lines.readline()
+                connection.setsockopt(socket.SOL_SOCKET, socket.SO_LINGER, struct.pack("ii", 1, 0))
 
     def send(self, connection: socket.socket, reply: bytes) -> None:
         if not self.pause:
@@ -128,11 +133,27 @@ class CannedReplies(unittest.TestCase):
                 self.assertEqual(pinned.version, 3)
                 raise KeyError("a fault in the block")
             # the canned talk has ended: a third request finds no server
-            with self.assertRaises(CsaError):
+            with self.assertRaises(SessionEnded):
                 client.release()
 
-    def session(self, *talk: tuple[str, bytes], timeout: float = 5.0, pause: float = 0.0) -> CsaClient:
-        server = CannedServer(*talk, pause=pause)
+    def test_a_connection_that_is_reset_is_the_end_of_the_session(self) -> None:
+        with self.session(PIN, reset=True) as client, self.assertRaises(SessionEnded):
+            client.pin()
+            client.release()
+
+    def test_a_reset_is_the_end_of_an_asyncio_session(self) -> None:
+        async def ask(port: int) -> None:
+            async with AsyncCsaClient(port=port, timeout=5.0) as client:
+                await client.pin()
+                await client.release()
+
+        server = CannedServer(PIN, reset=True)
+        self.addCleanup(server.close)
+        with self.assertRaises(SessionEnded):
+            asyncio.run(ask(server.port))
+
+    def session(self, *talk: tuple[str, bytes], timeout: float = 5.0, pause: float = 0.0, reset: bool = False) -> CsaClient:
+        server = CannedServer(*talk, pause=pause, reset=reset)
         client = CsaClient(port=server.port, timeout=timeout)
         self.addCleanup(lambda: self.assertEqual(server.mistakes, []))
         self.addCleanup(server.close)

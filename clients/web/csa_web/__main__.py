@@ -8,10 +8,10 @@ from collections.abc import Callable
 from pathlib import Path
 
 from csa_client import CsaClient
+from csa_client.image import Image
 
 from .feed import Feed
 from .gateway import Kept, create_app
-from .image import Image
 from .search import Sessions
 
 EXAMPLE = """\
@@ -44,7 +44,7 @@ def main() -> int:
         feed = Kept(Feed, words.feed, words.feed / "stops.txt")
         image: Callable[[], Image | None] = no_image
         if words.image is not None:
-            image = Kept(Image, words.image, words.image)
+            image = Kept(Image.open, words.image, words.image)
     except (OSError, ValueError, KeyError) as error:
         print(f"csa_web: {error}", file=sys.stderr)
         return 1

@@ -10,10 +10,10 @@ from typing import Any, Generic, TypeVar, get_args
 from zoneinfo import ZoneInfo
 
 from csa_client import Criterion
+from csa_client.image import Image
 from flask import Flask, Response, jsonify, render_template, request, url_for
 
 from .feed import Feed, Stop
-from .image import Image
 from .search import Answer, Departure, Leg, Problem, Query, Sessions, search
 from .words import axis_of, changes, clock, duration
 

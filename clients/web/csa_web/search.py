@@ -12,9 +12,9 @@ from dataclasses import dataclass
 from datetime import datetime, timedelta, timezone
 
 from csa_client import Criterion, CsaClient, CsaError, NamedRide, NamedWalk, Pinned, Point, Profile, Refused, Ride, Walk
+from csa_client.image import Image
 
 from .feed import Stop
-from .image import Image
 
 # The latest arrival is so long after the latest departure.
 LONGEST_JOURNEY = timedelta(hours=12)

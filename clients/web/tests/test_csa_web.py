@@ -17,9 +17,9 @@ from pathlib import Path
 from zoneinfo import ZoneInfo
 
 from csa_client import NamedRide, NamedWalk, Pinned, Point, Profile, Refused, SessionEnded
+from csa_client.image import Connection, Image
 from csa_web.feed import Feed, _contrast
 from csa_web.gateway import Kept, create_app
-from csa_web.image import Connection, Image
 from csa_web.search import Leg, Sessions, legs_of, named_legs_of
 from csa_web.words import Axis, clock, duration
 
@@ -124,7 +124,7 @@ class Images(unittest.TestCase):
         self.addCleanup(file.close)
         file.write(struct.pack(f"<{len(words)}I", *words))
         file.flush()
-        return Image(Path(file.name))
+        return Image.open(file.name)
 
     def test_both_layouts_say_the_same(self) -> None:
         words = self.sample()
@@ -217,7 +217,7 @@ class Pages(Folder):
     def open(self, answer: Profile | Exception, most: int = 1, **words: int) -> None:
         self.client = FakeClient(answer, **words)
         self.sessions = Sessions(lambda: self.client, most, 0.05)
-        image = Image(TOP / "examples/base.csa")
+        image = Image.open(TOP / "examples/base.csa")
         self.app = create_app(lambda: self.feed, lambda: image, self.sessions).test_client()
 
     def get(self, path: str, status: int, **words: str) -> str:

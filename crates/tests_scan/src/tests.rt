@@ -4,7 +4,6 @@
 mod answering;
 mod bonus;
 mod dominating;
-mod everywhere;
 mod examples;
 mod images;
 mod in_turn;
