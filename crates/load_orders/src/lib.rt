@@ -8,6 +8,7 @@ mod queue;
 mod taking;
 mod ways;
 
+pub use notes::Notes;
 pub use orders::{OrderFault, Orders};
 pub use queue::{MOST_WAITING, Order};
 pub use taking::{LoaderOrders, OrderEnd, WorkerOrders, order_queue};

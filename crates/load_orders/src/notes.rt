@@ -19,8 +19,8 @@ impl<T> Model for Notes<T> {
 }
 
 impl<T> Notes<T> {
-    // Nothing yet.
-    pub(crate) fn none() -> Notes<T>
+    /// Nothing yet.
+    pub fn none() -> Notes<T>
         ensures { result ≡ [] }
     {
         Notes {
@@ -28,8 +28,8 @@ impl<T> Notes<T> {
         }
     }
 
-    // Adds what it is lent at the end.
-    pub(crate) fn note(&mut self, item: &T)
+    /// Adds what it is lent at the end.
+    pub fn note(&mut self, item: &T)
         ensures { self.new ≡ self.old ++ item.now ∷ [] }
     {
         self.items = Kept::at(&self.items, item);

@@ -2,7 +2,7 @@
 
 ghost use Rattle.std.specs.Prelude.{◌≡◌, ◌≤◌, [], All, length, IfOk};
 
-use epochs::{ShelfLoader, ShelfSeat, Shelves};
+use epochs::{PublishFault, ShelfLoader, ShelfSeat, Shelves};
 use feed_files::MemoryFiles;
 use feed_loader::Plan;
 use gtfs_tables::Day;
@@ -18,7 +18,7 @@ use std::sync::atomic::{AtomicU64, Ordering};
 use std::sync::{Arc, Mutex, Wait};
 use std::test::Fail;
 use std::thread::Threads;
-use std::time::{Clock, Duration};
+use std::time::{Clock, Duration, Instant};
 use std::{io, thread};
 use workers::*;
 
@@ -68,7 +68,7 @@ const WAITING: (&str, &str) = (
 
 /// What the loader tells of the second.
 const LOADED: &str =
-    "loaded slow version 2\nload bad refused 1 MissingFile stops.txt 0\nloaded slow version 3\n";
+    "loaded slow version 2\n0: 2 3 2 3\nload bad refused 1 MissingFile stops.txt 0\n1: 1\nloaded slow version 3\n0: 3 3 0 0\n";
 
 /// A writer to bytes that several threads may share, or one that nobody reads any more.
 #[derive(Drop)]
@@ -110,6 +110,12 @@ impl<'a, R: Wait + Sync> Client for Visitor<'a, R> {
         match self.replies {
             Some(replies) => Ok((self.requests, replies)),
             None => Err(ConnFault),
+        }
+    }
+
+    fn close(_reader: &'static [u8], mut writer: Shared<'a, R>, end: End) {
+        if end == End::Spent {
+            let _ = writer.write_all(b"spent\n");
         }
     }
 }
@@ -163,6 +169,27 @@ impl Feeds for TwoFeeds {
             return Some(MemoryFiles { files: &BAD_FILES });
         }
         Some(MemoryFiles { files: &FILES })
+    }
+
+    fn begin(&self, _place: usize) -> Option<Instant> {
+        None
+    }
+
+    fn finish<E: Write>(
+        &self,
+        errors: &mut E,
+        place: usize,
+        _begun: Option<Instant>,
+        outcome: Result<Loaded, LoadRefusal>,
+    ) {
+        let _ = match outcome {
+            Ok(Loaded { version, report }) => write!(
+                errors,
+                "{place}: {version} {} {} {}\n",
+                report.stops, report.runs, report.connections
+            ),
+            Err(refusal) => write!(errors, "{place}: {}\n", refusal.number()),
+        };
     }
 }
 
@@ -242,12 +269,12 @@ fn serve_all<R: Threads + Wait + Sync + Abort, G: Gate + Sync>(
         bytes: &told,
         is_gone: false,
     };
-    let Ok((served, _)) = run_shelves::<Brand, _, _, _, _, _, _, _, _, _>(
+    let Ok(ran) = run_shelves::<Brand, _, _, _, _, _, _>(
         rt, alloc, row, shelves, seats, loader, &feeds, gate, form, errors,
     ) else {
         return Err(AllocError.into());
     };
-    Ok((served, told.into_inner()))
+    Ok((ran.served, told.into_inner()))
 }
 
 /// What a visitor does with the replies.
@@ -320,7 +347,7 @@ fn a_client_is_served(rt: HostRuntime) -> Result<(), Fail> {
     assert_eq!(&rt; served.failed(), 1);
     assert_eq!(&rt; served.spent(), 0);
     assert!(&rt; replies.as_slice() == expected.as_bytes());
-    assert!(&rt; told.as_slice() == b"loaded slow version 2\n".as_slice());
+    assert!(&rt; told.as_slice() == b"loaded slow version 2\n0: 2 3 2 3\n".as_slice());
     Ok(())
 }
 
@@ -354,21 +381,37 @@ fn loads_are_waited_for(rt: HostRuntime) -> Result<(), Fail> {
 }
 
 /// A client that waits and goes away: its load is carried out, its session fails, and its worker
-/// serves the next client.
+/// serves the next client. One that goes away with a version pinned leaves its seat idle.
 #[test]
 fn whoever_waits_may_go_away(rt: HostRuntime) -> Result<(), Fail> {
+    let pin = "{\"do\":\"pin\"}\n";
     let wait = "{\"do\":\"load\",\"feed\":\"slow\",\"wait\":true}\n";
     let asking = [
-        ("{\"do\":\"pin\"}\n", Manner::Reads),
+        (pin, Manner::Reads),
         (wait, Manner::GoesAway),
+        (pin, Manner::GoesAway),
     ];
     let (served, replies, told) = serve_asking(&rt, rt.alloc(), &asking, false, &OpenGate)?;
     assert_eq!(&rt; served.ended(), 1);
-    assert_eq!(&rt; served.failed(), 1);
+    assert_eq!(&rt; served.failed(), 2);
     assert!(&rt;
         replies.as_slice() == b"{\"base\":1705276800,\"ok\":\"pin\",\"version\":2}\n".as_slice()
     );
-    assert!(&rt; told.as_slice() == b"loaded slow version 2\n".as_slice());
+    assert!(&rt; told.as_slice() == b"loaded slow version 2\n0: 2 3 2 3\n".as_slice());
+    Ok(())
+}
+
+/// A load that finds no shelf free is reported with the counts of all shelves.
+#[test]
+fn full_shelves_are_reported(rt: HostRuntime) -> Result<(), Fail> {
+    let alloc: Global = rt.alloc();
+    let counts = [1, 1, 1, 1, 1, 1, 1, 0];
+    let refusal = LoadRefusal::Publish(PublishFault::ShelvesFull { counts });
+    let line = format!(in alloc; "load slow refused {refusal}\n")?;
+    assert_eq!(&rt;
+        line.as_str(),
+        "load slow refused 94 ShelvesFull 1 1 1 1 1 1 1 0\n"
+    );
     Ok(())
 }
 

@@ -1,11 +1,10 @@
 -- Orders that are carried out one after the other.
-use Rattle.std.proofs.Common.{◌≡◌, ◌∙◌, ◌++◌, ◌∷◌, ℕ, List, [], refl, sym, subst, ap}
-use Rattle.std.proofs.lemmas.List.{append_assoc, append-nil}
+use Rattle.std.proofs.Common.{◌≡◌, ◌∙◌, ◌++◌, ◌∷◌, ℕ, true, List, [], refl, sym, subst, ap}
 use Rattle.epochs.specs.declared.seats.LoaderAnswer.{LoaderAnswer}
 use Rattle.feed_loader.specs.declared.plan.Plan.{Plan}
 use Rattle.load_orders.specs.Telling.{AnsweredValue, LoaderOrdersValue}
 use Rattle.load_orders.specs.declared.queue.OrderMark.{OrderMark}
-use Rattle.workers.specs.Carrying.{AreCarriedOut, CarriesOut, IsCarriedOut}
+use Rattle.workers.specs.Carrying.{AllCarriedOut, AreCarriedOut, IsCarriedOut}
 use Rattle.workers.specs.Loading.{Holds}
 
 module _ {N D : Type 0} (noted : N → ℕ) (are_files : ℕ → D → Type 0) (holds : D → Holds) (is_plan : Plan → Type 0) (places : ℕ) where
@@ -23,22 +22,35 @@ module _ {N D : Type 0} (noted : N → ℕ) (are_files : ℕ → D → Type 0) (
       (so_far.0, so_far.1, carried_also orders answered order answer so_far.0 between after so_far.2 also)
 
   -- nothing was taken
-  pub carries_nothing : (a : LoaderOrdersValue N) (before : List LoaderAnswer) → CarriesOut noted are_files holds is_plan places a a before before
-  carries_nothing a before = ([], [], sym (append-nil a.taken), sym (append-nil a.answered), refl)
+  pub carries_nothing : (a : LoaderOrdersValue N) (before : List LoaderAnswer) → a.taken ≡ [] → a.answered ≡ []
+      → AreCarriedOut noted are_files holds is_plan places a.taken a.answered before before
+  carries_nothing a before none unanswered =
+      let Carried = λ (orders : List OrderMark) (answered : List (AnsweredValue N)).
+      AreCarriedOut noted are_files holds is_plan places orders answered before before in
+      let nothing : Carried [] [] = refl in
+      subst (λ orders. Carried orders a.answered) (sym none) (subst (λ answered. Carried [] answered) (sym unanswered) nothing)
 
   -- an order more was taken and carried out
-  pub carries_also : (a m taken b : LoaderOrdersValue N) (order : OrderMark) (before between after : List LoaderAnswer)
-      → CarriesOut noted are_files holds is_plan places a m before between
+  pub carries_also : (m taken b : LoaderOrdersValue N) (order : OrderMark) (before between after : List LoaderAnswer)
+      → AreCarriedOut noted are_files holds is_plan places m.taken m.answered before between
       → taken.taken ≡ m.taken ++ order ∷ [] → taken.answered ≡ m.answered → b.taken ≡ taken.taken
       → ((answer : AnsweredValue N) × (b.answered ≡ taken.answered ++ answer ∷ [])
       × IsCarriedOut noted are_files holds is_plan places order answer between after)
-      → CarriesOut noted are_files holds is_plan places a b before after
-  carries_also a m taken b order before between after so_far took same_answers same_taken also =
-      let more = ap (λ items. items ++ order ∷ []) so_far.2 ∙ append_assoc a.taken so_far.0 (order ∷ []) in
-      let more_answers = ap (λ items. items ++ also.0 ∷ []) (same_answers ∙ so_far.3) ∙ append_assoc a.answered so_far.1 (also.0 ∷ []) in (
-        so_far.0 ++ order ∷ [],
-        so_far.1 ++ also.0 ∷ [],
-        same_taken ∙ took ∙ more,
-        also.1 ∙ more_answers,
-        carried_also so_far.0 so_far.1 order also.0 before between after so_far.4 also.2,
-      )
+      → AreCarriedOut noted are_files holds is_plan places b.taken b.answered before after
+  carries_also m taken b order before between after so_far took same_answers same_taken also =
+      let Carried = λ (orders : List OrderMark) (answered : List (AnsweredValue N)).
+      AreCarriedOut noted are_files holds is_plan places orders answered before after in
+      let more : Carried (m.taken ++ order ∷ []) (m.answered ++ also.0 ∷ []) =
+      carried_also m.taken m.answered order also.0 before between after so_far also.2 in
+      let orders : b.taken ≡ m.taken ++ order ∷ [] = same_taken ∙ took in
+      let answers : b.answered ≡ m.answered ++ also.0 ∷ [] = also.1 ∙ ap (λ items. items ++ also.0 ∷ []) same_answers in
+      subst (λ taken. Carried taken b.answered) (sym orders) (subst (λ answered. Carried (m.taken ++ order ∷ []) answered) (sym answers) more)
+
+  -- the same, once none came
+  pub all_carried : (m b : LoaderOrdersValue N) (before after : List LoaderAnswer)
+      → AreCarriedOut noted are_files holds is_plan places m.taken m.answered before after
+      → b.taken ≡ m.taken → b.answered ≡ m.answered → b.over ≡ true → AllCarriedOut noted are_files holds is_plan places b before after
+  all_carried m b before after so_far same_taken same_answers over =
+      let Carried = λ (orders : List OrderMark) (answered : List (AnsweredValue N)).
+      AreCarriedOut noted are_files holds is_plan places orders answered before after in
+      (over, subst (λ taken. Carried taken b.answered) (sym same_taken) (subst (λ answered. Carried m.taken answered) (sym same_answers) so_far))

@@ -1,16 +1,17 @@
 -- How a session and an order end.
-use Rattle.std.proofs.Common.{◌≡◌, ◌∙◌, ◌<◌, ◌∷◌, ◌++◌, ℕ, List, [], Option, Result, refl, sym, subst, ap, inl}
-use Rattle.std.proofs.lemmas.List.{append_assoc, append-nil}
+use Rattle.std.proofs.Common.{◌≡◌, ◌<◌, ◌∷◌, ◌++◌, ℕ, List, [], Option, None, Result, refl, sym, subst, inl}
 use Rattle.epochs.specs.Seats.{SeatValue}
 use Rattle.epochs.specs.declared.seats.LoaderAnswer.{LoaderAnswer}
 use Rattle.orders.specs.Ordering.{OrderValue}
+use Rattle.shelf_steps.specs.declared.views.Known.{Known}
+use Rattle.session.specs.Learning.{Learns, TellPublished}
 use Rattle.session.specs.declared.fault.Ended.{Ended}
 use Rattle.session.specs.declared.fault.SessionFault.{SessionFault}
 use Rattle.session.specs.declared.point_form.PointForm.{PointForm}
 use Rattle.session.specs.Sessions.{LastRelease, Serves}
 use Rattle.workers.specs.Ends.{end_of}
 use Rattle.workers.specs.Loading.{IsEarly, IsNotPublished}
-use Rattle.workers.specs.Sessions.{AreServed, IsServed, IsSession}
+use Rattle.workers.specs.Sessions.{AreServed, IsServed, IsServedAt, IsSession}
 use Rattle.workers.specs.declared.clients.ConnFault.{ConnFault}
 use Rattle.workers.specs.declared.refusal.LoadRefusal.{LoadRefusal}
 use Rattle.workers.specs.declared.served.End.{End}
@@ -39,17 +40,20 @@ session_of form number end result counted_to_read to_read read_then counted_cont
       serves = subst (λ m. Told to_read contents 0 m) no_writes from_no_read;
     }
 
-module _ {C R W : Type 0} (form : PointForm) (opens : C → Result (R × W) ConnFault → Type 0)
-    (remaining : R → Option (List ℕ)) (contents : W → Option (List ℕ)) (number : ℕ) where
+module _ {C R W S : Type 0} (form : PointForm) (opens : C → Result (R × W) ConnFault → Type 0)
+    (remaining : R → Option (List ℕ)) (contents : W → Option (List ℕ))
+    (number : S → ℕ) (value : S → SeatValue) (known : S → Known) where
   -- one client more is served behind the others
-  pub served_also : (clients : List C) (ends : List End) (end : End) (client : C) (now : Option (Streams R W)) (a m b : SeatValue)
+  pub served_also : (clients : List C) (ends : List End) (end : End) (client : C) (now : Option (Streams R W)) (a m b : S)
       (asked between asked_then : List OrderValue)
-      → AreServed form opens remaining contents number clients ends a asked m between
-      → IsServed form opens remaining contents number client now end m between b asked_then
-      → AreServed form opens remaining contents number (clients ++ client ∷ []) (ends ++ end ∷ []) a asked b asked_then
+      → AreServed form opens remaining contents number value known clients ends a asked m between
+      → IsServedAt form opens remaining contents number value known client now end m between b asked_then
+      → AreServed form opens remaining contents number value known (clients ++ client ∷ []) (ends ++ end ∷ []) a asked b asked_then
   served_also [] [] end client now a m b asked between asked_then before also =
-      let from_seat = subst (λ seat. IsServed form opens remaining contents number client now end seat between b asked_then) before.0 also in
-      let from_both = subst (λ orders. IsServed form opens remaining contents number client now end a orders b asked_then) before.1 from_seat in
+      let At = λ (seat : S) (orders : List OrderValue).
+      IsServedAt form opens remaining contents number value known client now end seat orders b asked_then in
+      let from_seat = subst (λ seat. At seat between) before.0 also in
+      let from_both = subst (λ orders. At a orders) before.1 from_seat in
       (now, b, asked_then, from_both, (refl, refl))
   served_also [] (first ∷ ends) end client now a m b asked between asked_then before also = absurd before
   served_also (c ∷ clients) [] end client now a m b asked between asked_then before also = absurd before
@@ -57,28 +61,31 @@ module _ {C R W : Type 0} (form : PointForm) (opens : C → Result (R × W) Conn
       let rest = served_also clients ends end client now before.1 m b before.2 between asked_then before.4 also in
       (before.0, before.1, before.2, before.3, rest)
 
-  -- the clients that a worker took since it had taken those are served so
-  abbrev pub Serving : List C → List C → List End → SeatValue → List OrderValue → SeatValue → List OrderValue → Type 0
-  Serving had has ends a asked b asked_then =
-      (taken : List C) × (has ≡ had ++ taken) × AreServed form opens remaining contents number taken ends a asked b asked_then
+  -- no client was taken
+  pub serves_none : (has : List C) (ends : List End) (a : S) (asked : List OrderValue) → has ≡ [] → ends ≡ []
+      → AreServed form opens remaining contents number value known has ends a asked a asked
+  serves_none has ends a asked none unserved =
+      let Are = λ (clients : List C) (list : List End).
+      AreServed form opens remaining contents number value known clients list a asked a asked in
+      let nothing : Are [] [] = (refl, refl) in
+      subst (λ clients. Are clients ends) (sym none) (subst (λ list. Are [] list) (sym unserved) nothing)
 
-  pub serves_none : (had : List C) (a : SeatValue) (asked : List OrderValue) → Serving had had [] a asked a asked
-  serves_none had a asked = ([], sym (append-nil had), (refl, refl))
-
-  -- and one more, whom it takes and serves
-  pub serves_next : (number_then : ℕ) (had has has_then : List C) (ends ends_then : List End) (client : C) (now : Option (Streams R W))
-      (a m b : SeatValue) (asked between asked_then : List OrderValue)
-      → number_then ≡ number → Serving had has ends a asked m between → has_then ≡ has ++ client ∷ []
+  -- and one more, who is taken and served
+  pub serves_next : (has has_then : List C) (ends ends_then : List End) (client : C) (now : Option (Streams R W))
+      (a m b : S) (asked between asked_then : List OrderValue)
+      → AreServed form opens remaining contents number value known has ends a asked m between → has_then ≡ has ++ client ∷ []
+      → number b ≡ number m → Learns (known m) (value m) (known b) (value b) → TellPublished (known b) (value m) (value b)
+      → ((value m).held ≡ None → (value b).held ≡ None)
       → ((end : End) × (ends_then ≡ ends ++ end ∷ [])
-      × IsServed form opens remaining contents number_then client now end m between b asked_then)
-      → Serving had has_then ends_then a asked b asked_then
-  serves_next number_then had has has_then ends ends_then client now a m b asked between asked_then same before takes also =
-      let one = subst (λ n. IsServed form opens remaining contents n client now also.0 m between b asked_then) same also.2 in
-      let all = served_also before.0 ends also.0 client now a m b asked between asked_then before.2 one in (
-        before.0 ++ client ∷ [],
-        takes ∙ ap (λ clients. clients ++ client ∷ []) before.1 ∙ append_assoc had before.0 (client ∷ []),
-        subst (λ list. AreServed form opens remaining contents number (before.0 ++ client ∷ []) list a asked b asked_then) (sym also.1) all,
-      )
+      × IsServed form opens remaining contents (number m) client now end (value m) between (value b) asked_then)
+      → AreServed form opens remaining contents number value known has_then ends_then a asked b asked_then
+  serves_next has has_then ends ends_then client now a m b asked between asked_then before takes same learns profiles idle also =
+      let Are = λ (clients : List C) (list : List End).
+      AreServed form opens remaining contents number value known clients list a asked b asked_then in
+      let one : IsServedAt form opens remaining contents number value known client now also.0 m between b asked_then =
+      (also.2, same, learns, profiles, idle) in
+      let all = served_also has ends also.0 client now a m b asked between asked_then before one in
+      subst (λ clients. Are clients ends_then) (sym takes) (subst (λ list. Are (has ++ client ∷ []) list) (sym also.1) all)
 
 -- what is told before a publish was tried leaves the loader's seat as it was
 pub not_published : (answers : List LoaderAnswer) (refusal : LoadRefusal) → IsEarly refusal → IsNotPublished answers refusal answers

@@ -1,5 +1,5 @@
 -- Orders that are carried out.
-use Rattle.std.specs.Prelude.{◌≡◌, ◌≤◌, ◌⊎◌, ◌++◌, ◌∷◌, ℕ, List, [], Option, Result}
+use Rattle.std.specs.Prelude.{◌≡◌, ◌≤◌, ◌⊎◌, ◌∷◌, ℕ, true, List, [], Option, Result}
 use Rattle.epochs.specs.declared.seats.LoaderAnswer.{LoaderAnswer}
 use Rattle.feed_loader.specs.declared.plan.Plan.{Plan}
 use Rattle.load_orders.specs.Telling.{AnsweredValue, IsToldBack, LoaderOrdersValue}
@@ -8,6 +8,7 @@ use Rattle.load_orders.specs.declared.ways.LoadAnswer.{LoadAnswer}
 use Rattle.orders.specs.Ordering.{order_fault_number}
 use Rattle.orders.specs.declared.fault.OrderFault.{OrderFault}
 use Rattle.workers.specs.Loading.{Holds, IsOutcome, load_answer}
+use Rattle.workers.specs.declared.loading.Loaded.{Loaded}
 use Rattle.workers.specs.declared.refusal.LoadRefusal.{LoadRefusal}
 
 -- over notices of these versions, and feeds at so many places with these files and plans
@@ -15,7 +16,7 @@ module _ {N D : Type 0} (noted : N → ℕ) (are_files : ℕ → D → Type 0) (
   -- the files of the feed at this place are loaded, and the answer is what came of that; or there is no such feed
   abbrev pub IsLoadOf : ℕ → LoadAnswer N → List LoaderAnswer → List LoaderAnswer → Type 0
   IsLoadOf feed answer before after =
-      ((files : D) × (plan : Plan) × (outcome : Result (ℕ × Option N) LoadRefusal) × are_files feed files × is_plan plan
+      ((files : D) × (plan : Plan) × (outcome : Result (Loaded × Option N) LoadRefusal) × are_files feed files × is_plan plan
       × IsOutcome noted (holds files) plan before outcome after × (answer ≡ load_answer outcome))
       ⊎ ((places ≤ feed) × (after ≡ before) × (answer ≡ LoadAnswer.Refused (order_fault_number OrderFault.UnknownFeed)))
 
@@ -30,8 +31,6 @@ module _ {N D : Type 0} (noted : N → ℕ) (are_files : ℕ → D → Type 0) (
       (between : List LoaderAnswer) × IsCarriedOut order answered before between × AreCarriedOut orders rest between after
   AreCarriedOut _ _ before after = ⊥
 
-  -- all orders that were taken from the one to the other are
-  abbrev pub CarriesOut : LoaderOrdersValue N → LoaderOrdersValue N → List LoaderAnswer → List LoaderAnswer → Type 0
-  CarriesOut a b before after =
-      (orders : List OrderMark) × (answered : List (AnsweredValue N)) × (b.taken ≡ a.taken ++ orders) × (b.answered ≡ a.answered ++ answered)
-      × AreCarriedOut orders answered before after
+  -- at this end of the queue orders were taken until none came, and all were carried out in turn, each once
+  abbrev pub AllCarriedOut : LoaderOrdersValue N → List LoaderAnswer → List LoaderAnswer → Type 0
+  AllCarriedOut end before after = (end.over ≡ true) × AreCarriedOut end.taken end.answered before after

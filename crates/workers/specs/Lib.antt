@@ -2,3 +2,4 @@ pub mod Ends
 pub mod Sessions
 pub mod Loading
 pub mod Carrying
+pub mod Arriving

@@ -13,11 +13,12 @@ use Rattle.epochs.specs.Seats.{PublishStep, RefuseStep, CollectStep}
 use Rattle.epochs.specs.declared.collected.Collected.{Collected}
 use Rattle.epochs.specs.declared.faults.PublishFault.{PublishFault}
 use Rattle.epochs.specs.declared.seats.LoaderAnswer.{LoaderAnswer}
+use Rattle.workers.specs.declared.loading.Loaded.{Loaded}
 use Rattle.workers.specs.declared.refusal.LoadRefusal.{LoadRefusal}
 
--- the image of what the files hold
-abbrev pub IsImageOf : Content → Plan → ImageValue → Type 0
-IsImageOf content plan image = (report : Report) × IsLoaded content plan image.timetable image.names report
+-- the image of what the files hold, and its counts
+abbrev pub IsImageOf : Content → Plan → ImageValue → Report → Type 0
+IsImageOf content plan image report = IsLoaded content plan image.timetable image.names report
 
 -- what a refusal tells of the files; a refused publish tells nothing of them
 abbrev pub MayRefuse : Content → Plan → LoadRefusal → Type 0
@@ -45,12 +46,12 @@ IsNotPublished before (LoadRefusal.Publish fault) after = ((after ≡ before) ×
 abbrev pub Holds : Type 0
 Holds = List ℕ → Option (Option (List ℕ))
 
--- what comes of files that hold this: their image is published as the version that is told, and a notice is of that version; or nothing is
--- published, and the first refusal is told
-abbrev pub IsOutcome : {N : Type 0} → (N → ℕ) → Holds → Plan → List LoaderAnswer → Result (ℕ × Option N) LoadRefusal → List LoaderAnswer → Type 0
+-- what comes of files that hold this: their image is published as the version that is told, with its counts, and a notice is of that version;
+-- or nothing is published, and the first refusal is told
+abbrev pub IsOutcome : {N : Type 0} → (N → ℕ) → Holds → Plan → List LoaderAnswer → Result (Loaded × Option N) LoadRefusal → List LoaderAnswer → Type 0
 IsOutcome noted holds plan before (Ok loaded) after =
-    (image : ImageValue) × ((content : Content) → Tells holds content → IsImageOf content plan image)
-    × IsPublished before image loaded.0 after × IfSome loaded.1 (λ notice. noted notice ≡ loaded.0)
+    (image : ImageValue) × ((content : Content) → Tells holds content → IsImageOf content plan image loaded.0.report)
+    × IsPublished before image loaded.0.version after × IfSome loaded.1 (λ notice. noted notice ≡ loaded.0.version)
 IsOutcome noted holds plan before (Err refusal) after =
     ((content : Content) → Tells holds content → MayRefuse content plan refusal) × IsNotPublished before refusal after
 
@@ -64,7 +65,7 @@ abbrev pub notice_answer : {N : Type 0} → Option N → LoadAnswer N
 notice_answer (Some notice) = LoadAnswer.Published notice
 notice_answer None = LoadAnswer.Unnoticed
 
-abbrev pub load_answer : {N : Type 0} → Result (ℕ × Option N) LoadRefusal → LoadAnswer N
+abbrev pub load_answer : {N : Type 0} → Result (Loaded × Option N) LoadRefusal → LoadAnswer N
 load_answer (Ok loaded) = notice_answer loaded.1
 load_answer (Err refusal) = LoadAnswer.Refused (refusal_number refusal)
 

@@ -3,6 +3,8 @@ use Rattle.std.specs.Prelude.{◌≡◌, ◌<◌, ◌++◌, ◌∷◌, ℕ, Opti
 use Rattle.epochs.specs.Seats.{SeatValue}
 use Rattle.lines.specs.Counting.{failures_of, inner_of}
 use Rattle.orders.specs.Ordering.{OrderValue}
+use Rattle.shelf_steps.specs.declared.views.Known.{Known}
+use Rattle.session.specs.Learning.{Learns, TellPublished}
 use Rattle.session.specs.declared.fault.Ended.{Ended}
 use Rattle.session.specs.declared.fault.SessionFault.{SessionFault}
 use Rattle.session.specs.declared.point_form.PointForm.{PointForm}
@@ -28,8 +30,8 @@ pub record IsUnopened (end : End) (a : SeatValue) (asked : List OrderValue) (b :
   pub seat : b ≡ a
   pub orders : asked_then ≡ asked
 
-module _ {C R W : Type 0} (form : PointForm) (opens : C → Result (R × W) ConnFault → Type 0) (remaining : R → Option (List ℕ)) (contents : W → Option
-    (List ℕ)) where
+module _ {C R W : Type 0} (form : PointForm) (opens : C → Result (R × W) ConnFault → Type 0)
+    (remaining : R → Option (List ℕ)) (contents : W → Option (List ℕ)) where
   -- the client's own reader and writer are served, which are so now, counted from no failure; or there are none
   abbrev pub IsServed : ℕ → C → Option (Streams R W) → End → SeatValue → List OrderValue → SeatValue → List OrderValue → Type 0
   IsServed number client (Some now) end a asked b asked_then =
@@ -38,21 +40,31 @@ module _ {C R W : Type 0} (form : PointForm) (opens : C → Result (R × W) Conn
       (0 < failures_of now.reader) (0 < failures_of now.writer) a asked b asked_then
   IsServed number client None end a asked b asked_then = (fault : ConnFault) × opens client (Err fault) × IsUnopened end a asked b asked_then
 
-  -- the clients are served at this seat one after the other, and the session of each ends so
-  abbrev pub AreServed : ℕ → List C → List End → SeatValue → List OrderValue → SeatValue → List OrderValue → Type 0
-  AreServed number [] [] a asked b asked_then = (b ≡ a) × (asked_then ≡ asked)
-  AreServed number (client ∷ clients) (end ∷ ends) a asked b asked_then =
-      (now : Option (Streams R W)) × (m : SeatValue) × (between : List OrderValue)
-      × IsServed number client now end a asked m between × AreServed number clients ends m between b asked_then
-  AreServed _ _ _ _ _ _ _ = ⊥
+  -- over seats with these numbers, values, and parts of their shelves' one history that they know
+  module _ {S : Type 0} (number : S → ℕ) (value : S → SeatValue) (known : S → Known) where
+    -- a client is served at this seat, which learns meanwhile: each profile is answered over the image that the history published as its
+    -- version, and the seat holds nothing then if it held nothing
+    abbrev pub IsServedAt : C → Option (Streams R W) → End → S → List OrderValue → S → List OrderValue → Type 0
+    IsServedAt client now end a asked b asked_then =
+        IsServed (number a) client now end (value a) asked (value b) asked_then × (number b ≡ number a)
+        × Learns (known a) (value a) (known b) (value b) × TellPublished (known b) (value a) (value b)
+        × ((value a).held ≡ None → (value b).held ≡ None)
 
-  -- a worker's share: these are the ends of its clients' sessions at its seat, from this value of the seat and with no order put before
-  abbrev pub IsShare : ℕ → SeatValue → List End → Type 0
-  IsShare number a ends = (clients : List C) × (b : SeatValue) × (asked : List OrderValue) × AreServed number clients ends a [] b asked
+    -- the clients are served at this seat one after the other, and the session of each ends so
+    abbrev pub AreServed : List C → List End → S → List OrderValue → S → List OrderValue → Type 0
+    AreServed [] [] a asked b asked_then = (b ≡ a) × (asked_then ≡ asked)
+    AreServed (client ∷ clients) (end ∷ ends) a asked b asked_then =
+        (now : Option (Streams R W)) × (m : S) × (between : List OrderValue)
+        × IsServedAt client now end a asked m between × AreServed clients ends m between b asked_then
+    AreServed _ _ _ _ _ _ = ⊥
 
-  -- the ends are the workers' shares, one for each of the seats, one behind the other
-  abbrev pub AreShares : {S : Type 0} → (S → ℕ) → (S → SeatValue) → List S → List End → Type 0
-  AreShares number_of value_of [] ends = ends ≡ []
-  AreShares number_of value_of (seat ∷ seats) ends =
-      (share : List End) × (rest : List End) × (ends ≡ share ++ rest)
-      × IsShare (number_of seat) (value_of seat) share × AreShares number_of value_of seats rest
+    -- a worker's share: these are the ends of these clients' sessions at its seat, with no order put before, and the seat is so then
+    abbrev pub IsShare : S → List C → List End → Type 0
+    IsShare seat clients ends = (last : S) × (asked : List OrderValue) × AreServed clients ends seat [] last asked
+
+    -- the ends are the workers' shares, one for each of the seats, one behind the other
+    abbrev pub AreShares : List S → List End → Type 0
+    AreShares [] ends = ends ≡ []
+    AreShares (seat ∷ seats) ends =
+        (clients : List C) × (share : List End) × (rest : List End) × (ends ≡ share ++ rest)
+        × IsShare seat clients share × AreShares seats rest

@@ -4,11 +4,11 @@ ghost use Rattle.std.specs.Prelude.{◌≡◌, ◌≤◌, ◌∷◌, ◌++◌, [
 ghost use Rattle.feed_loader.specs.declared.plan.Plan.{Plan};
 ghost use Rattle.load_orders.specs.Queue.{mark_of};
 ghost use Rattle.load_orders.specs.Telling.{AnsweredValue};
-ghost use Rattle.workers.specs.Carrying.{CarriesOut, IsCarriedOut, IsLoadOf};
+ghost use Rattle.workers.specs.Carrying.{AllCarriedOut, IsCarriedOut, IsLoadOf};
 ghost use Rattle.workers.specs.Loading.{IsOutcome, load_answer};
 
 use crate::feeds::Feeds;
-use crate::loading::load_one;
+use crate::loading::{Loaded, load_one};
 use crate::refusal::LoadRefusal;
 use epochs::{Loads, Versions};
 use feed_loader::LoadFault;
@@ -19,127 +19,122 @@ use std::io;
 use std::io::Write;
 use std::sync::Wait;
 
-/// Carries out orders until no more come: the feed of each is loaded once, in turn, and by its own
-/// way back it is told what came of that. The orders' end and the loader's seat come back.
-pub(crate) fn load_all<R: Wait, N: Drop, T: Versions<Notice = N> + Loads, F: Feeds, E: Write>(
-    rt: &R,
-    alloc: Global,
-    mut orders: LoaderOrders<N>,
-    shelves: &T,
-    mut loader: T::Loader,
-    feeds: &F,
-    mut errors: E,
-) -> (LoaderOrders<N>, T::Loader, E)
-    requires { T.Loads.loads shelves.now loader }
-    ensures loads { T.Loads.loads shelves.now result.1 }
-    ensures carried { CarriesOut T.Versions.noted (F.are_files feeds.now) F.Files.holds (F.is_plan feeds.now)
-        (length (F.named feeds.now))
-        orders result.0 (T.Loads.answers loader) (T.Loads.answers result.1) }
-{
-    for _ in rt.forever() {
-        let Some(order) = orders.next(rt) else {
-            break;
-        };
-        load_feed(
-            rt,
-            alloc,
-            order,
-            &mut orders,
-            shelves,
-            &mut loader,
-            feeds,
-            &mut errors,
-        );
-    }
-    (orders, loader, errors)
+/// What feeds are loaded with: the runtime and its memory, the shelves, and the feeds.
+#[derive(Drop)]
+pub(crate) struct Loading<'a, R, T, F> {
+    pub rt: &'a R,
+    pub alloc: Global,
+    pub shelves: &'a T,
+    pub feeds: &'a F,
 }
 
-// Loads the feed that is ordered, and tells what came of it, also whoever waits for that.
-fn load_feed<R: Wait, N: Drop, T: Versions<Notice = N> + Loads, F: Feeds, E: Write>(
-    rt: &R,
-    alloc: Global,
-    order: Order<N>,
-    orders: &mut LoaderOrders<N>,
-    shelves: &T,
-    loader: &mut T::Loader,
-    feeds: &F,
-    errors: &mut E,
-)
-    requires { T.Loads.loads shelves.now loader.old }
-    ensures loads { T.Loads.loads shelves.now loader.new }
-    ensures taken { orders.new.taken ≡ orders.old.taken }
-    ensures carried { (answer : AnsweredValue N) × (orders.new.answered ≡ orders.old.answered ++ answer ∷ [])
-        × IsCarriedOut T.Versions.noted (F.are_files feeds.now) F.Files.holds (F.is_plan feeds.now)
-        (length (F.named feeds.now))
-        (mark_of order) answer (T.Loads.answers loader.old) (T.Loads.answers loader.new) }
-{
-    let answer = load_place(rt, alloc, order.feed, shelves, loader, feeds, errors);
-    orders.answer(rt, order, answer);
-}
-
-// Loads the feed at the place: what came of it. Where there is none, it is refused as an unknown feed.
-fn load_place<R: Wait, N, T: Versions<Notice = N> + Loads, F: Feeds, E: Write>(
-    rt: &R,
-    alloc: Global,
-    place: usize,
-    shelves: &T,
-    loader: &mut T::Loader,
-    feeds: &F,
-    errors: &mut E,
-) -> LoadAnswer<N>
-    requires { T.Loads.loads shelves.now loader.old }
-    ensures loads { T.Loads.loads shelves.now loader.new }
-    ensures load { IsLoadOf T.Versions.noted (F.are_files feeds.now) F.Files.holds (F.is_plan feeds.now)
-        (length (F.named feeds.now))
-        place result (T.Loads.answers loader.old) (T.Loads.answers loader.new) }
-{
-    match (feeds.names().get(place), feeds.files(place)) {
-        (Some(name), Some(files)) => {
-            let outcome = load_planned(rt, alloc, files, feeds, shelves, loader);
-            // The loader goes on where its line can't be written.
-            let _ = tell(errors, name.as_str(), version_or_refusal(&outcome));
-            answer_of(outcome)
+impl<'a, R: Wait, N: Drop, T: Versions<Notice = N> + Loads, F: Feeds> Loading<'a, R, T, F> {
+    /// Carries out the orders that come to a new end of their queue, until no more come: the feed
+    /// of each is loaded once, in turn, and by its own way back it is told what came of that. The
+    /// orders' end and the loader's seat come back.
+    pub(crate) fn load_all<E: Write>(
+        &self,
+        mut orders: LoaderOrders<N>,
+        mut seat: T::Loader,
+        mut errors: E,
+    ) -> (LoaderOrders<N>, T::Loader, E)
+        requires loads { T.Loads.loads self.now.shelves.now seat }
+        requires none { (orders.taken ≡ []) × (orders.answered ≡ []) }
+        ensures loads { T.Loads.loads self.now.shelves.now result.1 }
+        ensures carried { AllCarriedOut T.Versions.noted (F.are_files self.now.feeds.now) F.Files.holds
+            (F.is_plan self.now.feeds.now) (length (F.named self.now.feeds.now))
+            result.0 (T.Loads.answers seat) (T.Loads.answers result.1) }
+    {
+        for _ in self.rt.forever() {
+            match orders.next(self.rt) {
+                Some(order) => self.load_feed(order, &mut orders, &mut seat, &mut errors),
+                None => return (orders, seat, errors),
+            }
         }
-        _ => LoadAnswer::Refused {
-            refusal: OrderFault::UnknownFeed.number(),
-        },
+        unreachable!()
+    }
+
+    // Loads the feed that is ordered, and tells what came of it, also whoever waits for that.
+    fn load_feed<E: Write>(
+        &self,
+        order: Order<N>,
+        orders: &mut LoaderOrders<N>,
+        seat: &mut T::Loader,
+        errors: &mut E,
+    )
+        requires { T.Loads.loads self.now.shelves.now seat.old }
+        ensures loads { T.Loads.loads self.now.shelves.now seat.new }
+        ensures taken { orders.new.taken ≡ orders.old.taken }
+        ensures carried { (answer : AnsweredValue N) × (orders.new.answered ≡ orders.old.answered ++ answer ∷ [])
+            × IsCarriedOut T.Versions.noted (F.are_files self.now.feeds.now) F.Files.holds
+            (F.is_plan self.now.feeds.now)
+            (length (F.named self.now.feeds.now)) (mark_of order) answer (T.Loads.answers seat.old) (T.Loads.answers seat.new) }
+    {
+        let answer = self.load_place(order.feed, seat, errors);
+        orders.answer(self.rt, order, answer);
+    }
+
+    // Loads the feed at the place: what came of it. Where there is none, it is refused as an unknown feed.
+    fn load_place<E: Write>(
+        &self,
+        place: usize,
+        seat: &mut T::Loader,
+        errors: &mut E,
+    ) -> LoadAnswer<N>
+        requires { T.Loads.loads self.now.shelves.now seat.old }
+        ensures loads { T.Loads.loads self.now.shelves.now seat.new }
+        ensures load { IsLoadOf T.Versions.noted (F.are_files self.now.feeds.now) F.Files.holds
+            (F.is_plan self.now.feeds.now)
+            (length (F.named self.now.feeds.now)) place result (T.Loads.answers seat.old) (T.Loads.answers seat.new) }
+    {
+        match (self.feeds.names().get(place), self.feeds.files(place)) {
+            (Some(name), Some(files)) => {
+                let begun = self.feeds.begin(place);
+                let outcome = self.load_planned(files, seat);
+                let loaded = loaded_or_refusal(&outcome);
+                // The loader goes on where its line can't be written.
+                let _ = tell(errors, name.as_str(), loaded);
+                self.feeds.finish(errors, place, begun, loaded);
+                answer_of(outcome)
+            }
+            _ => LoadAnswer::Refused {
+                refusal: OrderFault::UnknownFeed.number(),
+            },
+        }
+    }
+
+    // Loads these files by a plan that is made for this load; what came of it.
+    fn load_planned(
+        &self,
+        mut files: F::Files,
+        seat: &mut T::Loader,
+    ) -> Result<(Loaded, Option<N>), LoadRefusal>
+        requires loads { T.Loads.loads self.now.shelves.now seat.old }
+        requires failures { F.Files.failures files ≡ 0 }
+        ensures loads { T.Loads.loads self.now.shelves.now seat.new }
+        ensures outcome { (plan : Plan) × F.is_plan self.now.feeds.now plan
+            × IsOutcome T.Versions.noted (F.Files.holds files) plan (T.Loads.answers seat.old) result
+            (T.Loads.answers seat.new) }
+    {
+        match self.feeds.plan(self.alloc) {
+            Ok(plan) => load_one(self.rt, self.alloc, &mut files, &plan, self.shelves, seat),
+            Err(_) => Err(LoadRefusal::Load(LoadFault::Day(DayFault::OutOfMemory))),
+        }
     }
 }
 
-// Loads these files by a plan that is made for this load; what came of it.
-fn load_planned<R: Wait, N, T: Versions<Notice = N> + Loads, F: Feeds>(
-    rt: &R,
-    alloc: Global,
-    mut files: F::Files,
-    feeds: &F,
-    shelves: &T,
-    loader: &mut T::Loader,
-) -> Result<(u64, Option<N>), LoadRefusal>
-    requires loads { T.Loads.loads shelves.now loader.old }
-    requires failures { F.Files.failures files ≡ 0 }
-    ensures loads { T.Loads.loads shelves.now loader.new }
-    ensures outcome { (plan : Plan) × F.is_plan feeds.now plan
-        × IsOutcome T.Versions.noted (F.Files.holds files) plan (T.Loads.answers loader.old) result
-        (T.Loads.answers loader.new) }
-{
-    match feeds.plan(alloc) {
-        Ok(plan) => load_one(rt, alloc, &mut files, &plan, shelves, loader),
-        Err(_) => Err(LoadRefusal::Load(LoadFault::Day(DayFault::OutOfMemory))),
-    }
-}
-
-fn version_or_refusal<N>(
-    outcome: &Result<(u64, Option<N>), LoadRefusal>,
-) -> Result<u64, LoadRefusal> {
+fn loaded_or_refusal<N>(
+    outcome: &Result<(Loaded, Option<N>), LoadRefusal>,
+) -> Result<Loaded, LoadRefusal> {
     match outcome {
-        Ok((version, _)) => Ok(*version),
+        Ok((loaded, _)) => Ok(*loaded),
         Err(refusal) => Err(*refusal),
     }
 }
 
 // What whoever waits for a load is told of it: its version's notice, that there was no memory for
 // one, or the refusal's number.
-fn answer_of<N>(outcome: Result<(u64, Option<N>), LoadRefusal>) -> LoadAnswer<N>
+fn answer_of<N>(outcome: Result<(Loaded, Option<N>), LoadRefusal>) -> LoadAnswer<N>
     ensures { result ≡ load_answer outcome }
 {
     match outcome {
@@ -152,9 +147,13 @@ fn answer_of<N>(outcome: Result<(u64, Option<N>), LoadRefusal>) -> LoadAnswer<N>
 }
 
 // Tells what came of an order. It takes no memory.
-fn tell<E: Write>(errors: &mut E, name: &str, outcome: Result<u64, LoadRefusal>) -> io::Result<()> {
+fn tell<E: Write>(
+    errors: &mut E,
+    name: &str,
+    outcome: Result<Loaded, LoadRefusal>,
+) -> io::Result<()> {
     match outcome {
-        Ok(version) => write!(errors, "loaded {name} version {version}\n"),
+        Ok(loaded) => write!(errors, "loaded {name} version {}\n", loaded.version),
         Err(refusal) => write!(errors, "load {name} refused {refusal}\n"),
     }
 }

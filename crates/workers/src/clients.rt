@@ -3,6 +3,7 @@
 ghost use Rattle.std.specs.Prelude.{Result, MatchOption, ⊤};
 ghost use Rattle.workers.specs.declared.clients.ConnFault.{ConnFault};
 
+use crate::served::End;
 use std::io::{Read, Write};
 
 /// A client can't be talked to.
@@ -21,6 +22,10 @@ pub trait Client {
     /// Where its requests are read and its replies are written.
     fn open(self) -> Result<(Self::Reader, Self::Writer), ConnFault>
         ensures { opens self result };
+
+    /// Called once its session has ended, with what was opened and how it ended. Nothing else hangs
+    /// on what is done here.
+    fn close(reader: Self::Reader, writer: Self::Writer, end: End);
 }
 
 /// Clients, one after the other.

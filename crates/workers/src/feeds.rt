@@ -5,8 +5,12 @@ ghost use Rattle.std.specs.Global.{Global};
 ghost use Rattle.connections.specs.declared.days.TheConstants.{MAX_DAYS};
 ghost use Rattle.feed_loader.specs.declared.plan.Plan.{Plan};
 
+use crate::loading::Loaded;
+use crate::refusal::LoadRefusal;
 use feed_loader::{FeedFiles, Plan};
 use std::alloc::{AllocError, Global};
+use std::io::Write;
+use std::time::Instant;
 
 /// The feeds that may be ordered by their names.
 pub trait Feeds {
@@ -37,4 +41,17 @@ pub trait Feeds {
     fn files(&self, place: usize) -> Option<Self::Files>
         ensures { MatchOption result (length (named self.now) ≤ place) (λ files. (Self.Files.failures files ≡ 0)
             × are_files self.now place files) };
+
+    /// Called before the feed at the place is loaded: when that is, if it matters to these feeds.
+    fn begin(&self, place: usize) -> Option<Instant>;
+
+    /// Called when that load has ended, behind the loader's own line, with its writer. Nothing else
+    /// hangs on what is done here.
+    fn finish<E: Write>(
+        &self,
+        errors: &mut E,
+        place: usize,
+        begun: Option<Instant>,
+        outcome: Result<Loaded, LoadRefusal>,
+    );
 }

@@ -15,10 +15,11 @@ mod shares;
 
 pub use clients::{Client, Clients, ConnFault};
 pub use feeds::Feeds;
-pub use loading::load_one;
+pub use load_orders::LoaderOrders;
+pub use loading::{Loaded, load_one};
 pub use naming::run_shelves;
 pub use refusal::LoadRefusal;
-pub use running::{WorkersFault, run_workers};
+pub use running::{Ran, WorkersFault, run_workers};
 pub use served::{End, Served};
 pub use serving::Worker;
 pub use session::{Desk, PointForm, Streams};

@@ -10,10 +10,17 @@ ghost use Rattle.workers.specs.Loading.{IsEarly, IsImageOf, IsOutcome, IsPublish
 
 use crate::refusal::LoadRefusal;
 use epochs::{Loads, PublishFault, Versions};
-use feed_loader::{FeedFiles, Plan, load};
+use feed_loader::{FeedFiles, Plan, Report, load};
 use image_verifier::Verified;
 use std::alloc::Global;
 use std::sync::{Arc, Wait};
+
+/// The version that a load published, and the counts of its image.
+#[derive(Clone, Copy, Debug, PartialEq, Eq)]
+pub struct Loaded {
+    pub version: u64,
+    pub report: Report,
+}
 
 /// Loads a feed and publishes its image as the next version, which is told with a notice of it,
 /// where there was memory for one; then shelves that nobody needs are freed.
@@ -24,7 +31,7 @@ pub fn load_one<R: Wait, F: FeedFiles, N, T: Versions<Notice = N> + Loads>(
     plan: &Plan,
     shelves: &T,
     loader: &mut T::Loader,
-) -> Result<(u64, Option<N>), LoadRefusal>
+) -> Result<(Loaded, Option<N>), LoadRefusal>
     requires loads { T.Loads.loads shelves.now loader.old }
     requires failures { F.failures files.old < 2 ^ 64 - 1 }
     requires some { 1 ≤ plan.now.days }
@@ -37,37 +44,37 @@ pub fn load_one<R: Wait, F: FeedFiles, N, T: Versions<Notice = N> + Loads>(
         (T.Loads.answers loader.new) }
 {
     match shared_image(alloc, files, plan) {
-        Ok(image) => match publish_image(rt, shelves, loader, image) {
-            Ok(loaded) => Ok(loaded),
+        Ok((image, report)) => match publish_image(rt, shelves, loader, image) {
+            Ok((version, notice)) => Ok((Loaded { version, report }, notice)),
             Err(fault) => Err(LoadRefusal::Publish(fault)),
         },
         Err(refusal) => Err(refusal),
     }
 }
 
-// The image of the files, to be shared.
+// The image of the files, to be shared, and its counts.
 fn shared_image<F: FeedFiles>(
     alloc: Global,
     files: &mut F,
     plan: &Plan,
-) -> Result<Arc<Verified, Global>, LoadRefusal>
+) -> Result<(Arc<Verified, Global>, Report), LoadRefusal>
     requires failures { F.failures files.old < 2 ^ 64 - 1 }
     requires some { 1 ≤ plan.now.days }
     requires few { plan.now.days ≤ MAX_DAYS }
     ensures same { F.holds files.new ≡ F.holds files.old }
     ensures failures { F.failures files.new ≡ F.failures files.old + failed_in (reading result) }
     ensures failed { F.failed files.new ≡ failed_by (F.failed files.old) (reading result) }
-    ensures ok { (content : Content) → Tells (F.holds files.old) content
-        → IfOk result (λ image. IsImageOf content plan.now (arc_value image)) }
+    ensures ok { (content : Content) → Tells (F.holds files.old) content →
+        IfOk result (λ made. IsImageOf content plan.now (arc_value made.0) made.1) }
     ensures err { (content : Content) → Tells (F.holds files.old) content → IfErr result (MayRefuse content plan.now) }
     ensures early { IfErr result IsEarly }
 {
-    let image = match load(alloc, files, plan) {
-        Ok((image, _)) => image,
+    let (image, report) = match load(alloc, files, plan) {
+        Ok(made) => made,
         Err(fault) => return Err(LoadRefusal::Load(fault)),
     };
     match Arc::new(alloc, image) {
-        Ok(shared) => Ok(shared),
+        Ok(shared) => Ok((shared, report)),
         Err(_) => Err(LoadRefusal::Publish(PublishFault::OutOfMemory)),
     }
 }

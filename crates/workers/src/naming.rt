@@ -1,29 +1,30 @@
 //! Workers at shelves without a lock, under a name that the caller picks.
 
 ghost use Rattle.std.specs.Prelude.{◌≡◌, ◌≤◌, All, length, IfOk};
+ghost use Rattle.shelf_steps.specs.Events.{known_of};
+ghost use Rattle.workers.specs.Carrying.{AllCarriedOut};
+ghost use Rattle.workers.specs.Sessions.{AreShares};
 
 use crate::clients::{Client, Clients};
 use crate::feeds::Feeds;
-use crate::running::{WorkersFault, run_workers};
-use crate::served::Served;
-use epochs::{Named, NamedLoader, NamedSeat, NamedShelves, ShelfLoader, ShelfSeat, Shelves};
-use feed_loader::FeedFiles;
+use crate::running::{Ran, WorkersFault, run_workers};
+use epochs::{
+    Named, NamedLoader, NamedNotice, NamedSeat, NamedShelves, ShelfLoader, ShelfSeat, Shelves,
+};
 use orders::Gate;
 use session::PointForm;
 use std::alloc::{AllocError, Global};
-use std::io::{Read, Write};
+use std::io::Write;
 use std::sync::Wait;
 use std::thread::Threads;
 
-/// `run_workers` at these shelves: their notices are of them by their type.
+/// `run_workers` at these shelves: their notices are of them by their type. The loader's seat comes
+/// back under their name.
 pub fn run_shelves<
     B: Named + Send + Sync,
-    I: Read + Send + Drop,
-    O: Write + Send + Drop,
-    C: Client<Reader = I, Writer = O> + Drop + Send,
+    C: Client + Drop + Send,
     K: Clients<C> + Drop,
-    D: FeedFiles + Send + Drop,
-    F: Feeds<Files = D> + Sync,
+    F: Feeds + Sync,
     G: Gate + Sync,
     E: Write + Send + Drop,
     R: Threads + Wait + Sync,
@@ -38,13 +39,17 @@ pub fn run_shelves<
     gate: &G,
     form: PointForm,
     errors: E,
-) -> Result<(Served, K), WorkersFault>
+) -> Result<Ran<K, NamedLoader<B>, NamedNotice<B>>, WorkersFault>
     requires shelves { shelves ≡ B.table }
     requires seats { All (λ seat. seat.table ≡ B.table) seats.items }
     requires loader { loader.table ≡ B.table }
     requires some { 1 ≤ length seats.items }
     requires few { length seats.items ≤ 16 }
-    ensures { IfOk result (λ served. K.none_left served.1) }
+    ensures none_left { IfOk result (λ ran. K.none_left ran.clients) }
+    ensures shares { IfOk result (λ ran. AreShares form C.opens C.Reader.remaining C.Writer.contents
+        (λ seat. seat.number) (λ seat. seat.shown) (λ seat. known_of seat.view) seats.items ran.served) }
+    ensures loads { IfOk result (λ ran. AllCarriedOut (λ notice. notice.version) (F.are_files feeds.now) F.Files.holds
+        (F.is_plan feeds.now) (length (F.named feeds.now)) ran.orders loader.answers ran.loader.answers) }
 {
     let seats = named_seats::<B>(alloc, seats)?;
     let shelves = NamedShelves::<B>::of(shelves);
@@ -60,7 +65,7 @@ fn named_seats<B: Named>(
     seats: Vec<ShelfSeat>,
 ) -> Result<Vec<NamedSeat<B>>, AllocError>
     requires { All (λ seat. seat.table ≡ B.table) seats.items }
-    ensures { IfOk result (λ named. length named.items ≡ length seats.items) }
+    ensures { IfOk result (λ named. named.items ≡ seats.items) }
 {
     let mut named = Vec::with_capacity(alloc, seats.len())?;
     for seat in seats {

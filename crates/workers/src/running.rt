@@ -1,24 +1,24 @@
 //! The workers and the loader, in one scope.
 
 ghost use denote.Param.Send.{IsSend, IsSync};
-ghost use Rattle.std.specs.Prelude.{◌≤◌, All, length, IfOk};
+ghost use Rattle.std.specs.Prelude.{◌≡◌, ◌≤◌, [], true, All, length, IfOk};
+ghost use Rattle.workers.specs.Carrying.{AllCarriedOut};
 ghost use Rattle.workers.specs.Sessions.{AreShares, IsShare};
 
 use crate::arrivals::Arrivals;
-use crate::carrying::load_all;
+use crate::carrying::Loading;
 use crate::clients::{Client, Clients};
 use crate::feeds::Feeds;
 use crate::served::Served;
 use crate::serving::Worker;
-use crate::shares::{ShareAt, join_workers};
+use crate::shares::{LoadsAt, Share, ShareAt, join_workers};
 use crossbeam_channel::Sender;
 use epochs::{Loads, Versions};
-use feed_loader::FeedFiles;
-use load_orders::{WorkerOrders, order_queue};
+use load_orders::{LoaderOrders, WorkerOrders, order_queue};
 use orders::Gate;
 use session::{Desk, PointForm};
 use std::alloc::{AllocError, Global};
-use std::io::{Read, Write};
+use std::io::Write;
 use std::sync::Wait;
 use std::thread;
 use std::thread::Threads;
@@ -35,21 +35,28 @@ impl From<AllocError> for WorkersFault {
     }
 }
 
+/// What is left once all clients were served.
+#[derive(Drop)]
+pub struct Ran<K, L, N: Drop> {
+    /// How the sessions ended, seat after seat.
+    pub served: Served,
+    /// The clients' source.
+    pub clients: K,
+    /// The loader's end of the queue of orders.
+    pub orders: LoaderOrders<N>,
+    /// The loader's seat.
+    pub loader: L,
+}
+
 /// Serves all clients, with a worker for each seat, and loads the feeds that they order. Profiles
 /// are replied in this form. What came of a load is written to the error writer, and goes to
 /// whoever waits for it. It returns when there are no more clients, all sessions have ended, and
-/// all orders were carried out: how the sessions ended, seat after seat, and the clients' source.
+/// all orders were carried out.
 pub fn run_workers<
-    I: Read + Send + Drop,
-    O: Write + Send + Drop,
-    C: Client<Reader = I, Writer = O> + Drop + Send,
+    C: Client + Drop + Send,
     K: Clients<C> + Drop,
-    S: Send + Drop,
-    L: Send + Drop,
-    N: Send + Drop,
-    T: Versions<Seat = S, Notice = N> + Loads<Loader = L> + Sync,
-    D: FeedFiles + Send + Drop,
-    F: Feeds<Files = D> + Sync,
+    T: Versions + Loads + Sync,
+    F: Feeds + Sync,
     G: Gate + Sync,
     E: Write + Send + Drop,
     R: Threads + Wait + Sync,
@@ -58,42 +65,67 @@ pub fn run_workers<
     alloc: Global,
     clients: K,
     shelves: &T,
-    seats: Vec<S>,
-    loader: L,
+    seats: Vec<T::Seat>,
+    loader: T::Loader,
     feeds: &F,
     gate: &G,
     form: PointForm,
     errors: E,
-) -> Result<(Served, K), WorkersFault>
+) -> Result<Ran<K, T::Loader, T::Notice>, WorkersFault>
+where
+    T::Seat: Send + Drop,
+    T::Loader: Send + Drop,
+    T::Notice: Send + Drop,
     requires seats { All (T.Versions.fits shelves.now) seats.items }
     requires loader { T.Loads.loads shelves.now loader }
     requires some { 1 ≤ length seats.items }
     requires few { length seats.items ≤ 16 }
-    ensures none_left { IfOk result (λ served. K.none_left served.1) }
-    ensures shares { IfOk result (λ served.
-        AreShares form C.opens I.remaining O.contents T.number T.value seats.items served.0) }
+    ensures none_left { IfOk result (λ ran. K.none_left ran.clients) }
+    ensures shares { IfOk result (λ ran. AreShares form C.opens C.Reader.remaining C.Writer.contents
+        T.Versions.number T.Versions.value T.Versions.known seats.items ran.served) }
+    ensures loads { IfOk result (λ ran. AllCarriedOut T.Versions.noted (F.are_files feeds.now) F.Files.holds
+        (F.is_plan feeds.now) (length (F.named feeds.now)) ran.orders (T.Loads.answers loader) (T.Loads.answers ran.loader)) }
 {
     let (to, from) = crossbeam_channel::bounded(alloc, 1)?;
     let (mut asks, orders) = order_queue(alloc)?;
     thread::scope(
         thread::scope_env(),
         rt,
-        move |scope| -> Result<(Served, K), WorkersFault>
-            requires { IsSync R.row × IsSync T.row × IsSync F.row × IsSync G.row × IsSend S.row × IsSend L.row
-                × IsSend N.row
-                × IsSend C.row × IsSend I.row × IsSend O.row × IsSend D.row × IsSend E.row
-                × All (T.Versions.fits shelves.now) seats.items × T.Loads.loads shelves.now loader }
-            ensures none_left { IfOk result (λ served. K.none_left served.1) }
-            ensures shares { IfOk result (λ served.
-                AreShares form C.opens I.remaining O.contents T.number T.value seats.items served.0) }
+        move |scope| -> Result<Ran<K, T::Loader, T::Notice>, WorkersFault>
+            requires { IsSync R.row × IsSync T.row × IsSync F.row × IsSync G.row × IsSend T.Seat.row
+                × IsSend T.Loader.row
+                × IsSend T.Notice.row × IsSend C.row × IsSend C.Reader.row × IsSend C.Writer.row
+                × IsSend F.Files.row × IsSend E.row
+                × All (T.Versions.fits shelves.now) seats.items × T.Loads.loads shelves.now loader
+                × (orders.taken ≡ []) × (orders.answered ≡ []) }
+            ensures none_left { IfOk result (λ ran. K.none_left ran.clients) }
+            ensures shares { IfOk result (λ ran. AreShares form C.opens C.Reader.remaining C.Writer.contents
+                T.Versions.number T.Versions.value T.Versions.known seats.items ran.served) }
+            ensures loads { IfOk result (λ ran.
+                AllCarriedOut T.Versions.noted (F.are_files feeds.entry.now) F.Files.holds (F.is_plan feeds.entry.now)
+                (length (F.named feeds.entry.now)) ran.orders (T.Loads.answers loader) (T.Loads.answers ran.loader)) }
         {
-            let Ok(loading) = scope.spawn(
-                move || -> ()
-                    requires { T.Loads.loads shelves.now loader }
+            let loader_seat = loader;
+            let promise = LoadsAt::<T, F>::of(&loader_seat, feeds);
+            let started = scope.spawn_with(
+                promise,
+                move || -> (LoaderOrders<T::Notice>, T::Loader)
+                    requires { T.Loads.loads shelves.now loader_seat × (orders.taken ≡ []) × (orders.answered ≡ []) }
+                    ensures { AllCarriedOut T.Versions.noted (F.are_files feeds.entry.now) F.Files.holds
+                        (F.is_plan feeds.entry.now) (length (F.named feeds.entry.now))
+                        result.0 (T.Loads.answers loader_seat) (T.Loads.answers result.1) }
                 {
-                    load_all(rt, alloc, orders, shelves, loader, feeds, errors);
+                    let loading = Loading {
+                        rt,
+                        alloc,
+                        shelves,
+                        feeds,
+                    };
+                    let (orders, loader_seat, _) = loading.load_all(orders, loader_seat, errors);
+                    (orders, loader_seat)
                 },
-            ) else {
+            );
+            let Ok(loading) = started else {
                 return Err(WorkersFault);
             };
             let mut workers = Vec::new(alloc);
@@ -102,9 +134,11 @@ pub fn run_workers<
                 let end = asks.another()?;
                 match scope.spawn_with(
                     ShareAt::<C, T>::of(&seat, form),
-                    move || -> Served
+                    move || -> Share<C>
                         requires { T.Versions.fits shelves.now seat }
-                        ensures { IsShare form C.opens I.remaining O.contents (T.number seat) (T.value seat) result }
+                        ensures { (result.arrivals.over ≡ true)
+                            × IsShare form C.opens C.Reader.remaining C.Writer.contents
+                            T.Versions.number T.Versions.value T.Versions.known seat result.arrivals.taken result.served }
                     {
                         let desk = Desk {
                             rt,
@@ -114,8 +148,7 @@ pub fn run_workers<
                             form,
                         };
                         let orders = WorkerOrders::new(alloc, feeds.names(), shelves, end);
-                        let mut arrivals = Arrivals::of(mine);
-                        Worker { desk }.work(&mut arrivals, seat, orders).0
+                        Worker { desk }.work(Arrivals::of(mine), seat, orders).0
                     },
                 ) {
                     Ok(worker) => {
@@ -131,8 +164,13 @@ pub fn run_workers<
             let served = join_workers(rt, form, workers);
             // No order is refused for want of a loader before all sessions have ended.
             drop(asks);
-            loading.join(rt);
-            Ok((served, clients))
+            let (orders, loader) = loading.join(rt);
+            Ok(Ran {
+                served,
+                clients,
+                orders,
+                loader,
+            })
         },
     )
 }

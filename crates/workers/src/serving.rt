@@ -1,6 +1,6 @@
 //! A worker: client after client on its seat.
 
-ghost use Rattle.std.specs.Prelude.{◌≡◌, ◌∷◌, ◌++◌, [], List, None};
+ghost use Rattle.std.specs.Prelude.{◌≡◌, ◌∷◌, ◌++◌, [], true, None};
 ghost use Rattle.session.specs.Learning.{Learns, TellPublished};
 ghost use Rattle.session.specs.Turns.{AgreeOnNotices};
 ghost use Rattle.workers.specs.Sessions.{AreServed, IsServed};
@@ -9,6 +9,7 @@ ghost use Rattle.workers.specs.declared.served.End.{End};
 use crate::arrivals::Arrivals;
 use crate::clients::{Client, ConnFault};
 use crate::served::{End, Served, end_of};
+use crate::shares::Share;
 use epochs::Versions;
 use orders::{Gate, Orders};
 use session::{Desk, Streams};
@@ -22,14 +23,15 @@ pub struct Worker<'a, R, T, G> {
 
 impl<'a, R: Wait, N: Drop, T: Versions<Notice = N>, G: Gate> Worker<'a, R, T, G> {
     /// Serves a client at this seat, and adds how its session ended. A client that can't be opened
-    /// is a session that failed, and then there is no reader and no writer to give back.
+    /// is a session that failed, and then there is no reader and no writer to give back. How it
+    /// ended is returned beside them.
     pub fn serve_client<C: Client, O: Orders<Notice = N>>(
         &self,
         client: C,
         seat: &mut T::Seat,
         orders: &mut O,
         served: &mut Served,
-    ) -> Option<Streams<C::Reader, C::Writer>>
+    ) -> (Option<Streams<C::Reader, C::Writer>>, End)
         requires fits { T.fits self.now.desk.shelves.now seat.old }
         requires notices { AgreeOnNotices O.told T.noted }
         ensures fits { T.fits self.now.desk.shelves.now seat.new }
@@ -37,46 +39,65 @@ impl<'a, R: Wait, N: Drop, T: Versions<Notice = N>, G: Gate> Worker<'a, R, T, G>
         ensures learns { Learns (T.known seat.old) (T.value seat.old) (T.known seat.new) (T.value seat.new) }
         ensures profiles { TellPublished (T.known seat.new) (T.value seat.old) (T.value seat.new) }
         ensures idle { (T.value seat.old).held ≡ None → (T.value seat.new).held ≡ None }
-        ensures session { (end : End) × (served.new ≡ served.old ++ end ∷ [])
-            × IsServed self.now.desk.form C.opens C.Reader.remaining C.Writer.contents (T.number seat.old) client
-            result end (T.value seat.old) (O.asked orders.old) (T.value seat.new) (O.asked orders.new) }
+        ensures served { served.new ≡ served.old ++ result.1 ∷ [] }
+        ensures session { IsServed self.now.desk.form C.opens C.Reader.remaining C.Writer.contents
+            (T.number seat.old) client
+            result.0 result.1 (T.value seat.old) (O.asked orders.old) (T.value seat.new) (O.asked orders.new) }
     {
         match client.open() {
             Ok((reader, writer)) => {
                 let mut streams = Streams::new(reader, writer);
                 let outcome = self.desk.serve(&mut streams, seat, orders);
-                served.add(end_of(outcome));
-                Some(streams)
+                let end = end_of(outcome);
+                served.add(end);
+                (Some(streams), end)
             }
             Err(ConnFault) => {
                 served.add(End::Failed);
-                None
+                (None, End::Failed)
             }
         }
     }
 
-    /// Serves each client that it takes, until no more come: how their sessions ended, in turn, the seat, and the
-    /// orders.
+    /// Serves each client that comes, until no more do: how their sessions ended, in turn, with the
+    /// queue at which they came, the seat, and the orders.
     pub(crate) fn work<C: Client + Drop, O: Orders<Notice = N>>(
         &self,
-        clients: &mut Arrivals<C>,
+        mut arrivals: Arrivals<C>,
         mut seat: T::Seat,
         mut orders: O,
-    ) -> (Served, T::Seat, O)
+    ) -> (Share<C>, T::Seat, O)
         requires fits { T.fits self.now.desk.shelves.now seat }
         requires notices { AgreeOnNotices O.told T.noted }
+        requires none { arrivals.taken ≡ [] }
+        ensures over { result.0.arrivals.over ≡ true }
         ensures learns { Learns (T.known seat) (T.value seat) (T.known result.1) (T.value result.1) }
-        ensures served { (taken : List C) × (clients.new ≡ clients.old ++ taken)
-            × AreServed self.now.desk.form C.opens C.Reader.remaining C.Writer.contents (T.number seat) taken result.0
-            (T.value seat) (O.asked orders) (T.value result.1) (O.asked result.2) }
+        ensures served { AreServed self.now.desk.form C.opens C.Reader.remaining C.Writer.contents T.number T.value
+            T.known
+            result.0.arrivals.taken result.0.served seat (O.asked orders) result.1 (O.asked result.2) }
     {
         let mut served = Served::new();
         for _ in self.desk.rt.forever() {
-            let Some(client) = clients.next(self.desk.rt) else {
-                break;
-            };
-            drop(self.serve_client(client, &mut seat, &mut orders, &mut served));
+            match arrivals.next(self.desk.rt) {
+                Some(client) => {
+                    let (streams, end) = self.serve_client(
+                        client,
+                        &mut seat,
+                        &mut orders,
+                        &mut served,
+                    );
+                    close::<C>(streams, end);
+                }
+                None => return (Share { served, arrivals }, seat, orders),
+            }
         }
-        (served, seat, orders)
+        unreachable!()
+    }
+}
+
+// Gives a client's reader and writer back, if there are any.
+fn close<C: Client>(streams: Option<Streams<C::Reader, C::Writer>>, end: End) {
+    if let Some(Streams { reader, writer }) = streams {
+        C::close(reader.into_inner(), writer.into_inner(), end);
     }
 }

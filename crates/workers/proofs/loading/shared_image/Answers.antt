@@ -6,8 +6,5 @@ use Rattle.workers.proofs.loading.shared_image.Goals as goal
 -- the image is the same where it is shared
 pub returns-in-Ok-new-clause-ok : goal.returns-in-Ok-new-clause-ok
 returns-in-Ok-new-clause-ok g c content tells =
-    let report = c.in-Ok.field-0-1 in (
-      report,
-      subst (λ (i : ImageValue). IsLoaded content c.args.plan.now i.timetable i.names report)
-          (sym c.in-Ok-new.ensures.ok) (c.in-Ok.ensures.ok content tells),
-    )
+    let report = c.in-Ok.made.1 in
+    subst (λ (i : ImageValue). IsLoaded content c.args.plan.now i.timetable i.names report) (sym c.in-Ok-new.ensures.ok) (c.in-Ok.ensures.ok content tells)

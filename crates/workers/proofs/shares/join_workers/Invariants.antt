@@ -10,6 +10,6 @@ invariant-loop-worker g l = record {
   finite : (goal.iterator-loop-worker g).is_finite l.worker-iterator;
   len : into_iter_len l.worker-iterator ≡ length (into_iter_items l.worker-iterator);
   forms : All (λ worker. worker.promise.form ≡ l.fn.form) (into_iter_items l.worker-iterator);
-  joined : Joined l.fn.form g.C.Client.opens g.C.Reader.Read.remaining g.C.Writer.Write.contents g.T.Versions.number g.T.Versions.value
+  joined : Joined l.fn.form g.C.Client.opens g.C.Reader.Read.remaining g.C.Writer.Write.contents g.T.Versions.number g.T.Versions.value g.T.Versions.known
       (λ worker. worker.promise.seat.value) (into_iter_items l.initial.worker-iterator) (into_iter_items l.worker-iterator) l.served;
 }

@@ -2,7 +2,6 @@ use Rattle.std.proofs.Common.{ap, refl}
 use Rattle.lines.specs.Counting.{failures_of, inner_of}
 use Rattle.shelf_steps.specs.declared.views.Known.{Known}
 use Rattle.epochs.specs.Seats.{SeatValue}
-use Rattle.workers.specs.declared.served.End.{End}
 use Rattle.session.specs.Learning.{TellPublished}
 use Rattle.session.proofs.LearnLemmas.{learning_tells, learns_same}
 use Rattle.workers.proofs.Ending.{session_of}
@@ -19,12 +18,12 @@ returns-in-Ok-clause-session g c =
     let served = c.serve-outcome.ensures.session in
     let session = session_of _ _ _ _ _ _ (g.C.Reader.Read.remaining (inner_of now.reader)) _ _ (g.C.Writer.Write.contents (inner_of now.writer))
     (failures_of c.new-streams.result.reader) (failures_of now.reader) (failures_of c.new-streams.result.writer) (failures_of now.writer) _ _ served.0 _ _
-    c.end_of.ensures (ap g.C.Reader.Read.remaining was.reader) (ap g.C.Writer.Write.contents was.writer) was.reads was.writes served.1 served.2 in
-    (c.end_of.result, c.add.ensures, ((c.in-Ok.reader, c.in-Ok.writer), c.in-Ok.ensures, session))
+    c.end_of-end.ensures (ap g.C.Reader.Read.remaining was.reader) (ap g.C.Writer.Write.contents was.writer) was.reads was.writes served.1 served.2 in
+    ((c.in-Ok.reader, c.in-Ok.writer), c.in-Ok.ensures, session)
 
 pub returns-in-Err-clause-session : goal.returns-in-Err-clause-session
 returns-in-Err-clause-session g c =
-    (End.Failed, c.add-in-Err.ensures, (c.in-Err.field-0, c.in-Err.ensures, record { end_is = refl; seat = refl; orders = refl }))
+    (c.in-Err.field-0, c.in-Err.ensures, record { end_is = refl; seat = refl; orders = refl })
 
 pub returns-in-Ok-clause-learns : goal.returns-in-Ok-clause-learns
 returns-in-Ok-clause-learns g c = c.serve-outcome.ensures.learns

@@ -1,28 +1,35 @@
-use Rattle.std.proofs.Common.{rules, ◌∙◌}
+use Rattle.std.proofs.Common.{rules, ap, sym, subst, ◌∙◌}
 use Rattle.session.proofs.LearnLemmas.{learns_on, learns_same}
-use Rattle.workers.proofs.Ending.{serves_next}
+use Rattle.workers.proofs.Ending.{serves_next, serves_none}
 use Rattle.workers.proofs.serving.Worker.work.Goals as goal
 
 pub loop-init : goal.loop-init
-loop-init g c =
-    let learns = learns_same (g.T.Versions.known c.args.seat) (g.T.Versions.value c.args.seat) in
-    search rules
+loop-init g c = record {
+  next = tt;
+  finite = tt;
+  fits = c.requires.fits;
+  learns = learns_same (g.T.Versions.known c.args.seat) (g.T.Versions.value c.args.seat);
+  served = serves_none c.args.self.now.desk.form g.C.Client.opens g.C.Reader.Read.remaining g.C.Writer.Write.contents
+      g.T.Versions.number g.T.Versions.value g.T.Versions.known
+      _ _ c.args.seat (g.O.Orders.asked c.args.orders) c.requires.none c.new-served.ensures;
+}
 
+-- a client more was taken and served
 pub loop-preserved : goal.loop-preserved
 loop-preserved g c =
     let was = c.loop.invariant in
-    let one = c.serve_client in
-    let value = g.T.Versions.value in
+    let one = c.serve_client-streams in
     let asked = g.O.Orders.asked in
     record {
       next = tt;
       finite = tt;
       fits = one.ensures.fits;
-      number = one.ensures.number ∙ was.number;
       learns = learns_on _ _ _ _ _ _ was.learns one.ensures.learns;
       served = serves_next c.args.self.now.desk.form g.C.Client.opens g.C.Reader.Read.remaining g.C.Writer.Write.contents
-          (g.T.Versions.number c.args.seat) (g.T.Versions.number c.loop.seat) _ _ _
-          c.loop.served one.new.served c.in-Some-next.client one.result
-          (value c.args.seat) (value c.loop.seat) (value one.new.seat)
-          (asked c.args.orders) (asked c.loop.orders) (asked one.new.orders) was.number was.served c.in-Some-next.ensures one.ensures.session;
+          g.T.Versions.number g.T.Versions.value g.T.Versions.known _ _
+          c.loop.served one.new.served c.in-Some-next.client one.result.0
+          c.args.seat c.loop.seat one.new.seat
+          (asked c.args.orders) (asked c.loop.orders) (asked one.new.orders) was.served c.in-Some-next.ensures.taken
+          one.ensures.number one.ensures.learns one.ensures.profiles one.ensures.idle
+          (one.result.1, one.ensures.served, one.ensures.session);
     }

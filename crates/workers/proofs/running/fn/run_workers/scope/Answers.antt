@@ -3,6 +3,7 @@ use Rattle.std.proofs.lemmas.List.Elements.{All-nil, All-push}
 use Rattle.std.specs.Vec.Iter.{into_iter_items}
 use Rattle.workers.proofs.Shared.{seated_none, seated_next, seated_all}
 use mathlib.Core.Path.{sym}
+use Rattle.workers.specs.Carrying.{AllCarriedOut}
 use Rattle.workers.specs.Sessions.{AreShares}
 use Rattle.workers.proofs.running.fn.run_workers.scope.Goals as goal
 
@@ -46,12 +47,24 @@ loop-seat-init g c =
       seated = seated_none _ _ _ c.new-workers.ensures.items;
     }
 
--- there was a worker at each seat, and all were joined
+-- there was a worker at each seat, and all were joined; and so was the loader
 pub returns : goal.returns
 returns g c =
     let was = c.loop-seat.invariant in
     let none = sym was.len ∙ c.in-None.ensures.steps.0 in
     let seats = seated_all _ _ _ _ was.seated none ∙ c.into_iter-seat-iterator.ensures.into_iter_gives.0 in
-    let shares = subst (λ seats. AreShares c.captures.form g.C.Client.opens g.I.Read.remaining g.O.Write.contents g.T.Versions.number g.T.Versions.value
+    let shares = subst (λ seats. AreShares c.captures.form g.C.Client.opens g.C.Reader.Read.remaining g.C.Writer.Write.contents
+    g.T.Versions.number g.T.Versions.value g.T.Versions.known
     seats c.join_workers-served.result) seats c.join_workers-served.ensures in
+    let done = c.join-orders.result in
+    let promised = c.in-Ok.ensures.ok in
+    let feeds = ap (λ promise. promise.feeds.value) promised ∙ c.of-promise.ensures.feeds in
+    let seat = ap (λ promise. promise.seat.value) promised ∙ c.of-promise.ensures.seat in
+    let at_feeds = subst (λ feeds. AllCarriedOut g.T.Versions.noted (g.F.Feeds.are_files feeds) g.F.Files.FeedFiles.holds
+    (g.F.Feeds.is_plan feeds) (length (g.F.Feeds.named feeds)) done.0
+    (g.T.Loads.answers c.in-Ok.loading.promise.seat.value) (g.T.Loads.answers done.1)) feeds c.join-orders.ensures in
+    let loads = subst (λ seat. AllCarriedOut g.T.Versions.noted (g.F.Feeds.are_files c.captures.feeds.now)
+    g.F.Files.FeedFiles.holds
+    (g.F.Feeds.is_plan c.captures.feeds.now) (length (g.F.Feeds.named c.captures.feeds.now)) done.0
+    (g.T.Loads.answers seat) (g.T.Loads.answers done.1)) seat at_feeds in
     search rules
