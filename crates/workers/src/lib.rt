@@ -17,7 +17,7 @@ pub use clients::{Client, Clients, ConnFault};
 pub use feeds::Feeds;
 pub use load_orders::LoaderOrders;
 pub use loading::{Loaded, load_one};
-pub use naming::run_shelves;
+pub use naming::{ShelvesRan, run_shelves};
 pub use refusal::LoadRefusal;
 pub use running::{Ran, WorkersFault, run_workers};
 pub use served::{End, Served};

@@ -7,19 +7,35 @@ ghost use Rattle.workers.specs.Sessions.{AreShares};
 
 use crate::clients::{Client, Clients};
 use crate::feeds::Feeds;
-use crate::running::{Ran, WorkersFault, run_workers};
+use crate::running::{WorkersFault, run_workers};
+use crate::served::Served;
 use epochs::{
-    Named, NamedLoader, NamedNotice, NamedSeat, NamedShelves, ShelfLoader, ShelfSeat, Shelves,
+    Named, NamedLoader, NamedNotice, NamedSeat, NamedShelves, Notice, ShelfLoader, ShelfSeat,
+    Shelves,
 };
+use load_orders::LoaderOrders;
 use orders::Gate;
 use session::PointForm;
 use std::alloc::{AllocError, Global};
 use std::io::Write;
 use std::sync::Wait;
 use std::thread::Threads;
+use timetable::Kept;
 
-/// `run_workers` at these shelves: their notices are of them by their type. The loader's seat comes
-/// back under their name.
+/// What is left once all clients of shelves were served.
+#[derive(Drop)]
+pub struct ShelvesRan<K> {
+    /// How the sessions ended, seat after seat.
+    pub served: Served,
+    /// The clients' source.
+    pub clients: K,
+    /// The loader's end of the queue of orders, as contracts see it.
+    pub orders: Kept<LoaderOrders<Notice>>,
+    /// The loader's seat, as contracts see it.
+    pub loader: Kept<ShelfLoader>,
+}
+
+/// `run_workers` at these shelves: their notices are of them by their type.
 pub fn run_shelves<
     B: Named + Send + Sync,
     C: Client + Drop + Send,
@@ -39,7 +55,7 @@ pub fn run_shelves<
     gate: &G,
     form: PointForm,
     errors: E,
-) -> Result<Ran<K, NamedLoader<B>, NamedNotice<B>>, WorkersFault>
+) -> Result<ShelvesRan<K>, WorkersFault>
     requires shelves { shelves ≡ B.table }
     requires seats { All (λ seat. seat.table ≡ B.table) seats.items }
     requires loader { loader.table ≡ B.table }
@@ -49,14 +65,37 @@ pub fn run_shelves<
     ensures shares { IfOk result (λ ran. AreShares form C.opens C.Reader.remaining C.Writer.contents
         (λ seat. seat.number) (λ seat. seat.shown) (λ seat. known_of seat.view) seats.items ran.served) }
     ensures loads { IfOk result (λ ran. AllCarriedOut (λ notice. notice.version) (F.are_files feeds.now) F.Files.holds
-        (F.is_plan feeds.now) (length (F.named feeds.now)) ran.orders loader.answers ran.loader.answers) }
+        (F.is_plan feeds.now) (length (F.named feeds.now)) ran.orders.value
+        loader.answers ran.loader.value.answers) }
 {
     let seats = named_seats::<B>(alloc, seats)?;
     let shelves = NamedShelves::<B>::of(shelves);
     let loader = NamedLoader::<B>::of(loader);
-    run_workers(
+    let ran = run_workers(
         rt, alloc, clients, &shelves, seats, loader, feeds, gate, form, errors,
-    )
+    )?;
+    let orders = kept_orders(&ran.orders);
+    let loader = kept_seat(&ran.loader);
+    Ok(ShelvesRan {
+        served: ran.served,
+        clients: ran.clients,
+        orders,
+        loader,
+    })
+}
+
+// The loader's end of a queue, whatever name its shelves have.
+fn kept_orders<B: Named>(orders: &LoaderOrders<NamedNotice<B>>) -> Kept<LoaderOrders<Notice>>
+    ensures { result.value ≡ orders.now }
+{
+    Kept::at(orders, &())
+}
+
+// The loader's seat, whatever name its shelves have.
+fn kept_seat<B: Named>(loader: &NamedLoader<B>) -> Kept<ShelfLoader>
+    ensures { result.value ≡ loader.now }
+{
+    Kept::at(loader, &())
 }
 
 // The seats, under their shelves' name.
