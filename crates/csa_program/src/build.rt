@@ -6,7 +6,7 @@ ghost use Rattle.csa_program.specs.Building.{changed_text, made_text, report_lin
 
 use crate::explaining::{explain_refused, reason_of};
 use crate::planning::{PlanFailure, plan_of};
-use crate::progress::{Progress, ToldFiles, load_told};
+use crate::progress::{Progress, Reports, ToldFiles, load_told};
 use crate::putting::{put_number, put_text};
 use crate::refusal::refuse_feed;
 use crate::status;
@@ -62,12 +62,13 @@ pub fn run<H: Files + RandomSource + AllocGlobal + Clock, O: Write, E: Write>(
 ) -> u8 {
     let alloc = rt.alloc();
     let folder = request.folder;
-    let progress = if request.progress || is_terminal {
-        Some(Progress::new(alloc, rt, &mut *errors, is_terminal))
+    let built = if request.progress || is_terminal {
+        let progress = Progress::new(alloc, rt, errors, is_terminal);
+        build(rt, &request, Some(progress))
     } else {
-        None
+        build::<H, E>(rt, &request, None)
     };
-    match build(rt, &request, progress) {
+    match built {
         Ok(built) => {
             if warnings {
                 warn(rt, folder, &request.plan.zone, &built, errors);
@@ -89,7 +90,7 @@ pub fn run<H: Files + RandomSource + AllocGlobal + Clock, O: Write, E: Write>(
 fn build<'a, H: Files + RandomSource + AllocGlobal + Clock, E: Write>(
     rt: &H,
     request: &BuildRequest<'a>,
-    progress: Option<Progress<'_, H, &mut E>>,
+    progress: Option<Progress<'_, H, E>>,
 ) -> Result<Built, Failure<'a>> {
     let plan = plan_of(rt, &request.plan)?;
     let mut files = ToldFiles::new(FolderFiles::new(rt, request.folder), progress);
@@ -99,10 +100,10 @@ fn build<'a, H: Files + RandomSource + AllocGlobal + Clock, E: Write>(
 }
 
 // Builds the image of the files, and writes it at the path.
-fn build_told<'a, H: Files + AllocGlobal, F: FeedFiles, C: Clock, W: Write>(
+fn build_told<'a, H: Files + AllocGlobal, F: FeedFiles, R: Reports>(
     rt: &H,
     out: &'a str,
-    files: &mut ToldFiles<'_, F, C, W>,
+    files: &mut ToldFiles<F, R>,
     plan: Plan,
 ) -> Result<Built, Failure<'a>>
     requires failures { F.failures files.old.files < 2 ^ 64 - 1 }

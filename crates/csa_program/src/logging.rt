@@ -74,14 +74,21 @@ impl<'a, H: Wait, E: Write> SharedErrors<'a, H, E> {
     }
 }
 
-impl<'a, H: Wait + Clock, E: Write> SharedErrors<'a, H, E> {
+/// Where sessions are logged, from any thread.
+pub trait SessionLog {
     /// When what begins now begins.
-    pub fn now(&self) -> Begun {
+    fn now(&self) -> Begun;
+
+    /// Logs that the session of this number ended so, how many requests it had sent, and how long it took.
+    fn log_session(&self, number: u64, end: End, requests: u64, begun: Begun);
+}
+
+impl<'a, H: Wait + Clock, E: Write> SessionLog for SharedErrors<'a, H, E> {
+    fn now(&self) -> Begun {
         Begun::now(self.rt)
     }
 
-    /// Logs that the session of this number ended so, how many requests it had sent, and how long it took.
-    pub fn log_session(&self, number: u64, end: End, requests: u64, begun: Begun) {
+    fn log_session(&self, number: u64, end: End, requests: u64, begun: Begun) {
         let lasted = begun.elapsed(self.rt);
         let line = session_line(self.alloc, instant(self.rt), number, end, requests, lasted);
         if let Ok(line) = line {

@@ -20,11 +20,32 @@ use std::time::{Clock, Duration};
 /// The file of a feed that is read last.
 const LAST_FILE: &str = "frequencies.txt";
 
+/// What is reported while a feed is loaded and its image is written.
+pub trait Reports {
+    /// A file is read next: the one before was judged.
+    fn begin_file(&mut self, name: &str);
+
+    /// The file was read, or isn't there. Behind the last one the image is made.
+    fn note_file(&mut self, name: &str, bytes: Option<&[u8]>);
+
+    /// The image was made, with these counts.
+    fn note_made(&mut self, report: &Report);
+
+    /// The image is written next, at a path.
+    fn begin_writing(&mut self, path: &str);
+
+    /// The image of so many words was written at a path.
+    fn note_written(&mut self, path: &str, words: usize);
+
+    /// Nothing more is reported.
+    fn close(&mut self);
+}
+
 /// Loads a feed as `load` does, and reports each file and then what the image has, if there is
 /// anything to report it to.
-pub fn load_told<F: FeedFiles, C: Clock, W: Write>(
+pub fn load_told<F: FeedFiles, R: Reports>(
     alloc: Global,
-    files: &mut ToldFiles<'_, F, C, W>,
+    files: &mut ToldFiles<F, R>,
     plan: &Plan,
 ) -> Result<(Verified, Report), LoadFault>
     requires failures { F.failures files.old.files < 2 ^ 64 - 1 }
@@ -53,7 +74,7 @@ pub fn load_told<F: FeedFiles, C: Clock, W: Write>(
 pub struct Progress<'c, C, W> {
     alloc: Global,
     clock: &'c C,
-    errors: W,
+    errors: &'c mut W,
     is_terminal: bool,
     /// When what is done now began.
     begun: Begun,
@@ -63,7 +84,12 @@ pub struct Progress<'c, C, W> {
 
 impl<'c, C: Clock, W: Write> Progress<'c, C, W> {
     /// Nothing is done yet.
-    pub fn new(alloc: Global, clock: &'c C, errors: W, is_terminal: bool) -> Progress<'c, C, W> {
+    pub fn new(
+        alloc: Global,
+        clock: &'c C,
+        errors: &'c mut W,
+        is_terminal: bool,
+    ) -> Progress<'c, C, W> {
         Progress {
             alloc,
             clock,
@@ -74,17 +100,21 @@ impl<'c, C: Clock, W: Write> Progress<'c, C, W> {
         }
     }
 
+    fn put(&mut self, text: &str) {
+        let _ = self.errors.write_all(text.as_bytes());
+    }
+
     fn say(&mut self, line: Result<String, AllocError>) {
         let Ok(line) = line else {
             return;
         };
-        let (before, behind) = if self.is_terminal {
-            ("\r\x1b[Kcsa: ", "")
-        } else {
-            ("csa: ", "\n")
-        };
-        for text in [before, line.as_str(), behind] {
-            let _ = self.errors.write_all(text.as_bytes());
+        if self.is_terminal {
+            self.put("\r\x1b[K");
+        }
+        self.put("csa: ");
+        self.put(line.as_str());
+        if !self.is_terminal {
+            self.put("\n");
         }
     }
 
@@ -100,12 +130,8 @@ impl<'c, C: Clock, W: Write> Progress<'c, C, W> {
         self.say(with_seconds(counts, lasted));
     }
 
-    /// The file at hand was read, or isn't there, and is judged next.
-    fn note_file(&mut self, name: &str, bytes: Option<&[u8]>) {
-        let Some(bytes) = bytes else {
-            self.say(format!(in self.alloc; "no file {name}"));
-            return;
-        };
+    /// The file at hand was read, and is judged next.
+    fn keep_file(&mut self, name: &str, bytes: &[u8]) {
         let (length, lines) = (bytes.len() as u64, lines_of(bytes));
         if self.is_terminal {
             self.say(format!(in self.alloc; "reading {name}: bytes {length} lines {lines}"));
@@ -121,11 +147,50 @@ impl<'c, C: Clock, W: Write> Progress<'c, C, W> {
             self.end(format!(in self.alloc; "read {name}: bytes {length} lines {lines}"));
         }
     }
+}
+
+impl<'c, C: Clock, W: Write> Reports for Progress<'c, C, W> {
+    fn begin_file(&mut self, name: &str) {
+        self.end_file();
+        self.begin("reading", name);
+    }
+
+    fn note_file(&mut self, name: &str, bytes: Option<&[u8]>) {
+        match bytes {
+            Some(bytes) => self.keep_file(name, bytes),
+            None => self.say(format!(in self.alloc; "no file {name}")),
+        }
+        if name == LAST_FILE {
+            self.end_file();
+            self.begin("making", "connections and footpaths");
+        }
+    }
+
+    fn note_made(&mut self, report: &Report) {
+        let Report {
+            runs,
+            connections,
+            footpaths,
+            ..
+        } = *report;
+        self.end(format!(in self.alloc;
+            "made runs {runs} connections {connections} footpaths {footpaths}"
+        ));
+    }
+
+    fn begin_writing(&mut self, path: &str) {
+        self.begin("writing", path);
+    }
+
+    fn note_written(&mut self, path: &str, words: usize) {
+        let bytes = (words as u64).saturating_mul(4);
+        self.end(format!(in self.alloc; "wrote {path}: bytes {bytes}"));
+    }
 
     /// Takes the line of a terminal away.
-    fn clear(&mut self) {
+    fn close(&mut self) {
         if self.is_terminal {
-            let _ = self.errors.write_all(b"\r\x1b[K");
+            self.put("\r\x1b[K");
         }
     }
 }
@@ -151,39 +216,34 @@ fn with_seconds(
 
 /// The files of a feed, each of which is reported when it is read, if there is anything to report it to.
 #[derive(Drop)]
-pub struct ToldFiles<'c, F, C, W> {
+pub struct ToldFiles<F, R> {
     files: F,
-    progress: Option<Progress<'c, C, W>>,
+    reports: Option<R>,
 }
 
-impl<'c, F: FeedFiles, C: Clock, W: Write> ToldFiles<'c, F, C, W> {
+impl<F: FeedFiles, R: Reports> ToldFiles<F, R> {
     /// The files, and where what is done is reported.
-    pub fn new(files: F, progress: Option<Progress<'c, C, W>>) -> ToldFiles<'c, F, C, W>
+    pub fn new(files: F, reports: Option<R>) -> ToldFiles<F, R>
         ensures { result.files ≡ files }
     {
-        ToldFiles { files, progress }
+        ToldFiles { files, reports }
     }
 
-    // Reports that a file is read next: the one before was judged.
+    // Reports that a file is read next.
     fn tell_reading(&mut self, name: &str)
         ensures { self.new.files ≡ self.old.files }
     {
-        if let Some(progress) = &mut self.progress {
-            progress.end_file();
-            progress.begin("reading", name);
+        if let Some(reports) = &mut self.reports {
+            reports.begin_file(name);
         }
     }
 
-    // Reports that the file was read. Behind the last one the image is made.
+    // Reports that the file was read.
     fn tell_read(&mut self, name: &str, bytes: Option<&[u8]>)
         ensures { self.new.files ≡ self.old.files }
     {
-        if let Some(progress) = &mut self.progress {
-            progress.note_file(name, bytes);
-            if name == LAST_FILE {
-                progress.end_file();
-                progress.begin("making", "connections and footpaths");
-            }
+        if let Some(reports) = &mut self.reports {
+            reports.note_file(name, bytes);
         }
     }
 
@@ -191,44 +251,34 @@ impl<'c, F: FeedFiles, C: Clock, W: Write> ToldFiles<'c, F, C, W> {
     fn tell_made(&mut self, report: &Report)
         ensures { self.new.files ≡ self.old.files }
     {
-        if let Some(progress) = &mut self.progress {
-            let Report {
-                runs,
-                connections,
-                footpaths,
-                ..
-            } = *report;
-            let counts = format!(in progress.alloc;
-                "made runs {runs} connections {connections} footpaths {footpaths}"
-            );
-            progress.end(counts);
+        if let Some(reports) = &mut self.reports {
+            reports.note_made(report);
         }
     }
 
     /// Reports that the image is written at a path.
     pub fn tell_writing(&mut self, path: &str) {
-        if let Some(progress) = &mut self.progress {
-            progress.begin("writing", path);
+        if let Some(reports) = &mut self.reports {
+            reports.begin_writing(path);
         }
     }
 
     /// Reports that the image of so many words was written at a path.
     pub fn tell_written(&mut self, path: &str, words: usize) {
-        if let Some(progress) = &mut self.progress {
-            let bytes = (words as u64).saturating_mul(4);
-            progress.end(format!(in progress.alloc; "wrote {path}: bytes {bytes}"));
+        if let Some(reports) = &mut self.reports {
+            reports.note_written(path, words);
         }
     }
 
     /// Nothing more is reported.
     pub fn close(&mut self) {
-        if let Some(progress) = &mut self.progress {
-            progress.clear();
+        if let Some(reports) = &mut self.reports {
+            reports.close();
         }
     }
 }
 
-impl<'c, F: FeedFiles, C: Clock, W: Write> FeedFiles for ToldFiles<'c, F, C, W> {
+impl<F: FeedFiles, R: Reports> FeedFiles for ToldFiles<F, R> {
     ghost failures = { λ told. F.failures told.files };
 
     ghost failed = { λ told. F.failed told.files };

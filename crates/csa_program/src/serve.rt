@@ -1,13 +1,13 @@
 //! `csa serve --image IMAGE --port P --workers W --sessions N [--legs] [--log] --first DAY --days N --zone ZONE
 //! [NAME=FOLDER]..`.
 
-ghost use Rattle.std.specs.Prelude.{◌≡◌, ◌≤◌, All, length, map, string_bytes, IfOk};
+ghost use Rattle.std.specs.Prelude.{◌≡◌, ◌≤◌, ◌⊎◌, true, false, All, length, map, string_bytes, IfOk};
 ghost use Rattle.csa_program.specs.Serving.{counts_of, form_with};
 ghost use Rattle.feed_plans.specs.Planning.{IsPlanNow};
 
 use crate::bases::tell_bases;
 use crate::explaining::{Explains, explain_load, reason_of};
-use crate::logging::{Begun, LoaderErrors, SharedErrors, log_load};
+use crate::logging::{Begun, LoaderErrors, SessionLog, SharedErrors, log_load};
 use crate::machine::Machine;
 use crate::opening::open_image;
 use crate::planning::{PlanFailure, zone_bytes};
@@ -31,7 +31,9 @@ use std::rt::Files;
 use std::sync::{Arc, Mutex, Wait};
 use std::thread::Threads;
 use std::time::{Clock, Instant};
-use workers::{Feeds, LoadRefusal, Loaded, PointForm, Served, run_shelves};
+use workers::{
+    Feeds, LoadRefusal, Loaded, PointForm, Served, ShelvesRan, WorkersFault, run_shelves,
+};
 
 /// The folders of the feeds that may be loaded.
 #[derive(Drop)]
@@ -192,7 +194,7 @@ fn listen<
     output: &mut O,
     errors: &mut E,
 ) -> u8 {
-    let Ok((shelves, loader, seats)) = shelves_of(alloc, image, request.workers.number) else {
+    let Ok(made) = shelves_of(alloc, image, request.workers.number) else {
         return status::OUT_OF_MEMORY;
     };
     let (listener, port) = match listener_at(rt, request.port) {
@@ -209,22 +211,56 @@ fn listen<
     }
     let errors = Mutex::new(errors);
     let shared = SharedErrors::of(rt, alloc, &errors);
-    let door = Door::new(&listener, request.sessions, log_of(request.log, &shared));
-    match run_shelves::<Brand, _, _, _, _, _, _>(
+    let log = if request.log { Some(&shared) } else { None };
+    let door = Door::new(&listener, request.sessions, log);
+    let loader_errors = LoaderErrors::of(shared.another());
+    match serve_all(
         rt,
-        alloc,
+        door,
+        made,
+        folders,
+        form_of(request.legs),
+        loader_errors,
+    ) {
+        Ok(ran) => tell_served(alloc, &ran.served, ran.clients.has_failed(), output),
+        Err(_) => status::OUT_OF_MEMORY,
+    }
+}
+
+// Serves whoever comes to the door at these shelves, until nobody is left.
+fn serve_all<
+    'd,
+    H: Disk + Explains + Clock + Threads + Wait + Sync,
+    L: SessionLog + Sync,
+    E: Write + Send + Drop,
+>(
+    rt: &H,
+    door: Door<'d, L>,
+    made: (Shelves, ShelfLoader, Vec<ShelfSeat>),
+    folders: &Folders<'_, H>,
+    form: PointForm,
+    errors: E,
+) -> Result<ShelvesRan<Door<'d, L>>, WorkersFault>
+    requires loader { made.1.table ≡ made.0 }
+    requires seats { All (λ seat. seat.table ≡ made.0) made.2.items }
+    requires some { 1 ≤ length made.2.items }
+    requires few { length made.2.items ≤ 16 }
+    ensures none_left { IfOk result (λ ran. (ran.clients.failed ≡ true)
+        ⊎ ((ran.clients.is_endless ≡ false) × (ran.clients.left ≡ 0))) }
+{
+    let (shelves, loader, seats) = made;
+    run_shelves::<Brand, _, _, _, _, _, _>(
+        rt,
+        folders.alloc,
         door,
         shelves,
         seats,
         loader,
         folders,
         &OpenGate,
-        form_of(request.legs),
-        LoaderErrors::of(shared),
-    ) {
-        Ok(ran) => tell_served(alloc, &ran.served, ran.clients.has_failed(), output),
-        Err(_) => status::OUT_OF_MEMORY,
-    }
+        form,
+        errors,
+    )
 }
 
 // What listens at the port, and at which one, if that one is free.
@@ -235,18 +271,6 @@ fn listener_at<H: Net<Listener = TcpListener, Stream = TcpStream>>(
     let listener = TcpListener::bind(rt, (Ipv4Addr::LOCALHOST, port))?;
     let address = listener.local_addr()?;
     Ok((listener, address.port()))
-}
-
-// Where sessions are logged, if they are.
-fn log_of<'a, H, E>(
-    is_wanted: bool,
-    errors: &SharedErrors<'a, H, E>,
-) -> Option<SharedErrors<'a, H, E>> {
-    if is_wanted {
-        Some(errors.another())
-    } else {
-        None
-    }
 }
 
 // In which form profiles are replied.

@@ -2,61 +2,56 @@
 
 ghost use Rattle.std.specs.Prelude.{◌≡◌, ◌⊎◌, ◌↔◌, ◌+◌, true, false, IfSome, IsTrue, MatchOption, ⊤};
 
-use crate::logging::{Begun, SharedErrors};
+use crate::logging::{Begun, SessionLog};
 use crate::requests::Requests;
-use std::io::{ErrorKind, Write};
+use std::io::ErrorKind;
 use std::net::{TcpListener, TcpStream};
-use std::sync::Wait;
-use std::time::Clock;
 use workers::{Client, Clients, ConnFault, End};
 
 /// A session of a client, as it is logged.
 #[derive(Drop)]
-pub struct Visit<'a, H, E> {
+pub struct Visit<'a, L> {
     /// Which of the clients it is that were accepted, from 1 on.
     number: u64,
     begun: Begun,
-    errors: SharedErrors<'a, H, E>,
+    log: &'a L,
 }
 
-impl<'a, H: Clock + Wait, E: Write> Visit<'a, H, E> {
-    fn log(&self, end: End, requests: u64) {
-        self.errors
-            .log_session(self.number, end, requests, self.begun);
+impl<'a, L: SessionLog> Visit<'a, L> {
+    fn end(&self, end: End, requests: u64) {
+        self.log.log_session(self.number, end, requests, self.begun);
     }
 }
 
-/// A client whose TCP connection was accepted, and its session, if that is logged.
+/// A client whose TCP connection was accepted, and where its session is logged, if it is.
 #[derive(Drop)]
-pub struct Visitor<'a, H, E> {
+pub struct Visitor<'a, L> {
     stream: TcpStream,
     number: u64,
-    log: Option<SharedErrors<'a, H, E>>,
+    log: Option<&'a L>,
 }
 
 /// The session of a client, which begins now, if it is logged.
-fn visit_of<'a, H: Clock + Wait, E: Write>(
-    number: u64,
-    log: Option<SharedErrors<'a, H, E>>,
-) -> Option<Visit<'a, H, E>> {
-    let errors = log?;
-    let begun = errors.now();
-    Some(Visit {
-        number,
-        begun,
-        errors,
-    })
+fn visit_of<'a, L: SessionLog>(number: u64, log: Option<&'a L>) -> Option<Visit<'a, L>> {
+    match log {
+        Some(log) => Some(Visit {
+            number,
+            begun: log.now(),
+            log,
+        }),
+        None => None,
+    }
 }
 
-impl<'a, H: Clock + Wait + Sync, E: Write + Send> Client for Visitor<'a, H, E> {
-    type Reader = Requests<TcpStream, Option<Visit<'a, H, E>>>;
+impl<'a, L: SessionLog + Sync> Client for Visitor<'a, L> {
+    type Reader = Requests<TcpStream, Option<Visit<'a, L>>>;
 
     type Writer = TcpStream;
 
     ghost opens = { λ _ _. Unit {0} };
 
     /// Each reply is sent at once.
-    fn open(self) -> Result<(Requests<TcpStream, Option<Visit<'a, H, E>>>, TcpStream), ConnFault> {
+    fn open(self) -> Result<(Requests<TcpStream, Option<Visit<'a, L>>>, TcpStream), ConnFault> {
         let Visitor {
             stream,
             number,
@@ -67,39 +62,35 @@ impl<'a, H: Clock + Wait + Sync, E: Write + Send> Client for Visitor<'a, H, E> {
             (Ok(()), Ok(reader)) => Ok((Requests::new(reader, visit), stream)),
             _ => {
                 if let Some(visit) = &visit {
-                    visit.log(End::Failed, 0);
+                    visit.end(End::Failed, 0);
                 }
                 Err(ConnFault)
             }
         }
     }
 
-    fn close(reader: Requests<TcpStream, Option<Visit<'a, H, E>>>, _writer: TcpStream, end: End) {
+    fn close(reader: Requests<TcpStream, Option<Visit<'a, L>>>, _writer: TcpStream, end: End) {
         if let Some(visit) = &reader.visit {
-            visit.log(end, reader.count());
+            visit.end(end, reader.count());
         }
     }
 }
 
 /// Accepts connections, as many as are wanted.
 #[derive(Drop)]
-pub struct Door<'a, H, E> {
+pub struct Door<'a, L> {
     listener: &'a TcpListener,
     left: u64,
     is_endless: bool,
     failed: bool,
     /// How many were accepted.
     accepted: u64,
-    log: Option<SharedErrors<'a, H, E>>,
+    log: Option<&'a L>,
 }
 
-impl<'a, H, E> Door<'a, H, E> {
+impl<'a, L> Door<'a, L> {
     /// So many connections, or without end for 0. Their sessions are logged, if there is something to log them to.
-    pub fn new(
-        listener: &'a TcpListener,
-        connections: u64,
-        log: Option<SharedErrors<'a, H, E>>,
-    ) -> Door<'a, H, E>
+    pub fn new(listener: &'a TcpListener, connections: u64, log: Option<&'a L>) -> Door<'a, L>
         ensures left { result.left ≡ connections }
         ensures endless { IsTrue result.is_endless ↔ (connections ≡ 0) }
         ensures whole { result.failed ≡ false }
@@ -143,31 +134,27 @@ impl<'a, H, E> Door<'a, H, E> {
     }
 
     // The client behind a connection.
-    fn visitor(&mut self, stream: TcpStream) -> Visitor<'a, H, E>
+    fn visitor(&mut self, stream: TcpStream) -> Visitor<'a, L>
         ensures left { self.new.left ≡ self.old.left }
         ensures endless { self.new.is_endless ≡ self.old.is_endless }
         ensures failed { self.new.failed ≡ self.old.failed }
         ensures number { result.number ≡ self.new.accepted }
     {
         self.accepted = self.accepted.saturating_add(1);
-        let log = match &self.log {
-            Some(log) => Some(log.another()),
-            None => None,
-        };
         Visitor {
             stream,
             number: self.accepted,
-            log,
+            log: self.log,
         }
     }
 }
 
-impl<'a, H, E> Clients<Visitor<'a, H, E>> for Door<'a, H, E> {
+impl<'a, L> Clients<Visitor<'a, L>> for Door<'a, L> {
     // Accepting failed, or as many as are wanted were accepted.
     ghost none_left = { λ door. (door.failed ≡ true) ⊎ ((door.is_endless ≡ false) × (door.left ≡ 0)) };
 
     /// The next connection. Without end none is counted off, and otherwise one.
-    fn next(&mut self) -> Option<Visitor<'a, H, E>>
+    fn next(&mut self) -> Option<Visitor<'a, L>>
         ensures none { MatchOption result ((self.new.failed ≡ true)
             ⊎ ((self.new.is_endless ≡ false) × (self.new.left ≡ 0))) (λ _. ⊤) }
         ensures endless { self.new.is_endless ≡ self.old.is_endless }

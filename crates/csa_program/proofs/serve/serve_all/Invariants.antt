@@ -1,4 +1,4 @@
-use Rattle.csa_program.proofs.serve.listen.Given as goal
+use Rattle.csa_program.proofs.serve.serve_all.Given as goal
 
 -- the shelves that were just made
 abbrev pub ghosts-run_shelves : goal.ghosts-run_shelves
