@@ -1,5 +1,6 @@
 -- What a server counts, and in which form it replies.
-use Rattle.std.specs.Prelude.{List, Bool, true, false}
+use Rattle.std.specs.Prelude.{List, ℕ, ◌++◌, Bool, true, false, codes, decimal}
+use Rattle.command_requests.specs.Ending.{sessions_in}
 use Rattle.command_requests.specs.declared.ends.Ends.{Ends}
 use Rattle.session.specs.declared.point_form.PointForm.{PointForm}
 use Rattle.workers.specs.Ends.{ended_in, failed_in, spent_in}
@@ -13,3 +14,7 @@ counts_of ends = record { ended = ended_in ends; failed = failed_in ends; spent 
 abbrev pub form_with : Bool → PointForm
 form_with true = PointForm.WithLegs
 form_with false = PointForm.Bare
+
+-- how many sessions there were
+abbrev pub served_text : Ends → List ℕ
+served_text ends = (codes "served " ++ decimal (sessions_in ends)) ++ codes "\n"

@@ -1,8 +1,11 @@
 //! `csa serve --image IMAGE --port P --workers W --sessions N [--legs] [--log] --first DAY --days N --zone ZONE
 //! [NAME=FOLDER]..`.
 
-ghost use Rattle.std.specs.Prelude.{◌≡◌, ◌≤◌, ◌⊎◌, true, false, All, length, map, string_bytes, IfOk};
-ghost use Rattle.csa_program.specs.Serving.{counts_of, form_with};
+ghost use Rattle.std.specs.Prelude.{◌≡◌, ◌≢◌, ◌≤◌, ◌⊎◌, true, false, All, length, map, string_bytes, IfOk};
+ghost use Rattle.std.specs.Io.KnownBytes.{Appends};
+ghost use Rattle.command_requests.specs.Ending.{status_of};
+ghost use Rattle.command_requests.specs.declared.statuses.TheConstants.{INPUT_OUTPUT, OUT_OF_MEMORY};
+ghost use Rattle.csa_program.specs.Serving.{counts_of, form_with, served_text};
 ghost use Rattle.feed_plans.specs.Planning.{IsPlanNow};
 
 use crate::bases::tell_bases;
@@ -11,6 +14,7 @@ use crate::logging::{Begun, LoaderErrors, SessionLog, SharedErrors, log_load};
 use crate::machine::Machine;
 use crate::opening::open_image;
 use crate::planning::{PlanFailure, zone_bytes};
+use crate::putting::{put_number, put_text};
 use crate::refusal::refuse_feed;
 use crate::sockets::Door;
 use crate::status;
@@ -315,12 +319,28 @@ fn unheard<E: Write>(alloc: Global, errors: &mut E, port: u16, kind: ErrorKind) 
     )
 }
 
-// Tells how many sessions there were.
-fn tell_served<O: Write>(alloc: Global, served: &Served, is_deaf: bool, output: &mut O) -> u8 {
+// Prints how many sessions there were. The status is that of their ends and of the door, unless the line can't be printed.
+fn tell_served<O: Write>(alloc: Global, served: &Served, is_deaf: bool, output: &mut O) -> u8
+    ensures status { (result ≡ status_of is_deaf (counts_of served.now)) ⊎ (result ≡ INPUT_OUTPUT)
+        ⊎ (result ≡ OUT_OF_MEMORY) }
+    ensures printed { (result ≢ INPUT_OUTPUT) × (result ≢ OUT_OF_MEMORY) →
+        Appends (O.contents output.old) (O.contents output.new) (served_text (counts_of served.now)) }
+{
     let ends = ends_of(served);
-    let sessions = ends.sessions();
     let status = ends.status(is_deaf);
-    status::write_line(output, format!(in alloc; "served {sessions}\n"), status)
+    match served_line(alloc, ends) {
+        Ok(line) => status::write_text(output, line.as_str(), status),
+        Err(_) => status::OUT_OF_MEMORY,
+    }
+}
+
+fn served_line(alloc: Global, ends: Ends) -> Result<String, AllocError>
+    ensures { IfOk result (λ line. string_bytes line ≡ served_text ends) }
+{
+    let mut line = String::new(alloc);
+    put_number(&mut line, "served ", ends.sessions())?;
+    put_text(&mut line, "\n")?;
+    Ok(line)
 }
 
 // How many sessions ended in each way.
