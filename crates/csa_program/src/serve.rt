@@ -152,7 +152,7 @@ pub fn run<
     if !request.feeds.is_empty() {
         tell_bases(alloc, &image, &folders.first, errors);
     }
-    listen(rt, alloc, &request, image, &folders, output, errors)
+    listen(rt, &request, image, &folders, output, errors)
 }
 
 // The bytes of the zone's file, and the plan of a feed that is loaded now.
@@ -191,13 +191,13 @@ fn listen<
     E: Write + Send,
 >(
     rt: &H,
-    alloc: Global,
     request: &ServeRequest<'_>,
     image: Verified,
     folders: &Folders<'_, H>,
     output: &mut O,
     errors: &mut E,
 ) -> u8 {
+    let alloc = folders.alloc;
     let Ok(made) = shelves_of(alloc, image, request.workers.number) else {
         return status::OUT_OF_MEMORY;
     };
