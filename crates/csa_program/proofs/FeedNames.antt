@@ -14,4 +14,4 @@ named_more g f xs i x ys zs y lt there before last grown =
 
 -- as many names as feeds
 pub as_many : {X Y B : Type 0} (g : Y → B) (f : X → B) (xs : List X) (ys : List Y) → map g ys ≡ map f xs → length ys ≡ length xs
-as_many g f xs ys same = sym (length-map g ys) ∙ ap length same ∙ length-map f xs
+as_many g f xs ys same = sym (length-map ys g) ∙ ap length same ∙ length-map xs f
