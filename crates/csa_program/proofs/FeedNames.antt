@@ -9,7 +9,7 @@ pub named_more : {X Y B : Type 0} (g : Y → B) (f : X → B) (xs : List X) (i :
 named_more g f xs i x ys zs y lt there before last grown =
     let front : take i xs ++ x ∷ [] ≡ take (i + 1) xs = sym (take_more xs i x lt ∙ ap (λ z. take i xs ++ z ∷ []) (sym there)) in
     let one_more : map g ys ++ g y ∷ [] ≡ map f (take i xs) ++ f x ∷ [] =
-        ap (λ z. z ++ g y ∷ []) before ∙ ap (λ z. map f (take i xs) ++ z ∷ []) last in
+    ap (λ z. z ++ g y ∷ []) before ∙ ap (λ z. map f (take i xs) ++ z ∷ []) last in
     ap (map g) grown ∙ map_push g ys y ∙ one_more ∙ sym (map_push f (take i xs) x) ∙ ap (map f) front
 
 -- as many names as feeds

@@ -34,3 +34,7 @@ module _ {N D : Type 0} (noted : N → ℕ) (are_files : ℕ → D → Type 0) (
   -- at this end of the queue orders were taken until none came, and all were carried out in turn, each once
   abbrev pub AllCarriedOut : LoaderOrdersValue N → List LoaderAnswer → List LoaderAnswer → Type 0
   AllCarriedOut end before after = (end.over ≡ true) × AreCarriedOut end.taken end.answered before after
+
+  -- what the loader's seat has answered comes of orders that were carried out in turn, each once
+  abbrev pub ComeOfOrders : List LoaderAnswer → List LoaderAnswer → Type 0
+  ComeOfOrders before after = (orders : List OrderMark) × (answered : List (AnsweredValue N)) × AreCarriedOut orders answered before after

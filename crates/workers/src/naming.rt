@@ -1,8 +1,9 @@
 //! Workers at shelves without a lock, under a name that the caller picks.
 
 ghost use Rattle.std.specs.Prelude.{◌≡◌, ◌≤◌, All, length, IfOk};
+ghost use Rattle.epochs.specs.ShelfSeats.{NoticeValue};
 ghost use Rattle.shelf_steps.specs.Events.{known_of};
-ghost use Rattle.workers.specs.Carrying.{AllCarriedOut};
+ghost use Rattle.workers.specs.Carrying.{ComeOfOrders};
 ghost use Rattle.workers.specs.Sessions.{AreShares};
 
 use crate::clients::{Client, Clients};
@@ -10,13 +11,12 @@ use crate::feeds::Feeds;
 use crate::running::{WorkersFault, run_workers};
 use crate::served::Served;
 use epochs::{
-    Named, NamedLoader, NamedNotice, NamedSeat, NamedShelves, Notice, ShelfLoader, ShelfSeat,
-    Shelves,
+    LoaderAnswer, Named, NamedLoader, NamedSeat, NamedShelves, ShelfLoader, ShelfSeat, Shelves,
 };
-use load_orders::LoaderOrders;
 use orders::Gate;
 use session::PointForm;
 use std::alloc::{AllocError, Global};
+use std::collections::LinkedList;
 use std::io::Write;
 use std::sync::Wait;
 use std::thread::Threads;
@@ -29,10 +29,8 @@ pub struct ShelvesRan<K> {
     pub served: Served,
     /// The clients' source.
     pub clients: K,
-    /// The loader's end of the queue of orders, as contracts see it.
-    pub orders: Kept<LoaderOrders<Notice>>,
-    /// The loader's seat, as contracts see it.
-    pub loader: Kept<ShelfLoader>,
+    /// What the loader's seat has answered in all. Contracts alone see it.
+    pub answers: Kept<LinkedList<LoaderAnswer>>,
 }
 
 /// `run_workers` at these shelves: their notices are of them by their type.
@@ -64,9 +62,8 @@ pub fn run_shelves<
     ensures none_left { IfOk result (λ ran. K.none_left ran.clients) }
     ensures shares { IfOk result (λ ran. AreShares form C.opens C.Reader.remaining C.Writer.contents
         (λ seat. seat.number) (λ seat. seat.shown) (λ seat. known_of seat.view) seats.items ran.served) }
-    ensures loads { IfOk result (λ ran. AllCarriedOut (λ notice. notice.version) (F.are_files feeds.now) F.Files.holds
-        (F.is_plan feeds.now) (length (F.named feeds.now)) ran.orders.value
-        loader.answers ran.loader.value.answers) }
+    ensures loads { IfOk result (λ ran. ComeOfOrders (λ (notice : NoticeValue). notice.version) (F.are_files feeds.now) F.Files.holds
+        (F.is_plan feeds.now) (length (F.named feeds.now)) loader.answers ran.answers.value) }
 {
     let seats = named_seats::<B>(alloc, seats)?;
     let shelves = NamedShelves::<B>::of(shelves);
@@ -74,26 +71,17 @@ pub fn run_shelves<
     let ran = run_workers(
         rt, alloc, clients, &shelves, seats, loader, feeds, gate, form, errors,
     )?;
-    let orders = kept_orders(&ran.orders);
-    let loader = kept_seat(&ran.loader);
+    let answers = answers_of(&ran.loader);
     Ok(ShelvesRan {
         served: ran.served,
         clients: ran.clients,
-        orders,
-        loader,
+        answers,
     })
 }
 
-// The loader's end of a queue, whatever name its shelves have.
-fn kept_orders<B: Named>(orders: &LoaderOrders<NamedNotice<B>>) -> Kept<LoaderOrders<Notice>>
-    ensures { result.value ≡ orders.now }
-{
-    Kept::at(orders, &())
-}
-
-// The loader's seat, whatever name its shelves have.
-fn kept_seat<B: Named>(loader: &NamedLoader<B>) -> Kept<ShelfLoader>
-    ensures { result.value ≡ loader.now }
+// What a loader's seat has answered.
+fn answers_of<B: Named>(loader: &NamedLoader<B>) -> Kept<LinkedList<LoaderAnswer>>
+    ensures { result.value ≡ loader.now.answers }
 {
     Kept::at(loader, &())
 }
