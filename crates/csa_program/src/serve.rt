@@ -319,7 +319,8 @@ fn unheard<E: Write>(alloc: Global, errors: &mut E, port: u16, kind: ErrorKind) 
     )
 }
 
-// Prints how many sessions there were. The status is that of their ends and of the door, unless the line can't be printed.
+// Prints how many sessions there were. The status is that of their ends and of the door, unless the line
+// can't be printed.
 fn tell_served<O: Write>(alloc: Global, served: &Served, is_deaf: bool, output: &mut O) -> u8
     ensures status { (result ≡ status_of is_deaf (counts_of served.now)) ⊎ (result ≡ INPUT_OUTPUT)
         ⊎ (result ≡ OUT_OF_MEMORY) }

@@ -68,7 +68,8 @@ impl<'a, R: Wait, N: Drop, T: Versions<Notice = N> + Loads, F: Feeds> Loading<'a
         ensures carried { (answer : AnsweredValue N) × (orders.new.answered ≡ orders.old.answered ++ answer ∷ [])
             × IsCarriedOut T.Versions.noted (F.are_files self.now.feeds.now) F.Files.holds
             (F.is_plan self.now.feeds.now)
-            (length (F.named self.now.feeds.now)) (mark_of order) answer (T.Loads.answers seat.old) (T.Loads.answers seat.new) }
+            (length (F.named self.now.feeds.now)) (mark_of order) answer
+            (T.Loads.answers seat.old) (T.Loads.answers seat.new) }
     {
         let answer = self.load_place(order.feed, seat, errors);
         orders.answer(self.rt, order, answer);

@@ -62,8 +62,9 @@ pub fn run_shelves<
     ensures none_left { IfOk result (λ ran. K.none_left ran.clients) }
     ensures shares { IfOk result (λ ran. AreShares form C.opens C.Reader.remaining C.Writer.contents
         (λ seat. seat.number) (λ seat. seat.shown) (λ seat. known_of seat.view) seats.items ran.served) }
-    ensures loads { IfOk result (λ ran. ComeOfOrders (λ (notice : NoticeValue). notice.version) (F.are_files feeds.now) F.Files.holds
-        (F.is_plan feeds.now) (length (F.named feeds.now)) loader.answers ran.answers.value) }
+    ensures loads { IfOk result (λ ran. ComeOfOrders (λ (notice : NoticeValue). notice.version)
+        (F.are_files feeds.now) F.Files.holds (F.is_plan feeds.now) (length (F.named feeds.now))
+        loader.answers ran.answers.value) }
 {
     let seats = named_seats::<B>(alloc, seats)?;
     let shelves = NamedShelves::<B>::of(shelves);

@@ -84,7 +84,8 @@ where
     ensures shares { IfOk result (λ ran. AreShares form C.opens C.Reader.remaining C.Writer.contents
         T.Versions.number T.Versions.value T.Versions.known seats.items ran.served) }
     ensures loads { IfOk result (λ ran. AllCarriedOut T.Versions.noted (F.are_files feeds.now) F.Files.holds
-        (F.is_plan feeds.now) (length (F.named feeds.now)) ran.orders (T.Loads.answers loader) (T.Loads.answers ran.loader)) }
+        (F.is_plan feeds.now) (length (F.named feeds.now)) ran.orders
+        (T.Loads.answers loader) (T.Loads.answers ran.loader)) }
 {
     let (to, from) = crossbeam_channel::bounded(alloc, 1)?;
     let (mut asks, orders) = order_queue(alloc)?;
@@ -138,7 +139,8 @@ where
                         requires { T.Versions.fits shelves.now seat }
                         ensures { (result.arrivals.over ≡ true)
                             × IsShare form C.opens C.Reader.remaining C.Writer.contents
-                            T.Versions.number T.Versions.value T.Versions.known seat result.arrivals.taken result.served }
+                            T.Versions.number T.Versions.value T.Versions.known seat
+                            result.arrivals.taken result.served }
                     {
                         let desk = Desk {
                             rt,

@@ -20,7 +20,7 @@
 //! | `run WORD ..` | the words of the next command behind the program's name; one in single quotes may have spaces |
 //! | `profile FROM TO AFTER UNTIL BY CRITERION` | the words are those of `csa profile` over the input, with this query |
 //! | `judge FROM TO AFTER UNTIL BY LEG .. | TEXT` | the words are those of `csa journey` over the input, with this query and these legs, and it answers so |
-//! | `prints TEXT`, `tells TEXT` | one more line that it must print, or tell among its errors; of what it tells, seconds are `#` |
+//! | `prints TEXT`, `tells TEXT` | one more line that it must print, or tell among its errors, seconds being `#` |
 //! | `ends STATUS` | runs it: it prints and tells these lines alone, and ends with this status |
 //! | `answers TEXT` | one more line that it must print, and `ends 0`, or `ends 2` where the line begins with `refused` |
 //! | `complains STATUS` | runs it: it prints nothing, tells something of its own, and ends with this status |
