@@ -1,0 +1,11 @@
+use Rattle.std.proofs.Common.{◌∙◌, sym, string_bytes}
+use Rattle.std.proofs.lemmas.Result.{IfOk-weaker}
+use Rattle.profile_scan.specs.Everywhere.{destination_of}
+use Rattle.departure_lines.proofs.Stops.{stop_added, stop_skipped}
+use Rattle.departure_lines.proofs.stop_lines.append_next.Goals as goal
+
+pub returns-then-not-is_shown : goal.returns-then-not-is_shown
+returns-then-not-is_shown g c before adds =
+    let shown = c.args.shown.now in
+    stop_skipped g.C.Told.told (g.C.Criterion.rules shown.criterion.now) c.args.form shown.image.now (destination_of shown.profiles.now) c.args.wanted.now
+    c.args.stop before (string_bytes c.args.lines.now) c.args.counts (sym c.is_shown.ensures.shown ∙ c.if-is_shown.false) adds
