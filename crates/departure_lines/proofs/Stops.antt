@@ -1,20 +1,16 @@
--- Stops shown one by one, and names of stops marked one by one.
-use Rattle.std.proofs.Common.{◌≡◌, ◌≢◌, ◌⊎◌, ◌<◌, ◌≤◌, ◌+◌, ◌&&◌, eqb, ℕ, Bool, true, false, not, List, [], ◌∷◌, ◌++◌, Option, None, Some, All}
-use Rattle.std.proofs.Common.{Contains, length, map, take, set, filter, min, replicate, slice_get, get_or, refl, sym, ◌∙◌, ap}
-use Rattle.std.proofs.Common.{subst, inl, inr, append_assoc, arith}
+-- Stops shown one by one.
+use Rattle.std.proofs.Common.{◌≡◌, ◌≢◌, ◌<◌, ◌+◌, ◌&&◌, eqb, ℕ, zero, suc, Bool, true, false, not, List, [], ◌∷◌, ◌++◌, Option, Contains, length}
+use Rattle.std.proofs.Common.{map, filter, refl, sym, ◌∙◌, ap, subst, inl, inr, append_assoc, arith}
 use Rattle.std.specs.List.{AllZip, flat_map, range_with_len, sum_by}
-use Rattle.std.proofs.lemmas.Bool.{cases_eq, cases_lt, ne_eqb}
+use Rattle.std.proofs.lemmas.Bool.{ne_eqb}
 use Rattle.std.proofs.lemmas.Bool.Decides.{eqb_tells}
 use Rattle.std.proofs.lemmas.Grind.{flat_map-append}
-use Rattle.std.proofs.lemmas.List.{append-nil, length-map, take_more}
-use Rattle.std.proofs.lemmas.List.Elements.{filter-append, Contains-append_left, Contains-push, Contains-push_cases}
-use Rattle.std.proofs.lemmas.List.FromFn.{counting_more}
-use Rattle.std.proofs.lemmas.List.Sums.{sum_by-append}
+use Rattle.std.proofs.lemmas.List.{append-nil, length-map}
+use Rattle.std.proofs.lemmas.List.Elements.{filter-append}
+use Rattle.std.proofs.lemmas.List.Sums.{sum_by_push}
 use Rattle.std.proofs.lemmas.Slice.Zip.{all_zipped_more}
-use Rattle.reasoning.proofs.ListLemmas.{not_in_nil, slice_get-replicate-is, slice_get-set_same, slice_get-set_other}
 use Rattle.criteria.specs.Laws.{Rules}
 use Rattle.criteria.specs.declared.told.ToldValue.{ToldValue}
-use Rattle.timetable.specs.NamesValue.{NamesValue}
 use Rattle.image_layout.specs.Image.{ImageValue}
 use Rattle.profile_scan.specs.Destinations.{query_from}
 use Rattle.profile_scan.specs.Points.{IsAnswer}
@@ -28,17 +24,28 @@ use Rattle.timetable.specs.declared.query.Query.{Query}
 use Rattle.journeys.specs.Answer.{point_of}
 use Rattle.journeys.specs.Extracted.{Attains}
 use Rattle.journeys.specs.declared.answering.Departure.{Departure}
-use Rattle.journeys.specs.Questions.{IsNamed, NamesNone}
+use Rattle.departure_lines.specs.Naming.{is_wanted}
+use Rattle.departure_lines.specs.Showing.{AddsStops, AreListed, AreShown, HasJourneys, IsInForm, IsShownFrom, ShowsStop}
+use Rattle.departure_lines.specs.Showing.{is_shown, last_line, one_if_some, shown_stops}
 use Rattle.departure_lines.specs.declared.form.LineForm.{LineForm}
-use Rattle.departure_lines.specs.Naming.{AreMarked, is_wanted}
-use Rattle.departure_lines.specs.Showing.{AddsStops, AreListed, AreShown, HasJourneys, IsInForm, IsShownFrom, ShowsStop, is_shown, last_line, one_if_some, shown_stops}
 use Rattle.departure_lines.specs.declared.stop_lines.Counts.{Counts}
 use Rattle.departure_lines.specs.declared.stop_lists.Wanted.{Wanted}
+
+-- numbers counted up, and the next
+counted_more : (a n j : ℕ) → a + n ≡ j → range_with_len a (suc n) ≡ range_with_len a n ++ j ∷ []
+counted_more a zero j e = ap (λ (k : ℕ). k ∷ []) (omega (arith, e))
+counted_more a (suc n) j e = ap (λ (ks : List ℕ). a ∷ ks) (counted_more (a + 1) n j (omega (arith, e)))
+
+counting_more : (n : ℕ) → range_with_len 0 (n + 1) ≡ range_with_len 0 n ++ n ∷ []
+counting_more n = ap (range_with_len 0) (next n) ∙ counted_more 0 n n (omega arith)
+  where
+    next : (k : ℕ) → k + 1 ≡ suc k
+    next k = omega arith
 
 -- one stop more, that is shown or not
 stop_taken : (wanted : Wanted) (target n : ℕ) → is_shown wanted target n ≡ true → shown_stops wanted target (n + 1) ≡ shown_stops wanted target n ++ n ∷ []
 stop_taken wanted target n is =
-    ap (filter (is_shown wanted target)) (counting_more 0 n n refl) ∙ filter-append (is_shown wanted target) (range_with_len 0 n) (n ∷ [])
+    ap (filter (is_shown wanted target)) (counting_more n) ∙ filter-append (is_shown wanted target) (range_with_len 0 n) (n ∷ [])
     ∙ ap (λ (ks : List ℕ). shown_stops wanted target n ++ ks) (kept is)
   where
     kept : is_shown wanted target n ≡ true → filter (is_shown wanted target) (n ∷ []) ≡ n ∷ []
@@ -46,7 +53,7 @@ stop_taken wanted target n is =
 
 stop_left : (wanted : Wanted) (target n : ℕ) → is_shown wanted target n ≡ false → shown_stops wanted target (n + 1) ≡ shown_stops wanted target n
 stop_left wanted target n is =
-    ap (filter (is_shown wanted target)) (counting_more 0 n n refl) ∙ filter-append (is_shown wanted target) (range_with_len 0 n) (n ∷ [])
+    ap (filter (is_shown wanted target)) (counting_more n) ∙ filter-append (is_shown wanted target) (range_with_len 0 n) (n ∷ [])
     ∙ ap (λ (ks : List ℕ). shown_stops wanted target n ++ ks) (dropped is) ∙ append-nil (shown_stops wanted target n)
   where
     dropped : is_shown wanted target n ≡ false → filter (is_shown wanted target) (n ∷ []) ≡ []
@@ -96,18 +103,14 @@ module _ {V : Type 0} (told : V → ToldValue) (rules : Rules V) (form : LineFor
               ∙ ap (λ (z : List ℕ). flat_map (λ (p : ℕ × List ℕ). p.1) parts ++ z) (sym (append-nil shows.text))
               ∙ sym (flat_map-append (λ (p : ℕ × List ℕ). p.1) parts (part ∷ []));
           stops_are = stops_now ∙ ap (λ k. k + one_if_some points) adds.listed.stops_are
-              ∙ sym (sum_by-append (λ (p : ℕ × List ℕ). one_if_some p.0) parts (part ∷ [])
-              ∙ ap (λ k. sum_by (λ (p : ℕ × List ℕ). one_if_some p.0) parts + k) (one_sum (one_if_some points)));
+              ∙ sym (sum_by_push (λ (p : ℕ × List ℕ). one_if_some p.0) parts part);
           points_are = points_now ∙ ap (λ k. k + points) adds.listed.points_are
-              ∙ sym (sum_by-append (λ (p : ℕ × List ℕ). p.0) parts (part ∷ []) ∙ ap (λ k. sum_by (λ (p : ℕ × List ℕ). p.0) parts + k) (one_sum points));
+              ∙ sym (sum_by_push (λ (p : ℕ × List ℕ). p.0) parts part);
         };
       }
     where
       regroup : (a b c : List ℕ) → (a ++ b) ++ c ≡ a ++ (b ++ c)
       regroup a b c = append_assoc a b c
-
-      one_sum : (k : ℕ) → k + 0 ≡ k
-      one_sum k = omega arith
 
 -- the target isn't shown
 pub target_not_shown : (wanted : Wanted) (target stop : ℕ) → stop ≡ target → false ≡ is_shown wanted target stop
@@ -119,58 +122,6 @@ target_not_shown wanted target stop same = ap (λ b. not b && is_wanted wanted s
 -- another one is if it is wanted
 pub other_shown : (wanted : Wanted) (target stop : ℕ) (has : Bool) → (stop ≡ target → ⊥) → has ≡ is_wanted wanted stop → has ≡ is_shown wanted target stop
 other_shown wanted target stop has other is = is ∙ ap (λ b. not b && is_wanted wanted stop) (sym (ne_eqb stop target other))
-
--- no two stops are the least of a name
-named_once : (names : NamesValue) (name : List ℕ) (a b : ℕ) → IsNamed names name a → IsNamed names name b → a ≡ b
-named_once names name a b first second = elim (cases_lt a b) [
-  | inl less ↦ absurd (second.1 a less first.0)
-  | inr not_less ↦ elim (cases_lt b a) [
-    | inl more ↦ absurd (first.1 b more second.0)
-    | inr not_more ↦ omega (arith, not_less, not_more)
-  ]
-]
-
--- no name, and nothing is marked
-pub none_marked : (names : NamesValue) (n : ℕ) (marks : List Bool) → marks ≡ replicate n false → AreMarked names [] marks
-none_marked names n marks is = record {
-  all_named = λ name h. absurd (not_in_nil name h);
-  exactly = λ stop. (
-    (λ marked. absurd (never stop n (sym (ap (λ (xs : List Bool). slice_get xs stop) is) ∙ marked))),
-    (λ named. absurd (not_in_nil named.0 named.1)),
-  );
-}
-  where
-    never : (stop n : ℕ) → slice_get (replicate n false) stop ≡ Some true → ⊥
-    never stop n at = not_false (slice_get-replicate-is n stop false true at)
-
-    not_false : true ≡ false → ⊥
-    not_false e = subst (λ (b : Bool). cond b Unit ⊥) e tt
-
--- one name more
-pub name_marked : (names : NamesValue) (wanted : List (List ℕ)) (name : List ℕ) (stop : ℕ) (marks now : List Bool) → AreMarked names wanted marks
-    → IsNamed names name stop → stop < length marks → now ≡ set marks stop true → AreMarked names (wanted ++ name ∷ []) now
-name_marked names wanted name stop marks now are named within is = record {
-  all_named = λ other h. elim (Contains-push_cases wanted name other h) [
-    | inl before ↦ are.all_named other before
-    | inr last ↦ (stop, subst (λ (n : List ℕ). IsNamed names n stop) last named)
-  ];
-  exactly = λ k. (
-    (λ marked. elim (cases_eq k stop) [
-      | inl here ↦ (name, Contains-push wanted name, subst (IsNamed names name) (sym here) named)
-      | inr other ↦
-          let w = (are.exactly k).0 (sym (slice_get-set_other marks stop k true other) ∙ sym (ap (λ (xs : List Bool). slice_get xs k) is) ∙ marked) in
-          (w.0, Contains-append_left wanted (name ∷ []) w.0 w.1, w.2)
-    ]),
-    (λ w. elim (cases_eq k stop) [
-      | inl here ↦ ap (λ (xs : List Bool). slice_get xs k) is ∙ ap (slice_get (set marks stop true)) here ∙ slice_get-set_same marks stop true within
-      | inr other ↦ ap (λ (xs : List Bool). slice_get xs k) is ∙ slice_get-set_other marks stop k true other
-          ∙ elim (Contains-push_cases wanted name w.0 w.1) [
-            | inl before ↦ (are.exactly k).1 (w.0, before, w.2)
-            | inr last ↦ absurd (other (named_once names name k stop (subst (λ (n : List ℕ). IsNamed names n k) (sym last) w.2) named))
-          ]
-    ]),
-  );
-}
 
 -- the text of a stop's points, without journeys
 pub points_shown : {K V : Type 0} {c : _} (rules_of : K → Rules V) (told : V → ToldValue) (form : LineForm) (image : ImageValue)
@@ -233,13 +184,13 @@ has_journeys {K} {V} rules_of t q old criterion departures said same attained ho
 }
 
 -- all stops, and then the counts
-pub all_shown : {K V : Type 0} {c : _} (rules_of : K → Rules V) (told : V → ToldValue) (form : LineForm) (image : ImageValue)
+pub all_shown : {K V : Type 0} (rules_of : K → Rules V) (told : V → ToldValue) (form : LineForm) (image : ImageValue)
     (t : TimetableValue) (d kept : Destination) (wanted : Wanted) (criterion : K) (old mid now : List ℕ) (counts : Counts) (read : ℕ)
     → t ≡ image.timetable → kept ≡ d → old ≡ []
     → AddsStops told (rules_of criterion) form image kept wanted image.timetable.stops old mid counts
     → read ≡ length (window t (query_from d d.target)) → now ≡ mid ++ last_line form counts.stops counts.points read
     → AreShown told (rules_of criterion) form image d wanted now
-all_shown {K} {V} {c} rules_of told form image t d kept wanted criterion old mid now counts read same is_kept none adds read_is last =
+all_shown {K} {V} rules_of told form image t d kept wanted criterion old mid now counts read same is_kept none adds read_is last =
     let of_image : read ≡ length (window image.timetable (query_from d d.target)) =
     read_is ∙ ap (λ (x : TimetableValue). length (window x (query_from d d.target))) same in
     record {

@@ -9,12 +9,12 @@ ghost use Rattle.departure_lines.specs.Json.{json_head, json_if_some, json_tail,
 ghost use Rattle.departure_lines.specs.Json.{walk_json, with_commas};
 
 use crate::listing::append_number;
-use text_pieces::{put_clock, put_number, put_text};
 use bags::Point;
 use criteria::{Told, ToldValue};
 use journeys::{Departure, journey_string};
 use serde_json::Value;
 use std::alloc::{AllocError, Global};
+use text_pieces::{put_clock, put_number, put_text};
 
 /// Adds the line of a stop of a name, if it has departures, with their journeys and the seconds of the direct footpath.
 pub fn append_json<C: Told>(

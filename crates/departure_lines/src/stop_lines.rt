@@ -1,19 +1,22 @@
 //! The lines of all stops' best departures.
 
-ghost use Rattle.std.specs.Prelude.{◌≡◌, ◌≢◌, ◌<◌, ◌+◌, ℕ, List, true, IfOk, string_bytes};
+ghost use Rattle.std.specs.Prelude.{◌≡◌, ◌≢◌, ◌<◌, ◌+◌, ℕ, List, true, Contains, IfOk, map, string_bytes};
+ghost use Rattle.profile_scan.specs.Points.{IsAnswer};
+ghost use Rattle.journeys.specs.Answer.{point_of};
+ghost use Rattle.journeys.specs.Extracted.{Attains};
 ghost use Rattle.departure_lines.specs.declared.form.LineForm.{LineForm};
 ghost use Rattle.profile_scan.specs.Destinations.{query_from};
 ghost use Rattle.profile_scan.specs.Everywhere.{AnswerAll, criterion_of_profiles, destination_of};
 ghost use Rattle.departure_lines.specs.Showing.{AddsStops, ShowsStop, is_shown, one_if_some};
 
+use crate::form::LineForm;
 use crate::stop_json::{append_json, append_json_points};
 use crate::stop_lists::Wanted;
 use crate::stop_words::{append_lines, append_points, append_summary};
 use answer_pictures::stop_name;
-use crate::form::LineForm;
 use criteria::Told;
 use image_verifier::Verified;
-use journeys::departures_from;
+use journeys::{Departure, departures_from};
 use profile_scan::{InPlace, Profiles};
 use std::alloc::{AllocError, Global};
 
@@ -79,7 +82,8 @@ fn append_next<C: Told>(
         return Ok(counts);
     }
     let points = append_stop(lines, shown, form, stop)?;
-    counted(counts, points)
+    let next = counted(counts, points)?;
+    Ok(next)
 }
 
 // Whether a stop is wanted, and isn't the target.
@@ -150,8 +154,7 @@ fn append_journeys<C: Told>(
         (query_from (destination_of shown.now.profiles.now) stop) (string_bytes lines.old) (string_bytes lines.new)) }
 {
     let name = stop_name(shown.alloc, shown.image, stop)?;
-    let source = InPlace::new(shown.image);
-    let departures = departures_from(shown.alloc, &source, shown.profiles, stop)?;
+    let departures = journeys_from(shown, stop)?;
     append_lines(
         lines,
         shown.alloc,
@@ -212,8 +215,7 @@ fn append_as_json<C: Told>(
         (query_from (destination_of shown.now.profiles.now) stop) (string_bytes lines.old) (string_bytes lines.new)) }
 {
     let name = stop_name(shown.alloc, shown.image, stop)?;
-    let source = InPlace::new(shown.image);
-    let departures = departures_from(shown.alloc, &source, shown.profiles, stop)?;
+    let departures = journeys_from(shown, stop)?;
     let walk = shown.profiles.direct_walk(stop);
     append_json(lines, shown.alloc, shown.criterion, name, &departures, walk)?;
     Ok(departures.len())
@@ -237,4 +239,23 @@ fn append_bare_json<C: Told>(
     let walk = shown.profiles.direct_walk(stop);
     append_json_points(lines, shown.alloc, shown.criterion, name, points, walk)?;
     Ok(points.len())
+}
+
+// The best departures from a stop, each with a journey.
+fn journeys_from<C: Told>(
+    shown: &Shown<'_, C>,
+    stop: u32,
+) -> Result<Vec<Departure<C::V>>, AllocError>
+    requires stop { stop < shown.now.image.now.timetable.stops }
+    requires differ { stop ≢ (destination_of shown.now.profiles.now).target }
+    requires answered { AnswerAll C.rules shown.now.image.now.timetable shown.now.profiles.now }
+    ensures points { IfOk result (λ departures. IsAnswer (C.rules (criterion_of_profiles shown.now.profiles.now))
+        shown.now.image.now.timetable
+        (query_from (destination_of shown.now.profiles.now) stop) (map point_of departures.items)) }
+    ensures journeys { IfOk result (λ departures. (departure : _) → Contains departures.items departure
+        → Attains (C.rules (criterion_of_profiles shown.now.profiles.now)) shown.now.image.now.timetable
+        (query_from (destination_of shown.now.profiles.now) stop) (point_of departure) departure.journey) }
+{
+    let source = InPlace::new(shown.image);
+    departures_from(shown.alloc, &source, shown.profiles, stop)
 }

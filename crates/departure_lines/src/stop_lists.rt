@@ -27,6 +27,11 @@ pub enum ListFault {
 }
 
 impl From<AllocError> for ListFault {
+    ghost use Rattle.std.specs.Prelude.{◌≡◌};
+    ghost use Rattle.departure_lines.specs.declared.stop_lists.ListFault.TheVariants.{OutOfMemory};
+
+    ghost from_gives = { λ _ fault. fault ≡ OutOfMemory };
+
     fn from(_error: AllocError) -> ListFault {
         ListFault::OutOfMemory
     }

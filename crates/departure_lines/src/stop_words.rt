@@ -6,11 +6,11 @@ ghost use Rattle.departure_lines.specs.Lines.{AddsSummary, IsLeast, counts_line,
 ghost use Rattle.departure_lines.specs.Lines.{travel};
 
 use crate::listing::{append_by_numbers, append_direct, append_values};
-use text_pieces::{put_clock, put_number, put_text};
 use bags::Point;
 use criteria::Told;
 use journeys::Departure;
 use std::alloc::{AllocError, Global};
+use text_pieces::{put_clock, put_number, put_text};
 
 /// Adds the line of each departure from the stop of a name, with its journey.
 pub fn append_lines<C: Told>(

@@ -9,5 +9,5 @@ returns c =
     three (string_bytes c.args.lines.now) (string_bytes c.put_text.new.out) (string_bytes c.put_text-2.new.out)
     (string_bytes c.put_text-3.new.out) _ _ _
     c.in_ok-put_text.ensures
-    (c.in_ok-put_text-2.ensures ∙ ap (λ bytes. string_bytes c.put_text.new.out ++ bytes) c.in_ok-quoted.ensures)
+    (c.in_ok-put_text-2.ensures ∙ ap (λ bytes. string_bytes c.put_text.new.out ++ bytes) (c.as_str.ensures.value ∙ c.in_ok-quoted.ensures))
     c.in_ok-put_text-3.ensures

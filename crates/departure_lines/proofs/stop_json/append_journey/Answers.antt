@@ -11,5 +11,6 @@ returns g c =
     (string_bytes c.append_counts.new.lines) _ _ _
     (c.in_ok-append_times.ensures
     ∙ ap (λ (told : ToldValue). string_bytes c.args.lines.now ++ times_json c.args.departure.now.time told.arrival) c.tell-told.ensures)
-    (c.in_ok-append_member.ensures ∙ ap (λ text. string_bytes c.append_times.new.lines ++ journey_member text) c.in_ok-journey.ensures)
+    (c.in_ok-append_member.ensures ∙ ap (λ text. string_bytes c.append_times.new.lines ++ journey_member text)
+    (c.as_str.ensures.value ∙ c.in_ok-journey.ensures))
     (c.in_ok-append_counts.ensures ∙ ap (λ told. string_bytes c.append_member.new.lines ++ counts_json told) c.tell-told.ensures)

@@ -17,6 +17,8 @@ returns g c =
     let texts = map (journey_json g.C.Told.told) departures in
     let text = json_if_some (stop_bytes shown.image.now.names c.args.stop) texts (walk_from shown.profiles.now c.args.stop) in
     let added = c.in_ok-append_json.ensures
+    ∙ ap (λ them. string_bytes c.args.lines.now ++ json_if_some (string_bytes c.in_ok-name.name) (map (journey_json g.C.Told.told) them)
+    c.direct_walk-walk.result) c.deref.ensures.value
     ∙ ap (λ name. string_bytes c.args.lines.now ++ json_if_some name texts c.direct_walk-walk.result) c.in_ok-name.ensures
     ∙ ap (λ walk. string_bytes c.args.lines.now ++ json_if_some (stop_bytes shown.image.now.names c.args.stop) texts walk) c.direct_walk-walk.ensures in
     journeys_shown g.C.Criterion.rules g.C.Told.told _ shown.image.now shown.profiles.now shown.criterion.now c.args.stop departures text

@@ -15,4 +15,4 @@ returns g c =
     (string_bytes c.args.lines.now) (string_bytes c.append_points.new.lines)
     c.requires.stop c.requires.differ c.requires.same c.requires.answered c.points-points.ensures refl
     (c.in_ok-append_points.ensures ∙ ap (λ name. string_bytes c.args.lines.now
-    ++ flat_map (point_line g.C.Told.told name) c.points-points.result.now) c.in_ok-name.ensures)
+    ++ flat_map (point_line g.C.Told.told name) c.points-points.result.now) (c.as_str.ensures.value ∙ c.in_ok-name.ensures))

@@ -16,8 +16,9 @@ returns g c =
     let departures = c.in_ok-departures.departures.items in
     let text = flat_map (line_from g.C.Told.told (stop_bytes shown.image.now.names c.args.stop)) departures in
     let added = c.in_ok-append_lines.ensures
+    ∙ ap (λ them. string_bytes c.args.lines.now ++ flat_map (line_from g.C.Told.told c.as_str.result.now) them) c.deref.ensures.value
     ∙ ap (λ name. string_bytes c.args.lines.now
-    ++ flat_map (line_from g.C.Told.told name) departures) c.in_ok-name.ensures in
+    ++ flat_map (line_from g.C.Told.told name) departures) (c.as_str.ensures.value ∙ c.in_ok-name.ensures) in
     journeys_shown g.C.Criterion.rules g.C.Told.told _ shown.image.now shown.profiles.now shown.criterion.now c.args.stop departures text
     (string_bytes c.args.lines.now) (string_bytes c.append_lines.new.lines)
     c.requires.stop c.requires.differ c.requires.same c.requires.answered c.in_ok-departures.ensures.points

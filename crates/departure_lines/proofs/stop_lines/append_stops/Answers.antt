@@ -10,4 +10,4 @@ loop-stop-init g c =
     (string_bytes c.args.lines.now)
 
 pub loop-stop-preserved : goal.loop-stop-preserved
-loop-stop-preserved g c = c.in_ok-append_next.ensures (string_bytes c.args.lines.now) c.loop-stop.invariant
+loop-stop-preserved g c = c.in_ok-counts.ensures (string_bytes c.args.lines.now) c.loop-stop.invariant

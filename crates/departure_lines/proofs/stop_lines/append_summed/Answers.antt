@@ -13,7 +13,7 @@ returns g c =
     let points = c.points-points.result.now in
     let made = c.in_ok-append_summary.ensures in
     let named = subst (λ name. AddsSummary g.C.Told.told name points c.direct_walk-walk.result
-    (string_bytes c.args.lines.now) (string_bytes c.append_summary.new.lines)) c.in_ok-name.ensures made in
+    (string_bytes c.args.lines.now) (string_bytes c.append_summary.new.lines)) (c.as_str.ensures.value ∙ c.in_ok-name.ensures) made in
     let adds = subst (λ walk. AddsSummary g.C.Told.told (stop_bytes shown.image.now.names c.args.stop) points walk
     (string_bytes c.args.lines.now) (string_bytes c.append_summary.new.lines)) c.direct_walk-walk.ensures named in
     points_shown g.C.Criterion.rules g.C.Told.told _ shown.image.now shown.profiles.now shown.criterion.now c.args.stop points adds.text
