@@ -149,14 +149,14 @@ points_shown {K} {V} {c} rules_of told form image profiles criterion stop points
 
 -- the text of a stop's departures, with journeys
 pub journeys_shown : {K V : Type 0} {c : _} (rules_of : K → Rules V) (told : V → ToldValue) (form : LineForm) (image : ImageValue)
-    (profiles : Profiles K V c) (criterion : K) (stop : ℕ) (departures : List (Departure V)) (text old new : List ℕ)
-    → stop < image.timetable.stops → stop ≢ (destination_of profiles).target → criterion_of_profiles profiles ≡ criterion
+    (profiles : Profiles K V c) (criterion : K) (stop : ℕ) (departures : List (Departure V)) (count : ℕ)
+    (text old new : List ℕ) → count ≡ length departures → stop < image.timetable.stops → stop ≢ (destination_of profiles).target → criterion_of_profiles profiles ≡ criterion
     → AnswerAll rules_of image.timetable profiles
     → IsAnswer (rules_of (criterion_of_profiles profiles)) image.timetable (query_from (destination_of profiles) stop) (map point_of departures)
     → IsInForm told (rules_of criterion) form image (query_from (destination_of profiles) stop) (map point_of departures) (walk_from profiles stop) text
     → new ≡ old ++ text
-    → ShowsStop told (rules_of criterion) form image (query_from (destination_of profiles) stop) old new (length departures)
-journeys_shown {K} {V} {c} rules_of told form image profiles criterion stop departures text old new lt other same all answer in_form added =
+    → ShowsStop told (rules_of criterion) form image (query_from (destination_of profiles) stop) old new count
+journeys_shown {K} {V} {c} rules_of told form image profiles criterion stop departures count text old new many lt other same all answer in_form added =
     let q = query_from (destination_of profiles) stop in
     record {
       text = text;
@@ -166,7 +166,7 @@ journeys_shown {K} {V} {c} rules_of told form image profiles criterion stop depa
         walk = walk_from profiles stop;
         answer = subst (λ (k : K). IsAnswer (rules_of k) image.timetable q (map point_of departures)) same answer;
         direct = (all.each stop lt other).direct;
-        counted = sym (length-map departures point_of);
+        counted = many ∙ sym (length-map departures point_of);
         shown = in_form;
       };
     }

@@ -19,12 +19,12 @@ returns-in-None-clause-unknown c number is =
     c.loop-place.invariant.marked (stands_at (λ n. n.now) c.args.names.now c.loop-place.place _ name (omega arith) c.as_bytes.ensures.value)
     c.in-None.ensures.none (sym (number_of is))
   where
-    number_of : {a b : ℕ} → UnknownStop a ≡ UnknownStop b → a ≡ b
-    number_of e = ap unknown e
-
     unknown : ListFault → ℕ
     unknown (UnknownStop n) = n
     unknown OutOfMemory = 0
+
+    number_of : {a b : ℕ} → UnknownStop a ≡ UnknownStop b → a ≡ b
+    number_of e = ap unknown e
 
 pub mark-requires : goal.mark-requires
 mark-requires c =
