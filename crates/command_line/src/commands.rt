@@ -75,7 +75,7 @@ const DEPARTURES: [Argument; 4] = [
     ),
     Argument::OtherFlag(
         "summary",
-        "Print a line a stop: its number of departures, the first, the last, the least seconds of travel, the direct walk",
+        "Print a line a stop: how many departures, the first, the last, the least seconds of travel, the direct walk",
         "no-journeys",
     ),
     Argument::OtherFlag(

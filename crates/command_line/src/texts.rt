@@ -64,8 +64,8 @@ With --json it is: {\"ok\":\"profile\",\"points\":[{\"arr\":\"08:30:00\",\"dep\"
 With --picture answer.svg --rows 50 the first 50 journeys are drawn too.";
 
 pub(crate) const DEPARTURES: &str =
-    "Each line is one of `csa profile` from a stop, with the stop_id before it. All stops are answered at once, but for\n\
-the one where journeys end; a stop without departures has no line. Stops come in the image's order, as `csa stops`\n\
+    "Each line is one of `csa profile` from a stop, with the stop_id before it. All stops are answered at once, but\n\
+for the one where journeys end; a stop without departures has no line. Stops come in the image's order, as `csa stops`\n\
 prints it. The last line `stops N points N read N` has the number of stops that have a line, the number of their\n\
 departures, and the number of connections that were read.\n\
 A journey rides at least once, so a direct walk is not among the departures: --summary and --json have its seconds,\n\

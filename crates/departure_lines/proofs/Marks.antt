@@ -1,6 +1,6 @@
 -- Names of stops, marked one by one.
-use Rattle.std.proofs.Common.{◌≡◌, ◌<◌, ◌+◌, ℕ, suc, Bool, true, false, List, [], ◌∷◌, ◌++◌, Option, None, Some, Contains, length, map, take, set}
-use Rattle.std.proofs.Common.{cond, replicate, slice_get, get_or, refl, sym, ◌∙◌, ap, subst, inl, inr, arith, option_map}
+use Rattle.std.proofs.Common.{◌≡◌, ◌<◌, ◌+◌, ℕ, suc, Bool, true, false, List, [], ◌∷◌, ◌++◌, Option, None, Some, length, map, take, set}
+use Rattle.std.proofs.Common.{cond, replicate, slice_get, get_or, sym, ◌∙◌, ap, subst, inl, inr, arith, option_map}
 use Rattle.std.specs.Global.{Vec}
 use Rattle.std.proofs.lemmas.Bool.{cases_eq, cases_lt}
 use Rattle.std.proofs.lemmas.List.Elements.{Contains-append_left, Contains-push, Contains-push_cases}
@@ -10,7 +10,6 @@ use Rattle.reasoning.proofs.ListLemmas.{not_in_nil, slice_get-replicate-is, slic
 use Rattle.timetable.specs.NamesValue.{NamesValue}
 use Rattle.journeys.specs.Questions.{IsNamed, NamesNone}
 use Rattle.departure_lines.specs.Naming.{AreMarked, AreWanted, IsUnknownLine, is_set}
-use Rattle.departure_lines.specs.declared.stop_lists.Wanted.{Wanted}
 use Rattle.departure_lines.specs.declared.stop_lists.Wanted.TheVariants.{Of}
 
 -- no two stops are the least of a name

@@ -1,7 +1,7 @@
 -- Stops shown one by one.
-use Rattle.std.proofs.Common.{◌≡◌, ◌≢◌, ◌<◌, ◌+◌, ◌&&◌, eqb, ℕ, zero, suc, Bool, true, false, not, List, [], ◌∷◌, ◌++◌, Option, Contains, length}
+use Rattle.std.proofs.Common.{◌≡◌, ◌≢◌, ◌<◌, ◌+◌, ◌&&◌, eqb, ℕ, zero, suc, Bool, true, false, not, List, [], ◌∷◌, ◌++◌, Contains, length}
 use Rattle.std.proofs.Common.{map, filter, refl, sym, ◌∙◌, ap, subst, inl, inr, append_assoc, arith}
-use Rattle.std.specs.List.{AllZip, flat_map, range_with_len, sum_by}
+use Rattle.std.specs.List.{AllZip, flat_map, range_with_len}
 use Rattle.std.proofs.lemmas.Bool.{ne_eqb}
 use Rattle.std.proofs.lemmas.Bool.Decides.{eqb_tells}
 use Rattle.std.proofs.lemmas.Grind.{flat_map-append}
@@ -14,7 +14,6 @@ use Rattle.criteria.specs.declared.told.ToldValue.{ToldValue}
 use Rattle.image_layout.specs.Image.{ImageValue}
 use Rattle.profile_scan.specs.Destinations.{query_from}
 use Rattle.profile_scan.specs.Points.{IsAnswer}
-use Rattle.profile_scan.specs.Window.{window}
 use Rattle.profile_scan.specs.Everywhere.{AnswerAll, criterion_of_profiles, destination_of, listed_from, walk_from}
 use Rattle.profile_scan.specs.declared.destination.Destination.{Destination}
 use Rattle.profile_scan.specs.declared.profiles.Profiles.{Profiles}
@@ -25,8 +24,8 @@ use Rattle.journeys.specs.Answer.{point_of}
 use Rattle.journeys.specs.Extracted.{Attains}
 use Rattle.journeys.specs.declared.answering.Departure.{Departure}
 use Rattle.departure_lines.specs.Naming.{is_wanted}
-use Rattle.departure_lines.specs.Showing.{AddsStops, AreListed, AreShown, HasJourneys, IsInForm, IsShownFrom, ShowsStop}
-use Rattle.departure_lines.specs.Showing.{is_shown, last_line, one_if_some, shown_stops}
+use Rattle.departure_lines.specs.Showing.{AddsStops, HasJourneys, IsInForm, IsShownFrom, ShowsStop}
+use Rattle.departure_lines.specs.Showing.{is_shown, one_if_some, shown_stops}
 use Rattle.departure_lines.specs.declared.form.LineForm.{LineForm}
 use Rattle.departure_lines.specs.declared.stop_lines.Counts.{Counts}
 use Rattle.departure_lines.specs.declared.stop_lists.Wanted.{Wanted}
@@ -150,7 +149,8 @@ points_shown {K} {V} {c} rules_of told form image profiles criterion stop points
 -- the text of a stop's departures, with journeys
 pub journeys_shown : {K V : Type 0} {c : _} (rules_of : K → Rules V) (told : V → ToldValue) (form : LineForm) (image : ImageValue)
     (profiles : Profiles K V c) (criterion : K) (stop : ℕ) (departures : List (Departure V)) (count : ℕ)
-    (text old new : List ℕ) → count ≡ length departures → stop < image.timetable.stops → stop ≢ (destination_of profiles).target → criterion_of_profiles profiles ≡ criterion
+    (text old new : List ℕ) → count ≡ length departures → stop < image.timetable.stops → stop ≢ (destination_of profiles).target
+    → criterion_of_profiles profiles ≡ criterion
     → AnswerAll rules_of image.timetable profiles
     → IsAnswer (rules_of (criterion_of_profiles profiles)) image.timetable (query_from (destination_of profiles) stop) (map point_of departures)
     → IsInForm told (rules_of criterion) form image (query_from (destination_of profiles) stop) (map point_of departures) (walk_from profiles stop) text
@@ -182,24 +182,3 @@ has_journeys {K} {V} rules_of t q old criterion departures said same attained ho
   attained = λ d has. subst (λ (k : K). Attains (rules_of k) t q (point_of d) d.journey) same (attained d has);
   holds = holds;
 }
-
--- all stops, and then the counts
-pub all_shown : {K V : Type 0} (rules_of : K → Rules V) (told : V → ToldValue) (form : LineForm) (image : ImageValue)
-    (t : TimetableValue) (d kept : Destination) (wanted : Wanted) (criterion : K) (old mid now : List ℕ) (counts : Counts) (read : ℕ)
-    → t ≡ image.timetable → kept ≡ d → old ≡ []
-    → AddsStops told (rules_of criterion) form image kept wanted image.timetable.stops old mid counts
-    → read ≡ length (window t (query_from d d.target)) → now ≡ mid ++ last_line form counts.stops counts.points read
-    → AreShown told (rules_of criterion) form image d wanted now
-all_shown {K} {V} rules_of told form image t d kept wanted criterion old mid now counts read same is_kept none adds read_is last =
-    let of_image : read ≡ length (window image.timetable (query_from d d.target)) =
-    read_is ∙ ap (λ (x : TimetableValue). length (window x (query_from d d.target))) same in
-    record {
-      stops = counts.stops;
-      points = counts.points;
-      text = adds.text;
-      listed = subst (λ (x : Destination). AreListed told (rules_of criterion) form image x wanted image.timetable.stops counts.stops counts.points adds.text)
-          is_kept adds.listed;
-      printed_is = last ∙ ap (λ (n : ℕ). mid ++ last_line form counts.stops counts.points n) of_image
-          ∙ ap (λ (z : List ℕ). z ++ last_line form counts.stops counts.points (length (window image.timetable (query_from d d.target))))
-          (adds.added ∙ ap (λ (z : List ℕ). z ++ adds.text) none);
-    }

@@ -11,6 +11,6 @@ mod stop_words;
 mod whole;
 
 pub use form::LineForm;
-pub use listing::{append_by_numbers, append_direct, append_number, append_times, append_values};
+pub use listing::{append_by_numbers, append_direct, append_point, append_times};
 pub use stop_lists::{ListFault, Wanted};
 pub use whole::departures_text;

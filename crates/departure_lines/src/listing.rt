@@ -27,8 +27,8 @@ pub fn append_by_numbers<C: Told>(
     Ok(())
 }
 
-// Adds what is printed of a point before its journey.
-fn append_point(lines: &mut String, departure: u32, told: ToldValue) -> Result<(), AllocError>
+/// Adds what is printed of a point before its journey.
+pub fn append_point(lines: &mut String, departure: u32, told: ToldValue) -> Result<(), AllocError>
     ensures { OnOk result (string_bytes lines.new ≡ string_bytes lines.old ++ point_text departure told) }
 {
     append_values(lines, departure, told)?;

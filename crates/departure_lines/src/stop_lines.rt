@@ -20,7 +20,7 @@ use journeys::{Departure, departures_from};
 use profile_scan::{InPlace, Profiles};
 use std::alloc::{AllocError, Global};
 
-/// The answers from every stop of an image, and how they are told.
+/// The answers from every stop of an image, and what is needed to print them.
 #[derive(Clone, Copy)]
 pub struct Shown<'a, C: Told> {
     pub alloc: Global,

@@ -15,8 +15,8 @@ use journeys::window_len;
 use profile_scan::{Destination, InPlace, profiles_to};
 use std::alloc::{AllocError, Global};
 
-/// The text of the best departures from each stop that is wanted, but for the target, in order, in a form; then how many
-/// stops have departures, how many these are, and how many connections were read.
+/// The text of the best departures from each stop that is wanted, but for the target, in order, in a form; then how
+/// many stops have departures, how many these are, and how many connections were read.
 ///
 /// All stops are answered by one scan, over the image where it is. The only error is that memory runs out.
 pub fn departures_text<C: Told>(

@@ -1,8 +1,7 @@
-use Rattle.std.proofs.Common.{◌≡◌, ◌++◌, List, ℕ, ◌∙◌, length, map, ap, sym, subst, refl, string_bytes}
-use Rattle.std.specs.List.{flat_map}
+use Rattle.std.proofs.Common.{◌++◌, ◌∙◌, length, map, ap, sym, refl, string_bytes}
 use Rattle.answer_pictures.specs.Naming.{stop_bytes}
 use Rattle.profile_scan.specs.Destinations.{query_from}
-use Rattle.profile_scan.specs.Everywhere.{criterion_of_profiles, destination_of, listed_from, walk_from}
+use Rattle.profile_scan.specs.Everywhere.{criterion_of_profiles, destination_of, walk_from}
 use Rattle.departure_lines.specs.Json.{journey_json, json_if_some}
 use Rattle.departure_lines.proofs.Stops.{has_journeys, journeys_shown}
 use Rattle.departure_lines.proofs.stop_lines.append_as_json.Goals as goal
@@ -23,5 +22,6 @@ returns g c =
     ∙ ap (λ walk. string_bytes c.args.lines.now ++ json_if_some (stop_bytes shown.image.now.names c.args.stop) texts walk) c.direct_walk-walk.ensures in
     journeys_shown g.C.Criterion.rules g.C.Told.told _ shown.image.now shown.profiles.now shown.criterion.now c.args.stop departures c.len.result text
     (string_bytes c.args.lines.now) (string_bytes c.append_json.new.lines)
-    (c.len.ensures ∙ sym c.deref.ensures.len ∙ ap length c.deref.ensures.value) c.requires.stop c.requires.differ c.requires.same c.requires.answered c.in_ok-departures.ensures.points
+    (c.len.ensures ∙ sym c.deref.ensures.len ∙ ap length c.deref.ensures.value)
+    c.requires.stop c.requires.differ c.requires.same c.requires.answered c.in_ok-departures.ensures.points
     (has_journeys g.C.Criterion.rules t q old shown.criterion.now departures _ c.requires.same c.in_ok-departures.ensures.journeys refl) added

@@ -1,8 +1,6 @@
-use Rattle.std.proofs.Common.{◌≡◌, ◌++◌, List, ℕ, ◌∙◌, map, ap, sym, subst, refl, string_bytes}
-use Rattle.std.specs.List.{flat_map}
+use Rattle.std.proofs.Common.{◌++◌, ◌∙◌, map, ap, refl, string_bytes}
 use Rattle.answer_pictures.specs.Naming.{stop_bytes}
-use Rattle.profile_scan.specs.Destinations.{query_from}
-use Rattle.profile_scan.specs.Everywhere.{criterion_of_profiles, destination_of, listed_from, walk_from}
+use Rattle.profile_scan.specs.Everywhere.{walk_from}
 use Rattle.departure_lines.specs.Json.{json_if_some, point_json}
 use Rattle.departure_lines.proofs.Stops.{points_shown}
 use Rattle.departure_lines.proofs.stop_lines.append_bare_json.Goals as goal

@@ -9,7 +9,8 @@ pub returns-then-not-is_shown : goal.returns-then-not-is_shown
 returns-then-not-is_shown g c before adds =
     let shown = c.args.shown.now in
     stop_skipped g.C.Told.told (g.C.Criterion.rules shown.criterion.now) c.args.form shown.image.now (destination_of shown.profiles.now) c.args.wanted.now
-    c.args.stop before (string_bytes c.args.lines.now) c.args.counts (ap (λ (d : Destination). is_shown c.args.wanted.now d.target c.args.stop) (sym c.destination-target.ensures)
+    c.args.stop before (string_bytes c.args.lines.now) c.args.counts
+    (ap (λ (d : Destination). is_shown c.args.wanted.now d.target c.args.stop) (sym c.destination-target.ensures)
     ∙ sym c.is_shown.ensures.shown ∙ c.if-not-is_shown.true) adds
 
 pub returns : goal.returns

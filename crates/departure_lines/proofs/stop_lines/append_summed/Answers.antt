@@ -1,8 +1,5 @@
-use Rattle.std.proofs.Common.{◌≡◌, ◌++◌, List, ℕ, ◌∙◌, map, ap, sym, subst, refl, string_bytes}
-use Rattle.std.specs.List.{flat_map}
+use Rattle.std.proofs.Common.{◌∙◌, subst, string_bytes}
 use Rattle.answer_pictures.specs.Naming.{stop_bytes}
-use Rattle.profile_scan.specs.Destinations.{query_from}
-use Rattle.profile_scan.specs.Everywhere.{criterion_of_profiles, destination_of, listed_from, walk_from}
 use Rattle.departure_lines.specs.Lines.{AddsSummary}
 use Rattle.departure_lines.proofs.Stops.{points_shown}
 use Rattle.departure_lines.proofs.stop_lines.append_summed.Goals as goal

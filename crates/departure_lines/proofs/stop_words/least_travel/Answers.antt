@@ -1,5 +1,5 @@
 use Rattle.std.proofs.Common.{◌∙◌, ap, min, arith}
-use Rattle.departure_lines.specs.Lines.{IsLeast, travel}
+use Rattle.departure_lines.specs.Lines.{travel}
 use Rattle.departure_lines.proofs.Least.{is_one, min_reached, none_less_all, none_less_more}
 use Rattle.departure_lines.proofs.stop_words.least_travel.Goals as goal
 
