@@ -46,13 +46,15 @@ const IMAGE: [Argument; 1] = [Argument::Word(
     "The image's file, or - for standard input",
 )];
 
-/// The options of a query. A text that begins with a hyphen may be a stop_id.
-const QUERY: [Argument; 5] = [
-    Argument::Option(
-        "from",
-        "STOP_ID",
-        "The stop_id of the stop where the journey begins",
-    ),
+/// Where a query begins. A text that begins with a hyphen may be a stop_id.
+const SOURCE: [Argument; 1] = [Argument::Option(
+    "from",
+    "STOP_ID",
+    "The stop_id of the stop where the journey begins",
+)];
+
+/// The other options of a query.
+const DESTINATION: [Argument; 4] = [
     Argument::Option("to", "STOP_ID", "The stop_id of the stop where it ends"),
     Argument::Option(
         "after",
@@ -63,14 +65,34 @@ const QUERY: [Argument; 5] = [
     Argument::Option("by", "CLOCK", "The latest arrival"),
 ];
 
+const CRITERION: [Argument; 1] = [Argument::Criterion("criterion", "NAME", "What is best")];
+
+const DEPARTURES: [Argument; 4] = [
+    Argument::MaybeOption(
+        "from",
+        "FILE",
+        "Print the departures of the stops of FILE alone, a stop_id a line (- is a file name here)",
+    ),
+    Argument::OtherFlag(
+        "summary",
+        "Print a line a stop: how many departures, the first, the last, the least seconds of travel, the direct walk",
+        "no-journeys",
+    ),
+    Argument::OtherFlag(
+        "json",
+        "Print a line of JSON a stop, and the counts as another one",
+        "summary",
+    ),
+    Argument::Flag("no-journeys", "Print no journeys"),
+];
+
 const JOURNEY: [Argument; 1] = [Argument::Word(
     "text",
     "TEXT",
     "The journey: `walk FROM TO SECS` and `ride FIRST LAST`, with a space between",
 )];
 
-const PROFILE: [Argument; 6] = [
-    Argument::Criterion("criterion", "NAME", "What is best"),
+const PROFILE: [Argument; 5] = [
     Argument::MaybeOption(
         "picture",
         "FILE",
@@ -187,7 +209,7 @@ const NEW_IMAGE: [Argument; 1] = [Argument::Word(
 )];
 
 /// The commands over an image, in the order of the help.
-const IMAGE_TASKS: [Task; 5] = [
+const IMAGE_TASKS: [Task; 6] = [
     Task {
         name: "verify",
         about: "Verifies that a file is the image of a legal timetable, and prints its counts",
@@ -204,13 +226,19 @@ const IMAGE_TASKS: [Task; 5] = [
         name: "journey",
         about: "Checks that a journey is possible in an image and answers a query, and prints its times",
         notes: texts::JOURNEY,
-        arguments: &[&IMAGE, &JOURNEY, &QUERY],
+        arguments: &[&IMAGE, &JOURNEY, &SOURCE, &DESTINATION],
     },
     Task {
         name: "profile",
         about: "Prints every best departure from one stop to another within a time window",
         notes: texts::PROFILE,
-        arguments: &[&IMAGE, &QUERY, &PROFILE],
+        arguments: &[&IMAGE, &SOURCE, &DESTINATION, &CRITERION, &PROFILE],
+    },
+    Task {
+        name: "departures",
+        about: "Prints every best departure from each stop to one stop within a time window",
+        notes: texts::DEPARTURES,
+        arguments: &[&IMAGE, &DESTINATION, &CRITERION, &DEPARTURES],
     },
     Task {
         name: "stops",

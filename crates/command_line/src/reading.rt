@@ -5,8 +5,9 @@ use crate::values::{clock, count, named_folder, number, port, zone};
 use clap::error::ErrorKind;
 use clap::{ArgMatches, Error};
 use command_requests::{
-    AnswerForm, BuildRequest, FirstDay, JourneyRequest, NamedFolder, PlanText, ProfileRequest,
-    Question, Request, Rows, ServeRequest, StopsRequest, UpgradeRequest, Workers, days_of,
+    AnswerForm, BuildRequest, DeparturesForm, DeparturesRequest, FirstDay, JourneyRequest,
+    NamedFolder, PlanText, ProfileRequest, Question, Request, Rows, ServeRequest, StopsRequest,
+    UpgradeRequest, Workers, days_of,
 };
 use criteria::CriterionName;
 use std::alloc::{AllocError, Global};
@@ -150,6 +151,7 @@ fn plain_request<'a>(name: &str, matches: &ArgMatches<'a>) -> Option<Request<'a>
         "info" => matches.get_str("image").map(Request::Info),
         "journey" => journey_request(matches).map(Request::Journey),
         "profile" => profile_request(matches).map(Request::Profile),
+        "departures" => departures_request(matches).map(Request::Departures),
         "stops" => stops_request(matches).map(Request::Stops),
         "tables" => matches.get_str("folder").map(Request::Tables),
         "upgrade" => upgrade_request(matches).map(Request::Upgrade),
@@ -240,6 +242,31 @@ fn rows(matches: &ArgMatches<'_>) -> Option<Rows> {
     match matches.get_str("rows") {
         Some(value) => rows_of(value),
         None => Some(Rows::plain()),
+    }
+}
+
+fn departures_request<'a>(matches: &ArgMatches<'a>) -> Option<DeparturesRequest<'a>> {
+    Some(DeparturesRequest {
+        image: matches.get_str("image")?,
+        to: matches.get_str("to")?,
+        after: clock(matches.get_str("after")?)?,
+        until: clock(matches.get_str("until")?)?,
+        by: clock(matches.get_str("by")?)?,
+        criterion: CriterionName::of(matches.get_str("criterion")?)?,
+        form: departures_form(matches),
+        from: matches.get_str("from"),
+    })
+}
+
+fn departures_form(matches: &ArgMatches<'_>) -> DeparturesForm {
+    if matches.get_flag("summary") {
+        return DeparturesForm::Summary;
+    }
+    match (matches.get_flag("json"), matches.get_flag("no-journeys")) {
+        (true, true) => DeparturesForm::JsonPoints,
+        (true, false) => DeparturesForm::Json,
+        (false, true) => DeparturesForm::Points,
+        (false, false) => DeparturesForm::Journeys,
     }
 }
 

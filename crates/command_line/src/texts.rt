@@ -63,6 +63,22 @@ With --json it is: {\"ok\":\"profile\",\"points\":[{\"arr\":\"08:30:00\",\"dep\"
 \"journey\":\"ride 0 1\",\"trips\":1}],\"version\":1,\"walk\":null}\n\
 With --picture answer.svg --rows 50 the first 50 journeys are drawn too.";
 
+pub(crate) const DEPARTURES: &str =
+    "Each line is one of `csa profile` from a stop, with the stop_id before it. All stops are answered at once, but\n\
+for the one where journeys end; a stop without departures has no line. Stops come in the image's order, as `csa stops`\n\
+prints it. The last line `stops N points N read N` has the number of stops that have a line, the number of their\n\
+departures, and the number of connections that were read.\n\
+A journey rides at least once, so a direct walk is not among the departures: --summary and --json have its seconds,\n\
+of the stops that have a line.\n\
+If a line of FILE is no stop_id of the image, nothing is printed but that line's number, on standard error.\n\
+\n\
+Example: csa departures examples/base.csa --to C --after 07:00:00 --until 09:00:00 --by 10:00:00 \
+--criterion arrival\n\
+With --summary a line is: A points 1 first 08:00:00 last 08:00:00 least 1200 walk none\n\
+With --json it is: {\"from\":\"A\",\"points\":[{\"arr\":\"08:20:00\",\"dep\":\"08:00:00\",\
+\"journey\":\"ride 0 0 walk 1 1 0 ride 2 2\"}],\"walk\":null}\n\
+and at the end: {\"points\":2,\"read\":3,\"stops\":2}";
+
 pub(crate) const BUILD: &str = "Standard output has one line of counts:\n\
 \x20 stops        stops and platforms in stops.txt; stations, entrances and the like are not counted\n\
 \x20 runs         trips on the days on which they run, each repetition of frequencies.txt by itself\n\

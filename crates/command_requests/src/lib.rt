@@ -13,6 +13,6 @@ pub use plans::{
     Workers, ZoneText, days_of,
 };
 pub use requests::{
-    AnswerForm, BuildRequest, JourneyRequest, NamedFolder, ProfileRequest, Question, Request,
-    ServeRequest, StopsRequest, UpgradeRequest,
+    AnswerForm, BuildRequest, DeparturesForm, DeparturesRequest, JourneyRequest, NamedFolder,
+    ProfileRequest, Question, Request, ServeRequest, StopsRequest, UpgradeRequest,
 };

@@ -14,6 +14,8 @@ pub enum Request<'a> {
     Journey(JourneyRequest<'a>),
     /// To answer a profile query over an image.
     Profile(ProfileRequest<'a>),
+    /// To answer the queries from every stop over an image.
+    Departures(DeparturesRequest<'a>),
     /// To read the tables of a feed's folder.
     Tables(&'a str),
     /// To make the image of a feed's folder.
@@ -45,6 +47,39 @@ pub struct JourneyRequest<'a> {
     pub image: &'a str,
     pub text: &'a str,
     pub question: Question<'a>,
+}
+
+/// What is printed of the best departures from a stop.
+#[derive(Clone, Copy, Drop)]
+pub enum DeparturesForm {
+    /// A line for each, with its journey.
+    Journeys,
+    /// A line for each, without one.
+    Points,
+    /// A line for all of them, with their number, the first, the last, and the least seconds of travel.
+    Summary,
+    /// A line of JSON for all of them, with their journeys.
+    Json,
+    /// A line of JSON for all of them, without journeys.
+    JsonPoints,
+}
+
+/// Where to, by the name of the stop, and when, in seconds after the image's base; the image, what is best, and what is
+/// printed, of every stop or of those that a file names.
+#[derive(Clone, Copy, Drop)]
+pub struct DeparturesRequest<'a> {
+    pub image: &'a str,
+    pub to: &'a str,
+    /// The earliest departure.
+    pub after: u32,
+    /// The latest departure.
+    pub until: u32,
+    /// The latest arrival.
+    pub by: u32,
+    pub criterion: CriterionName,
+    pub form: DeparturesForm,
+    /// A file with a stop_id a line.
+    pub from: Option<&'a str>,
 }
 
 /// How an answer is printed.

@@ -1,6 +1,7 @@
 pub mod Answering
 pub mod Asking
 pub mod Building
+pub mod Departing
 pub mod Informing
 pub mod Judging
 pub mod Listing

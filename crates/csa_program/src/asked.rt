@@ -3,8 +3,10 @@
 use crate::explaining::explain;
 use crate::opening::open_image;
 use crate::question::query_asked;
-use crate::{info, journey, profile, status, stops, upgrade, verify};
-use command_requests::{JourneyRequest, ProfileRequest, Question, StopsRequest, UpgradeRequest};
+use crate::{departures, info, journey, profile, status, stops, upgrade, verify};
+use command_requests::{
+    DeparturesRequest, JourneyRequest, ProfileRequest, Question, StopsRequest, UpgradeRequest,
+};
 use image_verifier::Verified;
 use std::alloc::Global;
 use std::io::{Read, Write};
@@ -18,6 +20,7 @@ pub enum Asked<'a> {
     Info(&'a str),
     Journey(JourneyRequest<'a>),
     Profile(ProfileRequest<'a>),
+    Departures(DeparturesRequest<'a>),
     Stops(StopsRequest<'a>),
     Upgrade(UpgradeRequest<'a>),
 }
@@ -28,6 +31,7 @@ impl<'a> Asked<'a> {
             Asked::Verify(image) | Asked::Info(image) => image,
             Asked::Journey(request) => request.image,
             Asked::Profile(request) => request.image,
+            Asked::Departures(request) => request.image,
             Asked::Stops(request) => request.image,
             Asked::Upgrade(request) => request.image,
         }
@@ -37,7 +41,11 @@ impl<'a> Asked<'a> {
         match self {
             Asked::Journey(request) => Some(request.question),
             Asked::Profile(request) => Some(request.question),
-            Asked::Verify(_) | Asked::Info(_) | Asked::Stops(_) | Asked::Upgrade(_) => None,
+            Asked::Verify(_)
+            | Asked::Info(_)
+            | Asked::Departures(_)
+            | Asked::Stops(_)
+            | Asked::Upgrade(_) => None,
         }
     }
 }
@@ -59,6 +67,7 @@ pub fn answer<H: Files + AllocGlobal, I: Read, O: Write, E: Write>(
         Asked::Info(_) => info::run(rt.alloc(), &image, output),
         Asked::Journey(request) => journey::run(rt.alloc(), &image, request, output),
         Asked::Profile(request) => profile::run(rt, &image, request, output, errors),
+        Asked::Departures(request) => departures::run(rt, &image, request, output, errors),
         Asked::Stops(request) => stops::run(rt.alloc(), &image, request, output),
         Asked::Upgrade(request) => upgrade::run(rt, &image, request, output, errors),
     };
@@ -87,21 +96,29 @@ fn explain_question<E: Write>(image: &Verified, question: &Question<'_>, errors:
             explain_end(image, "--to", question.to, errors);
         }
         Err(QueryFault::SameStop) => explain(errors, &["csa: --from and --to are the same stop"]),
-        Err(QueryFault::BadWindow) => explain(errors, &["csa: ", window_reason(question)]),
+        Err(QueryFault::BadWindow) => explain(
+            errors,
+            &[
+                "csa: ",
+                window_reason(question.after, question.until, question.by),
+            ],
+        ),
     }
 }
 
-fn window_reason(question: &Question<'_>) -> &'static str {
-    if question.until < question.after {
+/// Which clock of a window is before another, or past all that an image can have.
+pub fn window_reason(after: u32, until: u32, by: u32) -> &'static str {
+    if until < after {
         "--until is before --after"
-    } else if question.by < question.after {
+    } else if by < after {
         "--by is before --after"
     } else {
         "a clock is past 555555:33:19, the last second that an image can have"
     }
 }
 
-fn explain_end<'a, E: Write>(image: &Verified, option: &'a str, stop: &'a str, errors: &mut E) {
+/// Says that an option's stop is no stop of the image, if it is none.
+pub fn explain_end<'a, E: Write>(image: &Verified, option: &'a str, stop: &'a str, errors: &mut E) {
     if image.find(stop.as_bytes()).is_none() {
         let reason = ": no stop of the image has this stop_id";
         explain(errors, &["csa: ", option, " ", stop, reason]);

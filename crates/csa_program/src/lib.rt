@@ -4,6 +4,7 @@
 mod asked;
 mod bases;
 mod build;
+mod departures;
 mod explaining;
 mod folders;
 mod info;
@@ -32,6 +33,7 @@ mod table_fault;
 mod tables;
 mod upgrade;
 mod verify;
+mod wanted_stops;
 mod warnings;
 mod writing;
 
@@ -80,6 +82,9 @@ fn run_command<
         Ok(Request::Info(image)) => answer(rt, Asked::Info(image), input, output, errors),
         Ok(Request::Journey(request)) => answer(rt, Asked::Journey(request), input, output, errors),
         Ok(Request::Profile(request)) => answer(rt, Asked::Profile(request), input, output, errors),
+        Ok(Request::Departures(request)) => {
+            answer(rt, Asked::Departures(request), input, output, errors)
+        }
         Ok(Request::Stops(request)) => answer(rt, Asked::Stops(request), input, output, errors),
         Ok(Request::Tables(folder)) => tables::run(rt, folder, output, errors),
         Ok(Request::Build(request)) => build::run(

@@ -42,7 +42,9 @@ pub fn tell_refusal<O: Write>(alloc: Global, output: &mut O, refusal: &Refusal) 
 }
 
 /// Reports a file that can't be read, with the system's reason.
-pub fn tell_unread<H: Files + AllocGlobal, E: Write>(rt: &H, errors: &mut E, path: &str) -> u8 {
+pub fn tell_unread<H: Files + AllocGlobal, E: Write>(rt: &H, errors: &mut E, path: &str) -> u8
+    ensures { (result ≡ INPUT_OUTPUT) ⊎ (result ≡ OUT_OF_MEMORY) }
+{
     let reason = unread_reason(rt, path);
     file_failed_since(rt.alloc(), errors, path, "read", reason)
 }
@@ -77,7 +79,9 @@ fn file_failed_since<E: Write>(
     path: &str,
     what: &str,
     reason: &str,
-) -> u8 {
+) -> u8
+    ensures { (result ≡ INPUT_OUTPUT) ⊎ (result ≡ OUT_OF_MEMORY) }
+{
     write_line(
         errors,
         format!(in alloc; "csa: {path} can't be {what}: {reason}\n"),

@@ -216,3 +216,103 @@ fn an_answer_is_drawn(rt: HostRuntime) -> Result<(), Fail> {
     fs::remove_file(&rt, "answer.svg")?;
     Ok(())
 }
+
+const DEPARTURES: &str = "
+# Each stop but the target, in the image's order: the lines of its profile behind its stop_id. The window is read once.
+sample
+run departures - --to C --after 07:00:00 --until 09:00:00 --by 10:00:00 --criterion arrival
+prints A dep 08:00:00 arr 08:20:00 : ride 0 0 walk 1 1 0 ride 2 2
+prints B dep 08:12:00 arr 08:20:00 : ride 2 2
+answers stops 2 points 2 read 3
+run departures - --to C --after 07:00:00 --until 09:00:00 --by 10:00:00 --criterion arrival+trips
+prints A dep 08:00:00 arr 08:20:00 trips 2 : ride 0 0 walk 1 1 0 ride 2 2
+prints A dep 08:00:00 arr 08:30:00 trips 1 : ride 0 1
+prints B dep 08:12:00 arr 08:20:00 trips 1 : ride 2 2
+answers stops 2 points 3 read 3
+run departures - --to B --after 07:00:00 --until 09:00:00 --by 10:00:00 --criterion arrival+trips+walk
+prints A dep 08:00:00 arr 08:10:00 trips 1 walked 0 : ride 0 0
+answers stops 1 points 1 read 3
+run departures - --to A --after 07:00:00 --until 09:00:00 --by 10:00:00 --criterion arrival
+answers stops 0 points 0 read 3
+
+# The window cuts the departures of each stop for itself.
+run departures - --to C --after 08:00:01 --until 08:12:00 --by 08:20:00 --criterion arrival
+prints B dep 08:12:00 arr 08:20:00 : ride 2 2
+answers stops 1 points 1 read 2
+run departures - --to C --after 07:00:00 --until 08:11:59 --by 10:00:00 --criterion arrival
+prints A dep 08:00:00 arr 08:20:00 : ride 0 0 walk 1 1 0 ride 2 2
+prints B dep 08:10:00 arr 08:30:00 : ride 1 1
+answers stops 2 points 2 read 3
+
+# Without journeys, and a line a stop.
+run departures - --to C --after 07:00:00 --until 09:00:00 --by 10:00:00 --criterion arrival+trips --no-journeys
+prints A dep 08:00:00 arr 08:20:00 trips 2
+prints A dep 08:00:00 arr 08:30:00 trips 1
+prints B dep 08:12:00 arr 08:20:00 trips 1
+answers stops 2 points 3 read 3
+run departures - --to C --after 07:00:00 --until 09:00:00 --by 10:00:00 --criterion arrival+trips --summary
+prints A points 2 first 08:00:00 last 08:00:00 least 1200 walk none
+prints B points 1 first 08:12:00 last 08:12:00 least 480 walk none
+answers stops 2 points 3 read 3
+run departures - --to C --after 07:00:00 --until 09:00:00 --by 10:00:00 --criterion arrival --summary --no-journeys
+complains 64
+run departures - --to C --after 07:00:00 --until 09:00:00 --by 10:00:00 --criterion arrival --summary --json
+complains 64
+
+# As JSON, a line a stop.
+run departures - --to C --after 07:00:00 --until 09:00:00 --by 10:00:00 --criterion arrival+trips --json
+prints {\"from\":\"A\",\"points\":[{\"arr\":\"08:20:00\",\"dep\":\"08:00:00\",\"journey\":\"ride 0 0 walk 1 1 0 ride 2 2\",\"trips\":2},{\"arr\":\"08:30:00\",\"dep\":\"08:00:00\",\"journey\":\"ride 0 1\",\"trips\":1}],\"walk\":null}
+prints {\"from\":\"B\",\"points\":[{\"arr\":\"08:20:00\",\"dep\":\"08:12:00\",\"journey\":\"ride 2 2\",\"trips\":1}],\"walk\":null}
+answers {\"points\":3,\"read\":3,\"stops\":2}
+run departures - --to C --after 07:00:00 --until 09:00:00 --by 10:00:00 --criterion arrival+trips+walk --json --no-journeys
+prints {\"from\":\"A\",\"points\":[{\"arr\":\"08:20:00\",\"dep\":\"08:00:00\",\"trips\":2,\"walked\":0},{\"arr\":\"08:30:00\",\"dep\":\"08:00:00\",\"trips\":1,\"walked\":0}],\"walk\":null}
+prints {\"from\":\"B\",\"points\":[{\"arr\":\"08:20:00\",\"dep\":\"08:12:00\",\"trips\":1,\"walked\":0}],\"walk\":null}
+answers {\"points\":3,\"read\":3,\"stops\":2}
+
+# The stops of a file alone; the target among them is left out.
+rows wanted C | B
+run departures - --to C --after 07:00:00 --until 09:00:00 --by 10:00:00 --criterion arrival --from wanted
+prints B dep 08:12:00 arr 08:20:00 : ride 2 2
+answers stops 1 points 1 read 3
+rows wanted B | D | A
+run departures - --to C --after 07:00:00 --until 09:00:00 --by 10:00:00 --criterion arrival --from wanted
+tells csa: --from wanted, line 2: no stop of the image has this stop_id
+ends 2
+run departures - --to C --after 07:00:00 --until 09:00:00 --by 10:00:00 --criterion arrival --from nowhere
+tells csa: nowhere can't be read: no such file or folder
+ends 3
+
+# What can't be asked.
+run departures - --to D --after 07:00:00 --until 09:00:00 --by 10:00:00 --criterion arrival
+tells csa: --to D: no stop of the image has this stop_id
+answers refused 31 UnknownStop
+run departures - --to C --after 07:00:00 --until 06:00:00 --by 10:00:00 --criterion arrival
+tells csa: --until is before --after
+answers refused 33 BadWindow
+run departures - --to C --after 07:00:00 --until 09:00:00 --by 10:00:00 --criterion walking
+complains 64
+run departures --help
+helps
+
+# Footpaths of a minute from A to B and from B to C, and of two from A to C: each stop's direct one is beside its departures, and takes
+# none away.
+image 1346458435 1 3 2 3 6 7 1705276800 0 0 1 28800 29400 0 3 1 2 29400 30600 0 3 1 2 29520 30000 1 3 0 1 3 6 0 0 0 60 1 0 0 120 1 60 2 0 0 1 2 3 5 7 20240115 20240115 1413694017 3298353
+run departures - --to C --after 07:00:00 --until 09:00:00 --by 10:00:00 --criterion arrival
+prints A dep 08:00:00 arr 08:11:00 : ride 0 0 walk 1 2 60
+prints A dep 08:11:00 arr 08:20:00 : walk 0 1 60 ride 2 2
+prints B dep 08:12:00 arr 08:20:00 : ride 2 2
+answers stops 2 points 3 read 3
+run departures - --to C --after 07:00:00 --until 09:00:00 --by 10:00:00 --criterion arrival --summary
+prints A points 2 first 08:00:00 last 08:11:00 least 540 walk 120
+prints B points 1 first 08:12:00 last 08:12:00 least 480 walk 60
+answers stops 2 points 3 read 3
+run departures - --to C --after 07:00:00 --until 09:00:00 --by 10:00:00 --criterion arrival --json --no-journeys
+prints {\"from\":\"A\",\"points\":[{\"arr\":\"08:11:00\",\"dep\":\"08:00:00\"},{\"arr\":\"08:20:00\",\"dep\":\"08:11:00\"}],\"walk\":120}
+prints {\"from\":\"B\",\"points\":[{\"arr\":\"08:20:00\",\"dep\":\"08:12:00\"}],\"walk\":60}
+answers {\"points\":3,\"read\":3,\"stops\":2}
+";
+
+#[test]
+fn departures_from_each_stop_are_printed(rt: HostRuntime) -> Result<(), Fail> {
+    try_lines(&rt, DEPARTURES)
+}

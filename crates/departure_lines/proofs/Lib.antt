@@ -1,0 +1,5 @@
+mod Commas
+mod Least
+mod Marks
+mod Stops
+mod Summed

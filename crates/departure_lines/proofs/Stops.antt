@@ -1,0 +1,184 @@
+-- Stops shown one by one.
+use Rattle.std.proofs.Common.{◌≡◌, ◌≢◌, ◌<◌, ◌+◌, ◌&&◌, eqb, ℕ, zero, suc, Bool, true, false, not, List, [], ◌∷◌, ◌++◌, Contains, length}
+use Rattle.std.proofs.Common.{map, filter, refl, sym, ◌∙◌, ap, subst, inl, inr, append_assoc, arith}
+use Rattle.std.specs.List.{AllZip, flat_map, range_with_len}
+use Rattle.std.proofs.lemmas.Bool.{ne_eqb}
+use Rattle.std.proofs.lemmas.Bool.Decides.{eqb_tells}
+use Rattle.std.proofs.lemmas.Grind.{flat_map-append}
+use Rattle.std.proofs.lemmas.List.{append-nil, length-map}
+use Rattle.std.proofs.lemmas.List.Elements.{filter-append}
+use Rattle.std.proofs.lemmas.List.Sums.{sum_by_push}
+use Rattle.std.proofs.lemmas.Slice.Zip.{all_zipped_more}
+use Rattle.criteria.specs.Laws.{Rules}
+use Rattle.criteria.specs.declared.told.ToldValue.{ToldValue}
+use Rattle.image_layout.specs.Image.{ImageValue}
+use Rattle.profile_scan.specs.Destinations.{query_from}
+use Rattle.profile_scan.specs.Points.{IsAnswer}
+use Rattle.profile_scan.specs.Everywhere.{AnswerAll, criterion_of_profiles, destination_of, listed_from, walk_from}
+use Rattle.profile_scan.specs.declared.destination.Destination.{Destination}
+use Rattle.profile_scan.specs.declared.profiles.Profiles.{Profiles}
+use Rattle.bags.specs.declared.point.Point.{Point}
+use Rattle.timetable.specs.TimetableValue.{TimetableValue}
+use Rattle.timetable.specs.declared.query.Query.{Query}
+use Rattle.journeys.specs.Answer.{point_of}
+use Rattle.journeys.specs.Extracted.{Attains}
+use Rattle.journeys.specs.declared.answering.Departure.{Departure}
+use Rattle.departure_lines.specs.Naming.{is_wanted}
+use Rattle.departure_lines.specs.Showing.{AddsStops, HasJourneys, IsInForm, IsShownFrom, ShowsStop}
+use Rattle.departure_lines.specs.Showing.{is_shown, one_if_some, shown_stops}
+use Rattle.departure_lines.specs.declared.form.LineForm.{LineForm}
+use Rattle.departure_lines.specs.declared.stop_lines.Counts.{Counts}
+use Rattle.departure_lines.specs.declared.stop_lists.Wanted.{Wanted}
+
+-- numbers counted up, and the next
+counted_more : (a n j : ℕ) → a + n ≡ j → range_with_len a (suc n) ≡ range_with_len a n ++ j ∷ []
+counted_more a zero j e = ap (λ (k : ℕ). k ∷ []) (omega (arith, e))
+counted_more a (suc n) j e = ap (λ (ks : List ℕ). a ∷ ks) (counted_more (a + 1) n j (omega (arith, e)))
+
+counting_more : (n : ℕ) → range_with_len 0 (n + 1) ≡ range_with_len 0 n ++ n ∷ []
+counting_more n = ap (range_with_len 0) (next n) ∙ counted_more 0 n n (omega arith)
+  where
+    next : (k : ℕ) → k + 1 ≡ suc k
+    next k = omega arith
+
+-- one stop more, that is shown or not
+stop_taken : (wanted : Wanted) (target n : ℕ) → is_shown wanted target n ≡ true → shown_stops wanted target (n + 1) ≡ shown_stops wanted target n ++ n ∷ []
+stop_taken wanted target n is =
+    ap (filter (is_shown wanted target)) (counting_more n) ∙ filter-append (is_shown wanted target) (range_with_len 0 n) (n ∷ [])
+    ∙ ap (λ (ks : List ℕ). shown_stops wanted target n ++ ks) (kept is)
+  where
+    kept : is_shown wanted target n ≡ true → filter (is_shown wanted target) (n ∷ []) ≡ n ∷ []
+    kept h = rw h refl
+
+stop_left : (wanted : Wanted) (target n : ℕ) → is_shown wanted target n ≡ false → shown_stops wanted target (n + 1) ≡ shown_stops wanted target n
+stop_left wanted target n is =
+    ap (filter (is_shown wanted target)) (counting_more n) ∙ filter-append (is_shown wanted target) (range_with_len 0 n) (n ∷ [])
+    ∙ ap (λ (ks : List ℕ). shown_stops wanted target n ++ ks) (dropped is) ∙ append-nil (shown_stops wanted target n)
+  where
+    dropped : is_shown wanted target n ≡ false → filter (is_shown wanted target) (n ∷ []) ≡ []
+    dropped h = rw h refl
+
+module _ {V : Type 0} (told : V → ToldValue) (rules : Rules V) (form : LineForm) (image : ImageValue) (d : Destination) (wanted : Wanted) where
+  pub none_added : (text : List ℕ) → AddsStops told rules form image d wanted 0 text text (record { stops = 0; points = 0 })
+  none_added text = record {
+    text = [];
+    added = sym (append-nil text);
+    listed = record { parts = []; each = tt; text_is = refl; stops_are = refl; points_are = refl };
+  }
+
+  -- a stop that isn't shown changes nothing
+  pub stop_skipped : (n : ℕ) (old new : List ℕ) (counts : Counts) → is_shown wanted d.target n ≡ false
+      → AddsStops told rules form image d wanted n old new counts → AddsStops told rules form image d wanted (n + 1) old new counts
+  stop_skipped n old new counts not_shown adds = record {
+    text = adds.text;
+    added = adds.added;
+    listed = record {
+      parts = adds.listed.parts;
+      each = subst (λ (ks : List ℕ). AllZip (λ stop (part : ℕ × List ℕ). IsShownFrom told rules form image (query_from d stop) part.0 part.1) ks
+          adds.listed.parts) (sym (stop_left wanted d.target n not_shown)) adds.listed.each;
+      text_is = adds.listed.text_is;
+      stops_are = adds.listed.stops_are;
+      points_are = adds.listed.points_are;
+    };
+  }
+
+  -- one that is shown adds its text, and counts
+  pub stop_added : (n : ℕ) (old mid new : List ℕ) (counts next : Counts) (points : ℕ) → is_shown wanted d.target n ≡ true
+      → AddsStops told rules form image d wanted n old mid counts → ShowsStop told rules form image (query_from d n) mid new points
+      → next.stops ≡ counts.stops + one_if_some points → next.points ≡ counts.points + points
+      → AddsStops told rules form image d wanted (n + 1) old new next
+  stop_added n old mid new counts next points is adds shows stops_now points_now =
+      let parts = adds.listed.parts in
+      let part : ℕ × List ℕ = (points, shows.text) in
+      let R : ℕ → ℕ × List ℕ → Type 0 = λ stop p. IsShownFrom told rules form image (query_from d stop) p.0 p.1 in
+      record {
+        text = adds.text ++ shows.text;
+        added = shows.added ∙ ap (λ (z : List ℕ). z ++ shows.text) adds.added ∙ regroup old adds.text shows.text;
+        listed = record {
+          parts = parts ++ part ∷ [];
+          each = subst (λ (ks : List ℕ). AllZip R ks (parts ++ part ∷ [])) (sym (stop_taken wanted d.target n is))
+              (all_zipped_more R (shown_stops wanted d.target n) parts n part adds.listed.each shows.shown);
+          text_is = ap (λ (z : List ℕ). z ++ shows.text) adds.listed.text_is
+              ∙ ap (λ (z : List ℕ). flat_map (λ (p : ℕ × List ℕ). p.1) parts ++ z) (sym (append-nil shows.text))
+              ∙ sym (flat_map-append (λ (p : ℕ × List ℕ). p.1) parts (part ∷ []));
+          stops_are = stops_now ∙ ap (λ k. k + one_if_some points) adds.listed.stops_are
+              ∙ sym (sum_by_push (λ (p : ℕ × List ℕ). one_if_some p.0) parts part);
+          points_are = points_now ∙ ap (λ k. k + points) adds.listed.points_are
+              ∙ sym (sum_by_push (λ (p : ℕ × List ℕ). p.0) parts part);
+        };
+      }
+    where
+      regroup : (a b c : List ℕ) → (a ++ b) ++ c ≡ a ++ (b ++ c)
+      regroup a b c = append_assoc a b c
+
+-- the target isn't shown
+pub target_not_shown : (wanted : Wanted) (target stop : ℕ) → stop ≡ target → false ≡ is_shown wanted target stop
+target_not_shown wanted target stop same = ap (λ b. not b && is_wanted wanted stop) (sym (eqb_same stop target same))
+  where
+    eqb_same : (a b : ℕ) → a ≡ b → eqb a b ≡ true
+    eqb_same a b e = elim (eqb_tells a b) [ inl yes_same ↦ yes_same.0 | inr other ↦ absurd (other.1 e) ]
+
+-- another one is if it is wanted
+pub other_shown : (wanted : Wanted) (target stop : ℕ) (has : Bool) → (stop ≡ target → ⊥) → has ≡ is_wanted wanted stop → has ≡ is_shown wanted target stop
+other_shown wanted target stop has other is = is ∙ ap (λ b. not b && is_wanted wanted stop) (sym (ne_eqb stop target other))
+
+-- the text of a stop's points, without journeys
+pub points_shown : {K V : Type 0} {c : _} (rules_of : K → Rules V) (told : V → ToldValue) (form : LineForm) (image : ImageValue)
+    (profiles : Profiles K V c) (criterion : K) (stop : ℕ) (points : List (Point V)) (text old new : List ℕ)
+    → stop < image.timetable.stops → stop ≢ (destination_of profiles).target → criterion_of_profiles profiles ≡ criterion
+    → AnswerAll rules_of image.timetable profiles → points ≡ listed_from profiles stop
+    → IsInForm told (rules_of criterion) form image (query_from (destination_of profiles) stop) points (walk_from profiles stop) text → new ≡ old ++ text
+    → ShowsStop told (rules_of criterion) form image (query_from (destination_of profiles) stop) old new (length points)
+points_shown {K} {V} {c} rules_of told form image profiles criterion stop points text old new lt other same all is in_form added =
+    let q = query_from (destination_of profiles) stop in
+    let from = all.each stop lt other in
+    record {
+      text = text;
+      added = added;
+      shown = record {
+        points = points;
+        walk = walk_from profiles stop;
+        answer = subst (λ (k : K). IsAnswer (rules_of k) image.timetable q points) same
+            (subst (λ (ps : List (Point V)). IsAnswer (rules_of (criterion_of_profiles profiles)) image.timetable q ps) (sym is) from.answer);
+        direct = from.direct;
+        counted = refl;
+        shown = in_form;
+      };
+    }
+
+-- the text of a stop's departures, with journeys
+pub journeys_shown : {K V : Type 0} {c : _} (rules_of : K → Rules V) (told : V → ToldValue) (form : LineForm) (image : ImageValue)
+    (profiles : Profiles K V c) (criterion : K) (stop : ℕ) (departures : List (Departure V)) (count : ℕ)
+    (text old new : List ℕ) → count ≡ length departures → stop < image.timetable.stops → stop ≢ (destination_of profiles).target
+    → criterion_of_profiles profiles ≡ criterion
+    → AnswerAll rules_of image.timetable profiles
+    → IsAnswer (rules_of (criterion_of_profiles profiles)) image.timetable (query_from (destination_of profiles) stop) (map point_of departures)
+    → IsInForm told (rules_of criterion) form image (query_from (destination_of profiles) stop) (map point_of departures) (walk_from profiles stop) text
+    → new ≡ old ++ text
+    → ShowsStop told (rules_of criterion) form image (query_from (destination_of profiles) stop) old new count
+journeys_shown {K} {V} {c} rules_of told form image profiles criterion stop departures count text old new many lt other same all answer in_form added =
+    let q = query_from (destination_of profiles) stop in
+    record {
+      text = text;
+      added = added;
+      shown = record {
+        points = map point_of departures;
+        walk = walk_from profiles stop;
+        answer = subst (λ (k : K). IsAnswer (rules_of k) image.timetable q (map point_of departures)) same answer;
+        direct = (all.each stop lt other).direct;
+        counted = many ∙ sym (length-map departures point_of);
+        shown = in_form;
+      };
+    }
+
+-- departures have journeys that attain them, by one criterion's rules and by the same one's
+pub has_journeys : {K V : Type 0} (rules_of : K → Rules V) (t : TimetableValue) (q : Query) (old criterion : K) (departures : List (Departure V))
+    (said : List (Departure V) → Type 0) → old ≡ criterion
+    → ((d : Departure V) → Contains departures d → Attains (rules_of old) t q (point_of d) d.journey) → said departures
+    → HasJourneys (rules_of criterion) t q (map point_of departures) said
+has_journeys {K} {V} rules_of t q old criterion departures said same attained holds = record {
+  departures = departures;
+  are = refl;
+  attained = λ d has. subst (λ (k : K). Attains (rules_of k) t q (point_of d) d.journey) same (attained d has);
+  holds = holds;
+}

@@ -1,0 +1,26 @@
+use Rattle.std.proofs.Common.{◌++◌, ◌∙◌, length, ap, sym, refl, string_bytes}
+use Rattle.std.specs.List.{flat_map}
+use Rattle.answer_pictures.specs.Naming.{stop_bytes}
+use Rattle.profile_scan.specs.Destinations.{query_from}
+use Rattle.profile_scan.specs.Everywhere.{criterion_of_profiles, destination_of}
+use Rattle.departure_lines.specs.Lines.{line_from}
+use Rattle.departure_lines.proofs.Stops.{has_journeys, journeys_shown}
+use Rattle.departure_lines.proofs.stop_lines.append_journeys.Goals as goal
+
+pub returns : goal.returns
+returns g c =
+    let shown = c.args.shown.now in
+    let t = shown.image.now.timetable in
+    let q = query_from (destination_of shown.profiles.now) c.args.stop in
+    let old = criterion_of_profiles shown.profiles.now in
+    let departures = c.in_ok-departures.departures.items in
+    let text = flat_map (line_from g.C.Told.told (stop_bytes shown.image.now.names c.args.stop)) departures in
+    let added = c.in_ok-append_lines.ensures
+    ∙ ap (λ them. string_bytes c.args.lines.now ++ flat_map (line_from g.C.Told.told c.as_str.result.now) them) c.deref.ensures.value
+    ∙ ap (λ name. string_bytes c.args.lines.now
+    ++ flat_map (line_from g.C.Told.told name) departures) (c.as_str.ensures.value ∙ c.in_ok-name.ensures) in
+    journeys_shown g.C.Criterion.rules g.C.Told.told _ shown.image.now shown.profiles.now shown.criterion.now c.args.stop departures c.len.result text
+    (string_bytes c.args.lines.now) (string_bytes c.append_lines.new.lines)
+    (c.len.ensures ∙ sym c.deref.ensures.len ∙ ap length c.deref.ensures.value)
+    c.requires.stop c.requires.differ c.requires.same c.requires.answered c.in_ok-departures.ensures.points
+    (has_journeys g.C.Criterion.rules t q old shown.criterion.now departures _ c.requires.same c.in_ok-departures.ensures.journeys refl) added

@@ -1,0 +1,61 @@
+-- The best departures from a stop as JSON.
+use Rattle.std.specs.Prelude.{ℕ, zero, suc, List, [], ◌∷◌, ◌++◌, Option, None, Some, codes, decimal}
+use Rattle.std.specs.List.{flat_map}
+use Rattle.serde_json.specs.Data.{string}
+use Rattle.serde_json.specs.Written.{compact_text}
+use Rattle.bags.specs.declared.point.Point.{Point}
+use Rattle.criteria.specs.declared.told.ToldValue.{ToldValue}
+use Rattle.timetable.specs.Clocks.{clock_bytes}
+use Rattle.journeys.specs.Texts.{text_of}
+use Rattle.journeys.specs.declared.answering.Departure.{Departure}
+use Rattle.departure_lines.specs.Words.{number_if_some}
+
+-- the times of a point as members of JSON
+unfoldable pub times_json : ℕ → ℕ → List ℕ
+times_json departure arrival =
+    (codes "{\"arr\":\"" ++ clock_bytes arrival) ++ (codes "\",\"dep\":\"" ++ clock_bytes departure) ++ codes "\""
+
+-- its trips and the seconds walked where the criterion counts them
+unfoldable pub counts_json : ToldValue → List ℕ
+counts_json told = number_if_some (codes ",\"trips\":") told.trips ++ number_if_some (codes ",\"walked\":") told.walked ++ codes "}"
+
+unfoldable pub point_json : {V : Type 0} → (V → ToldValue) → Point V → List ℕ
+point_json told point = times_json point.departure (told point.value).arrival ++ counts_json (told point.value)
+
+unfoldable pub journey_member : List ℕ → List ℕ
+journey_member journey = codes ",\"journey\":\"" ++ journey ++ codes "\""
+
+unfoldable pub journey_json : {V : Type 0} → (V → ToldValue) → Departure V → List ℕ
+journey_json told departure =
+    times_json departure.time (told departure.value).arrival ++ journey_member (text_of departure.journey) ++ counts_json (told departure.value)
+
+-- a comma before each text but the first
+abbrev pub comma_before : ℕ → List ℕ
+comma_before zero = []
+comma_before (suc place) = codes ","
+
+-- texts with a comma between them
+unfoldable pub with_commas : List (List ℕ) → List ℕ
+with_commas [] = []
+with_commas (x ∷ xs) = x ++ flat_map (λ y. codes "," ++ y) xs
+
+abbrev pub walk_json : Option ℕ → List ℕ
+walk_json None = codes ",\"walk\":null"
+walk_json (Some seconds) = codes ",\"walk\":" ++ decimal seconds
+
+-- what stands before the points of a stop, and behind them: its stop_id, and the seconds of the direct footpath
+unfoldable pub json_head : List ℕ → List ℕ
+json_head name = codes "{\"from\":" ++ compact_text (string name) ++ codes ",\"points\":["
+
+unfoldable pub json_tail : Option ℕ → List ℕ
+json_tail walk = codes "]" ++ walk_json walk ++ codes "}\n"
+
+-- a stop without points has no line
+abbrev pub json_if_some : List ℕ → List (List ℕ) → Option ℕ → List ℕ
+json_if_some name [] walk = []
+json_if_some name (x ∷ xs) walk = json_head name ++ with_commas (x ∷ xs) ++ json_tail walk
+
+-- the last line: how many stops have a line, how many points, and how many connections were read
+unfoldable pub counts_json_line : ℕ → ℕ → ℕ → List ℕ
+counts_json_line stops points read =
+    (codes "{\"points\":" ++ decimal points) ++ (codes ",\"read\":" ++ decimal read) ++ (codes ",\"stops\":" ++ decimal stops) ++ codes "}\n"

@@ -1,0 +1,5 @@
+pub mod Json
+pub mod Lines
+pub mod Naming
+pub mod Showing
+pub mod Words

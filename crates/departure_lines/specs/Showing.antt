@@ -1,0 +1,106 @@
+-- The text of the best departures from all stops to one.
+use Rattle.std.specs.Prelude.{◌≡◌, ℕ, Bool, not, ◌&&◌, nat_eq, List, ◌++◌, Option, Contains, filter, length, map, min}
+use Rattle.std.specs.List.{AllZip, flat_map, range_with_len, sum_by}
+use Rattle.criteria.specs.Laws.{Rules}
+use Rattle.criteria.specs.declared.told.ToldValue.{ToldValue}
+use Rattle.bags.specs.declared.point.Point.{Point}
+use Rattle.timetable.specs.TimetableValue.{TimetableValue}
+use Rattle.timetable.specs.declared.query.Query.{Query}
+use Rattle.image_layout.specs.Image.{ImageValue}
+use Rattle.answer_pictures.specs.Naming.{stop_bytes}
+use Rattle.profile_scan.specs.Destinations.{query_from}
+use Rattle.profile_scan.specs.Kept.{IsWay}
+use Rattle.profile_scan.specs.Points.{IsAnswer}
+use Rattle.profile_scan.specs.Window.{window}
+use Rattle.profile_scan.specs.declared.destination.Destination.{Destination}
+use Rattle.journeys.specs.Answer.{point_of}
+use Rattle.journeys.specs.Extracted.{Attains}
+use Rattle.journeys.specs.declared.answering.Departure.{Departure}
+use Rattle.departure_lines.specs.Json.{counts_json_line, journey_json, json_if_some, point_json}
+use Rattle.departure_lines.specs.Lines.{IsSummary, counts_line, line_from, point_line}
+use Rattle.departure_lines.specs.Naming.{is_wanted}
+use Rattle.departure_lines.specs.declared.form.LineForm.{LineForm}
+use Rattle.departure_lines.specs.declared.stop_lines.Counts.{Counts}
+use Rattle.departure_lines.specs.declared.stop_lists.Wanted.{Wanted}
+
+-- points with journeys: each departure is that of a point, with a journey that attains it, and what is said of all of them holds
+pub record HasJourneys {V : Type 0} (rules : Rules V) (t : TimetableValue) (q : Query) (points : List (Point V))
+    (said : List (Departure V) → Type 0) : Type 0 where
+  pub departures : List (Departure V)
+  pub are : points ≡ map point_of departures
+  pub attained : (departure : Departure V) → Contains departures departure → Attains rules t q (point_of departure) departure.journey
+  pub holds : said departures
+
+-- the text of a stop's points, in a form
+abbrev pub IsInForm : {V : Type 0} → (V → ToldValue) → Rules V → LineForm → ImageValue → Query → List (Point V) → Option ℕ → List ℕ → Type 0
+IsInForm told rules LineForm.Journeys image q points walk text =
+    HasJourneys rules image.timetable q points (λ departures. text ≡ flat_map (line_from told (stop_bytes image.names q.source)) departures)
+IsInForm told rules LineForm.Points image q points walk text = text ≡ flat_map (point_line told (stop_bytes image.names q.source)) points
+IsInForm told rules LineForm.Summary image q points walk text = IsSummary told (stop_bytes image.names q.source) points walk text
+IsInForm told rules LineForm.Json image q points walk text =
+    HasJourneys rules image.timetable q points
+    (λ departures. text ≡ json_if_some (stop_bytes image.names q.source) (map (journey_json told) departures) walk)
+IsInForm told rules LineForm.JsonPoints image q points walk text =
+    text ≡ json_if_some (stop_bytes image.names q.source) (map (point_json told) points) walk
+
+-- the query from a stop is answered, by so many points; the text shows them
+pub record IsShownFrom {V : Type 0} (told : V → ToldValue) (rules : Rules V) (form : LineForm) (image : ImageValue) (q : Query)
+    (count : ℕ) (text : List ℕ) : Type 0 where
+  pub points : List (Point V)
+  pub walk : Option ℕ
+  pub answer : IsAnswer rules image.timetable q points
+  pub direct : IsWay image.timetable q.target q.source walk
+  pub counted : count ≡ length points
+  pub shown : IsInForm told rules form image q points walk text
+
+-- such a text was added
+pub record ShowsStop {V : Type 0} (told : V → ToldValue) (rules : Rules V) (form : LineForm) (image : ImageValue) (q : Query)
+    (old new : List ℕ) (count : ℕ) : Type 0 where
+  pub text : List ℕ
+  pub added : new ≡ old ++ text
+  pub shown : IsShownFrom told rules form image q count text
+
+-- the stops that are wanted, but for the target
+abbrev pub is_shown : Wanted → ℕ → ℕ → Bool
+is_shown wanted target stop = not (nat_eq stop target) && is_wanted wanted stop
+
+-- those below a number, rising
+abbrev pub shown_stops : Wanted → ℕ → ℕ → List ℕ
+shown_stops wanted target n = filter (is_shown wanted target) (range_with_len 0 n)
+
+-- a stop counts if it has points
+abbrev pub one_if_some : ℕ → ℕ
+one_if_some points = min points 1
+
+-- the stops below a number are shown, one after the other; so many have points, and so many points they have
+pub record AreListed {V : Type 0} (told : V → ToldValue) (rules : Rules V) (form : LineForm) (image : ImageValue) (d : Destination)
+    (wanted : Wanted) (n stops points : ℕ) (text : List ℕ) : Type 0 where
+  pub parts : List (ℕ × List ℕ)
+  pub each : AllZip (λ stop part. IsShownFrom told rules form image (query_from d stop) part.0 part.1) (shown_stops wanted d.target n) parts
+  pub text_is : text ≡ flat_map (λ part. part.1) parts
+  pub stops_are : stops ≡ sum_by (λ part. one_if_some part.0) parts
+  pub points_are : points ≡ sum_by (λ part. part.0) parts
+
+-- such a text was added
+pub record AddsStops {V : Type 0} (told : V → ToldValue) (rules : Rules V) (form : LineForm) (image : ImageValue) (d : Destination)
+    (wanted : Wanted) (n : ℕ) (old new : List ℕ) (counts : Counts) : Type 0 where
+  pub text : List ℕ
+  pub added : new ≡ old ++ text
+  pub listed : AreListed told rules form image d wanted n counts.stops counts.points text
+
+-- the last line, in a form
+abbrev pub last_line : LineForm → ℕ → ℕ → ℕ → List ℕ
+last_line LineForm.Json stops points read = counts_json_line stops points read
+last_line LineForm.JsonPoints stops points read = counts_json_line stops points read
+last_line LineForm.Journeys stops points read = counts_line stops points read
+last_line LineForm.Points stops points read = counts_line stops points read
+last_line LineForm.Summary stops points read = counts_line stops points read
+
+-- all stops that are wanted are shown, and then the counts; each connection of the window was read once
+pub record AreShown {V : Type 0} (told : V → ToldValue) (rules : Rules V) (form : LineForm) (image : ImageValue) (d : Destination)
+    (wanted : Wanted) (printed : List ℕ) : Type 0 where
+  pub stops : ℕ
+  pub points : ℕ
+  pub text : List ℕ
+  pub listed : AreListed told rules form image d wanted image.timetable.stops stops points text
+  pub printed_is : printed ≡ text ++ last_line form stops points (length (window image.timetable (query_from d d.target)))

@@ -1,0 +1,38 @@
+-- The line of a best departure.
+use Rattle.std.specs.Prelude.{ℕ, List, [], ◌++◌, codes, decimal, Option, None, Some}
+use Rattle.criteria.specs.declared.told.ToldValue.{ToldValue}
+use Rattle.timetable.specs.Clocks.{clock_bytes}
+use Rattle.timetable.specs.JourneyValue.{JourneyValue}
+use Rattle.journeys.specs.Texts.{text_of}
+use Rattle.journeys.specs.declared.answering.Departure.{Departure}
+
+-- when one departs and arrives
+unfoldable pub times_text : ℕ → ℕ → List ℕ
+times_text departure arrival = (codes "dep " ++ clock_bytes departure) ++ (codes " arr " ++ clock_bytes arrival)
+
+-- a word and a number, if there is one
+abbrev pub number_if_some : List ℕ → Option ℕ → List ℕ
+number_if_some word None = []
+number_if_some word (Some n) = word ++ decimal n
+
+-- the times of a point, and its trips and the seconds walked where the criterion counts them
+unfoldable pub values_text : ℕ → ToldValue → List ℕ
+values_text departure told =
+    times_text departure told.arrival ++ number_if_some (codes " trips ") told.trips ++ number_if_some (codes " walked ") told.walked
+
+-- what is printed of a point before its journey
+unfoldable pub point_text : ℕ → ToldValue → List ℕ
+point_text departure told = values_text departure told ++ codes " :"
+
+-- a journey by the numbers of the image
+abbrev pub numbered_text : JourneyValue → List ℕ
+numbered_text journey = codes " " ++ text_of journey
+
+-- the line of a best departure, with its journey
+unfoldable pub departure_line : {V : Type 0} → (V → ToldValue) → (JourneyValue → List ℕ) → Departure V → List ℕ
+departure_line told words departure = point_text departure.time (told departure.value) ++ words departure.journey ++ codes "\n"
+
+-- the seconds of the direct footpath, if there is one
+abbrev pub walk_word : Option ℕ → List ℕ
+walk_word None = codes " walk none"
+walk_word (Some seconds) = codes " walk " ++ decimal seconds

@@ -1,0 +1,16 @@
+//! The best departures from all stops to one, as text: lines, a summary, or JSON, of every stop or of those that a list
+//! names.
+#![tactic(auto)]
+
+mod form;
+mod listing;
+mod stop_json;
+mod stop_lines;
+mod stop_lists;
+mod stop_words;
+mod whole;
+
+pub use form::LineForm;
+pub use listing::{append_by_numbers, append_direct, append_point, append_times};
+pub use stop_lists::{ListFault, Wanted};
+pub use whole::departures_text;

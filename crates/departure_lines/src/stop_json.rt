@@ -1,0 +1,211 @@
+//! A stop's best departures as JSON.
+
+ghost use Rattle.std.specs.Prelude.{◌≡◌, ◌++◌, IfOk, OnOk, map, string_bytes};
+ghost use Rattle.serde_json.specs.Data.{string};
+ghost use Rattle.serde_json.specs.Written.{compact_text};
+ghost use Rattle.departure_lines.specs.Json.{comma_before, counts_json, counts_json_line, journey_json};
+ghost use Rattle.departure_lines.specs.Json.{journey_member};
+ghost use Rattle.departure_lines.specs.Json.{json_head, json_if_some, json_tail, point_json, times_json};
+ghost use Rattle.departure_lines.specs.Json.{walk_json, with_commas};
+
+use crate::listing::append_number;
+use bags::Point;
+use criteria::{Told, ToldValue};
+use journeys::{Departure, journey_string};
+use serde_json::Value;
+use std::alloc::{AllocError, Global};
+use text_pieces::{put_clock, put_number, put_text};
+
+/// Adds the line of a stop of a name, if it has departures, with their journeys and the seconds of the direct footpath.
+pub fn append_json<C: Told>(
+    lines: &mut String,
+    alloc: Global,
+    criterion: &C,
+    name: String,
+    departures: &[Departure<C::V>],
+    walk: Option<u32>,
+) -> Result<(), AllocError>
+    ensures { OnOk result (string_bytes lines.new ≡ string_bytes lines.old
+        ++ json_if_some (string_bytes name) (map (journey_json C.told) departures.now) walk) }
+{
+    if departures.len() == 0 {
+        return Ok(());
+    }
+    append_head(lines, alloc, name)?;
+    append_journeys(lines, alloc, criterion, departures)?;
+    append_tail(lines, walk)?;
+    Ok(())
+}
+
+/// The same without journeys.
+pub fn append_json_points<C: Told>(
+    lines: &mut String,
+    alloc: Global,
+    criterion: &C,
+    name: String,
+    points: &[Point<C::V>],
+    walk: Option<u32>,
+) -> Result<(), AllocError>
+    ensures { OnOk result (string_bytes lines.new ≡ string_bytes lines.old
+        ++ json_if_some (string_bytes name) (map (point_json C.told) points.now) walk) }
+{
+    if points.len() == 0 {
+        return Ok(());
+    }
+    append_head(lines, alloc, name)?;
+    append_points(lines, criterion, points)?;
+    append_tail(lines, walk)?;
+    Ok(())
+}
+
+// Adds what stands before the points.
+fn append_head(lines: &mut String, alloc: Global, name: String) -> Result<(), AllocError>
+    ensures { OnOk result (string_bytes lines.new ≡ string_bytes lines.old ++ json_head (string_bytes name)) }
+{
+    let quoted = quoted(alloc, name)?;
+    put_text(lines, "{\"from\":")?;
+    put_text(lines, quoted.as_str())?;
+    put_text(lines, ",\"points\":[")?;
+    Ok(())
+}
+
+// A text as JSON.
+fn quoted(alloc: Global, text: String) -> Result<String, AllocError>
+    ensures { IfOk result (λ quoted. string_bytes quoted ≡ compact_text (string (string_bytes text))) }
+{
+    let value = Value::String(text);
+    value.to_string(alloc)
+}
+
+// Adds what stands behind the points.
+fn append_tail(lines: &mut String, walk: Option<u32>) -> Result<(), AllocError>
+    ensures { OnOk result (string_bytes lines.new ≡ string_bytes lines.old ++ json_tail walk) }
+{
+    put_text(lines, "]")?;
+    append_walk(lines, walk)?;
+    put_text(lines, "}\n")?;
+    Ok(())
+}
+
+fn append_walk(lines: &mut String, walk: Option<u32>) -> Result<(), AllocError>
+    ensures { OnOk result (string_bytes lines.new ≡ string_bytes lines.old ++ walk_json walk) }
+{
+    match walk {
+        None => put_text(lines, ",\"walk\":null"),
+        Some(seconds) => put_number(lines, ",\"walk\":", u64::from(seconds)),
+    }
+}
+
+fn append_journeys<C: Told>(
+    lines: &mut String,
+    alloc: Global,
+    criterion: &C,
+    departures: &[Departure<C::V>],
+) -> Result<(), AllocError>
+    ensures { OnOk result (string_bytes lines.new ≡ string_bytes lines.old
+        ++ with_commas (map (journey_json C.told) departures.now)) }
+{
+    for place in 0..departures.len() {
+        put_comma(lines, place)?;
+        append_journey(lines, alloc, criterion, &departures[place])?;
+    }
+    Ok(())
+}
+
+fn append_points<C: Told>(
+    lines: &mut String,
+    criterion: &C,
+    points: &[Point<C::V>],
+) -> Result<(), AllocError>
+    ensures { OnOk result (string_bytes lines.new ≡ string_bytes lines.old
+        ++ with_commas (map (point_json C.told) points.now)) }
+{
+    for place in 0..points.len() {
+        put_comma(lines, place)?;
+        append_point(lines, criterion, &points[place])?;
+    }
+    Ok(())
+}
+
+// Adds a comma before each but the first.
+fn put_comma(lines: &mut String, place: usize) -> Result<(), AllocError>
+    ensures { OnOk result (string_bytes lines.new ≡ string_bytes lines.old ++ comma_before place) }
+{
+    if place == 0 {
+        return Ok(());
+    }
+    put_text(lines, ",")
+}
+
+fn append_journey<C: Told>(
+    lines: &mut String,
+    alloc: Global,
+    criterion: &C,
+    departure: &Departure<C::V>,
+) -> Result<(), AllocError>
+    ensures { OnOk result (string_bytes lines.new ≡ string_bytes lines.old ++ journey_json C.told departure.now) }
+{
+    let told = criterion.tell(&departure.value);
+    let journey = journey_string(alloc, &departure.journey)?;
+    append_times(lines, departure.time, told.arrival)?;
+    append_member(lines, journey.as_str())?;
+    append_counts(lines, told)?;
+    Ok(())
+}
+
+// A journey's text has nothing that JSON escapes.
+fn append_member(lines: &mut String, journey: &str) -> Result<(), AllocError>
+    ensures { OnOk result (string_bytes lines.new ≡ string_bytes lines.old ++ journey_member journey.now) }
+{
+    put_text(lines, ",\"journey\":\"")?;
+    put_text(lines, journey)?;
+    put_text(lines, "\"")?;
+    Ok(())
+}
+
+fn append_point<C: Told>(
+    lines: &mut String,
+    criterion: &C,
+    point: &Point<C::V>,
+) -> Result<(), AllocError>
+    ensures { OnOk result (string_bytes lines.new ≡ string_bytes lines.old ++ point_json C.told point.now) }
+{
+    let told = criterion.tell(&point.value);
+    append_times(lines, point.departure, told.arrival)?;
+    append_counts(lines, told)?;
+    Ok(())
+}
+
+fn append_times(lines: &mut String, departure: u32, arrival: u32) -> Result<(), AllocError>
+    ensures { OnOk result (string_bytes lines.new ≡ string_bytes lines.old ++ times_json departure arrival) }
+{
+    put_clock(lines, "{\"arr\":\"", arrival)?;
+    put_clock(lines, "\",\"dep\":\"", departure)?;
+    put_text(lines, "\"")?;
+    Ok(())
+}
+
+fn append_counts(lines: &mut String, told: ToldValue) -> Result<(), AllocError>
+    ensures { OnOk result (string_bytes lines.new ≡ string_bytes lines.old ++ counts_json told) }
+{
+    append_number(lines, ",\"trips\":", told.trips)?;
+    append_number(lines, ",\"walked\":", told.walked)?;
+    put_text(lines, "}")?;
+    Ok(())
+}
+
+/// Adds the last line.
+pub fn append_json_counts(
+    lines: &mut String,
+    stops: usize,
+    points: usize,
+    read: usize,
+) -> Result<(), AllocError>
+    ensures { OnOk result (string_bytes lines.new ≡ string_bytes lines.old ++ counts_json_line stops points read) }
+{
+    put_number(lines, "{\"points\":", points as u64)?;
+    put_number(lines, ",\"read\":", read as u64)?;
+    put_number(lines, ",\"stops\":", stops as u64)?;
+    put_text(lines, "}\n")?;
+    Ok(())
+}

@@ -1,0 +1,153 @@
+//! The words of a stop's best departures, as `csa departures` prints them.
+
+ghost use Rattle.std.specs.Prelude.{◌≡◌, ◌<◌, ◌++◌, OnOk, length, map, string_bytes};
+ghost use Rattle.std.specs.List.{flat_map};
+ghost use Rattle.departure_lines.specs.Lines.{AddsSummary, IsLeast, counts_line, line_from, point_line, sum_words};
+ghost use Rattle.departure_lines.specs.Lines.{travel};
+
+use crate::listing::{append_by_numbers, append_direct, append_values};
+use bags::Point;
+use criteria::Told;
+use journeys::Departure;
+use std::alloc::{AllocError, Global};
+use text_pieces::{put_clock, put_number, put_text};
+
+/// Adds the line of each departure from the stop of a name, with its journey.
+pub fn append_lines<C: Told>(
+    lines: &mut String,
+    alloc: Global,
+    criterion: &C,
+    name: &str,
+    departures: &[Departure<C::V>],
+) -> Result<(), AllocError>
+    ensures { OnOk result (string_bytes lines.new ≡ string_bytes lines.old
+        ++ flat_map (line_from C.told name.now) departures.now) }
+{
+    for departure in departures {
+        append_line(lines, alloc, criterion, name, departure)?;
+    }
+    Ok(())
+}
+
+fn append_line<C: Told>(
+    lines: &mut String,
+    alloc: Global,
+    criterion: &C,
+    name: &str,
+    departure: &Departure<C::V>,
+) -> Result<(), AllocError>
+    ensures { OnOk result (string_bytes lines.new ≡ string_bytes lines.old
+        ++ line_from C.told name.now departure.now) }
+{
+    put_text(lines, name)?;
+    put_text(lines, " ")?;
+    append_by_numbers(lines, alloc, criterion, departure)?;
+    Ok(())
+}
+
+/// Adds the line of each departure, without a journey.
+pub fn append_points<C: Told>(
+    lines: &mut String,
+    criterion: &C,
+    name: &str,
+    points: &[Point<C::V>],
+) -> Result<(), AllocError>
+    ensures { OnOk result (string_bytes lines.new ≡ string_bytes lines.old
+        ++ flat_map (point_line C.told name.now) points.now) }
+{
+    for point in points {
+        append_point_line(lines, criterion, name, point)?;
+    }
+    Ok(())
+}
+
+fn append_point_line<C: Told>(
+    lines: &mut String,
+    criterion: &C,
+    name: &str,
+    point: &Point<C::V>,
+) -> Result<(), AllocError>
+    ensures { OnOk result (string_bytes lines.new ≡ string_bytes lines.old
+        ++ point_line C.told name.now point.now) }
+{
+    put_text(lines, name)?;
+    put_text(lines, " ")?;
+    append_values(lines, point.departure, criterion.tell(&point.value))?;
+    put_text(lines, "\n")?;
+    Ok(())
+}
+
+/// Adds one line for all departures, if there are some.
+pub fn append_summary<C: Told>(
+    lines: &mut String,
+    criterion: &C,
+    name: &str,
+    points: &[Point<C::V>],
+    walk: Option<u32>,
+) -> Result<(), AllocError>
+    ensures { OnOk result (AddsSummary C.told name.now points.now walk (string_bytes lines.old)
+        (string_bytes lines.new)) }
+{
+    if points.len() == 0 {
+        return Ok(());
+    }
+    let least = least_travel(criterion, points);
+    let first = points[0].departure;
+    let last = points[points.len() - 1].departure;
+    append_sum_words(lines, name, points.len(), first, last)?;
+    put_number(lines, " least ", u64::from(least))?;
+    append_direct(lines, walk)?;
+    put_text(lines, "\n")?;
+    Ok(())
+}
+
+fn append_sum_words(
+    lines: &mut String,
+    name: &str,
+    count: usize,
+    first: u32,
+    last: u32,
+) -> Result<(), AllocError>
+    ensures { OnOk result (string_bytes lines.new ≡ string_bytes lines.old ++ sum_words name.now count first last) }
+{
+    put_text(lines, name)?;
+    put_number(lines, " points ", count as u64)?;
+    put_clock(lines, " first ", first)?;
+    put_clock(lines, " last ", last)?;
+    Ok(())
+}
+
+// The least seconds from a departure to its arrival.
+fn least_travel<C: Told>(criterion: &C, points: &[Point<C::V>]) -> u32
+    requires { 0 < length points.now }
+    ensures { IsLeast (map (travel C.told) points.now) result }
+{
+    let mut least = seconds_of(criterion, &points[0]);
+    for point in points {
+        least = least.min(seconds_of(criterion, point));
+    }
+    least
+}
+
+fn seconds_of<C: Told>(criterion: &C, point: &Point<C::V>) -> u32
+    ensures { result ≡ travel C.told point.now }
+{
+    let told = criterion.tell(&point.value);
+    told.arrival.saturating_sub(point.departure)
+}
+
+/// Adds the last line.
+pub fn append_counts(
+    lines: &mut String,
+    stops: usize,
+    points: usize,
+    read: usize,
+) -> Result<(), AllocError>
+    ensures { OnOk result (string_bytes lines.new ≡ string_bytes lines.old ++ counts_line stops points read) }
+{
+    put_number(lines, "stops ", stops as u64)?;
+    put_number(lines, " points ", points as u64)?;
+    put_number(lines, " read ", read as u64)?;
+    put_text(lines, "\n")?;
+    Ok(())
+}

@@ -1,0 +1,67 @@
+//! The text of the best departures from all stops.
+
+ghost use Rattle.std.specs.Prelude.{◌≡◌, ◌++◌, IfOk, OnOk, string_bytes};
+ghost use Rattle.profile_scan.specs.Destinations.{CanBeAsked};
+ghost use Rattle.departure_lines.specs.Showing.{AreShown, last_line};
+
+use crate::form::LineForm;
+use crate::stop_json::append_json_counts;
+use crate::stop_lines::{Counts, Shown, append_stops};
+use crate::stop_lists::Wanted;
+use crate::stop_words::append_counts;
+use criteria::Told;
+use image_verifier::Verified;
+use journeys::window_len;
+use profile_scan::{Destination, InPlace, profiles_to};
+use std::alloc::{AllocError, Global};
+
+/// The text of the best departures from each stop that is wanted, but for the target, in order, in a form; then how
+/// many stops have departures, how many these are, and how many connections were read.
+///
+/// All stops are answered by one scan, over the image where it is. The only error is that memory runs out.
+pub fn departures_text<C: Told>(
+    alloc: Global,
+    image: &Verified,
+    criterion: &C,
+    destination: &Destination,
+    form: LineForm,
+    wanted: &Wanted,
+) -> Result<String, AllocError>
+    requires { CanBeAsked image.now.timetable.stops destination.now }
+    ensures { IfOk result (λ text. AreShown C.told (C.rules criterion.now) form image.now destination.now wanted.now
+        (string_bytes text)) }
+{
+    let mut source = InPlace::new(image);
+    let read = window_len(&source, &destination.query_from(destination.target));
+    let profiles = profiles_to(alloc, &mut source, criterion, destination)?;
+    let shown = Shown {
+        alloc,
+        image,
+        criterion,
+        profiles: &profiles,
+    };
+    let mut lines = String::new(alloc);
+    let counts = append_stops(&mut lines, &shown, form, wanted)?;
+    append_last(&mut lines, form, counts, read)?;
+    Ok(lines)
+}
+
+// Adds the last line.
+fn append_last(
+    lines: &mut String,
+    form: LineForm,
+    counts: Counts,
+    read: usize,
+) -> Result<(), AllocError>
+    ensures { OnOk result (string_bytes lines.new ≡ string_bytes lines.old
+        ++ last_line form counts.stops counts.points read) }
+{
+    match form {
+        LineForm::Json | LineForm::JsonPoints => {
+            append_json_counts(lines, counts.stops, counts.points, read)
+        }
+        LineForm::Journeys | LineForm::Points | LineForm::Summary => {
+            append_counts(lines, counts.stops, counts.points, read)
+        }
+    }
+}
