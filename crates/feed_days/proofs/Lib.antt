@@ -1,2 +1,6 @@
-pub mod Order
-pub mod Spans
+mod Counted
+mod Joined
+mod Listed
+mod Order
+mod Rows
+mod Spans

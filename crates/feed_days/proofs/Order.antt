@@ -1,5 +1,5 @@
 -- Civil days in order, and their places in the calendar.
-use Rattle.std.proofs.Common.{◌≡◌, ◌≤◌, ◌<◌, ◌+◌, ◌-◌, ◌⊎◌, inl, inr, if◌then◌else◌, ℕ, ℤ, pos, ◌+ℤ◌, ◌<ℤ◌, Bool, true, false, refl, sym, ap, ◌∙◌, subst, arith}
+use Rattle.std.proofs.Common.{◌≡◌, ◌≤◌, ◌<◌, ◌+◌, ◌-◌, ◌⊎◌, inl, inr, ◌==◌, ◌&&◌, if◌then◌else◌, ℕ, ℤ, pos, ◌+ℤ◌, ◌<ℤ◌, Bool, true, false, refl, sym, ap, ◌∙◌, subst, arith}
 use Rattle.std.proofs.lemmas.Bool.{cases_Bool, cases_order, false≢true}
 use Rattle.std.proofs.lemmas.Bool.Decides.{nat_tests}
 use Rattle.jiff_core.specs.Calendar.{day_count, days_from_civil, days_in_month, IsCivilDate}
@@ -8,6 +8,7 @@ use Rattle.jiff_core.proofs.CalendarLemmas.{day_count-day, day_count-last_of_yea
 use Rattle.jiff_core.proofs.CalendarLemmas.{day_count_bounds, days_from_civil-day_count, days_in_month_bounds}
 use Rattle.gtfs_rows.specs.Values.{is_civil}
 use Rattle.gtfs_rows.specs.declared.values.Day.{Day}
+use Rattle.service_days.proofs.DayLemmas.{counted_on}
 use Rattle.service_days.specs.Days.{day_after}
 use Rattle.service_days.specs.Services.{is_not_after}
 use Rattle.feed_days.specs.Service.{day_place}
@@ -235,3 +236,37 @@ before_year d e first january year month day =
     let is : day_place d ≡ day_count (pos d.year) 1 1 =
     ap (λ (m : ℕ). day_count (pos d.year) m d.day) january ∙ ap (λ (n : ℕ). day_count (pos d.year) 1 n) first in
     omega (arith, same, end, next, is)
+
+-- a day with the parts of another is the other, and one with others isn't
+pub same_by_parts : (a b : Day) → true ≡ ((a.year == b.year) && ((a.month == b.month) && (a.day == b.day))) → a ≡ b
+same_by_parts a b e = same_parts a b (grind (arith, nat_tests)) (grind (arith, nat_tests)) (grind (arith, nat_tests))
+
+tested_itself : (a : Day) → ((a.year == a.year) && ((a.month == a.month) && (a.day == a.day))) ≡ true
+tested_itself a = grind (arith, nat_tests)
+
+pub other_by_parts : (a b : Day) → false ≡ ((a.year == b.year) && ((a.month == b.month) && (a.day == b.day))) → a ≡ b → ⊥
+other_by_parts a b e same =
+    false≢true (e ∙ ap (λ (x : Day). (a.year == x.year) && ((a.month == x.month) && (a.day == x.day))) (sym same) ∙ tested_itself a)
+
+pub before_last : (d : Day) → is_civil d ≡ true → day_place d ≤ day_place last_day
+before_last d civil = place_by_not_after d last_day civil refl (last_is_most d civil)
+
+pub after_first : (d : Day) → is_civil d ≡ true → day_place first_day ≤ day_place d
+after_first d civil = place_by_not_after first_day d refl civil (first_is_least d civil)
+
+-- the place after that of a civil day
+pub next_place : (d : Day) → is_civil d ≡ true → day_place (day_after d) ≡ day_place d + 1
+next_place d civil = place_of_number d (day_after d) (counted_on d civil)
+
+-- a day that has another after it has a civil one after it
+pub civil_before : (d e : Day) → is_civil d ≡ true → is_civil e ≡ true → day_place d < day_place e → is_civil (day_after d) ≡ true
+civil_before d e civil other lt =
+    civil_after d civil (λ last. let most = before_last e other in let same = ap day_place last in omega (arith, lt, most, same))
+
+pub place_bound : (d : Day) → is_civil d ≡ true → day_place d ≤ 7_304_849
+place_bound d civil = (day_count_bounds (pos d.year) d.month d.day (civil_date_of d (in_month d civil))).1
+
+pub first_by_parts : (d : Day) → is_civil d ≡ true → d.day ≤ 1 → d.month ≤ 1 → d.year ≤ 1 → d ≡ first_day
+first_by_parts d civil day month year =
+    let is = in_month d civil in
+    same_parts d first_day (omega (arith, is.year_from, year)) (omega (arith, is.month_from, month)) (omega (arith, is.day_from, day))

@@ -151,7 +151,7 @@ to_before test day before of civil none more to = record {
 }
 
 -- a test that holds of no day
-none_if : (test : Day → Bool) → ((d : Day) → test d ≡ true → ⊥) → HoldsOfNone test
+pub none_if : (test : Day → Bool) → ((d : Day) → test d ≡ true → ⊥) → HoldsOfNone test
 none_if test never d =
     elim (cases_Bool (test d)) [
       | inl is ↦ absurd (never d is)

@@ -78,7 +78,7 @@ fn month_end(year: u16, month: u8) -> Day
     requires month { IsInRange 1 12 month }
     ensures year { result.year ≡ year }
     ensures month { result.month ≡ month }
-    ensures day { result.day ≡ days_in_month (pos year) month }
+    ensures day { result.day ≡ days_in_month (pos result.year) result.month }
 {
     Day {
         year,

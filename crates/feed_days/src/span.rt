@@ -1,11 +1,11 @@
 //! The first and the last day on which a feed has service.
 
-ghost use Rattle.std.specs.Prelude.{◌≡◌, ◌≤◌, ◌||◌, Bool, false, true, IfSome, IfNone};
+ghost use Rattle.std.specs.Prelude.{◌≡◌, ◌&&◌, ◌||◌, Bool, false, true, IfSome, IfNone};
 ghost use Rattle.std.specs.List.{list_any};
 ghost use Rattle.gtfs_rows.specs.Values.{is_civil};
 ghost use Rattle.gtfs_rows.specs.declared.values.Day.{Day as CivilDay};
-ghost use Rattle.service_days.specs.Services.{is_not_after};
-ghost use Rattle.feed_days.specs.Service.{HoldsOfNone, IsFirst, IsLast, SpansDays, day_place, give_once, give_weekly};
+ghost use Rattle.service_days.specs.Services.{is_added, is_not_after};
+ghost use Rattle.feed_days.specs.Service.{HoldsOfNone, IsFirst, IsLast, SpansDays, give_once, give_weekly};
 ghost use Rattle.feed_days.specs.Service.{gives_once, gives_weekly, has_service};
 
 use crate::dates::{FIRST, LAST, civil_date, day_before, next_day, not_after};
@@ -70,13 +70,20 @@ fn joined(one: Option<Span>, other: Option<Span>) -> Option<Span>
 fn added_day(row: &CalendarDateRow) -> Option<Span>
     ensures { SpansDays (gives_once row.now) result }
 {
-    if civil_date(row.day).is_none() || !matches!(row.exception, Exception::Added) {
+    if !adds_day(row) {
         return None;
     }
     Some(Span {
         first: row.day,
         last: row.day,
     })
+}
+
+// Whether a row adds a civil day.
+fn adds_day(row: &CalendarDateRow) -> bool
+    ensures { result ≡ (is_civil row.now.day && is_added row.now.exception) }
+{
+    civil_date(row.day).is_some() && matches!(row.exception, Exception::Added)
 }
 
 // The first and the last day on which a row gives service.
