@@ -11,7 +11,7 @@ pub counted_more : (p : Trip → Bool) (trips : List Trip) (i : ℕ) (trip : Tri
 counted_more p trips i trip count more new was lt is one now =
     elim (cases_Bool (p trip)) [
       | inl runs ↦ (let step = count_by_more_yes p trips i trip lt (sym (ap p is) ∙ runs) in
-        let single : more ≡ 1 = one ∙ ap (λ (b : Bool). if b then 1 else 0) runs in omega (arith, was, now, step, single))
+          let single : more ≡ 1 = one ∙ ap (λ (b : Bool). if b then 1 else 0) runs in omega (arith, was, now, step, single))
       | inr rests ↦ (let step = count_by_more_no p trips i trip lt (sym (ap p is) ∙ rests) in
-        let none : more ≡ 0 = one ∙ ap (λ (b : Bool). if b then 1 else 0) rests in omega (arith, was, now, step, none))
+          let none : more ≡ 0 = one ∙ ap (λ (b : Bool). if b then 1 else 0) rests in omega (arith, was, now, step, none))
     ]

@@ -13,4 +13,3 @@ three o p q s a b c one two last = last ∙ ap (λ x. x ++ c) (two ∙ ap (λ x.
 pub four : (o p q r s a b c d : List ℕ) → p ≡ o ++ a → q ≡ p ++ b → r ≡ q ++ c → s ≡ r ++ d → s ≡ o ++ (((a ++ b) ++ c) ++ d)
 four o p q r s a b c d one two more last =
     last ∙ ap (λ x. x ++ d) (more ∙ ap (λ x. x ++ c) (two ∙ ap (λ x. x ++ b) one)) ∙ by_four o a b c d
-

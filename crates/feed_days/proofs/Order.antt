@@ -1,5 +1,5 @@
 -- Civil days in order, and their places in the calendar.
-use Rattle.std.proofs.Common.{◌≡◌, ◌≤◌, ◌<◌, ◌+◌, ◌-◌, ◌⊎◌, inl, inr, ◌==◌, ◌&&◌, if◌then◌else◌, ℕ, ℤ, pos, ◌+ℤ◌, ◌<ℤ◌, Bool, true, false, refl, sym, ap, ◌∙◌, subst, arith}
+use Rattle.std.proofs.Common.{◌≡◌, ◌≤◌, ◌<◌, ◌+◌, ◌⊎◌, inl, inr, ◌==◌, ◌&&◌, if◌then◌else◌, ℕ, pos, ◌+ℤ◌, true, false, refl, sym, ap, ◌∙◌, arith}
 use Rattle.std.proofs.lemmas.Bool.{cases_Bool, cases_order, false≢true}
 use Rattle.std.proofs.lemmas.Bool.Decides.{nat_tests}
 use Rattle.jiff_core.specs.Calendar.{day_count, days_from_civil, days_in_month, IsCivilDate}
@@ -63,7 +63,7 @@ not_after_turned a b late = grind (arith, nat_tests)
 pub not_after_joined : (a b c : Day) → is_not_after a b ≡ true → is_not_after b c ≡ true → is_not_after a c ≡ true
 not_after_joined a b c one other = grind (arith, nat_tests)
 
-same_parts : (a b : Day) → a.year ≡ b.year → a.month ≡ b.month → a.day ≡ b.day → a ≡ b
+pub same_parts : (a b : Day) → a.year ≡ b.year → a.month ≡ b.month → a.day ≡ b.day → a ≡ b
 same_parts a b year month day = λ i. record { year = year i; month = month i; day = day i }
 
 -- days that come one before the other have places so
@@ -72,10 +72,10 @@ place_lt a b in_a in_b before =
     elim before.by [
       | inl year ↦ day_count-lt_year (pos a.year) a.month a.day (pos b.year) b.month b.day (civil_date_of a in_a) in_b.day_from (omega (arith, signed_arith))
       | inr (year, inl month) ↦ (let same : day_count (pos a.year) b.month b.day ≡ day_place b = ap (λ (y : ℕ). day_count (pos y) b.month b.day) year in
-        let less = day_count-lt_month (pos a.year) a.month a.day b.month b.day (civil_date_of a in_a) in_b.day_from month in omega (arith, same, less))
+          let less = day_count-lt_month (pos a.year) a.month a.day b.month b.day (civil_date_of a in_a) in_b.day_from month in omega (arith, same, less))
       | inr (year, inr (month, day)) ↦ (let same : day_count (pos a.year) a.month b.day ≡ day_place b =
-        ap (λ (y : ℕ). day_count (pos y) a.month b.day) year ∙ ap (λ (m : ℕ). day_count (pos b.year) m b.day) month in
-        let e = day_count-day (pos a.year) a.month a.day b.day in_a.day_from in_b.day_from in omega (arith, same, e, day))
+          ap (λ (y : ℕ). day_count (pos y) a.month b.day) year ∙ ap (λ (m : ℕ). day_count (pos b.year) m b.day) month in
+          let e = day_count-day (pos a.year) a.month a.day b.day in_a.day_from in_b.day_from in omega (arith, same, e, day))
     ]
 
 pub not_after_by_place : (a b : Day) → is_civil a ≡ true → is_civil b ≡ true → day_place a ≤ day_place b → is_not_after a b ≡ true
@@ -101,7 +101,7 @@ place_by_not_after a b one other is =
     elim (cases_Bool (is_not_after b a)) [
       | inr late ↦ (let lt = place_lt a b (in_month a one) (in_month b other) (before_of a b late) in omega (arith, lt))
       | inl back ↦ (let same = same_parts a b (grind (arith, nat_tests)) (grind (arith, nat_tests)) (grind (arith, nat_tests)) in
-        let e = ap day_place same in omega (arith, e))
+          let e = ap day_place same in omega (arith, e))
     ]
 
 -- no civil day is before the first of the calendar or after its last
@@ -270,3 +270,11 @@ pub first_by_parts : (d : Day) → is_civil d ≡ true → d.day ≤ 1 → d.mon
 first_by_parts d civil day month year =
     let is = in_month d civil in
     same_parts d first_day (omega (arith, is.year_from, year)) (omega (arith, is.month_from, month)) (omega (arith, is.day_from, day))
+
+pub place_below : (a b : Day) → is_civil a ≡ true → is_civil b ≡ true → day_place a ≤ day_place b → (a ≡ b → ⊥) → day_place a < day_place b
+place_below a b one other le differ =
+    elim (cases_order (day_place a) (day_place b)) [
+      | inr (inl lt) ↦ lt
+      | inl same ↦ absurd (differ (same_place a b one other same))
+      | inr (inr gt) ↦ absurd (omega (arith, le, gt))
+    ]

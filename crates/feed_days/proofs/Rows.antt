@@ -1,5 +1,5 @@
 -- The days on which a row gives service.
-use Rattle.std.proofs.Common.{◌≡◌, ◌≤◌, ◌<◌, ◌&&◌, ◌||◌, ◌+◌, ℕ, List, length, get_or, take, Bool, true, false, refl, sym, ap, ◌∙◌, subst, inl, inr, arith}
+use Rattle.std.proofs.Common.{◌≡◌, ◌<◌, ◌&&◌, ◌||◌, ◌+◌, ℕ, List, [], ◌∷◌, length, get_or, take, Bool, true, false, refl, sym, ap, ◌∙◌, inl, inr, arith}
 use Rattle.std.specs.List.{list_any}
 use Rattle.std.specs.Prelude.{Option}
 use Rattle.std.proofs.lemmas.Bool.{and_parts, cases_Bool, cases_lt, false≢true}
@@ -10,11 +10,12 @@ use Rattle.gtfs_rows.specs.Values.{is_civil}
 use Rattle.gtfs_rows.specs.declared.rows.CalendarDateRow.{CalendarDateRow}
 use Rattle.gtfs_rows.specs.declared.rows.CalendarRow.{CalendarRow}
 use Rattle.gtfs_rows.specs.declared.values.Day.{Day}
-use Rattle.service_days.specs.Services.{is_added, is_not_after, is_same_day, weekday_on}
-use Rattle.feed_days.specs.Service.{HoldsOfNone, IsSpan, SpansDays, give_once, give_weekly, gives_once, gives_weekly}
+use Rattle.gtfs_tables.specs.declared.tables.Feed.{Feed}
+use Rattle.service_days.specs.Services.{adds, exception_of, is_added, is_not_after, is_same_day, weekday_on}
+use Rattle.feed_days.specs.Service.{HoldsOfNone, IsSpan, SpansDays, give_once, give_weekly, gives_once, gives_weekly, has_service}
 use Rattle.feed_days.specs.declared.span.Span.{Span}
 use Rattle.feed_days.proofs.Order.{after_first, before_last, first_day, last_day, not_after_itself, place_by_not_after, same_parts}
-use Rattle.feed_days.proofs.Spans.{HoldsFrom, HoldsTo, IsOfCivil, none_if, span_same}
+use Rattle.feed_days.proofs.Spans.{HoldsFrom, HoldsTo, IsOfCivil, either, none_if, span_same}
 
 both : (a b : Bool) → a ≡ true → b ≡ true → (a && b) ≡ true
 both true b one other = other
@@ -118,3 +119,21 @@ once_more rows i row found lt is =
     span_same (λ d. give_once (take i rows) d || gives_once row d) (give_once (take (i + 1) rows))
     (λ d. ap (λ (r : CalendarDateRow). give_once (take i rows) d || gives_once r d) is
     ∙ sym (list_any_more (λ (r : CalendarDateRow). gives_once r d) rows i row lt)) found
+
+-- a day on which some row gives service is civil
+some_row : {X : Type 0} (test : X → Bool) (civil : Bool) → ((row : X) → test row ≡ true → civil ≡ true) → (rows : List X) → list_any test rows ≡ true
+    → civil ≡ true
+some_row test civil each [] is = absurd (false≢true is)
+some_row test civil each (row ∷ rows) is =
+    elim (either (test row) (list_any test rows) is) [
+      | inl here ↦ each row here
+      | inr further ↦ some_row test civil each rows further
+    ]
+
+pub service_civil : (feed : Feed) (d : Day) → has_service feed d ≡ true → is_civil d ≡ true
+service_civil feed d is =
+    elim (either (give_weekly feed.calendar.items d) (give_once feed.calendar_dates.items d) is) [
+      | inl weekly ↦ some_row (λ (row : CalendarRow). gives_weekly row d) (is_civil d) (λ row holds. (of_row row d holds).civil) feed.calendar.items weekly
+      | inr once ↦ some_row (λ (row : CalendarDateRow). gives_once row d) (is_civil d)
+          (λ row holds. (and_parts (is_civil d) (adds d (exception_of row)) holds).0) feed.calendar_dates.items once
+    ]

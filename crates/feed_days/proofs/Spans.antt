@@ -1,6 +1,6 @@
 -- The days of which a test holds, and the first and the last of them.
-use Rattle.std.proofs.Common.{◌≡◌, ◌≤◌, ◌<◌, ◌+◌, ◌⊎◌, ◌||◌, inl, inr, ℕ, Bool, true, false, refl, sym, ap, ◌∙◌, subst, arith}
-use Rattle.std.specs.Prelude.{Option, Some, None}
+use Rattle.std.proofs.Common.{◌≡◌, ◌≤◌, ◌+◌, ◌⊎◌, ◌||◌, inl, inr, Bool, true, false, refl, sym, ap, ◌∙◌, arith}
+use Rattle.std.specs.Prelude.{IfNone, Option, Some, None}
 use Rattle.std.proofs.lemmas.Bool.{cases_Bool, cases_order, false≢true}
 use Rattle.gtfs_rows.specs.Values.{is_civil}
 use Rattle.gtfs_rows.specs.declared.values.Day.{Day}
@@ -35,7 +35,7 @@ right_holds : (a b : Bool) → b ≡ true → (a || b) ≡ true
 right_holds true b is = refl
 right_holds false b is = is
 
-either : (a b : Bool) → (a || b) ≡ true → (a ≡ true) ⊎ (b ≡ true)
+pub either : (a b : Bool) → (a || b) ≡ true → (a ≡ true) ⊎ (b ≡ true)
 either true b is = inl refl
 either false b is = inr is
 
@@ -181,3 +181,8 @@ pub none_to_start : (test : Day → Bool) (day start : Day) → IsOfCivil test �
 none_to_start test day start of civil to past within =
     none_if test (λ d is. false≢true (sym past
     ∙ not_after_joined start d day (within d is) (not_after_by_place d day (of.civil d is) civil (to.to d is))))
+
+-- what holds is so where there is no value
+pub if_none : {X : Type 0} (found : Option X) (P : Type 0) → P → IfNone found P
+if_none None P is = is
+if_none (Some x) P is = tt

@@ -1,5 +1,5 @@
 -- On which days a feed's rows give service, and how many of its trips run on a day.
-use Rattle.std.specs.Prelude.{◌≡◌, ◌&&◌, ◌||◌, ◌==◌, ℕ, List, Bool, true, false, pos, Option, MatchOption}
+use Rattle.std.specs.Prelude.{◌≡◌, ◌&&◌, ◌||◌, ℕ, List, Bool, true, false, pos, Option, MatchOption}
 use Rattle.std.specs.List.{count_by, list_any}
 use Rattle.jiff_core.specs.Calendar.{day_count}
 use Rattle.gtfs_rows.specs.Values.{is_civil}

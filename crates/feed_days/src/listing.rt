@@ -31,12 +31,7 @@ pub fn days_text(alloc: Global, feed: &Feed) -> Result<String, AllocError>
 }
 
 // Adds the lines of a feed that has service from the one day to the other.
-fn append_span(
-    lines: &mut String,
-    alloc: Global,
-    feed: &Feed,
-    span: Span,
-) -> Result<(), AllocError>
+fn append_span(lines: &mut String, alloc: Global, feed: &Feed, span: Span) -> Result<(), AllocError>
     requires first { is_civil span.first ≡ true }
     requires last { is_civil span.last ≡ true }
     requires in_order { is_not_after span.first span.last ≡ true }

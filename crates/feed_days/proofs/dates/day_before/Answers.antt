@@ -1,7 +1,7 @@
 use Rattle.std.proofs.Common.{◌≡◌, ◌≤◌, ◌<◌, ◌+◌, ◌-◌, arith, refl, subst, sym}
 use Rattle.gtfs_rows.specs.declared.values.Day.{Day}
 use Rattle.feed_days.specs.Service.{day_place}
-use Rattle.feed_days.proofs.Order.{after_first, before_in_month, before_month, before_year, civil_end, first_by_parts, first_day, in_month}
+use Rattle.feed_days.proofs.Order.{after_first, before_in_month, before_month, before_year, civil_end, first_by_parts, in_month}
 use Rattle.feed_days.proofs.dates.day_before.Goals as goal
 
 pub returns-then-day-gt1-clause-some : goal.returns-then-day-gt1-clause-some

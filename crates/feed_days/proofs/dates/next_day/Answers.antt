@@ -1,7 +1,5 @@
 use Rattle.std.proofs.Common.{◌≤◌, subst, sym}
 use Rattle.gtfs_rows.specs.declared.values.Day.{Day}
-use Rattle.service_days.specs.Days.{day_after}
-use Rattle.gtfs_rows.specs.Values.{is_civil}
 use Rattle.feed_days.specs.Service.{day_place}
 use Rattle.feed_days.proofs.Order.{before_last, civil_after, last_day, next_place, other_by_parts, same_by_parts}
 use Rattle.feed_days.proofs.dates.next_day.Goals as goal
@@ -12,6 +10,6 @@ returns-then-eq-clause-none c other civil =
 
 pub returns-clause-some : goal.returns-clause-some
 returns-clause-some c = rw c.day_after.ensures (
-      civil_after c.args.day c.requires (other_by_parts c.args.day last_day c.if-eq.ensures),
-      next_place c.args.day c.requires,
-    )
+  civil_after c.args.day c.requires (other_by_parts c.args.day last_day c.if-eq.ensures),
+  next_place c.args.day c.requires,
+)

@@ -1,4 +1,4 @@
-use Rattle.std.proofs.Common.{◌∙◌, sym}
+use Rattle.std.proofs.Common.{sym}
 use Rattle.feed_days.proofs.Rows.{once_none, once_span}
 use Rattle.feed_days.proofs.span.added_day.Goals as goal
 

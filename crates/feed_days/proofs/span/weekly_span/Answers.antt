@@ -7,8 +7,8 @@ use Rattle.feed_days.proofs.span.weekly_span.Goals as goal
 
 pub loop-row-preserved : goal.loop-row-preserved
 loop-row-preserved c =
-    weekly_more c.args.rows.now c.loop-row.row-index c.row-item.result c.joined.result c.loop-row-test.true c.row-item.is
-    (c.joined.ensures (give_weekly (take c.loop-row.row-index c.args.rows.now)) (gives_weekly c.row-item.result) c.loop-row.invariant c.row_span.ensures)
+    weekly_more c.args.rows.now c.loop-row.row-index c.row-item.result c.joined-span.result c.loop-row-test.true c.row-item.is
+    (c.joined-span.ensures (give_weekly (take c.loop-row.row-index c.args.rows.now)) (gives_weekly c.row-item.result) c.loop-row.invariant c.row_span.ensures)
 
 pub returns : goal.returns
 returns c =
