@@ -4,6 +4,7 @@
 mod asked;
 mod bases;
 mod build;
+mod days;
 mod explaining;
 mod folders;
 mod info;
@@ -82,6 +83,7 @@ fn run_command<
         Ok(Request::Profile(request)) => answer(rt, Asked::Profile(request), input, output, errors),
         Ok(Request::Stops(request)) => answer(rt, Asked::Stops(request), input, output, errors),
         Ok(Request::Tables(folder)) => tables::run(rt, folder, output, errors),
+        Ok(Request::Days(folder)) => days::run(rt, folder, output, errors),
         Ok(Request::Build(request)) => build::run(
             rt,
             request,
