@@ -4,7 +4,8 @@ use Rattle.std.proofs.lemmas.Bool.{cases_Bool, cases_order, false≢true}
 use Rattle.std.proofs.lemmas.Bool.Decides.{nat_tests}
 use Rattle.jiff_core.specs.Calendar.{day_count, days_from_civil, days_in_month, IsCivilDate}
 use Rattle.jiff_core.proofs.SignedLemmas.{signed_arith}
-use Rattle.jiff_core.proofs.CalendarLemmas.{day_count-day, day_count-last_of_year, day_count-lt_month, day_count-lt_year, day_count-next_month, day_count-next_year}
+use Rattle.jiff_core.proofs.CalendarLemmas.{day_count-day, day_count-last_of_year, day_count-lt_month, day_count-lt_year}
+use Rattle.jiff_core.proofs.CalendarLemmas.{day_count-next_month, day_count-next_year}
 use Rattle.jiff_core.proofs.CalendarLemmas.{day_count_bounds, days_from_civil-day_count, days_in_month_bounds}
 use Rattle.gtfs_rows.specs.Values.{is_civil}
 use Rattle.gtfs_rows.specs.declared.values.Day.{Day}

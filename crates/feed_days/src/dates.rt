@@ -29,7 +29,8 @@ pub const LAST: Day = Day {
 
 // The date of a civil day.
 pub fn civil_date(day: Day) -> Option<Date>
-    ensures some { IfSome result (λ date. (is_civil day ≡ true) × IsYmd (pos day.year) (pos day.month) (pos day.day) date) }
+    ensures some { IfSome result (λ date. (is_civil day ≡ true)
+        × IsYmd (pos day.year) (pos day.month) (pos day.day) date) }
     ensures none { IfNone result (is_civil day ≡ false) }
 {
     if day.year == 0 || day.year > 9999 || day.month > 12 || day.day > 31 {
