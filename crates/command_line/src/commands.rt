@@ -249,11 +249,17 @@ const IMAGE_TASKS: [Task; 6] = [
 ];
 
 /// The commands that follow them. There are two lists since one of all is too large a term for a proof.
-const OTHER_TASKS: [Task; 4] = [
+const OTHER_TASKS: [Task; 5] = [
     Task {
         name: "tables",
         about: "Checks the files of a GTFS feed, and prints how many records each has",
         notes: texts::TABLES,
+        arguments: &[&FOLDER],
+    },
+    Task {
+        name: "days",
+        about: "Prints the first and the last service day of a GTFS feed, and how many trips run on each day",
+        notes: texts::DAYS,
         arguments: &[&FOLDER],
     },
     Task {

@@ -154,6 +154,7 @@ fn plain_request<'a>(name: &str, matches: &ArgMatches<'a>) -> Option<Request<'a>
         "departures" => departures_request(matches).map(Request::Departures),
         "stops" => stops_request(matches).map(Request::Stops),
         "tables" => matches.get_str("folder").map(Request::Tables),
+        "days" => matches.get_str("folder").map(Request::Days),
         "upgrade" => upgrade_request(matches).map(Request::Upgrade),
         _ => None,
     }

@@ -33,6 +33,17 @@ pub(crate) const STOPS: &str = "Example: csa stops examples/base.csa";
 
 pub(crate) const TABLES: &str = "Example: csa tables examples/base";
 
+pub(crate) const DAYS: &str = "Each line is a word and a value, with a space between:\n\
+\x20 first           the first day, YYYYMMDD, on which a row of calendar.txt or calendar_dates.txt\n\
+\x20                 gives service, or none\n\
+\x20 last            the last such day, or none\n\
+\x20 trips-YYYYMMDD  trips that run on this day, each counted once, also if frequencies.txt repeats it;\n\
+\x20                 a line for each day from the first on, 366 at most\n\
+\x20 unlisted        the first day that has no such line, YYYYMMDD, if there are more up to the last\n\
+A feed that csa tables refuses is refused.\n\
+\n\
+Example: csa days examples/base";
+
 pub(crate) const UPGRADE: &str = "Example: csa upgrade examples/base.csa base.csa";
 
 pub(crate) const JOURNEY: &str =

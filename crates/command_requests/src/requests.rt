@@ -18,6 +18,8 @@ pub enum Request<'a> {
     Departures(DeparturesRequest<'a>),
     /// To read the tables of a feed's folder.
     Tables(&'a str),
+    /// To print which service days the feed of a folder has.
+    Days(&'a str),
     /// To make the image of a feed's folder.
     Build(BuildRequest<'a>),
     /// To list stops by their names.

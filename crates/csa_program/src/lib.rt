@@ -4,6 +4,7 @@
 mod asked;
 mod bases;
 mod build;
+mod days;
 mod departures;
 mod explaining;
 mod folders;
@@ -87,6 +88,7 @@ fn run_command<
         }
         Ok(Request::Stops(request)) => answer(rt, Asked::Stops(request), input, output, errors),
         Ok(Request::Tables(folder)) => tables::run(rt, folder, output, errors),
+        Ok(Request::Days(folder)) => days::run(rt, folder, output, errors),
         Ok(Request::Build(request)) => build::run(
             rt,
             request,

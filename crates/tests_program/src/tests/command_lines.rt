@@ -32,6 +32,10 @@ run tables
 complains 64
 run tables folder more
 complains 64
+run days
+complains 64
+run days folder more
+complains 64
 run profile -
 complains 64
 run build folder out
@@ -51,6 +55,8 @@ helps
 run profile --help
 helps
 run tables --help
+helps
+run days --help
 helps
 run build --help
 helps

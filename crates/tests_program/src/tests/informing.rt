@@ -1,4 +1,4 @@
-//! `csa info`: what an image has.
+//! `csa info` and `csa days`: what an image has, and which service days a feed has.
 
 use crate::tests::transcript::try_lines;
 use std::test::Fail;
@@ -112,4 +112,79 @@ answers refused 51 OddLength
 #[test]
 fn images_are_described(rt: HostRuntime) -> Result<(), Fail> {
     try_lines(&rt, IMAGES)
+}
+
+const DAYS: &str = "
+# A feed of one day.
+base
+run days base_feed
+prints first 20240115
+prints last 20240115
+prints trips-20240115 2
+ends 0
+
+# A Monday and a Wednesday, of which one is removed, days without trips, and a day that is added.
+with calendar.txt 1 S,1,0,1,0,0,0,0,20240114,20240118
+rows base_feed/calendar_dates.txt service_id,date,exception_type | S,20240119,1 | S,20240117,2
+run days base_feed
+prints first 20240115
+prints last 20240119
+prints trips-20240115 2
+prints trips-20240116 0
+prints trips-20240117 0
+prints trips-20240118 0
+prints trips-20240119 2
+ends 0
+
+# A service of which all days are removed gives service on them; another service has no trips.
+file base_feed/calendar.txt
+has service_id,monday,tuesday,wednesday,thursday,friday,saturday,sunday,start_date,end_date
+has S,1,0,0,0,0,0,0,20240115,20240115
+has T,0,0,0,0,0,0,1,20240101,20240120
+rows base_feed/calendar_dates.txt service_id,date,exception_type | S,20240115,2
+run days base_feed
+prints first 20240107
+prints last 20240115
+prints trips-20240107 0
+prints trips-20240108 0
+prints trips-20240109 0
+prints trips-20240110 0
+prints trips-20240111 0
+prints trips-20240112 0
+prints trips-20240113 0
+prints trips-20240114 0
+prints trips-20240115 0
+ends 0
+
+# The last days of the calendar.
+with calendar.txt 1 S,1,1,1,1,1,1,1,99991230,99991231
+rows base_feed/calendar_dates.txt service_id,date,exception_type
+run days base_feed
+prints first 99991230
+prints last 99991231
+prints trips-99991230 2
+prints trips-99991231 2
+ends 0
+
+# A range without a weekday, or that ends before it starts, and a removed day give no service.
+file base_feed/calendar.txt
+has service_id,monday,tuesday,wednesday,thursday,friday,saturday,sunday,start_date,end_date
+has S,0,0,0,0,0,0,0,20240115,20240117
+has T,1,1,1,1,1,1,1,20240117,20240115
+rows base_feed/calendar_dates.txt service_id,date,exception_type | S,20240117,2
+run days base_feed
+prints first none
+prints last none
+ends 0
+remove base_feed
+
+# A feed that `csa tables` refuses.
+run days no_such_folder
+tells csa: no_such_folder: no such file or folder
+answers refused 1 MissingFile agency.txt 0
+";
+
+#[test]
+fn days_of_feeds_are_listed(rt: HostRuntime) -> Result<(), Fail> {
+    try_lines(&rt, DAYS)
 }

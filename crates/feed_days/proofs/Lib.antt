@@ -1,0 +1,6 @@
+mod Counted
+mod Joined
+mod Listed
+mod Order
+mod Rows
+mod Spans

@@ -1,0 +1,69 @@
+-- Days in turn, and their lines.
+use Rattle.std.proofs.Common.{◌≡◌, ◌≤◌, ◌<◌, ◌+◌, ◌++◌, ◌∷◌, [], ℕ, zero, suc, List, Bool, true, false, refl, sym, ap, ◌∙◌, arith, min}
+use Rattle.std.specs.Prelude.{Some, None, nat_lt, if◌then◌else◌}
+use Rattle.std.specs.List.{flat_map}
+use Rattle.std.proofs.lemmas.Bool.Decides.{nat_tests}
+use Rattle.std.proofs.lemmas.List.{flat_map_more}
+use Rattle.gtfs_rows.specs.declared.values.Day.{Day}
+use Rattle.service_days.specs.Days.{day_after}
+use Rattle.connections.specs.Days.{days_from}
+use Rattle.feed_days.specs.Days.{days_after, days_of, first_unlisted, listed_days}
+use Rattle.feed_days.specs.Service.{day_place}
+use Rattle.feed_days.specs.declared.span.Span.{Span}
+
+after_first : (day : Day) (n : ℕ) → days_after (day_after day) n ≡ day_after (days_after day n)
+unfolding days_after
+after_first day zero = refl
+after_first day (suc n) = ap day_after (after_first day n)
+
+from_more : (day : Day) (n : ℕ) → days_from day (suc n) ≡ days_from day n ++ days_after day n ∷ []
+unfolding days_from days_after
+from_more day zero = refl
+from_more day (suc n) =
+    ap (λ (days : List Day). day ∷ days) (from_more (day_after day) n ∙ ap (λ (d : Day). days_from (day_after day) n ++ d ∷ []) (after_first day n))
+
+pub days_more : (day : Day) (n : ℕ) → days_from day (n + 1) ≡ days_from day n ++ days_after day n ∷ []
+days_more day n = let e : n + 1 ≡ suc n = omega arith in rw e (from_more day n)
+
+pub after_more : (first day : Day) (n : ℕ) → day ≡ days_after first n → day_after day ≡ days_after first (n + 1)
+unfolding days_after
+after_more first day n is = let e : n + 1 ≡ suc n = omega arith in rw e (ap day_after is)
+
+pub none_yet : (first : Day) → days_from first 0 ≡ []
+unfolding days_from
+none_yet first = refl
+
+pub after_none : (first : Day) → first ≡ days_after first 0
+unfolding days_after
+after_none first = refl
+
+-- a line more
+pub line_more : (line : Day → List ℕ) (first day : Day) (n : ℕ) (old before new : List ℕ) → day ≡ days_after first n
+    → before ≡ old ++ flat_map line (days_from first n) → new ≡ before ++ line day → new ≡ old ++ flat_map line (days_from first (n + 1))
+line_more line first day n old before new is was now =
+    now ∙ ap (λ (xs : List ℕ). xs ++ line day) was ∙ flat_map_more line old (days_from first n) day
+    ∙ ap (λ (d : Day). old ++ flat_map line (days_from first n ++ d ∷ [])) is
+    ∙ ap (λ (days : List Day). old ++ flat_map line days) (sym (days_more first n))
+
+-- all days have their lines
+pub all_listed : (span : Span) (n : ℕ) → day_place span.last ≡ day_place span.first + n → n < 366
+    → (listed_days span ≡ days_from span.first (n + 1)) × (first_unlisted span ≡ None)
+unfolding listed_days first_unlisted
+all_listed span n is few =
+    let total : days_of span ≡ n + 1 = omega (arith, is) in
+    let all : min 366 (days_of span) ≡ n + 1 = omega (arith, total, few) in
+    let over : nat_lt 366 (days_of span) ≡ false = grind (arith, nat_tests, total, few) in (
+      ap (days_from span.first) all,
+      ap (λ (b : Bool). if b then Some (days_after span.first 366) else None) over,
+    )
+
+-- or there are more
+pub more_listed : (span : Span) → day_place span.first + 366 ≤ day_place span.last
+    → (listed_days span ≡ days_from span.first 366) × (first_unlisted span ≡ Some (days_after span.first 366))
+unfolding listed_days first_unlisted
+more_listed span many =
+    let all : min 366 (days_of span) ≡ 366 = omega (arith, many) in
+    let over : nat_lt 366 (days_of span) ≡ true = grind (arith, nat_tests, many) in (
+      ap (days_from span.first) all,
+      ap (λ (b : Bool). if b then Some (days_after span.first 366) else None) over,
+    )

@@ -1,0 +1,10 @@
+use Rattle.std.proofs.Common.{string_bytes}
+use Rattle.feed_days.specs.Days.{date_line}
+use Rattle.feed_days.proofs.Joined.{three}
+use Rattle.feed_days.proofs.putting.put_date_line.Goals as goal
+
+pub returns : goal.returns
+unfolding date_line
+returns c =
+    three (string_bytes c.args.lines.now) (string_bytes c.put_text.new.lines) (string_bytes c.put_date.new.lines)
+    (string_bytes c.put_text-2.new.lines) _ _ _ c.in_ok-put_text.ensures c.in_ok-put_date.ensures c.in_ok-put_text-2.ensures

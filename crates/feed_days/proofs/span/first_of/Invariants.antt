@@ -1,0 +1,15 @@
+use Rattle.std.proofs.Common.{◌≡◌, ◌-◌, true}
+use Rattle.gtfs_rows.specs.Values.{is_civil}
+use Rattle.feed_days.specs.Service.{day_place, gives_weekly}
+use Rattle.feed_days.proofs.Spans.{HoldsFrom}
+use Rattle.feed_days.proofs.span.first_of.Given as goal
+
+-- the row gives no service before the day
+abbrev pub invariant-loop-day : goal.invariant-loop-day
+invariant-loop-day l = record {
+  civil : is_civil l.day ≡ true;
+  from : HoldsFrom (gives_weekly l.row) l.day;
+}
+
+abbrev pub decreases-loop-day : goal.decreases-loop-day
+decreases-loop-day l = 7_304_850 - day_place l.day

@@ -1,0 +1,61 @@
+-- On which days a feed's rows give service, and how many of its trips run on a day.
+use Rattle.std.specs.Prelude.{◌≡◌, ◌&&◌, ◌||◌, ℕ, List, Bool, true, false, pos, Option, MatchOption}
+use Rattle.std.specs.List.{count_by, list_any}
+use Rattle.jiff_core.specs.Calendar.{day_count}
+use Rattle.gtfs_rows.specs.Values.{is_civil}
+use Rattle.gtfs_rows.specs.declared.values.Day.{Day}
+use Rattle.gtfs_rows.specs.declared.rows.CalendarRow.{CalendarRow}
+use Rattle.gtfs_rows.specs.declared.rows.CalendarDateRow.{CalendarDateRow}
+use Rattle.gtfs_tables.specs.declared.tables.Feed.{Feed}
+use Rattle.service_days.specs.Services.{adds, exception_of, is_not_after, runs_in, week_of, weekday_on}
+use Rattle.connections.specs.Runs.{runs_on}
+use Rattle.feed_days.specs.declared.span.Span.{Span}
+
+-- a row of calendar.txt gives service on a civil day: one of its weekdays, from its first day to its last
+abbrev pub gives_weekly : CalendarRow → Day → Bool
+gives_weekly row day = is_civil day && runs_in (weekday_on day) day (week_of row)
+
+-- a row of calendar_dates.txt gives service on the civil day that it adds
+abbrev pub gives_once : CalendarDateRow → Day → Bool
+gives_once row day = is_civil day && adds day (exception_of row)
+
+-- some of the rows gives service on a day
+abbrev pub give_weekly : List CalendarRow → Day → Bool
+give_weekly rows day = list_any (λ row. gives_weekly row day) rows
+
+abbrev pub give_once : List CalendarDateRow → Day → Bool
+give_once rows day = list_any (λ row. gives_once row day) rows
+
+abbrev pub has_service : Feed → Day → Bool
+has_service feed day = give_weekly feed.calendar.items day || give_once feed.calendar_dates.items day
+
+-- the test holds of no day
+abbrev pub HoldsOfNone : (Day → Bool) → Type 0
+HoldsOfNone test = (day : Day) → test day ≡ false
+
+-- the test holds of the day, and of none before it
+pub record IsFirst (test : Day → Bool) (first : Day) : Type 0 where
+  pub holds : test first ≡ true
+  pub least : (day : Day) → test day ≡ true → is_not_after first day ≡ true
+
+-- the test holds of the day, and of none after it
+pub record IsLast (test : Day → Bool) (last : Day) : Type 0 where
+  pub holds : test last ≡ true
+  pub most : (day : Day) → test day ≡ true → is_not_after day last ≡ true
+
+-- the first and the last day of which the test holds
+pub record IsSpan (test : Day → Bool) (span : Span) : Type 0 where
+  pub first : IsFirst test span.first
+  pub last : IsLast test span.last
+
+-- they, or none if it holds of no day
+abbrev pub SpansDays : (Day → Bool) → Option Span → Type 0
+SpansDays test found = MatchOption found (HoldsOfNone test) (IsSpan test)
+
+-- how many trips run on a day; a trip that frequencies.txt repeats counts once
+abbrev pub trips_on : Feed → Day → ℕ
+trips_on feed day = count_by (runs_on feed day) feed.trips.items
+
+-- the place of a day in the calendar: the day after has the next
+abbrev pub day_place : Day → ℕ
+day_place d = day_count (pos d.year) d.month d.day

@@ -1,0 +1,14 @@
+//! Which service days a feed has, and how many of its trips run on each of them, as text.
+//!
+//! A feed may have service on every day of 9999 years, so at most [`MOST_DAYS`] of them have a line.
+#![tactic(auto)]
+
+mod counting;
+mod dates;
+mod listing;
+mod putting;
+mod span;
+
+pub use counting::trips_on;
+pub use listing::{MOST_DAYS, days_text};
+pub use span::{Span, span_of};

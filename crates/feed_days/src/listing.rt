@@ -1,0 +1,104 @@
+//! The lines of a feed's service days.
+
+ghost use Rattle.std.specs.Prelude.{◌≡◌, ◌++◌, true, IfOk, OnOk, string_bytes};
+ghost use Rattle.std.specs.List.{flat_map};
+ghost use Rattle.gtfs_rows.specs.Values.{is_civil};
+ghost use Rattle.service_days.specs.Services.{HoldsServices, is_not_after};
+ghost use Rattle.feed_days.specs.Days.{AreDayLines, first_unlisted, listed_days, span_text, trips_line, unlisted_line};
+
+use crate::counting::trips_on;
+use crate::putting::{put_date, put_date_line, put_number, put_text};
+use crate::span::{Span, span_of};
+use gtfs_tables::{Day, Feed};
+use service_days::{Services, day_after};
+use std::alloc::{AllocError, Global};
+
+/// The days that have a line, at most.
+pub const MOST_DAYS: u32 = 366;
+
+/// The lines of a feed's service days: the first and the last, or `none`; how many trips run on each
+/// day from the first on, for `MOST_DAYS` at most; and if there are more up to the last, the first of
+/// them.
+pub fn days_text(alloc: Global, feed: &Feed) -> Result<String, AllocError>
+    ensures { IfOk result (λ lines. AreDayLines feed.now (string_bytes lines)) }
+{
+    let mut lines = String::new(alloc);
+    match span_of(feed) {
+        None => put_text(&mut lines, "first none\nlast none\n")?,
+        Some(span) => append_span(&mut lines, alloc, feed, span)?,
+    }
+    Ok(lines)
+}
+
+// Adds the lines of a feed that has service from the one day to the other.
+fn append_span(lines: &mut String, alloc: Global, feed: &Feed, span: Span) -> Result<(), AllocError>
+    requires first { is_civil span.first ≡ true }
+    requires last { is_civil span.last ≡ true }
+    requires in_order { is_not_after span.first span.last ≡ true }
+    ensures { OnOk result (string_bytes lines.new ≡ string_bytes lines.old ++ span_text feed.now span) }
+{
+    put_date_line(lines, "first ", span.first)?;
+    put_date_line(lines, "last ", span.last)?;
+    let services = Services::new(alloc, feed.hash, &feed.calendar, &feed.calendar_dates)?;
+    let unlisted = append_days(lines, alloc, feed, &services, span)?;
+    append_unlisted(lines, unlisted)?;
+    Ok(())
+}
+
+// Adds a line for each day that has one: the first day that has none.
+fn append_days(
+    lines: &mut String,
+    alloc: Global,
+    feed: &Feed,
+    services: &Services,
+    span: Span,
+) -> Result<Option<Day>, AllocError>
+    requires services { HoldsServices feed.now.calendar.items feed.now.calendar_dates.items services.now }
+    requires first { is_civil span.first ≡ true }
+    requires last { is_civil span.last ≡ true }
+    requires in_order { is_not_after span.first span.last ≡ true }
+    ensures lines { OnOk result (string_bytes lines.new
+        ≡ string_bytes lines.old ++ flat_map (trips_line feed.now) (listed_days span)) }
+    ensures unlisted { IfOk result (λ day. day ≡ first_unlisted span) }
+{
+    let mut day = span.first;
+    let mut listed = 0;
+    while listed < MOST_DAYS {
+        append_day(lines, alloc, feed, services, day)?;
+        if day == span.last {
+            return Ok(None);
+        }
+        day = day_after(day);
+        listed += 1;
+    }
+    Ok(Some(day))
+}
+
+// Adds the line of a day.
+fn append_day(
+    lines: &mut String,
+    alloc: Global,
+    feed: &Feed,
+    services: &Services,
+    day: Day,
+) -> Result<(), AllocError>
+    requires { HoldsServices feed.now.calendar.items feed.now.calendar_dates.items services.now }
+    ensures { OnOk result (string_bytes lines.new ≡ string_bytes lines.old ++ trips_line feed.now day) }
+{
+    let trips = trips_on(alloc, feed, services, day)?;
+    put_text(lines, "trips-")?;
+    put_date(lines, day)?;
+    put_number(lines, " ", trips as u64)?;
+    put_text(lines, "\n")?;
+    Ok(())
+}
+
+// Adds the line of the first day that has none of its own.
+fn append_unlisted(lines: &mut String, day: Option<Day>) -> Result<(), AllocError>
+    ensures { OnOk result (string_bytes lines.new ≡ string_bytes lines.old ++ unlisted_line day) }
+{
+    match day {
+        None => Ok(()),
+        Some(day) => put_date_line(lines, "unlisted ", day),
+    }
+}
