@@ -101,9 +101,8 @@ pub(crate) const BUILD: &str = "Standard output has one line of counts:\n\
 \x20 skipped      rows of transfers.txt left out: between trips or routes, or of a transfer_type beyond 0 to 3\n\
 The counts lifted, flex and frequencies include trips that run on none of the days.\n\
 \n\
-With --progress standard error has a line for each file, with its bytes and the seconds that it took, and for each\n\
-phase with its counts; of a file that takes longer than a second also how many rows were read so far. On a\n\
-terminal one line is rewritten.\n\
+With --progress standard error has two lines for each file and each phase: when it begins, and when it is done, with\n\
+the file's bytes and lines or the phase's counts, and the seconds that it took. On a terminal one line is rewritten.\n\
 \n\
 Example: csa build examples/base base.csa --first 20240115 --days 1 --zone fixed:0 --progress";
 
@@ -119,7 +118,7 @@ A session is lines of JSON over TCP:\n\
 \"by\":\"10:00:00\",\"criterion\":\"arrival\"}\n\
 Standard error has a line for each load, and what is wrong with a feed that is refused. With --log it also has,\n\
 with the instant in UTC and the seconds that it took:\n\
-\x20 2024-01-15T06:00:00Z session 1 ended seconds 0.250 requests 4\n\
+\x20 2024-01-15T06:00:00Z session 1 ended requests 4 seconds 0.250\n\
 \x20     (ended: all was replied; failed: a read or a write failed; spent: it sent too many requests)\n\
 \x20 2024-01-15T06:00:00Z load slow version 2 runs 2 connections 3 seconds 0.015\n\
 \x20 2024-01-15T06:00:00Z load slow refused 8 seconds 0.001\n\

@@ -1,9 +1,9 @@
 //! The program `csa`: it hands its words and streams to the library.
 #![tactic(auto)]
 
-mod sources;
+mod source_sum;
 
-use crate::sources::SOURCES;
+use crate::source_sum::SOURCES;
 use csa_program::run;
 use std::env;
 use std::fs::File;

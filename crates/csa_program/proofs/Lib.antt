@@ -1,4 +1,3 @@
 mod AnswerLemmas
 mod FeedNames
-mod Joined
 mod Picturing

@@ -7,7 +7,6 @@ ghost use Rattle.csa_program.specs.Building.{changed_text, made_text, report_lin
 use crate::explaining::{explain_refused, reason_of};
 use crate::planning::{PlanFailure, plan_of};
 use crate::progress::{Progress, Reports, ToldFiles, load_told};
-use crate::putting::{put_number, put_text};
 use crate::refusal::refuse_feed;
 use crate::status;
 use crate::warnings::{Built, warn};
@@ -21,6 +20,7 @@ use std::io::{ErrorKind, Write};
 use std::random::RandomSource;
 use std::rt::Files;
 use std::time::Clock;
+use text_pieces::{put_number, put_text};
 
 /// Why no image is written.
 enum Failure<'a> {

@@ -153,7 +153,14 @@ fn text_by_name(
 {
     let form = form_of(request.form);
     match request.criterion {
-        CriterionName::Arrival => departures_text(alloc, image, &Arrival, destination, form, wanted),
+        CriterionName::Arrival => departures_text(
+            alloc,
+            image,
+            &Arrival,
+            destination,
+            form,
+            wanted,
+        ),
         CriterionName::ArrivalTrips => {
             departures_text(alloc, image, &ArrivalTrips, destination, form, wanted)
         }

@@ -7,7 +7,6 @@ ghost use Rattle.csa_program.specs.Judging.{IsAccepted, IsFaulty, IsVerdict, tim
 
 use crate::explaining::explain;
 use crate::listing::append_times;
-use crate::putting::put_text;
 use crate::question::query_asked;
 use crate::refusal::Refusal;
 use crate::status;
@@ -16,6 +15,7 @@ use image_verifier::Verified;
 use journeys::{JourneyFault, TextFault, check, journey_parse};
 use std::alloc::{AllocError, Global};
 use std::io::Write;
+use text_pieces::put_text;
 use timetable::{QueryFault, Times};
 
 /// Why a journey isn't accepted.

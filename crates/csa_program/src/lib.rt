@@ -19,7 +19,6 @@ mod pictured;
 mod planning;
 mod profile;
 mod progress;
-mod putting;
 mod question;
 mod records;
 mod refusal;

@@ -7,11 +7,11 @@ ghost use Rattle.csa_program.specs.Listing.{departure_line, end_line, lines_text
 ghost use Rattle.csa_program.specs.Listing.{numbered_text, point_text, times_text, walk_word};
 
 use crate::naming::append_named;
-use crate::putting::{put_clock, put_number, put_text, put_word};
 use criteria::{Told, ToldValue};
 use image_verifier::Verified;
 use journeys::{Answer, Departure, journey_string};
 use std::alloc::{AllocError, Global};
+use text_pieces::{put_clock, put_number, put_text, put_word};
 use timetable::Journey;
 
 /// The lines of an answer, whose journeys are of the image's numbers.

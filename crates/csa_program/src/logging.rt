@@ -6,7 +6,6 @@
 ghost use Rattle.std.specs.Prelude.{◌≡◌, ◌++◌, codes, OnOk, string_bytes};
 ghost use Rattle.csa_program.specs.Logging.{end_word, loaded_text, session_text};
 
-use crate::putting::{put_number, put_text, put_word};
 use arrayvec::ArrayVec;
 use clock_days::instant;
 use jiff::Timestamp;
@@ -16,6 +15,7 @@ use std::io;
 use std::io::Write;
 use std::sync::{Mutex, Wait};
 use std::time::{Clock, Duration, Instant};
+use text_pieces::{put_number, put_text, put_word};
 use workers::{End, LoadRefusal, Loaded};
 
 /// How many bytes of a line are kept until it ends.

@@ -7,10 +7,10 @@ ghost use Rattle.csa_program.specs.Listing.{call_text, named_between, named_hops
 ghost use Rattle.csa_program.specs.Listing.{named_text, named_walk, word_text};
 ghost use Rattle.answer_pictures.specs.Naming.{stop_bytes, trip_bytes};
 
-use crate::putting::{put_clock, put_number, put_text, put_word};
 use answer_pictures::{connection_at, stop_name, trip_name};
 use image_verifier::Verified;
 use std::alloc::{AllocError, Global};
+use text_pieces::{put_clock, put_number, put_text, put_word};
 use timetable::{Connection, Footpath, Journey, Leg, Ride};
 
 /// Adds a journey's rides and walks, each after a space.

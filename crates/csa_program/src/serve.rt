@@ -14,7 +14,6 @@ use crate::logging::{Begun, LoaderErrors, SessionLog, SharedErrors, log_load};
 use crate::machine::Machine;
 use crate::opening::open_image;
 use crate::planning::{PlanFailure, zone_bytes};
-use crate::putting::{put_number, put_text};
 use crate::refusal::refuse_feed;
 use crate::sockets::Door;
 use crate::status;
@@ -35,6 +34,7 @@ use std::rt::Files;
 use std::sync::{Arc, Mutex, Wait};
 use std::thread::Threads;
 use std::time::{Clock, Instant};
+use text_pieces::{put_number, put_text};
 use workers::{
     Feeds, LoadRefusal, Loaded, PointForm, Served, ShelvesRan, WorkersFault, run_shelves,
 };

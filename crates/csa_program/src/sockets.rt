@@ -160,6 +160,7 @@ impl<'a, L> Clients<Visitor<'a, L>> for Door<'a, L> {
         ensures endless { self.new.is_endless ≡ self.old.is_endless }
         ensures left { IfSome result (λ _. (self.old.is_endless ≡ true) ⊎ (self.new.left + 1 ≡ self.old.left)) }
         ensures failed { IfSome result (λ _. self.new.failed ≡ self.old.failed) }
+        ensures deaf { self.old.failed ≡ true → self.new.failed ≡ true }
     {
         if !self.is_endless {
             if self.left == 0 {

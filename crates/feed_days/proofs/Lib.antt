@@ -1,5 +1,4 @@
 mod Counted
-mod Joined
 mod Listed
 mod Order
 mod Rows

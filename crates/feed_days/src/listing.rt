@@ -7,11 +7,12 @@ ghost use Rattle.service_days.specs.Services.{HoldsServices, is_not_after};
 ghost use Rattle.feed_days.specs.Days.{AreDayLines, first_unlisted, listed_days, span_text, trips_line, unlisted_line};
 
 use crate::counting::trips_on;
-use crate::putting::{put_date, put_date_line, put_number, put_text};
+use crate::putting::{put_date, put_date_line};
 use crate::span::{Span, span_of};
 use gtfs_tables::{Day, Feed};
 use service_days::{Services, day_after};
 use std::alloc::{AllocError, Global};
+use text_pieces::{put_number, put_text};
 
 /// The days that have a line, at most.
 pub const MOST_DAYS: u32 = 366;

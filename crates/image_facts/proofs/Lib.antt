@@ -1,4 +1,3 @@
 mod Grouped
 mod Headers
-mod Joined
 mod Lines

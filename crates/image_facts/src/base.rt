@@ -5,10 +5,11 @@ ghost use Rattle.timetable.specs.Clocks.{clock_bytes};
 ghost use Rattle.image_facts.specs.Base.{HasBase, IsUtcLine, base_line, date_text, sign_text, utc_day, utc_line};
 ghost use Rattle.image_facts.specs.Base.{utc_second, year_text};
 
-use crate::putting::{put_signed, put_text, put_two};
+use crate::putting::put_signed;
 use jiff_core::civil::Date;
 use std::alloc::AllocError;
 use std::fmt::Write as _;
+use text_pieces::{put_text, put_two};
 use timetable::Clock;
 
 /// The seconds of a day of UTC.

@@ -5,8 +5,8 @@ ghost use Rattle.std.specs.List.Sorted.{IsNonDecreasing};
 ghost use Rattle.image_facts.specs.Days.{HasDays, day_line};
 ghost use Rattle.image_facts.specs.Entries.{is_last_of, rest_text};
 
-use crate::putting::{put_number, put_text};
 use std::alloc::AllocError;
+use text_pieces::{put_number, put_text};
 
 /// Adds a line for each day of a list in order, the earliest first, with how many entries the day has.
 pub fn append_days(lines: &mut String, days: &[u32]) -> Result<(), AllocError>

@@ -3,4 +3,4 @@
 
 mod putting;
 
-pub use putting::{put_clock, put_number, put_text, put_word};
+pub use putting::{put_clock, put_number, put_text, put_two, put_word};

@@ -1,7 +1,7 @@
 //! Words, numbers and clocks, added to a text.
 
-ghost use Rattle.std.specs.Prelude.{◌≡◌, ◌++◌, ◌∷◌, codes, decimal, OnOk, string_bytes};
-ghost use Rattle.timetable.specs.Clocks.{clock_bytes};
+ghost use Rattle.std.specs.Prelude.{◌≡◌, ◌<◌, ◌++◌, ◌∷◌, codes, decimal, OnOk, string_bytes};
+ghost use Rattle.timetable.specs.Clocks.{clock_bytes, two_digits};
 
 use std::alloc::AllocError;
 use std::fmt::Write as _;
@@ -37,4 +37,14 @@ pub fn put_word(out: &mut String, word: &str) -> Result<(), AllocError>
 {
     put_text(out, " ")?;
     put_text(out, word)
+}
+
+/// Adds a number in two digits, or as many as it needs.
+pub fn put_two(out: &mut String, number: u64) -> Result<(), AllocError>
+    ensures { OnOk result (string_bytes out.new ≡ string_bytes out.old ++ two_digits number) }
+{
+    if number < 10 {
+        return put_number(out, "0", number);
+    }
+    put_number(out, "", number)
 }

@@ -1,6 +1,6 @@
 use Rattle.std.proofs.Common.{string_bytes}
 use Rattle.csa_program.specs.Building.{made_text}
-use Rattle.csa_program.proofs.Joined.{four}
+use Rattle.text_pieces.proofs.Joined.{four}
 use Rattle.csa_program.proofs.build.append_made.Goals as goal
 
 pub returns : goal.returns

@@ -1,6 +1,6 @@
 use Rattle.std.proofs.Common.{[], ◌++◌, ◌∙◌, ap, string_bytes}
 use Rattle.csa_program.specs.Building.{made_text, report_line}
-use Rattle.csa_program.proofs.Joined.{three}
+use Rattle.text_pieces.proofs.Joined.{three}
 use Rattle.csa_program.proofs.build.counts.Goals as goal
 
 pub returns : goal.returns

@@ -1,6 +1,6 @@
 use Rattle.std.proofs.Common.{string_bytes}
 use Rattle.csa_program.specs.Listing.{point_text}
-use Rattle.csa_program.proofs.Joined.{four}
+use Rattle.text_pieces.proofs.Joined.{four}
 use Rattle.csa_program.proofs.listing.append_point.Goals as goal
 
 pub returns : goal.returns

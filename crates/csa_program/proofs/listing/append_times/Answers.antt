@@ -1,6 +1,6 @@
 use Rattle.std.proofs.Common.{string_bytes}
 use Rattle.csa_program.specs.Listing.{times_text}
-use Rattle.csa_program.proofs.Joined.{two}
+use Rattle.text_pieces.proofs.Joined.{two}
 use Rattle.csa_program.proofs.listing.append_times.Goals as goal
 
 pub returns : goal.returns

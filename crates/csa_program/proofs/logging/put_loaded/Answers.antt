@@ -1,6 +1,6 @@
 use Rattle.std.proofs.Common.{string_bytes}
 use Rattle.csa_program.specs.Logging.{loaded_text}
-use Rattle.csa_program.proofs.Joined.{three}
+use Rattle.text_pieces.proofs.Joined.{three}
 use Rattle.csa_program.proofs.logging.put_loaded.Goals as goal
 
 pub returns : goal.returns

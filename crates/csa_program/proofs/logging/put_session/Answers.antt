@@ -1,6 +1,6 @@
 use Rattle.std.proofs.Common.{◌++◌, ◌∙◌, ap, codes, string_bytes}
 use Rattle.csa_program.specs.Logging.{session_text}
-use Rattle.csa_program.proofs.Joined.{three}
+use Rattle.text_pieces.proofs.Joined.{three}
 use Rattle.csa_program.proofs.logging.put_session.Goals as goal
 
 pub returns : goal.returns

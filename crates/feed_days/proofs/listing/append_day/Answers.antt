@@ -1,6 +1,6 @@
 use Rattle.std.proofs.Common.{◌∙◌, ◌++◌, ap, codes, decimal, string_bytes}
 use Rattle.feed_days.specs.Days.{trips_line}
-use Rattle.feed_days.proofs.Joined.{four}
+use Rattle.text_pieces.proofs.Joined.{four}
 use Rattle.feed_days.proofs.listing.append_day.Goals as goal
 
 pub returns : goal.returns

@@ -2,7 +2,7 @@ use Rattle.std.proofs.Common.{◌++◌, ◌∙◌, ap, string_bytes}
 use Rattle.std.specs.Prelude.{Option}
 use Rattle.gtfs_rows.specs.declared.values.Day.{Day}
 use Rattle.feed_days.specs.Days.{span_text, unlisted_line}
-use Rattle.feed_days.proofs.Joined.{four}
+use Rattle.text_pieces.proofs.Joined.{four}
 use Rattle.feed_days.proofs.listing.append_span.Goals as goal
 
 pub returns : goal.returns

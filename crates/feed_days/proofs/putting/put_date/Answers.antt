@@ -1,6 +1,6 @@
 use Rattle.std.proofs.Common.{string_bytes}
 use Rattle.feed_days.specs.Days.{date_text}
-use Rattle.feed_days.proofs.Joined.{four}
+use Rattle.text_pieces.proofs.Joined.{four}
 use Rattle.feed_days.proofs.putting.put_date.Goals as goal
 
 pub returns : goal.returns

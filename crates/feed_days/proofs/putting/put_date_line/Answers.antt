@@ -1,6 +1,6 @@
 use Rattle.std.proofs.Common.{string_bytes}
 use Rattle.feed_days.specs.Days.{date_line}
-use Rattle.feed_days.proofs.Joined.{three}
+use Rattle.text_pieces.proofs.Joined.{three}
 use Rattle.feed_days.proofs.putting.put_date_line.Goals as goal
 
 pub returns : goal.returns

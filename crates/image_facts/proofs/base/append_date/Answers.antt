@@ -1,7 +1,7 @@
 use Rattle.std.proofs.Common.{◌≡◌, ◌++◌, FitsSigned, rules, string_bytes, subst, w16, ℤ}
 use Rattle.std.proofs.lemmas.Int.{to_z-of_z}
 use Rattle.image_facts.specs.Base.{date_text, year_text}
-use Rattle.image_facts.proofs.Joined.{five}
+use Rattle.text_pieces.proofs.Joined.{five}
 use Rattle.image_facts.proofs.base.append_date.Goals as goal
 
 pub returns : goal.returns

@@ -1,6 +1,6 @@
 use Rattle.std.proofs.Common.{string_bytes}
 use Rattle.image_facts.specs.Base.{utc_line}
-use Rattle.image_facts.proofs.Joined.{five}
+use Rattle.text_pieces.proofs.Joined.{five}
 use Rattle.image_facts.proofs.base.append_moment.Goals as goal
 
 pub returns : goal.returns

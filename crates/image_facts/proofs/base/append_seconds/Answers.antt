@@ -2,7 +2,7 @@ use Rattle.std.proofs.Common.{◌≡◌, ◌++◌, codes, string_bytes, subst, w
 use Rattle.std.specs.Fmt.{signed_decimal}
 use Rattle.std.proofs.lemmas.Int.{to_z-of_z}
 use Rattle.image_facts.specs.Base.{base_line}
-use Rattle.image_facts.proofs.Joined.{two}
+use Rattle.text_pieces.proofs.Joined.{two}
 use Rattle.image_facts.proofs.base.append_seconds.Goals as goal
 
 pub returns : goal.returns

@@ -3,7 +3,7 @@ use Rattle.std.specs.Prelude.{unsigned_abs}
 use Rattle.std.proofs.lemmas.Int.{to_z-of_z}
 use Rattle.timetable.specs.Clocks.{two_digits}
 use Rattle.image_facts.specs.Base.{sign_text, year_text}
-use Rattle.image_facts.proofs.Joined.{three}
+use Rattle.text_pieces.proofs.Joined.{three}
 use Rattle.image_facts.proofs.base.append_year.Goals as goal
 
 pub returns : goal.returns

@@ -1,6 +1,6 @@
 use Rattle.std.proofs.Common.{string_bytes}
 use Rattle.image_facts.specs.Days.{day_line}
-use Rattle.image_facts.proofs.Joined.{three}
+use Rattle.text_pieces.proofs.Joined.{three}
 use Rattle.image_facts.proofs.days.append_day.Goals as goal
 
 pub returns : goal.returns

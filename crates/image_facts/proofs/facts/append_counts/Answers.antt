@@ -1,6 +1,6 @@
 use Rattle.std.proofs.Common.{◌∙◌, ◌++◌, ap, codes, string_bytes}
 use Rattle.image_facts.specs.Facts.{counts_text, number_line}
-use Rattle.image_facts.proofs.Joined.{five}
+use Rattle.text_pieces.proofs.Joined.{five}
 use Rattle.image_facts.proofs.facts.append_counts.Goals as goal
 
 pub returns : goal.returns

@@ -1,6 +1,6 @@
 use Rattle.std.proofs.Common.{◌∙◌, ◌++◌, ap, codes, string_bytes}
 use Rattle.image_facts.specs.Facts.{file_text, number_line}
-use Rattle.image_facts.proofs.Joined.{two}
+use Rattle.text_pieces.proofs.Joined.{two}
 use Rattle.image_facts.proofs.facts.append_file.Goals as goal
 
 pub returns : goal.returns

@@ -4,7 +4,7 @@ use Rattle.image_facts.specs.Base.{HasBase}
 use Rattle.image_facts.specs.Days.{HasDays, trip_days}
 use Rattle.image_facts.specs.Facts.{counts_text, file_text}
 use Rattle.image_facts.proofs.Grouped.{in_any_order}
-use Rattle.image_facts.proofs.Joined.{four}
+use Rattle.text_pieces.proofs.Joined.{four}
 use Rattle.image_facts.proofs.facts.facts_of.Goals as goal
 
 pub returns : goal.returns

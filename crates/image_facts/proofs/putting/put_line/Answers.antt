@@ -1,6 +1,6 @@
 use Rattle.std.proofs.Common.{string_bytes}
 use Rattle.image_facts.specs.Facts.{number_line}
-use Rattle.image_facts.proofs.Joined.{two}
+use Rattle.text_pieces.proofs.Joined.{two}
 use Rattle.image_facts.proofs.putting.put_line.Goals as goal
 
 pub returns : goal.returns
