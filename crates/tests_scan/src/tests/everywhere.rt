@@ -54,7 +54,7 @@ fn assert_attained<C: Told>(
     Ok(())
 }
 
-/// Two answers have points alike, of which the first has journeys, and the same walk.
+/// Two answers have the same points, tags aside, and the same walk; each point of the first has a journey.
 fn assert_same<C: Told>(
     rt: &impl Abort,
     alloc: Global,
@@ -247,7 +247,7 @@ fn refused_growth_is_told_of_all_stops(rt: HostRuntime) -> Result<(), Fail> {
     assert_stops(&rt, alloc, &image, &ArrivalTrips, &profiles, 0)
 }
 
-/// Random departures within 20 minutes, and a window of up to half an hour for them.
+/// A window that begins within 20 minutes from 08:00:00 and takes up to half an hour, arriving within an hour and a half.
 fn random_window(dice: &mut Dice) -> Destination {
     let from = 28800 + 60 * dice.roll(20);
     let until = from + 60 * dice.roll(30);

@@ -26,7 +26,7 @@ impl<S: ConnSource> InTurn<S> {
         }
     }
 
-    /// The source, of which no connection was asked for, and those that depart at a time or later won't be.
+    /// The source, of which no connection was asked for, to be read from the last one that departs before a time.
     pub fn before(source: S, time: u32) -> InTurn<S>
         ensures { S.timetable result.source ≡ S.timetable source }
     {

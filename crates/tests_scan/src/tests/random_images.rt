@@ -55,7 +55,7 @@ fn drive(
     Ok(1)
 }
 
-/// Where the trips begin.
+/// A vehicle at a random stop for each trip.
 fn vehicles_at(
     alloc: Global,
     dice: &mut Dice,
@@ -158,6 +158,7 @@ pub fn random_words(alloc: Global, dice: &mut Dice) -> Result<Vec<u32>, AllocErr
     words.extend_from_slice(&[0x50415343, 1, stops, trips, connections, footpaths, 0, 0, 0])?;
     words.extend_from_slice(&body)?;
     words.extend_from_slice(&paths)?;
+    // the index of the names, all of which are empty, and the trips' days
     for _word in 0..stops + trips + 1 + trips {
         words.push(0)?;
     }
