@@ -233,8 +233,8 @@ fn as_each_stop_alone(rt: HostRuntime) -> Result<(), Fail> {
     assert_targets(&rt, alloc, &REPEATED, later)
 }
 
-/// Whichever growth is refused, the test ends with `AllocError`. Either way connections were asked for from the last one
-/// on, each in its turn, and once for all stops.
+/// Whichever growth is refused, the test ends with `AllocError`. Either way connections were asked for from the last on,
+/// each in its turn, and once for all stops.
 #[test]
 fn refused_growth_is_told_of_all_stops(rt: HostRuntime) -> Result<(), Fail> {
     let alloc = rt.alloc();
@@ -247,7 +247,7 @@ fn refused_growth_is_told_of_all_stops(rt: HostRuntime) -> Result<(), Fail> {
     assert_stops(&rt, alloc, &image, &ArrivalTrips, &profiles, 0)
 }
 
-/// A window that begins within 20 minutes from 08:00:00 and takes up to half an hour, arriving within an hour and a half.
+/// A window that begins within 20 minutes from 08:00:00 and takes up to half an hour; one arrives within 90 minutes.
 fn random_window(dice: &mut Dice) -> Destination {
     let from = 28800 + 60 * dice.roll(20);
     let until = from + 60 * dice.roll(30);
