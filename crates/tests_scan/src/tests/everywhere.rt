@@ -233,8 +233,8 @@ fn as_each_stop_alone(rt: HostRuntime) -> Result<(), Fail> {
     assert_targets(&rt, alloc, &REPEATED, later)
 }
 
-/// Whichever growth is refused, the test ends with `AllocError`. Either way connections were asked for from the last on,
-/// each in its turn, and once for all stops.
+/// Whichever growth is refused, the test ends with `AllocError`. Either way connections were asked for from the last
+/// on, each in its turn, and once for all stops.
 #[test]
 fn refused_growth_is_told_of_all_stops(rt: HostRuntime) -> Result<(), Fail> {
     let alloc = rt.alloc();
