@@ -1,7 +1,6 @@
 //! All sources of a target by one scan, beside the query from each of them: over worked images and over random ones.
 
-ghost use Rattle.std.specs.Prelude.{◌≡◌, ◌≢◌, ◌<◌, IfOk, length};
-ghost use Rattle.profile_scan.specs.Destinations.{CanBeAsked};
+ghost use Rattle.std.specs.Prelude.{◌≢◌, ◌<◌, IfOk, length};
 ghost use Rattle.profile_scan.specs.Found.{listed};
 ghost use Rattle.profile_scan.specs.Everywhere.{AnswerAll, destination_of};
 
