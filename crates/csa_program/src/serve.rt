@@ -214,21 +214,40 @@ fn listen<
         return begun;
     }
     let errors = Mutex::new(errors);
-    let shared = SharedErrors::of(rt, alloc, &errors);
+    match serve_at(rt, &listener, request, made, folders, &errors) {
+        Ok((served, is_deaf)) => tell_served(alloc, &served, is_deaf, output),
+        Err(_) => status::OUT_OF_MEMORY,
+    }
+}
+
+// Serves whoever comes, and returns how the sessions ended, and whether accepting failed. Whatever the server's threads
+// report goes through one lock.
+fn serve_at<H: Disk + Explains + Clock + Threads + Wait + Sync, E: Write + Send>(
+    rt: &H,
+    listener: &TcpListener,
+    request: &ServeRequest<'_>,
+    made: (Shelves, ShelfLoader, Vec<ShelfSeat>),
+    folders: &Folders<'_, H>,
+    errors: &Mutex<E>,
+) -> Result<(Served, bool), WorkersFault>
+    requires loader { made.1.table ≡ made.0 }
+    requires seats { All (λ seat. seat.table ≡ made.0) made.2.items }
+    requires some { 1 ≤ length made.2.items }
+    requires few { length made.2.items ≤ 16 }
+{
+    let shared = SharedErrors::of(rt, folders.alloc, errors);
     let log = if request.log { Some(&shared) } else { None };
-    let door = Door::new(&listener, request.sessions, log);
+    let door = Door::new(listener, request.sessions, log);
     let loader_errors = LoaderErrors::of(shared.another());
-    match serve_all(
+    let ran = serve_all(
         rt,
         door,
         made,
         folders,
         form_of(request.legs),
         loader_errors,
-    ) {
-        Ok(ran) => tell_served(alloc, &ran.served, ran.clients.has_failed(), output),
-        Err(_) => status::OUT_OF_MEMORY,
-    }
+    )?;
+    Ok((ran.served, ran.clients.has_failed()))
 }
 
 // Serves whoever comes to the door at these shelves, until nobody is left.

@@ -4,11 +4,13 @@
 mod answering;
 mod bonus;
 mod dominating;
+mod everywhere;
 mod examples;
 mod images;
 mod in_turn;
 mod judging;
 mod listing;
+mod random_images;
 mod reading;
 mod valuing;
 mod wrong_steps;

@@ -33,7 +33,7 @@ const NO_TRIPS: [u32; 24] = [
 ];
 
 /// The sample with a footpath of two minutes from stop 0 to stop 1.
-const WITH_WALK: [u32; 49] = [
+pub const WITH_WALK: [u32; 49] = [
     0x50415343, 1, 3, 2, 3, 4, 7, 1705276800, 0, 0, 1, 28800, 29400, 0, 3, 1, 2, 29400, 30600, 0,
     3, 1, 2, 29520, 30000, 1, 3, 0, 1, 3, 4, 0, 0, 0, 120, 1, 0, 2, 0, 0, 1, 2, 3, 5, 7, 20240115,
     20240115, 0x54434241, 0x00325431,
@@ -41,14 +41,14 @@ const WITH_WALK: [u32; 49] = [
 
 /// The sample with footpaths of a minute from stop 0 to stop 1 and from there to stop 2, and of two
 /// minutes from stop 0 to stop 2.
-const WITH_CHAIN: [u32; 53] = [
+pub const WITH_CHAIN: [u32; 53] = [
     0x50415343, 1, 3, 2, 3, 6, 7, 1705276800, 0, 0, 1, 28800, 29400, 0, 3, 1, 2, 29400, 30600, 0,
     3, 1, 2, 29520, 30000, 1, 3, 0, 1, 3, 6, 0, 0, 0, 60, 1, 0, 0, 120, 1, 60, 2, 0, 0, 1, 2, 3, 5,
     7, 20240115, 20240115, 0x54434241, 0x00325431,
 ];
 
 /// The sample with a third trip from stop 0 to stop 2, as fast as the change.
-const WITH_DIRECT_TRIP: [u32; 56] = [
+pub const WITH_DIRECT_TRIP: [u32; 56] = [
     0x50415343, 1, 3, 3, 4, 3, 9, 1705276800, 0, 0, 1, 28800, 29400, 0, 3, 0, 2, 28800, 30000, 2,
     3, 1, 2, 29400, 30600, 0, 3, 1, 2, 29520, 30000, 1, 3, 0, 1, 2, 3, 0, 0, 1, 0, 2, 0, 0, 1, 2,
     3, 5, 7, 9, 20240115, 20240115, 20240115, 0x54434241, 0x54325431, 0x00000033,

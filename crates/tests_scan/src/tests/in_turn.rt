@@ -13,10 +13,25 @@ pub struct InTurn<S> {
 }
 
 impl<S: ConnSource> InTurn<S> {
+    ghost use Rattle.std.specs.Prelude.{◌≡◌};
+
     /// The source, of which no connection was asked for.
-    pub fn of(source: S) -> InTurn<S> {
+    pub fn of(source: S) -> InTurn<S>
+        ensures { S.timetable result.source ≡ S.timetable source }
+    {
         InTurn {
             left: source.len(),
+            in_turn: true,
+            source,
+        }
+    }
+
+    /// The source, of which no connection was asked for, to be read from the last one that departs before a time.
+    pub fn before(source: S, time: u32) -> InTurn<S>
+        ensures { S.timetable result.source ≡ S.timetable source }
+    {
+        InTurn {
+            left: source.first_at(time),
             in_turn: true,
             source,
         }
