@@ -6,8 +6,8 @@ use Rattle.feed_days.proofs.listing.append_day.Goals as goal
 pub returns : goal.returns
 unfolding trips_line
 returns c =
-    four (string_bytes c.args.lines.now) (string_bytes c.put_text.new.lines) (string_bytes c.put_date.new.lines)
-    (string_bytes c.put_number.new.lines) (string_bytes c.put_text-2.new.lines) _ _ _ _
+    four (string_bytes c.args.lines.now) (string_bytes c.put_text.new.out) (string_bytes c.put_date.new.lines)
+    (string_bytes c.put_number.new.out) (string_bytes c.put_text-2.new.out) _ _ _ _
     c.in_ok-put_text.ensures c.in_ok-put_date.ensures
     (c.in_ok-put_number.ensures ∙ ap (λ n. string_bytes c.put_date.new.lines ++ (codes " " ++ decimal n)) c.in_ok-trips.ensures)
     c.in_ok-put_text-2.ensures

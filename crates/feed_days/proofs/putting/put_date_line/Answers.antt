@@ -6,5 +6,5 @@ use Rattle.feed_days.proofs.putting.put_date_line.Goals as goal
 pub returns : goal.returns
 unfolding date_line
 returns c =
-    three (string_bytes c.args.lines.now) (string_bytes c.put_text.new.lines) (string_bytes c.put_date.new.lines)
-    (string_bytes c.put_text-2.new.lines) _ _ _ c.in_ok-put_text.ensures c.in_ok-put_date.ensures c.in_ok-put_text-2.ensures
+    three (string_bytes c.args.lines.now) (string_bytes c.put_text.new.out) (string_bytes c.put_date.new.lines)
+    (string_bytes c.put_text-2.new.out) _ _ _ c.in_ok-put_text.ensures c.in_ok-put_date.ensures c.in_ok-put_text-2.ensures

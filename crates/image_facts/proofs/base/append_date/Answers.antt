@@ -8,8 +8,8 @@ pub returns : goal.returns
 unfolding date_text
 returns c =
     let fits : FitsSigned w16 c.args.date.year = search rules in
-    five (string_bytes c.args.lines.now) (string_bytes c.append_year.new.lines) (string_bytes c.put_text.new.lines)
-    (string_bytes c.put_two.new.lines) (string_bytes c.put_text-2.new.lines) (string_bytes c.put_two-2.new.lines) _ _ _ _ _
+    five (string_bytes c.args.lines.now) (string_bytes c.append_year.new.lines) (string_bytes c.put_text.new.out)
+    (string_bytes c.put_two.new.out) (string_bytes c.put_text-2.new.out) (string_bytes c.put_two-2.new.out) _ _ _ _ _
     (subst (λ (year : ℤ). string_bytes c.append_year.new.lines ≡ string_bytes c.args.lines.now ++ year_text year)
     (to_z-of_z w16 c.args.date.year fits) c.in_ok-append_year.ensures)
     c.in_ok-put_text.ensures c.in_ok-put_two.ensures c.in_ok-put_text-2.ensures c.in_ok-put_two-2.ensures

@@ -12,8 +12,8 @@ returns c =
     let same = to_z-of_z w16 c.args.year c.ranges.year in
     let number : c.unsigned_abs-number.result ≡ unsigned_abs c.args.year =
     subst (λ (y : ℤ). c.unsigned_abs-number.result ≡ unsigned_abs y) same c.unsigned_abs-number.ensures.value in
-    three (string_bytes c.args.lines.now) (string_bytes c.put_sign.new.lines) (string_bytes c.put_two.new.lines)
-    (string_bytes c.put_two-2.new.lines) _ _ _
+    three (string_bytes c.args.lines.now) (string_bytes c.put_sign.new.lines) (string_bytes c.put_two.new.out)
+    (string_bytes c.put_two-2.new.out) _ _ _
     (subst (λ (y : ℤ). string_bytes c.put_sign.new.lines ≡ string_bytes c.args.lines.now ++ sign_text y) same c.in_ok-put_sign.ensures)
-    (subst (λ (n : ℕ). string_bytes c.put_two.new.lines ≡ string_bytes c.put_sign.new.lines ++ two_digits (n / 100)) number c.in_ok-put_two.ensures)
-    (subst (λ (n : ℕ). string_bytes c.put_two-2.new.lines ≡ string_bytes c.put_two.new.lines ++ two_digits (n % 100)) number c.in_ok-put_two-2.ensures)
+    (subst (λ (n : ℕ). string_bytes c.put_two.new.out ≡ string_bytes c.put_sign.new.lines ++ two_digits (n / 100)) number c.in_ok-put_two.ensures)
+    (subst (λ (n : ℕ). string_bytes c.put_two-2.new.out ≡ string_bytes c.put_two.new.out ++ two_digits (n % 100)) number c.in_ok-put_two-2.ensures)
