@@ -68,7 +68,8 @@ const WAITING: (&str, &str) = (
 
 /// What the loader tells of the second.
 const LOADED: &str =
-    "loaded slow version 2\n0: 2 3 2 3\nload bad refused 1 MissingFile stops.txt 0\n1: 1\nloaded slow version 3\n0: 3 3 0 0\n";
+    "loaded slow version 2\n0: 2 3 2 3\nload bad refused 1 MissingFile stops.txt 0\n1: 1\n\
+loaded slow version 3\n0: 3 3 0 0\n";
 
 /// A writer to bytes that several threads may share, or one that nobody reads any more.
 #[derive(Drop)]

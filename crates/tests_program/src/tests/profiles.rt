@@ -294,8 +294,8 @@ complains 64
 run departures --help
 helps
 
-# Footpaths of a minute from A to B and from B to C, and of two from A to C: each stop's direct one is beside its departures, and takes
-# none away.
+# Footpaths of a minute from A to B and from B to C, and of two from A to C: each stop's direct one is beside
+# its departures, and takes none away.
 image 1346458435 1 3 2 3 6 7 1705276800 0 0 1 28800 29400 0 3 1 2 29400 30600 0 3 1 2 29520 30000 1 3 0 1 3 6 0 0 0 60 1 0 0 120 1 60 2 0 0 1 2 3 5 7 20240115 20240115 1413694017 3298353
 run departures - --to C --after 07:00:00 --until 09:00:00 --by 10:00:00 --criterion arrival
 prints A dep 08:00:00 arr 08:11:00 : ride 0 0 walk 1 2 60
