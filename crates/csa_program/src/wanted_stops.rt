@@ -38,11 +38,7 @@ pub fn wanted_from<H: Files + AllocGlobal>(
 }
 
 // The stops that the file at a path names.
-fn read_list<H: Files + AllocGlobal>(
-    rt: &H,
-    image: &Verified,
-    path: &str,
-) -> Result<Wanted, NoList>
+fn read_list<H: Files + AllocGlobal>(rt: &H, image: &Verified, path: &str) -> Result<Wanted, NoList>
     ensures { MatchResult result (IsListed image.now.names) (IsUnknown image.now.names) }
 {
     match fs::read_to_string(rt, path) {
