@@ -1,11 +1,12 @@
 //! `csa departures IMAGE --to STOP_ID --after .. --until .. --by .. --criterion NAME [--from FILE]
 //! [--summary | [--json] [--no-journeys]]`.
 
-ghost use Rattle.std.specs.Prelude.{◌≡◌, ◌≢◌, IfOk, MatchResult, string_bytes};
+ghost use Rattle.std.specs.Prelude.{◌≡◌, ◌≢◌, ℕ, IfOk, MatchResult, string_bytes};
 ghost use Rattle.profile_scan.specs.Destinations.{CanBeAsked};
 ghost use Rattle.journeys.specs.Questions.{AsksAll, IsRefusedOfAll};
 ghost use Rattle.command_requests.specs.declared.statuses.TheConstants.{ACCEPTED, REFUSED};
 ghost use Rattle.departure_lines.specs.declared.form.LineForm.{LineForm};
+ghost use Rattle.csa_program.specs.declared.wanted_stops.NoList.TheVariants.{UnknownStop};
 ghost use Rattle.csa_program.specs.Departing.{AreAllPrinted, ArePrinted, AreShownBy, IsNoneAsked};
 ghost use Rattle.csa_program.specs.Departing.{form_of, window_asked};
 
@@ -100,7 +101,8 @@ fn explain_list<H: Files + AllocGlobal, E: Write>(
     failure: NoList,
     errors: &mut E,
 ) -> u8
-    ensures { result ≢ ACCEPTED }
+    ensures not_accepted { result ≢ ACCEPTED }
+    ensures refused { result ≡ REFUSED → (line : ℕ) × (failure ≡ UnknownStop line) }
 {
     let path = request.from.unwrap_or("");
     match failure {
