@@ -6,6 +6,7 @@ pub(crate) const VERSION: &str = "1.0.0";
 pub(crate) const STATUSES: &str = "Exit status:\n\
 \x20 0   accepted\n\
 \x20 2   refused: standard output has one line `refused NUMBER NAME PLACES`, standard error may explain it;\n\
+\x20     of departures: also a line of --from that is no stop_id, on standard error alone;\n\
 \x20     of serve: a session sent too many requests\n\
 \x20 3   a file cannot be read or written, a port cannot be listened on, a line cannot be written,\n\
 \x20     or a session failed\n\
@@ -24,7 +25,8 @@ pub(crate) const INFO: &str = "Each line is a word and a value, with a space bet
 \x20 connections     rides from one stop to the next\n\
 \x20 footpaths       walks, each stop and itself included\n\
 \x20 name-bytes      bytes of all stop_ids and trip_ids together\n\
-\x20 trips-YYYYMMDD  trips of this service day; the earliest day first, days without trips left out\n\
+\x20 trips-YYYYMMDD  trips of this service day, each repetition by itself; the earliest day first, days without\n\
+\x20                 trips left out\n\
 An image that csa verify refuses is refused.\n\
 \n\
 Example: csa info examples/base.csa";
@@ -35,7 +37,7 @@ pub(crate) const TABLES: &str = "Example: csa tables examples/base";
 
 pub(crate) const DAYS: &str = "Each line is a word and a value, with a space between:\n\
 \x20 first           the first day, YYYYMMDD, on which a row of calendar.txt or calendar_dates.txt\n\
-\x20                 gives service, or none\n\
+\x20                 gives service, or none; a day that another row takes away still counts\n\
 \x20 last            the last such day, or none\n\
 \x20 trips-YYYYMMDD  trips that run on this day, each counted once, also if frequencies.txt repeats it;\n\
 \x20                 a line for each day from the first on, 366 at most\n\
@@ -76,12 +78,13 @@ With --picture answer.svg --rows 50 the first 50 journeys are drawn too.";
 
 pub(crate) const DEPARTURES: &str =
     "Each line is one of `csa profile` from a stop, with the stop_id before it. All stops are answered at once, but\n\
-for the one where journeys end; a stop without departures has no line. Stops come in the image's order, as `csa stops`\n\
-prints it. The last line `stops N points N read N` has the number of stops that have a line, the number of their\n\
+for the one where journeys end; a stop without departures has no line. Stops come in the image's order, as\n\
+`csa stops` prints it. The last line `stops N points N read N` has the number of stops that have a line, the number of their\n\
 departures, and the number of connections that were read.\n\
 A journey rides at least once, so a direct walk is not among the departures: --summary and --json have its seconds,\n\
 of the stops that have a line.\n\
-If a line of FILE is no stop_id of the image, nothing is printed but that line's number, on standard error.\n\
+If a line of FILE is no stop_id of the image, nothing is printed but that line's number, on standard error, and the\n\
+status is 2; a FILE that cannot be read is status 3.\n\
 \n\
 Example: csa departures examples/base.csa --to C --after 07:00:00 --until 09:00:00 --by 10:00:00 \
 --criterion arrival\n\
