@@ -79,8 +79,8 @@ With --picture answer.svg --rows 50 the first 50 journeys are drawn too.";
 pub(crate) const DEPARTURES: &str =
     "Each line is one of `csa profile` from a stop, with the stop_id before it. All stops are answered at once, but\n\
 for the one where journeys end; a stop without departures has no line. Stops come in the image's order, as\n\
-`csa stops` prints it. The last line `stops N points N read N` has the number of stops that have a line, the number of their\n\
-departures, and the number of connections that were read.\n\
+`csa stops` prints it. The last line `stops N points N read N` has the number of stops that have a line, the number\n\
+of their departures, and the number of connections that were read.\n\
 A journey rides at least once, so a direct walk is not among the departures: --summary and --json have its seconds,\n\
 of the stops that have a line.\n\
 If a line of FILE is no stop_id of the image, nothing is printed but that line's number, on standard error, and the\n\
