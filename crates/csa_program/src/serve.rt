@@ -173,9 +173,15 @@ fn names_of(alloc: Global, feeds: &[NamedFolder<'_>]) -> Result<Vec<String>, All
 {
     let mut names = Vec::with_capacity(alloc, feeds.len())?;
     for feed in feeds {
-        names.push(String::from_str(alloc, feed.name)?)?;
+        names.push(name_of(alloc, feed)?)?;
     }
     Ok(names)
+}
+
+fn name_of(alloc: Global, feed: &NamedFolder<'_>) -> Result<String, AllocError>
+    ensures { IfOk result (λ name. string_bytes name ≡ feed.now.name.now) }
+{
+    String::from_str(alloc, feed.name)
 }
 
 // Listens at the port, and serves whoever comes.
