@@ -62,13 +62,12 @@ pub fn run<H: Files + RandomSource + AllocGlobal + Clock, O: Write, E: Write>(
 ) -> u8 {
     let alloc = rt.alloc();
     let folder = request.folder;
-    let built = if request.progress || is_terminal {
-        let progress = Progress::new(alloc, rt, errors, is_terminal);
-        build(rt, &request, Some(progress))
+    let log = if request.progress || is_terminal {
+        Some(&mut *errors)
     } else {
-        build::<H, E>(rt, &request, None)
+        None
     };
-    match built {
+    match build(rt, &request, log, is_terminal) {
         Ok(built) => {
             if warnings {
                 warn(rt, folder, &request.plan.zone, &built, errors);
@@ -87,12 +86,18 @@ pub fn run<H: Files + RandomSource + AllocGlobal + Clock, O: Write, E: Write>(
     }
 }
 
-fn build<'a, H: Files + RandomSource + AllocGlobal + Clock, E: Write>(
-    rt: &H,
+// Builds the image, and writes it; progress is reported, if there is anything to report it to.
+fn build<'a, 'c, H: Files + RandomSource + AllocGlobal + Clock, E: Write>(
+    rt: &'c H,
     request: &BuildRequest<'a>,
-    progress: Option<Progress<'_, H, E>>,
+    log: Option<&'c mut E>,
+    is_terminal: bool,
 ) -> Result<Built, Failure<'a>> {
     let plan = plan_of(rt, &request.plan)?;
+    let progress = match log {
+        Some(errors) => Some(Progress::new(rt.alloc(), rt, errors, is_terminal)),
+        None => None,
+    };
     let mut files = ToldFiles::new(FolderFiles::new(rt, request.folder), progress);
     let built = build_told(rt, request.out, &mut files, plan);
     files.close();
