@@ -11,7 +11,7 @@ use Rattle.journeys.specs.Questions.{Asks, IsRefused}
 use Rattle.journeys.specs.Texts.{HasText, text_of}
 use Rattle.command_requests.specs.declared.requests.Question.{Question}
 use Rattle.csa_program.specs.Asking.{window_of}
-use Rattle.csa_program.specs.Listing.{times_text}
+use Rattle.departure_lines.specs.Words.{times_text}
 use Rattle.csa_program.specs.declared.journey.Failure.{Failure}
 use Rattle.csa_program.specs.declared.journey.Failure.TheVariants.{BadQuery, BadText, Faulty, OutOfMemory}
 

@@ -1,6 +1,7 @@
 use Rattle.std.proofs.Common.{◌≡◌, ◌++◌, take, string_bytes}
 use Rattle.std.specs.List.{flat_map}
-use Rattle.csa_program.specs.Listing.{departure_line, named_text}
+use Rattle.departure_lines.specs.Words.{departure_line}
+use Rattle.csa_program.specs.Listing.{named_text}
 use Rattle.csa_program.proofs.listing.append_all_named.Given as goal
 
 abbrev pub invariant-loop-departure : goal.invariant-loop-departure

@@ -1,5 +1,5 @@
 use Rattle.std.proofs.Common.{◌++◌, ◌∙◌, ap, string_bytes}
-use Rattle.csa_program.specs.Listing.{departure_line, point_text}
+use Rattle.departure_lines.specs.Words.{departure_line, point_text}
 use Rattle.text_pieces.proofs.Joined.{three}
 use Rattle.csa_program.proofs.listing.append_by_names.Goals as goal
 

@@ -1,6 +1,6 @@
 use Rattle.std.proofs.Common.{◌≡◌, ◌++◌, take, string_bytes}
 use Rattle.std.specs.List.{flat_map}
-use Rattle.csa_program.specs.Listing.{departure_line, numbered_text}
+use Rattle.departure_lines.specs.Words.{departure_line, numbered_text}
 use Rattle.csa_program.proofs.listing.append_numbered.Given as goal
 
 abbrev pub invariant-loop-departure : goal.invariant-loop-departure
