@@ -94,10 +94,7 @@ fn build<'a, 'c, H: Files + RandomSource + AllocGlobal + Clock, E: Write>(
     is_terminal: bool,
 ) -> Result<Built, Failure<'a>> {
     let plan = plan_of(rt, &request.plan)?;
-    let progress = match log {
-        Some(errors) => Some(Progress::new(rt.alloc(), rt, errors, is_terminal)),
-        None => None,
-    };
+    let progress = Progress::new(rt.alloc(), rt, log, is_terminal);
     let mut files = ToldFiles::new(FolderFiles::new(rt, request.folder), progress);
     let built = build_told(rt, request.out, &mut files, plan);
     files.close();

@@ -38,6 +38,7 @@ mod warnings;
 mod writing;
 
 use crate::asked::{Asked, answer};
+pub use crate::explaining::Explains;
 use crate::explaining::{explain, explain_zone};
 pub use crate::machine::Machine;
 use command_line::{Unread, read, wants_warnings};

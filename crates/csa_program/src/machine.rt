@@ -1,5 +1,6 @@
 //! What the program runs on.
 
+use crate::explaining::Explains;
 use feed_files::Disk;
 use std::random::RandomSource;
 use std::rt::Files;
@@ -9,6 +10,14 @@ use std::time::Clock;
 
 /// What the program needs of the machine that it runs on, beside sockets: a bound on their types
 /// can't stand in a bundle, since callers wouldn't know the types.
-pub trait Machine: Files + RandomSource + Disk + AllocGlobal + Clock + Threads + Wait + Sync {}
+pub trait Machine: Files
+    + RandomSource
+    + Disk
+    + Explains
+    + AllocGlobal
+    + Clock
+    + Threads
+    + Wait
+    + Sync {}
 
 impl<H: Files + RandomSource + AllocGlobal + Clock + Threads + Wait + Sync> Machine for H {}

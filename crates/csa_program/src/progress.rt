@@ -83,20 +83,23 @@ pub struct Progress<'c, C, W> {
 }
 
 impl<'c, C: Clock, W: Write> Progress<'c, C, W> {
-    /// Nothing is done yet.
+    /// Nothing is done yet. None if there is nothing to report it to.
     pub fn new(
         alloc: Global,
         clock: &'c C,
-        errors: &'c mut W,
+        errors: Option<&'c mut W>,
         is_terminal: bool,
-    ) -> Progress<'c, C, W> {
-        Progress {
-            alloc,
-            clock,
-            errors,
-            is_terminal,
-            begun: Begun::now(clock),
-            file: None,
+    ) -> Option<Progress<'c, C, W>> {
+        match errors {
+            Some(errors) => Some(Progress {
+                alloc,
+                clock,
+                errors,
+                is_terminal,
+                begun: Begun::now(clock),
+                file: None,
+            }),
+            None => None,
         }
     }
 
