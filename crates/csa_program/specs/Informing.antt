@@ -11,5 +11,5 @@ abbrev pub IsInformed : ImageValue → Option (List ℕ) → Option (List ℕ) �
 IsInformed image before after = (lines : List ℕ) × AreFacts image lines × Appends before after lines
 
 -- the lines of the feed's days were added, and nothing else
-abbrev pub HasDays : Feed → Option (List ℕ) → Option (List ℕ) → Type 0
-HasDays feed before after = (lines : List ℕ) × AreDayLines feed lines × Appends before after lines
+abbrev pub IsInformedOfDays : Feed → Option (List ℕ) → Option (List ℕ) → Type 0
+IsInformedOfDays feed before after = (lines : List ℕ) × AreDayLines feed lines × Appends before after lines

@@ -2,7 +2,7 @@
 
 ghost use Rattle.std.specs.Prelude.{◌≡◌, ◌≢◌};
 ghost use Rattle.command_requests.specs.declared.statuses.TheConstants.{ACCEPTED, REFUSED};
-ghost use Rattle.csa_program.specs.Informing.{HasDays};
+ghost use Rattle.csa_program.specs.Informing.{IsInformedOfDays};
 
 use crate::explaining::explain_refused;
 use crate::refusal::refuse_feed;
@@ -48,7 +48,7 @@ fn read_feed<H: Files + RandomSource + AllocGlobal>(
 
 // Prints which service days a feed has. It refuses nothing.
 fn print_days<O: Write>(alloc: Global, feed: &Feed, output: &mut O) -> u8
-    ensures printed { result ≡ ACCEPTED → HasDays feed.now (O.contents output.old) (O.contents output.new) }
+    ensures printed { result ≡ ACCEPTED → IsInformedOfDays feed.now (O.contents output.old) (O.contents output.new) }
     ensures refused { result ≢ REFUSED }
 {
     match days_text(alloc, feed) {
