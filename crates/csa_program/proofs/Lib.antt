@@ -1,3 +1,4 @@
 mod AnswerLemmas
 mod FeedNames
+mod NewSeats
 mod Picturing

@@ -1,10 +1,15 @@
 //! `csa serve --image IMAGE --port P --workers W --sessions N [--legs] [--log] --first DAY --days N --zone ZONE
 //! [NAME=FOLDER]..`.
 
-ghost use Rattle.std.specs.Prelude.{◌≡◌, ◌≢◌, ◌≤◌, ◌⊎◌, true, false, All, length, map, string_bytes, IfOk};
+ghost use Rattle.std.specs.Prelude.{◌≡◌, ◌≢◌, ◌≤◌, ◌⊎◌, true, false, [], All, length, map, string_bytes, IfOk};
 ghost use Rattle.std.specs.Io.KnownBytes.{Appends};
 ghost use Rattle.command_requests.specs.Ending.{status_of};
 ghost use Rattle.command_requests.specs.declared.statuses.TheConstants.{INPUT_OUTPUT, OUT_OF_MEMORY};
+ghost use Rattle.shelf_steps.specs.Events.{known_of};
+ghost use Rattle.shelf_steps.specs.Handed.{handed};
+ghost use Rattle.shelf_steps.specs.declared.views.View.{View};
+ghost use Rattle.epochs.specs.ShelfSeats.{SeatsHanded};
+ghost use Rattle.workers.specs.Sessions.{AreShares};
 ghost use Rattle.csa_program.specs.Serving.{counts_of, form_with, served_text};
 ghost use Rattle.feed_plans.specs.Planning.{IsPlanNow};
 
@@ -15,7 +20,8 @@ use crate::machine::Machine;
 use crate::opening::open_image;
 use crate::planning::{PlanFailure, zone_bytes};
 use crate::refusal::refuse_feed;
-use crate::sockets::Door;
+use crate::requests::Requests;
+use crate::sockets::{Door, Visit, Visitor};
 use crate::status;
 use clock_days::instant;
 use command_requests::{Ends, NamedFolder, PlanText, ServeRequest};
@@ -36,7 +42,7 @@ use std::thread::Threads;
 use std::time::{Clock, Instant};
 use text_pieces::{put_number, put_text};
 use workers::{
-    Feeds, LoadRefusal, Loaded, PointForm, Served, ShelvesRan, WorkersFault, run_shelves,
+    Client, Feeds, LoadRefusal, Loaded, PointForm, Served, ShelvesRan, WorkersFault, run_shelves,
 };
 
 /// The folders of the feeds that may be loaded.
@@ -276,6 +282,9 @@ fn serve_all<
     requires few { length made.2.items ≤ 16 }
     ensures none_left { IfOk result (λ ran. (ran.clients.failed ≡ true)
         ⊎ ((ran.clients.is_endless ≡ false) × (ran.clients.left ≡ 0))) }
+    ensures shares { IfOk result (λ ran. AreShares form ⟦<Visitor<'d, L> as Client>⟧.opens
+        ⟦<Requests<TcpStream, Option<Visit<'d, L>>> as Read>⟧.remaining ⟦<TcpStream as Write>⟧.contents
+        (λ seat. seat.number) (λ seat. seat.shown) (λ seat. known_of seat.view) made.2.items ran.served) }
 {
     let (shelves, loader, seats) = made;
     run_shelves::<Brand, _, _, _, _, _, _>(
@@ -313,16 +322,22 @@ fn form_of(legs: bool) -> PointForm
     }
 }
 
-// Shelves with the image as version 1, and seats for so many workers.
+// Shelves with the image as version 1, and seats for so many workers, none of which has done anything yet.
 fn shelves_of(
     alloc: Global,
     image: Verified,
     workers: usize,
 ) -> Result<(Shelves, ShelfLoader, Vec<ShelfSeat>), AllocError>
     requires { workers ≤ 16 }
-    ensures loader { IfOk result (λ made. made.1.table ≡ made.0) }
+    ensures first { IfOk result (λ made. made.1 ≡ record {
+      table = made.0;
+      view =
+          View.Loading (handed 16 image);
+      current = 1;
+      answers = [];
+    }) }
     ensures seats { IfOk result (λ made. All (λ seat. seat.table ≡ made.0) made.2.items) }
-    ensures count { IfOk result (λ made. length made.2.items ≡ workers) }
+    ensures new { IfOk result (λ made. SeatsHanded made.0 workers made.2.items) }
 {
     let Ok(shared) = Arc::new(alloc, image) else {
         return Err(AllocError);
