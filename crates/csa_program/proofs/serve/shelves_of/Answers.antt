@@ -1,0 +1,7 @@
+use Rattle.csa_program.proofs.NewSeats.{fewer_seats}
+use Rattle.csa_program.proofs.serve.shelves_of.Goals as goal
+
+pub returns-clause-new : goal.returns-clause-new
+returns-clause-new c =
+    fewer_seats c.in-Ok-new.shelves 16 c.args.workers c.in-Ok-new.seats.items c.truncate.new.self.items c.requires
+    c.in-Ok-new.ensures.seats c.truncate.ensures.items
