@@ -8,7 +8,8 @@ ghost use Rattle.command_requests.specs.declared.statuses.TheConstants.{INPUT_OU
 ghost use Rattle.shelf_steps.specs.Events.{known_of};
 ghost use Rattle.shelf_steps.specs.Handed.{handed};
 ghost use Rattle.shelf_steps.specs.declared.views.View.{View};
-ghost use Rattle.epochs.specs.ShelfSeats.{SeatsHanded};
+ghost use Rattle.epochs.specs.ShelfSeats.{NoticeValue, SeatsHanded};
+ghost use Rattle.workers.specs.Carrying.{ComeOfOrders};
 ghost use Rattle.workers.specs.Sessions.{AreShares};
 ghost use Rattle.csa_program.specs.Serving.{counts_of, form_with, served_text};
 ghost use Rattle.feed_plans.specs.Planning.{IsPlanNow};
@@ -26,7 +27,7 @@ use crate::status;
 use clock_days::instant;
 use command_requests::{Ends, NamedFolder, PlanText, ServeRequest};
 use epochs::{ShelfLoader, ShelfSeat, Shelves};
-use feed_files::{Disk, FolderFiles};
+use feed_files::{Disk, FeedFiles, FolderFiles};
 use feed_loader::Plan;
 use feed_plans::plan_at;
 use image_verifier::Verified;
@@ -265,6 +266,7 @@ fn serve_at<H: Disk + Explains + Clock + Threads + Wait + Sync, E: Write + Send>
 // Serves whoever comes to the door at these shelves, until nobody is left.
 fn serve_all<
     'd,
+    'f,
     H: Disk + Explains + Clock + Threads + Wait + Sync,
     L: SessionLog + Sync,
     E: Write + Send + Drop,
@@ -272,7 +274,7 @@ fn serve_all<
     rt: &H,
     door: Door<'d, L>,
     made: (Shelves, ShelfLoader, Vec<ShelfSeat>),
-    folders: &Folders<'_, H>,
+    folders: &Folders<'f, H>,
     form: PointForm,
     errors: E,
 ) -> Result<ShelvesRan<Door<'d, L>>, WorkersFault>
@@ -285,6 +287,10 @@ fn serve_all<
     ensures shares { IfOk result (λ ran. AreShares form ⟦<Visitor<'d, L> as Client>⟧.opens
         ⟦<Requests<TcpStream, Option<Visit<'d, L>>> as Read>⟧.remaining ⟦<TcpStream as Write>⟧.contents
         (λ seat. seat.number) (λ seat. seat.shown) (λ seat. known_of seat.view) made.2.items ran.served) }
+    ensures loads { IfOk result (λ ran. ComeOfOrders (λ (notice : NoticeValue). notice.version)
+        (⟦<Folders<'f, H> as Feeds>⟧.are_files folders.now) ⟦<FolderFiles<'f, H> as FeedFiles>⟧.holds
+        (IsPlanNow folders.now.asked.now folders.now.zone_bytes.items) (length folders.now.names.items)
+        made.1.answers ran.answers.value) }
 {
     let (shelves, loader, seats) = made;
     run_shelves::<Brand, _, _, _, _, _, _>(
