@@ -9,33 +9,17 @@ use Rattle.timetable.specs.declared.network.Connection.{Connection}
 use Rattle.timetable.specs.declared.network.Footpath.{Footpath}
 use Rattle.image_layout.specs.Image.{ImageValue}
 use Rattle.answer_pictures.specs.Naming.{stop_bytes, trip_bytes}
-use Rattle.journeys.specs.Texts.{number_text, text_of}
+use Rattle.journeys.specs.Texts.{number_text}
 use Rattle.journeys.specs.declared.answering.Departure.{Departure}
 use Rattle.session.specs.Profiles.{departures_data}
 use Rattle.session.specs.declared.point_form.PointForm.{PointForm}
 use Rattle.session_texts.specs.Replies.{line_of, profile_data}
 use Rattle.command_requests.specs.declared.requests.AnswerForm.{AnswerForm}
-
--- when one departs and arrives
-unfoldable pub times_text : ℕ → ℕ → List ℕ
-times_text departure arrival = (codes "dep " ++ clock_bytes departure) ++ (codes " arr " ++ clock_bytes arrival)
-
--- a word and a number, if there is one
-abbrev pub number_if_some : List ℕ → Option ℕ → List ℕ
-number_if_some word None = []
-number_if_some word (Some n) = word ++ decimal n
-
--- what is printed of a point before its journey: its times, and its trips and the seconds walked where the criterion counts them
-unfoldable pub point_text : ℕ → ToldValue → List ℕ
-point_text departure told =
-    times_text departure told.arrival ++ number_if_some (codes " trips ") told.trips ++ number_if_some (codes " walked ") told.walked ++ codes " :"
+pub use Rattle.departure_lines.specs.Words.{numbered_text, walk_word}
+unfoldable pub use Rattle.departure_lines.specs.Words.{departure_line, point_text, times_text}
 
 abbrev pub word_text : List ℕ → List ℕ
 word_text word = codes " " ++ word
-
--- a journey by the numbers of the image, as `csa journey` reads it
-abbrev pub numbered_text : JourneyValue → List ℕ
-numbered_text journey = word_text (text_of journey)
 
 -- a walk by the names of its stops, and its seconds
 unfoldable pub named_walk : NamesValue → Footpath → List ℕ
@@ -67,14 +51,6 @@ named_start names (Some footpath) = named_walk names footpath
 -- a journey by the names of an image
 abbrev pub named_text : ImageValue → JourneyValue → List ℕ
 named_text image journey = named_start image.names journey.start ++ flat_map (named_ride image) journey.rides
-
--- the line of a best departure
-unfoldable pub departure_line : {V : Type 0} → (V → ToldValue) → (JourneyValue → List ℕ) → Departure V → List ℕ
-departure_line told words departure = point_text departure.time (told departure.value) ++ words departure.journey ++ codes "\n"
-
-abbrev pub walk_word : Option ℕ → List ℕ
-walk_word None = codes " walk none"
-walk_word (Some seconds) = codes " walk " ++ decimal seconds
 
 -- the last line: how many departures there are, how many connections were read, and the seconds of the direct footpath
 unfoldable pub end_line : ℕ → ℕ → Option ℕ → List ℕ

@@ -6,12 +6,12 @@ ghost use Rattle.csa_program.specs.declared.journey.Failure.TheVariants.{OutOfMe
 ghost use Rattle.csa_program.specs.Judging.{IsAccepted, IsFaulty, IsVerdict, times_line};
 
 use crate::explaining::explain;
-use crate::listing::append_times;
 use crate::putting::put_text;
 use crate::question::query_asked;
 use crate::refusal::Refusal;
 use crate::status;
 use command_requests::JourneyRequest;
+use departure_lines::append_times;
 use image_verifier::Verified;
 use journeys::{JourneyFault, TextFault, check, journey_parse};
 use std::alloc::{AllocError, Global};

@@ -2,17 +2,15 @@
 
 ghost use Rattle.std.specs.Prelude.{◌≡◌, ◌++◌, IfOk, OnOk, length, string_bytes};
 ghost use Rattle.std.specs.List.{flat_map};
-ghost use Rattle.criteria.specs.declared.told.ToldValue.{ToldValue};
-ghost use Rattle.csa_program.specs.Listing.{departure_line, end_line, lines_text, named_text, number_if_some};
-ghost use Rattle.csa_program.specs.Listing.{numbered_text, point_text, times_text, walk_word};
+ghost use Rattle.csa_program.specs.Listing.{departure_line, end_line, lines_text, named_text, numbered_text};
 
 use crate::naming::append_named;
-use crate::putting::{put_clock, put_number, put_text, put_word};
-use criteria::{Told, ToldValue};
+use crate::putting::{put_number, put_text};
+use criteria::Told;
+use departure_lines::{append_by_numbers, append_direct, append_point};
 use image_verifier::Verified;
-use journeys::{Answer, Departure, journey_string};
+use journeys::{Answer, Departure};
 use std::alloc::{AllocError, Global};
-use timetable::Journey;
 
 /// The lines of an answer, whose journeys are of the image's numbers.
 pub fn numbered_lines<C: Told>(
@@ -86,21 +84,6 @@ fn append_all_named<C: Told>(
     Ok(())
 }
 
-fn append_by_numbers<C: Told>(
-    lines: &mut String,
-    alloc: Global,
-    criterion: &C,
-    departure: &Departure<C::V>,
-) -> Result<(), AllocError>
-    ensures { OnOk result (string_bytes lines.new ≡ string_bytes lines.old
-        ++ departure_line C.told numbered_text departure.now) }
-{
-    append_point(lines, departure.time, criterion.tell(&departure.value))?;
-    append_journey(lines, alloc, &departure.journey)?;
-    put_text(lines, "\n")?;
-    Ok(())
-}
-
 fn append_by_names<C: Told>(
     lines: &mut String,
     alloc: Global,
@@ -117,43 +100,6 @@ fn append_by_names<C: Told>(
     Ok(())
 }
 
-/// Adds what is printed of a point before its journey.
-fn append_point(lines: &mut String, departure: u32, told: ToldValue) -> Result<(), AllocError>
-    ensures { OnOk result (string_bytes lines.new ≡ string_bytes lines.old ++ point_text departure told) }
-{
-    append_times(lines, departure, told.arrival)?;
-    append_number(lines, " trips ", told.trips)?;
-    append_number(lines, " walked ", told.walked)?;
-    put_text(lines, " :")?;
-    Ok(())
-}
-
-/// Adds when one departs and arrives.
-pub fn append_times(lines: &mut String, departure: u32, arrival: u32) -> Result<(), AllocError>
-    ensures { OnOk result (string_bytes lines.new ≡ string_bytes lines.old ++ times_text departure arrival) }
-{
-    put_clock(lines, "dep ", departure)?;
-    put_clock(lines, " arr ", arrival)?;
-    Ok(())
-}
-
-/// Adds a word and a number, if there is one.
-fn append_number(lines: &mut String, word: &str, number: Option<u32>) -> Result<(), AllocError>
-    ensures { OnOk result (string_bytes lines.new ≡ string_bytes lines.old ++ number_if_some word.now number) }
-{
-    match number {
-        None => Ok(()),
-        Some(number) => put_number(lines, word, u64::from(number)),
-    }
-}
-
-fn append_journey(lines: &mut String, alloc: Global, journey: &Journey) -> Result<(), AllocError>
-    ensures { OnOk result (string_bytes lines.new ≡ string_bytes lines.old ++ numbered_text journey.now) }
-{
-    let text = journey_string(alloc, journey)?;
-    put_word(lines, text.as_str())
-}
-
 /// Adds the last line: how many departures there are, how many connections were read, and the direct footpath.
 fn append_end(
     lines: &mut String,
@@ -168,13 +114,4 @@ fn append_end(
     append_direct(lines, walk)?;
     put_text(lines, "\n")?;
     Ok(())
-}
-
-fn append_direct(lines: &mut String, walk: Option<u32>) -> Result<(), AllocError>
-    ensures { OnOk result (string_bytes lines.new ≡ string_bytes lines.old ++ walk_word walk) }
-{
-    match walk {
-        None => put_text(lines, " walk none"),
-        Some(seconds) => put_number(lines, " walk ", u64::from(seconds)),
-    }
 }
