@@ -18,7 +18,7 @@ use Rattle.departure_lines.specs.declared.form.LineForm.{LineForm}
 use Rattle.departure_lines.specs.declared.stop_lists.Wanted.{Wanted}
 use Rattle.departure_lines.specs.declared.stop_lists.Wanted.TheVariants.{All}
 use Rattle.csa_program.specs.declared.wanted_stops.NoList.{NoList}
-use Rattle.csa_program.specs.declared.wanted_stops.NoList.TheVariants.{UnknownStop, Unreadable, OutOfMemory}
+use Rattle.csa_program.specs.declared.wanted_stops.NoList.TheVariants.{NotText, UnknownStop, Unreadable, OutOfMemory}
 
 -- how departures are printed in a form that was asked for
 abbrev pub form_of : DeparturesForm → LineForm
@@ -51,6 +51,7 @@ IsWantedFrom names _ wanted = IsListed names wanted
 abbrev pub IsUnknown : NamesValue → NoList → Type 0
 IsUnknown names (UnknownStop number) = (list : List ℕ) × IsUnknownLine names (lines list) number
 IsUnknown names Unreadable = Unit
+IsUnknown names NotText = Unit
 IsUnknown names OutOfMemory = Unit
 
 -- the departures from the stops that are wanted were added to what was printed before, and nothing else

@@ -6,7 +6,7 @@ use service_days::day_start;
 use std::alloc::Global;
 use std::io::Write;
 
-/// Tells it where clocks will mean other instants once a feed is loaded. That it can't be told changes nothing.
+/// Reports it if clocks will mean other instants once a feed is loaded. That it can't be reported changes nothing.
 pub fn tell_bases<E: Write>(alloc: Global, image: &Verified, plan: &Plan, errors: &mut E) {
     let Ok(loaded) = day_start(&plan.zone, plan.first_day) else {
         return;

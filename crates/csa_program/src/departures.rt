@@ -111,6 +111,10 @@ fn explain_list<H: Files + AllocGlobal, E: Write>(
             status::REFUSED
         }
         NoList::Unreadable => status::tell_unread(rt, errors, path),
+        NoList::NotText => {
+            explain(errors, &["csa: --from ", path, ": it isn't UTF-8"]);
+            status::INPUT_OUTPUT
+        }
         NoList::OutOfMemory => status::OUT_OF_MEMORY,
     }
 }

@@ -68,7 +68,7 @@ fn write_fault<W: fmt::Write>(number: u8, name: &str, f: &mut fmt::Formatter<W>)
     write!(f, "refused {number} {name}")
 }
 
-// A text's fault. Want of memory has no number, and isn't told.
+// A text's fault. That memory runs out has no number, and isn't a refusal.
 fn write_text_fault<W: fmt::Write>(fault: TextFault, f: &mut fmt::Formatter<W>) -> fmt::Result {
     match fault.number() {
         Some(number) => write_fault(number, fault.name(), f),
@@ -92,7 +92,7 @@ fn write_journey_fault<W: fmt::Write>(
     }
 }
 
-/// Tells why a feed isn't loaded; of want of memory nothing is printed.
+/// Prints why a feed isn't loaded; that memory runs out has the status alone.
 pub fn refuse_feed<O: Write>(alloc: Global, output: &mut O, fault: LoadFault) -> u8 {
     if fault.is_want_of_memory() {
         return status::OUT_OF_MEMORY;

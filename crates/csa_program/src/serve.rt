@@ -122,7 +122,7 @@ impl<'a, H: Disk + Explains + Clock + Sync> Feeds for Folders<'a, H> {
     }
 }
 
-/// Serves sessions until as many were served as are asked for, or tells the first thing that is wrong.
+/// Serves sessions until as many were served as are asked for, or prints the first thing that is wrong.
 pub fn run<
     H: Machine + Net<Listener = TcpListener, Stream = TcpStream>,
     I: Read,
@@ -355,7 +355,7 @@ fn shelves_of(
     Ok((shelves, loader, seats))
 }
 
-// Tells that nobody can listen at the port, and why.
+// Reports that the port can't be listened at, and why.
 fn unheard<E: Write>(alloc: Global, errors: &mut E, port: u16, kind: ErrorKind) -> u8 {
     let reason = reason_of(kind);
     status::write_line(

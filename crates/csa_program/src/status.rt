@@ -34,7 +34,7 @@ pub fn write_line<W: Write>(writer: &mut W, line: Result<String, AllocError>, st
     }
 }
 
-/// Tells a refusal.
+/// Prints a refusal.
 pub fn tell_refusal<O: Write>(alloc: Global, output: &mut O, refusal: &Refusal) -> u8
     ensures { (result ≡ REFUSED) ⊎ (result ≡ INPUT_OUTPUT) ⊎ (result ≡ OUT_OF_MEMORY) }
 {
@@ -54,14 +54,14 @@ pub fn tell_unwritten<E: Write>(alloc: Global, errors: &mut E, path: &str, reaso
     file_failed_since(alloc, errors, path, "written", reason)
 }
 
-/// Tells of a file that can't be written.
+/// Reports a file that can't be written.
 pub fn tell_unwritable<E: Write>(alloc: Global, errors: &mut E, path: &str) -> u8
     ensures { (result ≡ INPUT_OUTPUT) ⊎ (result ≡ OUT_OF_MEMORY) }
 {
     file_failed(alloc, errors, path, "written")
 }
 
-// Tells what can't be done to a file.
+// Reports what can't be done to a file.
 fn file_failed<E: Write>(alloc: Global, errors: &mut E, path: &str, what: &str) -> u8
     ensures { (result ≡ INPUT_OUTPUT) ⊎ (result ≡ OUT_OF_MEMORY) }
 {
@@ -89,7 +89,7 @@ fn file_failed_since<E: Write>(
     )
 }
 
-/// Tells that a file of a feed can't be read: by a refusal's line, with the status of a file that can't be read.
+/// Prints the refusal of a feed of which a file can't be read; the status is that of a file that can't be read.
 pub fn tell_feed_unreadable<O: Write>(alloc: Global, output: &mut O, refusal: &Refusal) -> u8 {
     write_line(output, format!(in alloc; "{refusal}\n"), INPUT_OUTPUT)
 }

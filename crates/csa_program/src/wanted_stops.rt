@@ -18,6 +18,8 @@ pub enum NoList {
     /// The line of this number, from 1 on, is no stop_id of the image.
     UnknownStop(usize),
     Unreadable,
+    /// The file isn't UTF-8.
+    NotText,
     OutOfMemory,
 }
 
@@ -45,6 +47,7 @@ fn read_list<H: Files + AllocGlobal>(rt: &H, image: &Verified, path: &str) -> Re
         Ok(text) => wanted_of(rt.alloc(), image, text.as_str()),
         Err(error) => match error.kind() {
             ErrorKind::OutOfMemory => Err(NoList::OutOfMemory),
+            ErrorKind::InvalidData => Err(NoList::NotText),
             _ => Err(NoList::Unreadable),
         },
     }

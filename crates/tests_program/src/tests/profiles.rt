@@ -261,11 +261,16 @@ complains 64
 
 # As JSON, a line a stop.
 run departures - --to C --after 07:00:00 --until 09:00:00 --by 10:00:00 --criterion arrival+trips --json
-prints {\"from\":\"A\",\"points\":[{\"arr\":\"08:20:00\",\"dep\":\"08:00:00\",\"journey\":\"ride 0 0 walk 1 1 0 ride 2 2\",\"trips\":2},{\"arr\":\"08:30:00\",\"dep\":\"08:00:00\",\"journey\":\"ride 0 1\",\"trips\":1}],\"walk\":null}
-prints {\"from\":\"B\",\"points\":[{\"arr\":\"08:20:00\",\"dep\":\"08:12:00\",\"journey\":\"ride 2 2\",\"trips\":1}],\"walk\":null}
+prints {\"from\":\"A\",\"points\":[{\"arr\":\"08:20:00\",\"dep\":\"08:00:00\",\
+\"journey\":\"ride 0 0 walk 1 1 0 ride 2 2\",\"trips\":2},{\"arr\":\"08:30:00\",\"dep\":\"08:00:00\",\
+\"journey\":\"ride 0 1\",\"trips\":1}],\"walk\":null}
+prints {\"from\":\"B\",\"points\":[{\"arr\":\"08:20:00\",\"dep\":\"08:12:00\",\"journey\":\"ride 2 2\",\"trips\":1}],\
+\"walk\":null}
 answers {\"points\":3,\"read\":3,\"stops\":2}
-run departures - --to C --after 07:00:00 --until 09:00:00 --by 10:00:00 --criterion arrival+trips+walk --json --no-journeys
-prints {\"from\":\"A\",\"points\":[{\"arr\":\"08:20:00\",\"dep\":\"08:00:00\",\"trips\":2,\"walked\":0},{\"arr\":\"08:30:00\",\"dep\":\"08:00:00\",\"trips\":1,\"walked\":0}],\"walk\":null}
+run departures - --to C --after 07:00:00 --until 09:00:00 --by 10:00:00 --criterion arrival+trips+walk --json \
+--no-journeys
+prints {\"from\":\"A\",\"points\":[{\"arr\":\"08:20:00\",\"dep\":\"08:00:00\",\"trips\":2,\"walked\":0},\
+{\"arr\":\"08:30:00\",\"dep\":\"08:00:00\",\"trips\":1,\"walked\":0}],\"walk\":null}
 prints {\"from\":\"B\",\"points\":[{\"arr\":\"08:20:00\",\"dep\":\"08:12:00\",\"trips\":1,\"walked\":0}],\"walk\":null}
 answers {\"points\":3,\"read\":3,\"stops\":2}
 
@@ -294,9 +299,10 @@ complains 64
 run departures --help
 helps
 
-# Footpaths of a minute from A to B and from B to C, and of two from A to C: each stop's direct one is beside
-# its departures, and takes none away.
-image 1346458435 1 3 2 3 6 7 1705276800 0 0 1 28800 29400 0 3 1 2 29400 30600 0 3 1 2 29520 30000 1 3 0 1 3 6 0 0 0 60 1 0 0 120 1 60 2 0 0 1 2 3 5 7 20240115 20240115 1413694017 3298353
+# Footpaths of a minute from A to B and from B to C, and of two from A to C: each stop's direct one is beside its
+# departures, and takes none away.
+image 1346458435 1 3 2 3 6 7 1705276800 0 0 1 28800 29400 0 3 1 2 29400 30600 0 3 1 2 29520 30000 1 3 0 1 3 6 0 0 0 \
+60 1 0 0 120 1 60 2 0 0 1 2 3 5 7 20240115 20240115 1413694017 3298353
 run departures - --to C --after 07:00:00 --until 09:00:00 --by 10:00:00 --criterion arrival
 prints A dep 08:00:00 arr 08:11:00 : ride 0 0 walk 1 2 60
 prints A dep 08:11:00 arr 08:20:00 : walk 0 1 60 ride 2 2
@@ -307,7 +313,8 @@ prints A points 2 first 08:00:00 last 08:11:00 least 540 walk 120
 prints B points 1 first 08:12:00 last 08:12:00 least 480 walk 60
 answers stops 2 points 3 read 3
 run departures - --to C --after 07:00:00 --until 09:00:00 --by 10:00:00 --criterion arrival --json --no-journeys
-prints {\"from\":\"A\",\"points\":[{\"arr\":\"08:11:00\",\"dep\":\"08:00:00\"},{\"arr\":\"08:20:00\",\"dep\":\"08:11:00\"}],\"walk\":120}
+prints {\"from\":\"A\",\"points\":[{\"arr\":\"08:11:00\",\"dep\":\"08:00:00\"},{\"arr\":\"08:20:00\",\
+\"dep\":\"08:11:00\"}],\"walk\":120}
 prints {\"from\":\"B\",\"points\":[{\"arr\":\"08:20:00\",\"dep\":\"08:12:00\"}],\"walk\":60}
 answers {\"points\":3,\"read\":3,\"stops\":2}
 ";
