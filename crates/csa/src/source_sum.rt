@@ -2,4 +2,4 @@
 
 /// The sum of all sources but this file, as `release/sources --program` prints it. `release/stamp` writes it, and
 /// `.ci/run` compares it with the sources.
-pub const SOURCES: &str = "09cb05b7725569e042aa6d1d39f6765c21b9d82af8c26eb6fb76a9fd1bbd0f9b";
+pub const SOURCES: &str = "3f635874911d7b7e329170615f2ef99d91d611c2d116770f3b37cfaa329acf12";
