@@ -2,4 +2,4 @@
 
 /// The sum of all sources but this file, as `release/sources --program` prints it. `release/stamp` writes it, and
 /// `.ci/run` compares it with the sources.
-pub const SOURCES: &str = "3f635874911d7b7e329170615f2ef99d91d611c2d116770f3b37cfaa329acf12";
+pub const SOURCES: &str = "ed96d445dbd856c63d900cb38d4bd5ed7f88173ca894c1488a936e890e1ce4b6";

@@ -277,12 +277,12 @@ fn run_on_stage<R: Machine + Net<Listener = TcpListener, Stream = TcpStream>>(
 
 /// Whether these are the errors that stand ready, but for seconds. Where none are, a refused image
 /// or journey is explained in some words.
-fn is_told(alloc: Global, stage: &Stage<'_>, errors: &[u8]) -> Result<bool, Fail> {
-    if stage.told.is_empty() && is_of_image(stage.printed.as_str()) {
+fn is_told(alloc: Global, printed: &str, told: &str, errors: &[u8]) -> Result<bool, Fail> {
+    if told.is_empty() && is_of_image(printed) {
         return Ok(errors.starts_with(b"csa: "));
     }
     let text = masked(alloc, str::from_utf8(errors).unwrap_or("no text"))?;
-    Ok(text.as_bytes() == stage.told.as_bytes())
+    Ok(text.as_str() == told)
 }
 
 /// Whether a line is the refusal of an image or a journey.
@@ -325,15 +325,16 @@ fn expect_lines<R: Machine + Net<Listener = TcpListener, Stream = TcpStream> + A
     status: &str,
 ) -> Result<(), Fail> {
     let outcome = run_on_stage(rt, stage)?;
+    let is_printed = outcome.output.as_slice() == stage.printed.as_bytes();
+    let is_told = is_told(
+        rt.alloc(),
+        stage.printed.as_str(),
+        stage.told.as_str(),
+        &outcome.errors,
+    )?;
     let words = &stage.words;
-    assert!(rt;
-        outcome.output.as_slice() == stage.printed.as_bytes(),
-        "the output of {words:?}"
-    );
-    assert!(rt;
-        is_told(rt.alloc(), stage, &outcome.errors)?,
-        "the errors of {words:?}"
-    );
+    assert!(rt; is_printed, "the output of {words:?}");
+    assert!(rt; is_told, "the errors of {words:?}");
     assert_eq!(rt; u32::from(outcome.status), number(status)?, "{words:?}");
     stage.printed.clear();
     stage.told.clear();
