@@ -1,6 +1,6 @@
--- Where the name of a trip stands among the names of an image.
+-- Where a name is among the names of an image.
 use Rattle.std.proofs.Common.{◌≡◌, ◌+◌, ◌<◌, ◌≤◌, ℕ, List, [], Some, length, map, sym, ap, ◌∙◌, arith}
-use Rattle.std.specs.Prelude.{slice_get, option_map}
+use Rattle.std.specs.Prelude.{slice_get, get_or, option_map}
 use Rattle.std.proofs.lemmas.List.{length-append, length-map, get_or-append-add}
 use Rattle.std.proofs.lemmas.Option.{slice_get-get_or, slice_get-map, slice_get_past}
 use Rattle.timetable.specs.NamesValue.{NamesValue, TripNameValue}
@@ -9,6 +9,12 @@ use Rattle.answer_pictures.specs.Naming.{bytes_or_none, trip_bytes}
 
 name_of_trip : TripNameValue → List ℕ
 name_of_trip t = t.name
+
+pub name_there : (n : NamesValue) (i : ℕ) → i < length n.stops + length n.trips → slice_get (name_list n) i ≡ Some (get_or (name_list n) i [])
+unfolding name_of_trip
+name_there n i lt =
+    let all = length-append n.stops (map name_of_trip n.trips) in
+    slice_get-get_or (name_list n) i [] (omega (arith, all, length-map n.trips name_of_trip, lt))
 
 pub trip_there : (n : NamesValue) (trip : ℕ) → trip < length n.trips → slice_get (name_list n) (length n.stops + trip) ≡ Some (trip_bytes n trip)
 unfolding name_of_trip

@@ -1,6 +1,8 @@
 //! The names of an image as texts, for whoever tells journeys to people.
 
-ghost use Rattle.std.specs.Prelude.{◌≡◌, slice_get, string_bytes, IfOk};
+ghost use Rattle.std.specs.Prelude.{◌≡◌, ◌<◌, ◌+◌, ℕ, List, slice_get, string_bytes, IfOk};
+ghost use Rattle.timetable.specs.Legal.{At};
+ghost use Rattle.image_layout.specs.Spelling.{name_list};
 ghost use Rattle.answer_pictures.specs.Naming.{stop_bytes, trip_bytes};
 
 use image_verifier::Verified;
@@ -18,12 +20,39 @@ pub fn connection_at(image: &Verified, place: u32) -> Option<Connection>
     }
 }
 
+// The bytes of a name. Names are numbered: those of the stops, and then those of the trips.
+fn bytes_of_name(alloc: Global, image: &Verified, i: usize) -> Result<Vec<u8>, AllocError>
+    requires { i < image.now.timetable.stops + image.now.timetable.trips }
+    ensures { (name : List ℕ) → At (name_list image.now.names) i name → IfOk result (λ bytes. bytes.items ≡ name) }
+{
+    let len = image.name_len(i);
+    let mut bytes = Vec::with_capacity(alloc, len)?;
+    for j in 0..len {
+        bytes.push(image.name_byte(i, j))?;
+    }
+    Ok(bytes)
+}
+
+// A name as a text, as the image has it. The only error is that memory ran out.
+fn text_of_name(alloc: Global, image: &Verified, i: usize) -> Result<String, AllocError>
+    requires { i < image.now.timetable.stops + image.now.timetable.trips }
+    ensures { (name : List ℕ) → At (name_list image.now.names) i name
+        → IfOk result (λ text. string_bytes text ≡ name) }
+{
+    image.stops();
+    let bytes = bytes_of_name(alloc, image, i)?;
+    match String::from_utf8(bytes) {
+        Ok(text) => Ok(text),
+        Err(_) => unreachable!(),
+    }
+}
+
 /// The name of a stop, and nothing where there is no such stop.
 pub fn stop_name(alloc: Global, image: &Verified, stop: u32) -> Result<String, AllocError>
     ensures { IfOk result (λ name. string_bytes name ≡ stop_bytes image.now.names stop) }
 {
     if stop < image.stops() {
-        image.name(alloc, stop as usize)
+        text_of_name(alloc, image, stop as usize)
     } else {
         Ok(String::new(alloc))
     }
@@ -35,7 +64,7 @@ pub fn trip_name(alloc: Global, image: &Verified, trip: u32) -> Result<String, A
 {
     let stops = image.stops() as usize;
     if trip < image.trips() {
-        image.name(alloc, stops + trip as usize)
+        text_of_name(alloc, image, stops + trip as usize)
     } else {
         Ok(String::new(alloc))
     }

@@ -90,8 +90,8 @@ fn unpack_name_bytes(alloc: Global, words: &[u32], name: usize) -> Result<Vec<u8
     Ok(bytes)
 }
 
-/// A name.
-pub fn unpack_name(alloc: Global, words: &[u32], name: usize) -> Result<String, AllocError>
+// A name.
+fn unpack_name(alloc: Global, words: &[u32], name: usize) -> Result<String, AllocError>
     requires accepted { IsAccepted words.now }
     requires within { name < name_count words.now }
     ensures { IfOk result (λ text. string_bytes text ≡ name_of words.now name) }

@@ -22,7 +22,7 @@ use crate::fault::ImageFault;
 use crate::find::{name_len_at, stop_named};
 use crate::judge::judge;
 use crate::search::first_departure;
-use crate::unpacked::{unpack_name, unpack_names, unpack_timetable};
+use crate::unpacked::{unpack_names, unpack_timetable};
 use image_layout::{
     Header, base_at, connection_at, day_at, foot_from_at, foot_index_at, foot_secs_at,
     name_byte_at, repeat_at,
@@ -242,15 +242,6 @@ impl Verified {
         name_byte_at(&self.words, i, j)
     }
 
-    /// A name as a text of its own.
-    pub fn name(&self, alloc: Global, i: usize) -> Result<String, AllocError>
-        requires { i < self.now.timetable.stops + self.now.timetable.trips }
-        ensures { (name : List ℕ) → At (name_list self.now.names) i name
-            → IfOk result (λ text. string_bytes text ≡ name) }
-    {
-        unpack_name(alloc, &self.words, i)
-    }
-
     /// The service day of a trip, as the number YYYYMMDD.
     pub fn trip_day(&self, trip: usize) -> u32
         requires { trip < self.now.timetable.trips }
@@ -268,7 +259,7 @@ impl Verified {
     }
 
     /// The timetable and the names as values of their own. This is the one call that takes memory,
-    /// and want of it is its one error; the image stays as it is.
+    /// and running out of it is its one error; the image stays as it is.
     pub fn to_timetable(&self, alloc: Global) -> Result<(Timetable, Names), AllocError>
         ensures timetable { IfOk result (λ made. made.0 ≡ self.now.timetable) }
         ensures names { IfOk result (λ made. made.1 ≡ self.now.names) }

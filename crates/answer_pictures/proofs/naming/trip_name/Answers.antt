@@ -11,7 +11,7 @@ returns-then-trip-trips c =
     let fit = c.stops-stops.ensures.kept.names in
     let below : c.args.trip < length names.trips = omega (arith, fit.trip_names, c.trips.ensures, c.if-trip-trips.true) in
     let place : length names.stops + c.args.trip ≡ c.stops-stops.result + c.args.trip = omega (arith, fit.stop_names, c.stops-stops.ensures.stops) in
-    c.name.ensures (trip_bytes names c.args.trip)
+    c.text_of_name.ensures (trip_bytes names c.args.trip)
     (subst (λ (i : ℕ). slice_get (name_list names) i ≡ Some (trip_bytes names c.args.trip)) place (trip_there names c.args.trip below))
 
 pub returns-else-trip-trips : goal.returns-else-trip-trips
