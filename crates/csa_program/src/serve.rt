@@ -10,7 +10,7 @@ ghost use Rattle.shelf_steps.specs.Handed.{handed};
 ghost use Rattle.shelf_steps.specs.declared.views.View.{View};
 ghost use Rattle.epochs.specs.ShelfSeats.{NoticeValue, SeatsHanded};
 ghost use Rattle.workers.specs.Carrying.{ComeOfOrders};
-ghost use Rattle.workers.specs.Sessions.{AreShares};
+ghost use Rattle.workers.specs.Sessions.{AreServedSince};
 ghost use Rattle.csa_program.specs.Serving.{counts_of, form_with, served_text};
 ghost use Rattle.feed_plans.specs.Planning.{IsPlanNow};
 
@@ -245,6 +245,7 @@ fn serve_at<H: Disk + Explains + Clock + Threads + Wait + Sync, E: Write + Send>
 ) -> Result<(Served, bool), WorkersFault>
     requires loader { made.1.table ≡ made.0 }
     requires seats { All (λ seat. seat.table ≡ made.0) made.2.items }
+    requires new { SeatsHanded made.0 (length made.2.items) made.2.items }
     requires some { 1 ≤ length made.2.items }
     requires few { length made.2.items ≤ 16 }
 {
@@ -280,13 +281,16 @@ fn serve_all<
 ) -> Result<ShelvesRan<Door<'d, L>>, WorkersFault>
     requires loader { made.1.table ≡ made.0 }
     requires seats { All (λ seat. seat.table ≡ made.0) made.2.items }
+    requires new { SeatsHanded made.0 (length made.2.items) made.2.items }
     requires some { 1 ≤ length made.2.items }
     requires few { length made.2.items ≤ 16 }
     ensures none_left { IfOk result (λ ran. (ran.clients.failed ≡ true)
         ⊎ ((ran.clients.is_endless ≡ false) × (ran.clients.left ≡ 0))) }
-    ensures shares { IfOk result (λ ran. AreShares form ⟦<Visitor<'d, L> as Client>⟧.opens
+    ensures seats { IfOk result (λ ran. All (λ seat. seat.table ≡ made.0) ran.seats.items) }
+    ensures shares { IfOk result (λ ran. AreServedSince form ⟦<Visitor<'d, L> as Client>⟧.opens
         ⟦<Requests<TcpStream, Option<Visit<'d, L>>> as Read>⟧.remaining ⟦<TcpStream as Write>⟧.contents
-        (λ seat. seat.number) (λ seat. seat.shown) (λ seat. known_of seat.view) made.2.items ran.served) }
+        (λ seat. seat.number) (λ seat. seat.shown) (λ seat. known_of seat.view) door.came ran.clients.came
+        made.2.items ran.served ran.seats.items) }
     ensures loads { IfOk result (λ ran. ComeOfOrders (λ (notice : NoticeValue). notice.version)
         (⟦<Folders<'f, H> as Feeds>⟧.are_files folders.now) ⟦<FolderFiles<'f, H> as FeedFiles>⟧.holds
         (IsPlanNow folders.now.asked.now folders.now.zone_bytes.items) (length folders.now.names.items)

@@ -1,9 +1,10 @@
 //! Sessions over TCP.
 
-ghost use Rattle.std.specs.Prelude.{◌≡◌, ◌⊎◌, ◌↔◌, ◌+◌, true, false, IfSome, IsTrue, MatchOption, ⊤};
+ghost use Rattle.std.specs.Prelude.{◌≡◌, ◌⊎◌, ◌↔◌, ◌+◌, ◌++◌, ◌∷◌, [], true, false, IfSome, IsTrue, MatchOption, ⊤};
 
 use crate::logging::{Begun, SessionLog};
 use crate::requests::Requests;
+use load_orders::Notes;
 use std::io::ErrorKind;
 use std::net::{TcpListener, TcpStream};
 use workers::{Client, Clients, ConnFault, End};
@@ -76,7 +77,7 @@ impl<'a, L: SessionLog + Sync> Client for Visitor<'a, L> {
     }
 }
 
-/// Accepts connections, as many as are wanted.
+/// Accepts connections, as many as are wanted. Contracts see the clients that came.
 #[derive(Drop)]
 pub struct Door<'a, L> {
     listener: &'a TcpListener,
@@ -86,6 +87,7 @@ pub struct Door<'a, L> {
     /// How many were accepted.
     accepted: u64,
     log: Option<&'a L>,
+    came: Notes<Visitor<'a, L>>,
 }
 
 impl<'a, L> Door<'a, L> {
@@ -94,6 +96,7 @@ impl<'a, L> Door<'a, L> {
         ensures left { result.left ≡ connections }
         ensures endless { IsTrue result.is_endless ↔ (connections ≡ 0) }
         ensures whole { result.failed ≡ false }
+        ensures nobody { result.came ≡ [] }
     {
         Door {
             listener,
@@ -102,6 +105,7 @@ impl<'a, L> Door<'a, L> {
             failed: false,
             accepted: 0,
             log,
+            came: Notes::none(),
         }
     }
 
@@ -117,6 +121,7 @@ impl<'a, L> Door<'a, L> {
         ensures failed { MatchOption result (self.new.failed ≡ true) (λ _. self.new.failed ≡ self.old.failed) }
         ensures left { self.new.left ≡ self.old.left }
         ensures endless { self.new.is_endless ≡ self.old.is_endless }
+        ensures came { self.new.came ≡ self.old.came }
     {
         for _ in 0..u64::MAX {
             match self.listener.accept() {
@@ -133,30 +138,39 @@ impl<'a, L> Door<'a, L> {
         None
     }
 
-    // The client behind a connection.
+    // The client behind a connection, who came.
     fn visitor(&mut self, stream: TcpStream) -> Visitor<'a, L>
         ensures left { self.new.left ≡ self.old.left }
         ensures endless { self.new.is_endless ≡ self.old.is_endless }
         ensures failed { self.new.failed ≡ self.old.failed }
         ensures number { result.number ≡ self.new.accepted }
+        ensures came { self.new.came ≡ self.old.came ++ result ∷ [] }
     {
         self.accepted = self.accepted.saturating_add(1);
-        Visitor {
+        let visitor = Visitor {
             stream,
             number: self.accepted,
             log: self.log,
-        }
+        };
+        self.came.note(&visitor);
+        visitor
     }
 }
 
 impl<'a, L> Clients<Visitor<'a, L>> for Door<'a, L> {
+    ghost came = { λ door. door.came };
+
     // Accepting failed, or as many as are wanted were accepted.
     ghost none_left = { λ door. (door.failed ≡ true) ⊎ ((door.is_endless ≡ false) × (door.left ≡ 0)) };
 
     /// The next connection. Without end none is counted off, and otherwise one.
     fn next(&mut self) -> Option<Visitor<'a, L>>
+        ensures came { MatchOption result (self.new.came ≡ self.old.came)
+            (λ client. self.new.came ≡ self.old.came ++ client ∷ []) }
         ensures none { MatchOption result ((self.new.failed ≡ true)
             ⊎ ((self.new.is_endless ≡ false) × (self.new.left ≡ 0))) (λ _. ⊤) }
+        ensures spent { MatchOption result ((self.new.failed ≡ true)
+            ⊎ ((self.old.is_endless ≡ false) × (self.old.left ≡ 0))) (λ _. ⊤) }
         ensures endless { self.new.is_endless ≡ self.old.is_endless }
         ensures left { IfSome result (λ _. (self.old.is_endless ≡ true) ⊎ (self.new.left + 1 ≡ self.old.left)) }
         ensures failed { IfSome result (λ _. self.new.failed ≡ self.old.failed) }

@@ -93,6 +93,14 @@ impl<B: Named, S: AtTable + Drop> UnderName<B, S> {
             of: PhantomData,
         }
     }
+
+    /// The same without the name: it is of the shelves that have it.
+    pub fn into_inner(self) -> S
+        ensures same { result ≡ self }
+        ensures table { S.table result ≡ B.table }
+    {
+        self.inner
+    }
 }
 
 /// A worker's seat at the shelves of a name.

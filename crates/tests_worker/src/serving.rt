@@ -8,6 +8,7 @@ use feed_loader::Plan;
 use gtfs_tables::Day;
 use image_layout::sample_words;
 use image_verifier::verify;
+use load_orders::Notes;
 use orders::{Gate, OpenGate};
 use service_days::Zone;
 use std::alloc::{AllocError, Global};
@@ -125,13 +126,20 @@ impl<'a, R: Wait + Sync> Client for Visitor<'a, R> {
 #[derive(Drop)]
 struct Row<C> {
     visitors: Vec<C>,
+    came: Notes<C>,
 }
 
 impl<C> Clients<C> for Row<C> {
+    ghost came = { λ row. row.came };
+
     ghost none_left = { λ row. row.visitors.items ≡ [] };
 
     fn next(&mut self) -> Option<C> {
-        self.visitors.pop()
+        let next = self.visitors.pop();
+        if let Some(client) = &next {
+            self.came.note(client);
+        }
+        next
     }
 }
 
@@ -264,7 +272,10 @@ fn serve_all<R: Threads + Wait + Sync + Abort, G: Gate + Sync>(
     let (shelves, loader, seats) = shelves_for(alloc, two)?;
     let feeds = two_feeds(alloc)?;
     let told = Mutex::new(Vec::new(alloc));
-    let row = Row { visitors };
+    let row = Row {
+        visitors,
+        came: Notes::none(),
+    };
     let errors = Shared {
         rt,
         bytes: &told,

@@ -1,10 +1,12 @@
 -- Workers' shares, put together.
-use Rattle.std.proofs.Common.{◌≡◌, ◌∙◌, ◌++◌, ◌∷◌, ℕ, List, [], Option, Result, length, map, refl, sym, subst, ap, arith}
-use Rattle.std.proofs.lemmas.List.{append_assoc, append-nil, map-append}
+use Rattle.std.proofs.Common.{◌≡◌, ◌∙◌, ◌+◌, ◌++◌, ◌∷◌, ℕ, List, [], Option, Result, length, map, refl, sym, subst, ap, arith}
+use Rattle.std.proofs.lemmas.List.{append_assoc, append-nil, length-append, map-append}
 use Rattle.epochs.specs.Seats.{SeatValue}
 use Rattle.shelf_steps.specs.declared.views.Known.{Known}
 use Rattle.session.specs.declared.point_form.PointForm.{PointForm}
-use Rattle.workers.specs.Sessions.{AreShares, IsShare}
+use Rattle.workers.specs.Sessions.{AreAllServed, AreShares, IsShare}
+use Rattle.std.specs.Prelude.{IsPermutation, flat_map}
+use Rattle.client_queue.specs.Ends.{DealerValue, nothing_put, out_once_more}
 use Rattle.workers.specs.declared.clients.ConnFault.{ConnFault}
 use Rattle.workers.specs.declared.served.End.{End}
 
@@ -12,49 +14,79 @@ nothing_left : {X : Type 0} (list : List X) → length list ≡ 0 → list ≡ [
 nothing_left [] none = refl
 nothing_left (x ∷ list) none = absurd (omega (arith, none))
 
+-- a hand more behind the others
+pub flat_also : {C : Type 0} (hands : List (List C)) (hand : List C)
+    → flat_map (λ (h : List C). h) (hands ++ hand ∷ []) ≡ flat_map (λ (h : List C). h) hands ++ hand
+flat_also [] hand = append-nil hand
+flat_also (first ∷ hands) hand =
+    ap (λ list. first ++ list) (flat_also hands hand) ∙ sym (append_assoc first (flat_map (λ h. h) hands) hand)
+
 module _ {C R W S : Type 0} (form : PointForm) (opens : C → Result (R × W) ConnFault → Type 0)
     (remaining : R → Option (List ℕ)) (contents : W → Option (List ℕ))
     (number : S → ℕ) (value : S → SeatValue) (known : S → Known) where
   -- one share more behind the others
-  pub shares_also : (seats : List S) (ends : List End) (seat : S) (clients : List C) (share : List End)
-      → AreShares form opens remaining contents number value known seats ends
-      → IsShare form opens remaining contents number value known seat clients share
-      → AreShares form opens remaining contents number value known (seats ++ seat ∷ []) (ends ++ share)
-  shares_also [] ends seat clients share before also =
-      (clients, share, [], ap (λ list. list ++ share) before ∙ sym (append-nil share), also, refl)
-  shares_also (first ∷ seats) ends seat clients share before also =
-      let rest = shares_also seats before.2 seat clients share before.5 also in
-      let joined = ap (λ list. list ++ share) before.3 ∙ append_assoc before.1 before.2 share in
-      (before.0, before.1, before.2 ++ share, joined, before.4, rest)
+  pub shares_also : (seats : List S) (hands : List (List C)) (ends : List End) (lasts : List S)
+      (seat : S) (hand : List C) (share : List End) (last : S)
+      → AreShares form opens remaining contents number value known seats hands ends lasts
+      → IsShare form opens remaining contents number value known seat hand share last
+      → AreShares form opens remaining contents number value known (seats ++ seat ∷ []) (hands ++ hand ∷ []) (ends ++ share) (lasts ++ last ∷ [])
+  shares_also [] [] ends [] seat hand share last before also =
+      (share, [], ap (λ list. list ++ share) before ∙ sym (append-nil share), also, refl)
+  shares_also [] [] ends (l ∷ lasts) seat hand share last before also = absurd before
+  shares_also [] (h ∷ hands) ends lasts seat hand share last before also = absurd before
+  shares_also (first ∷ seats) [] ends lasts seat hand share last before also = absurd before
+  shares_also (first ∷ seats) (h ∷ hands) ends [] seat hand share last before also = absurd before
+  shares_also (first ∷ seats) (h ∷ hands) ends (l ∷ lasts) seat hand share last before also =
+      let rest = shares_also seats hands before.1 lasts seat hand share last before.4 also in
+      let joined = ap (λ list. list ++ share) before.2 ∙ append_assoc before.0 before.1 share in
+      (before.0, before.1 ++ share, joined, before.3, rest)
 
   module _ {H : Type 0} (seat_of : H → S) where
-    -- of all these workers those that are left weren't joined yet
-    abbrev pub Joined : List H → List H → List End → Type 0
-    Joined all left ends =
-        (done : List H) × (all ≡ done ++ left) × AreShares form opens remaining contents number value known (map seat_of done) ends
+    -- of all these workers those that are left weren't joined yet; what the others took is this
+    abbrev pub Joined : List H → List H → List C → List End → List S → Type 0
+    Joined all left taken ends lasts =
+        (done : List H) × (hands : List (List C)) × (all ≡ done ++ left) × (taken ≡ flat_map (λ hand. hand) hands)
+        × AreShares form opens remaining contents number value known (map seat_of done) hands ends lasts
 
-    pub joined_none : (all left : List H) (ends : List End) → left ≡ all → ends ≡ [] → Joined all left ends
-    joined_none all left ends same none = ([], sym same, none)
+    pub joined_none : (all left : List H) (taken : List C) (ends : List End) (lasts : List S) → left ≡ all → taken ≡ [] → ends ≡ [] → lasts ≡ []
+        → Joined all left taken ends lasts
+    joined_none all left taken ends lasts same nothing none nobody =
+        let shares = subst (λ list. AreShares form opens remaining contents number value known [] [] ends list) (sym nobody) none in
+        ([], [], sym same, nothing, shares)
 
-    pub joined_next : (all left left_then : List H) (ends ends_then : List End) (clients : List C) (share : List End) (worker : H)
-        → Joined all left ends → left ≡ worker ∷ left_then → ends_then ≡ ends ++ share
-        → IsShare form opens remaining contents number value known (seat_of worker) clients share
-        → Joined all left_then ends_then
-    joined_next all left left_then ends ends_then clients share worker before step grows also =
+    pub joined_next : (all left left_then : List H) (taken taken_then : List C) (ends ends_then : List End) (lasts lasts_then : List S)
+        (hand : List C) (share : List End) (last : S) (worker : H)
+        → Joined all left taken ends lasts → left ≡ worker ∷ left_then
+        → taken_then ≡ taken ++ hand → ends_then ≡ ends ++ share → lasts_then ≡ lasts ++ last ∷ []
+        → IsShare form opens remaining contents number value known (seat_of worker) hand share last
+        → Joined all left_then taken_then ends_then lasts_then
+    joined_next all left left_then taken taken_then ends ends_then lasts lasts_then hand share last worker before step takes grows back also =
         let done = before.0 in
-        let more = shares_also (map seat_of done) ends (seat_of worker) clients share before.2 also in
-        let Shares = λ (seats : List S) (list : List End). AreShares form opens remaining contents number value known seats list in
-        let seats = subst (λ seats. Shares seats (ends ++ share)) (sym (map-append seat_of done (worker ∷ []))) more in (
+        let hands = before.1 in
+        let Shares = λ (seats : List S) (list : List End) (seats_then : List S).
+        AreShares form opens remaining contents number value known seats (hands ++ hand ∷ []) list seats_then in
+        let more : Shares (map seat_of done ++ seat_of worker ∷ []) (ends ++ share) (lasts ++ last ∷ []) =
+        shares_also (map seat_of done) hands ends lasts (seat_of worker) hand share last before.4 also in
+        let seats = subst (λ seats. Shares seats (ends ++ share) (lasts ++ last ∷ [])) (sym (map-append seat_of done (worker ∷ []))) more in
+        let grown = subst (λ list. Shares (map seat_of (done ++ worker ∷ [])) list (lasts ++ last ∷ [])) (sym grows) seats in (
           done ++ worker ∷ [],
-          before.1 ∙ ap (λ list. done ++ list) step ∙ sym (append_assoc done (worker ∷ []) left_then),
-          subst (λ list. Shares (map seat_of (done ++ worker ∷ [])) list) (sym grows) seats,
+          hands ++ hand ∷ [],
+          before.2 ∙ ap (λ list. done ++ list) step ∙ sym (append_assoc done (worker ∷ []) left_then),
+          takes ∙ ap (λ list. list ++ hand) before.3 ∙ sym (flat_also hands hand),
+          subst (λ list. Shares (map seat_of (done ++ worker ∷ [])) ends_then list) (sym back) grown,
         )
 
-    pub joined_all : (all left : List H) (ends : List End) → Joined all left ends → length left ≡ 0
-        → AreShares form opens remaining contents number value known (map seat_of all) ends
-    joined_all all left ends before none =
-        let whole : all ≡ before.0 = before.1 ∙ ap (λ list. before.0 ++ list) (nothing_left left none) ∙ append-nil before.0 in
-        subst (λ workers. AreShares form opens remaining contents number value known (map seat_of workers) ends) (sym whole) before.2
+    -- all were joined, and what they took is what was put
+    pub joined_all : (all left : List H) (sent taken : List C) (ends : List End) (lasts : List S)
+        → Joined all left taken ends lasts → length left ≡ 0 → IsPermutation sent taken
+        → AreAllServed form opens remaining contents number value known sent (map seat_of all) ends lasts
+    joined_all all left sent taken ends lasts before none dealt =
+        let whole : all ≡ before.0 = before.2 ∙ ap (λ list. before.0 ++ list) (nothing_left left none) ∙ append-nil before.0 in (
+          before.1,
+          subst (λ list. IsPermutation sent list) before.3 dealt,
+          subst (λ workers. AreShares form opens remaining contents number value known (map seat_of workers) before.1 ends lasts)
+              (sym whole) before.4,
+        )
 
 module _ {S H : Type 0} (seat_of : H → S) where
   -- no worker is at a seat yet
@@ -87,3 +119,11 @@ moved_next all left left_then moved moved_then put x before step grows same =
 -- and all were
 pub moved_all : {X : Type 0} (all left moved : List X) → all ≡ moved ++ left → length left ≡ 0 → moved ≡ all
 moved_all all left moved before none = sym (before ∙ ap (λ list. moved ++ list) (nothing_left left none) ∙ append-nil moved)
+
+-- a worker more is out, and one more is among them
+pub one_more_out : {C H : Type 0} (dealer dealer_then : DealerValue C) (workers workers_then : List H) (worker : H)
+    → dealer_then ≡ out_once_more dealer → dealer.view ≡ record nothing_put { out = length workers } → workers_then ≡ workers ++ worker ∷ []
+    → dealer_then.view ≡ record nothing_put { out = length workers_then }
+one_more_out dealer dealer_then workers workers_then worker more before grows =
+    let longer : length workers_then ≡ length workers + 1 = ap length grows ∙ length-append workers (worker ∷ []) in
+    ap (λ d. d.view) more ∙ ap (λ v. record v { out = v.out + 1 }) before ∙ ap (λ n. record nothing_put { out = n }) (sym longer)

@@ -1,5 +1,5 @@
 pub mod Ends
 pub mod Sessions
+pub mod Dealing
 pub mod Loading
 pub mod Carrying
-pub mod Arriving

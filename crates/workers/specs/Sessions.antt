@@ -1,5 +1,6 @@
 -- What clients' sessions do.
-use Rattle.std.specs.Prelude.{◌≡◌, ◌<◌, ◌++◌, ◌∷◌, ℕ, Option, Some, None, List, [], Result, Ok, Err}
+use Rattle.std.specs.Prelude.{◌≡◌, ◌<◌, ◌++◌, ◌∷◌, ℕ, Option, Some, None, List, [], Result, Ok, Err, IsPermutation, flat_map}
+use Rattle.client_queue.specs.declared.queue.DealerView.{DealerView}
 use Rattle.epochs.specs.Seats.{SeatValue}
 use Rattle.lines.specs.Counting.{failures_of, inner_of}
 use Rattle.orders.specs.Ordering.{OrderValue}
@@ -59,12 +60,30 @@ module _ {C R W : Type 0} (form : PointForm) (opens : C → Result (R × W) Conn
     AreServed _ _ _ _ _ _ = ⊥
 
     -- a worker's share: these are the ends of these clients' sessions at its seat, with no order put before, and the seat is so then
-    abbrev pub IsShare : S → List C → List End → Type 0
-    IsShare seat clients ends = (last : S) × (asked : List OrderValue) × AreServed clients ends seat [] last asked
+    abbrev pub IsShare : S → List C → List End → S → Type 0
+    IsShare seat clients ends last = (asked : List OrderValue) × AreServed clients ends seat [] last asked
 
-    -- the ends are the workers' shares, one for each of the seats, one behind the other
-    abbrev pub AreShares : List S → List End → Type 0
-    AreShares [] ends = ends ≡ []
-    AreShares (seat ∷ seats) ends =
-        (clients : List C) × (share : List End) × (rest : List End) × (ends ≡ share ++ rest)
-        × IsShare seat clients share × AreShares seats rest
+    -- the ends are the workers' shares, one behind the other: at each of the seats one hand of clients was served, and it is so then
+    abbrev pub AreShares : List S → List (List C) → List End → List S → Type 0
+    AreShares [] [] ends [] = ends ≡ []
+    AreShares (seat ∷ seats) (hand ∷ hands) ends (last ∷ lasts) =
+        (share : List End) × (rest : List End) × (ends ≡ share ++ rest) × IsShare seat hand share last × AreShares seats hands rest lasts
+    AreShares _ _ _ _ = ⊥
+
+    -- the clients are dealt to the workers, each to one and once; each worker serves its hand at its seat, one after the other; and
+    -- the ends are those of their sessions, one for each client
+    abbrev pub AreAllServed : List C → List S → List End → List S → Type 0
+    AreAllServed clients seats ends lasts =
+        (hands : List (List C)) × IsPermutation clients (flat_map (λ hand. hand) hands) × AreShares seats hands ends lasts
+
+    -- those who came since are all served
+    abbrev pub AreServedSince : List C → List C → List S → List End → List S → Type 0
+    AreServedSince before after seats ends lasts =
+        (clients : List C) × (after ≡ before ++ clients) × AreAllServed clients seats ends lasts
+
+-- so many workers are out, none is back, and the queue was closed for each
+pub record IsReadyToJoin {C : Type 0} (dealer : DealerView C) (workers : ℕ) : Type 0 where
+  pub out : dealer.out ≡ workers
+  pub closings : dealer.closings ≡ workers
+  pub nothing_back : dealer.taken ≡ []
+  pub none_ended : dealer.ended ≡ 0

@@ -1,6 +1,6 @@
 //! Who is served.
 
-ghost use Rattle.std.specs.Prelude.{Result, MatchOption, ⊤};
+ghost use Rattle.std.specs.Prelude.{◌≡◌, ◌++◌, ◌∷◌, [], List, Result, MatchOption, ⊤};
 ghost use Rattle.workers.specs.declared.clients.ConnFault.{ConnFault};
 
 use crate::served::End;
@@ -30,10 +30,15 @@ pub trait Client {
 
 /// Clients, one after the other.
 pub trait Clients<C> {
+    // The clients that came so far, in order.
+    ghost came: { Self → List C };
+
     // That there is no further client.
     ghost none_left: { Self → Type 0 };
 
     /// The next client; it may be long in coming. None after the last.
     fn next(&mut self) -> Option<C>
-        ensures { MatchOption result (none_left self.new) (λ _. ⊤) };
+        ensures came { MatchOption result (came self.new ≡ came self.old)
+            (λ client. came self.new ≡ came self.old ++ client ∷ []) }
+        ensures none_left { MatchOption result (none_left self.new) (λ _. ⊤) };
 }

@@ -1,9 +1,9 @@
 //! Workers that serve sessions at once, each at a seat of its own, and the one loader beside them.
 #![tactic(auto)]
 
-mod arrivals;
 mod carrying;
 mod clients;
+mod dealing;
 mod feeds;
 mod loading;
 mod naming;

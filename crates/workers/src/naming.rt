@@ -1,10 +1,10 @@
 //! Workers at shelves without a lock, under a name that the caller picks.
 
-ghost use Rattle.std.specs.Prelude.{◌≡◌, ◌≤◌, All, length, IfOk};
+ghost use Rattle.std.specs.Prelude.{◌≡◌, ◌≤◌, [], All, length, IfOk};
 ghost use Rattle.epochs.specs.ShelfSeats.{NoticeValue};
 ghost use Rattle.shelf_steps.specs.Events.{known_of};
 ghost use Rattle.workers.specs.Carrying.{ComeOfOrders};
-ghost use Rattle.workers.specs.Sessions.{AreShares};
+ghost use Rattle.workers.specs.Sessions.{AreServedSince};
 
 use crate::clients::{Client, Clients};
 use crate::feeds::Feeds;
@@ -29,6 +29,8 @@ pub struct ShelvesRan<K> {
     pub served: Served,
     /// The clients' source.
     pub clients: K,
+    /// The workers' seats, in their order.
+    pub seats: Vec<ShelfSeat>,
     /// What the loader's seat has answered in all. Contracts alone see it.
     pub answers: Kept<LinkedList<LoaderAnswer>>,
 }
@@ -60,12 +62,15 @@ pub fn run_shelves<
     requires some { 1 ≤ length seats.items }
     requires few { length seats.items ≤ 16 }
     ensures none_left { IfOk result (λ ran. K.none_left ran.clients) }
-    ensures shares { IfOk result (λ ran. AreShares form C.opens C.Reader.remaining C.Writer.contents
-        (λ seat. seat.number) (λ seat. seat.shown) (λ seat. known_of seat.view) seats.items ran.served) }
+    ensures seats { IfOk result (λ ran. All (λ seat. seat.table ≡ shelves) ran.seats.items) }
+    ensures shares { IfOk result (λ ran. AreServedSince form C.opens C.Reader.remaining C.Writer.contents
+        (λ seat. seat.number) (λ seat. seat.shown) (λ seat. known_of seat.view) (K.came clients) (K.came ran.clients)
+        seats.items ran.served ran.seats.items) }
     ensures loads { IfOk result (λ ran. ComeOfOrders (λ (notice : NoticeValue). notice.version)
         (F.are_files feeds.now) F.Files.holds (F.is_plan feeds.now) (length (F.named feeds.now))
         loader.answers ran.answers.value) }
 {
+    let room = Vec::with_capacity(alloc, seats.len())?;
     let seats = named_seats::<B>(alloc, seats)?;
     let shelves = NamedShelves::<B>::of(shelves);
     let loader = NamedLoader::<B>::of(loader);
@@ -76,6 +81,7 @@ pub fn run_shelves<
     Ok(ShelvesRan {
         served: ran.served,
         clients: ran.clients,
+        seats: unnamed_seats(ran.seats, room)?,
         answers,
     })
 }
@@ -100,4 +106,20 @@ fn named_seats<B: Named>(
         named.push(NamedSeat::of(seat))?;
     }
     Ok(named)
+}
+
+// The seats without the name, in the room for them.
+fn unnamed_seats<B: Named>(
+    seats: Vec<NamedSeat<B>>,
+    room: Vec<ShelfSeat>,
+) -> Result<Vec<ShelfSeat>, AllocError>
+    requires { room.items ≡ [] }
+    ensures same { IfOk result (λ inner. inner.items ≡ seats.items) }
+    ensures table { IfOk result (λ inner. All (λ seat. seat.table ≡ B.table) inner.items) }
+{
+    let mut inner = room;
+    for seat in seats {
+        inner.push(seat.into_inner())?;
+    }
+    Ok(inner)
 }

@@ -1,18 +1,19 @@
 //! The workers and the loader, in one scope.
 
 ghost use denote.Param.Send.{IsSend, IsSync};
-ghost use Rattle.std.specs.Prelude.{◌≡◌, ◌≤◌, [], true, All, length, IfOk};
+ghost use Rattle.std.specs.Prelude.{◌≡◌, ◌≤◌, [], All, length, IfOk};
+ghost use Rattle.client_queue.specs.Ends.{nothing_put};
 ghost use Rattle.workers.specs.Carrying.{AllCarriedOut};
-ghost use Rattle.workers.specs.Sessions.{AreShares, IsShare};
+ghost use Rattle.workers.specs.Sessions.{AreServedSince, IsShare};
 
-use crate::arrivals::Arrivals;
 use crate::carrying::Loading;
 use crate::clients::{Client, Clients};
+use crate::dealing::deal_all;
 use crate::feeds::Feeds;
 use crate::served::Served;
 use crate::serving::Worker;
 use crate::shares::{LoadsAt, Share, ShareAt, join_workers};
-use crossbeam_channel::Sender;
+use client_queue::{NobodyTakes, client_queue};
 use epochs::{Loads, Versions};
 use load_orders::{LoaderOrders, WorkerOrders, order_queue};
 use orders::Gate;
@@ -24,7 +25,7 @@ use std::thread;
 use std::thread::Threads;
 use thiserror::Error;
 
-/// There was no memory for the workers, or no thread.
+/// There was no memory for the workers, or no thread; or a worker is gone, which none is before the clients are.
 #[derive(Clone, Copy, Debug, PartialEq, Eq, Error)]
 #[error("there is no memory or no thread for the workers")]
 pub struct WorkersFault;
@@ -35,13 +36,21 @@ impl From<AllocError> for WorkersFault {
     }
 }
 
+impl From<NobodyTakes> for WorkersFault {
+    fn from(_gone: NobodyTakes) -> WorkersFault {
+        WorkersFault
+    }
+}
+
 /// What is left once all clients were served.
 #[derive(Drop)]
-pub struct Ran<K, L, N: Drop> {
+pub struct Ran<K, S, L, N: Drop> {
     /// How the sessions ended, seat after seat.
     pub served: Served,
     /// The clients' source.
     pub clients: K,
+    /// The workers' seats, in their order.
+    pub seats: Vec<S>,
     /// The loader's end of the queue of orders.
     pub orders: LoaderOrders<N>,
     /// The loader's seat.
@@ -71,7 +80,7 @@ pub fn run_workers<
     gate: &G,
     form: PointForm,
     errors: E,
-) -> Result<Ran<K, T::Loader, T::Notice>, WorkersFault>
+) -> Result<Ran<K, T::Seat, T::Loader, T::Notice>, WorkersFault>
 where
     T::Seat: Send + Drop,
     T::Loader: Send + Drop,
@@ -81,27 +90,31 @@ where
     requires some { 1 ≤ length seats.items }
     requires few { length seats.items ≤ 16 }
     ensures none_left { IfOk result (λ ran. K.none_left ran.clients) }
-    ensures shares { IfOk result (λ ran. AreShares form C.opens C.Reader.remaining C.Writer.contents
-        T.Versions.number T.Versions.value T.Versions.known seats.items ran.served) }
+    ensures shares { IfOk result (λ ran. AreServedSince form C.opens C.Reader.remaining C.Writer.contents
+        T.Versions.number T.Versions.value T.Versions.known (K.came clients) (K.came ran.clients)
+        seats.items ran.served ran.seats.items) }
     ensures loads { IfOk result (λ ran. AllCarriedOut T.Versions.noted (F.are_files feeds.now) F.Files.holds
         (F.is_plan feeds.now) (length (F.named feeds.now)) ran.orders
         (T.Loads.answers loader) (T.Loads.answers ran.loader)) }
 {
-    let (to, from) = crossbeam_channel::bounded(alloc, 1)?;
+    let mut dealer = client_queue(alloc)?;
+    let room = Vec::with_capacity(alloc, seats.len())?;
     let (mut asks, orders) = order_queue(alloc)?;
     thread::scope(
         thread::scope_env(),
         rt,
-        move |scope| -> Result<Ran<K, T::Loader, T::Notice>, WorkersFault>
+        move |scope| -> Result<Ran<K, T::Seat, T::Loader, T::Notice>, WorkersFault>
             requires { IsSync R.row × IsSync T.row × IsSync F.row × IsSync G.row × IsSend T.Seat.row
                 × IsSend T.Loader.row
                 × IsSend T.Notice.row × IsSend C.row × IsSend C.Reader.row × IsSend C.Writer.row
                 × IsSend F.Files.row × IsSend E.row
                 × All (T.Versions.fits shelves.now) seats.items × T.Loads.loads shelves.now loader
-                × (orders.taken ≡ []) × (orders.answered ≡ []) }
+                × (orders.taken ≡ []) × (orders.answered ≡ []) × (dealer.view ≡ nothing_put) × (room.items ≡ [])
+                × (1 ≤ length seats.items) }
             ensures none_left { IfOk result (λ ran. K.none_left ran.clients) }
-            ensures shares { IfOk result (λ ran. AreShares form C.opens C.Reader.remaining C.Writer.contents
-                T.Versions.number T.Versions.value T.Versions.known seats.items ran.served) }
+            ensures shares { IfOk result (λ ran. AreServedSince form C.opens C.Reader.remaining C.Writer.contents
+                T.Versions.number T.Versions.value T.Versions.known (K.came clients) (K.came ran.clients)
+                seats.items ran.served ran.seats.items) }
             ensures loads { IfOk result (λ ran.
                 AllCarriedOut T.Versions.noted (F.are_files feeds.entry.now) F.Files.holds (F.is_plan feeds.entry.now)
                 (length (F.named feeds.entry.now)) ran.orders (T.Loads.answers loader) (T.Loads.answers ran.loader)) }
@@ -131,16 +144,16 @@ where
             };
             let mut workers = Vec::new(alloc);
             for seat in seats {
-                let mine = from.clone()?;
+                let taker = dealer.taker()?;
                 let end = asks.another()?;
                 match scope.spawn_with(
-                    ShareAt::<C, T>::of(&seat, form),
-                    move || -> Share<C>
-                        requires { T.Versions.fits shelves.now seat }
-                        ensures { (result.arrivals.over ≡ true)
+                    ShareAt::<C, T>::of(&taker, &seat, form),
+                    move || -> Share<C, T::Seat>
+                        requires { T.Versions.fits shelves.now seat × (taker.taken ≡ []) }
+                        ensures { (result.taker.queue ≡ taker.queue)
                             × IsShare form C.opens C.Reader.remaining C.Writer.contents
                             T.Versions.number T.Versions.value T.Versions.known seat
-                            result.arrivals.taken result.served }
+                            result.taker.taken result.served result.seat }
                     {
                         let desk = Desk {
                             rt,
@@ -150,7 +163,7 @@ where
                             form,
                         };
                         let orders = WorkerOrders::new(alloc, feeds.names(), shelves, end);
-                        Worker { desk }.work(Arrivals::of(mine), seat, orders).0
+                        Worker { desk }.work(taker, seat, orders).0
                     },
                 ) {
                     Ok(worker) => {
@@ -161,33 +174,18 @@ where
                     Err(_) => return Err(WorkersFault),
                 }
             }
-            drop(from);
-            let clients = send_all(rt, clients, to);
-            let served = join_workers(rt, form, workers);
+            let clients = deal_all(rt, clients, &mut dealer, workers.len())?;
+            let (served, seats) = join_workers(rt, form, dealer, workers, room)?;
             // No order is refused for want of a loader before all sessions have ended.
             drop(asks);
             let (orders, loader) = loading.join(rt);
             Ok(Ran {
                 served,
                 clients,
+                seats,
                 orders,
                 loader,
             })
         },
     )
-}
-
-// Sends each client to the workers, until there are no more. A client that no worker takes any more is dropped.
-fn send_all<R: Wait, C: Drop, K: Clients<C>>(rt: &R, mut clients: K, to: Sender<C>) -> K
-    ensures { K.none_left result }
-{
-    for _ in rt.forever() {
-        match clients.next() {
-            Some(client) => {
-                let _ = to.send(rt, client);
-            }
-            None => return clients,
-        }
-    }
-    unreachable!()
 }

@@ -1,15 +1,15 @@
 //! A worker: client after client on its seat.
 
-ghost use Rattle.std.specs.Prelude.{◌≡◌, ◌∷◌, ◌++◌, [], true, None};
+ghost use Rattle.std.specs.Prelude.{◌≡◌, ◌∷◌, ◌++◌, [], None};
 ghost use Rattle.session.specs.Learning.{Learns, TellPublished};
 ghost use Rattle.session.specs.Turns.{AgreeOnNotices};
 ghost use Rattle.workers.specs.Sessions.{AreServed, IsServed};
 ghost use Rattle.workers.specs.declared.served.End.{End};
 
-use crate::arrivals::Arrivals;
 use crate::clients::{Client, ConnFault};
 use crate::served::{End, Served, end_of};
 use crate::shares::Share;
+use client_queue::Taker;
 use epochs::Versions;
 use orders::{Gate, Orders};
 use session::{Desk, Streams};
@@ -59,26 +59,26 @@ impl<'a, R: Wait, N: Drop, T: Versions<Notice = N>, G: Gate> Worker<'a, R, T, G>
         }
     }
 
-    /// Serves each client that comes, until no more do: how their sessions ended, in turn, with the
-    /// queue at which they came, the seat, and the orders.
+    /// Serves each client that is taken from the queue, until none comes: how their sessions ended, in turn, with this
+    /// end of the queue and the seat; and the orders.
     pub(crate) fn work<C: Client + Drop, O: Orders<Notice = N>>(
         &self,
-        mut arrivals: Arrivals<C>,
+        mut taker: Taker<C>,
         mut seat: T::Seat,
         mut orders: O,
-    ) -> (Share<C>, T::Seat, O)
+    ) -> (Share<C, T::Seat>, O)
         requires fits { T.fits self.now.desk.shelves.now seat }
         requires notices { AgreeOnNotices O.told T.noted }
-        requires none { arrivals.taken ≡ [] }
-        ensures over { result.0.arrivals.over ≡ true }
-        ensures learns { Learns (T.known seat) (T.value seat) (T.known result.1) (T.value result.1) }
+        requires none { taker.taken ≡ [] }
+        ensures queue { result.0.taker.queue ≡ taker.queue }
+        ensures learns { Learns (T.known seat) (T.value seat) (T.known result.0.seat) (T.value result.0.seat) }
         ensures served { AreServed self.now.desk.form C.opens C.Reader.remaining C.Writer.contents T.number T.value
             T.known
-            result.0.arrivals.taken result.0.served seat (O.asked orders) result.1 (O.asked result.2) }
+            result.0.taker.taken result.0.served seat (O.asked orders) result.0.seat (O.asked result.1) }
     {
         let mut served = Served::new();
         for _ in self.desk.rt.forever() {
-            match arrivals.next(self.desk.rt) {
+            match taker.next(self.desk.rt) {
                 Some(client) => {
                     let (streams, end) = self.serve_client(
                         client,
@@ -88,7 +88,14 @@ impl<'a, R: Wait, N: Drop, T: Versions<Notice = N>, G: Gate> Worker<'a, R, T, G>
                     );
                     close::<C>(streams, end);
                 }
-                None => return (Share { served, arrivals }, seat, orders),
+                None => {
+                    let share = Share {
+                        served,
+                        taker,
+                        seat,
+                    };
+                    return (share, orders);
+                }
             }
         }
         unreachable!()

@@ -1,56 +1,58 @@
 //! What the workers and the loader hand on when they are joined.
 
-ghost use Rattle.std.specs.Prelude.{◌≡◌, All, map};
-ghost use Rattle.workers.specs.Sessions.{AreShares};
+ghost use Rattle.std.specs.Prelude.{◌≡◌, ◌≤◌, [], All, length, map, IfOk};
+ghost use Rattle.workers.specs.Sessions.{AreAllServed, IsReadyToJoin};
 
-use crate::arrivals::Arrivals;
 use crate::clients::Client;
 use crate::feeds::Feeds;
+use crate::running::WorkersFault;
 use crate::served::Served;
+use client_queue::{Dealer, Taker};
 use epochs::{Loads, Versions};
 use load_orders::LoaderOrders;
 use session::PointForm;
-use std::marker::PhantomData;
 use std::snapshot::Snapshot;
 use std::thread::{Promise, PromisedHandle, Threads};
 
-/// What a worker leaves: how its clients' sessions ended, and its end of the queue of clients.
+/// What a worker leaves: how its clients' sessions ended, its end of the queue of clients, and its seat.
 #[derive(Drop)]
-pub(crate) struct Share<C> {
+pub(crate) struct Share<C: Drop, S> {
     pub served: Served,
-    pub arrivals: Arrivals<C>,
+    pub taker: Taker<C>,
+    pub seat: S,
 }
 
-/// That a worker took clients until none came, and that its share is the ends of their sessions at
+/// That a worker's share is the ends of the sessions of the clients that it took at this end of the queue, served at
 /// its seat, from what the seat was when the worker began, with replies in this form.
 #[derive(Drop)]
-pub(crate) struct ShareAt<C, T: Versions> {
+pub(crate) struct ShareAt<C: Drop, T: Versions> {
+    pub taker: Snapshot<Taker<C>>,
     pub seat: Snapshot<T::Seat>,
     pub form: PointForm,
-    clients: PhantomData<C>,
 }
 
-impl<C, T: Versions> ShareAt<C, T> {
-    /// At this seat, as it is now.
-    pub(crate) fn of(seat: &T::Seat, form: PointForm) -> ShareAt<C, T>
+impl<C: Drop, T: Versions> ShareAt<C, T> {
+    /// At this end of the queue and this seat, as they are now.
+    pub(crate) fn of(taker: &Taker<C>, seat: &T::Seat, form: PointForm) -> ShareAt<C, T>
+        ensures taker { result.taker.value ≡ taker.now }
         ensures seat { result.seat.value ≡ seat.now }
         ensures form { result.form ≡ form }
     {
         ShareAt {
+            taker: Snapshot::of(taker),
             seat: Snapshot::of(seat),
             form,
-            clients: PhantomData,
         }
     }
 }
 
-impl<C: Client, T: Versions> Promise<Share<C>> for ShareAt<C, T> {
-    ghost use Rattle.std.specs.Prelude.{◌≡◌, true};
+impl<C: Client + Drop, S, T: Versions<Seat = S>> Promise<Share<C, S>> for ShareAt<C, T> {
+    ghost use Rattle.std.specs.Prelude.{◌≡◌};
     ghost use Rattle.workers.specs.Sessions.{IsShare};
 
-    ghost kept_by = { λ promise share. (share.arrivals.over ≡ true)
+    ghost kept_by = { λ promise share. (share.taker.queue ≡ promise.taker.value.queue)
         × IsShare promise.form C.opens C.Reader.remaining C.Writer.contents T.number T.value T.known
-        promise.seat.value share.arrivals.taken share.served };
+        promise.seat.value share.taker.taken share.served share.seat };
 }
 
 /// That all orders of these feeds that came to the loader were carried out, from what its seat was when it began.
@@ -84,20 +86,41 @@ impl<L, N: Drop, T: Versions<Notice = N> + Loads<Loader = L>, F: Feeds> Promise<
         (length (F.named promise.feeds.value)) done.0 (T.Loads.answers promise.seat.value) (T.Loads.answers done.1) };
 }
 
-/// Joins the workers in turn: their shares, put together.
-pub(crate) fn join_workers<C: Client + Drop, T: Versions, R: Threads>(
+/// Joins the workers in turn, once the queue was closed for each of them: their shares, put together, and their seats,
+/// in the room for these. Each client that was put in the queue is in one share, once.
+pub(crate) fn join_workers<C: Client + Drop, S: Drop, T: Versions<Seat = S>, R: Threads>(
     rt: &R,
     form: PointForm,
-    workers: Vec<PromisedHandle<Share<C>, ShareAt<C, T>>>,
-) -> Served
-    requires { All (λ worker. worker.promise.form ≡ form) workers.items }
-    ensures { AreShares form C.opens C.Reader.remaining C.Writer.contents T.number T.value T.known
-        (map (λ worker. worker.promise.seat.value) workers.items) result }
+    mut dealer: Dealer<C>,
+    workers: Vec<PromisedHandle<Share<C, S>, ShareAt<C, T>>>,
+    room: Vec<S>,
+) -> Result<(Served, Vec<S>), WorkersFault>
+    requires forms { All (λ worker. worker.promise.form ≡ form) workers.items }
+    requires queues { All (λ worker. worker.promise.taker.value.queue ≡ dealer.queue) workers.items }
+    requires some { 1 ≤ length workers.items }
+    requires out { IsReadyToJoin dealer.view (length workers.items) }
+    requires room { room.items ≡ [] }
+    ensures { IfOk result (λ joined. AreAllServed form C.opens C.Reader.remaining C.Writer.contents
+        T.number T.value T.known dealer.view.sent (map (λ worker. worker.promise.seat.value) workers.items)
+        joined.0 joined.1.items) }
 {
     let mut served = Served::new();
+    let mut seats = room;
     for worker in workers {
-        let share = worker.join(rt);
-        served.join(share.served);
+        let Share {
+            served: share,
+            taker,
+            seat,
+        } = worker.join(rt);
+        if !taker.is_closed() {
+            return Err(WorkersFault);
+        }
+        dealer.take_back(taker);
+        served.join(share);
+        let Ok(()) = seats.push(seat) else {
+            return Err(WorkersFault);
+        };
     }
-    served
+    dealer.all_were_taken();
+    Ok((served, seats))
 }

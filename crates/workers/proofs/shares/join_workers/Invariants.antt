@@ -1,15 +1,22 @@
-use Rattle.std.proofs.Common.{◌≡◌, All, length}
+use Rattle.std.proofs.Common.{◌≡◌, ◌+◌, All, length}
 use Rattle.std.specs.Vec.Iter.{into_iter_items, into_iter_len}
 use Rattle.workers.proofs.Shared.{Joined}
 use Rattle.workers.proofs.shares.join_workers.Given as goal
 
--- the workers that are left weren't joined yet
+-- the workers that are left are out, and the others came back because the queue was closed for them
 abbrev pub invariant-loop-worker : goal.invariant-loop-worker
 invariant-loop-worker g l = record {
   next : (goal.iterator-loop-worker g).can_next l.worker-iterator;
   finite : (goal.iterator-loop-worker g).is_finite l.worker-iterator;
   len : into_iter_len l.worker-iterator ≡ length (into_iter_items l.worker-iterator);
   forms : All (λ worker. worker.promise.form ≡ l.fn.form) (into_iter_items l.worker-iterator);
+  queues : All (λ worker. worker.promise.taker.value.queue ≡ l.fn.dealer.queue) (into_iter_items l.worker-iterator);
+  queue : l.dealer.queue ≡ l.fn.dealer.queue;
+  sent : l.dealer.view.sent ≡ l.fn.dealer.view.sent;
+  closings : l.dealer.view.closings ≡ length (into_iter_items l.initial.worker-iterator);
+  out : l.dealer.view.out ≡ length (into_iter_items l.worker-iterator);
+  ended : l.dealer.view.ended + length (into_iter_items l.worker-iterator) ≡ l.dealer.view.closings;
   joined : Joined l.fn.form g.C.Client.opens g.C.Reader.Read.remaining g.C.Writer.Write.contents g.T.Versions.number g.T.Versions.value g.T.Versions.known
-      (λ worker. worker.promise.seat.value) (into_iter_items l.initial.worker-iterator) (into_iter_items l.worker-iterator) l.served;
+      (λ worker. worker.promise.seat.value) (into_iter_items l.initial.worker-iterator) (into_iter_items l.worker-iterator)
+      l.dealer.view.taken l.served l.seats.items;
 }

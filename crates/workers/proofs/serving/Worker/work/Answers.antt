@@ -1,4 +1,4 @@
-use Rattle.std.proofs.Common.{rules, ap, sym, subst, ◌∙◌}
+use Rattle.std.proofs.Common.{refl, ◌∙◌}
 use Rattle.session.proofs.LearnLemmas.{learns_on, learns_same}
 use Rattle.workers.proofs.Ending.{serves_next, serves_none}
 use Rattle.workers.proofs.serving.Worker.work.Goals as goal
@@ -7,6 +7,7 @@ pub loop-init : goal.loop-init
 loop-init g c = record {
   next = tt;
   finite = tt;
+  queue = refl;
   fits = c.requires.fits;
   learns = learns_same (g.T.Versions.known c.args.seat) (g.T.Versions.value c.args.seat);
   served = serves_none c.args.self.now.desk.form g.C.Client.opens g.C.Reader.Read.remaining g.C.Writer.Write.contents
@@ -23,6 +24,7 @@ loop-preserved g c =
     record {
       next = tt;
       finite = tt;
+      queue = c.in-Some-next.ensures.queue ∙ was.queue;
       fits = one.ensures.fits;
       learns = learns_on _ _ _ _ _ _ was.learns one.ensures.learns;
       served = serves_next c.args.self.now.desk.form g.C.Client.opens g.C.Reader.Read.remaining g.C.Writer.Write.contents

@@ -7,9 +7,10 @@ abbrev pub invariant-loop : goal.invariant-loop
 invariant-loop g l = record {
   next : (goal.iterator-loop g).can_next l.iterator';
   finite : (goal.iterator-loop g).is_finite l.iterator';
+  queue : l.taker.queue ≡ l.fn.taker.queue;
   fits : g.T.Versions.fits l.self.desk.shelves.now l.seat;
   learns : Learns (g.T.Versions.known l.fn.seat) (g.T.Versions.value l.fn.seat) (g.T.Versions.known l.seat) (g.T.Versions.value l.seat);
   served : AreServed l.self.desk.form g.C.Client.opens g.C.Reader.Read.remaining g.C.Writer.Write.contents
-      g.T.Versions.number g.T.Versions.value g.T.Versions.known l.arrivals.taken l.served
+      g.T.Versions.number g.T.Versions.value g.T.Versions.known l.taker.taken l.served
       l.fn.seat (g.O.Orders.asked l.fn.orders) l.seat (g.O.Orders.asked l.orders);
 }

@@ -1,10 +1,11 @@
-use Rattle.std.proofs.Common.{rules, ◌≡◌, All, ◌∷◌, ◌∙◌, suc, subst, arith, ap, length, refl}
+use Rattle.std.proofs.Common.{rules, ◌≡◌, All, ◌∷◌, ◌∙◌, ◌+◌, suc, subst, arith, ap, length, refl, map}
 use Rattle.std.proofs.lemmas.List.Elements.{All-nil, All-push}
 use Rattle.std.specs.Vec.Iter.{into_iter_items}
-use Rattle.workers.proofs.Shared.{seated_none, seated_next, seated_all}
+use Rattle.client_queue.specs.Ends.{nothing_put}
+use Rattle.workers.proofs.Shared.{one_more_out, seated_none, seated_next, seated_all}
 use mathlib.Core.Path.{sym}
 use Rattle.workers.specs.Carrying.{AllCarriedOut}
-use Rattle.workers.specs.Sessions.{AreShares}
+use Rattle.workers.specs.Sessions.{AreServedSince}
 use Rattle.workers.proofs.running.fn.run_workers.scope.Goals as goal
 
 -- the next seat is one of those that are left
@@ -22,49 +23,44 @@ loop-seat-preserved g c =
     let left : All (g.T.Versions.fits c.captures.shelves.now) (c.in-Some.seat ∷ c.next.new.self.rest.items) =
     subst (λ items. All (g.T.Versions.fits c.captures.shelves.now) items) step.0 was.fit in
     let short = ap length step.0 in
+    let worker = c.in-Ok-spawn_with.worker in
+    let promise = c.in-Ok-spawn_with.ensures.ok in
+    let items = c.in-Ok-push.ensures.items in
+    let out = c.in_ok-taker.ensures.out in
+    let taker = c.in_ok-taker.ensures.taker in
+    let queue = ap (λ dealer. dealer.queue) out in
     record {
       next = tt;
       finite = tt;
       fit = λ k d small. left (suc k) d (omega arith);
       len = omega (arith, short, step.1, was.len);
-      forms = subst (λ workers. All (λ worker. worker.promise.form ≡ c.captures.form) workers) (sym c.in-Ok-push.ensures.items)
-          (All-push (λ worker. worker.promise.form ≡ c.captures.form) _ c.in-Ok-spawn_with.worker was.forms
-          (ap (λ promise. promise.form) c.in-Ok-spawn_with.ensures.ok ∙ c.of.ensures.form));
-      seated = seated_next _ _ _ _ _ _ c.in-Ok-spawn_with.worker c.in-Some.seat was.seated step.0 c.in-Ok-push.ensures.items
-          (ap (λ promise. promise.seat.value) c.in-Ok-spawn_with.ensures.ok ∙ c.of.ensures.seat);
+      forms = subst (λ workers. All (λ worker. worker.promise.form ≡ c.captures.form) workers) (sym items)
+          (All-push (λ worker. worker.promise.form ≡ c.captures.form) _ worker was.forms (ap (λ promise. promise.form) promise ∙ c.of.ensures.form));
+      queues = subst (λ workers. All (λ worker. worker.promise.taker.value.queue ≡ c.taker.new.self.queue) workers) (sym items)
+          (All-push (λ worker. worker.promise.taker.value.queue ≡ c.taker.new.self.queue) _ worker
+          (subst (λ queue. All (λ worker. worker.promise.taker.value.queue ≡ queue) c.loop-seat.workers.items) (sym queue) was.queues)
+          (ap (λ promise. promise.taker.value.queue) promise ∙ ap (λ t. t.queue) c.of.ensures.taker ∙ ap (λ t. t.queue) taker ∙ sym queue));
+      dealer = one_more_out _ _ _ _ _ out was.dealer items;
+      seated = seated_next _ _ _ _ _ _ worker c.in-Some.seat was.seated step.0 items
+          (ap (λ promise. promise.seat.value) promise ∙ c.of.ensures.seat);
     }
 
 -- all seats may be used at the shelves
 pub loop-seat-init : goal.loop-seat-init
 loop-seat-init g c =
     let all : All (g.T.Versions.fits c.captures.shelves.now) c.captures.seats.items = c.requires.12 in
+    let none = c.new-workers.ensures.items in
     record {
       next = tt;
       finite = tt;
       fit = subst (λ items. All (g.T.Versions.fits c.captures.shelves.now) items) (sym c.into_iter-seat-iterator.ensures.into_iter_gives.0) all;
       len = search rules;
-      forms = subst (λ workers. All (λ worker. worker.promise.form ≡ c.captures.form) workers) (sym c.new-workers.ensures.items) (All-nil _);
-      seated = seated_none _ _ _ c.new-workers.ensures.items;
+      forms = subst (λ workers. All (λ worker. worker.promise.form ≡ c.captures.form) workers) (sym none) (All-nil _);
+      queues = subst (λ workers. All (λ worker. worker.promise.taker.value.queue ≡ c.captures.dealer.queue) workers) (sym none) (All-nil _);
+      dealer = c.requires.16 ∙ ap (λ list. record nothing_put { out = length list }) (sym none);
+      seated = seated_none _ _ _ none;
     }
 
 -- there was a worker at each seat, and all were joined; and so was the loader
-pub returns : goal.returns
-returns g c =
-    let was = c.loop-seat.invariant in
-    let none = sym was.len ∙ c.in-None.ensures.steps.0 in
-    let seats = seated_all _ _ _ _ was.seated none ∙ c.into_iter-seat-iterator.ensures.into_iter_gives.0 in
-    let shares = subst (λ seats. AreShares c.captures.form g.C.Client.opens g.C.Reader.Read.remaining g.C.Writer.Write.contents
-    g.T.Versions.number g.T.Versions.value g.T.Versions.known
-    seats c.join_workers-served.result) seats c.join_workers-served.ensures in
-    let done = c.join-orders.result in
-    let promised = c.in-Ok.ensures.ok in
-    let feeds = ap (λ promise. promise.feeds.value) promised ∙ c.of-promise.ensures.feeds in
-    let seat = ap (λ promise. promise.seat.value) promised ∙ c.of-promise.ensures.seat in
-    let at_feeds = subst (λ feeds. AllCarriedOut g.T.Versions.noted (g.F.Feeds.are_files feeds) g.F.Files.FeedFiles.holds
-    (g.F.Feeds.is_plan feeds) (length (g.F.Feeds.named feeds)) done.0
-    (g.T.Loads.answers c.in-Ok.loading.promise.seat.value) (g.T.Loads.answers done.1)) feeds c.join-orders.ensures in
-    let loads = subst (λ seat. AllCarriedOut g.T.Versions.noted (g.F.Feeds.are_files c.captures.feeds.now)
-    g.F.Files.FeedFiles.holds
-    (g.F.Feeds.is_plan c.captures.feeds.now) (length (g.F.Feeds.named c.captures.feeds.now)) done.0
-    (g.T.Loads.answers seat) (g.T.Loads.answers done.1)) seat at_feeds in
-    search rules
+pub returns-in_ok-join_workers : goal.returns-in_ok-join_workers
+returns-in_ok-join_workers g c = search rules

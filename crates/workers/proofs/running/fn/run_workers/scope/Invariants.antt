@@ -1,8 +1,9 @@
 use Rattle.std.proofs.Common.{◌≡◌, ◌++◌, All, length, map}
 use Rattle.std.specs.Vec.Iter.{into_iter_items, into_iter_len}
+use Rattle.client_queue.specs.Ends.{nothing_put}
 use Rattle.workers.proofs.running.fn.run_workers.scope.Given as goal
 
--- the seats that are left may be used at the shelves, and at each of the others there is a worker
+-- the seats that are left may be used at the shelves, and at each of the others there is a worker, who takes clients from the queue
 abbrev pub invariant-loop-seat : goal.invariant-loop-seat
 invariant-loop-seat g l = record {
   next : (goal.iterator-loop-seat g).can_next l.seat-iterator;
@@ -10,5 +11,7 @@ invariant-loop-seat g l = record {
   fit : All (g.T.Versions.fits l.shelves) l.seat-iterator.rest.items;
   len : into_iter_len l.seat-iterator ≡ length (into_iter_items l.seat-iterator);
   forms : All (λ worker. worker.promise.form ≡ l.form) l.workers.items;
+  queues : All (λ worker. worker.promise.taker.value.queue ≡ l.dealer.queue) l.workers.items;
+  dealer : l.dealer.view ≡ record nothing_put { out = length l.workers.items };
   seated : into_iter_items l.initial.seat-iterator ≡ map (λ worker. worker.promise.seat.value) l.workers.items ++ into_iter_items l.seat-iterator;
 }

@@ -1,0 +1,345 @@
+-- Each step at the queue keeps its rule.
+use Rattle.std.proofs.Common.{◌≡◌, ◌∙◌, ◌<◌, ◌+◌, ◌-◌, ◌++◌, ◌∷◌, ℕ, zero, suc, List, [], map, refl, sym, ap, subst, arith, length, slice_set}
+use Rattle.std.specs.Prelude.{IsPermutation, ⊤}
+use Rattle.std.proofs.lemmas.List.{append_assoc, append-nil, map-append}
+use Rattle.std.proofs.lemmas.List.Sorted.{IsPermutation-append_left, IsPermutation-append_right, IsPermutation-append_comm, IsPermutation-refl}
+use Rattle.std.proofs.lemmas.List.Sorted.{IsPermutation-sym, IsPermutation-trans}
+use mathlib.Core.Option.{Option as Found, some, none, some-ne-none}
+use lib.ListN.{get_elem?}
+use Rattle.crossbeam_channel.specs.Fifo.{Forks, Learns, Merges, Pops, Pushes}
+use Rattle.client_queue.specs.Dealing.{AllWereTaken, IsDealing, IsDealt, IsOneMore, KnowsAllTaken, OnlyTake}
+use Rattle.client_queue.specs.Dealing.{closings_of, ended_by, new_taker, takers_in, taken_by, with_one_out, with_taken}
+use Rattle.client_queue.specs.declared.queue.Arrival.{Arrival}
+use Rattle.client_queue.specs.declared.queue.DealerView.{DealerView}
+use Rattle.client_queue.specs.declared.queue.Side.{Side}
+use Rattle.client_queue.proofs.TakerLemmas.{back_at, ended_also, ended_at, none_ended, none_taken, same_at, takers_also, takers_at}
+use Rattle.client_queue.proofs.TakerLemmas.{taken_also, taken_at, takes_also, takes_at}
+
+module _ {C : Type 0} where
+  client_of : C → Arrival C
+  client_of client = Arrival.Client client
+
+  -- the kind of an end that was found, and what it knows
+  kind : Found (Side C) → ℕ
+  kind none = 0
+  kind (some (Side.Dealing d)) = 1
+  kind (some (Side.Taking taken ended)) = 2
+  kind (some Side.Back) = 3
+
+  dealer_at : Found (Side C) → DealerView C → DealerView C
+  dealer_at (some (Side.Dealing d)) other = d
+  dealer_at _ other = other
+
+  -- the ends but the first put no clients
+  no_dealer : (others : List (Side C)) (k : ℕ) (d : DealerView C) → OnlyTake others → ¬ (get_elem? others k ≡ some (Side.Dealing d))
+  unfolding kind
+  no_dealer [] k d only at = some-ne-none _ (sym at)
+  no_dealer (Side.Dealing e ∷ rest) k d only at = only
+  no_dealer (Side.Taking first e ∷ rest) zero d only at = let n : 2 ≡ 1 = ap kind at in omega (arith, n)
+  no_dealer (Side.Back ∷ rest) zero d only at = let n : 3 ≡ 1 = ap kind at in omega (arith, n)
+  no_dealer (Side.Taking first e ∷ rest) (suc k) d only at = no_dealer rest k d only at
+  no_dealer (Side.Back ∷ rest) (suc k) d only at = no_dealer rest k d only at
+
+  -- the first end is the one that is known to put clients
+  same_dealer : (e d : DealerView C) → some (Side.Dealing e) ≡ some (Side.Dealing d) → e ≡ d
+  unfolding dealer_at
+  same_dealer e d at = ap (λ found. dealer_at found e) at
+
+  -- a closing more behind the others
+  closing_also : (n : ℕ) → closings_of {C = C} n ++ Arrival.Closing ∷ [] ≡ closings_of (suc n)
+  closing_also zero = refl
+  closing_also (suc n) = ap (λ list. Arrival.Closing ∷ list) (closing_also n)
+
+  -- what comes first in the queue
+  first_kind : List (Arrival C) → ℕ
+  first_kind [] = 0
+  first_kind (Arrival.Client client ∷ rest) = 1
+  first_kind (Arrival.Closing ∷ rest) = 2
+
+  first_client : List (Arrival C) → C → C
+  first_client (Arrival.Client client ∷ rest) other = client
+  first_client _ other = other
+
+  behind : List (Arrival C) → List (Arrival C)
+  behind [] = []
+  behind (first ∷ rest) = rest
+
+  -- a client comes first: it is the first that waits
+  pub client_waits : (waiting : List C) (closing : ℕ) (client : C) (items : List (Arrival C))
+      → Arrival.Client client ∷ items ≡ map (λ client. Arrival.Client client) waiting ++ closings_of closing
+      → (rest : List C) × (waiting ≡ client ∷ rest) × (items ≡ map (λ client. Arrival.Client client) rest ++ closings_of closing)
+  unfolding first_kind first_client behind
+  client_waits [] zero client items is = let n : 1 ≡ 0 = ap first_kind is in absurd (omega (arith, n))
+  client_waits [] (suc closing) client items is = let n : 1 ≡ 2 = ap first_kind is in absurd (omega (arith, n))
+  client_waits (first ∷ rest) closing client items is =
+      (rest, ap (λ c. c ∷ rest) (sym (ap (λ list. first_client list client) is)), ap behind is)
+
+  -- a closing comes first: no client waits
+  pub closing_waits : (waiting : List C) (closing : ℕ) (items : List (Arrival C))
+      → Arrival.Closing ∷ items ≡ map (λ client. Arrival.Client client) waiting ++ closings_of closing
+      → (rest : ℕ) × (waiting ≡ []) × (closing ≡ suc rest) × (items ≡ closings_of rest)
+  unfolding first_kind behind
+  closing_waits [] zero items is = let n : 2 ≡ 0 = ap first_kind is in absurd (omega (arith, n))
+  closing_waits [] (suc closing) items is = (closing, refl, refl, ap behind is)
+  closing_waits (first ∷ rest) closing items is = let n : 2 ≡ 1 = ap first_kind is in absurd (omega (arith, n))
+
+  -- a client is put
+  put_also : (d : DealerView C) (client : C) (items : List (Arrival C)) (others : List (Side C)) → d.closings ≡ 0 → IsDealt d items others
+      → IsDealt (record d { sent = d.sent ++ client ∷ [] }) (items ++ Arrival.Client client ∷ []) others
+  put_also d client items others fresh h =
+      let Is = λ (c : C). Arrival.Client c in
+      let closing : h.closing ≡ 0 = omega (arith, h.closings_are, fresh) in
+      let ended : d.ended + ended_by others ≡ 0 = omega (arith, h.closings_are, fresh) in
+      let bare : items ≡ map Is h.waiting = subst (λ n. items ≡ map Is h.waiting ++ closings_of n) closing h.items_are ∙ append-nil (map Is h.waiting) in
+      record {
+        dealt = h.dealt;
+        waiting = h.waiting ++ client ∷ [];
+        closing = 0;
+        sent_are = ap (λ list. list ++ client ∷ []) h.sent_are ∙ append_assoc h.dealt h.waiting (client ∷ []);
+        items_are = ap (λ list. list ++ Arrival.Client client ∷ []) bare ∙ sym (map-append Is h.waiting (client ∷ []))
+            ∙ sym (append-nil (map Is (h.waiting ++ client ∷ [])));
+        taken_are = h.taken_are;
+        closings_are = omega (arith, h.closings_are, closing);
+        closed = λ more. absurd (omega (arith, more, ended));
+        out_are = h.out_are;
+        others_take = h.others_take;
+      }
+
+  -- the queue is closed once more
+  close_also : (d : DealerView C) (items : List (Arrival C)) (others : List (Side C)) → IsDealt d items others
+      → IsDealt (record d { closings = d.closings + 1 }) (items ++ Arrival.Closing ∷ []) others
+  close_also d items others h =
+      let clients = map (λ (c : C). Arrival.Client c) h.waiting in
+      record {
+        dealt = h.dealt;
+        waiting = h.waiting;
+        closing = suc h.closing;
+        sent_are = h.sent_are;
+        items_are = ap (λ list. list ++ Arrival.Closing ∷ []) h.items_are ∙ append_assoc clients (closings_of h.closing) (Arrival.Closing ∷ [])
+            ∙ ap (λ list. clients ++ list) (closing_also h.closing);
+        taken_are = h.taken_are;
+        closings_are = omega (arith, h.closings_are);
+        closed = h.closed;
+        out_are = h.out_are;
+        others_take = h.others_take;
+      }
+
+  pub puts : (n pass : ℕ) (d : DealerView C) (client : C) → d.closings ≡ 0
+      → Pushes IsDealing n pass (Side.Dealing d) (Arrival.Client client) (IsOneMore (Side.Dealing d) (Arrival.Client client))
+  puts n pass d client fresh items [] room holds at = absurd holds
+  puts n pass d client fresh items (Side.Taking t m ∷ others) room holds at = absurd holds
+  puts n pass d client fresh items (Side.Back ∷ others) room holds at = absurd holds
+  puts n (suc k) d client fresh items (Side.Dealing e ∷ others) room holds at = absurd (no_dealer others k d holds.others_take at)
+  puts n zero d client fresh items (Side.Dealing e ∷ others) room holds at =
+      let same = same_dealer e d at in
+      let h = subst (λ view. IsDealt view items others) same holds in
+      (Side.Dealing (record d { sent = d.sent ++ client ∷ [] }), put_also d client items others fresh h, refl)
+
+  pub closes : (n pass : ℕ) (d : DealerView C)
+      → Pushes IsDealing n pass (Side.Dealing d) Arrival.Closing (IsOneMore (Side.Dealing d) Arrival.Closing)
+  closes n pass d items [] room holds at = absurd holds
+  closes n pass d items (Side.Taking t m ∷ others) room holds at = absurd holds
+  closes n pass d items (Side.Back ∷ others) room holds at = absurd holds
+  closes n (suc k) d items (Side.Dealing e ∷ others) room holds at = absurd (no_dealer others k d holds.others_take at)
+  closes n zero d items (Side.Dealing e ∷ others) room holds at =
+      let same = same_dealer e d at in
+      let h = subst (λ view. IsDealt view items others) same holds in
+      (Side.Dealing (record d { closings = d.closings + 1 }), close_also d items others h, refl)
+
+  -- a list that begins isn't empty
+  size : List C → ℕ
+  size [] = 0
+  size (c ∷ rest) = 1
+
+  waits : (rest : List C) (client : C) → ¬ (client ∷ rest ≡ [])
+  unfolding size
+  waits rest client empty = let n : 1 ≡ 0 = ap size empty in omega (arith, n)
+
+  -- one client more is dealt, and one more is taken
+  moved : (back others others_then taken left dealt : List C) (client : C) → IsPermutation dealt (back ++ others)
+      → IsPermutation others (taken ++ left) → IsPermutation others_then ((taken ++ client ∷ []) ++ left)
+      → IsPermutation (dealt ++ client ∷ []) (back ++ others_then)
+  moved back others others_then taken left dealt client before was is =
+      let one = client ∷ [] in
+      let first : IsPermutation (dealt ++ one) ((back ++ others) ++ one) = IsPermutation-append_left one dealt (back ++ others) before in
+      let second = subst (λ list. IsPermutation (dealt ++ one) list) (append_assoc back others one) first in
+      let out : IsPermutation (others ++ one) ((taken ++ left) ++ one) = IsPermutation-append_left one others (taken ++ left) was in
+      let turned : IsPermutation ((taken ++ left) ++ one) ((taken ++ one) ++ left) =
+      subst (λ list. IsPermutation list ((taken ++ one) ++ left)) (sym (append_assoc taken left one))
+      (subst (λ list. IsPermutation (taken ++ (left ++ one)) list) (sym (append_assoc taken one left))
+      (IsPermutation-append_right taken (left ++ one) (one ++ left) (IsPermutation-append_comm left one))) in
+      let there = IsPermutation-trans (others ++ one) ((taken ++ left) ++ one) ((taken ++ one) ++ left) out turned in
+      let now = IsPermutation-trans (others ++ one) ((taken ++ one) ++ left) others_then there
+      (IsPermutation-sym others_then ((taken ++ one) ++ left) is) in
+      IsPermutation-trans (dealt ++ one) (back ++ (others ++ one)) (back ++ others_then) second
+          (IsPermutation-append_right back (others ++ one) others_then now)
+
+  -- the first client that waits is taken
+  client_goes : (d : DealerView C) (client : C) (items : List (Arrival C)) (others : List (Side C)) (k : ℕ) (taken : List C) (ended : ℕ)
+      → get_elem? others k ≡ some (Side.Taking taken ended) → IsDealt d (Arrival.Client client ∷ items) others
+      → IsDealt d items (slice_set others k (Side.Taking (taken ++ client ∷ []) ended))
+  client_goes d client items others k taken ended at h =
+      let first = client_waits h.waiting h.closing client items h.items_are in
+      let left = taken_by (slice_set others k Side.Back) in
+      let now = slice_set others k (Side.Taking (taken ++ client ∷ []) ended) in
+      let is_was = same_at others k (Side.Taking taken ended) at in
+      let was : IsPermutation (taken_by others) (taken ++ left) =
+      subst (λ list. IsPermutation (taken_by list) (taken ++ left)) is_was (taken_at others k taken taken ended ended at) in
+      let is : IsPermutation (taken_by now) ((taken ++ client ∷ []) ++ left) = taken_at others k taken (taken ++ client ∷ []) ended ended at in
+      let before : ended_by others ≡ ended + ended_by (slice_set others k Side.Back) =
+      subst (λ list. ended_by list ≡ ended + ended_by (slice_set others k Side.Back)) is_was (ended_at others k taken taken ended ended at) in
+      let after = ended_at others k taken (taken ++ client ∷ []) ended ended at in
+      let were : takers_in others ≡ 1 + takers_in (slice_set others k Side.Back) =
+      subst (λ list. takers_in list ≡ 1 + takers_in (slice_set others k Side.Back)) is_was (takers_at others k taken taken ended ended at) in
+      let are = takers_at others k taken (taken ++ client ∷ []) ended ended at in
+      let more = moved d.taken (taken_by others) (taken_by now) taken left h.dealt client h.taken_are was is in
+      record {
+        dealt = h.dealt ++ client ∷ [];
+        waiting = first.0;
+        closing = h.closing;
+        sent_are = h.sent_are ∙ ap (λ list. h.dealt ++ list) first.1 ∙ sym (append_assoc h.dealt (client ∷ []) first.0);
+        items_are = first.2;
+        taken_are = more;
+        closings_are = omega (arith, h.closings_are, before, after);
+        closed = λ more. let nobody = h.closed (omega (arith, more, before, after)) in absurd (waits first.0 client (sym first.1 ∙ nobody));
+        out_are = omega (arith, h.out_are, were, are);
+        others_take = takes_at others k (taken ++ client ∷ []) ended h.others_take;
+      }
+
+  -- the first closing is taken
+  closing_goes : (d : DealerView C) (items : List (Arrival C)) (others : List (Side C)) (k : ℕ) (taken : List C) (ended : ℕ)
+      → get_elem? others k ≡ some (Side.Taking taken ended) → IsDealt d (Arrival.Closing ∷ items) others
+      → IsDealt d items (slice_set others k (Side.Taking taken (ended + 1)))
+  closing_goes d items others k taken ended at h =
+      let first = closing_waits h.waiting h.closing items h.items_are in
+      let left = taken_by (slice_set others k Side.Back) in
+      let now = slice_set others k (Side.Taking taken (ended + 1)) in
+      let is_was = same_at others k (Side.Taking taken ended) at in
+      let was : IsPermutation (taken_by others) (taken ++ left) =
+      subst (λ list. IsPermutation (taken_by list) (taken ++ left)) is_was (taken_at others k taken taken ended ended at) in
+      let is : IsPermutation (taken_by now) (taken ++ left) = taken_at others k taken taken ended (ended + 1) at in
+      let same = IsPermutation-trans (taken_by others) (taken ++ left) (taken_by now) was (IsPermutation-sym (taken_by now) (taken ++ left) is) in
+      let before : ended_by others ≡ ended + ended_by (slice_set others k Side.Back) =
+      subst (λ list. ended_by list ≡ ended + ended_by (slice_set others k Side.Back)) is_was (ended_at others k taken taken ended ended at) in
+      let after = ended_at others k taken taken ended (ended + 1) at in
+      let were : takers_in others ≡ 1 + takers_in (slice_set others k Side.Back) =
+      subst (λ list. takers_in list ≡ 1 + takers_in (slice_set others k Side.Back)) is_was (takers_at others k taken taken ended ended at) in
+      let are = takers_at others k taken taken ended (ended + 1) at in
+      record {
+        dealt = h.dealt;
+        waiting = [];
+        closing = first.0;
+        sent_are = h.sent_are ∙ ap (λ list. h.dealt ++ list) first.1;
+        items_are = first.3;
+        taken_are = IsPermutation-trans h.dealt (d.taken ++ taken_by others) (d.taken ++ taken_by now) h.taken_are
+            (IsPermutation-append_right d.taken (taken_by others) (taken_by now) same);
+        closings_are = omega (arith, h.closings_are, before, after, first.2);
+        closed = λ more. refl;
+        out_are = omega (arith, h.out_are, were, are);
+        others_take = takes_at others k taken (ended + 1) h.others_take;
+      }
+
+  pub takes : (pass : ℕ) (taken : List C) (ended : ℕ) → Pops IsDealing pass (Side.Taking taken ended) (IsOneMore (Side.Taking taken ended))
+  unfolding kind
+  takes pass taken ended x items [] holds at = absurd holds
+  takes pass taken ended x items (Side.Taking t m ∷ others) holds at = absurd holds
+  takes pass taken ended x items (Side.Back ∷ others) holds at = absurd holds
+  takes zero taken ended x items (Side.Dealing e ∷ others) holds at = let n : 1 ≡ 2 = ap kind at in absurd (omega (arith, n))
+  takes (suc k) taken ended (Arrival.Client client) items (Side.Dealing e ∷ others) holds at =
+      (Side.Taking (taken ++ client ∷ []) ended, client_goes e client items others k taken ended at holds, refl)
+  takes (suc k) taken ended Arrival.Closing items (Side.Dealing e ∷ others) holds at =
+      (Side.Taking taken (ended + 1), closing_goes e items others k taken ended at holds, refl)
+
+  -- a taker goes out
+  pub goes_out : (pass : ℕ) (d : DealerView C) → Forks IsDealing pass (Side.Dealing d) (with_one_out (Side.Dealing d)) new_taker
+  goes_out pass d items [] holds at = absurd holds
+  goes_out pass d items (Side.Taking t m ∷ others) holds at = absurd holds
+  goes_out pass d items (Side.Back ∷ others) holds at = absurd holds
+  goes_out (suc k) d items (Side.Dealing e ∷ others) holds at = absurd (no_dealer others k d holds.others_take at)
+  goes_out zero d items (Side.Dealing e ∷ others) holds at =
+      let h = subst (λ view. IsDealt view items others) (same_dealer e d at) holds in
+      let same = ended_also others in
+      let more = takers_also others in
+      record {
+        dealt = h.dealt;
+        waiting = h.waiting;
+        closing = h.closing;
+        sent_are = h.sent_are;
+        items_are = h.items_are;
+        taken_are = subst (λ list. IsPermutation h.dealt (d.taken ++ list)) (sym (taken_also others)) h.taken_are;
+        closings_are = omega (arith, h.closings_are, same);
+        closed = λ more. h.closed (omega (arith, more, same));
+        out_are = omega (arith, h.out_are, more);
+        others_take = takes_also others h.others_take;
+      }
+
+  -- a taker comes back
+  back_also : (d : DealerView C) (items : List (Arrival C)) (others : List (Side C)) (k : ℕ) (taken : List C) (ended : ℕ)
+      → get_elem? others k ≡ some (Side.Taking taken ended) → IsDealt d items others
+      → IsDealt (record d { out = d.out - 1; taken = d.taken ++ taken; ended = d.ended + ended }) items (slice_set others k Side.Back)
+  back_also d items others k taken ended at h =
+      let left = slice_set others k Side.Back in
+      let is_was = same_at others k (Side.Taking taken ended) at in
+      let was : IsPermutation (taken_by others) (taken ++ taken_by left) =
+      subst (λ list. IsPermutation (taken_by list) (taken ++ taken_by left)) is_was (taken_at others k taken taken ended ended at) in
+      let before : ended_by others ≡ ended + ended_by left =
+      subst (λ list. ended_by list ≡ ended + ended_by left) is_was (ended_at others k taken taken ended ended at) in
+      let were : takers_in others ≡ 1 + takers_in left =
+      subst (λ list. takers_in list ≡ 1 + takers_in left) is_was (takers_at others k taken taken ended ended at) in
+      let all = IsPermutation-trans h.dealt (d.taken ++ taken_by others) (d.taken ++ (taken ++ taken_by left)) h.taken_are
+      (IsPermutation-append_right d.taken (taken_by others) (taken ++ taken_by left) was) in
+      record {
+        dealt = h.dealt;
+        waiting = h.waiting;
+        closing = h.closing;
+        sent_are = h.sent_are;
+        items_are = h.items_are;
+        taken_are = subst (λ list. IsPermutation h.dealt list) (sym (append_assoc d.taken taken (taken_by left))) all;
+        closings_are = omega (arith, h.closings_are, before);
+        closed = λ more. h.closed (omega (arith, more, before));
+        out_are = omega (arith, h.out_are, were);
+        others_take = back_at others k h.others_take;
+      }
+
+  pub comes_back : (pass : ℕ) (d : DealerView C) (other : ℕ) (taken : List C) (ended : ℕ)
+      → Merges IsDealing pass (Side.Dealing d) other (Side.Taking taken ended) (with_taken (Side.Dealing d) (Side.Taking taken ended)) Side.Back
+  comes_back pass d other taken ended items [] holds at apart there = absurd holds
+  comes_back pass d other taken ended items (Side.Taking t m ∷ others) holds at apart there = absurd holds
+  comes_back pass d other taken ended items (Side.Back ∷ others) holds at apart there = absurd holds
+  comes_back (suc k) d other taken ended items (Side.Dealing e ∷ others) holds at apart there = absurd (no_dealer others k d holds.others_take at)
+  comes_back zero d zero taken ended items (Side.Dealing e ∷ others) holds at apart there = absurd (apart refl)
+  comes_back zero d (suc k) taken ended items (Side.Dealing e ∷ others) holds at apart there =
+      back_also d items others k taken ended there (subst (λ view. IsDealt view items others) (same_dealer e d at) holds)
+
+  -- all are back
+  all_taken : (d : DealerView C) (items : List (Arrival C)) (others : List (Side C)) → IsDealt d items others → AllWereTaken d
+  all_taken d items others h nobody_out closed_some all =
+      let takers : takers_in others ≡ 0 = sym h.out_are ∙ nobody_out in
+      let ended = none_ended others takers in
+      let nobody = h.closed (omega (arith, closed_some, all)) in
+      let sent : d.sent ≡ h.dealt = h.sent_are ∙ ap (λ list. h.dealt ++ list) nobody ∙ append-nil h.dealt in
+      let taken : d.taken ++ taken_by others ≡ d.taken = ap (λ list. d.taken ++ list) (none_taken others takers) ∙ append-nil d.taken in
+      subst (λ list. IsPermutation list d.taken) (sym sent) (subst (λ list. IsPermutation h.dealt list) taken h.taken_are)
+
+  pub learns : (pass : ℕ) (d : DealerView C) → Learns IsDealing pass (Side.Dealing d) (λ items. KnowsAllTaken (Side.Dealing d))
+  learns pass d items [] holds at = absurd holds
+  learns pass d items (Side.Taking t m ∷ others) holds at = absurd holds
+  learns pass d items (Side.Back ∷ others) holds at = absurd holds
+  learns (suc k) d items (Side.Dealing e ∷ others) holds at = absurd (no_dealer others k d holds.others_take at)
+  learns zero d items (Side.Dealing e ∷ others) holds at =
+      all_taken d items others (subst (λ view. IsDealt view items others) (same_dealer e d at) holds)
+
+  -- the rule holds of a new queue
+  pub begins : IsDealing {C = C} [] (Side.Dealing (record { sent = []; closings = 0; out = 0; taken = []; ended = 0 }) ∷ [])
+  begins = record {
+    dealt = [];
+    waiting = [];
+    closing = 0;
+    sent_are = refl;
+    items_are = refl;
+    taken_are = IsPermutation-refl [];
+    closings_are = refl;
+    closed = λ more. refl;
+    out_are = refl;
+    others_take = tt;
+  }

@@ -1,0 +1,2 @@
+pub mod DealingLemmas
+pub mod TakerLemmas

@@ -1,0 +1,165 @@
+//! The end of the queue where clients are put, and the ends where they are taken.
+
+ghost use Rattle.std.specs.Prelude.{◌≡◌, ◌+◌, ◌++◌, ◌∷◌, [], false, IfOk, OnErr, OnOk, MatchOption};
+ghost use Rattle.client_queue.specs.Dealing.{AllWereTaken};
+ghost use Rattle.client_queue.specs.Ends.{DealerValue, TakerValue, closed_once_more, nothing_put, out_once_more};
+ghost use Rattle.client_queue.specs.Ends.{with_back, with_sent};
+
+use crate::queue::{AllBack, Arrival, ComesBack, EachOnce, GoesOut, Moves, Side};
+use crossbeam_channel::{Pass, RuledReceiver, RuledSender, bounded_with};
+use std::alloc::{AllocError, Global};
+use std::marker::Model;
+use std::sync::Wait;
+use thiserror::Error;
+
+/// Nobody takes clients any more. It doesn't come while the end lives where they are put.
+#[derive(Clone, Copy, Debug, PartialEq, Eq, Error)]
+#[error("nobody takes clients any more")]
+pub struct NobodyTakes;
+
+/// Where clients are put. Contracts see which queue, which clients were put, in order, how many takers are out, and
+/// what those that came back had taken.
+#[derive(Drop)]
+pub struct Dealer<C: Drop> {
+    sender: RuledSender<Arrival<C>, Side<C>, EachOnce, Global>,
+    receiver: RuledReceiver<Arrival<C>, Side<C>, EachOnce, Global>,
+    pass: Pass<Arrival<C>, Side<C>>,
+}
+
+impl<C: Drop> Model for Dealer<C> {
+    ghost use Rattle.std.specs.Prelude.{◌≡◌};
+    ghost use Rattle.crossbeam_channel.specs.Claims.{IsSeatAt, view as view_of};
+    ghost use Rattle.crossbeam_channel.specs.Ends.{receives_on, sends_on};
+    ghost use Rattle.client_queue.specs.Ends.{DealerValue, IsDealerSide, dealer_of};
+
+    ghost Value = { DealerValue C };
+
+    ghost view = { λ s. record { queue = (s.pass.table_id, s.pass.me.0.of); view = dealer_of (view_of s.pass) } };
+
+    ghost invariant = { λ s. IsSeatAt (sends_on s.sender) s.pass × (receives_on s.receiver ≡ sends_on s.sender)
+        × IsDealerSide (view_of s.pass) };
+}
+
+/// Where clients are taken. Contracts see which queue, which clients were taken here, in order, and whether the queue
+/// was closed for this end.
+#[derive(Drop)]
+pub struct Taker<C: Drop> {
+    receiver: RuledReceiver<Arrival<C>, Side<C>, EachOnce, Global>,
+    pass: Pass<Arrival<C>, Side<C>>,
+    closed: bool,
+}
+
+impl<C: Drop> Model for Taker<C> {
+    ghost use Rattle.crossbeam_channel.specs.Claims.{IsSeatAt, view as view_of};
+    ghost use Rattle.crossbeam_channel.specs.Ends.{receives_on};
+    ghost use Rattle.client_queue.specs.Ends.{IsTakerSide, TakerValue, taken_of};
+
+    ghost Value = { TakerValue C };
+
+    ghost view = { λ s. record {
+      queue = (s.pass.table_id, s.pass.me.0.of);
+      taken = taken_of (view_of s.pass);
+      closed = s.closed;
+    } };
+
+    ghost invariant = { λ s. IsSeatAt (receives_on s.receiver) s.pass × IsTakerSide s.closed (view_of s.pass) };
+}
+
+/// An empty queue, in which one client may wait: the end where clients are put.
+pub fn client_queue<C: Drop>(alloc: Global) -> Result<Dealer<C>, AllocError>
+    ensures { IfOk result (λ dealer. dealer.view ≡ nothing_put) }
+{
+    let (sender, receiver, pass) = bounded_with(alloc, 1)?;
+    Ok(Dealer {
+        sender,
+        receiver,
+        pass,
+    })
+}
+
+impl<C: Drop> Dealer<C> {
+    /// A taker of this queue, who goes out and has taken nothing.
+    pub fn taker(&mut self) -> Result<Taker<C>, AllocError>
+        ensures taker { IfOk result (λ taker. taker ≡ record { queue = self.old.queue; taken = []; closed = false }) }
+        ensures out { OnOk result (self.new ≡ out_once_more self.old) }
+        ensures refused { OnErr result (self.new ≡ self.old) }
+    {
+        let receiver = self.receiver.try_clone()?;
+        let pass = self.sender.another::<GoesOut>(&mut self.pass);
+        Ok(Taker {
+            receiver,
+            pass,
+            closed: false,
+        })
+    }
+
+    /// Puts a client, once there is room.
+    pub fn put<R: Wait>(&mut self, rt: &R, client: C) -> Result<(), NobodyTakes>
+        requires { self.old.view.closings ≡ 0 }
+        ensures put { OnOk result (self.new ≡ with_sent self.old client) }
+        ensures refused { OnErr result (self.new ≡ self.old) }
+    {
+        let arrival = Arrival::Client { client };
+        match self.sender.send_as::<Moves, R>(rt, &mut self.pass, arrival) {
+            Ok(()) => Ok(()),
+            Err(_) => Err(NobodyTakes),
+        }
+    }
+
+    /// Closes the queue for one taker, once there is room: no client comes any more.
+    pub fn close<R: Wait>(&mut self, rt: &R) -> Result<(), NobodyTakes>
+        ensures closed { OnOk result (self.new ≡ closed_once_more self.old) }
+        ensures refused { OnErr result (self.new ≡ self.old) }
+    {
+        match self.sender.send_as::<Moves, R>(rt, &mut self.pass, Arrival::Closing) {
+            Ok(()) => Ok(()),
+            Err(_) => Err(NobodyTakes),
+        }
+    }
+
+    /// A taker comes back, with what it had taken.
+    pub fn take_back(&mut self, taker: Taker<C>)
+        requires { taker.queue ≡ self.old.queue }
+        ensures { self.new ≡ with_back self.old taker }
+    {
+        self.sender.absorb::<ComesBack>(&mut self.pass, taker.pass);
+    }
+
+    /// Once no taker is out, and each came back because the queue was closed for it: what they took is what was put,
+    /// each client once. It changes nothing.
+    pub fn all_were_taken(&mut self)
+        ensures same { self.new ≡ self.old }
+        ensures all { AllWereTaken self.old.view }
+    {
+        self.sender.learn_as::<AllBack>(&mut self.pass);
+    }
+}
+
+impl<C: Drop> Taker<C> {
+    /// Takes the client that waits longest, or waits for one. None comes once the queue was closed for this end, or
+    /// the end is gone where clients are put.
+    pub fn next<R: Wait>(&mut self, rt: &R) -> Option<C>
+        ensures queue { self.new.queue ≡ self.old.queue }
+        ensures taken { MatchOption result (self.new.taken ≡ self.old.taken)
+            (λ client. (self.new.taken ≡ self.old.taken ++ client ∷ [])) }
+    {
+        if self.closed {
+            return None;
+        }
+        match self.receiver.recv_as::<Moves, R>(rt, &mut self.pass) {
+            Ok(Arrival::Client { client }) => Some(client),
+            Ok(Arrival::Closing) => {
+                self.closed = true;
+                None
+            }
+            Err(_) => None,
+        }
+    }
+
+    /// Whether the queue was closed for this end.
+    pub fn is_closed(&self) -> bool
+        ensures { result ≡ self.now.closed }
+    {
+        self.closed
+    }
+}

@@ -1,0 +1,11 @@
+use Rattle.std.proofs.Common.{◌≡◌}
+use Rattle.workers.specs.Dealing.{IsPutSince}
+use Rattle.workers.proofs.dealing.put_all.Given as goal
+
+abbrev pub invariant-loop : goal.invariant-loop
+invariant-loop g l = record {
+  next : (goal.iterator-loop g).can_next l.iterator';
+  finite : (goal.iterator-loop g).is_finite l.iterator';
+  put : IsPutSince (g.K.Clients.came l.fn.clients) (g.K.Clients.came l.clients) l.fn.dealer l.dealer;
+  open_yet : l.dealer.view.closings ≡ 0;
+}
