@@ -172,7 +172,7 @@ module _ {C : Type 0} where
       let now = IsPermutation-trans (others ++ one) ((taken ++ one) ++ left) others_then there
       (IsPermutation-sym others_then ((taken ++ one) ++ left) is) in
       IsPermutation-trans (dealt ++ one) (back ++ (others ++ one)) (back ++ others_then) second
-          (IsPermutation-append_right back (others ++ one) others_then now)
+      (IsPermutation-append_right back (others ++ one) others_then now)
 
   -- the first client that waits is taken
   client_goes : (d : DealerView C) (client : C) (items : List (Arrival C)) (others : List (Side C)) (k : ℕ) (taken : List C) (ended : ℕ)

@@ -34,7 +34,7 @@ module _ {C : Type 0} where
       let left = taken_by (slice_set rest k Side.Back) in
       let more = IsPermutation-append_right first _ _ (taken_at rest k was took n m at) in
       IsPermutation-trans (first ++ taken_by (slice_set rest k (Side.Taking took m))) (first ++ (took ++ left)) (took ++ (first ++ left))
-          more (in_front first took left)
+      more (in_front first took left)
 
   pub ended_at : (others : List (Side C)) (k : ℕ) (was took : List C) (n m : ℕ) → get_elem? others k ≡ some (Side.Taking was n)
       → ended_by (slice_set others k (Side.Taking took m)) ≡ m + ended_by (slice_set others k Side.Back)

@@ -42,11 +42,13 @@ times false = 0
 
 -- a taker is back, with what it had taken
 abbrev pub with_back : {C : Type 0} → DealerValue C → TakerValue C → DealerValue C
-with_back a taker = record a { view = record a.view {
-  out = a.view.out - 1;
-  taken = a.view.taken ++ taker.taken;
-  ended = a.view.ended + times taker.closed;
-} }
+with_back a taker = record a {
+  view = record a.view {
+    out = a.view.out - 1;
+    taken = a.view.taken ++ taker.taken;
+    ended = a.view.ended + times taker.closed;
+  };
+}
 
 -- what an end knows, by what it does
 abbrev pub dealer_of : {C : Type 0} → Side C → DealerView C

@@ -111,7 +111,10 @@ impl<C: Drop> Dealer<C> {
         ensures closed { OnOk result (self.new ≡ closed_once_more self.old) }
         ensures refused { OnErr result (self.new ≡ self.old) }
     {
-        match self.sender.send_as::<Moves, R>(rt, &mut self.pass, Arrival::Closing) {
+        match self
+            .sender
+            .send_as::<Moves, R>(rt, &mut self.pass, Arrival::Closing)
+        {
             Ok(()) => Ok(()),
             Err(_) => Err(NobodyTakes),
         }

@@ -9,7 +9,9 @@ IsPutSince {C} came came_then before after = (since : List C) × (came_then ≡ 
 
 -- these were put in the queue, and then it was closed for so many takers
 abbrev pub IsClosedFor : {C : Type 0} → ℕ → List C → DealerValue C → DealerValue C → Type 0
-IsClosedFor takers since before after = after ≡ record before { view = record before.view {
-  sent = before.view.sent ++ since;
-  closings = before.view.closings + takers;
-} }
+IsClosedFor takers since before after = after ≡ record before {
+  view = record before.view {
+    sent = before.view.sent ++ since;
+    closings = before.view.closings + takers;
+  };
+}

@@ -10,4 +10,4 @@ pub learn_as-requires-clause-rule : goal.learn_as-requires-clause-rule
 learn_as-requires-clause-rule g c =
     let pass = c.self.inside.pass in
     subst (λ side. Learns IsDealing pass.id side (λ items. KnowsAllTaken side)) (sym c.self.invariant.2)
-        (learns pass.id (dealer_of (view_of pass)))
+    (learns pass.id (dealer_of (view_of pass)))

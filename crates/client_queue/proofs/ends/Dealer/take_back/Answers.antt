@@ -14,4 +14,4 @@ absorb-requires-clause-rule g c =
     let At = λ (side there : Side _). Merges IsDealing pass.id side other.id there (with_taken side there) Side.Back in
     let back = comes_back pass.id (dealer_of (view_of pass)) other.id (taken_of (view_of other)) (times c.taker.inside.closed) in
     subst (λ there. At (view_of pass) there) (sym c.taker.invariant.1)
-        (subst (λ side. At side (Side.Taking (taken_of (view_of other)) (times c.taker.inside.closed))) (sym c.self.invariant.2) back)
+    (subst (λ side. At side (Side.Taking (taken_of (view_of other)) (times c.taker.inside.closed))) (sym c.self.invariant.2) back)

@@ -10,4 +10,4 @@ pub another-pass-requires-clause-rule : goal.another-pass-requires-clause-rule
 another-pass-requires-clause-rule g c =
     let pass = c.self.inside.pass in
     subst (λ side. Forks IsDealing pass.id side (with_one_out side) new_taker) (sym c.self.invariant.2)
-        (goes_out pass.id (dealer_of (view_of pass)))
+    (goes_out pass.id (dealer_of (view_of pass)))
