@@ -7,6 +7,7 @@ use Rattle.session.specs.declared.point_form.PointForm.{PointForm}
 use Rattle.workers.specs.Sessions.{AreAllServed, AreShares, IsShare}
 use Rattle.std.specs.Prelude.{IsPermutation, flat_map}
 use Rattle.client_queue.specs.Ends.{DealerValue, nothing_put, out_once_more}
+use Rattle.client_queue.specs.declared.queue.DealerView.{DealerView}
 use Rattle.workers.specs.declared.clients.ConnFault.{ConnFault}
 use Rattle.workers.specs.declared.served.End.{End}
 
@@ -124,6 +125,8 @@ moved_all all left moved before none = sym (before ∙ ap (λ list. moved ++ lis
 pub one_more_out : {C H : Type 0} (dealer dealer_then : DealerValue C) (workers workers_then : List H) (worker : H)
     → dealer_then ≡ out_once_more dealer → dealer.view ≡ record nothing_put { out = length workers } → workers_then ≡ workers ++ worker ∷ []
     → dealer_then.view ≡ record nothing_put { out = length workers_then }
-one_more_out dealer dealer_then workers workers_then worker more before grows =
+one_more_out {C} dealer dealer_then workers workers_then worker more before grows =
     let longer : length workers_then ≡ length workers + 1 = ap length grows ∙ length-append workers (worker ∷ []) in
-    ap (λ d. d.view) more ∙ ap (λ v. record v { out = v.out + 1 }) before ∙ ap (λ n. record nothing_put { out = n }) (sym longer)
+    let With : ℕ → DealerView C = λ n. record nothing_put { out = n } in
+    let Also : DealerView C → DealerView C = λ v. record v { out = v.out + 1 } in
+    ap (λ d. d.view) more ∙ ap Also before ∙ ap With (sym longer)

@@ -53,7 +53,8 @@ fn close_for<R: Wait, C: Drop>(
     ensures { OnOk result (dealer.new
         ≡ record dealer.old { view = record dealer.old.view { closings = dealer.old.view.closings + takers } }) }
 {
-    for _ in 0..takers {
+    for closed in 0..takers {
+        let _ = closed;
         dealer.close(rt)?;
     }
     Ok(())

@@ -1,18 +1,17 @@
 //! The workers and the loader, in one scope.
 
 ghost use denote.Param.Send.{IsSend, IsSync};
-ghost use Rattle.std.specs.Prelude.{◌≡◌, ◌≤◌, [], All, length, IfOk};
+ghost use Rattle.std.specs.Prelude.{◌≡◌, ◌≤◌, ◌++◌, ◌∷◌, [], All, length, IfOk, OnOk};
 ghost use Rattle.client_queue.specs.Ends.{nothing_put};
 ghost use Rattle.workers.specs.Carrying.{AllCarriedOut};
 ghost use Rattle.workers.specs.Sessions.{AreServedSince, IsShare};
 
 use crate::carrying::Loading;
 use crate::clients::{Client, Clients};
-use crate::dealing::deal_all;
 use crate::feeds::Feeds;
 use crate::served::Served;
 use crate::serving::Worker;
-use crate::shares::{LoadsAt, Share, ShareAt, join_workers};
+use crate::shares::{LoadsAt, Share, ShareAt, deal_and_join};
 use client_queue::{NobodyTakes, client_queue};
 use epochs::{Loads, Versions};
 use load_orders::{LoaderOrders, WorkerOrders, order_queue};
@@ -146,7 +145,7 @@ where
             for seat in seats {
                 let taker = dealer.taker()?;
                 let end = asks.another()?;
-                match scope.spawn_with(
+                let started = scope.spawn_with(
                     ShareAt::<C, T>::of(&taker, &seat, form),
                     move || -> Share<C, T::Seat>
                         requires { T.Versions.fits shelves.now seat × (taker.taken ≡ []) }
@@ -165,27 +164,36 @@ where
                         let orders = WorkerOrders::new(alloc, feeds.names(), shelves, end);
                         Worker { desk }.work(taker, seat, orders).0
                     },
-                ) {
-                    Ok(worker) => {
-                        let Ok(()) = workers.push(worker) else {
-                            return Err(WorkersFault);
-                        };
-                    }
-                    Err(_) => return Err(WorkersFault),
-                }
+                );
+                let Ok(worker) = started else {
+                    return Err(WorkersFault);
+                };
+                also(&mut workers, worker)?;
             }
-            let clients = deal_all(rt, clients, &mut dealer, workers.len())?;
-            let (served, seats) = join_workers(rt, form, dealer, workers, room)?;
+            let served = deal_and_join(rt, form, clients, dealer, workers, room);
             // No order is refused for want of a loader before all sessions have ended.
             drop(asks);
             let (orders, loader) = loading.join(rt);
-            Ok(Ran {
-                served,
-                clients,
-                seats,
-                orders,
-                loader,
-            })
+            match served {
+                Ok((clients, served, seats)) => Ok(Ran {
+                    served,
+                    clients,
+                    seats,
+                    orders,
+                    loader,
+                }),
+                Err(fault) => Err(fault),
+            }
         },
     )
+}
+
+// One more at the end.
+fn also<W: Drop>(workers: &mut Vec<W>, worker: W) -> Result<(), AllocError>
+    ensures { OnOk result (workers.new.items ≡ workers.old.items ++ worker ∷ []) }
+{
+    match workers.push(worker) {
+        Ok(()) => Ok(()),
+        Err(_) => Err(AllocError),
+    }
 }

@@ -1,9 +1,11 @@
 //! What the workers and the loader hand on when they are joined.
 
 ghost use Rattle.std.specs.Prelude.{◌≡◌, ◌≤◌, [], All, length, map, IfOk};
-ghost use Rattle.workers.specs.Sessions.{AreAllServed, IsReadyToJoin};
+ghost use Rattle.client_queue.specs.Ends.{nothing_put};
+ghost use Rattle.workers.specs.Sessions.{AreAllServed, AreServedSince, IsReadyToJoin};
 
-use crate::clients::Client;
+use crate::clients::{Client, Clients};
+use crate::dealing::deal_all;
 use crate::feeds::Feeds;
 use crate::running::WorkersFault;
 use crate::served::Served;
@@ -12,6 +14,7 @@ use epochs::{Loads, Versions};
 use load_orders::LoaderOrders;
 use session::PointForm;
 use std::snapshot::Snapshot;
+use std::sync::Wait;
 use std::thread::{Promise, PromisedHandle, Threads};
 
 /// What a worker leaves: how its clients' sessions ended, its end of the queue of clients, and its seat.
@@ -86,9 +89,45 @@ impl<L, N: Drop, T: Versions<Notice = N> + Loads<Loader = L>, F: Feeds> Promise<
         (length (F.named promise.feeds.value)) done.0 (T.Loads.answers promise.seat.value) (T.Loads.answers done.1) };
 }
 
-/// Joins the workers in turn, once the queue was closed for each of them: their shares, put together, and their seats,
-/// in the room for these. Each client that was put in the queue is in one share, once.
-pub(crate) fn join_workers<C: Client + Drop, S: Drop, T: Versions<Seat = S>, R: Threads>(
+/// Puts all clients in the queue, and joins the workers once it was closed for each: the clients' source, the workers'
+/// shares, put together, and their seats, in the room for these.
+pub(crate) fn deal_and_join<
+    C: Client + Drop,
+    K: Clients<C> + Drop,
+    S: Drop,
+    T: Versions<Seat = S>,
+    R: Threads + Wait,
+>(
+    rt: &R,
+    form: PointForm,
+    clients: K,
+    mut dealer: Dealer<C>,
+    workers: Vec<PromisedHandle<Share<C, S>, ShareAt<C, T>>>,
+    room: Vec<S>,
+) -> Result<(K, Served, Vec<S>), WorkersFault>
+    requires forms { All (λ worker. worker.promise.form ≡ form) workers.items }
+    requires queues { All (λ worker. worker.promise.taker.value.queue ≡ dealer.queue) workers.items }
+    requires some { 1 ≤ length workers.items }
+    requires out { dealer.view ≡ record nothing_put { out = length workers.items } }
+    requires room { room.items ≡ [] }
+    ensures none_left { IfOk result (λ ran. K.none_left ran.0) }
+    ensures shares { IfOk result (λ ran. AreServedSince form C.opens C.Reader.remaining C.Writer.contents
+        T.number T.value T.known (K.came clients) (K.came ran.0)
+        (map (λ worker. worker.promise.seat.value) workers.items) ran.1 ran.2.items) }
+{
+    let source = match deal_all(rt, clients, &mut dealer, workers.len()) {
+        Ok(source) => source,
+        Err(_) => return Err(WorkersFault),
+    };
+    match join_workers(rt, form, dealer, workers, room) {
+        Ok((served, seats)) => Ok((source, served, seats)),
+        Err(fault) => Err(fault),
+    }
+}
+
+// Joins the workers in turn, once the queue was closed for each of them: their shares, put together, and their seats,
+// in the room for these. Each client that was put in the queue is in one share, once.
+fn join_workers<C: Client + Drop, S: Drop, T: Versions<Seat = S>, R: Threads>(
     rt: &R,
     form: PointForm,
     mut dealer: Dealer<C>,

@@ -1,5 +1,6 @@
-use Rattle.std.proofs.Common.{rules, ◌≡◌, ◌∙◌, ◌+◌, All, suc, sym, subst, refl, map, ap, arith, length}
-use Rattle.std.specs.Vec.Iter.{into_iter_items}
+use Rattle.std.proofs.Common.{rules, ◌≡◌, ◌∙◌, ◌+◌, ◌-◌, All, true, suc, sym, subst, refl, map, ap, arith, length}
+use Rattle.std.specs.Prelude.{IsPermutation}
+use Rattle.client_queue.specs.Ends.{times}
 use Rattle.workers.specs.Sessions.{AreAllServed, IsShare}
 use Rattle.workers.proofs.Shared.{joined_none, joined_next, joined_all}
 use Rattle.workers.proofs.shares.join_workers.Goals as goal
@@ -8,6 +9,9 @@ pub loop-worker-init : goal.loop-worker-init
 loop-worker-init g c =
     let items = c.into_iter-worker-iterator.ensures.into_iter_gives.0 in
     let ready = c.requires.out in
+    let none = ready.none_ended in
+    let many = ready.closings in
+    let all = ap length items in
     record {
       next = tt;
       finite = tt;
@@ -18,7 +22,7 @@ loop-worker-init g c =
       sent = refl;
       closings = ready.closings ∙ ap length (sym items);
       out = ready.out ∙ ap length (sym items);
-      ended = ap (λ n. n + length (into_iter_items c.into_iter-worker-iterator.result)) ready.none_ended ∙ ap length items ∙ sym ready.closings;
+      ended = omega (arith, none, many, all);
       joined = joined_none c.args.form g.C.Client.opens g.C.Reader.Read.remaining g.C.Writer.Write.contents
           g.T.Versions.number g.T.Versions.value g.T.Versions.known
           _ _ _ _ _ _ refl ready.nothing_back c.new-served.ensures c.requires.room;
@@ -32,13 +36,19 @@ loop-worker-preserved g c =
     let short = ap length step.0 in
     let forms = subst (λ workers. All (λ worker. worker.promise.form ≡ c.args.form) workers) step.0 was.forms in
     let queues = subst (λ workers. All (λ worker. worker.promise.taker.value.queue ≡ c.args.dealer.queue) workers) step.0 was.queues in
-    let done = c.join.result in
+    let done = c.join-share.result in
     let share = subst (λ form. IsShare form g.C.Client.opens g.C.Reader.Read.remaining g.C.Writer.Write.contents
     g.T.Versions.number g.T.Versions.value g.T.Versions.known c.in-Some.worker.promise.seat.value done.taker.taken done.served done.seat)
-    (forms 0 c.in-Some.worker (omega arith)) c.join.ensures.1 in
+    (forms 0 c.in-Some.worker (omega arith)) c.join-share.ensures.1 in
     let back = c.take_back.ensures in
     let view = ap (λ dealer. dealer.view) back in
-    let closed = c.if-not.false in
+    let closed : done.taker.closed ≡ true = search rules in
+    let once = ap times closed in
+    let out = ap (λ v. v.out) view in
+    let ended = ap (λ v. v.ended) view in
+    let closings = ap (λ v. v.closings) view in
+    let were = was.out in
+    let had = was.ended in
     record {
       next = tt;
       finite = tt;
@@ -47,18 +57,31 @@ loop-worker-preserved g c =
       queues = λ k d small. queues (suc k) d (omega arith);
       queue = ap (λ dealer. dealer.queue) back ∙ was.queue;
       sent = ap (λ v. v.sent) view ∙ was.sent;
-      closings = ap (λ v. v.closings) view ∙ was.closings;
-      out = search rules;
-      ended = search rules;
+      closings = closings ∙ was.closings;
+      out = omega (arith, out, were, short);
+      ended = omega (arith, ended, once, had, short, closings);
       joined = joined_next c.args.form g.C.Client.opens g.C.Reader.Read.remaining g.C.Writer.Write.contents
           g.T.Versions.number g.T.Versions.value g.T.Versions.known
           _ _ _ _ _ _ _ _ _ _ done.taker.taken done.served done.seat c.in-Some.worker was.joined step.0
-          (ap (λ v. v.taken) view) c.join-2.ensures c.in-Ok-push.ensures.items share;
+          (ap (λ v. v.taken) view) c.join.ensures c.in-Ok.ensures.items share;
     }
 
 -- all were
-pub returns-in-None : goal.returns-in-None
-returns-in-None g c =
+pub returns : goal.returns
+returns g c =
     let was = c.loop-worker.invariant in
+    let items = c.into_iter-worker-iterator.ensures.into_iter_gives.0 in
+    let all = ap length items in
     let none = sym was.len ∙ c.in-None.ensures.steps.0 in
-    search rules
+    let closings = was.closings in
+    let ended = was.ended in
+    let many = c.requires.some in
+    let back : c.loop-worker.dealer.view.ended ≡ c.loop-worker.dealer.view.closings = omega (arith, ended, none) in
+    let dealt = c.all_were_taken.ensures.all (was.out ∙ none) (omega (arith, closings, all, many)) back in
+    let sent = subst (λ list. IsPermutation list c.loop-worker.dealer.view.taken) was.sent dealt in
+    let served = joined_all c.args.form g.C.Client.opens g.C.Reader.Read.remaining g.C.Writer.Write.contents
+    g.T.Versions.number g.T.Versions.value g.T.Versions.known
+    _ _ _ _ _ _ _ was.joined none sent in
+    subst (λ workers. AreAllServed c.args.form g.C.Client.opens g.C.Reader.Read.remaining g.C.Writer.Write.contents
+    g.T.Versions.number g.T.Versions.value g.T.Versions.known c.args.dealer.view.sent
+    (map (λ worker. worker.promise.seat.value) workers) c.loop-worker.served c.loop-worker.seats.items) items served

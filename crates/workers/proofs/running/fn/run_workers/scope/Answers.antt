@@ -4,13 +4,12 @@ use Rattle.std.specs.Vec.Iter.{into_iter_items}
 use Rattle.client_queue.specs.Ends.{nothing_put}
 use Rattle.workers.proofs.Shared.{one_more_out, seated_none, seated_next, seated_all}
 use mathlib.Core.Path.{sym}
-use Rattle.workers.specs.Carrying.{AllCarriedOut}
 use Rattle.workers.specs.Sessions.{AreServedSince}
 use Rattle.workers.proofs.running.fn.run_workers.scope.Goals as goal
 
 -- the next seat is one of those that are left
-pub spawn_with-requires-clause-runs : goal.spawn_with-requires-clause-runs
-spawn_with-requires-clause-runs g c =
+pub spawn_with-started-requires-clause-runs : goal.spawn_with-started-requires-clause-runs
+spawn_with-started-requires-clause-runs g c =
     let left : All (g.T.Versions.fits c.captures.shelves.now) (c.in-Some.seat ∷ c.next.new.self.rest.items) =
     subst (λ items. All (g.T.Versions.fits c.captures.shelves.now) items) c.in-Some.ensures.steps.0 c.loop-seat.invariant.fit in
     let fits : g.T.Versions.fits c.captures.shelves.now c.in-Some.seat = left 0 c.in-Some.seat (omega arith) in
@@ -23,9 +22,9 @@ loop-seat-preserved g c =
     let left : All (g.T.Versions.fits c.captures.shelves.now) (c.in-Some.seat ∷ c.next.new.self.rest.items) =
     subst (λ items. All (g.T.Versions.fits c.captures.shelves.now) items) step.0 was.fit in
     let short = ap length step.0 in
-    let worker = c.in-Ok-spawn_with.worker in
-    let promise = c.in-Ok-spawn_with.ensures.ok in
-    let items = c.in-Ok-push.ensures.items in
+    let worker = c.in-Ok.worker in
+    let promise = c.in-Ok.ensures.ok in
+    let items = c.in_ok-also.ensures in
     let out = c.in_ok-taker.ensures.out in
     let taker = c.in_ok-taker.ensures.taker in
     let queue = ap (λ dealer. dealer.queue) out in
@@ -62,5 +61,5 @@ loop-seat-init g c =
     }
 
 -- there was a worker at each seat, and all were joined; and so was the loader
-pub returns-in_ok-join_workers : goal.returns-in_ok-join_workers
-returns-in_ok-join_workers g c = search rules
+pub returns : goal.returns
+returns g c = ?
