@@ -1,5 +1,6 @@
 -- Facts on why a feed's tables can't be had.
-use Rattle.std.proofs.Common.{◌≡◌, ◌≢◌, ◌∷◌, ◌++◌, [], ℕ, List, Option, None, Some, refl, subst, sym}
+use Rattle.std.proofs.Common.{◌≡◌, ◌≢◌, ◌∷◌, ◌++◌, [], ℕ, List, Option, None, Some, Vec, ap, refl, subst, sym}
+use Rattle.std.specs.declared.alloc.Global.{Global}
 use Rattle.std.specs.Prelude.{⊤}
 use Rattle.gtfs_rows.specs.declared.fault.FaultKind.{FaultKind}
 use Rattle.gtfs_rows.specs.declared.fault.Table.{Table}
@@ -19,7 +20,7 @@ use Rattle.gtfs_rows.specs.declared.rows.TripRow.{TripRow}
 use Rattle.gtfs_rows.specs.declared.stop_times.StopTimes.{StopTimes}
 use Rattle.feed_files.specs.Reading.{AreFine, CalendarFault, Content, FaultIn, FineBefore, HasRows, HoldsCalendars}
 use Rattle.feed_files.specs.Reading.{HoldsRequired, IsFine, IsFirstFault, IsHeld, NoRows, NoTables, Optional}
-use Rattle.feed_files.specs.Reading.{OptionalFault, Required, Tells, earlier}
+use Rattle.feed_files.specs.Reading.{OptionalFault, Required, RequiredFault, earlier}
 
 -- what stops the reading of one file stops that of the feed
 pub no_tables : (content : Content) (table : Table) (IsFault : ℕ → FaultKind → Type 0) (fault : ReadFault)
@@ -31,9 +32,16 @@ no_tables content table IsFault (faults.Table fault) h fine (same, e) = λ ne. r
 }
 no_tables content table IsFault (faults.FileFailed failed) h fine e = subst (FineBefore content) (sym e) fine
 
--- what the files hold stays known
-pub still_tells : (old new : List ℕ → Option (Option (List ℕ))) (content : Content) → new ≡ old → Tells old content → Tells new content
-still_tells old new content same tells = subst (λ holds. Tells holds content) (sym same) tells
+-- a fault of a file's bytes is one of the file
+pub no_rows_weaker : (table : Table) (P Q : ℕ → FaultKind → Type 0) (fault : ReadFault) → ((row : ℕ) (kind : FaultKind) → P row kind → Q row kind)
+    → NoRows table P fault → NoRows table Q fault
+no_rows_weaker table P Q (faults.Table fault) h (same, e) = (same, λ ne. h fault.row fault.kind (e ne))
+no_rows_weaker table P Q (faults.FileFailed failed) h e = e
+
+pub required_fault : (IsFault : List ℕ → ℕ → FaultKind → Type 0) (bytes : Option (List ℕ)) (row : ℕ) (kind : FaultKind)
+    → OptionalFault IsFault bytes row kind → RequiredFault IsFault bytes row kind
+required_fault IsFault None row kind h = elim h [ ]
+required_fault IsFault (Some bytes) row kind h = h
 
 -- rows that were had can be had, whatever they are kept in
 pub required_rows : {R S : Type 0} (view : R → S) (Holds : List ℕ → S → Type 0) (bytes : Option (List ℕ)) (rows : R)
@@ -80,6 +88,54 @@ pub no_file : {R : Type 0} (Holds : List ℕ → R → Type 0) (bytes : Option (
 no_file Holds None rows h e = refl
 no_file Holds (Some bytes) None h e = elim h [ ]
 no_file Holds (Some bytes) (Some rows) h e = cc
+
+-- the rows of the calendars that were read
+pub items_of : {R : Type 0} → Option (Vec R Global) → List R
+items_of None = []
+items_of (Some rows) = rows.items
+
+pub none_items : {R : Type 0} (had : Option (Vec R Global)) → had ≡ None → items_of had ≡ []
+unfolding items_of
+none_items had is = ap items_of is
+
+pub some_items : {R : Type 0} (had : Option (Vec R Global)) (rows : Vec R Global) → had ≡ Some rows → items_of had ≡ rows.items
+unfolding items_of
+some_items had rows is = ap items_of is
+
+pub some_there : {R : Type 0} (had : Option (Vec R Global)) (rows : Vec R Global) → had ≡ Some rows → had ≢ None
+some_there had rows is = λ none. cc
+
+held_items : {R : Type 0} (Holds : List ℕ → List R → Type 0) (bytes : Option (List ℕ)) (had : Option (Vec R Global)) (rows : List R)
+    → IsHeld (λ held (vec : Vec R Global). Holds held vec.items) bytes had → items_of had ≡ rows → Optional (rows ≡ []) (λ held. Holds held rows) bytes
+unfolding items_of
+held_items Holds None None rows h e = sym e
+held_items Holds None (Some vec) rows h e = elim h [ ]
+held_items Holds (Some bytes) None rows h e = elim h [ ]
+held_items Holds (Some bytes) (Some vec) rows h e = subst (Holds bytes) e h
+
+some_held : {R : Type 0} (Holds : List ℕ → R → Type 0) (bytes : Option (List ℕ)) (had : Option R) → IsHeld Holds bytes had → had ≢ None → bytes ≢ None
+some_held Holds None None h some = absurd (some refl)
+some_held Holds None (Some rows) h some = elim h [ ]
+some_held Holds (Some bytes) had h some = λ e. cc
+
+pub calendars_held : (content : Content) (calendar : Option (Vec CalendarRow Global)) (dates : Option (Vec CalendarDateRow Global))
+    (days : List CalendarRow) (changes : List CalendarDateRow)
+    → IsHeld (λ bytes (rows : Vec CalendarRow Global). HoldsCalendar bytes rows.items) (content tables.Calendar) calendar
+    → IsHeld (λ bytes (rows : Vec CalendarDateRow Global). HoldsCalendarDates bytes rows.items) (content tables.CalendarDates) dates
+    → items_of calendar ≡ days → items_of dates ≡ changes → (calendar ≡ None → dates ≢ None) → HoldsCalendars content days changes
+calendars_held content calendar dates days changes one two first second some = record {
+  calendar_txt = held_items HoldsCalendar (content tables.Calendar) calendar days one first;
+  calendar_dates_txt = held_items HoldsCalendarDates (content tables.CalendarDates) dates changes two second;
+  some_calendar = λ none. some_dates calendar one none some;
+}
+  where
+    some_dates : (had : Option (Vec CalendarRow Global))
+        → IsHeld (λ bytes (rows : Vec CalendarRow Global). HoldsCalendar bytes rows.items) (content tables.Calendar) had
+        → content tables.Calendar ≡ None → (had ≡ None → dates ≢ None) → content tables.CalendarDates ≢ None
+    some_dates None h none some =
+        some_held (λ bytes (rows : Vec CalendarDateRow Global). HoldsCalendarDates bytes rows.items) (content tables.CalendarDates) dates two (some refl)
+    some_dates (Some rows) h none some =
+        absurd (some_held (λ bytes (rows : Vec CalendarRow Global). HoldsCalendar bytes rows.items) (content tables.Calendar) (Some rows) h (λ e. cc) none)
 
 -- the files that must be there are fine
 pub required_fine : (content : Content) (agencies : List AgencyRow) (stops : List StopRow) (trips : List TripRow) (stop_times : StopTimes)

@@ -1,5 +1,6 @@
--- What reading a feed's file counts.
-use Rattle.std.specs.Prelude.{ℕ, ◌+◌, ◌-◌, ◌^◌, ◌++◌, ◌∷◌, List, [], min, Result, Ok, Err}
+-- What is known of a feed's files once one of them was asked for.
+use Rattle.std.specs.Prelude.{ℕ, ◌+◌, ◌-◌, ◌^◌, ◌++◌, ◌∷◌, List, [], min, Result, Ok, Err, Option, option_map, Vec}
+use Rattle.std.specs.declared.alloc.Global.{Global}
 use Rattle.feed_files.specs.declared.files.FileFault.{FileFault}
 use Rattle.feed_files.specs.declared.files.FileFault.TheVariants as faults
 
@@ -18,3 +19,16 @@ abbrev pub failed_also : {T : Type 0} → List (List ℕ) → List ℕ → Resul
 failed_also before name (Ok file) = before
 failed_also before name (Err faults.Failed) = before ++ name ∷ []
 failed_also before name (Err faults.OutOfMemory) = before
+
+-- what a read gave: the name of the file, and its bytes, or none if there is no such file
+abbrev pub FileRead : Type 0
+FileRead = List ℕ × Option (List ℕ)
+
+-- a read that gave these bytes
+abbrev pub given : List ℕ → Option (Vec ℕ Global) → FileRead
+given name file = (name, option_map (λ (bytes : Vec ℕ Global). bytes.items) file)
+
+-- what was read, after a read of the file of a name: one more, or as before if it gave nothing
+abbrev pub read_also : {E : Type 0} → List FileRead → List ℕ → Result (Option (Vec ℕ Global)) E → List FileRead
+read_also before name (Ok file) = before ++ given name file ∷ []
+read_also before name (Err fault) = before

@@ -3,3 +3,4 @@ pub mod Hashed
 pub mod Memory
 pub mod Outcome
 pub mod Reading
+pub mod Reads

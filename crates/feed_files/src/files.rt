@@ -2,7 +2,7 @@
 
 ghost use Rattle.std.specs.Prelude.{◌≡◌, ℕ, List, Option, Some, IfOk, IfSome, option_map};
 ghost use Rattle.gtfs_rows.specs.declared.id_hash.IdHash.{IdHash as Hash};
-ghost use Rattle.feed_files.specs.Files.{counted, failed_also};
+ghost use Rattle.feed_files.specs.Files.{FileRead, counted, failed_also, read_also};
 
 use gtfs_tables::IdHash;
 use std::alloc::Global;
@@ -28,6 +28,10 @@ pub trait FeedFiles {
     // The names of the files whose reads failed, in order.
     ghost failed: { Self → List (List ℕ) };
 
+    // What its reads gave, in order: of each the name of the file, and its bytes, or none where there is no such file.
+    // A read that ended with a fault gave nothing.
+    ghost reads: { Self → List FileRead };
+
     // What a file of a name holds, where that is told: none where there is no such file.
     ghost holds: { Self → List ℕ → Option (Option (List ℕ)) };
 
@@ -38,6 +42,7 @@ pub trait FeedFiles {
     fn read(&mut self, alloc: Global, name: &str) -> Result<Option<Vec<u8>>, FileFault>
         ensures told { IfOk result (λ file. IfSome (holds self.old name.now)
             (λ bytes. option_map (λ read. read.items) file ≡ bytes)) }
+        ensures reads { reads self.new ≡ read_also (reads self.old) name.now result }
         ensures same { holds self.new ≡ holds self.old }
         ensures hash { hash self.new ≡ hash self.old }
         ensures failures { failures self.new ≡ counted (failures self.old) result }

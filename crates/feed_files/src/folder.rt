@@ -9,6 +9,7 @@ ghost use Rattle.feed_files.specs.declared.files.TheConstants.{LONGEST_FILE};
 
 use crate::failed::FailedNames;
 use crate::files::{FeedFiles, FileFault, LONGEST_FILE};
+use crate::reads::FileReads;
 use gtfs_tables::IdHash;
 use std::alloc::Global;
 use std::fs::{File, OpenFile};
@@ -51,7 +52,7 @@ impl<H: Files + RandomSource> Disk for H {
     }
 }
 
-/// The files of a folder. No contract says what a disk holds, so it tells nothing of their bytes.
+/// The files of a folder. No contract says what a disk holds: of their bytes those are known that were read.
 #[derive(Drop)]
 pub struct FolderFiles<'a, H> {
     disk: &'a H,
@@ -59,14 +60,17 @@ pub struct FolderFiles<'a, H> {
     hash: IdHash,
     failures: u64,
     failed: FailedNames,
+    reads: FileReads,
 }
 
 impl<'a, H: Disk> FolderFiles<'a, H> {
     /// The files of the folder at a path, which need not be there: then no file is. Their ids get a
     /// hash of a random key.
     pub fn new(disk: &'a H, folder: &'a str) -> FolderFiles<'a, H>
+        ensures folder { result.folder.now ≡ folder.now }
         ensures failures { result.failures ≡ 0 }
         ensures failed { result.failed ≡ [] }
+        ensures reads { result.reads ≡ [] }
     {
         FolderFiles {
             disk,
@@ -74,6 +78,7 @@ impl<'a, H: Disk> FolderFiles<'a, H> {
             hash: disk.id_hash(),
             failures: 0,
             failed: FailedNames::none(),
+            reads: FileReads::none(),
         }
     }
 }
@@ -165,15 +170,21 @@ impl<'a, H: Disk> FeedFiles for FolderFiles<'a, H> {
 
     ghost failed = { λ files. files.failed };
 
+    ghost reads = { λ files. files.reads };
+
     ghost holds = { λ files name. None };
 
     ghost hash = { λ files. Some files.hash };
 
     fn read(&mut self, alloc: Global, name: &str) -> Result<Option<Vec<u8>>, FileFault> {
         let read = self.disk.feed_file(alloc, self.folder, name);
-        if let Err(FileFault::Failed) = read {
-            self.failures = self.failures.saturating_add(1);
-            self.failed.note(name);
+        match &read {
+            Ok(file) => self.reads.note(name, file),
+            Err(FileFault::Failed) => {
+                self.failures = self.failures.saturating_add(1);
+                self.failed.note(name);
+            }
+            Err(FileFault::OutOfMemory) => {}
         }
         read
     }

@@ -7,9 +7,11 @@ mod folder;
 pub mod laws;
 mod memory;
 mod reading;
+mod reads;
 
 pub use failed::FailedNames;
 pub use files::{FeedFiles, FileFault, LONGEST_FILE};
 pub use folder::{Disk, FolderFiles, file_up_to};
 pub use memory::MemoryFiles;
 pub use reading::{ReadFault, read_tables};
+pub use reads::FileReads;

@@ -1,14 +1,17 @@
 //! The tables of a feed's files, read one after another.
 
 ghost use Rattle.std.specs.Prelude.{◌≡◌, ◌≢◌, ◌+◌, ◌-◌, ◌^◌, ◌<◌, ℕ, List, [], Option, None, Some, IfOk, IfErr};
-ghost use Rattle.std.specs.Prelude.{option_map, IfSome};
+ghost use Rattle.std.specs.Prelude.{◌∷◌, option_map, take, IfSome, OnOk};
 ghost use Rattle.gtfs_rows.specs.declared.id_hash.IdHash.{IdHash as Hash};
+ghost use Rattle.gtfs_rows.specs.declared.fault.Table.{Table as TableName};
 ghost use Rattle.gtfs_rows.specs.declared.fault.Table.TheVariants as tables;
 ghost use Rattle.gtfs_rows.specs.Told.{file_name};
 ghost use Rattle.feed_files.specs.Outcome.{failed_by, failed_in};
+ghost use Rattle.feed_files.specs.Files.{read_also};
 ghost use Rattle.feed_files.specs.Reading.{Content, FineBefore, HoldsCalendars, HoldsRequired, HoldsTables, IsHeld};
 ghost use Rattle.feed_files.specs.Reading.{NoRows, NoTables, Optional, OptionalFault, Required, RequiredFault};
-ghost use Rattle.feed_files.specs.Reading.{Tells};
+ghost use Rattle.feed_files.specs.Reading.{Tells, earlier};
+ghost use Rattle.feed_files.specs.Reads.{AllGave, AreRead, AskedFor, all_tables};
 ghost use Rattle.feed_files.specs.Hashed.{AreHashed};
 
 use crate::files::{FeedFiles, FileFault};
@@ -40,10 +43,10 @@ fn bytes_of<F: FeedFiles, T: TableFile>(
     ensures failures { F.failures files.old < 2 ^ 64 - 1
         → F.failures files.new ≡ F.failures files.old + failed_in result }
     ensures failed { F.failed files.new ≡ failed_by (F.failed files.old) result }
-    ensures ok { (bytes : Option (List ℕ)) → F.holds files.old (file_name T.TABLE) ≡ Some bytes
-        → IfOk result (λ file. option_map (λ read. read.items) file ≡ bytes) }
-    ensures err { (bytes : Option (List ℕ)) → F.holds files.old (file_name T.TABLE) ≡ Some bytes
-        → IfErr result (NoRows T.TABLE (OptionalFault T.tells bytes)) }
+    ensures reads { F.reads files.new ≡ read_also (F.reads files.old) (file_name T.TABLE) result }
+    ensures held { IfOk result (λ file. IfSome (F.holds files.old (file_name T.TABLE))
+        (λ bytes. option_map (λ read. read.items) file ≡ bytes)) }
+    ensures err { IfErr result (NoRows T.TABLE (λ row kind. ⊥)) }
 {
     match files.read(alloc, T::TABLE.file_name()) {
         Ok(bytes) => Ok(bytes),
@@ -79,10 +82,11 @@ fn optional<F: FeedFiles, T: TableFile>(
     ensures failures { F.failures files.old < 2 ^ 64 - 1
         → F.failures files.new ≡ F.failures files.old + failed_in result }
     ensures failed { F.failed files.new ≡ failed_by (F.failed files.old) result }
-    ensures ok { (bytes : Option (List ℕ)) → F.holds files.old (file_name T.TABLE) ≡ Some bytes
-        → IfOk result (λ rows. IsHeld T.holds bytes rows) }
-    ensures err { (bytes : Option (List ℕ)) → F.holds files.old (file_name T.TABLE) ≡ Some bytes
-        → IfErr result (NoRows T.TABLE (OptionalFault T.tells bytes)) }
+    ensures asked { AskedFor (F.holds files.old) (T.TABLE ∷ []) (F.reads files.old) (F.reads files.new) result }
+    ensures ok { (content : Content) → AllGave content (F.reads files.old) (F.reads files.new)
+        → IfOk result (λ rows. IsHeld T.holds (content T.TABLE) rows) }
+    ensures err { (content : Content) → AllGave content (F.reads files.old) (F.reads files.new)
+        → IfErr result (NoRows T.TABLE (OptionalFault T.tells (content T.TABLE))) }
     ensures hashed { (hash : Hash) → F.hash files.old ≡ Some hash
         → IfOk result (λ rows. IfSome rows (T.is_hashed hash)) }
 {
@@ -100,10 +104,11 @@ fn required<F: FeedFiles, T: TableFile>(alloc: Global, files: &mut F) -> Result<
     ensures failures { F.failures files.old < 2 ^ 64 - 1
         → F.failures files.new ≡ F.failures files.old + failed_in result }
     ensures failed { F.failed files.new ≡ failed_by (F.failed files.old) result }
-    ensures ok { (bytes : Option (List ℕ)) → F.holds files.old (file_name T.TABLE) ≡ Some bytes
-        → IfOk result (λ rows. Required (λ held. T.holds held rows) bytes) }
-    ensures err { (bytes : Option (List ℕ)) → F.holds files.old (file_name T.TABLE) ≡ Some bytes
-        → IfErr result (NoRows T.TABLE (RequiredFault T.tells bytes)) }
+    ensures asked { AskedFor (F.holds files.old) (T.TABLE ∷ []) (F.reads files.old) (F.reads files.new) result }
+    ensures ok { (content : Content) → AllGave content (F.reads files.old) (F.reads files.new)
+        → IfOk result (λ rows. Required (λ held. T.holds held rows) (content T.TABLE)) }
+    ensures err { (content : Content) → AllGave content (F.reads files.old) (F.reads files.new)
+        → IfErr result (NoRows T.TABLE (RequiredFault T.tells (content T.TABLE))) }
     ensures hashed { (hash : Hash) → F.hash files.old ≡ Some hash → IfOk result (T.is_hashed hash) }
 {
     match optional::<F, T>(alloc, files) {
@@ -122,12 +127,14 @@ where
     ensures failures { F.failures files.old < 2 ^ 64 - 1
         → F.failures files.new ≡ F.failures files.old + failed_in result }
     ensures failed { F.failed files.new ≡ failed_by (F.failed files.old) result }
-    ensures ok { (bytes : Option (List ℕ)) → F.holds files.old (file_name ⟦<Vec<R> as TableFile>⟧.TABLE)
-        ≡ Some bytes → IfOk result (λ rows. Optional (rows.items
-        ≡ []) (λ held. ⟦<Vec<R> as TableFile>⟧.holds held rows) bytes) }
-    ensures err { (bytes : Option (List ℕ))
-        → F.holds files.old (file_name ⟦<Vec<R> as TableFile>⟧.TABLE) ≡ Some bytes
-        → IfErr result (NoRows ⟦<Vec<R> as TableFile>⟧.TABLE (OptionalFault ⟦<Vec<R> as TableFile>⟧.tells bytes)) }
+    ensures asked { AskedFor (F.holds files.old) (⟦<Vec<R> as TableFile>⟧.TABLE ∷ []) (F.reads files.old)
+        (F.reads files.new) result }
+    ensures ok { (content : Content) → AllGave content (F.reads files.old) (F.reads files.new)
+        → IfOk result (λ rows. Optional (rows.items ≡ []) (λ held. ⟦<Vec<R> as TableFile>⟧.holds held rows)
+        (content ⟦<Vec<R> as TableFile>⟧.TABLE)) }
+    ensures err { (content : Content) → AllGave content (F.reads files.old) (F.reads files.new)
+        → IfErr result (NoRows ⟦<Vec<R> as TableFile>⟧.TABLE (OptionalFault ⟦<Vec<R> as TableFile>⟧.tells
+        (content ⟦<Vec<R> as TableFile>⟧.TABLE))) }
 {
     match optional::<F, Vec<R>>(alloc, files) {
         Ok(Some(rows)) => Ok(rows),
@@ -146,10 +153,12 @@ fn calendars<F: FeedFiles>(
     ensures failures { F.failures files.old < 2 ^ 64 - 1
         → F.failures files.new ≡ F.failures files.old + failed_in result }
     ensures failed { F.failed files.new ≡ failed_by (F.failed files.old) result }
-    ensures ok { (content : Content) → Tells (F.holds files.old) content
+    ensures asked { AskedFor (F.holds files.old) (tables.Calendar ∷ tables.CalendarDates ∷ []) (F.reads files.old)
+        (F.reads files.new) result }
+    ensures ok { (content : Content) → AllGave content (F.reads files.old) (F.reads files.new)
         → IfOk result (λ rows. HoldsCalendars content rows.0.items rows.1.items) }
-    ensures err { (content : Content) → Tells (F.holds files.old) content → FineBefore content tables.Calendar
-        → IfErr result (NoTables content) }
+    ensures err { (content : Content) → AllGave content (F.reads files.old) (F.reads files.new)
+        → FineBefore content tables.Calendar → IfErr result (NoTables content) }
 {
     let calendar = optional::<F, Vec<CalendarRow>>(alloc, files)?;
     let dates = optional::<F, Vec<CalendarDateRow>>(alloc, files)?;
@@ -176,10 +185,13 @@ fn required_tables<F: FeedFiles>(alloc: Global, files: &mut F) -> Result<Require
     ensures failures { F.failures files.old < 2 ^ 64 - 1
         → F.failures files.new ≡ F.failures files.old + failed_in result }
     ensures failed { F.failed files.new ≡ failed_by (F.failed files.old) result }
-    ensures ok { (content : Content) → Tells (F.holds files.old) content
+    ensures asked { AskedFor (F.holds files.old) (earlier tables.Calendar) (F.reads files.old) (F.reads files.new)
+        result }
+    ensures ok { (content : Content) → AllGave content (F.reads files.old) (F.reads files.new)
         → IfOk result (λ t. HoldsRequired content t.agencies.items t.stops.rows.items t.trips.rows.items
         t.stop_times) }
-    ensures err { (content : Content) → Tells (F.holds files.old) content → IfErr result (NoTables content) }
+    ensures err { (content : Content) → AllGave content (F.reads files.old) (F.reads files.new)
+        → IfErr result (NoTables content) }
     ensures hashed { (hash : Hash) → F.hash files.old ≡ Some hash → IfOk result (λ t. AreHashed hash t.stop_times) }
 {
     let agencies = required(alloc, files)?;
@@ -194,19 +206,18 @@ fn required_tables<F: FeedFiles>(alloc: Global, files: &mut F) -> Result<Require
     })
 }
 
-/// The tables of a feed's files (GTFS Schedule Reference). Each file is read and judged before the
-/// next is read, in the order of [`Table`]; `transfers.txt` and `frequencies.txt` may be missing,
-/// and one of the two calendars. The fault is the first. A file that can't be read is told where
-/// nothing was wrong with those before it: then its read is the only one that failed; else none
-/// did.
-pub fn read_tables<F: FeedFiles>(alloc: Global, files: &mut F) -> Result<Tables, ReadFault>
-    requires { F.failures files.old < 2 ^ 64 - 1 }
+// The tables of a feed's files, as `read_tables` returns them.
+fn tables_of<F: FeedFiles>(alloc: Global, files: &mut F) -> Result<Tables, ReadFault>
     ensures same { F.holds files.new ≡ F.holds files.old }
     ensures hash { F.hash files.new ≡ F.hash files.old }
-    ensures failures { F.failures files.new ≡ F.failures files.old + failed_in result }
+    ensures failures { F.failures files.old < 2 ^ 64 - 1
+        → F.failures files.new ≡ F.failures files.old + failed_in result }
     ensures failed { F.failed files.new ≡ failed_by (F.failed files.old) result }
-    ensures ok { (content : Content) → Tells (F.holds files.old) content → IfOk result (HoldsTables content) }
-    ensures err { (content : Content) → Tells (F.holds files.old) content → IfErr result (NoTables content) }
+    ensures asked { AskedFor (F.holds files.old) all_tables (F.reads files.old) (F.reads files.new) result }
+    ensures ok { (content : Content) → AllGave content (F.reads files.old) (F.reads files.new)
+        → IfOk result (HoldsTables content) }
+    ensures err { (content : Content) → AllGave content (F.reads files.old) (F.reads files.new)
+        → IfErr result (NoTables content) }
     ensures hashed { (hash : Hash) → F.hash files.old ≡ Some hash → IfOk result (λ t. AreHashed hash t.stop_times) }
 {
     let required = required_tables(alloc, files)?;
@@ -223,4 +234,32 @@ pub fn read_tables<F: FeedFiles>(alloc: Global, files: &mut F) -> Result<Tables,
         transfers,
         frequencies,
     })
+}
+
+/// The tables of a feed's files (GTFS Schedule Reference). Each file is read and judged before the
+/// next is read, in the order of [`Table`]; `transfers.txt` and `frequencies.txt` may be missing,
+/// and one of the two calendars. The fault is the first. A file that can't be read is told where
+/// nothing was wrong with those before it: then its read is the only one that failed; else none
+/// did.
+///
+/// The tables are those of the bytes that were read in this call, whatever the files hold later; so is the fault.
+pub fn read_tables<F: FeedFiles>(alloc: Global, files: &mut F) -> Result<Tables, ReadFault>
+    requires { F.failures files.old < 2 ^ 64 - 1 }
+    ensures same { F.holds files.new ≡ F.holds files.old }
+    ensures hash { F.hash files.new ≡ F.hash files.old }
+    ensures failures { F.failures files.new ≡ F.failures files.old + failed_in result }
+    ensures failed { F.failed files.new ≡ failed_by (F.failed files.old) result }
+    ensures all_read { OnOk result ((content : Content)
+        × AreRead content all_tables (F.reads files.old) (F.reads files.new)) }
+    ensures first_read { (count : ℕ) × (content : Content)
+        × AreRead content (take count all_tables) (F.reads files.old) (F.reads files.new) }
+    ensures read_ok { (content : Content) (ts : List TableName)
+        → AreRead content ts (F.reads files.old) (F.reads files.new) → IfOk result (HoldsTables content) }
+    ensures read_err { (content : Content) (ts : List TableName)
+        → AreRead content ts (F.reads files.old) (F.reads files.new) → IfErr result (NoTables content) }
+    ensures ok { (content : Content) → Tells (F.holds files.old) content → IfOk result (HoldsTables content) }
+    ensures err { (content : Content) → Tells (F.holds files.old) content → IfErr result (NoTables content) }
+    ensures hashed { (hash : Hash) → F.hash files.old ≡ Some hash → IfOk result (λ t. AreHashed hash t.stop_times) }
+{
+    tables_of(alloc, files)
 }

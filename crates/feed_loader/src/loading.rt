@@ -1,8 +1,10 @@
 //! From files to tables, from tables to a feed, from a feed to its image.
 
-ghost use Rattle.std.specs.Prelude.{◌≡◌, ◌≤◌, ◌<◌, ◌+◌, ◌-◌, ◌^◌, IfOk, IfErr};
+ghost use Rattle.std.specs.Prelude.{◌≡◌, ◌≤◌, ◌<◌, ◌+◌, ◌-◌, ◌^◌, ℕ, List, take, IfOk, IfErr, OnOk};
 ghost use Rattle.image_layout.specs.declared.layout.TheConstants.{LAYOUT};
+ghost use Rattle.gtfs_rows.specs.declared.fault.Table.{Table};
 ghost use Rattle.feed_files.specs.Reading.{Content, Tells};
+ghost use Rattle.feed_files.specs.Reads.{AreRead, all_tables};
 ghost use Rattle.connections.specs.declared.days.TheConstants.{MAX_DAYS};
 ghost use Rattle.feed_loader.specs.Faults.{failed_by, failed_in};
 ghost use Rattle.feed_loader.specs.Refused.{IsLoadRefusal, IsLoaded, IsWantOfMemory};
@@ -19,7 +21,7 @@ use std::alloc::Global;
 
 /// The image of a feed's files (GTFS Schedule Reference), in the layout that is written, and what
 /// was counted. Each file is read and judged before the next is read; then the tables are joined,
-/// and the image is made of the feed.
+/// and the image is made of the feed: of the bytes that were read in this call, whatever the files hold later.
 ///
 /// # Errors
 ///
@@ -38,6 +40,16 @@ pub fn load<F: FeedFiles>(
     ensures failures { F.failures files.new ≡ F.failures files.old + failed_in result }
     ensures failed { F.failed files.new ≡ failed_by (F.failed files.old) result }
     ensures layout { IfOk result (λ loaded. loaded.0.layout ≡ LAYOUT) }
+    ensures all_read { OnOk result ((content : Content)
+        × AreRead content all_tables (F.reads files.old) (F.reads files.new)) }
+    ensures first_read { (count : ℕ) × (content : Content)
+        × AreRead content (take count all_tables) (F.reads files.old) (F.reads files.new) }
+    ensures read_ok { (content : Content) (ts : List Table)
+        → AreRead content ts (F.reads files.old) (F.reads files.new)
+        → IfOk result (λ loaded. IsLoaded content plan.now loaded.0.timetable loaded.0.names loaded.1) }
+    ensures read_err { (content : Content) (ts : List Table)
+        → AreRead content ts (F.reads files.old) (F.reads files.new)
+        → IfErr result (λ fault. ¬ (IsWantOfMemory fault) → IsLoadRefusal content plan.now fault) }
     ensures ok { (content : Content) → Tells (F.holds files.old) content
         → IfOk result (λ loaded. IsLoaded content plan.now loaded.0.timetable loaded.0.names loaded.1) }
     ensures err { (content : Content) → Tells (F.holds files.old) content

@@ -35,7 +35,7 @@ impl<'a> Failing<'a> {
         ensures { result.failures ≡ 0 }
     {
         Failing {
-            files: MemoryFiles { files },
+            files: MemoryFiles::of(files),
             left,
             fault,
             failures: 0,
@@ -50,6 +50,8 @@ impl<'a> FeedFiles for Failing<'a> {
     ghost failures = { λ files. files.failures };
 
     ghost failed = { λ files. files.failed };
+
+    ghost reads = { λ files. ⟦<MemoryFiles<'a> as FeedFiles>⟧.reads files.files };
 
     ghost holds = { λ files name. None };
 

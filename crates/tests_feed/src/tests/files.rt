@@ -39,7 +39,7 @@ fn feed() -> [(&'static str, &'static [u8]); 6] {
 
 // The tables of files in memory.
 fn tables_of(alloc: Global, files: &[(&str, &[u8])]) -> Result<Tables, ReadFault> {
-    let mut files = MemoryFiles { files };
+    let mut files = MemoryFiles::of(files);
     read_tables(alloc, &mut files)
 }
 

@@ -51,7 +51,7 @@ fn made(
 ) -> Result<(Verified, Report), LoadFault>
     requires { plan.now.days ≡ 1 }
 {
-    let mut files = MemoryFiles { files };
+    let mut files = MemoryFiles::of(files);
     load(alloc, &mut files, plan)
 }
 
@@ -107,6 +107,8 @@ impl<F: FeedFiles> FeedFiles for Hashed<F> {
 
     ghost failed = { λ hashed. F.failed hashed.files };
 
+    ghost reads = { λ hashed. F.reads hashed.files };
+
     ghost holds = { λ hashed. F.holds hashed.files };
 
     ghost hash = { λ hashed. Some hashed.hash };
@@ -131,7 +133,7 @@ fn an_image_has_no_trace_of_a_key(rt: HostRuntime) -> Result<(), Fail> {
         IdHash::random(&rt),
     ] {
         let mut hashed = Hashed {
-            files: MemoryFiles { files: &files },
+            files: MemoryFiles::of(&files),
             hash,
         };
         let Ok((image, _report)) = load(rt.alloc(), &mut hashed, &one_day()) else {
@@ -368,7 +370,7 @@ transfers.txt: S,S,2,180";
 fn refused_growth_over_all_files_is_told(rt: HostRuntime) -> Result<(), Fail> {
     let feed = feed_of(rt.alloc(), "", ALL_FILES)?;
     let files = files_of(rt.alloc(), feed.as_str())?;
-    let mut files = MemoryFiles { files: &files };
+    let mut files = MemoryFiles::of(&files);
     let plan = Plan {
         days: 2,
         ..one_day()

@@ -234,7 +234,7 @@ fn tables_of(alloc: Global, changed: &str, base: &str) -> Result<Tables, TableFa
     let Ok(files) = files_of(alloc, feed.as_str()) else {
         return Err(wanting());
     };
-    let mut files = MemoryFiles { files: &files };
+    let mut files = MemoryFiles::of(&files);
     match read_tables(alloc, &mut files) {
         Ok(tables) => Ok(tables),
         Err(ReadFault::Table(fault)) => Err(fault),

@@ -1,79 +1,142 @@
 -- The files that must be there are read one after another.
-use Rattle.std.proofs.Common.{◌≡◌, ◌∙◌, ℕ, List, IfErr, Vec}
+use Rattle.std.proofs.Common.{◌≡◌, ◌∙◌, ℕ, List, IfErr, Vec, ◌∷◌, []}
 use Rattle.std.proofs.lemmas.Result.{err_from_is_err_and}
 use Rattle.std.specs.declared.alloc.Global.{Global}
 use Rattle.gtfs_rows.specs.Faults.{IsFaultOf}
-use Rattle.gtfs_rows.specs.Tables.{HoldsAgencies, HoldsStopsWithin, HoldsTripsWithin, IsStopsFault, IsTripsFault, stop_times_shape}
+use Rattle.gtfs_rows.specs.Tables.{HoldsAgencies, HoldsStopsWithin, HoldsTripsWithin, IsStopsFault, IsTripsFault, agency_shape, stop_times_shape}
 use Rattle.gtfs_rows.specs.declared.fault.Table.TheVariants as tables
 use Rattle.gtfs_rows.specs.declared.limited.Limited.{Limited}
 use Rattle.gtfs_rows.specs.declared.read.TheConstants.{MAX_STOPS, MAX_TRIPS}
 use Rattle.gtfs_rows.specs.declared.rows.AgencyRow.{AgencyRow}
 use Rattle.gtfs_rows.specs.declared.rows.StopRow.{StopRow}
 use Rattle.gtfs_rows.specs.declared.rows.TripRow.{TripRow}
-use Rattle.feed_files.specs.Reading.{Content, FineBefore, IsFine, RequiredFault, Tells, earlier}
-use Rattle.feed_files.proofs.ReadingLemmas.{fine_more, no_tables, required_rows, still_tells}
+use Rattle.feed_files.specs.Reading.{Content, FineBefore, IsFine, RequiredFault, earlier}
+use Rattle.feed_files.proofs.ReadingLemmas.{fine_more, no_tables, required_rows}
+use Rattle.feed_files.specs.Reads.{AllGave}
+use Rattle.feed_files.proofs.ReadLemmas.{asked_join, gave_first, gave_rest, stopped_after, stopped_before}
 use Rattle.feed_files.proofs.reading.required_tables.Goals as goal
 
+pub returns-in_err-agencies-clause-asked : goal.returns-in_err-agencies-clause-asked
+returns-in_err-agencies-clause-asked g c =
+    let p = err_from_is_err_and c.from_residual.result c.from_residual.ensures.1 in
+    rw p.1 (stopped_before (tables.Stops ∷ tables.Trips ∷ tables.StopTimes ∷ []) c.in_err-agencies.ensures.asked)
+
+pub returns-in_err-stops-clause-asked : goal.returns-in_err-stops-clause-asked
+returns-in_err-stops-clause-asked g c =
+    let a1 = c.in_ok-agencies.ensures.asked in
+    let p = err_from_is_err_and c.from_residual-in_err-stops.result c.from_residual-in_err-stops.ensures.1 in
+    rw p.1 (stopped_before (tables.Trips ∷ tables.StopTimes ∷ []) (stopped_after a1 (c.in_ok-agencies.ensures.same) c.in_err-stops.ensures.asked))
+
+pub returns-in_err-trips-clause-asked : goal.returns-in_err-trips-clause-asked
+returns-in_err-trips-clause-asked g c =
+    let a1 = c.in_ok-agencies.ensures.asked in
+    let a2 = c.in_ok-stops.ensures.asked in
+    let j2 = asked_join a1 (c.in_ok-agencies.ensures.same) a2 in
+    let p = err_from_is_err_and c.from_residual-in_err-trips.result c.from_residual-in_err-trips.ensures.1 in
+    rw p.1 (stopped_before (tables.StopTimes ∷ [])
+    (stopped_after j2 (c.in_ok-stops.ensures.same ∙ c.in_ok-agencies.ensures.same) c.in_err-trips.ensures.asked))
+
+pub returns-in_err-stop_times-clause-asked : goal.returns-in_err-stop_times-clause-asked
+returns-in_err-stop_times-clause-asked g c =
+    let a1 = c.in_ok-agencies.ensures.asked in
+    let a2 = c.in_ok-stops.ensures.asked in
+    let a3 = c.in_ok-trips.ensures.asked in
+    let j2 = asked_join a1 (c.in_ok-agencies.ensures.same) a2 in
+    let j3 = asked_join j2 (c.in_ok-stops.ensures.same ∙ c.in_ok-agencies.ensures.same) a3 in
+    let p = err_from_is_err_and c.from_residual-in_err-stop_times.result c.from_residual-in_err-stop_times.ensures.1 in
+    rw p.1 (stopped_after j3 (c.in_ok-trips.ensures.same ∙ c.in_ok-stops.ensures.same ∙ c.in_ok-agencies.ensures.same)
+    c.in_err-stop_times.ensures.asked)
+
+pub returns-in_err-agencies-clause-err : goal.returns-in_err-agencies-clause-err
+returns-in_err-agencies-clause-err g c content gave =
+    let p = err_from_is_err_and c.from_residual.result c.from_residual.ensures.1 in
+    rw (p.1, p.2) (no_tables content tables.Agency (RequiredFault (IsFaultOf agency_shape) (content tables.Agency))
+    c.in_err-agencies.field-0.0 (λ row kind h. h) tt (c.in_err-agencies.ensures.err content gave))
+
 pub returns-in_err-stops-clause-err : goal.returns-in_err-stops-clause-err
-returns-in_err-stops-clause-err g c content tells =
-    let tells1 = still_tells (g.F.FeedFiles.holds c.args.files.now) (g.F.FeedFiles.holds c.required.new.files) content c.in_ok-agencies.ensures.same tells in
+returns-in_err-stops-clause-err g c content gave =
+    let a1 = c.in_ok-agencies.ensures.asked in
+    let f1 = gave_first content a1 (c.in_err-stops.ensures.asked.1) gave in
+    let g2 = gave_rest content a1 gave in
     let agencies = required_rows (λ (rows : Vec AgencyRow Global). rows.items) HoldsAgencies (content tables.Agency)
-    c.in_ok-agencies.agencies (c.in_ok-agencies.ensures.ok (content tables.Agency) (tells tables.Agency)) in
+    c.in_ok-agencies.agencies (c.in_ok-agencies.ensures.ok content f1) in
     let p = err_from_is_err_and c.from_residual-in_err-stops.result c.from_residual-in_err-stops.ensures.1 in
     rw (p.1, p.2) (no_tables content tables.Stops (RequiredFault (IsStopsFault MAX_STOPS) (content tables.Stops))
-    c.in_err-stops.field-0.0 (λ row kind h. h) (fine_more content (earlier tables.Agency) tables.Agency tt agencies)
-    (c.in_err-stops.ensures.err (content tables.Stops) (tells1 tables.Stops)))
+    c.in_err-stops.field-0.0 (λ row kind h. h)
+    (fine_more content (earlier tables.Agency) tables.Agency tt agencies)
+    (c.in_err-stops.ensures.err content g2))
 
 pub returns-in_err-trips-clause-err : goal.returns-in_err-trips-clause-err
-returns-in_err-trips-clause-err g c content tells =
-    let tells1 = still_tells (g.F.FeedFiles.holds c.args.files.now) (g.F.FeedFiles.holds c.required.new.files) content c.in_ok-agencies.ensures.same tells in
-    let tells2 = still_tells (g.F.FeedFiles.holds c.required.new.files) (g.F.FeedFiles.holds c.required-2.new.files)
-    content c.in_ok-stops.ensures.same tells1 in
+returns-in_err-trips-clause-err g c content gave =
+    let a1 = c.in_ok-agencies.ensures.asked in
+    let a2 = c.in_ok-stops.ensures.asked in
+    let j2 = asked_join a1 (c.in_ok-agencies.ensures.same) a2 in
+    let f2 = gave_first content j2 (c.in_err-trips.ensures.asked.1) gave in
+    let f1 = gave_first content a1 a2 f2 in
+    let g2 = gave_rest content a1 f2 in
+    let g3 = gave_rest content j2 gave in
     let agencies = required_rows (λ (rows : Vec AgencyRow Global). rows.items) HoldsAgencies (content tables.Agency)
-    c.in_ok-agencies.agencies (c.in_ok-agencies.ensures.ok (content tables.Agency) (tells tables.Agency)) in
+    c.in_ok-agencies.agencies (c.in_ok-agencies.ensures.ok content f1) in
     let stops = required_rows (λ (kept : Limited StopRow). kept.rows.items) (HoldsStopsWithin MAX_STOPS)
-    (content tables.Stops) c.in_ok-stops.stops
-    (c.in_ok-stops.ensures.ok (content tables.Stops) (tells1 tables.Stops)) in
+    (content tables.Stops) c.in_ok-stops.stops (c.in_ok-stops.ensures.ok content g2) in
     let p = err_from_is_err_and c.from_residual-in_err-trips.result c.from_residual-in_err-trips.ensures.1 in
     rw (p.1, p.2) (no_tables content tables.Trips (RequiredFault (IsTripsFault MAX_TRIPS) (content tables.Trips))
     c.in_err-trips.field-0.0 (λ row kind h. h)
-    (fine_more content (earlier tables.Stops) tables.Stops
-    (fine_more content (earlier tables.Agency) tables.Agency tt agencies) stops)
-    (c.in_err-trips.ensures.err (content tables.Trips) (tells2 tables.Trips)))
+    (fine_more content (earlier tables.Stops) tables.Stops (fine_more content (earlier tables.Agency) tables.Agency tt agencies) stops)
+    (c.in_err-trips.ensures.err content g3))
 
 pub returns-in_err-stop_times-clause-err : goal.returns-in_err-stop_times-clause-err
-returns-in_err-stop_times-clause-err g c content tells =
-    let tells1 = still_tells (g.F.FeedFiles.holds c.args.files.now) (g.F.FeedFiles.holds c.required.new.files) content c.in_ok-agencies.ensures.same tells in
-    let tells2 = still_tells (g.F.FeedFiles.holds c.required.new.files) (g.F.FeedFiles.holds c.required-2.new.files)
-    content c.in_ok-stops.ensures.same tells1 in
-    let tells3 = still_tells (g.F.FeedFiles.holds c.required-2.new.files) (g.F.FeedFiles.holds c.required-3.new.files)
-    content c.in_ok-trips.ensures.same tells2 in
+returns-in_err-stop_times-clause-err g c content gave =
+    let a1 = c.in_ok-agencies.ensures.asked in
+    let a2 = c.in_ok-stops.ensures.asked in
+    let a3 = c.in_ok-trips.ensures.asked in
+    let j2 = asked_join a1 (c.in_ok-agencies.ensures.same) a2 in
+    let j3 = asked_join j2 (c.in_ok-stops.ensures.same ∙ c.in_ok-agencies.ensures.same) a3 in
+    let f3 = gave_first content j3 (c.in_err-stop_times.ensures.asked.1) gave in
+    let f2 = gave_first content j2 a3 f3 in
+    let f1 = gave_first content a1 a2 f2 in
+    let g2 = gave_rest content a1 f2 in
+    let g3 = gave_rest content j2 f3 in
+    let g4 = gave_rest content j3 gave in
     let agencies = required_rows (λ (rows : Vec AgencyRow Global). rows.items) HoldsAgencies (content tables.Agency)
-    c.in_ok-agencies.agencies (c.in_ok-agencies.ensures.ok (content tables.Agency) (tells tables.Agency)) in
+    c.in_ok-agencies.agencies (c.in_ok-agencies.ensures.ok content f1) in
     let stops = required_rows (λ (kept : Limited StopRow). kept.rows.items) (HoldsStopsWithin MAX_STOPS)
-    (content tables.Stops) c.in_ok-stops.stops
-    (c.in_ok-stops.ensures.ok (content tables.Stops) (tells1 tables.Stops)) in
+    (content tables.Stops) c.in_ok-stops.stops (c.in_ok-stops.ensures.ok content g2) in
     let trips = required_rows (λ (kept : Limited TripRow). kept.rows.items) (HoldsTripsWithin MAX_TRIPS)
-    (content tables.Trips) c.in_ok-trips.trips
-    (c.in_ok-trips.ensures.ok (content tables.Trips) (tells2 tables.Trips)) in
+    (content tables.Trips) c.in_ok-trips.trips (c.in_ok-trips.ensures.ok content g3) in
     let p = err_from_is_err_and c.from_residual-in_err-stop_times.result c.from_residual-in_err-stop_times.ensures.1 in
-    rw (p.1, p.2) (no_tables content tables.StopTimes
-    (RequiredFault (IsFaultOf stop_times_shape) (content tables.StopTimes)) c.in_err-stop_times.field-0.0
-    (λ row kind h. h) (fine_more content (earlier tables.Trips) tables.Trips
-    (fine_more content (earlier tables.Stops) tables.Stops
+    rw (p.1, p.2) (no_tables content tables.StopTimes (RequiredFault (IsFaultOf stop_times_shape) (content tables.StopTimes))
+    c.in_err-stop_times.field-0.0 (λ row kind h. h)
+    (fine_more content (earlier tables.Trips) tables.Trips (fine_more content (earlier tables.Stops) tables.Stops
     (fine_more content (earlier tables.Agency) tables.Agency tt agencies) stops) trips)
-    (c.in_err-stop_times.ensures.err (content tables.StopTimes) (tells3 tables.StopTimes)))
+    (c.in_err-stop_times.ensures.err content g4))
+
+pub returns-clause-asked : goal.returns-clause-asked
+returns-clause-asked g c =
+    let a1 = c.in_ok-agencies.ensures.asked in
+    let a2 = c.in_ok-stops.ensures.asked in
+    let a3 = c.in_ok-trips.ensures.asked in
+    let a4 = c.in_ok-stop_times.ensures.asked in
+    let j2 = asked_join a1 (c.in_ok-agencies.ensures.same) a2 in
+    let j3 = asked_join j2 (c.in_ok-stops.ensures.same ∙ c.in_ok-agencies.ensures.same) a3 in
+    asked_join j3 (c.in_ok-trips.ensures.same ∙ c.in_ok-stops.ensures.same ∙ c.in_ok-agencies.ensures.same) a4
 
 pub returns-clause-ok : goal.returns-clause-ok
-returns-clause-ok g c content tells =
-    let tells1 = still_tells (g.F.FeedFiles.holds c.args.files.now) (g.F.FeedFiles.holds c.required.new.files) content c.in_ok-agencies.ensures.same tells in
-    let tells2 = still_tells (g.F.FeedFiles.holds c.required.new.files) (g.F.FeedFiles.holds c.required-2.new.files)
-    content c.in_ok-stops.ensures.same tells1 in
-    let tells3 = still_tells (g.F.FeedFiles.holds c.required-2.new.files) (g.F.FeedFiles.holds c.required-3.new.files)
-    content c.in_ok-trips.ensures.same tells2 in
+returns-clause-ok g c content gave =
+    let a1 = c.in_ok-agencies.ensures.asked in
+    let a2 = c.in_ok-stops.ensures.asked in
+    let a3 = c.in_ok-trips.ensures.asked in
+    let j2 = asked_join a1 (c.in_ok-agencies.ensures.same) a2 in
+    let j3 = asked_join j2 (c.in_ok-stops.ensures.same ∙ c.in_ok-agencies.ensures.same) a3 in
+    let f3 = gave_first content j3 c.in_ok-stop_times.ensures.asked gave in
+    let f2 = gave_first content j2 a3 f3 in
+    let f1 = gave_first content a1 a2 f2 in
+    let g2 = gave_rest content a1 f2 in
+    let g3 = gave_rest content j2 f3 in
+    let g4 = gave_rest content j3 gave in
     record {
-      agency_txt = c.in_ok-agencies.ensures.ok (content tables.Agency) (tells tables.Agency);
-      stops_txt = c.in_ok-stops.ensures.ok (content tables.Stops) (tells1 tables.Stops);
-      trips_txt = c.in_ok-trips.ensures.ok (content tables.Trips) (tells2 tables.Trips);
-      stop_times_txt = c.in_ok-stop_times.ensures.ok (content tables.StopTimes) (tells3 tables.StopTimes);
+      agency_txt = c.in_ok-agencies.ensures.ok content f1;
+      stops_txt = c.in_ok-stops.ensures.ok content g2;
+      trips_txt = c.in_ok-trips.ensures.ok content g3;
+      stop_times_txt = c.in_ok-stop_times.ensures.ok content g4;
     }

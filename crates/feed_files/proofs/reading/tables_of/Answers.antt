@@ -1,5 +1,5 @@
 -- The files are read one after another.
-use Rattle.std.proofs.Common.{◌≡◌, ◌≢◌, ℕ, List, [], None, IfErr, Vec, refl}
+use Rattle.std.proofs.Common.{◌≡◌, ◌≢◌, ℕ, List, [], None, IfErr, Vec, refl, ◌∙◌, ◌∷◌}
 use Rattle.std.specs.Prelude.{⊤}
 use Rattle.std.proofs.lemmas.Result.{err_from_is_err_and}
 use Rattle.std.specs.declared.alloc.Global.{Global}
@@ -7,68 +7,125 @@ use Rattle.gtfs_rows.specs.Faults.{IsFaultOf}
 use Rattle.gtfs_rows.specs.Tables.{HoldsTransfers, frequencies_shape, transfers_shape}
 use Rattle.gtfs_rows.specs.declared.fault.Table.TheVariants as tables
 use Rattle.gtfs_rows.specs.declared.rows.TransferRow.{TransferRow}
-use Rattle.feed_files.specs.Reading.{Content, OptionalFault, Tells, earlier}
-use Rattle.feed_files.proofs.ReadingLemmas.{calendars_fine, fine_more, no_tables, optional_rows, required_fine, still_tells}
-use Rattle.feed_files.proofs.reading.read_tables.Goals as goal
+use Rattle.feed_files.specs.Reading.{Content, OptionalFault, earlier}
+use Rattle.feed_files.proofs.ReadingLemmas.{calendars_fine, fine_more, no_tables, optional_rows, required_fine}
+use Rattle.feed_files.proofs.ReadLemmas.{asked_join, gave_first, gave_rest, stopped_after, stopped_before}
+use Rattle.feed_files.proofs.reading.tables_of.Goals as goal
+
+pub returns-in_err-required-clause-asked : goal.returns-in_err-required-clause-asked
+returns-in_err-required-clause-asked g c =
+    let p = err_from_is_err_and c.from_residual.result c.from_residual.ensures.1 in
+    rw p.1 (stopped_before (tables.Calendar ∷ tables.CalendarDates ∷ tables.Transfers ∷ tables.Frequencies ∷ []) c.in_err-required.ensures.asked)
+
+pub returns-in_err-calendar-clause-asked : goal.returns-in_err-calendar-clause-asked
+returns-in_err-calendar-clause-asked g c =
+    let a1 = c.in_ok-required.ensures.asked in
+    let p = err_from_is_err_and c.from_residual-in_err-calendar.result c.from_residual-in_err-calendar.ensures.1 in
+    rw p.1 (stopped_before (tables.Transfers ∷ tables.Frequencies ∷ []) (stopped_after a1 (c.in_ok-required.ensures.same) c.in_err-calendar.ensures.asked))
+
+pub returns-in_err-transfers-clause-asked : goal.returns-in_err-transfers-clause-asked
+returns-in_err-transfers-clause-asked g c =
+    let a1 = c.in_ok-required.ensures.asked in
+    let a2 = c.in_ok-calendar.ensures.asked in
+    let j2 = asked_join a1 (c.in_ok-required.ensures.same) a2 in
+    let p = err_from_is_err_and c.from_residual-in_err-transfers.result c.from_residual-in_err-transfers.ensures.1 in
+    rw p.1 (stopped_before (tables.Frequencies ∷ [])
+    (stopped_after j2 (c.in_ok-calendar.ensures.same ∙ c.in_ok-required.ensures.same) c.in_err-transfers.ensures.asked))
+
+pub returns-in_err-frequencies-clause-asked : goal.returns-in_err-frequencies-clause-asked
+returns-in_err-frequencies-clause-asked g c =
+    let a1 = c.in_ok-required.ensures.asked in
+    let a2 = c.in_ok-calendar.ensures.asked in
+    let a3 = c.in_ok-transfers.ensures.asked in
+    let j2 = asked_join a1 (c.in_ok-required.ensures.same) a2 in
+    let j3 = asked_join j2 (c.in_ok-calendar.ensures.same ∙ c.in_ok-required.ensures.same) a3 in
+    let p = err_from_is_err_and c.from_residual-in_err-frequencies.result c.from_residual-in_err-frequencies.ensures.1 in
+    rw p.1 (stopped_after j3 (c.in_ok-transfers.ensures.same ∙ c.in_ok-calendar.ensures.same ∙ c.in_ok-required.ensures.same)
+    c.in_err-frequencies.ensures.asked)
 
 pub returns-in_err-calendar-clause-err : goal.returns-in_err-calendar-clause-err
-returns-in_err-calendar-clause-err g c content tells =
-    let tells1 = still_tells (g.F.FeedFiles.holds c.args.files.now) (g.F.FeedFiles.holds c.required_tables.new.files)
-    content c.in_ok-required.ensures.same tells in
+returns-in_err-calendar-clause-err g c content gave =
+    let a1 = c.in_ok-required.ensures.asked in
+    let f1 = gave_first content a1 (c.in_err-calendar.ensures.asked.1) gave in
+    let g2 = gave_rest content a1 gave in
     let r = c.in_ok-required.required in
-    let fine = required_fine content r.agencies.items r.stops.rows.items r.trips.rows.items r.stop_times (c.in_ok-required.ensures.ok content tells) in
+    let required = required_fine content r.agencies.items r.stops.rows.items r.trips.rows.items r.stop_times
+    (c.in_ok-required.ensures.ok content f1) in
     let p = err_from_is_err_and c.from_residual-in_err-calendar.result c.from_residual-in_err-calendar.ensures.1 in
-    rw (p.1, p.2) (c.in_err-calendar.ensures.err content tells1 fine)
+    rw (p.1, p.2) (c.in_err-calendar.ensures.err content g2 required)
 
 pub returns-in_err-transfers-clause-err : goal.returns-in_err-transfers-clause-err
-returns-in_err-transfers-clause-err g c content tells =
-    let tells1 = still_tells (g.F.FeedFiles.holds c.args.files.now) (g.F.FeedFiles.holds c.required_tables.new.files)
-    content c.in_ok-required.ensures.same tells in
-    let tells2 = still_tells (g.F.FeedFiles.holds c.required_tables.new.files)
-    (g.F.FeedFiles.holds c.calendars.new.files) content c.in_ok-calendar.ensures.same tells1 in
+returns-in_err-transfers-clause-err g c content gave =
+    let a1 = c.in_ok-required.ensures.asked in
+    let a2 = c.in_ok-calendar.ensures.asked in
+    let j2 = asked_join a1 (c.in_ok-required.ensures.same) a2 in
+    let f2 = gave_first content j2 (c.in_err-transfers.ensures.asked.1) gave in
+    let f1 = gave_first content a1 a2 f2 in
+    let g2 = gave_rest content a1 f2 in
+    let g3 = gave_rest content j2 gave in
     let r = c.in_ok-required.required in
-    let required = required_fine content r.agencies.items r.stops.rows.items r.trips.rows.items r.stop_times (c.in_ok-required.ensures.ok content tells) in
-    let fine = calendars_fine content c.in_ok-calendar.calendar.items c.in_ok-calendar.calendar_dates.items required
-    (c.in_ok-calendar.ensures.ok content tells1) in
+    let required = required_fine content r.agencies.items r.stops.rows.items r.trips.rows.items r.stop_times
+    (c.in_ok-required.ensures.ok content f1) in
+    let before = calendars_fine content c.in_ok-calendar.calendar.items c.in_ok-calendar.calendar_dates.items required
+    (c.in_ok-calendar.ensures.ok content g2) in
     let p = err_from_is_err_and c.from_residual-in_err-transfers.result c.from_residual-in_err-transfers.ensures.1 in
     rw (p.1, p.2) (no_tables content tables.Transfers
     (OptionalFault (IsFaultOf transfers_shape) (content tables.Transfers)) c.in_err-transfers.field-0.0
-    (λ row kind h. h) fine (c.in_err-transfers.ensures.err (content tables.Transfers) (tells2 tables.Transfers)))
+    (λ row kind h. h) before (c.in_err-transfers.ensures.err content g3))
 
 pub returns-in_err-frequencies-clause-err : goal.returns-in_err-frequencies-clause-err
-returns-in_err-frequencies-clause-err g c content tells =
-    let tells1 = still_tells (g.F.FeedFiles.holds c.args.files.now) (g.F.FeedFiles.holds c.required_tables.new.files)
-    content c.in_ok-required.ensures.same tells in
-    let tells2 = still_tells (g.F.FeedFiles.holds c.required_tables.new.files)
-    (g.F.FeedFiles.holds c.calendars.new.files) content c.in_ok-calendar.ensures.same tells1 in
-    let tells3 = still_tells (g.F.FeedFiles.holds c.calendars.new.files) (g.F.FeedFiles.holds c.rows_or_none.new.files)
-    content c.in_ok-transfers.ensures.same tells2 in
+returns-in_err-frequencies-clause-err g c content gave =
+    let a1 = c.in_ok-required.ensures.asked in
+    let a2 = c.in_ok-calendar.ensures.asked in
+    let a3 = c.in_ok-transfers.ensures.asked in
+    let j2 = asked_join a1 (c.in_ok-required.ensures.same) a2 in
+    let j3 = asked_join j2 (c.in_ok-calendar.ensures.same ∙ c.in_ok-required.ensures.same) a3 in
+    let f3 = gave_first content j3 (c.in_err-frequencies.ensures.asked.1) gave in
+    let f2 = gave_first content j2 a3 f3 in
+    let f1 = gave_first content a1 a2 f2 in
+    let g2 = gave_rest content a1 f2 in
+    let g3 = gave_rest content j2 f3 in
+    let g4 = gave_rest content j3 gave in
     let r = c.in_ok-required.required in
-    let required = required_fine content r.agencies.items r.stops.rows.items r.trips.rows.items r.stop_times (c.in_ok-required.ensures.ok content tells) in
+    let required = required_fine content r.agencies.items r.stops.rows.items r.trips.rows.items r.stop_times
+    (c.in_ok-required.ensures.ok content f1) in
     let before = calendars_fine content c.in_ok-calendar.calendar.items c.in_ok-calendar.calendar_dates.items required
-    (c.in_ok-calendar.ensures.ok content tells1) in
+    (c.in_ok-calendar.ensures.ok content g2) in
     let transfers = optional_rows (c.in_ok-transfers.transfers.items
     ≡ []) ⊤ (λ (rows : Vec TransferRow Global). rows.items) HoldsTransfers (content tables.Transfers)
-    c.in_ok-transfers.transfers (λ _. tt) (c.in_ok-transfers.ensures.ok (content tables.Transfers)
-    (tells2 tables.Transfers)) in
+    c.in_ok-transfers.transfers (λ _. tt) (c.in_ok-transfers.ensures.ok content g3) in
     let fine = fine_more content (earlier tables.Transfers) tables.Transfers before transfers in
     let p = err_from_is_err_and c.from_residual-in_err-frequencies.result c.from_residual-in_err-frequencies.ensures.1 in
     rw (p.1, p.2) (no_tables content tables.Frequencies
     (OptionalFault (IsFaultOf frequencies_shape) (content tables.Frequencies)) c.in_err-frequencies.field-0.0
-    (λ row kind h. h) fine (c.in_err-frequencies.ensures.err (content tables.Frequencies)
-    (tells3 tables.Frequencies)))
+    (λ row kind h. h) fine (c.in_err-frequencies.ensures.err content g4))
+
+pub returns-clause-asked : goal.returns-clause-asked
+returns-clause-asked g c =
+    let a1 = c.in_ok-required.ensures.asked in
+    let a2 = c.in_ok-calendar.ensures.asked in
+    let a3 = c.in_ok-transfers.ensures.asked in
+    let a4 = c.in_ok-frequencies.ensures.asked in
+    let j2 = asked_join a1 (c.in_ok-required.ensures.same) a2 in
+    let j3 = asked_join j2 (c.in_ok-calendar.ensures.same ∙ c.in_ok-required.ensures.same) a3 in
+    asked_join j3 (c.in_ok-transfers.ensures.same ∙ c.in_ok-calendar.ensures.same ∙ c.in_ok-required.ensures.same) a4
 
 pub returns-clause-ok : goal.returns-clause-ok
-returns-clause-ok g c content tells =
-    let tells1 = still_tells (g.F.FeedFiles.holds c.args.files.now) (g.F.FeedFiles.holds c.required_tables.new.files)
-    content c.in_ok-required.ensures.same tells in
-    let tells2 = still_tells (g.F.FeedFiles.holds c.required_tables.new.files)
-    (g.F.FeedFiles.holds c.calendars.new.files) content c.in_ok-calendar.ensures.same tells1 in
-    let tells3 = still_tells (g.F.FeedFiles.holds c.calendars.new.files) (g.F.FeedFiles.holds c.rows_or_none.new.files)
-    content c.in_ok-transfers.ensures.same tells2 in
+returns-clause-ok g c content gave =
+    let a1 = c.in_ok-required.ensures.asked in
+    let a2 = c.in_ok-calendar.ensures.asked in
+    let a3 = c.in_ok-transfers.ensures.asked in
+    let j2 = asked_join a1 (c.in_ok-required.ensures.same) a2 in
+    let j3 = asked_join j2 (c.in_ok-calendar.ensures.same ∙ c.in_ok-required.ensures.same) a3 in
+    let f3 = gave_first content j3 c.in_ok-frequencies.ensures.asked gave in
+    let f2 = gave_first content j2 a3 f3 in
+    let f1 = gave_first content a1 a2 f2 in
+    let g2 = gave_rest content a1 f2 in
+    let g3 = gave_rest content j2 f3 in
+    let g4 = gave_rest content j3 gave in
     record {
-      required = c.in_ok-required.ensures.ok content tells;
-      calendars = c.in_ok-calendar.ensures.ok content tells1;
-      transfers = c.in_ok-transfers.ensures.ok (content tables.Transfers) (tells2 tables.Transfers);
-      frequencies = c.in_ok-frequencies.ensures.ok (content tables.Frequencies) (tells3 tables.Frequencies);
+      required = c.in_ok-required.ensures.ok content f1;
+      calendars = c.in_ok-calendar.ensures.ok content g2;
+      transfers = c.in_ok-transfers.ensures.ok content g3;
+      frequencies = c.in_ok-frequencies.ensures.ok content g4;
     }
