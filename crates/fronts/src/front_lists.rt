@@ -114,6 +114,7 @@ impl<C: Criterion> FrontLists<C> {
 
     /// Takes the ridden values in after a footpath: the list that comes of it. The old one stays as
     /// it was, and where memory is wanting there is no new one.
+    #[inline(always)]
     pub fn insert(
         &mut self,
         head: u32,

@@ -51,6 +51,7 @@ fn join_one<C: Criterion>(
 }
 
 // Puts what a list leaves of the fronts of these entries before it, from the last one on.
+#[inline(always)]
 fn join<C: Criterion>(
     criterion: &C,
     entries: &mut Vec<Entry<C::V>>,
@@ -84,6 +85,7 @@ fn join<C: Criterion>(
 }
 
 /// Takes the ridden values in after a footpath: the list that comes of it.
+#[inline(always)]
 pub fn insert<C: Criterion>(
     criterion: &C,
     entries: &mut Vec<Entry<C::V>>,

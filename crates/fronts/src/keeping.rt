@@ -107,6 +107,7 @@ fn keep_value<V: Copy>(
 }
 
 /// Keeps the ridden values, each after a footpath, that none of the front at a place betters.
+#[inline(always)]
 pub fn keep_walked<C: Criterion>(
     criterion: &C,
     arena: Arena<'_, '_, C::V>,

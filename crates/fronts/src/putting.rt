@@ -65,6 +65,7 @@ fn leave_part<C: Criterion>(
 }
 
 // Pushes what some points leave of the front at a place.
+#[inline(always)]
 fn leave_front<C: Criterion>(
     criterion: &C,
     entries: &[Entry<C::V>],

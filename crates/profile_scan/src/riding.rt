@@ -67,6 +67,7 @@ fn ride_label<C: Criterion>(
 }
 
 /// Puts the labels' values after the ride into a list, but for those that are bettered.
+#[inline(always)]
 pub fn ride_labels<C: Criterion>(
     criterion: &C,
     bound: &[C::V],

@@ -57,6 +57,7 @@ impl<C: Criterion> Stops<C> {
 
     // Offers the list of the stop where a footpath begins each ridden value, boarded after it. `place` is the
     // footpath's.
+    #[inline(always)]
     fn board_after(
         &mut self,
         asked: &Asked<C>,
@@ -91,6 +92,7 @@ impl<C: Criterion> Stops<C> {
     }
 
     // Goes over footpaths into where a connection begins, by their places, and boards after each.
+    #[inline(always)]
     fn board_walks<S: ConnSource>(
         &mut self,
         asked: &Asked<C>,
@@ -114,6 +116,7 @@ impl<C: Criterion> Stops<C> {
 
     /// Boards a connection, if passengers may get on there: offers the list of every stop its boardings by the labels
     /// of the connection's trip that aren't bettered after the ride.
+    #[inline(always)]
     pub fn board<S: ConnSource>(
         &mut self,
         asked: &Asked<C>,

@@ -105,6 +105,7 @@ impl<C: Criterion> Trips<C> {
 
     // Offers the labels of the connection's trip each point of the stop where it ends that departs then or later and
     // isn't bettered after the ride. The front from that time on is enough.
+    #[inline(always)]
     fn change(
         &mut self,
         asked: &Asked<C>,
@@ -156,6 +157,7 @@ impl<C: Criterion> Trips<C> {
 
     /// Leaves a connection's trip where the connection ends, if passengers may get off there: offers its labels the
     /// end, and the changes by the points of that stop that aren't bettered.
+    #[inline(always)]
     pub fn alight(
         &mut self,
         asked: &Asked<C>,
